@@ -10,7 +10,8 @@ use Rattle.driver_model.specs.declared.event.EventKind.TheVariants as event
 use Rattle.driver_model.specs.declared.event.Submission.{Submission}
 use Rattle.driver_model.specs.declared.outcome.Outcome.TheVariants as outcome
 use Rattle.driver_model.specs.declared.outcome.Shape.{Shape}
-use Rattle.driver_model.specs.Request.{packed_bytes, shape_of, is_reply_awaited}
+use Rattle.driver_model.specs.Request.{packed_bytes, shape_of, is_reply_awaited, lacks_resp3}
+use Rattle.redis_error.specs.declared.redis_error.RedisError.TheVariants as error
 use Rattle.resp_value.specs.declared.value.Value.TheVariants.{Nil}
 use Rattle.link_core.specs.declared.message.Queued.{Queued}
 use Rattle.link_core.specs.Link.{LinkState, Starting, enqueued, is_full, holds_back, offered_of, started_one, started_each, started_all}
@@ -28,7 +29,7 @@ use Rattle.mux_conn.specs.Requests.{if_there, is_waiting, is_waiting_at, name_at
 use Rattle.mux_conn.specs.Passes.{started, message_of, placed_at, told_at_place, seated, moved_up_all, put_behind, seated_or_behind, permits_taken, holding, let_in, admitted_at, admitted, still_waiting, still_admitted, admitted_each, admitted_all, passed}
 use Rattle.mux_conn.specs.Turn.{written_at, written, flushed}
 use Rattle.shared_session.specs.declared.core_state.Core.{Core}
-use Rattle.shared_session.specs.Turn.{Turning, pending, work_of, heard, counted, moved_on, timed, next_turn}
+use Rattle.shared_session.specs.Turn.{Turning, pending, work_of, heard, refused_with, counted, moved_on, timed, next_turn}
 use Rattle.shared_session.specs.Replay.{state_after}
 use Rattle.cancel_laws.specs.Cancels.{handed_in_at, IsFree, HasStarted}
 use Rattle.cancel_laws.proofs.Kept.{let_in_conn}
@@ -161,9 +162,9 @@ asked_starts c name packed shape timeout l idle up goes room permit =
     queue_empty l (inr t) f = absurd (not_both (holds_back l) f t)
 
 -- and its submission
-turn_starts : (c : Core) (s : Submission) → packed_bytes s ≢ [] → is_reply_awaited s ≡ true → IsReady c → IsFree c → HasStarted (length c.table) (next_turn c (event.Submit s)).core
+turn_starts : (c : Core) (s : Submission) → packed_bytes s ≢ [] → is_reply_awaited s ≡ true → IsReady c → IsFree c → lacks_resp3 c.single.connection.info.protocol s ≡ false → HasStarted (length c.table) (next_turn c (event.Submit s)).core
 unfolding next_turn
-turn_starts c s some awaited ready free =
+turn_starts c s some awaited ready free spoken =
     let n = length c.table in
     let conn = c.single.connection in
     let p = length conn.requests in
@@ -176,12 +177,15 @@ turn_starts c s some awaited ready free =
     let done : HasStarted n (timed (moved_on (asks true))).core =
     has_started n (timed (moved_on (asks true))).core (pending p) (get_last c.table (Some (pending p))) (all_flushed p (passed (work_of (asks true))) sits) in
     let own : HasStarted n (timed (moved_on (asks (is_reply_awaited s)))).core = subst (λ (b : Bool). HasStarted n (timed (moved_on (asks b))).core) (sym awaited) done in
-    if_false (λ (x : Turning). HasStarted n (timed (moved_on x)).core) (c.shut || false) _ (if length (packed_bytes s) == 0 then _ else asks (is_reply_awaited s)) (or-false c.shut ∙ free.unshut)
-    (if_false (λ (x : Turning). HasStarted n (timed (moved_on x)).core) (length (packed_bytes s) == 0) _ (asks (is_reply_awaited s)) (no_bytes (packed_bytes s) some) own)
+    let packed = if length (packed_bytes s) == 0 then refused_with t error.EmptyCommand else asks (is_reply_awaited s) in
+    if_false (λ (x : Turning). HasStarted n (timed (moved_on x)).core) (c.shut || false) _ (if lacks_resp3 conn.info.protocol s then refused_with t error.Resp3Required else packed) (or-false c.shut ∙ free.unshut)
+    (if_false (λ (x : Turning). HasStarted n (timed (moved_on x)).core) (lacks_resp3 conn.info.protocol s) _ packed spoken
+    (if_false (λ (x : Turning). HasStarted n (timed (moved_on x)).core) (length (packed_bytes s) == 0) _ (asks (is_reply_awaited s)) (no_bytes (packed_bytes s) some) own))
 
 -- whatever came before
 pub free_started : (config : Config) (word draw : ℕ) (before : List Event) (s : Submission) → packed_bytes s ≢ [] → is_reply_awaited s ≡ true → IsFree (state_after config word before)
+    → lacks_resp3 (state_after config word before).single.connection.info.protocol s ≡ false
     → HasStarted (length (state_after config word before).table) (state_after config word (before ++ handed_in_at draw s ∷ []))
-free_started config word draw before s some awaited free =
+free_started config word draw before s some awaited free spoken =
     let c = state_after config word before in
-    subst (HasStarted (length c.table)) (sym (state_split config word before (handed_in_at draw s ∷ []))) (turn_starts c s some awaited (ready_after config word before) free)
+    subst (HasStarted (length c.table)) (sym (state_split config word before (handed_in_at draw s ∷ []))) (turn_starts c s some awaited (ready_after config word before) free spoken)

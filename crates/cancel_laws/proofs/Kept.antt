@@ -21,7 +21,7 @@ use Rattle.driver_model.specs.declared.outcome.Outcome.{Outcome}
 use Rattle.driver_model.specs.declared.outcome.Outcome.TheVariants as outcome
 use Rattle.driver_model.specs.News.{News, news_of, silence, connected, took, failed, shut, refused, overdue}
 use Rattle.driver_model.specs.News.{came}
-use Rattle.driver_model.specs.Request.{packed_bytes}
+use Rattle.driver_model.specs.Request.{packed_bytes, lacks_resp3}
 use Rattle.driver_model.specs.Setup.{says_nothing}
 use Rattle.driver_model.specs.Shape.{outcome_of}
 use Rattle.link_core.specs.declared.message.Queued.{Queued}
@@ -509,7 +509,8 @@ submitted_kept : {P : Option ℕ → List Request → Life → List ℕ → List
 submitted_kept {P = P} t k s h =
     let c = t.core.single.connection in
     chosen (λ (x : Turning). At P (work_of x)) t.core.shut _ _ (λ u. k.refuse c.limit c.requests c.life c.moved t.acts (outcome.Fault error.Closed) h)
-    (λ f. chosen (λ (x : Turning). At P (work_of x)) (length (packed_bytes s) == 0) _ _ (λ u. k.refuse c.limit c.requests c.life c.moved t.acts (outcome.Fault error.EmptyCommand) h) (λ g. k.ask c.limit c.requests c.life c.moved t.acts h))
+    (λ f. chosen (λ (x : Turning). At P (work_of x)) (lacks_resp3 c.info.protocol s) _ _ (λ u. k.refuse c.limit c.requests c.life c.moved t.acts (outcome.Fault error.Resp3Required) h)
+    (λ d. chosen (λ (x : Turning). At P (work_of x)) (length (packed_bytes s) == 0) _ _ (λ u. k.refuse c.limit c.requests c.life c.moved t.acts (outcome.Fault error.EmptyCommand) h) (λ g. k.ask c.limit c.requests c.life c.moved t.acts h)))
 
 -- what an event is to the submissions
 requested_kept : {P : Option ℕ → List Request → Life → List ℕ → List LinkAct → Type 0} → IsKept P → (t : Turning) → CanAsk P (length t.core.table) → (kind : EventKind) → At P (work_of t) → At P (work_of (requested t kind))

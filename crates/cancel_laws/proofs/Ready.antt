@@ -8,7 +8,7 @@ use Rattle.driver_model.specs.declared.config.Config.{Config}
 use Rattle.driver_model.specs.declared.event.Event.{Event}
 use Rattle.driver_model.specs.declared.event.EventKind.{EventKind}
 use Rattle.driver_model.specs.declared.event.EventKind.TheVariants as event
-use Rattle.driver_model.specs.Request.{packed_bytes}
+use Rattle.driver_model.specs.Request.{packed_bytes, lacks_resp3}
 use Rattle.mux_conn.specs.declared.life.Life.{Life}
 use Rattle.mux_conn.specs.declared.request.Pending.{Pending}
 use Rattle.mux_conn.specs.declared.request.Progress.TheVariants as progress
@@ -99,8 +99,9 @@ named_requested t (event.Submit s) h =
     let r = t.core.single.connection.requests in
     let x : Request = record { name = length t.core.table; progress = progress.Waiting; permits = 0 } in
     chosen NamedIn t.core.shut _ _ (λ u. named_refused t.core.table (names r) h)
-    (λ f. chosen NamedIn (length (packed_bytes s) == 0) _ _ (λ u. named_refused t.core.table (names r) h)
-    (λ g. subst (AreNamed (t.core.table ++ Some (record { number = length r }) ∷ [])) (sym (names_push r x)) (named_asked t.core.table (names r) (length r) (names_count r) h)))
+    (λ f. chosen NamedIn (lacks_resp3 t.core.single.connection.info.protocol s) _ _ (λ u. named_refused t.core.table (names r) h)
+    (λ d. chosen NamedIn (length (packed_bytes s) == 0) _ _ (λ u. named_refused t.core.table (names r) h)
+    (λ g. subst (AreNamed (t.core.table ++ Some (record { number = length r }) ∷ [])) (sym (names_push r x)) (named_asked t.core.table (names r) (length r) (names_count r) h))))
 named_requested t (event.Cancel n) h = named_left_by t (slice_get t.core.table n) h
 named_requested t (event.Connected l) h = h
 named_requested t (event.Refused l f) h = h

@@ -1,16 +1,18 @@
 -- A submission that is handed in after the link's connect has started, where the configuration is sound and nothing is to be
 -- said to the server before it.
-use Rattle.std.proofs.Common.{◌≡◌, ◌≢◌, ℕ, zero, suc, ◌<◌, ◌==◌, Bool, true, false, List, [], ◌∷◌, Option, Some, None, if◌then◌else◌, refl, sym, subst, arith}
+use Rattle.std.proofs.Common.{◌≡◌, ◌≢◌, ℕ, zero, suc, ◌<◌, ◌==◌, Bool, true, false, ◌&&◌, not, List, [], ◌∷◌, Option, Some, None, if◌then◌else◌, refl, sym, ap, subst, arith}
 use Rattle.containers.proofs.Choices.{not_le_test}
 use Rattle.std.specs.Prelude.{unwrap_or}
 use Rattle.connection_info.specs.declared.address.ConnectionInfo.{ConnectionInfo}
+use Rattle.connection_info.specs.declared.protocol.ProtocolVersion.{ProtocolVersion}
+use Rattle.connection_info.specs.Protocol.{is_resp3}
 use Rattle.redis_error.specs.declared.config_name.ConfigName.{ConfigName}
 use Rattle.redis_error.specs.declared.config_name.ConfigName.TheVariants as name
 use Rattle.driver_model.specs.declared.config.Config.{Config}
 use Rattle.driver_model.specs.declared.event.Submission.{Submission}
 use Rattle.driver_model.specs.declared.event.Submission.TheVariants.{Cmd, Pipe, Multi}
 use Rattle.driver_model.specs.Config.{address, buffer_size, buffer_fault, room_fault, fault_in}
-use Rattle.driver_model.specs.Request.{packed_bytes, is_reply_awaited}
+use Rattle.driver_model.specs.Request.{packed_bytes, is_reply_awaited, needs_resp3, lacks_resp3}
 use Rattle.mux_conn.specs.Connection.{has_no_permit}
 use Rattle.mux_conn.specs.Effects.{new_link, all_fresh, made_ready, sets_up}
 use Rattle.mux_conn.specs.Passes.{started}
@@ -68,21 +70,25 @@ connected_free config word draw sound silent =
       unshut = refl;
     })
 
--- any submission that has bytes, and whose reply is awaited
-pub any_started : (config : Config) (word draw later : ℕ) (s : Submission) → packed_bytes s ≢ [] → is_reply_awaited s ≡ true → IsSound config → SaysNothing config
+-- what doesn't need RESP3 is never refused for want of it
+needs_none : (protocol : ProtocolVersion) (s : Submission) → needs_resp3 s ≡ false → lacks_resp3 protocol s ≡ false
+needs_none protocol s plain = ap (λ needs. needs && not (is_resp3 protocol)) plain
+
+-- any submission that has bytes, whose reply is awaited, and that is no subscription call
+pub any_started : (config : Config) (word draw later : ℕ) (s : Submission) → packed_bytes s ≢ [] → is_reply_awaited s ≡ true → needs_resp3 s ≡ false → IsSound config → SaysNothing config
     → HasStarted 0 (handed_in_after_connect config word draw later s)
 unfolding state_after next_turn
-any_started config word draw later s some awaited sound silent =
-    free_started config word later (connected_at draw ∷ []) s some awaited (connected_free config word draw sound silent)
+any_started config word draw later s some awaited plain sound silent =
+    free_started config word later (connected_at draw ∷ []) s some awaited (connected_free config word draw sound silent) (needs_none (state_after config word (connected_at draw ∷ [])).single.connection.info.protocol s plain)
 
 -- a command
 pub command_started : (config : Config) (word draw later : ℕ) (name : List ℕ) (args : List (List ℕ)) → IsSound config → SaysNothing config → HasStarted 0 (handed_in_after_connect config word draw later (Cmd (name ∷ args)))
-command_started config word draw later name args sound silent = any_started config word draw later (Cmd (name ∷ args)) (λ e. cc) refl sound silent
+command_started config word draw later name args sound silent = any_started config word draw later (Cmd (name ∷ args)) (λ e. cc) refl refl sound silent
 
 -- a pipeline whose first command has a name
 pub pipeline_started : (config : Config) (word draw later : ℕ) (name : List ℕ) (args : List (List ℕ)) (more : List (List (List ℕ))) → IsSound config → SaysNothing config → HasStarted 0 (handed_in_after_connect config word draw later (Pipe ((name ∷ args) ∷ more)))
-pipeline_started config word draw later name args more sound silent = any_started config word draw later (Pipe ((name ∷ args) ∷ more)) (λ e. cc) refl sound silent
+pipeline_started config word draw later name args more sound silent = any_started config word draw later (Pipe ((name ∷ args) ∷ more)) (λ e. cc) refl refl sound silent
 
 -- a transaction
 pub transaction_started : (config : Config) (word draw later : ℕ) (args : List (List ℕ)) (more : List (List (List ℕ))) → IsSound config → SaysNothing config → HasStarted 0 (handed_in_after_connect config word draw later (Multi (args ∷ more)))
-transaction_started config word draw later args more sound silent = any_started config word draw later (Multi (args ∷ more)) (λ e. cc) refl sound silent
+transaction_started config word draw later args more sound silent = any_started config word draw later (Multi (args ∷ more)) (λ e. cc) refl refl sound silent

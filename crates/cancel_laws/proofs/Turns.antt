@@ -11,7 +11,7 @@ use Rattle.driver_model.specs.declared.event.EventKind.TheVariants as event
 use Rattle.driver_model.specs.declared.event.Submission.{Submission}
 use Rattle.driver_model.specs.declared.outcome.Outcome.TheVariants as outcome
 use Rattle.driver_model.specs.News.{news_of}
-use Rattle.driver_model.specs.Request.{packed_bytes, shape_of, is_reply_awaited}
+use Rattle.driver_model.specs.Request.{packed_bytes, shape_of, is_reply_awaited, lacks_resp3}
 use Rattle.mux_conn.specs.declared.act.LinkAct.{LinkAct}
 use Rattle.mux_conn.specs.declared.act.LinkAct.TheVariants as act
 use Rattle.mux_conn.specs.declared.connection.MultiplexedConnection.{MultiplexedConnection}
@@ -65,7 +65,8 @@ bare_submitted : (n p : ℕ) (t : Turning) (s : Submission) → n < length t.cor
     → bare_turning n p (submitted t s) ≡ submitted (bare_turning n p t) s
 bare_submitted n p t s l k =
     either (bare_turning n p) t.core.shut _ _ _ _ (λ u. bare_refused n p t error.Closed l)
-    (λ f. either (bare_turning n p) (length (packed_bytes s) == 0) _ _ _ _ (λ u. bare_refused n p t error.EmptyCommand l) (λ g. bare_asked_for n p t s k))
+    (λ f. either (bare_turning n p) (lacks_resp3 t.core.single.connection.info.protocol s) _ _ _ _ (λ u. bare_refused n p t error.Resp3Required l)
+    (λ d. either (bare_turning n p) (length (packed_bytes s) == 0) _ _ _ _ (λ u. bare_refused n p t error.EmptyCommand l) (λ g. bare_asked_for n p t s k)))
 
 -- one that is left
 bare_left_by : (n p : ℕ) (t : Turning) (who : Option (Option Pending)) → At (IsAway n p) (work_of t) → bare_turning n p (left_by t who) ≡ left_by (bare_turning n p t) who
@@ -156,8 +157,9 @@ bare_turn n p c kind l none h =
 more_requested : (n : ℕ) (t : Turning) (kind : EventKind) → n < length t.core.table → n < length (requested t kind).core.table
 more_requested n t (event.Submit s) l =
     chosen (λ (x : Turning). n < length x.core.table) t.core.shut _ _ (λ u. omega (arith, length-append t.core.table (None ∷ [])))
-    (λ f. chosen (λ (x : Turning). n < length x.core.table) (length (packed_bytes s) == 0) _ _ (λ u. omega (arith, length-append t.core.table (None ∷ [])))
-    (λ g. omega (arith, length-append t.core.table (Some (pending (length t.core.single.connection.requests)) ∷ []))))
+    (λ f. chosen (λ (x : Turning). n < length x.core.table) (lacks_resp3 t.core.single.connection.info.protocol s) _ _ (λ u. omega (arith, length-append t.core.table (None ∷ [])))
+    (λ d. chosen (λ (x : Turning). n < length x.core.table) (length (packed_bytes s) == 0) _ _ (λ u. omega (arith, length-append t.core.table (None ∷ [])))
+    (λ g. omega (arith, length-append t.core.table (Some (pending (length t.core.single.connection.requests)) ∷ [])))))
 more_requested n t (event.Cancel m) l = more_left (slice_get t.core.table m)
   where
     more_left : (who : Option (Option Pending)) → n < length (left_by t who).core.table

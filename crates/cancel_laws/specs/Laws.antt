@@ -4,6 +4,7 @@ use Rattle.driver_model.specs.declared.config.Config.{Config}
 use Rattle.driver_model.specs.declared.event.Event.{Event}
 use Rattle.driver_model.specs.declared.event.Submission.{Submission}
 use Rattle.driver_model.specs.declared.outcome.Outcome.{Outcome}
+use Rattle.driver_model.specs.Request.{lacks_resp3}
 use Rattle.mux_conn.specs.declared.life.Life.{Life}
 use Rattle.shared_session.specs.Replay.{IsSound, state_after, trace_of, outcomes_in, outcome_at, is_bad_after}
 use Rattle.cancel_laws.specs.ButFor.{hushed_life}
@@ -63,11 +64,12 @@ SameAreBad =
     → HasStarted n (state_after config word before)
     → is_bad_after config word (before ++ after) e ≡ is_bad_after config word (before ++ cancel_of draw n ∷ after) e
 
--- a submission has started where it is handed in on a link that is ready, which nothing holds back, has room, and has a
--- permit for it, whatever came before
+-- a submission has started where it is handed in on a link that is ready, which nothing holds back, has room, has a permit for
+-- it, and speaks RESP3 where it needs that, whatever came before
 abbrev pub StartsOnFreeLink : Submission → Type 0
 StartsOnFreeLink s =
     (config : Config) (word draw : ℕ) (before : List Event) → IsFree (state_after config word before)
+    → lacks_resp3 (state_after config word before).single.connection.info.protocol s ≡ false
     → HasStarted (length (state_after config word before).table) (state_after config word (before ++ handed_in_at draw s ∷ []))
 
 -- a submission has started where it is the first that is handed in, after the link's connect, nothing of the configuration

@@ -2,10 +2,10 @@
 //! request changes nothing but its own outcome.
 #![tactic(auto)]
 
-ghost use Rattle.std.specs.Prelude.{◌≡◌, ◌≢◌, ℕ, true, List, [], ◌∷◌};
+ghost use Rattle.std.specs.Prelude.{◌≡◌, ◌≢◌, ℕ, true, false, List, [], ◌∷◌};
 ghost use Rattle.driver_model.specs.declared.event.Submission.{Submission};
 ghost use Rattle.driver_model.specs.declared.event.Submission.TheVariants.{Cmd, Pipe, Multi};
-ghost use Rattle.driver_model.specs.Request.{packed_bytes, is_reply_awaited};
+ghost use Rattle.driver_model.specs.Request.{packed_bytes, is_reply_awaited, needs_resp3};
 ghost use Rattle.cancel_laws.specs.Laws.{CancelIsGood, OthersKeepOutcomes, CancelledGetsNone};
 ghost use Rattle.cancel_laws.specs.Laws.{TurnsGoOn, ItemsGoTheSameWay, SameAreBad};
 ghost use Rattle.cancel_laws.specs.Laws.{StartsOnFreeLink, StartsWhereHandedIn};
@@ -27,14 +27,15 @@ pub fn a_cancel_changes_one_outcome()
 
 /// Does nothing. Its contract: such submissions exist. Any that has bytes, and whose reply is
 /// awaited, has started where it is handed in on a link that is ready, which nothing holds back,
-/// whose queue has room, and which has a free permit. So it is after the link's connect, where
+/// whose queue has room, and which has a free permit, unless it needs RESP3 and the link speaks
+/// another protocol. So has any that is no subscription call after the link's connect, where
 /// nothing of the configuration is refused, and nothing is to be said to the server first: so a
 /// command, a pipeline whose first command has a name, and a transaction.
 pub fn a_submission_on_a_link_that_is_up_has_started()
     ensures free { (s : Submission) → packed_bytes s ≢ [] → is_reply_awaited s ≡ true
         → StartsOnFreeLink s }
     ensures any { (s : Submission) → packed_bytes s ≢ [] → is_reply_awaited s ≡ true
-        → StartsWhereHandedIn s }
+        → needs_resp3 s ≡ false → StartsWhereHandedIn s }
     ensures command { (name : List ℕ) (args : List (List ℕ))
         → StartsWhereHandedIn (Cmd (name ∷ args)) }
     ensures pipeline { (name : List ℕ) (args : List (List ℕ)) (more : List (List (List ℕ)))

@@ -16,7 +16,7 @@ use std::alloc::{AllocError, Global};
 use std::process::Abort;
 
 /// What was made. A refusal counts as want of memory.
-fn must(
+pub(crate) fn must(
     made: Result<MultiplexedConnection, OpenError>,
 ) -> Result<MultiplexedConnection, AllocError> {
     match made {
@@ -37,7 +37,7 @@ fn connected(
 }
 
 /// One turn.
-fn hear(
+pub(crate) fn hear(
     alloc: Global,
     conn: &mut MultiplexedConnection,
     news: LinkNews<'_>,
@@ -116,11 +116,12 @@ fn send(
 }
 
 /// The text of a request's outcome.
-fn outcome<'a>(conn: &'a MultiplexedConnection, request: &Pending) -> &'a [u8] {
+pub(crate) fn outcome<'a>(conn: &'a MultiplexedConnection, request: &Pending) -> &'a [u8] {
     match conn.poll(request) {
         None => b"pending",
         Some(Outcome::One(value)) => text(value),
         Some(Outcome::Many(_)) => b"many",
+        Some(Outcome::Done) => b"done",
         Some(Outcome::Fault(error)) => fault(error),
     }
 }
@@ -137,6 +138,7 @@ fn fault(error: &RedisError) -> &'static [u8] {
         RedisError::Io {
             fault: FaultKind::TimedOut,
         } => b"timed out",
+        RedisError::Server(_) => b"server",
         _ => b"other",
     }
 }

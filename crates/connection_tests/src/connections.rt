@@ -253,6 +253,7 @@ fn describe_outcome(outcome: &Outcome) -> &[u8] {
     match outcome {
         Outcome::One(value) => describe_value(value),
         Outcome::Many(_) => b"many",
+        Outcome::Done => b"done",
         Outcome::Fault(error) => describe_fault(error),
     }
 }

@@ -1,27 +1,34 @@
 -- What a submission sends, and what it awaits.
-use Rattle.std.specs.Prelude.{ℕ, ◌+◌, Bool, true, false, List, [], ◌∷◌, length}
+use Rattle.std.specs.Prelude.{ℕ, ◌+◌, Bool, true, false, ◌&&◌, not, List, [], ◌∷◌, length}
 use Rattle.resp_write.specs.Pack.{pack, pack_commands, commands_of}
+use Rattle.resp_write.specs.declared.subscription.SubscriptionAction.{SubscriptionAction}
+use Rattle.resp_write.specs.declared.subscription.SubscriptionAction.TheVariants as action
+use Rattle.resp_write.specs.Subscription.{action_word}
+use Rattle.connection_info.specs.declared.protocol.ProtocolVersion.{ProtocolVersion}
+use Rattle.connection_info.specs.Protocol.{is_resp3}
 use Rattle.driver_model.specs.declared.event.Submission.{Submission}
 use Rattle.driver_model.specs.declared.event.Submission.TheVariants as submission
 use Rattle.driver_model.specs.declared.outcome.Shape.{Shape}
-use Rattle.driver_model.specs.declared.outcome.Shape.TheVariants.{Single, Pipeline}
+use Rattle.driver_model.specs.declared.outcome.Shape.TheVariants.{Single, Pipeline, Confirmation}
 
--- the bytes of a submission: its command or its commands, packed
+-- the bytes of a submission: its command or its commands, packed; a subscription call is one command with all its names
 abbrev pub packed_bytes : Submission → List ℕ
 packed_bytes (submission.Cmd args) = pack args
 packed_bytes (submission.NoReply args) = pack args
 packed_bytes (submission.Pipe commands) = pack_commands false (commands_of commands)
 packed_bytes (submission.Multi commands) = pack_commands true (commands_of commands)
 packed_bytes (submission.Packed offset count commands) = pack_commands false (commands_of commands)
+packed_bytes (submission.Subscription what names) = pack (action_word what ∷ names)
 
 -- a pipeline keeps the replies to its commands, and a transaction the reply to EXEC behind those to MULTI and to its
--- commands as they were queued
+-- commands as they were queued; a subscription call is confirmed
 abbrev pub shape_of : Submission → Shape
 shape_of (submission.Cmd args) = Single
 shape_of (submission.NoReply args) = Single
 shape_of (submission.Pipe commands) = Pipeline 0 (length commands) false
 shape_of (submission.Multi commands) = Pipeline (length commands + 1) 1 true
 shape_of (submission.Packed offset count commands) = Pipeline offset count false
+shape_of (submission.Subscription what names) = Confirmation
 
 -- somebody awaits its reply
 abbrev pub is_reply_awaited : Submission → Bool
@@ -30,16 +37,41 @@ is_reply_awaited (submission.NoReply args) = false
 is_reply_awaited (submission.Pipe commands) = true
 is_reply_awaited (submission.Multi commands) = true
 is_reply_awaited (submission.Packed offset count commands) = true
+is_reply_awaited (submission.Subscription what names) = true
+
+-- it is a subscription call, which a server answers on RESP3 alone
+abbrev pub needs_resp3 : Submission → Bool
+needs_resp3 (submission.Cmd args) = false
+needs_resp3 (submission.NoReply args) = false
+needs_resp3 (submission.Pipe commands) = false
+needs_resp3 (submission.Multi commands) = false
+needs_resp3 (submission.Packed offset count commands) = false
+needs_resp3 (submission.Subscription what names) = true
+
+-- it needs RESP3, and its server is told to speak this protocol, which is another
+abbrev pub lacks_resp3 : ProtocolVersion → Submission → Bool
+lacks_resp3 protocol what = needs_resp3 what && not (is_resp3 protocol)
 
 -- one command without a name
 abbrev pub is_single_nameless : List (List (List ℕ)) → Bool
 is_single_nameless ([] ∷ []) = true
 is_single_nameless _ = false
 
--- a list of exactly one command without a name, which has no form of its own in a script
+-- it is about sharded channels, which a single connection has no calls for
+abbrev pub is_sharded : SubscriptionAction → Bool
+is_sharded action.Subscribe = false
+is_sharded action.Unsubscribe = false
+is_sharded action.PSubscribe = false
+is_sharded action.PUnsubscribe = false
+is_sharded action.SSubscribe = true
+is_sharded action.Sunsubscribe = true
+
+-- a list of exactly one command without a name, which has no form of its own in a script, or a subscription call that a
+-- single connection doesn't have
 abbrev pub has_no_form : Submission → Bool
 has_no_form (submission.Cmd args) = false
 has_no_form (submission.NoReply args) = false
 has_no_form (submission.Pipe commands) = is_single_nameless commands
 has_no_form (submission.Multi commands) = is_single_nameless commands
 has_no_form (submission.Packed offset count commands) = is_single_nameless commands
+has_no_form (submission.Subscription what names) = is_sharded what

@@ -6,9 +6,9 @@ use Rattle.resp_value.specs.declared.server_error.ServerError.{ServerError}
 use Rattle.resp_value.specs.Data.{Data, nil, error}
 use Rattle.resp_value.specs.View.{value_of}
 use Rattle.driver_model.specs.declared.outcome.Shape.{Shape}
-use Rattle.driver_model.specs.declared.outcome.Shape.TheVariants.{Single, Pipeline}
+use Rattle.driver_model.specs.declared.outcome.Shape.TheVariants.{Single, Pipeline, Confirmation}
 use Rattle.driver_model.specs.declared.outcome.Verdict.{Verdict}
-use Rattle.driver_model.specs.declared.outcome.Verdict.TheVariants.{One, Many, Fault}
+use Rattle.driver_model.specs.declared.outcome.Verdict.TheVariants.{One, Many, Done, Fault}
 use Rattle.driver_model.specs.declared.outcome.Outcome.{Outcome}
 use Rattle.driver_model.specs.declared.outcome.Outcome.TheVariants as outcome
 
@@ -20,17 +20,20 @@ one_at_least count = if count == 0 then 1 else count
 abbrev pub need_of : Shape → ℕ
 need_of Single = 1
 need_of (Pipeline offset count transaction) = offset + one_at_least count
+need_of Confirmation = 1
 
 -- the most permits that a message of this shape takes of so many: one for a single command, and for a pipeline one for each
 -- reply that it keeps
 abbrev pub permits_for : Shape → ℕ → ℕ
 permits_for Single limit = 1
 permits_for (Pipeline offset count transaction) limit = most_permits count limit
+permits_for Confirmation limit = 1
 
 -- whether it is one command
 abbrev pub is_single : Shape → Bool
 is_single Single = true
 is_single (Pipeline offset count transaction) = false
+is_single Confirmation = true
 
 abbrev pub first_of : List Data → Data
 first_of [] = nil
@@ -62,13 +65,20 @@ abbrev pub pipeline : Bool → List Data → List Data → Verdict
 pipeline true skipped kept = verdict_of_transaction skipped kept
 pipeline false skipped kept = Many kept
 
--- what a full cut of this shape is: a single command's one value, or what is kept of a pipeline
+-- a server error instead of a confirmation is the verdict; whatever else is answered confirms
+abbrev pub confirmed : Data → Verdict
+confirmed (error e) = Fault (reason.Server e)
+confirmed _ = Done
+
+-- what a full cut of this shape is: a single command's one value, what is kept of a pipeline, or what a confirmation says
 abbrev pub verdict_of : Shape → List Data → Verdict
 verdict_of Single cut = One (value_of (first_of cut))
 verdict_of (Pipeline offset count atomic) cut = pipeline atomic (take offset cut) (drop offset cut)
+verdict_of Confirmation cut = confirmed (first_of cut)
 
 -- the outcome that a verdict gives
 abbrev pub outcome_of : Verdict → Outcome
 outcome_of (One v) = outcome.One v
 outcome_of (Many vs) = outcome.Many vs
+outcome_of Done = outcome.Done
 outcome_of (Fault e) = outcome.Fault e

@@ -3,6 +3,7 @@ ghost use Rattle.std.specs.Prelude.{◌≡◌, IfOk};
 use crate::commands::Commands;
 use containers::{Bytes, Names};
 use redis_error::FaultKind;
+use resp_write::SubscriptionAction;
 use std::alloc::{AllocError, Global};
 
 /// What a caller hands in.
@@ -29,6 +30,12 @@ pub enum Submission {
         offset: u32,
         count: u32,
         commands: Commands,
+    },
+    /// A subscription call: one command with all these names, also where there are none. A single connection has those of
+    /// channels and of patterns.
+    Subscription {
+        action: SubscriptionAction,
+        names: Names,
     },
 }
 
@@ -100,6 +107,13 @@ impl Submission {
                     offset: *offset,
                     count: *count,
                     commands,
+                })
+            }
+            Submission::Subscription { action, names } => {
+                let names = names.clone(alloc)?;
+                Ok(Submission::Subscription {
+                    action: *action,
+                    names,
                 })
             }
         }

@@ -1,5 +1,6 @@
 ghost use Rattle.std.specs.Prelude.{◌≡◌, IfOk};
-ghost use Rattle.driver_model.specs.Shape.{outcome_of};
+ghost use Rattle.driver_model.specs.Shape.{outcome_of, confirmed};
+ghost use Rattle.resp_value.specs.View.{data_of};
 
 use redis_error::RedisError;
 use resp_value::{Value, Values};
@@ -18,6 +19,8 @@ pub enum Shape {
         count: u32,
         transaction: bool,
     },
+    /// One subscription call: it takes one item, which confirms it or is a server error.
+    Confirmation,
 }
 
 /// What a message of a link came to.
@@ -27,7 +30,9 @@ pub enum Verdict {
     One(Value),
     /// The replies of a pipeline that are kept. Server errors among them are values.
     Many(Values),
-    /// Why there is no reply.
+    /// A subscription call was confirmed.
+    Done,
+    /// Why there is no reply, or the server error that a subscription call got instead of a confirmation.
     Fault(RedisError),
 }
 
@@ -38,11 +43,23 @@ pub enum Outcome {
     One(Value),
     /// The replies of a pipeline that are kept. Server errors among them are values.
     Many(Values),
-    /// Why there is no reply.
+    /// The names of a subscription call are subscribed, or aren't any more: the server confirmed it.
+    Done,
+    /// Why there is no reply, or the server error that a subscription call got instead of a confirmation.
     Fault(RedisError),
 }
 
 impl Verdict {
+    /// What the reply to a subscription call says: a server error, or that it is done.
+    pub fn of_confirmation(reply: Value) -> Verdict
+        ensures { result ≡ confirmed (data_of reply) }
+    {
+        match reply {
+            Value::ServerError(error) => Verdict::Fault(RedisError::Server(error)),
+            _ => Verdict::Done,
+        }
+    }
+
     /// The outcome of the submission whose message came to it.
     pub fn into_outcome(self) -> Outcome
         ensures { result ≡ outcome_of self }
@@ -50,6 +67,7 @@ impl Verdict {
         match self {
             Verdict::One(value) => Outcome::One(value),
             Verdict::Many(values) => Outcome::Many(values),
+            Verdict::Done => Outcome::Done,
             Verdict::Fault(error) => Outcome::Fault(error),
         }
     }
@@ -63,6 +81,7 @@ impl Outcome {
         match self {
             Outcome::One(value) => Ok(Outcome::One(value.clone(alloc)?)),
             Outcome::Many(values) => Ok(Outcome::Many(values.clone(alloc)?)),
+            Outcome::Done => Ok(Outcome::Done),
             Outcome::Fault(error) => Ok(Outcome::Fault(error.clone(alloc)?)),
         }
     }

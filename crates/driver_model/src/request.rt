@@ -1,11 +1,13 @@
 ghost use Rattle.std.specs.Prelude.{◌≡◌, true, false, IfOk};
 ghost use Rattle.driver_model.specs.Request.{packed_bytes, shape_of, is_reply_awaited, has_no_form};
-ghost use Rattle.driver_model.specs.Request.{is_single_nameless};
+ghost use Rattle.driver_model.specs.Request.{is_single_nameless, is_sharded};
+ghost use Rattle.driver_model.specs.Request.{needs_resp3, lacks_resp3};
 
 use crate::event::Submission;
 use crate::outcome::Shape;
+use connection_info::ProtocolVersion;
 use containers::{Bytes, Names};
-use resp_write::{pack_lists, pack_names};
+use resp_write::{SubscriptionAction, pack_call, pack_lists, pack_names};
 use std::alloc::{AllocError, Global};
 
 impl Submission {
@@ -23,6 +25,7 @@ impl Submission {
                 count: _,
                 commands,
             } => pack_lists(alloc, false, commands.as_slice()),
+            Submission::Subscription { action, names } => pack_call(alloc, action.word(), names),
         }
     }
 
@@ -52,6 +55,10 @@ impl Submission {
                 count: *count,
                 transaction: false,
             },
+            Submission::Subscription {
+                action: _,
+                names: _,
+            } => Shape::Confirmation,
         }
     }
 
@@ -69,10 +76,43 @@ impl Submission {
                 count: _,
                 commands: _,
             } => true,
+            Submission::Subscription {
+                action: _,
+                names: _,
+            } => true,
         }
     }
 
-    /// Whether it is a list of exactly one command without a name, which has no form of its own in a script.
+    /// Whether it is a subscription call, which a server answers on RESP3 alone.
+    pub fn needs_resp3(&self) -> bool
+        ensures { result ≡ needs_resp3 self.now }
+    {
+        match self {
+            Submission::Cmd { args: _ } => false,
+            Submission::NoReply { args: _ } => false,
+            Submission::Pipe { commands: _ } => false,
+            Submission::Multi { commands: _ } => false,
+            Submission::Packed {
+                offset: _,
+                count: _,
+                commands: _,
+            } => false,
+            Submission::Subscription {
+                action: _,
+                names: _,
+            } => true,
+        }
+    }
+
+    /// Whether it needs RESP3 where its server is told to speak this protocol, which is another.
+    pub fn lacks_resp3(&self, protocol: ProtocolVersion) -> bool
+        ensures { result ≡ lacks_resp3 protocol self.now }
+    {
+        self.needs_resp3() && !protocol.supports_resp3()
+    }
+
+    /// Whether it is a list of exactly one command without a name, which has no form of its own in a script, or a
+    /// subscription call of sharded channels, which a single connection doesn't have.
     pub fn is_formless(&self) -> bool
         ensures { result ≡ has_no_form self.now }
     {
@@ -86,7 +126,22 @@ impl Submission {
                 count: _,
                 commands,
             } => is_one_nameless(commands.as_slice()),
+            Submission::Subscription { action, names: _ } => is_sharded(*action),
         }
+    }
+}
+
+/// Whether a call is about sharded channels.
+fn is_sharded(action: SubscriptionAction) -> bool
+    ensures { result ≡ is_sharded action }
+{
+    match action {
+        SubscriptionAction::Subscribe => false,
+        SubscriptionAction::Unsubscribe => false,
+        SubscriptionAction::PSubscribe => false,
+        SubscriptionAction::PUnsubscribe => false,
+        SubscriptionAction::SSubscribe => true,
+        SubscriptionAction::Sunsubscribe => true,
     }
 }
 

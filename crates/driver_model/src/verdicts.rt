@@ -1,7 +1,7 @@
 ghost use Rattle.std.specs.Prelude.{◌≡◌, ◌<◌, ◌≤◌, ◌^◌, ◌∷◌, ◌++◌, length, take, drop, OnOk, IfOk};
 ghost use Rattle.resp_value.specs.View.{data_of, value_of, list_view};
 ghost use Rattle.driver_model.specs.Shape.{need_of, permits_for, verdict_of, pipeline};
-ghost use Rattle.driver_model.specs.Shape.{verdict_of_transaction};
+ghost use Rattle.driver_model.specs.Shape.{verdict_of_transaction, confirmed};
 ghost use Rattle.driver_model.specs.Shape.{first_of, error_at, errors_from, kept_unless_aborted};
 
 use crate::outcome::{Shape, Verdict};
@@ -22,6 +22,7 @@ impl Shape {
                 count,
                 transaction: _,
             } => u64::from(offset) + u64::from(count.max(1)),
+            Shape::Confirmation => 1,
         }
     }
 
@@ -36,6 +37,7 @@ impl Shape {
                 count,
                 transaction: _,
             } => permit_vec_capacity(count, limit),
+            Shape::Confirmation => 1,
         }
     }
 
@@ -50,6 +52,7 @@ impl Shape {
                 count: _,
                 transaction,
             } => pipeline_verdict(alloc, offset, transaction, got),
+            Shape::Confirmation => Ok(confirmation(got)),
         }
     }
 }
@@ -63,6 +66,14 @@ fn first(values: Values) -> Value
         Some(value) => value,
         None => Value::Nil,
     }
+}
+
+/// What the first value says as the reply to a subscription call.
+#[tactic(auto, using(crate::proofs::Replies::of_first))]
+fn confirmation(got: Values) -> Verdict
+    ensures { result ≡ confirmed (first_of got) }
+{
+    Verdict::of_confirmation(first(got))
 }
 
 /// What is kept of a pipeline behind the first `offset` values, or why its transaction has no reply.

@@ -76,6 +76,7 @@ fn print_outcome(rt: &impl Print, alloc: Global, outcome: Option<&Outcome>) -> i
             println!(rt; "answered {}", text.as_slice().escape_ascii())
         }
         Some(Outcome::Many(values)) => println!(rt; "answered with {} values", values.len()),
+        Some(Outcome::Done) => println!(rt; "done"),
         Some(Outcome::Fault(_)) => println!(rt; "refused"),
         None => println!(rt; "open"),
     }

@@ -1,17 +1,23 @@
 -- How many outcomes the submissions of a legal trace have.
-use Rattle.std.proofs.Common.{◌≡◌, ℕ, ◌≤◌, ◌==◌, Bool, true, false, ◌&&◌, not, List, [], ◌∷◌, length, Option, None, is_some, inl, inr, ap, arith}
+use Rattle.std.proofs.Common.{◌≡◌, ℕ, ◌≤◌, ◌==◌, Bool, true, false, ◌&&◌, not, ◌⊎◌, List, [], ◌∷◌, ◌++◌, length, Option, Some, None, is_some, inl, inr, ap, sym, subst, ◌∙◌, arith}
 use Rattle.std.proofs.lemmas.Bool.Decides.{nat_tests}
+use Rattle.containers.proofs.Choices.{left_if, taken_if}
+use Rattle.redis_error.specs.declared.redis_error.RedisError.TheVariants as error
 use Rattle.driver_model.specs.declared.action.Action.{Action}
+use Rattle.driver_model.specs.declared.action.Action.TheVariants as action
+use Rattle.driver_model.specs.declared.outcome.Outcome.TheVariants as outcome
 use Rattle.driver_model.specs.declared.action.WaitKind.{WaitKind}
 use Rattle.driver_model.specs.declared.config.Config.{Config}
 use Rattle.driver_model.specs.declared.event.Event.{Event}
 use Rattle.driver_model.specs.declared.event.Submission.{Submission}
 use Rattle.driver_model.specs.declared.outcome.Outcome.{Outcome}
-use Rattle.legal_trace.specs.Book.{Book, book}
-use Rattle.legal_trace.specs.Legal.{IsOpen, IsSettled, WaitHolds, link_of, Legal}
-use Rattle.legal_laws.specs.Answers.{AnswersOnce, AnswersAll}
+use Rattle.legal_trace.specs.Book.{Book, blank_book, book}
+use Rattle.legal_trace.specs.Owed.{owed}
+use Rattle.legal_trace.specs.Legal.{IsOpen, IsSettled, WaitHolds, AllStand, MayAnswer, MayTell, link_of, Legal}
+use Rattle.legal_laws.specs.Answers.{AnswersOnce, AnswersAll, RefusesUnspoken}
 use Rattle.legal_trace.proofs.Ledgers.{dials_from}
-use Rattle.legal_trace.proofs.Plain.{none_from}
+use Rattle.legal_trace.proofs.Books.{stand_behind}
+use Rattle.legal_trace.proofs.Plain.{none_from, not_none, same_some}
 use Rattle.legal_trace.proofs.Moves.{waits_on_a_link}
 use Rattle.legal_laws.proofs.Numbers.{up_is_asked}
 use Rattle.legal_laws.proofs.Shutdown.{none_left}
@@ -53,3 +59,19 @@ pub exactly_one : (config : Config) (word : ℕ) (events : List Event) (trace : 
 exactly_one config word events trace h shut n s there stays =
     by_length ((book trace).story n).outcomes ((book trace).story n).submission ((book trace).story n).cancelled (ap is_some there) stays
     (none_open (book trace) (sound_behind trace h.each) h.settled shut n) (at_most_one config word events trace h n)
+
+-- where RESP3 is needed and not spoken, this is owed
+unspoken_owed : (b : Book) (n : ℕ) → (b.story n).unspoken ≡ true → (b.story n).late ≡ false → owed b n ≡ Some (outcome.Fault error.Resp3Required)
+unspoken_owed b n unspoken early = left_if (b.story n).late _ _ early ∙ taken_if (b.story n).unspoken _ _ unspoken
+
+-- so nothing else is answered
+unspoken_answer : (b : Book) (n : ℕ) (o : Outcome) → MayAnswer b n o ⊎ MayTell b n o → (b.story n).unspoken ≡ true → (b.story n).late ≡ false → o ≡ outcome.Fault error.Resp3Required
+unspoken_answer b n o (inl may) unspoken early = same_some o (outcome.Fault error.Resp3Required) (sym may.owes ∙ unspoken_owed b n unspoken early)
+unspoken_answer b n o (inr told) unspoken early = absurd (not_none (owed b n) (outcome.Fault error.Resp3Required) (told.begun.applied.answered n told.asked) (unspoken_owed b n unspoken early))
+
+-- in a legal trace
+pub unspoken_refused : (config : Config) (word : ℕ) (events : List Event) (trace : List Action) → Legal config word events trace → RefusesUnspoken trace
+unfolding book
+unspoken_refused config word events trace h front more n o is =
+    let whole : AllStand blank_book (front ++ action.Outcome n o ∷ more) = subst (AllStand blank_book) is h.each in
+    unspoken_answer (book front) n o (stand_behind blank_book front (action.Outcome n o ∷ more) whole).0

@@ -222,9 +222,10 @@ unopened_owed : (b : Book) (n : ℕ) (e : RedisError) → TimesRun b → IsUnope
 unopened_owed b n e run u =
     let runs : (b.story n).overdue ≡ false = by_test (b.story n).overdue ((b.story n).overdue ≡ false) (λ t. absurd (failed_in_time b n e run u.failed t)) (λ f. f) in
     left_if (b.story n).late _ _ u.in_time
+    ∙ (left_if (b.story n).unspoken _ _ u.spoken
     ∙ (left_if (length (bytes_of (b.story n)) == 0) _ _ (has_length (bytes_of (b.story n)) u.some)
     ∙ (left_if (b.story n).overdue _ _ runs
-    ∙ (ap (λ (ts : List Try). owed_to_try b (b.story n) (last_of ts)) u.unstarted ∙ owed_by_failure (link_of b n).end e u.failed)))
+    ∙ (ap (λ (ts : List Try). owed_to_try b (b.story n) (last_of ts)) u.unstarted ∙ owed_by_failure (link_of b n).end e u.failed))))
 
 -- so it is answered with that, behind the creation
 unopened_answered : (front : List Action) (n : ℕ) (o : Outcome) (e : RedisError) → AllStand blank_book front → MayAnswer (book front) n o → IsUnopened (book front) n e → (o ≡ outcome.Fault e) × (creations front ≡ Some e ∷ [])

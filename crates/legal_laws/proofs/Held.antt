@@ -44,7 +44,7 @@ starts_ready b l k n count len may = subst (λ j. is_ready (b.link j) ≡ true) 
 -- so is the submission whose message starts
 starter_owed : (b : Book) (l k n round count len : ℕ) → MayStart b l k n count len → Sound b → is_open (b.story n) ≡ true → owed_story (entered b (starting l k n round count len)) (tried (b.story n) l k) ≡ None
 starter_owed b l k n round count len may h o =
-    owed_by_last b (entered b (starting l k n round count len)) (b.story n) (tried (b.story n) l k) refl refl refl
+    owed_by_last b (entered b (starting l k n round count len)) (b.story n) (tried (b.story n) l k) refl refl refl refl
     (subst (λ (x : Option Try). owed_to_try (entered b (starting l k n round count len)) (tried (b.story n) l k) x ≡ None) (sym (last_behind (b.story n).tries (record { link = l; message = k }))) (new_message b l k n round count len may h))
     (may.begun.applied.answered n o)
 

@@ -10,7 +10,7 @@ use Rattle.driver_model.specs.declared.event.EventKind.{EventKind}
 use Rattle.driver_model.specs.declared.event.EventKind.TheVariants as event
 use Rattle.driver_model.specs.declared.outcome.Outcome.{Outcome}
 use Rattle.legal_trace.specs.Story.{Story, is_open, is_told, is_awaited, is_no_error, is_unstarted, handed_in, left, holds, clocked, fires, tried, waits, answered}
-use Rattle.legal_trace.specs.Book.{Book, entered, entered_each, current, is_clock_of, after_event}
+use Rattle.legal_trace.specs.Book.{Book, entered, entered_each, current, is_clock_of, after_event, is_unspoken}
 use Rattle.legal_trace.specs.Steps.{permits_in, is_let_in, is_in_line, line_before}
 use Rattle.legal_trace.specs.Legal.{MayStand, MayAnswer, MayTell, MayTake, MayStart, AllStand}
 use Rattle.legal_trace.proofs.Plain.{not_empty}
@@ -144,7 +144,7 @@ answered_follows b n o (inr may) =
 
 -- behind an event
 event_follows : (b : Book) (n : ℕ) (kind : EventKind) → n < b.submissions → Follows (permits_in b.config) (b.story n) (after_event b n kind)
-event_follows b n (event.Submit what) i = subst (Follows (permits_in b.config) (b.story n)) (sym (left_if (b.submissions == n) (handed_in (b.story n) what b.shut (current b) b.timeout) (b.story n) (ne_test b.submissions n (omega arith)))) (same_story (permits_in b.config) (b.story n))
+event_follows b n (event.Submit what) i = subst (Follows (permits_in b.config) (b.story n)) (sym (left_if (b.submissions == n) (handed_in (b.story n) what b.shut (is_unspoken b what) (current b) b.timeout) (b.story n) (ne_test b.submissions n (omega arith)))) (same_story (permits_in b.config) (b.story n))
 event_follows b n (event.Cancel m) i = chosen (Follows (permits_in b.config) (b.story n)) (m == n) (left (b.story n)) (b.story n) (λ t. left_follows (permits_in b.config) (b.story n)) (λ f. same_story (permits_in b.config) (b.story n))
 event_follows b n (event.Fired t) i = chosen (Follows (permits_in b.config) (b.story n)) (is_clock_of n (slice_get b.timers t)) (fires (b.story n)) (b.story n) (λ e. fires_follows (permits_in b.config) (b.story n)) (λ f. same_story (permits_in b.config) (b.story n))
 event_follows b n (event.Connected l) i = same_story (permits_in b.config) (b.story n)

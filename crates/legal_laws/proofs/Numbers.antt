@@ -15,7 +15,7 @@ use Rattle.driver_model.specs.News.{News, silence, connected, refused, overdue, 
 use Rattle.driver_model.specs.declared.outcome.Outcome.{Outcome}
 use Rattle.legal_trace.specs.Ledger.{Ledger, End, asks, begins, offers, ends, is_over, ending, ending_alive, ending_asked, noted_each}
 use Rattle.legal_trace.specs.Story.{Story, blank_story, is_open, is_told, handed_in, left, holds, clocked, fires, tried, waits, answered}
-use Rattle.legal_trace.specs.Book.{Book, entered, lines_of, if_mine, info_in, message_of, current, is_clock_of, after_event, submitted_by}
+use Rattle.legal_trace.specs.Book.{Book, entered, lines_of, if_mine, info_in, message_of, current, is_clock_of, after_event, submitted_by, is_unspoken}
 use Rattle.legal_trace.specs.Events.{is_bad_event}
 use Rattle.legal_trace.specs.Legal.{MayAnswer, MayTell, MayTimer, MayStand, IsOpen, CanMove}
 use Rattle.legal_trace.proofs.Ledgers.{each_keeps, mine_keeps, IsAsked, asked_keeps, IsUnasked, unasked_hears}
@@ -186,7 +186,7 @@ timer_leaves_blank b t ms what n (inr may) h i = ap (λ x. if is_clock_of n (Som
 -- an event that isn't bad is nothing to a submission that was not handed in
 event_leaves_blank : (b : Book) (n : ℕ) (kind : EventKind) → is_bad_event b kind ≡ false → HasStories b → b.submissions + submitted_by kind ≤ n → after_event b n kind ≡ blank_story
 unfolding is_bad_event
-event_leaves_blank b n (event.Submit what) good h i = left_if (b.submissions == n) (handed_in (b.story n) what b.shut (current b) b.timeout) (b.story n) (ne_test b.submissions n (omega arith)) ∙ h n (omega arith)
+event_leaves_blank b n (event.Submit what) good h i = left_if (b.submissions == n) (handed_in (b.story n) what b.shut (is_unspoken b what) (current b) b.timeout) (b.story n) (ne_test b.submissions n (omega arith)) ∙ h n (omega arith)
 event_leaves_blank b n (event.Cancel m) good h i = others_blank b m n (left (b.story n)) h (omega arith) (not_le_from b.submissions m good)
 event_leaves_blank b n (event.Connected l) good h i = h n (omega arith)
 event_leaves_blank b n (event.Refused l f) good h i = h n (omega arith)

@@ -12,7 +12,7 @@ use Rattle.driver_model.specs.declared.event.EventKind.{EventKind}
 use Rattle.driver_model.specs.declared.event.EventKind.TheVariants as event
 use Rattle.legal_trace.specs.Ledger.{begins, offers, ends, failure_in, setup_due}
 use Rattle.legal_trace.specs.Story.{Story, is_open, handed_in, left, holds, clocked, fires, tried, waits, answered}
-use Rattle.legal_trace.specs.Book.{Book, blank_book, book, entered, entered_each, message_of, current, is_clock_of, after_event}
+use Rattle.legal_trace.specs.Book.{Book, blank_book, book, entered, entered_each, message_of, current, is_clock_of, after_event, is_unspoken}
 use Rattle.legal_trace.specs.Legal.{MayTimer, MayTime, MayStand, AllStand, link_of}
 use Rattle.legal_trace.proofs.Ledgers.{mine_keeps}
 use Rattle.legal_laws.proofs.InLine.{follows, submissions_grow}
@@ -116,7 +116,7 @@ WasOver b n s = s.overdue ≡ true → ((b.story n).overdue ≡ true) ⊎ HasClo
 
 -- so it is behind an event
 event_over : (b : Book) (n : ℕ) (kind : EventKind) → WasOver b n (after_event b n kind)
-event_over b n (event.Submit what) = chosen (WasOver b n) (b.submissions == n) (handed_in (b.story n) what b.shut (current b) b.timeout) (b.story n) (λ t e. inl e) (λ f e. inl e)
+event_over b n (event.Submit what) = chosen (WasOver b n) (b.submissions == n) (handed_in (b.story n) what b.shut (is_unspoken b what) (current b) b.timeout) (b.story n) (λ t e. inl e) (λ f e. inl e)
 event_over b n (event.Cancel m) = chosen (WasOver b n) (m == n) (left (b.story n)) (b.story n)
     (λ t. chosen (WasOver b n) (is_open (b.story n)) (record (b.story n) { cancelled = true; permits = 0; waiting = None }) (b.story n) (λ o e. inl e) (λ o e. inl e)) (λ f e. inl e)
 event_over b n (event.Fired t) = chosen (WasOver b n) (is_clock_of n (slice_get b.timers t)) (fires (b.story n)) (b.story n) (λ c e. inr (clock_at n b.timers t c)) (λ f e. inl e)

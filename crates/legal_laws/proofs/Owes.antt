@@ -18,37 +18,45 @@ use Rattle.legal_trace.proofs.Ledgers.{FewAreDealt, reach_more, takes_one}
 abbrev pub owed_story : Book → Story → Option Outcome
 owed_story b s =
     if s.late then Some (outcome.Fault error.Closed)
+    else if s.unspoken then Some (outcome.Fault error.Resp3Required)
     else if length (bytes_of s) == 0 then Some (outcome.Fault error.EmptyCommand)
     else if s.overdue then Some (outcome.Fault (error.Io kind.TimedOut))
     else owed_to_try b s (last_of s.tries)
 
--- so it is owed nothing: it came before the shutdown, has bytes, its time isn't over, and its message is owed nothing
+-- so it is owed nothing: it came before the shutdown, its link speaks as it needs, it has bytes, its time isn't over, and its
+-- message is owed nothing
 pub record OwedNothing (b : Book) (s : Story) : Type 0 where
   pub in_time : s.late ≡ false
+  pub spoken : s.unspoken ≡ false
   pub with_bytes : (length (bytes_of s) == 0) ≡ false
   pub runs : s.overdue ≡ false
   pub by_message : owed_to_try b s (last_of s.tries) ≡ None
 
--- a choice between three outcomes and a fourth that comes to nothing
-four_ways : (late empty overdue : Bool) (x y z : Outcome) (o : Option Outcome) → (if late then Some x else if empty then Some y else if overdue then Some z else o) ≡ None → (late ≡ false) × (empty ≡ false) × (overdue ≡ false) × (o ≡ None)
-four_ways true empty overdue x y z o e = cc
-four_ways false true overdue x y z o e = cc
-four_ways false false true x y z o e = cc
-four_ways false false false x y z o e = (refl, refl, refl, e)
+-- a choice between four outcomes and a fifth that comes to nothing
+five_ways : (late unspoken empty overdue : Bool) (w x y z : Outcome) (o : Option Outcome)
+    → (if late then Some w else if unspoken then Some x else if empty then Some y else if overdue then Some z else o) ≡ None → (late ≡ false) × (unspoken ≡ false) × (empty ≡ false) × (overdue ≡ false) × (o ≡ None)
+five_ways true unspoken empty overdue w x y z o e = cc
+five_ways false true empty overdue w x y z o e = cc
+five_ways false false true overdue w x y z o e = cc
+five_ways false false false true w x y z o e = cc
+five_ways false false false false w x y z o e = (refl, refl, refl, refl, e)
 
 -- where it is owed nothing, for each of these
 pub nothing_is_owed : (b : Book) (s : Story) → owed_story b s ≡ None → OwedNothing b s
 nothing_is_owed b s e =
-    let p : (s.late ≡ false) × ((length (bytes_of s) == 0) ≡ false) × (s.overdue ≡ false) × (owed_to_try b s (last_of s.tries) ≡ None) =
-    four_ways s.late (length (bytes_of s) == 0) s.overdue (outcome.Fault error.Closed) (outcome.Fault error.EmptyCommand) (outcome.Fault (error.Io kind.TimedOut)) (owed_to_try b s (last_of s.tries)) e in
-    record { in_time = p.0; with_bytes = p.1; runs = p.2; by_message = p.3 }
+    let p : (s.late ≡ false) × (s.unspoken ≡ false) × ((length (bytes_of s) == 0) ≡ false) × (s.overdue ≡ false) × (owed_to_try b s (last_of s.tries) ≡ None) =
+    five_ways s.late s.unspoken (length (bytes_of s) == 0) s.overdue (outcome.Fault error.Closed) (outcome.Fault error.Resp3Required) (outcome.Fault error.EmptyCommand) (outcome.Fault (error.Io kind.TimedOut)) (owed_to_try b s (last_of s.tries)) e in
+    record { in_time = p.0; spoken = p.1; with_bytes = p.2; runs = p.3; by_message = p.4 }
 
 -- and where each of these, it is owed nothing
 pub owes_nothing : (b : Book) (s : Story) → OwedNothing b s → owed_story b s ≡ None
 owes_nothing b s h =
-    left_if s.late (Some (outcome.Fault error.Closed)) (if length (bytes_of s) == 0 then Some (outcome.Fault error.EmptyCommand) else if s.overdue then Some (outcome.Fault (error.Io kind.TimedOut)) else owed_to_try b s (last_of s.tries)) h.in_time
-    ∙ (left_if (length (bytes_of s) == 0) (Some (outcome.Fault error.EmptyCommand)) (if s.overdue then Some (outcome.Fault (error.Io kind.TimedOut)) else owed_to_try b s (last_of s.tries)) h.with_bytes
-    ∙ (left_if s.overdue (Some (outcome.Fault (error.Io kind.TimedOut))) (owed_to_try b s (last_of s.tries)) h.runs ∙ h.by_message))
+    let timely = if s.overdue then Some (outcome.Fault (error.Io kind.TimedOut)) else owed_to_try b s (last_of s.tries) in
+    let packed = if length (bytes_of s) == 0 then Some (outcome.Fault error.EmptyCommand) else timely in
+    left_if s.late (Some (outcome.Fault error.Closed)) (if s.unspoken then Some (outcome.Fault error.Resp3Required) else packed) h.in_time
+    ∙ (left_if s.unspoken (Some (outcome.Fault error.Resp3Required)) packed h.spoken
+    ∙ (left_if (length (bytes_of s) == 0) (Some (outcome.Fault error.EmptyCommand)) timely h.with_bytes
+    ∙ (left_if s.overdue (Some (outcome.Fault (error.Io kind.TimedOut))) (owed_to_try b s (last_of s.tries)) h.runs ∙ h.by_message)))
 
 -- a submission that is owed nothing has bytes
 pub has_bytes : (b : Book) (s : Story) → owed_story b s ≡ None → bytes_of s ≢ []
@@ -72,13 +80,13 @@ try_again b c s (Some t) end same e = same t refl e
 pub owed_again : (b c : Book) (s : Story) → StayOpen b c s → owed_story b s ≡ None → owed_story c s ≡ None
 owed_again b c s stay e =
     let p : OwedNothing b s = nothing_is_owed b s e in
-    owes_nothing c s (record { in_time = p.in_time; with_bytes = p.with_bytes; runs = p.runs; by_message = try_again b c s (last_of s.tries) stay.0 stay.1 p.by_message })
+    owes_nothing c s (record { in_time = p.in_time; spoken = p.spoken; with_bytes = p.with_bytes; runs = p.runs; by_message = try_again b c s (last_of s.tries) stay.0 stay.1 p.by_message })
 
 -- with a message more, where that is owed nothing
-pub owed_by_last : (b c : Book) (s t : Story) → t.late ≡ s.late → bytes_of t ≡ bytes_of s → t.overdue ≡ s.overdue → owed_to_try c t (last_of t.tries) ≡ None → owed_story b s ≡ None → owed_story c t ≡ None
-owed_by_last b c s t late bytes overdue last e =
+pub owed_by_last : (b c : Book) (s t : Story) → t.late ≡ s.late → t.unspoken ≡ s.unspoken → bytes_of t ≡ bytes_of s → t.overdue ≡ s.overdue → owed_to_try c t (last_of t.tries) ≡ None → owed_story b s ≡ None → owed_story c t ≡ None
+owed_by_last b c s t late unspoken bytes overdue last e =
     let p : OwedNothing b s = nothing_is_owed b s e in
-    owes_nothing c t (record { in_time = late ∙ p.in_time; with_bytes = ap (λ x. length x == 0) bytes ∙ p.with_bytes; runs = overdue ∙ p.runs; by_message = last })
+    owes_nothing c t (record { in_time = late ∙ p.in_time; spoken = unspoken ∙ p.spoken; with_bytes = ap (λ x. length x == 0) bytes ∙ p.with_bytes; runs = overdue ∙ p.runs; by_message = last })
 
 -- what isn't full doesn't become so
 full_alike : (full now : Bool) (x y : Outcome) (o : Option Outcome) → now ≡ full → (if full then Some x else o) ≡ None → (if now then Some y else o) ≡ None

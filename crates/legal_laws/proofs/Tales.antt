@@ -18,34 +18,37 @@ use Rattle.driver_model.specs.declared.outcome.Outcome.{Outcome}
 use Rattle.driver_model.specs.declared.outcome.Outcome.TheVariants as outcome
 use Rattle.legal_trace.specs.Ledger.{Ledger, Line, End, begins, noted_each}
 use Rattle.legal_trace.specs.Story.{Story, Try, is_open, is_no_error, handed_in, left, holds, clocked, fires, tried, waits, answered, last_of, bytes_of}
-use Rattle.legal_trace.specs.Owed.{owed, owed_to_try, owed_unstarted}
-use Rattle.legal_trace.specs.Book.{Book, entered, lines_of, message_of, current, is_clock_of, after_event}
+use Rattle.legal_trace.specs.Owed.{owed, owed_to_try, owed_unstarted, unstarted_error}
+use Rattle.legal_trace.specs.Book.{Book, entered, lines_of, message_of, current, is_clock_of, after_event, is_unspoken}
 use Rattle.legal_trace.specs.Legal.{MayAnswer, MayTell, MayStand, IsOpen}
 use Rattle.legal_trace.proofs.Ledgers.{each_keeps, HasStarted, started_keeps}
 use Rattle.legal_laws.proofs.Owes.{has_bytes}
 use Rattle.legal_trace.proofs.Plain.{not_empty, same_some}
 use Rattle.legal_laws.proofs.Numbers.{HasStories}
 
+-- a fault is an error
+of_fault : (e : RedisError) (o : Outcome) → ◌≡◌ {A = Option Outcome} (Some (outcome.Fault e)) (Some o) → is_no_error (o ∷ []) ≡ true → ⊥
+of_fault e (outcome.Fault f) owes n = cc n
+of_fault e (outcome.One v) owes n = cc owes
+of_fault e (outcome.Many vs) owes n = cc owes
+of_fault e outcome.Done owes n = cc owes
+
 -- one that started no message is owed a fault, if anything
-a_fault_only : (late empty overdue : Bool) (x y z : RedisError) (end : Option End) (o : Outcome)
-    → (if late then Some (outcome.Fault x) else if empty then Some (outcome.Fault y) else if overdue then Some (outcome.Fault z) else owed_unstarted end) ≡ Some o → is_no_error (o ∷ []) ≡ true → ⊥
-a_fault_only late empty overdue x y z end (outcome.Fault e) owes n = cc n
-a_fault_only true empty overdue x y z end (outcome.One v) owes n = cc owes
-a_fault_only true empty overdue x y z end (outcome.Many vs) owes n = cc owes
-a_fault_only false true overdue x y z end (outcome.One v) owes n = cc owes
-a_fault_only false true overdue x y z end (outcome.Many vs) owes n = cc owes
-a_fault_only false false true x y z end (outcome.One v) owes n = cc owes
-a_fault_only false false true x y z end (outcome.Many vs) owes n = cc owes
-a_fault_only false false false x y z None (outcome.One v) owes n = cc owes
-a_fault_only false false false x y z None (outcome.Many vs) owes n = cc owes
-a_fault_only false false false x y z (Some end) (outcome.One v) owes n = cc owes
-a_fault_only false false false x y z (Some end) (outcome.Many vs) owes n = cc owes
+a_fault_only : (late unspoken empty overdue : Bool) (w x y z : RedisError) (end : Option End) (o : Outcome)
+    → (if late then Some (outcome.Fault w) else if unspoken then Some (outcome.Fault x) else if empty then Some (outcome.Fault y) else if overdue then Some (outcome.Fault z) else owed_unstarted end) ≡ Some o
+    → is_no_error (o ∷ []) ≡ true → ⊥
+a_fault_only true unspoken empty overdue w x y z end o owes n = of_fault w o owes n
+a_fault_only false true empty overdue w x y z end o owes n = of_fault x o owes n
+a_fault_only false false true overdue w x y z end o owes n = of_fault y o owes n
+a_fault_only false false false true w x y z end o owes n = of_fault z o owes n
+a_fault_only false false false false w x y z None o owes n = cc owes
+a_fault_only false false false false w x y z (Some end) o owes n = of_fault (unstarted_error end.why) o owes n
 
 -- so what it is owed is an error
 pub unstarted_gets_a_fault : (b : Book) (n : ℕ) (o : Outcome) → (b.story n).tries ≡ [] → owed b n ≡ Some o → is_no_error (o ∷ []) ≡ true → ⊥
 unstarted_gets_a_fault b n o none owes =
-    a_fault_only (b.story n).late (length (bytes_of (b.story n)) == 0) (b.story n).overdue error.Closed error.EmptyCommand (error.Io kind.TimedOut) (b.link (b.story n).link).end o
-    (subst (λ (ts : List Try). (if (b.story n).late then Some (outcome.Fault error.Closed) else if length (bytes_of (b.story n)) == 0 then Some (outcome.Fault error.EmptyCommand)
+    a_fault_only (b.story n).late (b.story n).unspoken (length (bytes_of (b.story n)) == 0) (b.story n).overdue error.Closed error.Resp3Required error.EmptyCommand (error.Io kind.TimedOut) (b.link (b.story n).link).end o
+    (subst (λ (ts : List Try). (if (b.story n).late then Some (outcome.Fault error.Closed) else if (b.story n).unspoken then Some (outcome.Fault error.Resp3Required) else if length (bytes_of (b.story n)) == 0 then Some (outcome.Fault error.EmptyCommand)
     else if (b.story n).overdue then Some (outcome.Fault (error.Io kind.TimedOut)) else owed_to_try b (b.story n) (last_of ts)) ≡ Some o) none owes)
 
 -- it has one outcome at most, and bytes where that is no error and it has not started
@@ -80,7 +83,7 @@ outcome_once b n o (inr told) = first_outcome b n o told.asked (λ t e. has_byte
 -- events answer none
 event_once : (b : Book) (n : ℕ) (kind : EventKind) → HasStories b → AnsweredOnce (b.story n) → AnsweredOnce (after_event b n kind)
 event_once b n (event.Submit what) blank h =
-    chosen AnsweredOnce (b.submissions == n) (handed_in (b.story n) what b.shut (current b) b.timeout) (b.story n)
+    chosen AnsweredOnce (b.submissions == n) (handed_in (b.story n) what b.shut (is_unspoken b what) (current b) b.timeout) (b.story n)
     (λ t. let e : b.submissions ≡ n = eq_from b.submissions n t in unanswered (b.story n).outcomes (b.story n).tries (packed_bytes what) (ap (λ (s : Story). s.outcomes) (blank n (omega arith))))
     (λ f. h)
 event_once b n (event.Cancel m) blank h = chosen AnsweredOnce (m == n) (left (b.story n)) (b.story n) (λ t. chosen AnsweredOnce (is_open (b.story n)) (record (b.story n) { cancelled = true; permits = 0; waiting = None }) (b.story n) (λ o. h) (λ o. h)) (λ f. h)
@@ -143,7 +146,7 @@ starts_next b l k n count len round next t e =
 
 -- events start none
 event_tries : (b : Book) (n : ℕ) (kind : EventKind) (link : ℕ → Ledger) → TriesAreStarted link (b.story n) → TriesAreStarted link (after_event b n kind)
-event_tries b n (event.Submit what) link h = chosen (TriesAreStarted link) (b.submissions == n) (handed_in (b.story n) what b.shut (current b) b.timeout) (b.story n) (λ t. h) (λ f. h)
+event_tries b n (event.Submit what) link h = chosen (TriesAreStarted link) (b.submissions == n) (handed_in (b.story n) what b.shut (is_unspoken b what) (current b) b.timeout) (b.story n) (λ t. h) (λ f. h)
 event_tries b n (event.Cancel m) link h = chosen (TriesAreStarted link) (m == n) (left (b.story n)) (b.story n) (λ t. chosen (TriesAreStarted link) (is_open (b.story n)) (record (b.story n) { cancelled = true; permits = 0; waiting = None }) (b.story n) (λ o. h) (λ o. h)) (λ f. h)
 event_tries b n (event.Connected l) link h = h
 event_tries b n (event.Refused l f) link h = h

@@ -24,9 +24,11 @@ creations (a ∷ more) = shown_by a ++ creations more
 abbrev pub HasFailed : Book → ℕ → RedisError → Type 0
 HasFailed b l e = failure_in (b.link l).end ≡ Some e
 
--- submission n has bytes and no message, and came before any shutdown, and the opening of its link failed with this error
+-- submission n has bytes and no message, came before any shutdown, doesn't need RESP3 where that isn't spoken, and the
+-- opening of its link failed with this error
 pub record IsUnopened (b : Book) (n : ℕ) (e : RedisError) : Type 0 where
   pub in_time : (b.story n).late ≡ false
+  pub spoken : (b.story n).unspoken ≡ false
   pub some : bytes_of (b.story n) ≢ []
   pub unstarted : (b.story n).tries ≡ []
   pub failed : failure_in (link_of b n).end ≡ Some e

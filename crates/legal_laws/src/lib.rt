@@ -5,7 +5,7 @@ ghost use Rattle.std.specs.Prelude.{List};
 ghost use Rattle.driver_model.specs.declared.action.Action.{Action};
 ghost use Rattle.legal_trace.specs.Ledger.{Line, LinkLegal};
 ghost use Rattle.legal_laws.specs.Links.{LinksAreLegal, LedgersAreTold, TakesInOrder};
-ghost use Rattle.legal_laws.specs.Answers.{AnswersOnce, AnswersAll};
+ghost use Rattle.legal_laws.specs.Answers.{AnswersOnce, AnswersAll, RefusesUnspoken};
 ghost use Rattle.legal_laws.specs.Next.{OneIsNextBehind};
 ghost use Rattle.legal_laws.specs.Creation.{TellsOfOpening};
 ghost use Rattle.legal_laws.specs.Starts.{StartsRise, LeftStartNoMore};
@@ -40,6 +40,12 @@ pub fn after_a_shutdown_all_are_answered()
     ensures { OfEachLegal AnswersAll }
 {}
 
+/// Does nothing. Its contract: in a legal trace a subscription call that came before any shutdown,
+/// to a link whose server is told another protocol than RESP3, is answered with that error alone.
+pub fn subscription_calls_need_resp3()
+    ensures { OfEachLegal RefusesUnspoken }
+{}
+
 /// Does nothing. Its contract: behind actions that may stand, at most one action may stand next,
 /// but for the cause of a turn.
 pub fn one_action_may_stand()
@@ -58,8 +64,8 @@ pub fn a_turn_has_five_segments()
 
 /// Does nothing. Its contract: a legal trace shows the creation at most once. Where the opening of
 /// a link failed, and only there, it shows that error. With this error alone, and behind the
-/// creation, each submission of that link is answered that has bytes and no message and came before
-/// any shutdown; and none of these is left open.
+/// creation, each submission of that link is answered that has bytes and no message, came before any
+/// shutdown and doesn't need RESP3 where that isn't spoken; and none of these is left open.
 pub fn a_failed_opening_is_told()
     ensures { OfEachLegal TellsOfOpening }
 {}

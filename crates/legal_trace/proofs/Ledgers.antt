@@ -8,7 +8,7 @@ use Rattle.resp_value.specs.Data.{Data}
 use Rattle.redis_error.specs.declared.redis_error.RedisError.TheVariants as error
 use Rattle.driver_model.specs.News.{News, silence, connected, refused, overdue, took, came, failed, shut}
 use Rattle.driver_model.specs.declared.outcome.Shape.{Shape}
-use Rattle.driver_model.specs.declared.outcome.Shape.TheVariants.{Single, Pipeline}
+use Rattle.driver_model.specs.declared.outcome.Shape.TheVariants.{Single, Pipeline, Confirmation}
 use Rattle.driver_model.specs.Shape.{need_of}
 use Rattle.legal_trace.specs.Ledger.{Ledger, Line, Start, asks, hears, begins, offers, ends, noted, noted_each, with_news, refused_in, bytes_came, items_came, is_over, dials, reach, joined, AllNoted}
 use Rattle.legal_trace.specs.Book.{if_mine}
@@ -154,6 +154,7 @@ reach_more (t ∷ ss) s d = let e : reach (ss ++ s ∷ []) (drop (need_of t.shap
 -- a message takes an item at least
 pub takes_one : (s : Shape) → 1 ≤ need_of s
 takes_one Single = omega arith
+takes_one Confirmation = omega arith
 takes_one (Pipeline offset count transaction) = chosen (λ k. 1 ≤ offset + k) (count == 0) 1 count (λ t. omega arith) (λ f. let n : count ≢ 0 = ne_from count 0 f in omega arith)
 
 -- no more items are dealt than the started messages take

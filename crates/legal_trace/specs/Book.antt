@@ -13,7 +13,9 @@ use Rattle.driver_model.specs.declared.event.EventKind.{EventKind}
 use Rattle.driver_model.specs.declared.event.EventKind.TheVariants as event
 use Rattle.connection_info.specs.declared.address.RedisConnectionInfo.{RedisConnectionInfo}
 use Rattle.driver_model.specs.Config.{response_timeout, told_info, bare_info}
+use Rattle.driver_model.specs.declared.event.Submission.{Submission}
 use Rattle.driver_model.specs.News.{news_of}
+use Rattle.driver_model.specs.Request.{lacks_resp3}
 use Rattle.legal_trace.specs.Ledger.{Ledger, Start, Line, asks, hears, begins, offers, ends, blank_ledger, setup_count, setup_message, noted_each}
 use Rattle.legal_trace.specs.Story.{Story, blank_story, bytes_of, shape, handed_in, left, holds, clocked, fires, tried, waits, answered}
 
@@ -69,6 +71,10 @@ lines_of b n (action.Outcome m o) = []
 abbrev pub current : Book → ℕ
 current b = b.links - 1
 
+-- a submission needs RESP3, and the server of the link that it goes to is told another protocol
+abbrev pub is_unspoken : Book → Submission → Bool
+is_unspoken b what = lacks_resp3 (b.link (current b)).info.protocol what
+
 -- a change of one story alone
 abbrev pub if_own : Bool → Story → Story → Story
 if_own own changed s = if own then changed else s
@@ -82,7 +88,7 @@ is_clock_of n (Some (purpose.Response (owner.Try m round))) = m == n
 
 -- what an event is to submission n
 abbrev pub after_event : Book → ℕ → EventKind → Story
-after_event b n (event.Submit what) = if_own (b.submissions == n) (handed_in (b.story n) what b.shut (current b) b.timeout) (b.story n)
+after_event b n (event.Submit what) = if_own (b.submissions == n) (handed_in (b.story n) what b.shut (is_unspoken b what) (current b) b.timeout) (b.story n)
 after_event b n (event.Cancel m) = if_own (m == n) (left (b.story n)) (b.story n)
 after_event b n (event.Connected l) = b.story n
 after_event b n (event.Refused l f) = b.story n

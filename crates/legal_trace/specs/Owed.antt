@@ -8,7 +8,7 @@ use Rattle.driver_model.specs.declared.news.LinkFault.TheVariants as fault
 use Rattle.driver_model.specs.declared.outcome.Outcome.{Outcome}
 use Rattle.driver_model.specs.declared.outcome.Outcome.TheVariants as outcome
 use Rattle.driver_model.specs.declared.outcome.Shape.{Shape}
-use Rattle.driver_model.specs.declared.outcome.Shape.TheVariants.{Single, Pipeline}
+use Rattle.driver_model.specs.declared.outcome.Shape.TheVariants.{Single, Pipeline, Confirmation}
 use Rattle.driver_model.specs.Shape.{verdict_of, outcome_of}
 use Rattle.legal_trace.specs.Ledger.{Ledger, End, Ending, by_shutdown, by_fault, by_opening, cut, is_full}
 use Rattle.legal_trace.specs.Story.{Story, Try, bytes_of, shape, last_of}
@@ -20,11 +20,12 @@ fault_error fault.Ended = error.Closed
 fault_error (fault.Io f) = error.Io f
 fault_error fault.Parse = error.Parse
 
--- the error of the oldest message that takes items: a single command gets the fault itself, and a pipeline the closed
--- connection
+-- the error of the oldest message that takes items: a single command gets the fault itself, as a subscription call does, and
+-- a pipeline the closed connection
 abbrev pub oldest_error : Ending → Shape → RedisError
 oldest_error (by_fault f) Single = fault_error f
 oldest_error (by_fault f) (Pipeline offset count transaction) = error.Closed
+oldest_error (by_fault f) Confirmation = fault_error f
 oldest_error by_shutdown of_shape = error.Closed
 oldest_error (by_opening e) of_shape = error.Closed
 
@@ -56,11 +57,13 @@ abbrev pub owed_to_try : Book → Story → Option Try → Option Outcome
 owed_to_try b s None = owed_unstarted (b.link s.link).end
 owed_to_try b s (Some t) = owed_to_message (b.link t.link) t.message (shape s)
 
--- what an open submission is owed, if it is: where it came after the shutdown, the closed connection; without bytes, the
--- empty command; where its timer has fired, that its time is over; else what its message comes to
+-- what an open submission is owed, if it is: where it came after the shutdown, the closed connection; where it needs RESP3
+-- and its link's server is told another protocol, that RESP3 is required; without bytes, the empty command; where its timer
+-- has fired, that its time is over; else what its message comes to
 abbrev pub owed : Book → ℕ → Option Outcome
 owed b n =
     if (b.story n).late then Some (outcome.Fault error.Closed)
+    else if (b.story n).unspoken then Some (outcome.Fault error.Resp3Required)
     else if length (bytes_of (b.story n)) == 0 then Some (outcome.Fault error.EmptyCommand)
     else if (b.story n).overdue then Some (outcome.Fault (error.Io kind.TimedOut))
     else owed_to_try b (b.story n) (last_of (b.story n).tries)

@@ -4,9 +4,9 @@ use Rattle.std.specs.Prelude.{◌==◌, if◌then◌else◌}
 use Rattle.resp_value.specs.Data.{Data}
 use Rattle.resp_value.specs.View.{data_of, value_of-data_of}
 use Rattle.resp_value.specs.declared.value.Value.{Value}
-use Rattle.driver_model.specs.Shape.{one_at_least, need_of, verdict_of}
+use Rattle.driver_model.specs.Shape.{one_at_least, need_of, verdict_of, confirmed}
 use Rattle.driver_model.specs.declared.outcome.Shape.{Shape}
-use Rattle.driver_model.specs.declared.outcome.Shape.TheVariants.{Single, Pipeline}
+use Rattle.driver_model.specs.declared.outcome.Shape.TheVariants.{Single, Pipeline, Confirmation}
 use Rattle.driver_model.specs.declared.outcome.Verdict.TheVariants.{One}
 use Rattle.link_core.specs.declared.message.Entry.{Entry}
 use Rattle.link_core.specs.declared.row.Taker.{Taker}
@@ -35,6 +35,7 @@ one_needed count = one_by count (count == 0) refl
 pub some_needed : (shape : Shape) → 0 < need_of shape
 some_needed Single = omega arith
 some_needed (Pipeline offset count transaction) = omega (arith, one_needed count)
+some_needed Confirmation = omega arith
 
 -- the count has room for an item that doesn't fill the oldest message
 pub room_left : (dealt end : ℕ) (ts : List Taker) → 1 < lack_of_first (entries_of ts) → IsRing dealt ts end → dealt + 1 ≤ end
@@ -45,6 +46,11 @@ room_left dealt end (t ∷ ts) more h = let all = ring_end dealt end (t ∷ ts) 
 pub only_reply : (got : List Data) (v : Value) → length got < need_of Single → One v ≡ verdict_of Single (got ++ data_of v ∷ [])
 only_reply [] v l = ap One (sym (value_of-data_of v))
 only_reply (d ∷ ds) v l = absurd (omega (arith, l))
+
+-- the one answer to a subscription call
+pub only_answer : (got : List Data) (v : Value) → length got < need_of Confirmation → confirmed (data_of v) ≡ verdict_of Confirmation (got ++ data_of v ∷ [])
+only_answer [] v l = refl
+only_answer (d ∷ ds) v l = absurd (omega (arith, l))
 
 -- a message whose verdict isn't wanted
 abbrev pub silent_in : Taker → Taker

@@ -3,7 +3,7 @@ use Rattle.std.specs.Prelude.{ℕ, Bool, List, [], ◌∷◌, ◌++◌, if◌the
 use Rattle.redis_error.specs.declared.redis_error.RedisError.{RedisError}
 use Rattle.redis_error.specs.declared.redis_error.RedisError.TheVariants as error
 use Rattle.driver_model.specs.declared.outcome.Shape.{Shape}
-use Rattle.driver_model.specs.declared.outcome.Shape.TheVariants.{Single, Pipeline}
+use Rattle.driver_model.specs.declared.outcome.Shape.TheVariants.{Single, Pipeline, Confirmation}
 use Rattle.driver_model.specs.declared.outcome.Verdict.TheVariants as verdict
 use Rattle.driver_model.specs.declared.news.LinkFault.{LinkFault}
 use Rattle.driver_model.specs.declared.news.LinkFault.TheVariants as fault
@@ -21,10 +21,12 @@ error_of fault.Ended = error.Closed
 error_of (fault.Io kind) = error.Io kind
 error_of fault.Parse = error.Parse
 
--- the error of the message that a fault hits: a single command gets the fault itself, and a pipeline the closed connection
+-- the error of the message that a fault hits: a single command gets the fault itself, as a subscription call does, and a
+-- pipeline the closed connection
 abbrev pub hit_by : LinkFault → Shape → RedisError
 hit_by f Single = error_of f
 hit_by f (Pipeline offset count transaction) = error.Closed
+hit_by f Confirmation = error_of f
 
 abbrev pub row_closed : List Entry → List Settled
 row_closed [] = []

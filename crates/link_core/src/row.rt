@@ -1,6 +1,6 @@
 ghost use Rattle.std.specs.Prelude.{◌≡◌, ◌<◌, [], ◌∷◌, ◌++◌, length, take, MatchOption, IfSome, IfOk, OnOk, OnErr};
 ghost use Rattle.link_core.specs.Dealing.{settled_by, with_item};
-ghost use Rattle.link_core.specs.Ends.{failed_by, hit_by};
+ghost use Rattle.link_core.specs.Ends.{failed_by, error_of, hit_by};
 ghost use Rattle.driver_model.specs.Shape.{need_of, verdict_of};
 ghost use Rattle.resp_value.specs.View.{data_of};
 
@@ -197,7 +197,7 @@ impl Row {
     {
         match self.pop_front() {
             Some(entry) => {
-                fail(entry.awaited, entry.id, error_of(fault, entry.shape), out)?;
+                fail(entry.awaited, entry.id, error_by(fault, entry.shape), out)?;
                 self.close(out)
             }
             None => Ok(()),
@@ -205,21 +205,29 @@ impl Row {
     }
 }
 
+/// The error that a fault is.
+fn error_of(fault: LinkFault) -> RedisError
+    ensures { result ≡ error_of fault }
+{
+    match fault {
+        LinkFault::Ended => RedisError::Closed,
+        LinkFault::Io { fault } => RedisError::Io { fault },
+        LinkFault::Parse => RedisError::Parse,
+    }
+}
+
 /// The error of the message that a fault hits.
-fn error_of(fault: LinkFault, shape: Shape) -> RedisError
+fn error_by(fault: LinkFault, shape: Shape) -> RedisError
     ensures { result ≡ hit_by fault shape }
 {
     match shape {
-        Shape::Single => match fault {
-            LinkFault::Ended => RedisError::Closed,
-            LinkFault::Io { fault } => RedisError::Io { fault },
-            LinkFault::Parse => RedisError::Parse,
-        },
+        Shape::Single => error_of(fault),
         Shape::Pipeline {
             offset: _,
             count: _,
             transaction: _,
         } => RedisError::Closed,
+        Shape::Confirmation => error_of(fault),
     }
 }
 
@@ -270,9 +278,9 @@ fn settle(
     Ok(())
 }
 
-/// What the items of a message are that this one fills: the one item of a single command is its reply, and no list is made
-/// for it.
-#[tactic(auto, using(crate::proofs::RingLemmas::only_reply))]
+/// What the items of a message are that this one fills: the one item of a single command or of a subscription call is its
+/// reply, and no list is made for it.
+#[tactic(auto, using(crate::proofs::RingLemmas::only_reply, crate::proofs::RingLemmas::only_answer))]
 fn verdict_with(
     alloc: Global,
     shape: Shape,
@@ -293,5 +301,6 @@ fn verdict_with(
             items.push(item)?;
             shape.verdict(alloc, items)
         }
+        Shape::Confirmation => Ok(Verdict::of_confirmation(item)),
     }
 }

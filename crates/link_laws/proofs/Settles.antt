@@ -10,7 +10,7 @@ use Rattle.driver_model.specs.declared.news.LinkFault.{LinkFault}
 use Rattle.driver_model.specs.declared.news.LinkFault.TheVariants as fault
 use Rattle.driver_model.specs.declared.outcome.Outcome.TheVariants as outcome
 use Rattle.driver_model.specs.declared.outcome.Shape.{Shape}
-use Rattle.driver_model.specs.declared.outcome.Shape.TheVariants.{Single, Pipeline}
+use Rattle.driver_model.specs.declared.outcome.Shape.TheVariants.{Single, Pipeline, Confirmation}
 use Rattle.driver_model.specs.Shape.{need_of, verdict_of, outcome_of}
 use Rattle.driver_model.specs.News.{came}
 use Rattle.link_core.specs.declared.message.Entry.{Entry}
@@ -109,6 +109,7 @@ same_error fault.Parse = refl
 oldest_hit : (f : LinkFault) (of_shape : Shape) → oldest_error (by_fault f) of_shape ≡ hit_by f of_shape
 oldest_hit f Single = same_error f
 oldest_hit f (Pipeline offset count transaction) = refl
+oldest_hit f Confirmation = same_error f
 
 -- the row of a link stands from the oldest on that is not full
 pub rows_from : (name : ℕ → Owner) (l : Ledger) (row : List Entry) → open_list name row ≡ open_rows l.starts l.dealt → StandFrom l.starts (full_count l.starts l.dealt) (open_list name row)

@@ -207,6 +207,7 @@ fn describe(alloc: Global, settled: &Settled, log: &mut Vec<u8>) -> Result<(), A
                 describe_value(alloc, value, log)?;
             }
         }
+        Verdict::Done => log.extend_from_slice(b"done".as_slice())?,
         Verdict::Fault(error) => describe_fault(alloc, error, log)?,
     }
     log.extend_from_slice(b"; ".as_slice())

@@ -2,6 +2,7 @@ use containers::{Bytes, Names};
 use driver_model::{Action, Cause, Commands, Event, EventKind, Outcome, Shape, Submission};
 use redis_error::{FaultKind, RedisError};
 use resp_value::{ServerError, Value, Values};
+use resp_write::SubscriptionAction;
 use std::alloc::{AllocError, Global};
 
 fn get_event(alloc: Global) -> Result<Event, AllocError> {
@@ -93,6 +94,12 @@ fn many_are_copied(alloc: Global) -> Result<bool, AllocError> {
     copy_has_both(alloc, &outcome)
 }
 
+/// Whether a copy of what is done is done.
+fn done_is_copied(alloc: Global) -> Result<bool, AllocError> {
+    let copy = Outcome::Done.clone(alloc)?;
+    Ok(matches!(copy, Outcome::Done))
+}
+
 /// Whether a copy of an error is that error.
 fn error_is_copied(alloc: Global) -> Result<bool, AllocError> {
     let outcome = Outcome::Fault(RedisError::Parse);
@@ -105,6 +112,7 @@ fn outcomes_are_copied(rt: HostRuntime) -> Result<(), AllocError> {
     let alloc = rt.alloc();
     assert!(rt; one_is_copied(alloc)?);
     assert!(rt; many_are_copied(alloc)?);
+    assert!(rt; done_is_copied(alloc)?);
     assert!(rt; error_is_copied(alloc)?);
     Ok(())
 }
@@ -185,6 +193,8 @@ fn kept(outcome: &Outcome) -> (&'static str, usize) {
     match outcome {
         Outcome::One(Value::Okay) => ("one", 1),
         Outcome::Many(values) => ("many", values.len()),
+        Outcome::Done => ("done", 0),
+        Outcome::Fault(RedisError::Server(_)) => ("server", 0),
         Outcome::Fault(RedisError::Aborted { .. }) => ("aborted", 0),
         _ => ("other", 0),
     }
@@ -198,7 +208,8 @@ const TRANSACTION: Shape = Shape::Pipeline {
 
 /// Shapes, each with how many replies it needs, how a command was queued, what the outcome is, and how many replies are
 /// kept.
-const OUTCOMES: [(Shape, u64, Queued, &str, usize); 3] = [
+const OUTCOMES: [(Shape, u64, Queued, &str, usize); 4] = [
+    (Shape::Confirmation, 1, Queued::Well, "done", 0),
     (Shape::Single, 1, Queued::Well, "one", 1),
     (TRANSACTION, 3, Queued::Well, "many", 1),
     (TRANSACTION, 3, Queued::Refused, "aborted", 0),
@@ -249,6 +260,8 @@ enum Sort {
     Multi,
     Packed(u32, u32),
     NoMulti,
+    Subscribe,
+    ShardedSubscribe,
 }
 
 fn list_of(alloc: Global, sort: Sort) -> Result<Submission, AllocError> {
@@ -262,6 +275,12 @@ fn list_of(alloc: Global, sort: Sort) -> Result<Submission, AllocError> {
         }),
         _ => Ok(Submission::Pipe { commands }),
     }
+}
+
+/// A subscription call with the name a.
+fn called(alloc: Global, action: SubscriptionAction) -> Result<Submission, AllocError> {
+    let names = word(alloc, b"a")?;
+    Ok(Submission::Subscription { action, names })
 }
 
 /// The submission of this sort.
@@ -279,6 +298,8 @@ fn submission(alloc: Global, sort: Sort) -> Result<Submission, AllocError> {
             let commands = Commands::new(alloc);
             Ok(Submission::Multi { commands })
         }
+        Sort::Subscribe => called(alloc, SubscriptionAction::Subscribe),
+        Sort::ShardedSubscribe => called(alloc, SubscriptionAction::SSubscribe),
         _ => list_of(alloc, sort),
     }
 }
@@ -288,6 +309,10 @@ const GET: &[u8] = b"*1\r\n$3\r\nGET\r\n";
 const SET: &[u8] = b"*1\r\n$3\r\nSET\r\n";
 
 const BOTH: &[u8] = b"*1\r\n$3\r\nGET\r\n*1\r\n$3\r\nSET\r\n";
+
+const SUBSCRIBE: &[u8] = b"*2\r\n$9\r\nSUBSCRIBE\r\n$1\r\na\r\n";
+
+const SHARDED: &[u8] = b"*2\r\n$10\r\nSSUBSCRIBE\r\n$1\r\na\r\n";
 
 const FRAMED: &[u8] =
     b"*1\r\n$5\r\nMULTI\r\n*1\r\n$3\r\nGET\r\n*1\r\n$3\r\nSET\r\n*1\r\n$4\r\nEXEC\r\n";
@@ -318,7 +343,9 @@ const FRAMED_NONE: Shape = Shape::Pipeline {
 };
 
 /// Submissions, each with its bytes, its shape, and whether its reply is awaited.
-const SUBMISSIONS: [(Sort, &[u8], Shape, bool); 6] = [
+const SUBMISSIONS: [(Sort, &[u8], Shape, bool); 8] = [
+    (Sort::Subscribe, SUBSCRIBE, Shape::Confirmation, true),
+    (Sort::ShardedSubscribe, SHARDED, Shape::Confirmation, true),
     (Sort::Get, GET, Shape::Single, true),
     (Sort::SetWithoutReply, SET, Shape::Single, false),
     (Sort::Pipe, BOTH, TWO, true),

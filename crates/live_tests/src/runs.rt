@@ -101,6 +101,7 @@ fn told(outcome: Option<&Outcome>) -> u8 {
         None => b'-',
         Some(Outcome::One(_)) => b'v',
         Some(Outcome::Many(_)) => b'm',
+        Some(Outcome::Done) => b'd',
         Some(Outcome::Fault(_)) => b'f',
     }
 }

@@ -5,7 +5,8 @@ use std::alloc::AllocError;
 /// Why nothing was sent.
 #[derive(Drop)]
 pub enum SendError {
-    /// The request is refused, with this error: it packs to no bytes.
+    /// The request is refused, with this error: it is a subscription call on a connection that doesn't speak RESP3, or it
+    /// packs to no bytes.
     Refused(RedisError),
     /// The number 2^32 - 1 would be given to it.
     Spent,

@@ -10,6 +10,7 @@ mod makers;
 mod sending;
 mod showing;
 mod stepping;
+mod subscribing;
 
 pub use act::{ConnectionAct, ConnectionTimer};
 pub use connection::MultiplexedConnection;

@@ -51,7 +51,12 @@ impl MultiplexedConnection {
     }
 
     /// A message of these bytes, which takes items by this shape, and whose reply is awaited or not.
-    fn send(&mut self, packed: Bytes, shape: Shape, awaited: bool) -> Result<Pending, SendError>
+    pub(crate) fn send(
+        &mut self,
+        packed: Bytes,
+        shape: Shape,
+        awaited: bool,
+    ) -> Result<Pending, SendError>
         ensures sent { OnOk result (self.new ≡ sent self.old packed shape awaited) }
         ensures number { IfOk result (λ p. p.number ≡ next_number self.old) }
         ensures sound { OnOk result (self.old.core.failure ≡ None) }

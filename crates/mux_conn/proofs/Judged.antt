@@ -57,6 +57,7 @@ judged_told (s ∷ steps) (d ∷ replies) = unless_told (judged_reply s.meaning 
 pub verdict_told : (steps : List Step) (v : Verdict) → IsTold (judged_by steps v)
 verdict_told steps (verdict.Many replies) = judged_told steps replies
 verdict_told steps (verdict.One value) = tt
+verdict_told steps verdict.Done = tt
 verdict_told steps (verdict.Fault e) = tt
 
 -- what follows from a result, however far the link had come

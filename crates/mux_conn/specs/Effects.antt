@@ -147,6 +147,7 @@ read_to w s = broken_at s.link.broken (settled_each (with_link w s.link) s.out)
 abbrev pub judged_by : List Step → Verdict → SetupResult
 judged_by steps (verdict.Many replies) = judged steps replies
 judged_by steps (verdict.One value) = result.Ready
+judged_by steps verdict.Done = result.Ready
 judged_by steps (verdict.Fault e) = result.Failed e
 
 -- the setup is answered: the link is ready, the setup is sent once more without the user name, or the opening failed

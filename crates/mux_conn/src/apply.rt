@@ -602,6 +602,7 @@ fn judged(
     match verdict {
         Verdict::Many(replies) => check_setup(alloc, info, with_user, &replies),
         Verdict::One(_) => SetupResult::Ready,
+        Verdict::Done => SetupResult::Ready,
         Verdict::Fault(error) => SetupResult::Failed(error),
     }
 }

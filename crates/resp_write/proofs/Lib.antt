@@ -1,3 +1,4 @@
+mod Actions
 mod Children
 mod Framed
 mod Written

@@ -20,6 +20,15 @@ subscription_names =
     ∷ (codes "SUNSUBSCRIBE", Sunsubscribe)
     ∷ []
 
+-- the name of the command that does it
+abbrev pub action_word : SubscriptionAction → List ℕ
+action_word Subscribe = codes "SUBSCRIBE"
+action_word Unsubscribe = codes "UNSUBSCRIBE"
+action_word PSubscribe = codes "PSUBSCRIBE"
+action_word PUnsubscribe = codes "PUNSUBSCRIBE"
+action_word SSubscribe = codes "SSUBSCRIBE"
+action_word Sunsubscribe = codes "SUNSUBSCRIBE"
+
 -- what a command of this name does, if it is one of the six
 unfoldable pub subscription_action : List ℕ → Option SubscriptionAction
 subscription_action name = lookup (is_word name) subscription_names

@@ -18,7 +18,7 @@ pub use arguments::ToRedisArgs;
 pub use command::{ArgsIter, Cmd};
 pub use lists::pack_lists;
 pub use named::cmd;
-pub use pack::pack_names;
+pub use pack::{pack_call, pack_names};
 pub use pipeline::{CmdIter, Pipeline, pipe};
 pub use subscription::SubscriptionAction;
 pub use value_text::{canonical_text, list_text, write_value};

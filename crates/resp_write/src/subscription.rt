@@ -1,5 +1,5 @@
-ghost use Rattle.std.specs.Prelude.{◌≡◌};
-ghost use Rattle.resp_write.specs.Subscription.{is_word, subscription_action};
+ghost use Rattle.std.specs.Prelude.{◌≡◌, Some};
+ghost use Rattle.resp_write.specs.Subscription.{is_word, action_word, subscription_action};
 
 /// What the six subscription commands do.
 #[derive(Clone, Copy)]
@@ -45,5 +45,27 @@ impl SubscriptionAction {
             return Some(SubscriptionAction::Sunsubscribe);
         }
         None
+    }
+
+    /// The name of the command that does it.
+    fn capitals(self) -> &'static [u8]
+        ensures { result.now ≡ action_word self }
+    {
+        match self {
+            SubscriptionAction::Subscribe => b"SUBSCRIBE",
+            SubscriptionAction::Unsubscribe => b"UNSUBSCRIBE",
+            SubscriptionAction::PSubscribe => b"PSUBSCRIBE",
+            SubscriptionAction::PUnsubscribe => b"PUNSUBSCRIBE",
+            SubscriptionAction::SSubscribe => b"SSUBSCRIBE",
+            SubscriptionAction::Sunsubscribe => b"SUNSUBSCRIBE",
+        }
+    }
+
+    /// The name of the command that does it, in capitals.
+    pub fn word(self) -> &'static [u8]
+        ensures word { result.now ≡ action_word self }
+        ensures read { subscription_action result.now ≡ Some self }
+    {
+        self.capitals()
     }
 }

@@ -84,6 +84,7 @@ fn submission_fits(submission: &Submission)
             number_fits(*count);
             commands_fit(commands.as_slice())
         }
+        Submission::Subscription { action: _, names } => words_fit(names.as_slice()),
     }
 }
 

@@ -20,7 +20,7 @@ use Rattle.driver_model.specs.News.{took, came}
 use Rattle.driver_model.specs.Shape.{need_of}
 use Rattle.legal_trace.specs.Ledger.{Ledger, Start, reach, bytes_came}
 use Rattle.legal_trace.specs.Story.{handed_in, shape}
-use Rattle.legal_trace.specs.Book.{Book, blank_book, entered_each, current}
+use Rattle.legal_trace.specs.Book.{Book, blank_book, entered_each, current, is_unspoken}
 use Rattle.legal_trace.proofs.Ledgers.{reach_alike, reach_more}
 use Rattle.script_generator.specs.Script.{event_of, reply}
 
@@ -51,7 +51,7 @@ pub tells_submitted : (b : Book) (n items needs t k len : ℕ) (args : List (Lis
 tells_submitted b n items needs t k len args packed h =
     let what = submission.Cmd args in
     let l = b.link 0 in
-    let own : Bool → Shape = λ same. shape (if same then handed_in (b.story n) what b.shut (current b) b.timeout else b.story n) in
+    let own : Bool → Shape = λ same. shape (if same then handed_in (b.story n) what b.shut (is_unspoken b what) (current b) b.timeout else b.story n) in
     let single : need_of (own (b.submissions == n)) ≡ 1 = ap (λ same. need_of (own same)) (eq_test b.submissions n h.handed_in) in
     let s : Start = record { owner = owner.Try n 0; shape = own (b.submissions == n); bytes = _ } in
     record {

@@ -4,7 +4,9 @@ use Rattle.driver_model.specs.declared.event.Event.{Event}
 use Rattle.driver_model.specs.declared.event.EventKind.{EventKind}
 use Rattle.driver_model.specs.declared.event.EventKind.TheVariants.{Submit, Cancel, Connected, Refused, Wrote, Bytes, Ended, ReadFault, WriteFault, Fired, Timeout, Shutdown}
 use Rattle.driver_model.specs.declared.event.Submission.{Submission}
-use Rattle.driver_model.specs.declared.event.Submission.TheVariants.{Cmd, NoReply, Pipe, Multi, Packed}
+use Rattle.driver_model.specs.declared.event.Submission.TheVariants.{Cmd, NoReply, Pipe, Multi, Packed, Subscription}
+use Rattle.resp_write.specs.declared.subscription.SubscriptionAction.{SubscriptionAction}
+use Rattle.resp_write.specs.declared.subscription.SubscriptionAction.TheVariants as action
 use Rattle.redis_error.specs.declared.fault_kind.FaultKind.{FaultKind}
 use Rattle.redis_error.specs.declared.fault_kind.FaultKind.TheVariants as fault
 use Rattle.redis_error.specs.Names.{fault_name}
@@ -76,6 +78,19 @@ abbrev pub packed : List (List ℕ) → List (List (List ℕ)) → Option Submis
 packed (offset ∷ count ∷ first) more = option_and_then (λ o. option_map (λ c. Packed o c (commands first more)) (number max_u32 count)) (number max_u32 offset)
 packed _ more = None
 
+-- a subscription call with these names
+abbrev pub call : SubscriptionAction → List (List ℕ) → Option Submission
+call what names = Some (Subscription what names)
+
+-- the subscription calls of a connection
+unfoldable pub calls : Forms Submission
+calls =
+    (codes "subscribe", whole (call action.Subscribe))
+    ∷ (codes "unsubscribe", whole (call action.Unsubscribe))
+    ∷ (codes "psubscribe", whole (call action.PSubscribe))
+    ∷ (codes "punsubscribe", whole (call action.PUnsubscribe))
+    ∷ []
+
 -- what is submitted
 abbrev pub submissions : Forms Submission
 submissions =
@@ -84,7 +99,7 @@ submissions =
     ∷ (codes "pipe", λ first more. Some (Pipe (commands first more)))
     ∷ (codes "multi", λ first more. Some (Multi (commands first more)))
     ∷ (codes "packed", packed)
-    ∷ []
+    ∷ calls
 
 -- what happens besides
 unfoldable pub others : Forms EventKind

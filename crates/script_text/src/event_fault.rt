@@ -3,7 +3,7 @@ ghost use Rattle.std.specs.Prelude.{MatchOption, MatchResult, Some, None};
 ghost use Rattle.driver_model.specs.declared.event.EventKind.{EventKind};
 ghost use Rattle.redis_error.specs.declared.fault_kind.FaultKind.{FaultKind};
 ghost use Rattle.script_text.specs.EventLine.{by_first, numbered, wrote, came, failed, timed, alone};
-ghost use Rattle.script_text.specs.EventLine.{faults, fault_among, packed, submissions, others};
+ghost use Rattle.script_text.specs.EventLine.{faults, fault_among, packed, calls, submissions, others};
 ghost use Rattle.script_text.specs.EventLine.{events, event_of};
 ghost use Rattle.script_text.specs.Faults.{FindsFault, at};
 
@@ -138,15 +138,31 @@ fn separator_fault(more: &[Seq<Word<'_>>], part: usize) -> Option<Fault>
     }
 }
 
+/// What is wrong with a subscription call, by its name and what is behind it in `part` parts.
+#[tactic(auto, unfolding(crate::specs::EventLine::calls))]
+fn call_fault(name: &[u8], words: &[Word<'_>], more: &[Seq<Word<'_>>], part: usize) -> Option<Fault>
+    ensures { FindsFault result (by_first calls (name.now ∷ words.now) more.now) }
+{
+    if name == b"subscribe".as_slice() || name == b"unsubscribe".as_slice() {
+        return separator_fault(more, part);
+    }
+    if name == b"psubscribe".as_slice() || name == b"punsubscribe".as_slice() {
+        return separator_fault(more, part);
+    }
+    Some(Fault {
+        reason: Reason::Event(EventReason::Submission),
+        part: 1,
+    })
+}
+
 fn submission_fault(words: &[Word<'_>], more: &[Seq<Word<'_>>]) -> Option<Fault>
     ensures { FindsFault result (by_first submissions words.now more.now) }
 {
-    let unknown = Fault {
-        reason: Reason::Event(EventReason::Submission),
-        part: 1,
-    };
     let [name, args @ ..] = words else {
-        return Some(unknown);
+        return Some(Fault {
+            reason: Reason::Event(EventReason::Submission),
+            part: 1,
+        });
     };
     let name = name.as_slice();
     if name == b"cmd".as_slice() || name == b"noreply".as_slice() {
@@ -158,7 +174,7 @@ fn submission_fault(words: &[Word<'_>], more: &[Seq<Word<'_>>]) -> Option<Fault>
     if name == b"packed".as_slice() {
         return packed_fault(args);
     }
-    Some(unknown)
+    call_fault(name, args, more, words.len() + 1)
 }
 
 /// What is wrong with an event besides submissions, by the name and the words behind it.

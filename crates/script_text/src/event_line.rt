@@ -6,7 +6,7 @@ ghost use Rattle.driver_model.specs.declared.event.EventKind.{EventKind};
 ghost use Rattle.redis_error.specs.declared.fault_kind.FaultKind.{FaultKind};
 ghost use Rattle.driver_model.specs.declared.event.Submission.TheVariants.{Cmd, NoReply, Packed};
 ghost use Rattle.script_text.specs.EventLine.{by_first, whole, numbered, wrote, came, alone, faults};
-ghost use Rattle.script_text.specs.EventLine.{timed};
+ghost use Rattle.script_text.specs.EventLine.{timed, call, calls};
 ghost use Rattle.script_text.specs.EventLine.{fault_among, failed, commands, packed, submissions};
 ghost use Rattle.script_text.specs.EventLine.{others, events, event_of};
 
@@ -17,6 +17,7 @@ use crate::word::{Word, take_all};
 use containers::{Names, Seq};
 use driver_model::{Commands, Event, EventKind, Submission};
 use redis_error::FaultKind;
+use resp_write::SubscriptionAction;
 use std::alloc::{AllocError, Global};
 
 /// The kinds of faults.
@@ -214,6 +215,46 @@ fn read_packed(
     }))
 }
 
+/// A subscription call with the names that the words are.
+fn called(
+    alloc: Global,
+    action: SubscriptionAction,
+    words: &mut [Word<'_>],
+    more: &[Seq<Word<'_>>],
+) -> Result<Option<Submission>, AllocError>
+    ensures { IfOk result (λ s. s ≡ whole (call action) words.old more.now) }
+{
+    match arguments(alloc, words, more)? {
+        Some(names) => Ok(Some(Submission::Subscription { action, names })),
+        None => Ok(None),
+    }
+}
+
+/// A subscription call, by its name and the words behind it.
+#[tactic(auto, unfolding(crate::specs::EventLine::calls))]
+fn call(
+    alloc: Global,
+    name: &[u8],
+    words: &mut [Word<'_>],
+    more: &[Seq<Word<'_>>],
+) -> Result<Option<Submission>, AllocError>
+    ensures { IfOk result (λ s. s ≡ by_first calls (name.now ∷ words.old) more.now) }
+{
+    if name == b"subscribe".as_slice() {
+        return called(alloc, SubscriptionAction::Subscribe, words, more);
+    }
+    if name == b"unsubscribe".as_slice() {
+        return called(alloc, SubscriptionAction::Unsubscribe, words, more);
+    }
+    if name == b"psubscribe".as_slice() {
+        return called(alloc, SubscriptionAction::PSubscribe, words, more);
+    }
+    if name == b"punsubscribe".as_slice() {
+        return called(alloc, SubscriptionAction::PUnsubscribe, words, more);
+    }
+    Ok(None)
+}
+
 fn submission(
     alloc: Global,
     words: &mut [Word<'_>],
@@ -242,7 +283,7 @@ fn submission(
     if name == b"packed".as_slice() {
         return read_packed(alloc, words, more);
     }
-    Ok(None)
+    call(alloc, name, words, more.as_slice())
 }
 
 fn submit(

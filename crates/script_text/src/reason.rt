@@ -187,7 +187,9 @@ impl EventReason {
             EventReason::Name => {
                 b"an event is submit, cancel, connected, refused, wrote, bytes, ended, read-fault, write-fault, fired, timeout or shutdown, and the last line is end"
             }
-            EventReason::Submission => b"submit takes cmd, noreply, pipe, multi or packed",
+            EventReason::Submission => {
+                b"submit takes cmd, noreply, pipe, multi, packed, subscribe, unsubscribe, psubscribe or punsubscribe"
+            }
             EventReason::Number => {
                 b"a number has digits alone, no leading zero, and is at most 4294967295"
             }

@@ -108,6 +108,7 @@ after_end b t h over = (
 abbrev pub owed_in : Book → Story → Option Outcome
 owed_in b s =
     if s.late then Some (outcome.Fault error.Closed)
+    else if s.unspoken then Some (outcome.Fault error.Resp3Required)
     else if length (bytes_of s) == 0 then Some (outcome.Fault error.EmptyCommand)
     else if s.overdue then Some (outcome.Fault (error.Io kinds.TimedOut))
     else owed_to_try b s (last_of s.tries)
@@ -116,16 +117,17 @@ owed_in b s =
 pub owed_still : (b : Book) (n : ℕ) (o : Outcome) (m : ℕ) → owed (entered b (action.Outcome n o)) m ≡ owed b m
 owed_still b n o m =
     chosen (λ (s : Story). owed_in (entered b (action.Outcome n o)) s ≡ owed_in b (b.story m)) (n == m) (answered (b.story m) o) (b.story m)
-    (λ t. alike (answered (b.story m) o) refl refl refl refl refl)
-    (λ f. alike (b.story m) refl refl refl refl refl)
+    (λ t. alike (answered (b.story m) o) refl refl refl refl refl refl)
+    (λ f. alike (b.story m) refl refl refl refl refl refl)
   where
     by_try : (s : Story) (x : Option Try) → s.link ≡ (b.story m).link → s.submission ≡ (b.story m).submission → owed_to_try (entered b (action.Outcome n o)) s x ≡ owed_to_try b (b.story m) x
     by_try s None link what = ap (λ l. owed_unstarted (b.link l).end) link
     by_try s (Some t) link what = ap (λ w. owed_to_message (b.link t.link) t.message (shape_in w)) what
 
-    alike : (s : Story) → s.late ≡ (b.story m).late → s.overdue ≡ (b.story m).overdue → s.link ≡ (b.story m).link → s.submission ≡ (b.story m).submission → s.tries ≡ (b.story m).tries → owed_in (entered b (action.Outcome n o)) s ≡ owed_in b (b.story m)
-    alike s late overdue link what tries = (λ i.
+    alike : (s : Story) → s.late ≡ (b.story m).late → s.unspoken ≡ (b.story m).unspoken → s.overdue ≡ (b.story m).overdue → s.link ≡ (b.story m).link → s.submission ≡ (b.story m).submission → s.tries ≡ (b.story m).tries → owed_in (entered b (action.Outcome n o)) s ≡ owed_in b (b.story m)
+    alike s late unspoken overdue link what tries = (λ i.
         if late i then Some (outcome.Fault error.Closed)
+        else if unspoken i then Some (outcome.Fault error.Resp3Required)
         else if length (packed_in (what i)) == 0 then Some (outcome.Fault error.EmptyCommand)
         else if overdue i then Some (outcome.Fault (error.Io kinds.TimedOut))
         else (by_try s (last_of s.tries) link what ∙ ap (λ ts. owed_to_try b (b.story m) (last_of ts)) tries) i)
@@ -135,6 +137,7 @@ pub answer_closes : (s : Story) (o : Outcome) → Closes s (answered s o)
 answer_closes s o = record {
   submission = refl;
   late = refl;
+  unspoken = refl;
   link = refl;
   time = refl;
   tries = refl;
@@ -234,15 +237,20 @@ end_is (Some end) o e = fault_is (unstarted_error end.why) o e
 -- whatever it is
 owed_fault : (b : Book) (n : ℕ) (o : Outcome) → (b.story n).tries ≡ [] → owed b n ≡ Some o → is_no_error (o ∷ []) ≡ false
 owed_fault b n o none e =
+    let IsFault : Option Outcome → Type 0 = λ (x : Option Outcome). x ≡ Some o → is_no_error (o ∷ []) ≡ false in
     let by_try = owed_to_try b (b.story n) (last_of (b.story n).tries) in
     let in_time = if (b.story n).overdue then Some (outcome.Fault (error.Io kinds.TimedOut)) else by_try in
-    chosen (λ (x : Option Outcome). x ≡ Some o → is_no_error (o ∷ []) ≡ false) (b.story n).late (Some (outcome.Fault error.Closed)) (if length (bytes_of (b.story n)) == 0 then Some (outcome.Fault error.EmptyCommand) else in_time)
+    let with_bytes = if length (bytes_of (b.story n)) == 0 then Some (outcome.Fault error.EmptyCommand) else in_time in
+    let spoken = if (b.story n).unspoken then Some (outcome.Fault error.Resp3Required) else with_bytes in
+    chosen IsFault (b.story n).late (Some (outcome.Fault error.Closed)) spoken
     (λ t. fault_is error.Closed o)
-    (λ f. chosen (λ (x : Option Outcome). x ≡ Some o → is_no_error (o ∷ []) ≡ false) (length (bytes_of (b.story n)) == 0) (Some (outcome.Fault error.EmptyCommand)) in_time
+    (λ f. chosen IsFault (b.story n).unspoken (Some (outcome.Fault error.Resp3Required)) with_bytes
+    (λ t. fault_is error.Resp3Required o)
+    (λ d. chosen IsFault (length (bytes_of (b.story n)) == 0) (Some (outcome.Fault error.EmptyCommand)) in_time
     (λ t. fault_is error.EmptyCommand o)
-    (λ g. chosen (λ (x : Option Outcome). x ≡ Some o → is_no_error (o ∷ []) ≡ false) (b.story n).overdue (Some (outcome.Fault (error.Io kinds.TimedOut))) by_try
+    (λ g. chosen IsFault (b.story n).overdue (Some (outcome.Fault (error.Io kinds.TimedOut))) by_try
     (λ t. fault_is (error.Io kinds.TimedOut) o)
-    (λ d is. end_is (b.link (b.story n).link).end o (ap (λ ts. owed_to_try b (b.story n) (last_of ts)) (sym none) ∙ is))))
+    (λ h is. end_is (b.link (b.story n).link).end o (ap (λ ts. owed_to_try b (b.story n) (last_of ts)) (sym none) ∙ is)))))
     e
 
 -- so an open submission that is answered with what it is owed was not told at its place, or has started

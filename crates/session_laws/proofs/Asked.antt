@@ -3,6 +3,7 @@ use Rattle.std.proofs.lemmas.List.{append-nil}
 use Rattle.std.proofs.Common.{◌≡◌, ◌≢◌, inl, inr, ℕ, ◌+◌, ◌<◌, ◌≤◌, ◌==◌, Bool, true, false, ◌||◌, ◌&&◌, not, List, [], ◌∷◌, ◌++◌, length, Some, slice_get, if◌then◌else◌, refl, sym, ap, ◌∙◌, subst, append_assoc, arith, length-append}
 use Rattle.containers.proofs.Places.{get_within}
 use Rattle.containers.proofs.Choices.{chosen, not_both}
+use Rattle.connection_info.specs.declared.address.RedisConnectionInfo.{RedisConnectionInfo}
 use Rattle.redis_error.specs.declared.redis_error.RedisError.{RedisError}
 use Rattle.redis_error.specs.declared.redis_error.RedisError.TheVariants as error
 use Rattle.driver_model.specs.declared.action.Action.{Action}
@@ -11,7 +12,7 @@ use Rattle.driver_model.specs.declared.event.EventKind.TheVariants as event
 use Rattle.driver_model.specs.declared.event.Submission.{Submission}
 use Rattle.driver_model.specs.declared.outcome.Outcome.TheVariants as outcome
 use Rattle.driver_model.specs.News.{silence}
-use Rattle.driver_model.specs.Request.{packed_bytes, shape_of, is_reply_awaited}
+use Rattle.driver_model.specs.Request.{packed_bytes, shape_of, is_reply_awaited, lacks_resp3}
 use Rattle.link_laws.proofs.Lists.{get_last}
 use Rattle.link_laws.proofs.TiedLink.{told_tied, all_push}
 use Rattle.mux_conn.specs.declared.request.Progress.{Progress}
@@ -22,7 +23,7 @@ use Rattle.mux_conn.specs.Requests.{is_open as is_open_progress, is_waiting, is_
 use Rattle.shared_session.specs.declared.core_state.Core.{Core}
 use Rattle.shared_session.specs.Turn.{Turning, heard, refused_with, asked_for, pending, effect, counted, is_bad}
 use Rattle.legal_trace.specs.Story.{Story, is_no_error, is_told, is_awaited}
-use Rattle.legal_trace.specs.Book.{Book, blank_book, book, entered}
+use Rattle.legal_trace.specs.Book.{Book, blank_book, book, entered, current, is_unspoken}
 use Rattle.legal_trace.specs.Legal.{AllStand, NoneEnds, MayAnswer}
 use Rattle.session_laws.proofs.Numbers.{IsIn, in_left, in_right, Rising, rising_next}
 use Rattle.session_laws.proofs.Tied.{carried, inner, link_in, queue_ids, waiting_ids, whole_link, IsOf, IsRequest, IsPacked, IsKept, TiedLines, TiedWaits, Tied, no_opening}
@@ -39,7 +40,7 @@ use Rattle.session_laws.proofs.InLine.{kept_ids, awaited_in}
 use Rattle.session_laws.proofs.Submit.{stories_with, new_story, story_is_new, others_before, within_line, IsErrorOf, may_refuse, core_refused, refused_tied}
 
 -- it is answered at once
-pub refused_applied : (before : List Action) (c : Core) (started : List ℕ) (word : ℕ) (what : Submission) (e : RedisError) → Between before c started → is_bad c (event.Submit what) ≡ false → IsErrorOf (book before).shut what e
+pub refused_applied : (before : List Action) (c : Core) (started : List ℕ) (word : ℕ) (what : Submission) (e : RedisError) → Between before c started → is_bad c (event.Submit what) ≡ false → IsErrorOf (book before).shut (is_unspoken (book before) what) what e
     → HasApplied (before ++ turn_of c word (event.Submit what) ∷ []) (refused_with (heard (counted c) (event.Submit what)) e) started
 refused_applied before c started word what e h good why =
     let b = book before in
@@ -209,9 +210,9 @@ abbrev core_asked : Core → Submission → Core
 core_asked c what = record (turned c (event.Submit what)) { table = c.table ++ Some (pending (length c.single.connection.requests)) ∷ [] }
 
 -- the session is tied with it
-asked_tied : (b : Book) (c : Core) (started : List ℕ) (word : ℕ) (what : Submission) → Tied b (inner c started) → c.single.connection.fresh ≡ [] → b.shut ≡ false → packed_bytes what ≢ []
+asked_tied : (b : Book) (c : Core) (started : List ℕ) (word : ℕ) (what : Submission) → Tied b (inner c started) → c.single.connection.fresh ≡ [] → b.shut ≡ false → is_unspoken b what ≡ false → packed_bytes what ≢ []
     → Tied (entered b (turn_of c word (event.Submit what))) (seen (core_asked c what) [] (asked c.single.connection (length c.table) (packed_bytes what) (shape_of what) (is_reply_awaited what) c.timeout) [] started)
-asked_tied b c started word what h no_fresh up some =
+asked_tied b c started word what h no_fresh up speaks some =
     let conn = c.single.connection in
     let ledger = b.link c.single.link in
     let after = stories_with b what in
@@ -249,6 +250,7 @@ asked_tied b c started word what h no_fresh up some =
             what = what;
             handed_in = refl;
             in_time = up;
+            spoken = speaks;
             on = (let e = h.numbers.links in let one = h.numbers.one in omega arith);
             some = some;
             open_is = sym (last_open c);
@@ -267,12 +269,12 @@ asked_tied b c started word what h no_fresh up some =
     }
 
 -- no act is shown
-pub asked_applied : (before : List Action) (c : Core) (started : List ℕ) (word : ℕ) (what : Submission) → Between before c started → is_bad c (event.Submit what) ≡ false → (book before).shut ≡ false → packed_bytes what ≢ []
+pub asked_applied : (before : List Action) (c : Core) (started : List ℕ) (word : ℕ) (what : Submission) → Between before c started → is_bad c (event.Submit what) ≡ false → (book before).shut ≡ false → is_unspoken (book before) what ≡ false → packed_bytes what ≢ []
     → HasApplied (before ++ turn_of c word (event.Submit what) ∷ []) (asked_for (heard (counted c) (event.Submit what)) what) started
-asked_applied before c started word what h good up some =
+asked_applied before c started word what h good up speaks some =
     let b = book before in
     silent_applied before c started word (event.Submit what) (core_asked c what) (asked c.single.connection (length c.table) (packed_bytes what) (shape_of what) (is_reply_awaited what) c.timeout) h good (λ m. silent_no_end (b.link m) c.turns (still_none before c started h m)) (λ z. absurd (omega arith)) h.moved (record { setup = h.fit.setup; link = h.fit.link; none = h.fit.none })
-    (asked_tied b c started word what h.sound.tied h.fresh up some)
+    (asked_tied b c started word what h.sound.tied h.fresh up speaks some)
 
 -- one or the other
 --
@@ -285,6 +287,12 @@ or_none false = refl
 some_bytes : (bytes : List ℕ) → (length bytes == 0) ≡ false → bytes ≢ []
 some_bytes bytes f e = not_both (length bytes == 0) f (ap (λ (bs : List ℕ). length bs == 0) e)
 
+-- what the session says to the server is what the book tells of the link that a submission goes to
+lacks_as_told : (b : Book) (c : Core) (started : List ℕ) (what : Submission) → Tied b (inner c started) → lacks_resp3 c.single.connection.info.protocol what ≡ is_unspoken b what
+lacks_as_told b c started what h =
+    let on : c.single.link ≡ current b = (let e = h.numbers.links in let one = h.numbers.one in omega arith) in
+    ap (λ (info : RedisConnectionInfo). lacks_resp3 info.protocol what) (sym h.setup.info_is ∙ ap (λ m. (b.link m).info) on)
+
 -- a submission, whichever it is
 pub submit_applied : (before : List Action) (c : Core) (started : List ℕ) (word : ℕ) (what : Submission) → Between before c started → is_bad c (event.Submit what) ≡ false
     → HasApplied (before ++ turn_of c word (event.Submit what) ∷ []) (effect (counted c) (event.Submit what)) started
@@ -292,8 +300,13 @@ submit_applied before c started word what h good =
     let t = heard (counted c) (event.Submit what) in
     let front = before ++ turn_of c word (event.Submit what) ∷ [] in
     let shut_is : (c.shut || false) ≡ (book before).shut = or_none c.shut ∙ sym h.sound.tied.numbers.shut in
-    chosen (λ (x : Turning). HasApplied front x started) (c.shut || false) (refused_with t error.Closed) (if length (packed_bytes what) == 0 then refused_with t error.EmptyCommand else asked_for t what)
+    let lacks = lacks_resp3 c.single.connection.info.protocol what in
+    let lacks_is : lacks ≡ is_unspoken (book before) what = lacks_as_told (book before) c started what h.sound.tied in
+    let some = if length (packed_bytes what) == 0 then refused_with t error.EmptyCommand else asked_for t what in
+    chosen (λ (x : Turning). HasApplied front x started) (c.shut || false) (refused_with t error.Closed) (if lacks then refused_with t error.Resp3Required else some)
     (λ s. refused_applied before c started word what error.Closed h good (inl (sym shut_is ∙ s, refl)))
-    (λ f. chosen (λ (x : Turning). HasApplied front x started) (length (packed_bytes what) == 0) (refused_with t error.EmptyCommand) (asked_for t what)
-    (λ e. refused_applied before c started word what error.EmptyCommand h good (inr (sym shut_is ∙ f, e, refl)))
-    (λ n. asked_applied before c started word what h good (sym shut_is ∙ f) (some_bytes (packed_bytes what) n)))
+    (λ f. chosen (λ (x : Turning). HasApplied front x started) lacks (refused_with t error.Resp3Required) some
+    (λ l. refused_applied before c started word what error.Resp3Required h good (inr (inl (sym shut_is ∙ f, sym lacks_is ∙ l, refl))))
+    (λ g. chosen (λ (x : Turning). HasApplied front x started) (length (packed_bytes what) == 0) (refused_with t error.EmptyCommand) (asked_for t what)
+    (λ e. refused_applied before c started word what error.EmptyCommand h good (inr (inr (sym shut_is ∙ f, sym lacks_is ∙ g, e, refl))))
+    (λ n. asked_applied before c started word what h good (sym shut_is ∙ f) (sym lacks_is ∙ g) (some_bytes (packed_bytes what) n))))

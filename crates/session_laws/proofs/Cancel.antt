@@ -60,8 +60,8 @@ gone_closed false b = refl
 -- the story of one who leaves closes
 leave_closes : (s : Story) → Closes s (left s)
 leave_closes s = chosen (Closes s) (is_open s) (record s { cancelled = true; permits = 0; waiting = None }) s
-    (λ t. record { submission = refl; late = refl; link = refl; time = refl; tries = refl; closed = gone_closed (is_some s.submission) (length s.outcomes == 0) })
-    (λ f. record { submission = refl; late = refl; link = refl; time = refl; tries = refl; closed = f })
+    (λ t. record { submission = refl; late = refl; unspoken = refl; link = refl; time = refl; tries = refl; closed = gone_closed (is_some s.submission) (length s.outcomes == 0) })
+    (λ f. record { submission = refl; late = refl; unspoken = refl; link = refl; time = refl; tries = refl; closed = f })
 
 -- its permits are free
 leave_frees : (s : Story) → is_open s ≡ true → (left s).permits ≡ 0

@@ -29,6 +29,7 @@ use Rattle.session_laws.proofs.Names.{name_placed, permits_other, permits_with, 
 pub record Closes (s c : Story) : Type 0 where
   pub submission : c.submission ≡ s.submission
   pub late : c.late ≡ s.late
+  pub unspoken : c.unspoken ≡ s.unspoken
   pub link : c.link ≡ s.link
   pub time : c.timeout ≡ s.timeout
   pub tries : c.tries ≡ s.tries
@@ -62,6 +63,7 @@ request_closed s c requests link p l freed k h = record {
   what = h.what;
   handed_in = k.submission ∙ h.handed_in;
   in_time = k.late ∙ h.in_time;
+  spoken = k.unspoken ∙ h.spoken;
   on = k.link ∙ h.on;
   some = λ none. h.some (ap packed_in (sym k.submission) ∙ none);
   open_is = k.closed ∙ sym (with_same is_open_progress requests p progress.Closed 0 l);
@@ -74,6 +76,7 @@ request_other s requests link p q other h = record {
   what = h.what;
   handed_in = h.handed_in;
   in_time = h.in_time;
+  spoken = h.spoken;
   on = h.on;
   some = h.some;
   open_is = h.open_is ∙ sym (with_other is_open_progress requests p q progress.Closed 0 other);

@@ -87,10 +87,11 @@ unstarted_owed b now c started h none same alive n asked on =
     let g = get_some t.requests p within in
     let is : now.story n ≡ b.story (name_at t.requests p) = same n ∙ ap b.story (sym r.named) in
     let early : (now.story n).late ≡ false = ap (λ (x : Story). x.late) is ∙ q.in_time in
+    let spoken : (now.story n).unspoken ≡ false = ap (λ (x : Story). x.unspoken) is ∙ q.spoken in
     let some : bytes_of (now.story n) ≢ [] = λ e. q.some (ap bytes_of (sym is) ∙ e) in
     let punctual : (now.story n).overdue ≡ false = ap (λ (x : Story). x.overdue) is ∙ in_time b t p h r.open_at (λ i. i) in
     let untried : (now.story n).tries ≡ [] = ap (λ (x : Story). x.tries) is ∙ ap (λ m. (b.story m).tries) (name_of_some t.requests p g.0 g.1) ∙ h.tries.untried p g.0 g.1 (λ i. subst (IsIn p) none i) in
-    left_if (now.story n).late _ _ early ∙ left_if (length (bytes_of (now.story n)) == 0) _ _ (not_empty (bytes_of (now.story n)) some) ∙ left_if (now.story n).overdue _ (owed_to_try now (now.story n) (last_of (now.story n).tries)) punctual
+    left_if (now.story n).late _ _ early ∙ left_if (now.story n).unspoken _ _ spoken ∙ left_if (length (bytes_of (now.story n)) == 0) _ _ (not_empty (bytes_of (now.story n)) some) ∙ left_if (now.story n).overdue _ (owed_to_try now (now.story n) (last_of (now.story n).tries)) punctual
     ∙ ap (λ ts. owed_to_try now (now.story n) (last_of ts)) untried ∙ ap (λ m. owed_unstarted (now.link m).end) (ap (λ (x : Story). x.link) is ∙ q.on) ∙ ap owed_unstarted alive
 
 -- a link that isn't set up, and whose opening fails with this error

@@ -81,6 +81,7 @@ request_longer s requests more link p longer l h = record {
   what = h.what;
   handed_in = h.handed_in;
   in_time = h.in_time;
+  spoken = h.spoken;
   on = h.on;
   some = h.some;
   open_is = h.open_is ∙ sym (there_longer is_open_progress requests more p longer l);

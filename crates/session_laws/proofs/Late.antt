@@ -82,7 +82,7 @@ fired_at m story n = chosen (IsFired (story n)) (m == n) (fires (story n)) (stor
 -- a request is one still
 fires_request : (s : Story) (requests : List Request) (link p : ℕ) → IsRequest s requests link p → IsRequest (fires s) requests link p
 fires_request s requests link p h = chosen (λ (x : Story). IsRequest x requests link p) (is_open s) (record s { overdue = true }) s
-    (λ t. record { what = h.what; handed_in = h.handed_in; in_time = h.in_time; on = h.on; some = h.some; open_is = h.open_is; permits_is = h.permits_is })
+    (λ t. record { what = h.what; handed_in = h.handed_in; in_time = h.in_time; spoken = h.spoken; on = h.on; some = h.some; open_is = h.open_is; permits_is = h.permits_is })
     (λ f. h)
 
 -- who was told is told
@@ -292,9 +292,9 @@ late_tied b c started word n p h is o =
 -- what it is owed
 --
 -- a submission whose time is over
-late_owed : (b : Book) (n : ℕ) → (b.story n).late ≡ false → bytes_of (b.story n) ≢ [] → (b.story n).overdue ≡ true → owed b n ≡ Some (outcome.Fault (error.Io kinds.TimedOut))
-late_owed b n early some over =
-    left_if (b.story n).late _ _ early ∙ left_if (length (bytes_of (b.story n)) == 0) _ _ (not_empty (bytes_of (b.story n)) some) ∙ taken_if (b.story n).overdue _ (owed_to_try b (b.story n) (last_of (b.story n).tries)) over
+late_owed : (b : Book) (n : ℕ) → (b.story n).late ≡ false → (b.story n).unspoken ≡ false → bytes_of (b.story n) ≢ [] → (b.story n).overdue ≡ true → owed b n ≡ Some (outcome.Fault (error.Io kinds.TimedOut))
+late_owed b n early spoken some over =
+    left_if (b.story n).late _ _ early ∙ left_if (b.story n).unspoken _ _ spoken ∙ left_if (length (bytes_of (b.story n)) == 0) _ _ (not_empty (bytes_of (b.story n)) some) ∙ taken_if (b.story n).overdue _ (owed_to_try b (b.story n) (last_of (b.story n).tries)) over
 
 -- the request is so
 fired_overdue : (b : Book) (c : Core) (started : List ℕ) (word n p : ℕ) → Tied b (inner c started) → IsClock c n p → is_open_at c.single.connection.requests p ≡ true
@@ -384,7 +384,7 @@ late_answered before c started word n p h good is o =
     let r = request_story b t p holds.tied l in
     let asked = r.open_is ∙ o in
     let late = ap (λ (x : Book). (x.story m).overdue) book_is ∙ fired_overdue b0 c started word n p h.sound.tied is o in
-    let owes = late_owed b m r.in_time r.some late in
+    let owes = late_owed b m r.in_time r.spoken r.some late in
     let was_asked = (request_story b0 (inner c started) p h.sound.tied l).open_is ∙ o in
     let apart = late_apart b0 (inner c started) conn.life p h.sound.tied refl alive was_asked in
     let lived = lives (b.link f.single.link) b.created (cancelled_in conn.life p) holds.tied.life up in

@@ -5,7 +5,7 @@ use Rattle.std.specs.Prelude.{if◌then◌else◌, ◌==◌}
 use Rattle.containers.proofs.Choices.{chosen}
 use Rattle.connection_info.specs.declared.address.ConnectionInfo.{ConnectionInfo}
 use Rattle.redis_error.specs.declared.redis_error.RedisError.TheVariants as error
-use Rattle.driver_model.specs.Request.{packed_bytes}
+use Rattle.driver_model.specs.Request.{packed_bytes, lacks_resp3}
 use Rattle.driver_model.specs.Config.{address, connect_timeout}
 use Rattle.driver_model.specs.declared.action.Action.{Action}
 use Rattle.driver_model.specs.declared.action.Action.TheVariants as action
@@ -45,9 +45,12 @@ IsStillOf t link timers = (t.core.single.link ≡ link) × (t.core.timers ≡ ti
 refused_still : (t : Turning) (what : Submission) → IsStillOf (submitted t what) t.core.single.link t.core.timers
 refused_still t what =
     let still = λ (x : Turning). IsStillOf x t.core.single.link t.core.timers in
-    chosen still t.core.shut (refused_with t error.Closed) (if length (packed_bytes what) == 0 then refused_with t error.EmptyCommand else asked_for t what)
+    let lacks = lacks_resp3 t.core.single.connection.info.protocol what in
+    let packed = if length (packed_bytes what) == 0 then refused_with t error.EmptyCommand else asked_for t what in
+    chosen still t.core.shut (refused_with t error.Closed) (if lacks then refused_with t error.Resp3Required else packed)
     (λ s. (refl, refl))
-    (λ f. chosen still (length (packed_bytes what) == 0) (refused_with t error.EmptyCommand) (asked_for t what) (λ s. (refl, refl)) (λ g. (refl, refl)))
+    (λ f. chosen still lacks (refused_with t error.Resp3Required) packed (λ s. (refl, refl))
+    (λ d. chosen still (length (packed_bytes what) == 0) (refused_with t error.EmptyCommand) (asked_for t what) (λ s. (refl, refl)) (λ g. (refl, refl))))
 
 -- so does a leave
 left_still : (t : Turning) (x : Option (Option Pending)) → IsStillOf (left_by t x) t.core.single.link t.core.timers

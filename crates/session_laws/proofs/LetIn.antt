@@ -12,7 +12,7 @@ use Rattle.driver_model.specs.declared.action.Owner.TheVariants as owner
 use Rattle.driver_model.specs.declared.action.Purpose.{Purpose}
 use Rattle.driver_model.specs.declared.action.Purpose.TheVariants as purpose
 use Rattle.driver_model.specs.declared.outcome.Shape.{Shape}
-use Rattle.driver_model.specs.declared.outcome.Shape.TheVariants.{Single, Pipeline}
+use Rattle.driver_model.specs.declared.outcome.Shape.TheVariants.{Single, Pipeline, Confirmation}
 use Rattle.link_core.specs.Link.{LinkState, holds_back, is_full}
 use Rattle.link_core.specs.declared.message.Entry.{Entry}
 use Rattle.link_core.specs.declared.message.Queued.{Queued}
@@ -80,6 +80,7 @@ test_kept test requests p count m w =
 pub record IsEased (s t : Story) : Type 0 where
   pub submission : t.submission ≡ s.submission
   pub late : t.late ≡ s.late
+  pub unspoken : t.unspoken ≡ s.unspoken
   pub link : t.link ≡ s.link
   pub timeout : t.timeout ≡ s.timeout
   pub overdue : t.overdue ≡ s.overdue
@@ -90,7 +91,7 @@ pub record IsEased (s t : Story) : Type 0 where
 
 -- nothing changes
 eased_same : (s : Story) → IsEased s s
-eased_same s = record { submission = refl; late = refl; link = refl; timeout = refl; overdue = refl; tries = refl; waiting = refl; outcomes = refl; cancelled = refl }
+eased_same s = record { submission = refl; late = refl; unspoken = refl; link = refl; timeout = refl; overdue = refl; tries = refl; waiting = refl; outcomes = refl; cancelled = refl }
 
 -- it is open where it was
 eased_open : (s t : Story) → IsEased s t → is_open t ≡ is_open s
@@ -144,6 +145,7 @@ story_let f g table requests link p count n names w eased has h = by_entry (slic
           what = s.what;
           handed_in = k.submission ∙ s.handed_in;
           in_time = k.late ∙ s.in_time;
+          spoken = k.unspoken ∙ s.spoken;
           on = k.link ∙ s.on;
           some = λ none. s.some (ap (λ x. packed_in x) (sym k.submission) ∙ none);
           open_is = eased_open (f n) (g n) k ∙ s.open_is ∙ sym (test_kept is_open_progress requests p count q.number w);
@@ -366,6 +368,7 @@ opening_packed b t link q qs o h = (subst (AllByRecursion (IsPacked b.story t.re
 -- those that it takes are no more than those that are free, and some
 taken_some : (free : ℕ) (of_shape : Shape) (k : ℕ) → free ≢ 0 → (min free (permits_for of_shape k) ≤ free) × (0 < min free (permits_for of_shape k))
 taken_some free Single k some = let no_zero : free ≢ 0 = some in (omega arith, omega arith)
+taken_some free Confirmation k some = let no_zero : free ≢ 0 = some in (omega arith, omega arith)
 taken_some free (Pipeline offset count transaction) k some = let no_zero : free ≢ 0 = some in (omega arith, omega arith)
 
 -- it may take them
@@ -397,7 +400,7 @@ take_tied b t p count w alone most h =
     let n = name_at t.requests p in
     let within = there_within is_waiting t.requests p w in
     let g : ℕ → Story = λ m. if_own (n == m) (holds (b.story m) count) (b.story m) in
-    let eased = eased_at b.story n (λ s. holds s count) (λ m. record { submission = refl; late = refl; link = refl; timeout = refl; overdue = refl; tries = refl; waiting = refl; outcomes = refl; cancelled = refl }) in
+    let eased = eased_at b.story n (λ s. holds s count) (λ m. record { submission = refl; late = refl; unspoken = refl; link = refl; timeout = refl; overdue = refl; tries = refl; waiting = refl; outcomes = refl; cancelled = refl }) in
     let own : g n ≡ holds (b.story n) count = taken_if (n == n) (holds (b.story n) count) (b.story n) (eq_test n n refl) in
     let r = request_story b t p h within in
     let none = h.permits.none p w (λ i. subst (IsIn p) alone i) in
@@ -455,7 +458,7 @@ ask_tied b t p number ms w alone h =
     let within = there_within is_waiting t.requests p w in
     let what = purpose.Response (owner.Try n 0) in
     let g : ℕ → Story = λ m. if_own (n == m) (clocked (b.story m) number) (b.story m) in
-    let eased = eased_at b.story n (λ s. clocked s number) (λ m. record { submission = refl; late = refl; link = refl; timeout = refl; overdue = refl; tries = refl; waiting = refl; outcomes = refl; cancelled = refl }) in
+    let eased = eased_at b.story n (λ s. clocked s number) (λ m. record { submission = refl; late = refl; unspoken = refl; link = refl; timeout = refl; overdue = refl; tries = refl; waiting = refl; outcomes = refl; cancelled = refl }) in
     let own : g n ≡ clocked (b.story n) number = taken_if (n == n) (clocked (b.story n) number) (b.story n) (eq_test n n refl) in
     let r = request_story b t p h within in
     let known = name_within t.table t.requests p h.names within in

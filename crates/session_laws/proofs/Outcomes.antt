@@ -1,6 +1,6 @@
 -- What the outcome actions of a trace say is what its book says.
 use Rattle.driver_model.specs.declared.action.Purpose.{Purpose}
-use Rattle.legal_trace.specs.Book.{entered}
+use Rattle.legal_trace.specs.Book.{entered, is_unspoken}
 use Rattle.std.proofs.Common.{List, None, Option, Some, [], ap, arith, inl, inr, is_some, length, length-set, nat_le, not, refl, slice_get, slice_set, subst, suc, sym, true, zero, ℕ, ◌++◌, ◌+◌, ◌<◌, ◌∙◌, ◌∷◌, ◌≡◌, ◌≤◌}
 use Rattle.std.proofs.lemmas.List.{length_push}
 use Rattle.std.specs.Prelude.{◌&&◌, ◌==◌}
@@ -81,9 +81,9 @@ submit_outcomes : (os : List (Option Outcome)) (b : Book) (number word : ℕ) (w
 submit_outcomes os b number word what h = record {
   long = length_push os None ∙ ap (λ n. n + 1) h.long;
   last = λ n. room_at os n ∙ h.last n
-      ∙ chosen (λ (s : Story). last_outcome (b.story n).outcomes ≡ last_outcome s.outcomes) (b.submissions == n) (handed_in (b.story n) what b.shut (current b) b.timeout) (b.story n) (λ t. refl) (λ f. refl);
+      ∙ chosen (λ (s : Story). last_outcome (b.story n).outcomes ≡ last_outcome s.outcomes) (b.submissions == n) (handed_in (b.story n) what b.shut (is_unspoken b what) (current b) b.timeout) (b.story n) (λ t. refl) (λ f. refl);
   later = λ n l.
-      chosen (λ (s : Story). (s.submission ≡ None) × (s.outcomes ≡ [])) (b.submissions == n) (handed_in (b.story n) what b.shut (current b) b.timeout) (b.story n)
+      chosen (λ (s : Story). (s.submission ≡ None) × (s.outcomes ≡ [])) (b.submissions == n) (handed_in (b.story n) what b.shut (is_unspoken b what) (current b) b.timeout) (b.story n)
       (λ t. absurd (let same = eq_from b.submissions n t in omega arith))
       (λ f. h.later n (omega arith));
 }

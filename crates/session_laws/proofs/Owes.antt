@@ -117,8 +117,8 @@ pub not_empty : (bytes : List ℕ) → bytes ≢ [] → (length bytes == 0) ≡ 
 not_empty bytes some = ne_test (length bytes) 0 (λ e. some (nil_from_length bytes e))
 
 -- by its last try
-owed_by_try : (b : Book) (n : ℕ) → (b.story n).late ≡ false → bytes_of (b.story n) ≢ [] → (b.story n).overdue ≡ false → owed b n ≡ owed_to_try b (b.story n) (last_of (b.story n).tries)
-owed_by_try b n early some in_time = left_if (b.story n).late _ _ early ∙ left_if (length (bytes_of (b.story n)) == 0) _ _ (not_empty (bytes_of (b.story n)) some) ∙ left_if (b.story n).overdue _ _ in_time
+owed_by_try : (b : Book) (n : ℕ) → (b.story n).late ≡ false → (b.story n).unspoken ≡ false → bytes_of (b.story n) ≢ [] → (b.story n).overdue ≡ false → owed b n ≡ owed_to_try b (b.story n) (last_of (b.story n).tries)
+owed_by_try b n early spoken some in_time = left_if (b.story n).late _ _ early ∙ left_if (b.story n).unspoken _ _ spoken ∙ left_if (length (bytes_of (b.story n)) == 0) _ _ (not_empty (bytes_of (b.story n)) some) ∙ left_if (b.story n).overdue _ _ in_time
 
 -- where its message started as number k
 pub owed_started : (b : Book) (t : Inner) (p k : ℕ) (of_shape : Shape) → Tied b t → p < length t.requests → (b.story (name_at t.requests p)).overdue ≡ false → StandsAs (b.link t.link).starts (owner_of t.requests p) of_shape k
@@ -129,7 +129,7 @@ owed_started b t p k of_shape h l in_time place =
     let starts = (b.link t.link).starts in
     let e = stands_started b t p k of_shape h l place in
     let same : shape (b.story n) ≡ of_shape = sym (h.tries.shapes e.0 p place.start e.2 (ap (slice_get starts) (sym e.1) ∙ place.stands)) ∙ place.shaped in
-    owed_by_try b n r.in_time r.some in_time
+    owed_by_try b n r.in_time r.spoken r.some in_time
     ∙ ap (λ ts. owed_to_try b (b.story n) (last_of ts)) (h.tries.tried e.0 p e.2 ∙ ap (λ m. record { link = t.link; message = m } ∷ []) (sym e.1))
     ∙ ap (owed_to_message (b.link t.link) k) same
 
@@ -141,7 +141,7 @@ owed_none_started b t p h l in_time not_started =
     let g = get_some t.requests p l in
     let named : n ≡ g.0.name = name_of_some t.requests p g.0 g.1 in
     let untried : (b.story n).tries ≡ [] = ap (λ m. (b.story m).tries) named ∙ h.tries.untried p g.0 g.1 not_started in
-    owed_by_try b n r.in_time r.some in_time ∙ ap (λ ts. owed_to_try b (b.story n) (last_of ts)) untried ∙ ap (λ m. owed_unstarted (b.link m).end) r.on
+    owed_by_try b n r.in_time r.spoken r.some in_time ∙ ap (λ ts. owed_to_try b (b.story n) (last_of ts)) untried ∙ ap (λ m. owed_unstarted (b.link m).end) r.on
 
 -- what a link has settled is what its submissions are owed
 pub settled_owed : (b : Book) (t : Inner) (s : Settled) → Tied b t → s.id < length t.requests → (b.story (name_at t.requests s.id)).overdue ≡ false → IsOwed (owner_of t.requests) (b.link t.link) s → owed b (name_at t.requests s.id) ≡ Some (outcome_of s.verdict)

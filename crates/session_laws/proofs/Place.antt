@@ -106,6 +106,7 @@ story_further s requests link p now (Some (Some m)) on e h = record {
   what = h.what;
   handed_in = h.handed_in;
   in_time = h.in_time;
+  spoken = h.spoken;
   on = h.on;
   some = h.some;
   open_is = h.open_is ∙ sym (open_further requests p m.number now on e);

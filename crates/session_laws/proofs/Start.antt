@@ -272,7 +272,7 @@ told_started b t link q qs k l h n =
 
 -- a request is one still
 tried_request : (s : Story) (requests : List Request) (link p k l : ℕ) → IsRequest s requests link p → IsRequest (tried s k l) requests link p
-tried_request s requests link p k l h = record { what = h.what; handed_in = h.handed_in; in_time = h.in_time; on = h.on; some = h.some; open_is = h.open_is; permits_is = h.permits_is }
+tried_request s requests link p k l h = record { what = h.what; handed_in = h.handed_in; in_time = h.in_time; spoken = h.spoken; on = h.on; some = h.some; open_is = h.open_is; permits_is = h.permits_is }
 
 -- the session and its book
 --

@@ -19,7 +19,7 @@ use Rattle.mux_conn.specs.declared.request.Progress.{Progress}
 use Rattle.shared_session.specs.declared.core_state.Core.{Core}
 use Rattle.legal_trace.specs.Ledger.{is_over}
 use Rattle.legal_trace.specs.Story.{Story, Try, blank_story, is_open, is_no_error, is_told, is_awaited, bytes_of, handed_in, answered, last_of}
-use Rattle.legal_trace.specs.Book.{Book, entered, if_own, current}
+use Rattle.legal_trace.specs.Book.{Book, entered, if_own, current, is_unspoken}
 use Rattle.legal_trace.specs.Owed.{owed, owed_to_try}
 use Rattle.legal_trace.specs.Legal.{IsOpen, link_of, NoneIsOwed, NoneEnds, MayAnswer, FailuresAreShown}
 use Rattle.session_laws.proofs.Numbers.{IsIn, in_left, in_right, Rising, rising_in}
@@ -36,7 +36,7 @@ use Rattle.session_laws.proofs.InLine.{kept_ids, awaited_in}
 
 -- the stories once it is handed in
 abbrev pub stories_with : Book → Submission → ℕ → Story
-stories_with b what n = if_own (b.submissions == n) (handed_in (b.story n) what b.shut (current b) b.timeout) (b.story n)
+stories_with b what n = if_own (b.submissions == n) (handed_in (b.story n) what b.shut (is_unspoken b what) (current b) b.timeout) (b.story n)
 
 -- any other story stays
 stories_before : (b : Book) (what : Submission) (n : ℕ) → n ≢ b.submissions → stories_with b what n ≡ b.story n
@@ -44,7 +44,7 @@ stories_before b what n other = left_if (b.submissions == n) _ (b.story n) (ne_t
 
 -- its own
 abbrev pub new_story : Book → Submission → Story
-new_story b what = handed_in blank_story what b.shut (current b) b.timeout
+new_story b what = handed_in blank_story what b.shut (is_unspoken b what) (current b) b.timeout
 
 -- the next submission has no story before
 next_is_blank : (b : Book) (c : Core) (started : List ℕ) → Tied b (inner c started) → b.story (length c.table) ≡ blank_story
@@ -54,7 +54,7 @@ next_is_blank b c started h = subst (TiedStory (b.story (length c.table)) c.sing
 pub story_is_new : (b : Book) (c : Core) (started : List ℕ) (what : Submission) → Tied b (inner c started) → stories_with b what (length c.table) ≡ new_story b what
 story_is_new b c started what h =
     taken_if (b.submissions == length c.table) _ (b.story (length c.table)) (eq_test b.submissions (length c.table) h.numbers.submissions)
-    ∙ ap (λ (s : Story). handed_in s what b.shut (current b) b.timeout) (next_is_blank b c started h)
+    ∙ ap (λ (s : Story). handed_in s what b.shut (is_unspoken b what) (current b) b.timeout) (next_is_blank b c started h)
 
 -- the others, by the table
 pub others_before : (b : Book) (c : Core) (started : List ℕ) (what : Submission) → Tied b (inner c started) → SameBefore b.story (stories_with b what) (length c.table)
@@ -77,22 +77,29 @@ others_owed b c word what m other = ap (owed_in (entered b (turn_of c word (even
     same : (s : Story) → owed_in (entered b (turn_of c word (event.Submit what))) s ≡ owed_in b s
     same s = (λ i.
         if s.late then Some (outcome.Fault error.Closed)
+        else if s.unspoken then Some (outcome.Fault error.Resp3Required)
         else if length (bytes_of s) == 0 then Some (outcome.Fault error.EmptyCommand)
         else if s.overdue then Some (outcome.Fault (error.Io kinds.TimedOut))
         else by_try s (last_of s.tries) i)
 
 -- the error that it gets
-abbrev pub IsErrorOf : Bool → Submission → RedisError → Type 0
-IsErrorOf late what e = ((late ≡ true) × (e ≡ error.Closed)) ⊎ ((late ≡ false) × ((length (packed_bytes what) == 0) ≡ true) × (e ≡ error.EmptyCommand))
+abbrev pub IsErrorOf : Bool → Bool → Submission → RedisError → Type 0
+IsErrorOf late unspoken what e =
+    ((late ≡ true) × (e ≡ error.Closed))
+    ⊎ (((late ≡ false) × (unspoken ≡ true) × (e ≡ error.Resp3Required))
+    ⊎ ((late ≡ false) × (unspoken ≡ false) × ((length (packed_bytes what) == 0) ≡ true) × (e ≡ error.EmptyCommand)))
 
 -- what it is owed then
-new_owed : (b now : Book) (what : Submission) (e : RedisError) → IsErrorOf b.shut what e → owed_in now (new_story b what) ≡ Some (outcome.Fault e)
+new_owed : (b now : Book) (what : Submission) (e : RedisError) → IsErrorOf b.shut (is_unspoken b what) what e → owed_in now (new_story b what) ≡ Some (outcome.Fault e)
 new_owed b now what e (inl h) = taken_if b.shut (Some (outcome.Fault error.Closed)) _ h.0 ∙ ap (λ x. Some (outcome.Fault x)) (sym h.1)
-new_owed b now what e (inr h) =
-    left_if b.shut (Some (outcome.Fault error.Closed)) _ h.0 ∙ taken_if (length (packed_bytes what) == 0) (Some (outcome.Fault error.EmptyCommand)) _ h.1 ∙ ap (λ x. Some (outcome.Fault x)) (sym h.2)
+new_owed b now what e (inr (inl h)) =
+    left_if b.shut (Some (outcome.Fault error.Closed)) _ h.0 ∙ taken_if (is_unspoken b what) (Some (outcome.Fault error.Resp3Required)) _ h.1 ∙ ap (λ x. Some (outcome.Fault x)) (sym h.2)
+new_owed b now what e (inr (inr h)) =
+    left_if b.shut (Some (outcome.Fault error.Closed)) _ h.0 ∙ left_if (is_unspoken b what) (Some (outcome.Fault error.Resp3Required)) _ h.1
+    ∙ taken_if (length (packed_bytes what) == 0) (Some (outcome.Fault error.EmptyCommand)) _ h.2 ∙ ap (λ x. Some (outcome.Fault x)) (sym h.3)
 
 -- its outcome may stand
-pub may_refuse : (b : Book) (c : Core) (started : List ℕ) (word : ℕ) (what : Submission) (e : RedisError) → Tied b (inner c started) → NoneIsOwed b → NoneEnds b → FailuresAreShown b → IsErrorOf b.shut what e → MayAnswer (entered b (turn_of c word (event.Submit what))) (length c.table) (outcome.Fault e)
+pub may_refuse : (b : Book) (c : Core) (started : List ℕ) (word : ℕ) (what : Submission) (e : RedisError) → Tied b (inner c started) → NoneIsOwed b → NoneEnds b → FailuresAreShown b → IsErrorOf b.shut (is_unspoken b what) what e → MayAnswer (entered b (turn_of c word (event.Submit what))) (length c.table) (outcome.Fault e)
 may_refuse b c started word what e h none no_end shown why =
     let now = entered b (turn_of c word (event.Submit what)) in
     let size = length c.table in

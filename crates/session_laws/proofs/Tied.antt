@@ -246,6 +246,7 @@ pub record IsRequest (s : Story) (requests : List Request) (link p : ℕ) : Type
   pub what : Submission
   pub handed_in : s.submission ≡ Some what
   pub in_time : s.late ≡ false
+  pub spoken : s.unspoken ≡ false
   pub on : s.link ≡ link
   pub some : bytes_of s ≢ []
   pub open_is : is_open s ≡ is_open_at requests p

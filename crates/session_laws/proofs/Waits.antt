@@ -120,7 +120,7 @@ waits_tries m kind story n = chosen (λ (x : Story). (story n).tries ≡ x.tries
 
 -- a request is one still
 waits_request : (s : Story) (kind : WaitKind) (requests : List Request) (link p : ℕ) → IsRequest s requests link p → IsRequest (waits_now s kind) requests link p
-waits_request s kind requests link p h = record { what = h.what; handed_in = h.handed_in; in_time = h.in_time; on = h.on; some = h.some; open_is = h.open_is; permits_is = h.permits_is }
+waits_request s kind requests link p h = record { what = h.what; handed_in = h.handed_in; in_time = h.in_time; spoken = h.spoken; on = h.on; some = h.some; open_is = h.open_is; permits_is = h.permits_is }
 
 -- who was told is told
 told_same : (f g : ℕ → Story) (n : ℕ) → SameSubmissions f g → SameOutcomes f g → is_told (f n) ≡ is_told (g n)

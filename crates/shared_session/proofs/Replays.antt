@@ -14,7 +14,7 @@ use Rattle.driver_model.specs.declared.event.EventKind.{EventKind}
 use Rattle.driver_model.specs.declared.event.EventKind.TheVariants as event
 use Rattle.driver_model.specs.declared.event.Submission.{Submission}
 use Rattle.driver_model.specs.Config.{address, connect_timeout}
-use Rattle.driver_model.specs.Request.{packed_bytes}
+use Rattle.driver_model.specs.Request.{packed_bytes, lacks_resp3}
 use Rattle.mux_conn.specs.declared.request.Pending.{Pending}
 use Rattle.mux_conn.specs.declared.act.LinkAct.{LinkAct}
 use Rattle.mux_conn.specs.declared.act.LinkAct.TheVariants as act
@@ -97,7 +97,8 @@ outcomes-more config word es e =
 submitted_turns : (t : Turning) (what : Submission) → (submitted t what).core.turns ≡ t.core.turns
 submitted_turns t what =
     chosen (λ (x : Turning). x.core.turns ≡ t.core.turns) t.core.shut _ _ (λ _. refl)
-    (λ _. chosen (λ (x : Turning). x.core.turns ≡ t.core.turns) (length (packed_bytes what) == 0) _ _ (λ _. refl) (λ _. refl))
+    (λ _. chosen (λ (x : Turning). x.core.turns ≡ t.core.turns) (lacks_resp3 t.core.single.connection.info.protocol what) _ _ (λ _. refl)
+    (λ _. chosen (λ (x : Turning). x.core.turns ≡ t.core.turns) (length (packed_bytes what) == 0) _ _ (λ _. refl) (λ _. refl)))
 
 left_turns : (t : Turning) (slot : Option (Option Pending)) → (left_by t slot).core.turns ≡ t.core.turns
 left_turns t None = refl

@@ -8,7 +8,7 @@ use Rattle.driver_model.specs.declared.action.Purpose.{Purpose}
 use Rattle.driver_model.specs.declared.action.Purpose.TheVariants as purpose
 use Rattle.driver_model.specs.declared.event.EventKind.TheVariants as event
 use Rattle.driver_model.specs.declared.event.Submission.{Submission}
-use Rattle.driver_model.specs.Request.{packed_bytes}
+use Rattle.driver_model.specs.Request.{packed_bytes, lacks_resp3}
 use Rattle.mux_conn.specs.declared.act.LinkAct.{LinkAct}
 use Rattle.mux_conn.specs.declared.request.Pending.{Pending}
 use Rattle.driver_model.specs.declared.event.EventKind.{EventKind}
@@ -68,7 +68,8 @@ left_timers t (Some (Some p)) = refl
 submitted_timers : (t : Turning) (what : Submission) → (submitted t what).core.timers ≡ t.core.timers
 submitted_timers t what =
     chosen (λ (x : Turning). x.core.timers ≡ t.core.timers) t.core.shut _ _ (λ _. refl)
-    (λ _. chosen (λ (x : Turning). x.core.timers ≡ t.core.timers) (length (packed_bytes what) == 0) _ _ (λ _. refl) (λ _. refl))
+    (λ _. chosen (λ (x : Turning). x.core.timers ≡ t.core.timers) (lacks_resp3 t.core.single.connection.info.protocol what) _ _ (λ _. refl)
+    (λ _. chosen (λ (x : Turning). x.core.timers ≡ t.core.timers) (length (packed_bytes what) == 0) _ _ (λ _. refl) (λ _. refl)))
 
 requested_timers : (t : Turning) (kind : EventKind) → (requested t kind).core.timers ≡ t.core.timers
 requested_timers t (event.Submit what) = submitted_timers t what

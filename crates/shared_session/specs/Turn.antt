@@ -14,7 +14,7 @@ use Rattle.driver_model.specs.declared.event.EventKind.TheVariants as event
 use Rattle.driver_model.specs.declared.event.Submission.{Submission}
 use Rattle.driver_model.specs.declared.outcome.Outcome.TheVariants as outcome
 use Rattle.driver_model.specs.News.{news_of}
-use Rattle.driver_model.specs.Request.{packed_bytes, shape_of, is_reply_awaited, has_no_form}
+use Rattle.driver_model.specs.Request.{packed_bytes, shape_of, is_reply_awaited, lacks_resp3, has_no_form}
 use Rattle.mux_conn.specs.declared.act.LinkAct.{LinkAct}
 use Rattle.mux_conn.specs.declared.act.LinkAct.TheVariants as act
 use Rattle.mux_conn.specs.declared.life.Life.{Life}
@@ -86,6 +86,7 @@ asked_for t what =
 abbrev pub submitted : Turning → Submission → Turning
 submitted t what =
     if t.core.shut then refused_with t error.Closed
+    else if lacks_resp3 t.core.single.connection.info.protocol what then refused_with t error.Resp3Required
     else if length (packed_bytes what) == 0 then refused_with t error.EmptyCommand
     else asked_for t what
 

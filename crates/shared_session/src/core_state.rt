@@ -143,7 +143,8 @@ impl Core {
         self.table.push(Some(pending))
     }
 
-    /// A caller hands in a request.
+    /// A caller hands in a request, which is refused after the shutdown, where it needs RESP3 and the server is told another
+    /// protocol, and where it has no bytes.
     fn submit(
         &mut self,
         alloc: Global,
@@ -163,6 +164,9 @@ impl Core {
     {
         if self.shut {
             return self.refuse(RedisError::Closed, acts);
+        }
+        if submission.lacks_resp3(self.single.connection.info.protocol) {
+            return self.refuse(RedisError::Resp3Required, acts);
         }
         let packed = submission.packed(alloc)?;
         if packed.is_empty() {

@@ -10,6 +10,7 @@ use Rattle.driver_model.specs.declared.event.EventKind.{EventKind}
 use Rattle.driver_model.specs.declared.event.EventKind.TheVariants as event
 use Rattle.driver_model.specs.declared.event.Submission.{Submission}
 use Rattle.driver_model.specs.declared.event.Submission.TheVariants as submission
+use Rattle.resp_write.specs.declared.subscription.SubscriptionAction.TheVariants as call
 use Rattle.driver_model.specs.Request.{is_single_nameless, has_no_form}
 use Rattle.redis_error.specs.declared.fault_kind.FaultKind.{FaultKind}
 use Rattle.redis_error.specs.declared.fault_kind.FaultKind.TheVariants as fault
@@ -17,7 +18,7 @@ use Rattle.redis_error.specs.Names.{fault_name}
 use Rattle.script_text.specs.Numbers.{number, max_u32, max_u64, time_limit, switch}
 use Rattle.script_text.specs.ConfigLine.{is_setting, keys, values, only, allows, given, config_of, opening_of}
 use Rattle.script_text.specs.Draws.{drawn}
-use Rattle.script_text.specs.EventLine.{by_first, commands, submissions, faults, fault_among, failed, others, events, drawing, event_of}
+use Rattle.script_text.specs.EventLine.{by_first, commands, calls, submissions, faults, fault_among, failed, others, events, drawing, event_of}
 use Rattle.script_text.specs.Words.{LineWords, all_of}
 use Rattle.legal_trace.specs.Legal.{event_causes}
 use Rattle.trace_text.specs.Show.{url, draw_words, connect_words, response_words, buffer_words, limit_words, boundary_words, lib_words, times_words, numbers_words, later_words, config_words, time_word, first_of, behind_first, submission_words, submission_more, event_words, event_more}
@@ -41,6 +42,7 @@ commands_back ([] ∷ command ∷ rest) form = refl
 commands_back ((word ∷ words) ∷ rest) form = refl
 
 submission_back : (s : Submission) → FitsSubmission s → has_no_form s ≡ false → by_first submissions (submission_words s) (submission_more s) ≡ Some s
+unfolding calls
 submission_back (submission.Cmd args) fits form = refl
 submission_back (submission.NoReply args) fits form = refl
 submission_back (submission.Pipe all) fits form = ap (λ cs. Some (submission.Pipe cs)) (commands_back all form)
@@ -49,6 +51,12 @@ submission_back (submission.Packed offset count all) fits form =
     ap (option_and_then (λ o. option_map (λ c. submission.Packed o c (commands (first_of all) (behind_first all))) (number max_u32 (decimal count)))) (small_number offset fits.0)
     ∙ ap (option_map (λ c. submission.Packed offset c (commands (first_of all) (behind_first all)))) (small_number count fits.1)
     ∙ ap (λ cs. Some (submission.Packed offset count cs)) (commands_back all form)
+submission_back (submission.Subscription call.Subscribe names) fits form = refl
+submission_back (submission.Subscription call.Unsubscribe names) fits form = refl
+submission_back (submission.Subscription call.PSubscribe names) fits form = refl
+submission_back (submission.Subscription call.PUnsubscribe names) fits form = refl
+submission_back (submission.Subscription call.SSubscribe names) fits form = cc form
+submission_back (submission.Subscription call.Sunsubscribe names) fits form = cc form
 
 fault_back : (kind : FaultKind) → fault_among faults (fault_name kind) ≡ Some kind
 fault_back fault.Refused = refl

@@ -16,11 +16,13 @@ use Rattle.driver_model.specs.declared.event.EventKind.{EventKind}
 use Rattle.driver_model.specs.declared.event.EventKind.TheVariants as event
 use Rattle.driver_model.specs.declared.event.Submission.{Submission}
 use Rattle.driver_model.specs.declared.event.Submission.TheVariants as submission
+use Rattle.resp_write.specs.declared.subscription.SubscriptionAction.{SubscriptionAction}
+use Rattle.resp_write.specs.declared.subscription.SubscriptionAction.TheVariants as call
 use Rattle.redis_error.specs.declared.fault_kind.FaultKind.{FaultKind}
 use Rattle.redis_error.specs.declared.fault_kind.FaultKind.TheVariants as fault
 use Rattle.redis_error.specs.Names.{fault_name}
 use Rattle.script_text.specs.Numbers.{is_decimal, number}
-use Rattle.trace_text.specs.Show.{url, connect_words, response_words, buffer_words, limit_words, boundary_words, lib_words, times_words, numbers_words, later_words, time_word, draw_words, config_words, first_of, behind_first, submission_words, submission_more, event_words, event_more, cause_words, cause_more}
+use Rattle.trace_text.specs.Show.{url, connect_words, response_words, buffer_words, limit_words, boundary_words, lib_words, times_words, numbers_words, later_words, time_word, draw_words, config_words, first_of, behind_first, call_word, submission_words, submission_more, event_words, event_more, cause_words, cause_more}
 use Rattle.containers.proofs.Choices.{chosen, lt_from, not_lt_from, le_test, ne_test}
 use Rattle.text_laws.specs.Fits.{IsByte, AreBytes, FitsSubmission, FitsKind, FitsEvent, FitsConfig}
 
@@ -118,6 +120,14 @@ behind_bytes : (commands : List (List (List ℕ))) → All (All AreBytes) comman
 behind_bytes [] small = All-nil (All AreBytes)
 behind_bytes (command ∷ commands) small = All-tail (All AreBytes) command commands small
 
+call_bytes : (what : SubscriptionAction) → AreBytes (call_word what)
+call_bytes call.Subscribe = looked (codes "subscribe") refl
+call_bytes call.Unsubscribe = looked (codes "unsubscribe") refl
+call_bytes call.PSubscribe = looked (codes "psubscribe") refl
+call_bytes call.PUnsubscribe = looked (codes "punsubscribe") refl
+call_bytes call.SSubscribe = looked (codes "ssubscribe") refl
+call_bytes call.Sunsubscribe = looked (codes "sunsubscribe") refl
+
 submission_bytes : (s : Submission) → FitsSubmission s → All AreBytes (submission_words s)
 submission_bytes (submission.Cmd args) fits = word_and (codes "cmd") args (looked (codes "cmd") refl) fits
 submission_bytes (submission.NoReply args) fits = word_and (codes "noreply") args (looked (codes "noreply") refl) fits
@@ -126,6 +136,7 @@ submission_bytes (submission.Multi commands) fits = word_and (codes "multi") (fi
 submission_bytes (submission.Packed offset count commands) fits =
     word_and (codes "packed") (decimal offset ∷ decimal count ∷ first_of commands) (looked (codes "packed") refl)
     (word_and (decimal offset) (decimal count ∷ first_of commands) (decimal_bytes offset) (word_and (decimal count) (first_of commands) (decimal_bytes count) (first_bytes commands fits.2)))
+submission_bytes (submission.Subscription what names) fits = word_and (call_word what) names (call_bytes what) fits
 
 submission_more_bytes : (s : Submission) → FitsSubmission s → All (All AreBytes) (submission_more s)
 submission_more_bytes (submission.Cmd args) fits = All-nil (All AreBytes)
@@ -133,6 +144,7 @@ submission_more_bytes (submission.NoReply args) fits = All-nil (All AreBytes)
 submission_more_bytes (submission.Pipe commands) fits = behind_bytes commands fits
 submission_more_bytes (submission.Multi commands) fits = behind_bytes commands fits
 submission_more_bytes (submission.Packed offset count commands) fits = behind_bytes commands fits.2
+submission_more_bytes (submission.Subscription what names) fits = All-nil (All AreBytes)
 
 time_bytes : (ms : Option ℕ) → AreBytes (time_word ms)
 time_bytes None = looked (codes "none") refl

@@ -42,6 +42,7 @@ goes_on_alone (event.Submit (submission.NoReply args)) = refl
 goes_on_alone (event.Submit (submission.Pipe commands)) = refl
 goes_on_alone (event.Submit (submission.Multi commands)) = refl
 goes_on_alone (event.Submit (submission.Packed offset count commands)) = refl
+goes_on_alone (event.Submit (submission.Subscription what names)) = refl
 goes_on_alone (event.Cancel s) = refl
 goes_on_alone (event.Connected link) = refl
 goes_on_alone (event.Refused link kind) = refl

@@ -11,7 +11,7 @@ use Rattle.redis_error.specs.declared.fault_kind.FaultKind.{FaultKind}
 use Rattle.script_text.specs.Numbers.{number, max_u32, max_u64, time_limit}
 use Rattle.script_text.specs.Words.{LineWords}
 use Rattle.script_text.specs.Draws.{is_draw, drawn}
-use Rattle.script_text.specs.EventLine.{Forms, by_first, whole, numbered, wrote, came, timed, alone, faults, fault_among, failed, commands, packed, submissions, others, events, drawing, event_of}
+use Rattle.script_text.specs.EventLine.{Forms, by_first, whole, numbered, wrote, came, timed, alone, faults, fault_among, failed, commands, packed, calls, submissions, others, events, drawing, event_of}
 use Rattle.containers.proofs.Choices.{chosen}
 use Rattle.text_laws.specs.Fits.{AreBytes, FitsCommands, FitsSubmission, FitsNumber, FitsLimit, FitsKind, FitsEvent, HasForm}
 use Rattle.text_laws.proofs.Held.{mapped, then_read, any_read, number_within}
@@ -126,9 +126,19 @@ packed_fits (offset ∷ count ∷ first) more small behind =
     (λ o within. mapped (λ c. c ≤ max_u32) SaidSubmission (λ c. Packed o c (commands first more)) (λ c few. ((omega arith, omega arith, fits.0), fits.1)) (number max_u32 count) (small_number count))
     (number max_u32 offset) (small_number offset)
 
+calls_fit : AllRead SaidSubmission calls
+unfolding calls
+calls_fit = (
+  whole_fits SaidSubmission _ (λ names each. (each, refl)),
+  (
+    whole_fits SaidSubmission _ (λ names each. (each, refl)),
+    (whole_fits SaidSubmission _ (λ names each. (each, refl)), (whole_fits SaidSubmission _ (λ names each. (each, refl)), tt)),
+  ),
+)
+
 submissions_fit : AllRead SaidSubmission submissions
 submissions_fit =
-    (whole_fits SaidSubmission _ (λ args each. (each, refl)), (whole_fits SaidSubmission _ (λ args each. (each, refl)), (commands_fit, (commands_fit, (packed_fits, tt)))))
+    (whole_fits SaidSubmission _ (λ args each. (each, refl)), (whole_fits SaidSubmission _ (λ args each. (each, refl)), (commands_fit, (commands_fit, (packed_fits, calls_fit)))))
 
 submitted_fits : ReadsAll SaidKind (λ words more. option_map Submit (by_first submissions words more))
 submitted_fits words more small behind =

@@ -28,6 +28,7 @@ FitsSubmission (submission.NoReply args) = All AreBytes args
 FitsSubmission (submission.Pipe commands) = FitsCommands commands
 FitsSubmission (submission.Multi commands) = FitsCommands commands
 FitsSubmission (submission.Packed offset count commands) = (offset < 2 ^ 32) × (count < 2 ^ 32) × FitsCommands commands
+FitsSubmission (submission.Subscription what names) = All AreBytes names
 
 -- a number that is less than this, where there is one
 abbrev pub FitsNumber : ℕ → Option ℕ → Type 0

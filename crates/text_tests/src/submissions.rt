@@ -7,7 +7,11 @@ use std::test::Fail;
 const CONFIG: &[u8] = b"config single url=redis://h:6379 connect=none response=none lib=off\n";
 
 /// Lines, each with its submission: a list has each command in brackets, and a comma between two words.
-const SUBMISSIONS: [(&[u8], &[u8]); 21] = [
+const SUBMISSIONS: [(&[u8], &[u8]); 25] = [
+    (b"submit subscribe", b"SUBSCRIBE[]"),
+    (b"submit unsubscribe a b", b"UNSUBSCRIBE[a,b]"),
+    (b"submit psubscribe a*", b"PSUBSCRIBE[a*]"),
+    (b"submit punsubscribe a*", b"PUNSUBSCRIBE[a*]"),
     (b"submit cmd", b"cmd []"),
     (b"submit cmd GET a", b"cmd [GET,a]"),
     (b"submit cmd GET %3B", b"cmd [GET,;]"),
@@ -84,6 +88,9 @@ fn show_in(alloc: Global, out: &mut Bytes, submission: &Submission) -> Result<()
             count,
             commands,
         } => show_packed(alloc, out, *offset, *count, commands.as_slice()),
+        Submission::Subscription { action, names } => {
+            show_word(out, action.word(), names.as_slice())
+        }
     }
 }
 

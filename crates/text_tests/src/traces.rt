@@ -60,6 +60,8 @@ enum Reply {
     Nothing,
     /// A number, and a server error.
     Two,
+    /// A subscription call is done.
+    Done,
     Fault(Fault),
 }
 
@@ -276,7 +278,7 @@ const EVENTS: [(Deed, &str); 18] = [
 ];
 
 /// Starts, permits, times, waits, and how requests end.
-const REQUESTS: [(Deed, &str); 15] = [
+const REQUESTS: [(Deed, &str); 16] = [
     (
         Deed::Start(7, Owner::Setup, 3, 4_294_967_296),
         "start 7 0 setup 3 4294967296\n",
@@ -319,6 +321,7 @@ const REQUESTS: [(Deed, &str); 15] = [
         Deed::Outcome(1, Reply::Two),
         "outcome s1 many *2%0D%0A:1%0D%0A-ERR%20bad%0D%0A\n",
     ),
+    (Deed::Outcome(2, Reply::Done), "outcome s2 done\n"),
 ];
 
 fn names(alloc: Global, words: &[&[u8]]) -> Result<Names, AllocError> {
@@ -458,6 +461,7 @@ fn replied(alloc: Global, reply: Reply) -> Result<Outcome, AllocError> {
         Reply::Bulk(text) => Ok(Outcome::One(Value::BulkString(bytes(alloc, text)?))),
         Reply::Nothing => Ok(Outcome::Many(Values::new(alloc))),
         Reply::Two => Ok(Outcome::Many(two(alloc)?)),
+        Reply::Done => Ok(Outcome::Done),
         Reply::Fault(fault) => Ok(Outcome::Fault(error(alloc, fault)?)),
     }
 }

@@ -25,7 +25,7 @@ use Rattle.trace_examples.specs.Claims.{IsTraceIn}
 use Rattle.trace_examples.proofs.Due.{IsPlace, legal}
 
 -- the place of a server whose URL is this
-at_url : (url : List ℕ) (connect : Option (Option ℕ)) (lib : Option Bool) (info : ConnectionInfo) → address (told_at url connect lib) ≡ Some info → IsPlace (told_at url connect lib) info.host info.port
+pub at_url : (url : List ℕ) (connect : Option (Option ℕ)) (lib : Option Bool) (info : ConnectionInfo) → address (told_at url connect lib) ≡ Some info → IsPlace (told_at url connect lib) info.host info.port
 at_url url connect lib info e = record { sound = ap (λ a. fault_in a None 50) e; info = info; configured = e; is = (refl, refl) }
 
 -- the server with the password

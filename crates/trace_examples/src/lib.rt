@@ -66,6 +66,8 @@ ghost use Rattle.trace_examples.specs.Setups.{by_default, of_a_held_user, counte
 ghost use Rattle.trace_examples.specs.Setups.{said_later, named_in_time};
 ghost use Rattle.trace_examples.specs.Setups.{overdue_during, waited_for_both, setup_fronts};
 ghost use Rattle.trace_examples.specs.Traces.{opening};
+ghost use Rattle.trace_examples.specs.Calls.{of_third, call_of_c, hello_well, confirmation};
+ghost use Rattle.trace_examples.specs.Calls.{denied_line, denial, called};
 ghost use Rattle.trace_examples.specs.Claims.{IsTraceOf, IsTraceIn};
 ghost use Rattle.trace_examples.specs.Claims.{NoneBegins, NoneBeginsIn, NoneIs};
 
@@ -623,4 +625,29 @@ pub fn nor_are_these_beside_a_setup()
         (action.Wait (owner.Try 0 0) wait.Connect) }
     ensures connect_stands { (number : ℕ) (c : Cause)
         → NoneBeginsIn secured waited_for_both (action.Turn number c) }
+{}
+
+/// Does nothing. Its contract: these are legal too. A subscription call is one command; on a link
+/// that speaks RESP3 it is done once the server has confirmed it, or has the error that came in
+/// place of that; on any other it is refused at once.
+pub fn these_calls_are_legal()
+    ensures confirmed { IsTraceIn of_third
+        (event.Connected 0 ∷ event.Bytes 0 hello_well ∷ event.Submit call_of_c
+        ∷ event.Bytes 0 confirmation ∷ []) called
+        (turn 4 (event.Bytes 0 confirmation) ∷ action.Outcome 0 outcome.Done ∷ []) }
+    ensures denied { IsTraceIn of_third
+        (event.Connected 0 ∷ event.Bytes 0 hello_well ∷ event.Submit call_of_c
+        ∷ event.Bytes 0 denied_line ∷ []) called
+        (turn 4 (event.Bytes 0 denied_line)
+        ∷ action.Outcome 0 (outcome.Fault (error.Server denial)) ∷ []) }
+    ensures refused { IsTraceOf
+        (event.Connected 0 ∷ event.Submit call_of_c ∷ []) came_up
+        (turn 2 (event.Submit call_of_c)
+        ∷ action.Outcome 0 (outcome.Fault error.Resp3Required) ∷ []) }
+{}
+
+/// Does nothing. Its contract: no trace that begins so is legal, whatever its events were and
+/// whatever comes after: a subscription call that is done before it is confirmed.
+pub fn nor_is_this_call()
+    ensures { NoneBeginsIn of_third called (action.Outcome 0 outcome.Done) }
 {}

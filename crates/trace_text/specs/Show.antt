@@ -6,6 +6,8 @@ use Rattle.redis_error.specs.Names.{fault_name}
 use Rattle.redis_error.specs.declared.redis_error.RedisError.{RedisError}
 use Rattle.resp_value.specs.View.{data_of}
 use Rattle.driver_model.specs.declared.config.Config.{Config}
+use Rattle.resp_write.specs.declared.subscription.SubscriptionAction.{SubscriptionAction}
+use Rattle.resp_write.specs.declared.subscription.SubscriptionAction.TheVariants as call
 use Rattle.driver_model.specs.declared.event.Submission.{Submission}
 use Rattle.driver_model.specs.declared.event.Submission.TheVariants as submission
 use Rattle.driver_model.specs.declared.event.EventKind.{EventKind}
@@ -21,7 +23,7 @@ use Rattle.driver_model.specs.declared.action.Cause.TheVariants.{Opening, Event}
 use Rattle.driver_model.specs.declared.action.Action.{Action}
 use Rattle.driver_model.specs.declared.action.Action.TheVariants as action
 use Rattle.driver_model.specs.declared.outcome.Outcome.{Outcome}
-use Rattle.driver_model.specs.declared.outcome.Outcome.TheVariants.{One, Many, Fault}
+use Rattle.driver_model.specs.declared.outcome.Outcome.TheVariants.{One, Many, Done, Fault}
 use Rattle.resp_write.specs.Canonical.{canonical}
 use Rattle.trace_text.specs.Words.{line_of}
 use Rattle.trace_text.specs.Errors.{error_words}
@@ -118,12 +120,22 @@ abbrev pub behind_first : List (List (List ℕ)) → List (List (List ℕ))
 behind_first [] = []
 behind_first (command ∷ commands) = commands
 
+-- the name of a subscription call
+abbrev pub call_word : SubscriptionAction → List ℕ
+call_word call.Subscribe = codes "subscribe"
+call_word call.Unsubscribe = codes "unsubscribe"
+call_word call.PSubscribe = codes "psubscribe"
+call_word call.PUnsubscribe = codes "punsubscribe"
+call_word call.SSubscribe = codes "ssubscribe"
+call_word call.Sunsubscribe = codes "sunsubscribe"
+
 abbrev pub submission_words : Submission → List (List ℕ)
 submission_words (submission.Cmd args) = codes "cmd" ∷ args
 submission_words (submission.NoReply args) = codes "noreply" ∷ args
 submission_words (submission.Pipe commands) = codes "pipe" ∷ first_of commands
 submission_words (submission.Multi commands) = codes "multi" ∷ first_of commands
 submission_words (submission.Packed offset count commands) = codes "packed" ∷ decimal offset ∷ decimal count ∷ first_of commands
+submission_words (submission.Subscription what names) = call_word what ∷ names
 
 -- the words behind separators: the commands of a list but for the first
 abbrev pub submission_more : Submission → List (List (List ℕ))
@@ -132,6 +144,7 @@ submission_more (submission.NoReply args) = []
 submission_more (submission.Pipe commands) = behind_first commands
 submission_more (submission.Multi commands) = behind_first commands
 submission_more (submission.Packed offset count commands) = behind_first commands
+submission_more (submission.Subscription what names) = []
 
 abbrev pub event_words : EventKind → List (List ℕ)
 event_words (event.Submit s) = codes "submit" ∷ submission_words s
@@ -167,6 +180,7 @@ script_line c = line_of (cause_words c) (cause_more c)
 abbrev pub outcome_words : Outcome → List (List ℕ)
 outcome_words (One value) = codes "ok" ∷ canonical (data_of value) ∷ []
 outcome_words (Many values) = codes "many" ∷ canonical (array (items_of values)) ∷ []
+outcome_words Done = codes "done" ∷ []
 outcome_words (Fault error) = codes "err" ∷ error_words error
 
 -- what a timer is asked for

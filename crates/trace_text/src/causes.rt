@@ -6,13 +6,14 @@ ghost use Rattle.trace_text.specs.Show.{boundary_words, buffer_words, limit_word
 ghost use Rattle.trace_text.specs.Show.{lib_words};
 ghost use Rattle.trace_text.specs.Show.{later_words, numbers_words, times_words, time_word};
 ghost use Rattle.trace_text.specs.Show.{cause_more, cause_words, event_more, event_words};
-ghost use Rattle.trace_text.specs.Show.{submission_more, submission_words};
+ghost use Rattle.trace_text.specs.Show.{submission_more, submission_words, call_word};
 ghost use Rattle.trace_text.specs.Writer.{Added, AddedWords, AddedParts};
 
 use crate::writer::Writer;
 use containers::{Bytes, Names};
 use driver_model::{Cause, Config, Event, EventKind, Submission};
 use redis_error::FaultKind;
+use resp_write::SubscriptionAction;
 use std::alloc::AllocError;
 
 impl Writer {
@@ -215,6 +216,10 @@ impl Writer {
                 self.number(u64::from(*count))?;
                 self.commands(commands.as_slice())
             }
+            Submission::Subscription { action, names } => {
+                self.word(call_word(*action))?;
+                self.arguments(names.as_slice())
+            }
         }
     }
 
@@ -309,5 +314,19 @@ impl Writer {
             Cause::Opening { config, word } => self.opening(config, *word),
             Cause::Event { event } => self.drawn_event(event),
         }
+    }
+}
+
+/// The name of a subscription call.
+fn call_word(action: SubscriptionAction) -> &'static [u8]
+    ensures { result.now ≡ call_word action }
+{
+    match action {
+        SubscriptionAction::Subscribe => b"subscribe",
+        SubscriptionAction::Unsubscribe => b"unsubscribe",
+        SubscriptionAction::PSubscribe => b"psubscribe",
+        SubscriptionAction::PUnsubscribe => b"punsubscribe",
+        SubscriptionAction::SSubscribe => b"ssubscribe",
+        SubscriptionAction::Sunsubscribe => b"sunsubscribe",
     }
 }

@@ -22,6 +22,7 @@ impl Writer {
                 self.literal(b"many")?;
                 self.list_word(values)
             }
+            Outcome::Done => self.literal(b"done"),
             Outcome::Fault(error) => {
                 self.literal(b"err")?;
                 self.error(error)

@@ -4,8 +4,8 @@ use Rattle.cancel_laws.proofs.a_submission_on_a_link_that_is_up_has_started.Goal
 
 pub returns : goal.returns
 returns c = record {
-  free = λ s some awaited config word draw before free. free_started config word draw before s some awaited free;
-  any = λ s some awaited config word draw later sound silent. any_started config word draw later s some awaited sound silent;
+  free = λ s some awaited config word draw before free spoken. free_started config word draw before s some awaited free spoken;
+  any = λ s some awaited plain config word draw later sound silent. any_started config word draw later s some awaited plain sound silent;
   command = λ name args config word draw later sound silent. command_started config word draw later name args sound silent;
   pipeline = λ name args more config word draw later sound silent. pipeline_started config word draw later name args more sound silent;
   transaction = λ args more config word draw later sound silent. transaction_started config word draw later args more sound silent;
