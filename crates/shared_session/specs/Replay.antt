@@ -35,7 +35,7 @@ opening_core config word = record {
   timeout = response_timeout config;
   timers = connect_timers (connect_timeout config);
   table = [];
-  single = record { link = first_link; connection = dialing (buffer_size config) (boundary config) config.limit (told_info config) };
+  single = record { link = first_link; connection = dialing (buffer_size config) (boundary config) config.limit (hears_pushes config) (told_info config) };
 }
 
 -- the timer of the opening is asked for
