@@ -145,6 +145,10 @@ is_set_up l = is_well (setup_result l)
 abbrev pub is_ready : Ledger → Bool
 is_ready l = l.up && is_set_up l
 
+-- it was full when so many items had been dealt
+abbrev pub is_full_by : Ledger → ℕ → ℕ → Bool
+is_full_by l count k = nat_le (reached l (k + 1)) count
+
 -- items come: as many are dealt as the starts before them still take, and the others are dropped
 abbrev pub items_came : Ledger → List Data → Ledger
 items_came l more = record l { dealt = l.dealt ++ take (reach l.starts l.dealt - length l.dealt) more }

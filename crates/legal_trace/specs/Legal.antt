@@ -1,7 +1,7 @@
 -- When a trace can be relied on: said of its book alone, apart from any machine. A turn has five segments: the event's own
 -- effect, the passes, the writes, the waits, and the closes of links that nothing uses any more, of which there are none on
 -- one connection. An action stands where it is the next that is due, once all before it are done.
-use Rattle.std.specs.Prelude.{◌≡◌, ◌≢◌, ◌⊎◌, ℕ, ◌+◌, ◌<◌, nat_le, Bool, true, false, List, [], ◌∷◌, length, Option, Some, None}
+use Rattle.std.specs.Prelude.{◌≡◌, ◌≢◌, ◌⊎◌, ℕ, ◌<◌, Bool, true, false, List, [], ◌∷◌, length, Option, Some, None}
 use Rattle.redis_error.specs.declared.redis_error.RedisError.{RedisError}
 use Rattle.resp_value.specs.declared.value.Value.TheVariants.{Nil}
 use Rattle.connection_info.specs.declared.address.ConnectionInfo.{ConnectionInfo}
@@ -21,7 +21,7 @@ use Rattle.driver_model.specs.Push.{is_disconnection}
 use Rattle.driver_model.specs.declared.push_info.PushInfo.{PushInfo}
 use Rattle.driver_model.specs.Config.{address, connect_timeout, first_fault, hears_pushes}
 use Rattle.driver_model.specs.Shape.{need_of}
-use Rattle.legal_trace.specs.Ledger.{Ledger, Heard, Ending, IsOffered, reached, is_full, is_over, is_ready, is_cut, ending, failure_in, next_push, setup_due, setup_message, unwritten}
+use Rattle.legal_trace.specs.Ledger.{Ledger, Heard, Ending, IsOffered, is_full, is_full_by, is_over, is_ready, is_cut, ending, failure_in, next_push, setup_due, setup_message, unwritten}
 use Rattle.legal_trace.specs.Story.{Try, last_of, is_open, is_unstarted, bytes_of, shape}
 use Rattle.legal_trace.specs.Book.{Book, blank_book, book, entered, current}
 use Rattle.legal_trace.specs.Owed.{owed}
@@ -172,10 +172,6 @@ pub record MayTimeConnect (b : Book) (t ms : ℕ) (what : Purpose) : Type 0 wher
   pub first : b.timers ≡ []
   pub next : t ≡ length b.timers
   pub is_for : what ≡ purpose.Connect (current b)
-
--- the message that started as number k was full when so many items had been dealt
-abbrev pub is_full_by : Ledger → ℕ → ℕ → Bool
-is_full_by l count k = nat_le (reached l (k + 1)) count
 
 -- its last message was full before this push came
 pub record IsBefore (b : Book) (n : ℕ) (p : Heard) : Type 0 where
