@@ -14,3 +14,4 @@ pub mod Pieces
 pub mod Bounds
 pub mod AlikeRuns
 pub mod Started
+pub mod Pushes
