@@ -11,6 +11,7 @@ use Rattle.resp_read.specs.Items.{is_item, items, items_among}
 use Rattle.driver_model.specs.declared.action.Owner.{Owner}
 use Rattle.driver_model.specs.declared.outcome.Shape.{Shape}
 use Rattle.driver_model.specs.Config.{bare_info}
+use Rattle.driver_model.specs.Push.{is_disconnection}
 use Rattle.driver_model.specs.Setup.{says_nothing}
 use Rattle.driver_model.specs.Shape.{need_of, verdict_of}
 use Rattle.link_core.specs.declared.message.Entry.{Entry}
@@ -28,6 +29,7 @@ use Rattle.link_laws.proofs.Choices.{chosen_both, lt_test, not_lt_test}
 use Rattle.link_laws.proofs.Lists.{take_none}
 use Rattle.link_laws.proofs.Dealt.{IsCutOf, IsDealt, all_append, cut_at, cut_more, cut_within, each_dealt, first_wanted, full_cut, full_from, items_with, one_wanted, taken_item}
 use Rattle.link_laws.proofs.Pieces.{value_then}
+use Rattle.link_laws.proofs.PushKinds.{IsFromText, values_from_text}
 use Rattle.link_laws.proofs.Rows.{open_list, open_of, open_rows, open_rows-item}
 use Rattle.link_laws.proofs.Settles.{full_owes}
 use Rattle.link_laws.proofs.TiedLink.{TiedLink, deals, has_heard}
@@ -501,12 +503,15 @@ none_heard l (v ∷ vs) shaped unset =
     unset in
     (λ i. heard_nothing l v here i ++ later i)
 
+-- the items that a ledger has dealt with its own rest
+then_dealt : (l : Ledger) (piece : List ℕ) → (has_heard l piece).dealt ≡ items_then l.starts l.dealt (values (l.rest ++ piece))
+then_dealt l piece = ap (items_with (reach l.starts l.dealt) l.dealt) (items_are (l.rest ++ piece)) ∙ sym (then_is l.starts l.dealt (values (l.rest ++ piece)))
+
 -- so it is where its setup isn't answered when bytes have come, or failed, or is to be repeated
 pub heard_none : (l : Ledger) (piece : List ℕ) → AreSetups l → is_set_up (has_heard l piece) ≡ false → heard_each l (values (l.rest ++ piece)) ≡ []
 heard_none l piece shaped unset =
     let vs = values (l.rest ++ piece) in
-    let same : (has_heard l piece).dealt ≡ items_then l.starts l.dealt vs = ap (items_with (reach l.starts l.dealt) l.dealt) (items_are (l.rest ++ piece)) ∙ sym (then_is l.starts l.dealt vs) in
-    none_heard l vs shaped (sym (ap (λ (ds : List Data). is_set_up (record l { dealt = ds })) same) ∙ unset)
+    none_heard l vs shaped (sym (ap (λ (ds : List Data). is_set_up (record l { dealt = ds })) (then_dealt l piece)) ∙ unset)
 
 -- the pushes behind the first settled message
 abbrev pub behind_first : List PushAt → List PushAt
@@ -585,3 +590,46 @@ setup_heard name l s piece k x xs last says shaped lives sound h out set =
     subst (λ (qs : List PushAt). SayTheSame (behind_first qs) (heard_each l (values (l.rest ++ piece)))) (sym (gives_all s piece sound))
     (subst (λ (ks : List Heard). SayTheSame (behind_first ps) ks) (sym heard_is)
     (behind_says far ps hs (all_say ss l.dealt (record { row = s.row; out = [] }) vs) apart))
+
+-- what is heard
+--
+-- no push comes behind more items than are dealt
+each_within : (l : Ledger) (vs : List Data) → AllByRecursion (λ (h : Heard). h.after ≤ length (items_then l.starts l.dealt vs)) (heard_each l vs)
+each_within l [] = tt
+each_within l (v ∷ vs) =
+    let ss = l.starts in
+    let before = l.dealt in
+    let all = items_then ss before (v ∷ vs) in
+    let grown = then_grows ss before (v ∷ vs) in
+    let long : length all ≡ length (before ++ grown.0) = ap length grown.1 in
+    all_append (λ (h : Heard). h.after ≤ length all) (heard_at l v) (heard_each (value_came l v) vs)
+    (one_within l v (length all) (omega (arith, long, length-append before grown.0)))
+    (chosen_both (λ (x : Ledger) (ys : List Data). AllByRecursion (λ (h : Heard). h.after ≤ length (items_then ss ys vs)) (heard_each x vs)) (is_item v) (items_came l (v ∷ [])) l (items_with (reach ss before) before (v ∷ [])) before
+    (λ t. each_within (items_came l (v ∷ [])) vs)
+    (λ f. each_within l vs))
+  where
+    one_within : (l : Ledger) (v : Data) (n : ℕ) → length l.dealt ≤ n → AllByRecursion (λ (h : Heard). h.after ≤ n) (heard_at l v)
+    one_within l (push kind parts) n few = chosen (AllByRecursion (λ (h : Heard). h.after ≤ n)) (is_set_up l) _ [] (λ t. (few, tt)) (λ f. tt)
+    one_within l _ n few = tt
+
+-- so of bytes that come
+pub heard_within : (l : Ledger) (piece : List ℕ) (i : ℕ) (h : Heard) → slice_get (heard_each l (values (l.rest ++ piece))) i ≡ Some h → h.after ≤ length (has_heard l piece).dealt
+heard_within l piece i h e =
+    let vs = values (l.rest ++ piece) in
+    let few : h.after ≤ length (items_then l.starts l.dealt vs) = at_place (λ (k : Heard). k.after ≤ length (items_then l.starts l.dealt vs)) (heard_each l vs) i h (each_within l vs) e in
+    let long : length (has_heard l piece).dealt ≡ length (items_then l.starts l.dealt vs) = ap length (then_dealt l piece) in
+    omega (arith, few, long)
+
+-- no push that is read tells that a link has ended
+each_from_text : (l : Ledger) (vs : List Data) → AllByRecursion IsFromText vs → AllByRecursion (λ (h : Heard). is_disconnection h.info.kind ≡ false) (heard_each l vs)
+each_from_text l [] all = tt
+each_from_text l (v ∷ vs) all =
+    all_append (λ (h : Heard). is_disconnection h.info.kind ≡ false) (heard_at l v) (heard_each (value_came l v) vs) (one_from_text l v all.0) (each_from_text (value_came l v) vs all.1)
+  where
+    one_from_text : (l : Ledger) (v : Data) → IsFromText v → AllByRecursion (λ (h : Heard). is_disconnection h.info.kind ≡ false) (heard_at l v)
+    one_from_text l (push kind parts) text = chosen (AllByRecursion (λ (h : Heard). is_disconnection h.info.kind ≡ false)) (is_set_up l) _ [] (λ t. (text, tt)) (λ f. tt)
+    one_from_text l _ text = tt
+
+-- so none that is heard does
+pub heard_kind : (l : Ledger) (bytes : List ℕ) (i : ℕ) (h : Heard) → slice_get (heard_each l (values bytes)) i ≡ Some h → is_disconnection h.info.kind ≡ false
+heard_kind l bytes i h e = at_place (λ (k : Heard). is_disconnection k.info.kind ≡ false) (heard_each l (values bytes)) i h (each_from_text l (values bytes) (values_from_text bytes)) e
