@@ -192,8 +192,8 @@ heard_from l (v ∷ vs) all far h e =
     let l0 = le_from far (length before) t in
     let kept = all_kept far rest (all_after far ss (items_after ss before v) vs (omega (arith, l0, after_long ss before v))) in
     let whole = all_kept far (push_after before v ++ rest) (all_after far ss before (v ∷ vs) l0) in
-    (λ i. heard_one l v (here ∙ t) i ++ (later ∙ kept) i) ∙ sym whole)
-    (λ f. (λ i. heard_nothing l v (here ∙ f) i ++ later i) ∙ sym (one_dropped far before v rest f))
+    ap (λ (hs : List Heard). hs ++ heard_each (value_came l v) vs) (heard_one l v (here ∙ t)) ∙ ap (λ (hs : List Heard). push_after before v ++ hs) (later ∙ kept) ∙ sym whole)
+    (λ f. ap (λ (hs : List Heard). hs ++ heard_each (value_came l v) vs) (heard_nothing l v (here ∙ f)) ∙ later ∙ sym (one_dropped far before v rest f))
 
 -- a link that is set up, and stays so whatever items come
 abbrev pub StaysSetUp : Ledger → Type 0
@@ -378,17 +378,17 @@ new_between name ss before now vs all d n s e long h =
     let far : reach (take (suc k) ss) all ≡ reach (take (suc k) ss) now = reach_alike (take (suc k) ss) all now in
     let far_before : reach (take (suc k) ss) all ≡ reach (take (suc k) ss) before = reach_alike (take (suc k) ss) all before in
     let whole : length all ≡ length (now ++ grown.0) = ap length (sym is) in
-    let full = h.cut.cut.full in
+    let enough = h.cut.cut.full in
     record {
       number = k;
       of_shape = h.cut.of_shape;
       got = h.cut.got;
       stands = h.cut.cut.place;
-      full = omega (arith, far, full, whole, length-append now grown.0);
-      cut_is = h.cut.cut.cut_is ∙ sym (cut_more ss now grown.0 h.cut.of_shape k (cut_within ss now (name s.id) h.cut.of_shape k h.cut.cut.place full)) ∙ ap (λ (ds : List Data). cut_at ss ds k h.cut.of_shape) is;
+      full = omega (arith, far, enough, whole, length-append now grown.0);
+      cut_is = h.cut.cut.cut_is ∙ sym (cut_more ss now grown.0 h.cut.of_shape k (cut_within ss now (name s.id) h.cut.of_shape k h.cut.cut.place enough)) ∙ ap (λ (ds : List Data). cut_at ss ds k h.cut.of_shape) is;
       verdict_is = h.cut.verdict_is;
       late = omega (arith, far_before, h.late);
-      apart = apart_behind n (reach (take (suc k) ss) all) (pushes_each d vs) (pushes_after ss now vs) (all_behind (suc n) d vs (omega (arith, long))) (all_after (reach (take (suc k) ss) all) ss now vs (omega (arith, far, full)));
+      apart = apart_behind n (reach (take (suc k) ss) all) (pushes_each d vs) (pushes_after ss now vs) (all_behind (suc n) d vs (omega (arith, long))) (all_after (reach (take (suc k) ss) all) ss now vs (omega (arith, far, enough)));
     }
 
 -- what a value settles, and then what those behind it do
@@ -501,7 +501,7 @@ none_heard l (v ∷ vs) shaped unset =
     (λ t. none_heard (items_came l (v ∷ [])) vs shaped)
     (λ f. none_heard l vs shaped)
     unset in
-    (λ i. heard_nothing l v here i ++ later i)
+    ap (λ (hs : List Heard). hs ++ heard_each (value_came l v) vs) (heard_nothing l v here) ∙ later
 
 -- the items that a ledger has dealt with its own rest
 then_dealt : (l : Ledger) (piece : List ℕ) → (has_heard l piece).dealt ≡ items_then l.starts l.dealt (values (l.rest ++ piece))
@@ -578,10 +578,8 @@ setup_heard name l s piece k x xs last says shaped lives sound h out set =
     let hs = pushes_after ss l.dealt vs in
     let b = (subst (AreBetween name ss all (length l.dealt) ps hs 0) out (read_between name l s piece lives h)).0 in
     let within : b.number < length ss = get_within ss b.number b.stands.start b.stands.stands in
-    let before : b.number < k → ⊥ = λ less.
-    let full = le_from _ _ (last.earlier b.number less) in
     let same : reach (take (b.number + 1) ss) l.dealt ≡ reach (take (suc b.number) ss) all = ap (λ n. reach (take n ss) l.dealt) (add-one b.number) ∙ reach_alike (take (suc b.number) ss) l.dealt all in
-    omega (arith, full, same, b.late) in
+    let before : b.number < k → ⊥ = (λ less. let full : reach (take (b.number + 1) ss) l.dealt ≤ length l.dealt = le_from _ _ (last.earlier b.number less) in omega (arith, full, same, b.late)) in
     let number : b.number ≡ k = by_test (nat_lt b.number k) _ (λ t. absurd (before (lt_from b.number k t))) (λ f. let l0 = not_lt_from b.number k f in omega (arith, within, last.long, l0)) in
     let far = reach (take (suc k) ss) all in
     let apart : ApartFrom 0 far ps hs = subst (λ (n : ℕ). ApartFrom 0 (reach (take (suc n) ss) all) ps hs) number b.apart in
