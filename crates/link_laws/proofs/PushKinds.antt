@@ -1,7 +1,7 @@
 -- No push that is read tells that a link has ended.
 use Rattle.std.proofs.Common.{◌≡◌, ℕ, zero, suc, ◌-◌, ◌==◌, ◌&&◌, Bool, true, false, if◌then◌else◌, List, [], ◌∷◌, ◌++◌, length, take, drop, Option, Some, None, refl}
 use Rattle.std.specs.List.{AllByRecursion}
-use Rattle.std.specs.Prelude.{option_map, is_some}
+use Rattle.std.specs.Prelude.{option_map, is_some, bytes_eq, codes}
 use Rattle.containers.proofs.Choices.{chosen}
 use Rattle.resp_value.specs.Data.{Data, push, array, set, dict, attribute, bulk, verbatim, int, boolean, items_of, members_of}
 use Rattle.resp_value.specs.Kinds.{kind_of, kind_or, named_kind}
@@ -22,24 +22,33 @@ abbrev IsNamed : Option PushKind → Type 0
 IsNamed None = Unit {0}
 IsNamed (Some kind) = is_disconnection kind ≡ false
 
--- by one name, or another
-one_named : (b : Bool) (kind : PushKind) (o : Option PushKind) → is_disconnection kind ≡ false → IsNamed o → IsNamed (if b then Some kind else o)
-one_named true kind o one other = one
-one_named false kind o one other = other
+-- by which text it is
+by_text : (a b c d e f g h i j : Bool) → IsNamed (if a then Some Invalidate else if b then Some Message else if c then Some PMessage else if d then Some SMessage else if e then Some Unsubscribe else if f then Some PUnsubscribe else if g then Some SUnsubscribe else if h then Some Subscribe else if i then Some PSubscribe else if j then Some SSubscribe else None)
+by_text true b c d e f g h i j = refl
+by_text false true c d e f g h i j = refl
+by_text false false true d e f g h i j = refl
+by_text false false false true e f g h i j = refl
+by_text false false false false true f g h i j = refl
+by_text false false false false false true g h i j = refl
+by_text false false false false false false true h i j = refl
+by_text false false false false false false false true i j = refl
+by_text false false false false false false false false true j = refl
+by_text false false false false false false false false false true = refl
+by_text false false false false false false false false false false = tt
 
--- by all of them
+-- of any text
 all_named : (text : List ℕ) → IsNamed (named_kind text)
 all_named text =
-    one_named _ Invalidate _ refl
-    (one_named _ Message _ refl
-    (one_named _ PMessage _ refl
-    (one_named _ SMessage _ refl
-    (one_named _ Unsubscribe _ refl
-    (one_named _ PUnsubscribe _ refl
-    (one_named _ SUnsubscribe _ refl
-    (one_named _ Subscribe _ refl
-    (one_named _ PSubscribe _ refl
-    (one_named _ SSubscribe None refl tt)))))))))
+    by_text (bytes_eq text (codes "invalidate"))
+    (bytes_eq text (codes "message"))
+    (bytes_eq text (codes "pmessage"))
+    (bytes_eq text (codes "smessage"))
+    (bytes_eq text (codes "unsubscribe"))
+    (bytes_eq text (codes "punsubscribe"))
+    (bytes_eq text (codes "sunsubscribe"))
+    (bytes_eq text (codes "subscribe"))
+    (bytes_eq text (codes "psubscribe"))
+    (bytes_eq text (codes "ssubscribe"))
 
 -- and of any other
 kind_is_other : (o : Option PushKind) (text : List ℕ) → IsNamed o → is_disconnection (kind_or o text) ≡ false

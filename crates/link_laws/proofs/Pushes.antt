@@ -22,7 +22,7 @@ use Rattle.link_core.specs.Link.{LinkState, pushes_came, pushes_of}
 use Rattle.legal_trace.specs.Ledger.{Ledger, Start, Heard, items_came, value_came, heard_at, heard_each, is_full, is_set_up, is_well, last_result, reach, result_of, setup_count, setup_result, setup_steps}
 use Rattle.legal_trace.proofs.Ledgers.{reach_alike}
 use Rattle.legal_trace.proofs.Plain.{same_some}
-use Rattle.legal_trace.proofs.Setups.{AreSetups, bare_is_set, result_same, set_more}
+use Rattle.legal_trace.proofs.Setups.{AreSetups, bare_is_set, result_same, set_more, start_at}
 use Rattle.link_laws.specs.Settles.{StandsAs}
 use Rattle.link_laws.specs.Pushes.{SayTheSame, AreApart}
 use Rattle.link_laws.proofs.Choices.{chosen_both, lt_test, not_lt_test}
@@ -429,7 +429,7 @@ values_settle name ss before (v ∷ vs) all d is h =
     }
 
 -- by a ledger with these items
-pub are_apart : (name : ℕ → Owner) (l : Ledger) (low : ℕ) (ps : List PushAt) (hs : List Heard) (place : ℕ) (out : List Settled) → AreBetween name l.starts l.dealt low ps hs place out → AreApart name l ps hs place out
+are_apart : (name : ℕ → Owner) (l : Ledger) (low : ℕ) (ps : List PushAt) (hs : List Heard) (place : ℕ) (out : List Settled) → AreBetween name l.starts l.dealt low ps hs place out → AreApart name l ps hs place out
 are_apart name l low ps hs place [] h = tt
 are_apart name l low ps hs place (s ∷ out) h =
     let b = h.0 in (
