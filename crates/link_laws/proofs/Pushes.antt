@@ -1,5 +1,5 @@
 -- The pushes that a link gives are those that its ledger hears, and each stands among the settled messages where it came.
-use Rattle.std.proofs.Common.{◌≡◌, ◌⊎◌, inl, inr, ℕ, zero, suc, ◌+◌, ◌-◌, ◌<◌, ◌≤◌, ◌==◌, nat_le, nat_lt, Bool, true, false, if◌then◌else◌, List, [], ◌∷◌, ◌++◌, length, take, Some, None, slice_get, refl, sym, ap, ◌∙◌, subst, append_assoc, arith, add-one, length-append}
+use Rattle.std.proofs.Common.{◌≡◌, ◌⊎◌, inl, inr, ℕ, zero, suc, ◌+◌, ◌-◌, ◌<◌, ◌≤◌, ◌==◌, nat_le, nat_lt, true, false, if◌then◌else◌, List, [], ◌∷◌, ◌++◌, length, take, Some, None, slice_get, refl, sym, ap, ◌∙◌, subst, append_assoc, arith, add-one, length-append}
 use Rattle.std.specs.List.{AllByRecursion}
 use Rattle.std.proofs.lemmas.List.{append-nil}
 use Rattle.containers.proofs.Choices.{by_test, chosen, if_true, if_false, taken_if, left_if, le_from, le_test, not_le_test, lt_from, not_lt_from, eq_from, ne_from, not_both}
@@ -17,9 +17,9 @@ use Rattle.driver_model.specs.Shape.{need_of, verdict_of}
 use Rattle.link_core.specs.declared.message.Entry.{Entry}
 use Rattle.link_core.specs.declared.message.PushAt.{PushAt}
 use Rattle.link_core.specs.declared.message.Settled.{Settled}
-use Rattle.link_core.specs.Dealing.{Dealing, with_item, settled_by, given, dealt_to, dealt, dealt_each, value_dealt, push_behind, pushes_each}
+use Rattle.link_core.specs.Dealing.{Dealing, with_item, settled_by, dealt_to, dealt, dealt_each, value_dealt, push_behind, pushes_each}
 use Rattle.link_core.specs.Link.{LinkState, pushes_came, pushes_of}
-use Rattle.legal_trace.specs.Ledger.{Ledger, Start, Heard, items_came, value_came, heard_at, heard_each, is_full, is_set_up, is_well, last_result, reach, result_of, setup_count, setup_result, setup_steps}
+use Rattle.legal_trace.specs.Ledger.{Ledger, Start, Heard, items_came, value_came, heard_at, heard_each, is_full, is_set_up, is_well, last_result, reach, result_of, setup_count, setup_steps}
 use Rattle.legal_trace.proofs.Ledgers.{reach_alike}
 use Rattle.legal_trace.proofs.Plain.{same_some}
 use Rattle.legal_trace.proofs.Setups.{AreSetups, bare_is_set, result_same, set_more, start_at}
