@@ -21,6 +21,8 @@ pub struct MultiplexedConnection {
     /// How many permits there are, if they are counted, and how many of them nobody holds.
     pub limit: Option<u32>,
     pub free: u32,
+    /// Whether somebody hears the pushes that come.
+    pub hears: bool,
     /// What is said to the server before the first request.
     pub info: RedisConnectionInfo,
     pub life: Life,
@@ -43,6 +45,7 @@ impl Drop for MultiplexedConnection {
             boundary: _,
             limit: _,
             free: _,
+            hears: _,
             info,
             life,
             requests,
@@ -75,22 +78,24 @@ impl MultiplexedConnection {
 
     /// A connection whose connect isn't answered. The queue of its link will hold `size` messages, at least one, and no
     /// message will start on it while `boundary` bytes or more, and at least one, are unwritten. Its requests will hold no
-    /// more than `limit` permits, at least one, and where there is no limit they need none. `info` is what is said to the
-    /// server before the first of them. Takes no memory.
+    /// more than `limit` permits, at least one, and where there is no limit they need none. Where it `hears`, the pushes that come are
+    /// told, and so is an end by a fault. `info` is what is said to the server before the first of them. Takes no memory.
     pub fn new(
         alloc: Global,
         size: u32,
         boundary: u64,
         limit: Option<u32>,
+        hears: bool,
         info: RedisConnectionInfo,
     ) -> MultiplexedConnection
-        ensures { result ≡ dialing size boundary limit info }
+        ensures { result ≡ dialing size boundary limit hears info }
     {
         MultiplexedConnection {
             size,
             boundary,
             limit,
             free: limit.unwrap_or(0),
+            hears,
             info,
             life: Life::Dialing,
             requests: Seq::new(alloc),
