@@ -32,6 +32,7 @@ dialing size boundary limit hears info = record {
   moved = [];
   starts = tt;
   settled = tt;
+  pushes = tt;
   failure = None;
 }
 
