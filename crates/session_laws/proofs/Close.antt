@@ -25,7 +25,7 @@ use Rattle.mux_conn.specs.Requests.{is_open_at, name_at}
 use Rattle.mux_conn.specs.Effects.{waiting_failed, nobody_waits, failed_each, settled_each, ended}
 use Rattle.shared_session.specs.declared.core_state.Core.{Core}
 use Rattle.shared_session.specs.Turn.{with_work}
-use Rattle.legal_trace.specs.Ledger.{Ledger, Ending, ends, noted, ending, ending_or_shutdown, failure_of}
+use Rattle.legal_trace.specs.Ledger.{Ledger, Ending, ends, noted, ending, ending_or_shutdown, failure_of, is_fault}
 use Rattle.legal_trace.specs.Story.{Story}
 use Rattle.legal_trace.specs.Book.{Book, book, entered}
 use Rattle.legal_trace.specs.Owed.{owed, owed_unstarted, unstarted_error}
@@ -35,21 +35,23 @@ use Rattle.session_laws.proofs.Tied.{Inner, no_link, link_in, owner_of, queue_id
 use Rattle.session_laws.proofs.Said.{ready_shown}
 use Rattle.session_laws.proofs.States.{HasApplied}
 use Rattle.session_laws.proofs.InLine.{kept_ids, kept_in, line_of, IsInLine, awaited_rises}
-use Rattle.session_laws.proofs.Owes.{in_time, none_owed, in_line, later_unstarted, owed_none_started, settled_owed}
+use Rattle.session_laws.proofs.Owes.{in_time, none_owed, in_line, later_unstarted, owed_none_started, settled_owed, pushes_told, lives}
 use Rattle.session_laws.proofs.Kept.{mine_noted, others_kept, tied_by}
 use Rattle.session_laws.proofs.Answer.{unknown_ends, after_end}
 use Rattle.session_laws.proofs.Settle.{book_of_more, seen, trace_of_acts, Holds, holds_more, IsAnswering, answering, IsDue, IsDueError, settled_holds, failed_holds, Leaves, leaves_on, settled_leaves, failed_leaves}
+use Rattle.containers.proofs.Choices.{not_both}
 
 -- the link is closed
 --
 -- where it must end, and nothing is to be answered
-pub may_close : (b : Book) (t : Inner) (why : Ending) → Tied b t → t.pending ≡ [] → has_ended t.life ≡ false → ending (b.link t.link) ≡ Some why → MayClose b t.link
-may_close b t why h none n must = record {
+pub may_close : (b : Book) (t : Inner) (why : Ending) → Tied b t → t.pending ≡ [] → t.untold ≡ [] → has_ended t.life ≡ false → ending (b.link t.link) ≡ Some why → MayClose b t.link
+may_close b t why h none told n must = record {
   why = why;
   ends = must;
   in_order = λ m less. unknown_ends (b.link m) (h.others m (λ e. omega arith));
   answered = λ m asked alive. none_owed b t h none n m asked;
   created = ready_shown b t h;
+  pushed = pushes_told b t h told;
 }
 
 -- the wanted messages of the row and the queue are to be answered
@@ -96,15 +98,23 @@ ends_failed : (l : Ledger) (turn created : ℕ) (why : Ending) → ending l ≡ 
 ends_failed l turn created why must shown e fails = shown e (sym (ap (λ w. failure_of (ending_or_shutdown w)) must) ∙ fails)
 
 -- the session is tied to the book with the end of the link; the creation may be shown with it
-pub close_tied : (b : Book) (t : Inner) (created : ℕ) (why : Ending) (e : RedisError) (pending : List ℕ) → pending ≡ wanted (link_in t.life).row ++ awaited_ids (link_in t.life).queue → ending (b.link t.link) ≡ Some why → unstarted_error why ≡ e
-    → ((f : RedisError) → failure_of why ≡ Some f → created ≢ 0) → Tied b (record t { pending = [] })
-    → Tied (record (entered b (action.Close t.link)) { created = created }) (record t { life = Ended e; pending = pending })
-close_tied b t created why e pending ids must is shown h =
+pub close_tied : (b : Book) (t : Inner) (created : ℕ) (why : Ending) (e : RedisError) (parting : Bool) (pending : List ℕ) → pending ≡ wanted (link_in t.life).row ++ awaited_ids (link_in t.life).queue → ending (b.link t.link) ≡ Some why → unstarted_error why ≡ e
+    → ((f : RedisError) → failure_of why ≡ Some f → created ≢ 0) → (t.hears ≡ true → parting ≡ false → is_fault why ≡ false) → has_ended t.life ≡ false → Tied b (record t { pending = []; untold = []; parting = false })
+    → Tied (record (entered b (action.Close t.link)) { created = created }) (record t { life = Ended e; pending = pending; untold = []; parting = parting })
+close_tied b t created why e parting pending ids must is shown mild up h =
     let turn = b.turns - 1 in
     let after = record (entered b (action.Close t.link)) { created = created } in
-    tied_by after (record t { life = Ended e; pending = pending }) (noted (b.link t.link) (ends turn)) (mine_noted (b.link t.link) t.link (ends turn)) (record {
+    tied_by after (record t { life = Ended e; pending = pending; untold = []; parting = parting }) (noted (b.link t.link) (ends turn)) (mine_noted (b.link t.link) t.link (ends turn)) (record {
       numbers = record { turns = h.numbers.turns; links = h.numbers.links; timers = h.numbers.timers; aims = h.numbers.aims; timed = h.numbers.timed; submissions = h.numbers.submissions; timeout = h.numbers.timeout; shut = h.numbers.shut; settings = record { size_is = h.numbers.settings.size_is; bound_is = h.numbers.settings.bound_is; limit_is = h.numbers.settings.limit_is; some = h.numbers.settings.some; limited = h.numbers.settings.limited }; one = h.numbers.one; only = h.numbers.only };
       others = others_kept b t.link (ends turn) h.others;
+      pushes = record {
+        heard_is = h.pushes.heard_is;
+        within = h.pushes.within;
+        untold_is = h.pushes.untold_is;
+        parts = λ heard done cut. absurd (not_both (is_fault why) (mild heard done) (sym (ap (λ w. is_fault (ending_or_shutdown w)) must) ∙ cut));
+        alive = λ none. cc;
+        due = λ parted. h.pushes.alive (lives (b.link t.link) b.created t.life h.life up);
+      };
       life = (refl, ends_owed (b.link t.link) turn why e must is, ends_failed (b.link t.link) turn created why must shown);
       setup = record { info_is = h.setup.info_is; sent = h.setup.sent; said = tt };
       link = λ n. cc;

@@ -39,6 +39,7 @@ use Rattle.session_laws.proofs.Settle.{seen, trace_of_acts, Holds}
 use Rattle.session_laws.proofs.Close.{HasEnded, IsClosedOf, SettlesAll, ended_holds, ended_moved, ended_applied}
 use Rattle.session_laws.proofs.Announce.{turn_of, turned, IsNewsKind}
 use Rattle.session_laws.proofs.Heard.{told_life, heard_by, Begins, Leads, heard_begins, leads_on, ended_quiet, dialing_quiet}
+use Rattle.legal_trace.specs.Legal.{is_heard}
 
 -- what waits in the queue gets the closed connection
 queue_waits : (ids : List ℕ) (queue : List Queued) → ((n : ℕ) → IsIn n (queue_ids queue) → IsIn n ids) → AllByRecursion (IsClosedOf ids) (queue_closed queue)
@@ -161,9 +162,9 @@ plain_leads before c started n k h = by_news n k
     by_news (took count) j = absurd j
     by_news (came piece) j = absurd j
     by_news (refused f) j = absurd j
-    by_news overdue j = leads_on before c started overdue h (told_life l (book before).created c.single.connection.life overdue h.sound.tied.life, setup_hears l c.turns overdue c.single.connection.info started c.single.connection.life tt h.sound.tied.setup, λ alive. told_tied (carried c.single.connection.life c.single.connection.requests) l (whole_link c.single.connection.life) l.asked l.up overdue (h.sound.tied.link alive))
-    by_news (failed f) j = leads_on before c started (failed f) h (told_life l (book before).created c.single.connection.life (failed f) h.sound.tied.life, setup_hears l c.turns (failed f) c.single.connection.info started c.single.connection.life tt h.sound.tied.setup, λ alive. told_tied (carried c.single.connection.life c.single.connection.requests) l (whole_link c.single.connection.life) l.asked l.up (failed f) (h.sound.tied.link alive))
-    by_news shut j = leads_on before c started shut h (told_life l (book before).created c.single.connection.life shut h.sound.tied.life, setup_hears l c.turns shut c.single.connection.info started c.single.connection.life tt h.sound.tied.setup, λ alive. told_tied (carried c.single.connection.life c.single.connection.requests) l (whole_link c.single.connection.life) l.asked l.up shut (h.sound.tied.link alive))
+    by_news overdue j = leads_on before c started overdue h (inl tt) (told_life l (book before).created c.single.connection.life overdue h.sound.tied.life, setup_hears l c.turns overdue c.single.connection.info started c.single.connection.life tt h.sound.tied.setup, λ alive. told_tied (carried c.single.connection.life c.single.connection.requests) l (whole_link c.single.connection.life) l.asked l.up overdue (h.sound.tied.link alive))
+    by_news (failed f) j = leads_on before c started (failed f) h (inl tt) (told_life l (book before).created c.single.connection.life (failed f) h.sound.tied.life, setup_hears l c.turns (failed f) c.single.connection.info started c.single.connection.life tt h.sound.tied.setup, λ alive. told_tied (carried c.single.connection.life c.single.connection.requests) l (whole_link c.single.connection.life) l.asked l.up (failed f) (h.sound.tied.link alive))
+    by_news shut j = leads_on before c started shut h (inl tt) (told_life l (book before).created c.single.connection.life shut h.sound.tied.life, setup_hears l c.turns shut c.single.connection.info started c.single.connection.life tt h.sound.tied.setup, λ alive. told_tied (carried c.single.connection.life c.single.connection.requests) l (whole_link c.single.connection.life) l.asked l.up shut (h.sound.tied.link alive))
 
 -- the turn of such an event begins with its link as it was
 pub plain_begins : (before : List Action) (c : Core) (started : List ℕ) (word : ℕ) (kind : EventKind) (n : News) → IsPlain n → Between before c started → is_bad c kind ≡ false → IsNewsKind c.timers kind → news_of c.timers c.single.link kind ≡ n
@@ -172,7 +173,7 @@ plain_begins before c started word kind n p h good k is = heard_begins before c 
 
 -- a link that is set up fails by news that leave its ledger
 plain_fails : (before : List Action) (c : Core) (started : List ℕ) (n : News) (x : RedisError) (link : LinkState) (with_user : Bool) → Between before c started → c.single.connection.life ≡ SettingUp link with_user
-    → (let l = record ((book before).link c.single.link) { heard = n } in ending_unready l n ≡ Some (by_opening x)) → Fails (record ((book before).link c.single.link) { heard = n }) c.single.connection.info x
+    → (let l = record ((book before).link c.single.link) { heard = n } in ending_unready l n ≡ Some (by_opening x)) → Fails (record ((book before).link c.single.link) { heard = n }) c.single.connection.info (is_heard (book before)) c.single.connection.hears x
 plain_fails before c started n x link with_user h e is =
     let b = book before in
     let l = b.link c.single.link in
@@ -183,6 +184,7 @@ plain_fails before c started n x link with_user h e is =
       must = setting_heard l n link with_user s.up s.said ∙ is;
       info_is = h.sound.tied.setup.info_is;
       sent = h.sound.tied.setup.sent;
+      pushes = h.sound.tied.pushes;
     }
 
 -- a fault, or the peer's end

@@ -154,7 +154,8 @@ opening_tries l none = record { owners = ap owners_of none ∙ ap (λ (ss : List
 opening_tied : (config : Config) (word : ℕ) (info : ConnectionInfo) (timeout : Option ℕ) → IsSized config.limit (buffer_size config) → connect_timeout config ≡ timeout → Tied (opened config word info (connect_timers timeout)) (inner (opened_core config (connect_timers timeout)) [])
 opening_tied config word info timeout some is = record {
   numbers = opening_numbers config word info timeout some is;
-  others = λ m other. subst IsUnknown (sym (opened_link config word info (connect_timers timeout) m other)) (record { asked = refl; up = refl; end = refl; starts = refl });
+  others = λ m other. subst IsUnknown (sym (opened_link config word info (connect_timers timeout) m other)) (record { asked = refl; up = refl; end = refl; starts = refl; pushes = refl });
+  pushes = record { heard_is = refl; within = λ y. omega arith; untold_is = λ y. refl; parts = λ y d z. cc; alive = λ z. refl; due = λ z. cc };
   life = (refl, refl, refl, refl);
   setup = record { info_is = refl; sent = λ k s less e. absurd (omega arith); said = (refl, refl) };
   link = λ e. asked_tied (owner_of []) blank_ledger (told_info config) no_link (fresh_tied (owner_of []) 0 0);
@@ -206,7 +207,7 @@ opened_between config word info timeout sound at some is =
     let tied = opening_tied config word info timeout some is in
     let fit : IsFitIn conn = record { setup = λ link u e. cc; link = λ link e. cc; none = λ no. refl } in
     let still : IsStill conn = record { setup = λ link u e. cc; held = λ link e. cc; full = λ link e. cc; waiting = λ link e. cc; none_waits = λ e. refl } in
-    let moved = is_moved b t tied refl refl (opening_ends config word info timers) fit.link fit.none still.held still.full still.waiting still.none_waits fit.setup still.setup in
+    let moved = is_moved b t tied refl (refl, refl) refl (opening_ends config word info timers) fit.link fit.none still.held still.full still.waiting still.none_waits fit.setup still.setup in
     let written = is_written b t tied moved refl in
     let quiet : IsQuiet t = record { settled = refl; alone = refl; fit = fit.link; none = fit.none; held = still.held; full = still.full; waiting = still.waiting; gone = still.none_waits; setup_fit = fit.setup; setup_held = still.setup } in
     let book_is = sym (opening_book config word info timeout) in
