@@ -12,6 +12,7 @@ pub mod Owes
 pub mod Closing
 pub mod Answer
 pub mod Kept
+pub mod Told
 pub mod Start
 pub mod Moves
 pub mod Ahead

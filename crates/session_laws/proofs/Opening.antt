@@ -1,5 +1,5 @@
 -- The opening: the first link is asked for.
-use Rattle.std.proofs.Common.{List, None, Option, Some, [], ap, arith, false, inl, inr, refl, subst, suc, sym, zero, ℕ, ◌+◌, ◌<◌, ◌∙◌, ◌∷◌, ◌≡◌, ◌≢◌}
+use Rattle.std.proofs.Common.{List, None, Option, Some, [], ap, arith, false, inl, inr, refl, subst, suc, sym, zero, ℕ, ◌+◌, ◌<◌, ◌∙◌, ◌∷◌, ◌≡◌, ◌≢◌, Bool, ◌&&◌, not}
 use Rattle.std.specs.Prelude.{unwrap_or, ◌==◌}
 use Rattle.containers.proofs.Choices.{chosen, left_if, ne_from, ne_test}
 use Rattle.connection_info.specs.declared.address.ConnectionInfo.{ConnectionInfo}
@@ -8,7 +8,7 @@ use Rattle.redis_error.specs.declared.config_name.ConfigName.TheVariants as name
 use Rattle.driver_model.specs.declared.action.Action.TheVariants as action
 use Rattle.driver_model.specs.declared.action.Cause.TheVariants as cause
 use Rattle.driver_model.specs.declared.config.Config.{Config}
-use Rattle.driver_model.specs.Config.{address, boundary, buffer_fault, buffer_size, connect_timeout, fault_in, response_timeout, room_fault, told_info}
+use Rattle.driver_model.specs.Config.{address, boundary, buffer_fault, buffer_size, connect_timeout, fault_in, response_timeout, room_fault, told_info, hears_pushes}
 use Rattle.driver_model.specs.declared.action.Action.{Action}
 use Rattle.driver_model.specs.declared.action.Cause.{Cause}
 use Rattle.driver_model.specs.declared.action.Purpose.{Purpose}
@@ -28,6 +28,7 @@ use Rattle.session_laws.proofs.States.{IsFitIn, IsStill}
 use Rattle.session_laws.proofs.Tied.{AreAimed, IsAim, IsUnknown, Tied, TiedLines, TiedNames, TiedNumbers, TiedPermits, TiedTries, TiedWaits, inner, no_link, owner_of, owners_of, setup_owners}
 use Rattle.session_laws.proofs.Waits.{IsQuiet}
 use Rattle.session_laws.proofs.Write.{is_written}
+use Rattle.connection_info.specs.Protocol.{is_resp3}
 
 -- what timers the opening has asked for
 abbrev asks_timers : List Purpose → Book → Book
@@ -46,7 +47,7 @@ opened_core config timers = record {
   timeout = response_timeout config;
   timers = timers;
   table = [];
-  single = record { link = first_link; connection = dialing (buffer_size config) (boundary config) config.limit (told_info config) };
+  single = record { link = first_link; connection = dialing (buffer_size config) (boundary config) config.limit (hears_pushes config) (told_info config) };
 }
 
 -- no other link is told of
@@ -93,8 +94,9 @@ room_sized (Some k) size =
     same_number k l e = cc
 
 -- behind the address
-sized : (info : ConnectionInfo) (limit : Option ℕ) (size : ℕ) → fault_in (Some info) limit size ≡ None → IsSized limit size
-sized info limit size e = room_sized limit size e
+sized : (info : ConnectionInfo) (heard : Bool) (limit : Option ℕ) (size : ℕ) → fault_in (Some info) heard limit size ≡ None → IsSized limit size
+sized info heard limit size =
+    chosen (λ (x : Option ConfigName). x ≡ None → IsSized limit size) (heard && not (is_resp3 info.redis.protocol)) (Some name.Push) (room_fault limit size) (λ t e. absurd (no_fault name.Push e)) (λ n e. room_sized limit size e)
 
 -- its numbers
 opening_numbers : (config : Config) (word : ℕ) (info : ConnectionInfo) (timeout : Option ℕ) → IsSized config.limit (buffer_size config) → connect_timeout config ≡ timeout → TiedNumbers (opened config word info (connect_timers timeout)) (inner (opened_core config (connect_timers timeout)) [])
@@ -228,7 +230,7 @@ opened_between config word info timeout sound at some is =
 pub opening_between : (config : Config) (word : ℕ) → IsSound config → IsBetween (opening_actions config word) (opening_core config word)
 opening_between config word sound = by_address (address config) refl sound
   where
-    by_address : (x : Option ConnectionInfo) → address config ≡ x → fault_in x config.limit (buffer_size config) ≡ None
+    by_address : (x : Option ConnectionInfo) → address config ≡ x → fault_in x (hears_pushes config) config.limit (buffer_size config) ≡ None
         → IsBetween (action.Turn 0 (cause.Opening config word) ∷ connect_asked x (connect_timeout config)) (opening_core config word)
     by_address None at none = cc
-    by_address (Some info) at none = opened_between config word info (connect_timeout config) sound at (sized info config.limit (buffer_size config) none) refl
+    by_address (Some info) at none = opened_between config word info (connect_timeout config) sound at (sized info (hears_pushes config) config.limit (buffer_size config) none) refl

@@ -165,7 +165,7 @@ pushes_hear l turn (refused f) heard mine k h =
 pushes_hear l turn connected heard mine k h = chosen (λ (x : Ledger). PushesOf heard mine x) (is_over l) l (record l { up = true }) (λ t. h) (λ f. h)
 pushes_hear l turn (took count) heard mine k h = chosen (λ (x : Ledger). PushesOf heard mine x) l.up (record l { taken = l.taken ++ take count l.offer; offer = [] }) l (λ t. h) (λ f. h)
 pushes_hear l turn (came piece) heard mine k h = elim k [
-  | inl no ↦ absurd no
+  | inl piece_is ↦ absurd piece_is
   | inr down ↦ if_false (λ (x : Ledger). PushesOf heard mine x) l.up (bytes_came l piece) l down h
 ]
 pushes_hear l turn (failed f) heard mine k h = h
