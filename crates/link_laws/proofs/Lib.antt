@@ -14,3 +14,5 @@ pub mod Pieces
 pub mod Bounds
 pub mod AlikeRuns
 pub mod Started
+pub mod PushKinds
+pub mod Pushes
