@@ -23,6 +23,7 @@ pub mod Settle
 pub mod LetIn
 pub mod SetsUp
 pub mod Close
+pub mod Telling
 pub mod Announce
 pub mod Heard
 pub mod Failing

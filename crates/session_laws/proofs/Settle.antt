@@ -165,7 +165,7 @@ first_may b t p pending o h line e owes pushed done =
     (λ over. after_closes b now h done (over_life (b.link t.link) b.created t.life h.life over))
 
 -- one is answered
-rest_in_line : (requests : List Request) (link : LinkState) (admitted waiting : List Waiting) (p : ℕ) (pending : List ℕ) → IsInLine requests link admitted waiting (p ∷ pending) → IsInLine requests link admitted waiting pending
+pub rest_in_line : (requests : List Request) (link : LinkState) (admitted waiting : List Waiting) (p : ℕ) (pending : List ℕ) → IsInLine requests link admitted waiting (p ∷ pending) → IsInLine requests link admitted waiting pending
 rest_in_line requests link admitted waiting p pending line = rising_from (suc p) 0 (pending ++ line_of link admitted waiting) (length requests) (omega arith) line.1
 
 -- the first is answered
@@ -239,10 +239,11 @@ pub record Leaves (w v : Work) : Type 0 where
   pub admitted : v.conn.admitted ≡ w.conn.admitted
   pub fresh : v.conn.fresh ≡ w.conn.fresh
   pub moved : v.conn.moved ≡ w.conn.moved
+  pub hears : v.conn.hears ≡ w.conn.hears
 
 -- nothing is changed
-leaves_all : (w : Work) → Leaves w w
-leaves_all w = record { size = refl; boundary = refl; life = refl; waiting = refl; admitted = refl; fresh = refl; moved = refl }
+pub leaves_all : (w : Work) → Leaves w w
+leaves_all w = record { size = refl; boundary = refl; life = refl; waiting = refl; admitted = refl; fresh = refl; moved = refl; hears = refl }
 
 -- one after another
 pub leaves_on : (u v w : Work) → Leaves u v → Leaves v w → Leaves u w
@@ -254,11 +255,12 @@ leaves_on u v w h k = record {
   admitted = k.admitted ∙ h.admitted;
   fresh = k.fresh ∙ h.fresh;
   moved = k.moved ∙ h.moved;
+  hears = k.hears ∙ h.hears;
 }
 
 -- one answer leaves them
 pub answered_leaves : (w : Work) (p : ℕ) (o : Outcome) → Leaves w (answered w p o)
-answered_leaves w p o = chosen (Leaves w) (is_open_at w.conn.requests p) _ w (λ t. record { size = refl; boundary = refl; life = refl; waiting = refl; admitted = refl; fresh = refl; moved = refl }) (λ f. leaves_all w)
+answered_leaves w p o = chosen (Leaves w) (is_open_at w.conn.requests p) _ w (λ t. record { size = refl; boundary = refl; life = refl; waiting = refl; admitted = refl; fresh = refl; moved = refl; hears = refl }) (λ f. leaves_all w)
 
 -- so do the answers to what was settled
 pub settled_leaves : (w : Work) (ss : List Settled) → Leaves w (settled_each w ss)
