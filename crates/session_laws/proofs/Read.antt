@@ -37,7 +37,7 @@ use Rattle.session_laws.proofs.Numbers.{IsIn, Rising}
 use Rattle.session_laws.proofs.Tied.{inner, link_in, owner_of, queue_ids, IsEntry, TiedLife, TiedLines, TiedSetup, AreQueued, TiedWaits, has_ended, Tied, TiedPushes, Sound}
 use Rattle.session_laws.proofs.SetUp.{set_up_hears}
 use Rattle.legal_trace.proofs.Setups.{ends_where_set}
-use Rattle.session_laws.proofs.ReadSetup.{dealt_all, setup_read}
+use Rattle.session_laws.proofs.ReadSetup.{dealt_all, setup_read, all_heard, fit_by, heard_pushes}
 use Rattle.session_laws.proofs.States.{IsFit, IsFitIn, Between, HasApplied}
 use Rattle.session_laws.proofs.InLine.{kept_ids, IsInLine}
 use Rattle.session_laws.proofs.Owes.{in_line}
@@ -103,20 +103,6 @@ read_fit size bound link piece h sound x e = let same : has_read link piece ≡ 
 
 -- the link that is up
 --
--- what is still to be told of it then
-pub heard_pushes : (l : Ledger) (piece : List ℕ) (heard mine : Bool) (untold : List Heard) → (mine ≡ true → untold ≡ heard_each l (values (l.rest ++ piece))) → PushesOf heard mine l
-    → (let after = has_heard l piece in TiedPushes heard mine after.pushes after.told after.end after.parted untold false)
-heard_pushes l piece heard mine untold is h =
-    let hs = heard_each l (values (l.rest ++ piece)) in
-    record {
-      heard_is = h.heard_is;
-      within = λ y. let w = h.within y in let long = length-append l.pushes hs in omega arith;
-      untold_is = λ y. drop-append-le l.told l.pushes hs (h.within y) ∙ ap (λ xs. xs ++ hs) (h.untold_is y) ∙ sym (is y);
-      parts = h.parts;
-      alive = h.alive;
-      due = h.due;
-    }
-
 -- the turn begins, with those to be answered that the bytes settle, and the pushes to be told that came
 record BeginsTelling (before : List Action) (f : Core) (conn : MultiplexedConnection) (l : Ledger) (story : ℕ → Story) (untold : List Heard) (pending started : List ℕ) : Type 0 where
   pub holds : Tells before f (record { conn = conn; acts = [] }) untold pending started
@@ -196,15 +182,6 @@ read_due before c started word kind piece link untold h good k is e came_so =
       telling = telling front f w untold (ids ++ []) started (subst (λ ns. Tells front f w untold ns started) (sym (append-nil ids)) begins.holds) (subst (IsInLine conn.requests (has_read link piece) conn.admitted conn.waiting) (sym (append-nil ids)) line);
     }
 
--- what is so at each place is so of all
-all_places : (P : Heard → Type 0) (hs : List Heard) → ((i : ℕ) (h : Heard) → slice_get hs i ≡ Some h → P h) → AllByRecursion P hs
-all_places P [] each = tt
-all_places P (h ∷ hs) each = (each 0 h refl, all_places P hs (λ i x at. each (suc i) x at))
-
--- each push that came is no end, and stands behind no more items than there are
-pub all_heard : (l : Ledger) (piece : List ℕ) → AllByRecursion (IsHeard (has_heard l piece)) (heard_each l (values (l.rest ++ piece)))
-all_heard l piece = all_places (IsHeard (has_heard l piece)) (heard_each l (values (l.rest ++ piece))) (λ i h at. record { kind_is = heard_kind l (l.rest ++ piece) i h at; within = heard_within l piece i h at })
-
 -- what the bytes settle is answered, and the pushes that came are told
 read_answered : (before : List Action) (c : Core) (started : List ℕ) (word : ℕ) (kind : EventKind) (piece : List ℕ) (link : LinkState) → Between before c started → is_bad c kind ≡ false → IsNewsKind c.timers kind → news_of c.timers c.single.link kind ≡ came piece
     → c.single.connection.life ≡ Ready link
@@ -236,14 +213,6 @@ read_answered before c started word kind piece link h good k is e =
     let r = read_due before c started word kind piece link [] h good k is e (λ y. absurd (not_both conn.hears n y)) in
     unheard_holds front f after owes (name_at conn.requests) (is_open_at conn.requests) w 0 out started r.due
     (subst (λ (x : Ledger). IsTelling front f x owes (name_at conn.requests) (is_open_at conn.requests) w [] (settled_ids out ++ []) started) r.ledger r.telling))
-
--- a connection whose link is up is fit where the link is
-fit_by : (c : MultiplexedConnection) (size bound : ℕ) (link : LinkState) → c.size ≡ size → c.boundary ≡ bound → c.life ≡ Ready link → ((x : LinkState) → Ready link ≡ Ready x → IsFit size bound x) → IsFitIn c
-fit_by c size bound link size_is bound_is life h = record {
-  setup = λ x u same. (let no : Ready link ≡ SettingUp x u = sym life ∙ same in cc);
-  link = λ x same. subst (λ n. IsFit n c.boundary x) (sym size_is) (subst (λ n. IsFit size n x) (sym bound_is) (h x (sym life ∙ same)));
-  none = λ none. absurd (none link life);
-}
 
 -- a link that is up reads on, or is broken and ends
 read_on : (before : List Action) (c : Core) (started : List ℕ) (word : ℕ) (kind : EventKind) (piece : List ℕ) (link : LinkState) → Between before c started → is_bad c kind ≡ false → IsNewsKind c.timers kind → news_of c.timers c.single.link kind ≡ came piece

@@ -56,7 +56,7 @@ next_of : (n : ℕ) (hs : List Heard) (h : Heard) (rest : List Heard) → drop n
 next_of zero [] h rest e = cc
 next_of zero (x ∷ xs) h rest e = record { within = omega arith; behind = cc; next = cc }
 next_of (suc n) [] h rest e = cc
-next_of (suc n) (x ∷ xs) h rest e = let r = next_of n xs h rest e in record { within = (let w = r.within in omega arith); behind = r.behind; next = r.next }
+next_of (suc n) (x ∷ xs) h rest e = let r = next_of n xs h rest e in record { within = (let w = r.within in omega arith); behind = (let e : suc n + 1 ≡ suc (n + 1) = omega arith in ap (λ m. drop m (x ∷ xs)) e ∙ r.behind); next = r.next }
 
 -- whose message was full before a push came
 --
