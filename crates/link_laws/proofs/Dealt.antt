@@ -208,7 +208,7 @@ abbrev pub items_with : ℕ → List Data → List Data → List Data
 items_with all items more = items ++ take (all - length items) more
 
 -- where all are dealt, no more are taken
-pub none_wanted : (all : ℕ) (items more : List Data) → all ≤ length items → items_with all items more ≡ items
+none_wanted : (all : ℕ) (items more : List Data) → all ≤ length items → items_with all items more ≡ items
 none_wanted all items more l = let z : all - length items ≡ 0 = omega arith in rw z (append-nil items)
 
 -- where more are wanted, the first is taken

@@ -16,3 +16,4 @@ pub mod AlikeRuns
 pub mod Started
 pub mod PushKinds
 pub mod Pushes
+pub mod Unheard

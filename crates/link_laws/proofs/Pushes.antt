@@ -1,5 +1,5 @@
 -- The pushes that a link gives are those that its ledger hears, and each stands among the settled messages where it came.
-use Rattle.std.proofs.Common.{◌≡◌, ◌⊎◌, inl, inr, ℕ, zero, suc, ◌+◌, ◌-◌, ◌<◌, ◌≤◌, ◌==◌, nat_le, nat_lt, Bool, true, false, if◌then◌else◌, List, [], ◌∷◌, ◌++◌, length, take, Some, None, slice_get, refl, sym, ap, ◌∙◌, subst, append_assoc, arith, add-one, length-append}
+use Rattle.std.proofs.Common.{◌≡◌, ◌⊎◌, inl, inr, ℕ, zero, suc, ◌+◌, ◌-◌, ◌<◌, ◌≤◌, ◌==◌, nat_le, nat_lt, true, false, if◌then◌else◌, List, [], ◌∷◌, ◌++◌, length, take, Some, None, slice_get, refl, sym, ap, ◌∙◌, subst, append_assoc, arith, add-one, length-append}
 use Rattle.std.specs.List.{AllByRecursion}
 use Rattle.std.proofs.lemmas.List.{append-nil}
 use Rattle.containers.proofs.Choices.{by_test, chosen, if_true, if_false, taken_if, left_if, le_from, le_test, not_le_test, lt_from, not_lt_from, eq_from, ne_from, not_both}
@@ -17,12 +17,12 @@ use Rattle.driver_model.specs.Shape.{need_of, verdict_of}
 use Rattle.link_core.specs.declared.message.Entry.{Entry}
 use Rattle.link_core.specs.declared.message.PushAt.{PushAt}
 use Rattle.link_core.specs.declared.message.Settled.{Settled}
-use Rattle.link_core.specs.Dealing.{Dealing, with_item, settled_by, given, dealt_to, dealt, dealt_each, value_dealt, push_behind, pushes_each}
+use Rattle.link_core.specs.Dealing.{Dealing, with_item, settled_by, dealt_to, dealt, dealt_each, value_dealt, push_behind, pushes_each}
 use Rattle.link_core.specs.Link.{LinkState, pushes_came, pushes_of}
-use Rattle.legal_trace.specs.Ledger.{Ledger, Start, Heard, items_came, value_came, heard_at, heard_each, is_full, is_set_up, is_well, last_result, reach, result_of, setup_count, setup_result, setup_steps}
+use Rattle.legal_trace.specs.Ledger.{Ledger, Start, Heard, items_came, value_came, heard_at, heard_each, is_full, is_set_up, is_well, last_result, reach, result_of, setup_count, setup_steps}
 use Rattle.legal_trace.proofs.Ledgers.{reach_alike}
 use Rattle.legal_trace.proofs.Plain.{same_some}
-use Rattle.legal_trace.proofs.Setups.{AreSetups, bare_is_set, result_same, set_more}
+use Rattle.legal_trace.proofs.Setups.{AreSetups, bare_is_set, result_same, set_more, start_at}
 use Rattle.link_laws.specs.Settles.{StandsAs}
 use Rattle.link_laws.specs.Pushes.{SayTheSame, AreApart}
 use Rattle.link_laws.proofs.Choices.{chosen_both, lt_test, not_lt_test}
@@ -192,8 +192,8 @@ heard_from l (v ∷ vs) all far h e =
     let l0 = le_from far (length before) t in
     let kept = all_kept far rest (all_after far ss (items_after ss before v) vs (omega (arith, l0, after_long ss before v))) in
     let whole = all_kept far (push_after before v ++ rest) (all_after far ss before (v ∷ vs) l0) in
-    (λ i. heard_one l v (here ∙ t) i ++ (later ∙ kept) i) ∙ sym whole)
-    (λ f. (λ i. heard_nothing l v (here ∙ f) i ++ later i) ∙ sym (one_dropped far before v rest f))
+    ap (λ (hs : List Heard). hs ++ heard_each (value_came l v) vs) (heard_one l v (here ∙ t)) ∙ ap (λ (hs : List Heard). push_after before v ++ hs) (later ∙ kept) ∙ sym whole)
+    (λ f. ap (λ (hs : List Heard). hs ++ heard_each (value_came l v) vs) (heard_nothing l v (here ∙ f)) ∙ later ∙ sym (one_dropped far before v rest f))
 
 -- a link that is set up, and stays so whatever items come
 abbrev pub StaysSetUp : Ledger → Type 0
@@ -378,17 +378,17 @@ new_between name ss before now vs all d n s e long h =
     let far : reach (take (suc k) ss) all ≡ reach (take (suc k) ss) now = reach_alike (take (suc k) ss) all now in
     let far_before : reach (take (suc k) ss) all ≡ reach (take (suc k) ss) before = reach_alike (take (suc k) ss) all before in
     let whole : length all ≡ length (now ++ grown.0) = ap length (sym is) in
-    let full = h.cut.cut.full in
+    let enough = h.cut.cut.full in
     record {
       number = k;
       of_shape = h.cut.of_shape;
       got = h.cut.got;
       stands = h.cut.cut.place;
-      full = omega (arith, far, full, whole, length-append now grown.0);
-      cut_is = h.cut.cut.cut_is ∙ sym (cut_more ss now grown.0 h.cut.of_shape k (cut_within ss now (name s.id) h.cut.of_shape k h.cut.cut.place full)) ∙ ap (λ (ds : List Data). cut_at ss ds k h.cut.of_shape) is;
+      full = omega (arith, far, enough, whole, length-append now grown.0);
+      cut_is = h.cut.cut.cut_is ∙ sym (cut_more ss now grown.0 h.cut.of_shape k (cut_within ss now (name s.id) h.cut.of_shape k h.cut.cut.place enough)) ∙ ap (λ (ds : List Data). cut_at ss ds k h.cut.of_shape) is;
       verdict_is = h.cut.verdict_is;
       late = omega (arith, far_before, h.late);
-      apart = apart_behind n (reach (take (suc k) ss) all) (pushes_each d vs) (pushes_after ss now vs) (all_behind (suc n) d vs (omega (arith, long))) (all_after (reach (take (suc k) ss) all) ss now vs (omega (arith, far, full)));
+      apart = apart_behind n (reach (take (suc k) ss) all) (pushes_each d vs) (pushes_after ss now vs) (all_behind (suc n) d vs (omega (arith, long))) (all_after (reach (take (suc k) ss) all) ss now vs (omega (arith, far, enough)));
     }
 
 -- what a value settles, and then what those behind it do
@@ -429,7 +429,7 @@ values_settle name ss before (v ∷ vs) all d is h =
     }
 
 -- by a ledger with these items
-pub are_apart : (name : ℕ → Owner) (l : Ledger) (low : ℕ) (ps : List PushAt) (hs : List Heard) (place : ℕ) (out : List Settled) → AreBetween name l.starts l.dealt low ps hs place out → AreApart name l ps hs place out
+are_apart : (name : ℕ → Owner) (l : Ledger) (low : ℕ) (ps : List PushAt) (hs : List Heard) (place : ℕ) (out : List Settled) → AreBetween name l.starts l.dealt low ps hs place out → AreApart name l ps hs place out
 are_apart name l low ps hs place [] h = tt
 are_apart name l low ps hs place (s ∷ out) h =
     let b = h.0 in (
@@ -501,7 +501,7 @@ none_heard l (v ∷ vs) shaped unset =
     (λ t. none_heard (items_came l (v ∷ [])) vs shaped)
     (λ f. none_heard l vs shaped)
     unset in
-    (λ i. heard_nothing l v here i ++ later i)
+    ap (λ (hs : List Heard). hs ++ heard_each (value_came l v) vs) (heard_nothing l v here) ∙ later
 
 -- the items that a ledger has dealt with its own rest
 then_dealt : (l : Ledger) (piece : List ℕ) → (has_heard l piece).dealt ≡ items_then l.starts l.dealt (values (l.rest ++ piece))
@@ -578,10 +578,8 @@ setup_heard name l s piece k x xs last says shaped lives sound h out set =
     let hs = pushes_after ss l.dealt vs in
     let b = (subst (AreBetween name ss all (length l.dealt) ps hs 0) out (read_between name l s piece lives h)).0 in
     let within : b.number < length ss = get_within ss b.number b.stands.start b.stands.stands in
-    let before : b.number < k → ⊥ = λ less.
-    let full = le_from _ _ (last.earlier b.number less) in
     let same : reach (take (b.number + 1) ss) l.dealt ≡ reach (take (suc b.number) ss) all = ap (λ n. reach (take n ss) l.dealt) (add-one b.number) ∙ reach_alike (take (suc b.number) ss) l.dealt all in
-    omega (arith, full, same, b.late) in
+    let before : b.number < k → ⊥ = (λ less. let full : reach (take (b.number + 1) ss) l.dealt ≤ length l.dealt = le_from _ _ (last.earlier b.number less) in omega (arith, full, same, b.late)) in
     let number : b.number ≡ k = by_test (nat_lt b.number k) _ (λ t. absurd (before (lt_from b.number k t))) (λ f. let l0 = not_lt_from b.number k f in omega (arith, within, last.long, l0)) in
     let far = reach (take (suc k) ss) all in
     let apart : ApartFrom 0 far ps hs = subst (λ (n : ℕ). ApartFrom 0 (reach (take (suc n) ss) all) ps hs) number b.apart in

@@ -14,7 +14,7 @@ use Rattle.legal_trace.specs.Ledger.{Heard, reach, ledger}
 use Rattle.link_laws.specs.Alike.{SameLink, SameStarting, SameSettling, others}
 use Rattle.link_laws.specs.Pieces.{dealt_by}
 use Rattle.link_laws.specs.Pushes.{SayTheSame, AreApart}
-use Rattle.link_laws.specs.Runs.{Operation, read, withdraw, Run, performed, run, answered_or_wanted, wanted_by, is_withdraw}
+use Rattle.link_laws.specs.Runs.{Operation, read, withdraw, Run, performed, run, answered_or_wanted, wanted_by, is_withdraw, is_read}
 use Rattle.link_laws.specs.Settles.{settled_ids, awaited_of}
 
 -- links that are alike but for one message's own verdict are so after this call
@@ -75,6 +75,12 @@ abbrev pub EachPushIsHeard : Type 0
 EachPushIsHeard =
     (name : ℕ → Owner) (size boundary : ℕ) (ops : List Operation) (piece : List ℕ) → (run name size boundary ops).over ≡ false
     → PushesAreHeard name (run name size boundary ops) piece
+
+-- and no other operation lets the ledger hear one
+abbrev pub NothingElseIsHeard : Type 0
+NothingElseIsHeard =
+    (name : ℕ → Owner) (r : Run) (op : Operation) → is_read op ≡ false
+    → (ledger (performed name r op).lines).pushes ≡ (ledger r.lines).pushes
 
 -- the message has left the queue
 abbrev pub HasLeft : ℕ → Run → Type 0
