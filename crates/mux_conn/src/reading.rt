@@ -1,4 +1,4 @@
-ghost use Rattle.std.specs.Prelude.{◌≡◌, ◌∷◌, [], List, length, false, OnOk};
+ghost use Rattle.std.specs.Prelude.{◌≡◌, ◌∷◌, ◌++◌, [], List, length, false, OnOk};
 ghost use Rattle.connection_setup.specs.Setup.{setup};
 ghost use Rattle.connection_setup.specs.Judgement.{Tells};
 ghost use Rattle.link_core.specs.Dealing.{heard_of};
@@ -34,7 +34,7 @@ impl MultiplexedConnection {
             ) }
     {
         while let Some(push) = pushes.pop_front() {
-            out.push(LinkAct::Push { info: push.info })?;
+            show_push(push, out)?;
         }
         Ok(())
     }
@@ -56,7 +56,7 @@ impl MultiplexedConnection {
         let mut rest = Rest::of(pushes);
         while let Some(push) = rest.pop_front() {
             if push.settled > 0 {
-                out.push(LinkAct::Push { info: push.info })?;
+                show_push(push, out)?;
                 return self.tell_each(&mut rest, out);
             }
         }
@@ -81,16 +81,13 @@ impl MultiplexedConnection {
         ensures failure { self.new.failure ≡ self.old.failure }
     {
         'behind: while *answered < push.settled {
-            match settled.pop_front() {
-                Some(message) => {
-                    self.answer(message.id, message.verdict.into_outcome(), out)?;
-                }
-                None => break,
-            }
+            let Some(message) = settled.pop_front() else {
+                return show_push(push, out);
+            };
+            self.answer(message.id, message.verdict.into_outcome(), out)?;
             *answered += 1;
         }
-        out.push(LinkAct::Push { info: push.info })?;
-        Ok(())
+        show_push(push, out)
     }
 
     /// What the link has settled is answered, and the pushes that came are told, each behind the messages that were settled
@@ -292,6 +289,14 @@ impl MultiplexedConnection {
             Life::Ended { error: _ } => unreachable!(),
         }
     }
+}
+
+/// A push is told.
+fn show_push(push: PushAt, out: &mut Vec<LinkAct>) -> Result<(), AllocError>
+    ensures { OnOk result (out.new.items ≡ out.old.items ++ LinkAct.Push push.info ∷ []) }
+{
+    out.push(LinkAct::Push { info: push.info })?;
+    Ok(())
 }
 
 /// What the verdict on a setup makes of the connection.
