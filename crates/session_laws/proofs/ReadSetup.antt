@@ -590,6 +590,7 @@ setup_read before c started word kind piece link with_user h good k is e = by_ou
           moved = still.moved ∙ h.moved;
           fit = fit_by u.conn c.single.connection.size c.single.connection.boundary read still.size still.boundary still.life (λ y is_it. (let one : read ≡ y = cc in subst (IsFit c.single.connection.size c.single.connection.boundary) one (sound t)));
         })
+
     -- so it does, whether somebody hears them or not
     ready : (x : Settled) (xs : List Settled) → (deals link piece).out ≡ x ∷ xs → IsAnswered l link piece with_user x → setup_result after ≡ Some result.Ready
         → applied (broken_at read.broken (told_each (made_ready w read) 0 (behind_first (heard_of c.single.connection.hears (pushes_came link piece))) []))
