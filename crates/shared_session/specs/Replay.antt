@@ -95,6 +95,7 @@ told os (action.Outcome n o) = slice_set os n (Some o)
 told os (action.Connect l host port) = os
 told os (action.Timer t ms what) = os
 told os (action.Took who l count) = os
+told os (action.Push l info) = os
 told os (action.Close l) = os
 told os (action.Write l bytes) = os
 told os (action.Wait who kind) = os
