@@ -284,7 +284,7 @@ const EVENTS: [(Deed, &str); 18] = [
 ];
 
 /// Starts, permits, times, waits, pushes, and how requests end.
-const REQUESTS: [(Deed, &str); 17] = [
+const REQUESTS: [(Deed, &str); 18] = [
     (
         Deed::Start(7, Owner::Setup, 3, 4_294_967_296),
         "start 7 0 setup 3 4294967296\n",
