@@ -1,5 +1,5 @@
 -- What the words of a configuration mean.
-use Rattle.std.specs.Prelude.{◌≡◌, ⊤, ℕ, pos, ◌==◌, Bool, true, ◌&&◌, not, Option, Some, None, option_map, unwrap_or, if◌then◌else◌}
+use Rattle.std.specs.Prelude.{◌≡◌, ⊤, ℕ, pos, ◌==◌, Bool, true, false, ◌&&◌, not, Option, Some, None, option_map, unwrap_or, if◌then◌else◌}
 use Rattle.std.specs.Str.{is_utf8}
 use Rattle.redis_error.specs.declared.config_name.ConfigName.{ConfigName}
 use Rattle.redis_error.specs.declared.config_name.ConfigName.TheVariants as name
@@ -8,6 +8,7 @@ use Rattle.connection_info.specs.declared.address.RedisConnectionInfo.{RedisConn
 use Rattle.connection_info.specs.declared.open_error.OpenError.{OpenError}
 use Rattle.connection_info.specs.declared.open_error.OpenError.TheVariants as error
 use Rattle.connection_info.specs.declared.protocol.ProtocolVersion.TheVariants.{RESP2}
+use Rattle.connection_info.specs.Protocol.{is_resp3}
 use Rattle.connection_info.specs.Address.{address_of}
 use Rattle.connection_info.specs.Config.{default_config}
 use Rattle.driver_model.specs.declared.config.Config.{Config}

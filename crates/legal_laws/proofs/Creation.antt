@@ -143,6 +143,11 @@ connect_shows_none b m host port shown may h told = record {
   caused = cause_kept b (action.Connect m host port) shown may h told;
 }
 
+-- a push
+push_shows_none : (b : Book) (m : ℕ) (info : PushInfo) → ShowsNone b (action.Push m info)
+push_shows_none b m info = unchanged b (action.Push m info) refl refl
+    (λ shown l may h q. push_keeps (IsQuiet shown) (m == l) info.kind (b.link l) (record { quiet = q.quiet; tells = q.tells }) (record { quiet = q.quiet; tells = q.tells }) q)
+
 -- a close
 close_shows_none : (b : Book) (m : ℕ) → ShowsNone b (action.Close m)
 close_shows_none b m = unchanged b (action.Close m) refl refl
@@ -182,6 +187,7 @@ step_told b shown (action.Connect m host port) may h told = still_told b shown (
 step_told b shown (action.Timer t ms what) may h told = still_told b shown (action.Timer t ms what) (unchanged b (action.Timer t ms what) refl refl (λ s l m h q. q)) may h told
 step_told b shown (action.Took owner.Setup l count) may h told = absurd may
 step_told b shown (action.Took (owner.Try n round) l count) may h told = still_told b shown (action.Took (owner.Try n round) l count) (unchanged b (action.Took (owner.Try n round) l count) refl refl (λ s j m h q. q)) may h told
+step_told b shown (action.Push m info) may h told = still_told b shown (action.Push m info) (push_shows_none b m info) may h told
 step_told b shown (action.Close m) may h told = still_told b shown (action.Close m) (close_shows_none b m) may h told
 step_told b shown (action.Write m bytes) may h told = still_told b shown (action.Write m bytes) (write_shows_none b m bytes) may h told
 step_told b shown (action.Wait owner.Setup kind) may h told = absurd may

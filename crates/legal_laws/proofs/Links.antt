@@ -87,6 +87,7 @@ lines_may b l (action.Connect m host port) may h = may_mine (m == l) (b.link l) 
 lines_may b l (action.Timer t ms what) may h = tt
 lines_may b l (action.Took owner.Setup m count) may h = absurd may
 lines_may b l (action.Took (owner.Try n round) m count) may h = tt
+lines_may b l (action.Push m info) may h = may_mine (m == l) (b.link l) (push_line info.kind) (λ t. subst (λ j. MayNote (b.link j) (push_line info.kind)) (eq_from m l t) (push_may b m info may))
 lines_may b l (action.Close m) may h = may_mine (m == l) (b.link l) (ends (b.turns - 1)) (λ t. subst (λ j. MayNote (b.link j) (ends (b.turns - 1))) (eq_from m l t) (may.why, may.ends))
 lines_may b l (action.Write m bytes) may h = may_mine (m == l) (b.link l) (offers bytes) (λ t. subst (λ j. MayNote (b.link j) (offers bytes)) (eq_from m l t) (may.up, may.answered, may.all, may.some))
 lines_may b l (action.Wait owner.Setup kind) may h = absurd may

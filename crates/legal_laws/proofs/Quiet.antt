@@ -127,7 +127,9 @@ failed_noted e l (asks info) may up h = h
 failed_noted e l (hears turn news) may up h = failed_hears e l turn news h
 failed_noted e l (begins s) may up h = h
 failed_noted e l (offers bytes) may up h = h
+failed_noted e l tells may up h = h
 failed_noted e l (ends turn) may up h = let over = failed_is_over l.end e h in absurd (not_none (ending l) may.0 (over_stays l over.0 up over.1) may.1)
+failed_noted e l parts may up h = h
 
 -- and with many
 pub failed_stays : (e : RedisError) (l : Ledger) (lines : List Line) → AllNoted l lines → UpIsNotOver l → failure_in l.end ≡ Some e → failure_in (noted_each l lines).end ≡ Some e

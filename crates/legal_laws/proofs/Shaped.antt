@@ -57,6 +57,7 @@ shaped_kept b (action.Connect m host port) l may links h = mine_keeps IsShaped (
 shaped_kept b (action.Timer t ms what) l may links h = h
 shaped_kept b (action.Took owner.Setup m count) l may links h = absurd may
 shaped_kept b (action.Took (owner.Try n round) m count) l may links h = h
+shaped_kept b (action.Push m info) l may links h = push_keeps IsShaped (m == l) info.kind (b.link l) (record { none = h.none; are = h.are }) (record { none = h.none; are = h.are }) h
 shaped_kept b (action.Close m) l may links h = mine_keeps IsShaped (m == l) (b.link l) (ends (b.turns - 1)) (λ t. record { none = h.none; are = h.are }) h
 shaped_kept b (action.Write m bytes) l may links h = mine_keeps IsShaped (m == l) (b.link l) (offers bytes) (λ t. record { none = h.none; are = h.are }) h
 shaped_kept b (action.Wait owner.Setup kind) l may links h = absurd may
