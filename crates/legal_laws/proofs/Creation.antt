@@ -10,6 +10,7 @@ use Rattle.driver_model.specs.declared.action.Owner.TheVariants as owner
 use Rattle.driver_model.specs.declared.config.Config.{Config}
 use Rattle.driver_model.specs.declared.event.Event.{Event}
 use Rattle.driver_model.specs.declared.outcome.Outcome.{Outcome}
+use Rattle.driver_model.specs.declared.push_info.PushInfo.{PushInfo}
 use Rattle.driver_model.specs.declared.outcome.Outcome.TheVariants as outcome
 use Rattle.legal_trace.specs.Ledger.{Ledger, End, Ending, by_shutdown, by_fault, by_opening, begins, offers, ends, failure_of, failure_in, is_set_up, setup_due}
 use Rattle.legal_trace.specs.Story.{Try, bytes_of, last_of}
@@ -29,6 +30,7 @@ use Rattle.legal_laws.proofs.Quiet.{IsQuiet, begins_quiet, ends_quiet, failed_is
 use Rattle.legal_laws.proofs.Ranks.{none_failed, none_over}
 use Rattle.legal_laws.proofs.Turned.{turn_quiet}
 use Rattle.legal_laws.proofs.Sound.{Sound, stays_sound, blank_is_sound, sound_behind}
+use Rattle.legal_laws.proofs.Pushed.{push_keeps}
 
 -- of what was shown of the creation: how often, that a link was asked for before, that no connect is open any more, and that
 -- each error that was shown is that of a failed opening

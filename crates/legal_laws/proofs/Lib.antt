@@ -1,3 +1,5 @@
+pub mod Pushed
+pub mod Told
 pub mod Streams
 pub mod Lines
 pub mod Opens

@@ -1,5 +1,5 @@
 -- Until the first link is asked for nothing is handed in.
-use Rattle.std.proofs.Common.{◌≡◌, ◌≢◌, ℕ, ◌≤◌, ◌==◌, Bool, false, ◌&&◌, not, Option, Some, None, if◌then◌else◌, refl, ◌∙◌, ap, arith}
+use Rattle.std.proofs.Common.{◌≡◌, ◌≢◌, ℕ, ◌≤◌, ◌==◌, Bool, false, ◌&&◌, not, [], Option, Some, None, if◌then◌else◌, refl, ◌∙◌, ap, arith}
 use Rattle.containers.proofs.Choices.{chosen, left_if}
 use Rattle.driver_model.specs.declared.action.Action.{Action}
 use Rattle.driver_model.specs.declared.action.Action.TheVariants as action
@@ -13,6 +13,7 @@ use Rattle.legal_trace.specs.Book.{Book, entered, info_in, message_of}
 use Rattle.legal_trace.specs.Legal.{MayStand}
 use Rattle.legal_trace.proofs.Ledgers.{mine_keeps}
 use Rattle.legal_trace.proofs.Plain.{not_none}
+use Rattle.legal_laws.proofs.Pushed.{push_keeps}
 
 -- before the first turn no link is asked for and no turn runs; the opening is the first turn; before a link is asked for
 -- nothing is handed in or shut down, and in the opening nothing is handed in; and one link is asked for at most

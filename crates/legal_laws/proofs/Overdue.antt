@@ -22,6 +22,7 @@ use Rattle.legal_laws.proofs.Numbers.{mover_is_numbered}
 use Rattle.legal_laws.proofs.Quiet.{IsQuiet, begins_quiet, ends_quiet}
 use Rattle.legal_laws.proofs.Turned.{turn_quiet}
 use Rattle.legal_laws.proofs.Sound.{Sound, stays_sound, blank_is_sound}
+use Rattle.legal_laws.proofs.Pushed.{push_keeps}
 
 -- one of these timers is that of submission n
 abbrev pub HasClock : ℕ → List Purpose → Type 0

@@ -7,7 +7,7 @@ use Rattle.redis_error.specs.declared.redis_error.RedisError.TheVariants as erro
 use Rattle.driver_model.specs.declared.news.LinkFault.TheVariants as fault
 use Rattle.driver_model.specs.News.{News, silence, connected, refused, overdue, took, came, failed, shut}
 use Rattle.resp_read.specs.Values.{is_spoiled}
-use Rattle.legal_trace.specs.Ledger.{Ledger, Line, Start, End, Ending, is_of_setup, is_set_up, setup_result, error_in, ending_by, ending_unready, ending_alive, by_fault, asks, hears, begins, offers, ends, noted, noted_each, with_news, refused_in, bytes_came, is_over, dials, ending, ending_up, ending_asked, ending_or_shutdown, failure_of, failure_in, MayNote, AllNoted}
+use Rattle.legal_trace.specs.Ledger.{Ledger, Line, Start, End, Ending, is_of_setup, is_set_up, setup_result, error_in, ending_by, ending_unready, ending_alive, by_fault, asks, hears, begins, offers, tells, ends, parts, noted, noted_each, with_news, refused_in, bytes_came, is_over, dials, ending, ending_up, ending_asked, ending_or_shutdown, failure_of, failure_in, MayNote, AllNoted}
 use Rattle.legal_trace.proofs.Ledgers.{dials_from, UpIsNotOver, up_keeps}
 use Rattle.legal_trace.proofs.Plain.{none_from, not_none}
 use Rattle.legal_trace.proofs.Setups.{AreSetups, set_came, set_begins}

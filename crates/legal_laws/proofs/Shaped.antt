@@ -15,6 +15,7 @@ use Rattle.legal_trace.proofs.Ledgers.{mine_keeps, hears_past}
 use Rattle.legal_trace.proofs.Moves.{mover_is_up, starter_moves}
 use Rattle.legal_trace.proofs.Setups.{SetupsOf, due_is_up, setups_request, setups_setup}
 use Rattle.legal_laws.proofs.Numbers.{HasLinks, up_is_asked}
+use Rattle.legal_laws.proofs.Pushed.{push_keeps}
 
 -- nothing starts on a link that was not asked for, and its setups take what they are to
 pub record IsShaped (l : Ledger) : Type 0 where

@@ -15,6 +15,7 @@ use Rattle.legal_trace.specs.Legal.{MayStand, NoneEnds}
 use Rattle.legal_trace.proofs.Ledgers.{mine_keeps, hears_past}
 use Rattle.legal_trace.proofs.Plain.{not_none}
 use Rattle.legal_laws.proofs.Opens.{IsOpening}
+use Rattle.legal_laws.proofs.Pushed.{push_keeps}
 
 -- a link that was asked for and has not ended was told of the shutdown by the turn that runs
 abbrev pub HearsShut : Ledger → Type 0

@@ -5,7 +5,7 @@ use Rattle.std.proofs.Math.Seq.{drop-append_seam}
 use Rattle.containers.proofs.Choices.{chosen}
 use Rattle.redis_error.specs.declared.redis_error.RedisError.TheVariants as error
 use Rattle.driver_model.specs.News.{News, silence, connected, refused, overdue, took, came, failed, shut}
-use Rattle.legal_trace.specs.Ledger.{Ledger, Line, asks, hears, begins, offers, ends, blank_ledger, noted, noted_each, with_news, refused_in, bytes_came, is_over, dials, joined, stream, MayNote, AllNoted, LinkLegal}
+use Rattle.legal_trace.specs.Ledger.{Ledger, Line, asks, hears, begins, offers, tells, ends, parts, blank_ledger, noted, noted_each, with_news, refused_in, bytes_came, is_over, dials, joined, stream, MayNote, AllNoted, LinkLegal}
 use Rattle.legal_trace.proofs.Ledgers.{joined_more}
 use Rattle.legal_laws.specs.Links.{IsPrefix, TakesInOrder}
 
