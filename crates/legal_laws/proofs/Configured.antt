@@ -44,7 +44,7 @@ turns_stay b (action.Created e) some = some
 turns_stay b (action.Outcome n o) some = some
 
 -- so the configuration stays
-config_kept : (b : Book) (front : List Action) → AllStand b front → b.turns ≢ 0 → (entered_each b front).config ≡ b.config
+pub config_kept : (b : Book) (front : List Action) → AllStand b front → b.turns ≢ 0 → (entered_each b front).config ≡ b.config
 config_kept b [] all some = refl
 config_kept b (a ∷ more) all some = config_kept (entered b a) more all.1 (turns_stay b a some) ∙ config_stays b a all.0 some
 

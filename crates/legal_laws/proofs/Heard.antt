@@ -75,7 +75,7 @@ value_grows l v = chosen (λ (x : Ledger). length l.dealt ≤ length x.dealt) (i
 
 -- a push comes behind the items dealt so far
 at_between : (l : Ledger) (v : Data) (high : ℕ) → length l.dealt ≤ high → Between (length l.dealt) (heard_at l v) high
-at_between l (push kind parts) high i = chosen (λ hs. Between (length l.dealt) hs high) (is_set_up l) (record { after = length l.dealt; info = record { kind = kind; parts = list_of parts } } ∷ []) [] (λ t. (omega arith, i)) (λ f. i)
+at_between l (push kind rest) high i = chosen (λ hs. Between (length l.dealt) hs high) (is_set_up l) (record { after = length l.dealt; info = record { kind = kind; parts = list_of rest } } ∷ []) [] (λ t. (omega arith, i)) (λ f. i)
 at_between l _ high i = i
 
 -- so do those among many values

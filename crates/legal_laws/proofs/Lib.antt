@@ -9,6 +9,7 @@ pub mod Tales
 pub mod Shutdown
 pub mod Shaped
 pub mod Sound
+pub mod Heard
 pub mod Links
 pub mod Answers
 pub mod Quiet
@@ -30,3 +31,6 @@ pub mod Rising
 pub mod Leaving
 pub mod Fired
 pub mod Opened
+pub mod Pushes
+pub mod Parted
+pub mod Among

@@ -103,7 +103,7 @@ lines_may b l (action.Created e) may h = tt
 lines_may b l (action.Outcome n o) may h = tt
 
 -- so what actions tell that may stand, behind what is in a book
-each_may : (b : Book) (l : ℕ) (trace : List Action) → AllStand b trace → Sound b → AllNoted (b.link l) (lines_of_each b l trace)
+pub each_may : (b : Book) (l : ℕ) (trace : List Action) → AllStand b trace → Sound b → AllNoted (b.link l) (lines_of_each b l trace)
 each_may b l [] all h = tt
 each_may b l (a ∷ more) all h =
     may_append (b.link l) (lines_of b l a) (lines_of_each (entered b a) l more) (lines_may b l a all.0 h)

@@ -298,7 +298,7 @@ answer_or_created : (b : Book) (n : ℕ) (o : Outcome) → is_over (link_of b n)
 answer_or_created b n o e p q = not_none (owed b n) o (q.answered n p.asked e) p.owes
 
 -- submissions go to the link of a push that waits
-on_its_link : (b : Book) (n l : ℕ) (info : PushInfo) → Sound b → MayTellPush b l info → (b.story n).link ≡ l
+pub on_its_link : (b : Book) (n l : ℕ) (info : PushInfo) → Sound b → MayTellPush b l info → (b.story n).link ≡ l
 on_its_link b n l info h q =
     let first : (b.story n).link ≡ 0 = h.goes n in
     let i : l < b.links = up_is_numbered b l h.links (h.waits l q.heard q.push q.next) in

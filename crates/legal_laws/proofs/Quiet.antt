@@ -90,7 +90,7 @@ pub begins_quiet : (shown : List (Option RedisError)) (l : Ledger) (s : Start) �
 begins_quiet shown l s request h = record { quiet = (h.quiet.0, λ u. set_begins l s request (h.quiet.1 u)); tells = h.tells }
 
 -- what has ended ends no second time
-over_stays : (l : Ledger) (end : End) → UpIsNotOver l → l.end ≡ Some end → ending l ≡ None
+pub over_stays : (l : Ledger) (end : End) → UpIsNotOver l → l.end ≡ Some end → ending l ≡ None
 over_stays l end h over =
     chosen (λ (x : Option Ending). x ≡ None) l.up (ending_alive l) (if l.asked && not (is_over l) then ending_asked l.heard else None)
     (λ t. absurd (not_none l.end end (h t) over))

@@ -15,3 +15,4 @@ pub mod Places
 pub mod Permits
 pub mod Setups
 pub mod Unready
+pub mod Pushes

@@ -6,3 +6,4 @@ pub mod Fronts
 pub mod Claims
 pub mod Permits
 pub mod Setups
+pub mod Pushes
