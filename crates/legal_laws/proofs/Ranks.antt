@@ -192,11 +192,10 @@ verdicts b none n o e = none n o
 
 -- what is done where the event has had its effect
 pub applied : (b : Book) → Sound b → IsApplied b → Reached 8 b
-applied b h done =
-    (
-      done.answered,
-      (done.parted, (done.created.failed, (done.ended, (record { answered = verdicts b done.answered; created = done.created.shown; pushed = done.pushed }, (done.timed, linked b h done.created.asked))))),
-    )
+applied b h done = (
+  done.answered,
+  (done.parted, (done.created.failed, (done.ended, (record { answered = verdicts b done.answered; created = done.created.shown; pushed = done.pushed }, (done.timed, linked b h done.created.asked))))),
+)
 
 -- where setups have started
 pub begun_all : (b : Book) → Sound b → IsBegun b → Reached 9 b

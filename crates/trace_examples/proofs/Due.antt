@@ -94,6 +94,10 @@ IsPushOf info (Some p) = info ≡ p.info
 tell_stands : (b : Book) (l : ℕ) (info : PushInfo) → IsBounded b → tell_due b l (next_push (b.link l)) ≡ true → IsPushOf info (next_push (b.link l)) → MayTellPush b l info
 tell_stands b l info bounded e said = of_push (next_push (b.link l)) refl e said
   where
+    second_of : (p q : Bool) → (p && q) ≡ false → p ≡ true → q ≡ false
+    second_of true q e t = e
+    second_of false q e t = cc t
+
     of_push : (x : Option Heard) → next_push (b.link l) ≡ x → tell_due b l x ≡ true → IsPushOf info x → MayTellPush b l info
     of_push None same t s = absurd s
     of_push (Some p) same t s = record {
@@ -106,10 +110,6 @@ tell_stands b l info bounded e said = of_push (next_push (b.link l)) refl e said
       answered = λ n o on before. of_open b ⊥ n bounded
           (λ i. not_before b n p (second_of (is_open (b.story n)) (is_before b n p) (not-true (answers_first b p n) (below (λ m. not (answers_first b p m)) b.submissions n (search (both_left, both_right)) i)) o) before) o;
     }
-
-    second_of : (p q : Bool) → (p && q) ≡ false → p ≡ true → q ≡ false
-    second_of true q e t = e
-    second_of false q e t = cc t
 
 -- that a fault ended the first link; that it says no more is left to be said
 abbrev pub part_due : Book → ℕ → Bool

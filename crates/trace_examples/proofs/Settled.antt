@@ -155,7 +155,7 @@ ends_are_told b bounded t l heard = first_and_idle b (λ m. is_cut (b.link m).en
 
 -- the event has had its own effect
 abbrev pub is_applied : Book → Bool
-is_applied b = all_quiet b && none_ends b && not (b.links == 0) && ready_shown b && failure_shown b && pushes_told b && end_told b && is_timed b
+is_applied b = (all_quiet b && none_ends b && not (b.links == 0) && is_timed b) && (ready_shown b && failure_shown b && pushes_told b && end_told b)
 
 pub applied : (b : Book) → IsBounded b → is_applied b ≡ true → IsApplied b
 applied b bounded e = record {
