@@ -1,6 +1,6 @@
 -- Where a push stands among the outcomes: behind those of messages that were full before it came, and before those of messages
 -- that take an item behind it.
-use Rattle.std.proofs.Common.{◌≡◌, ◌≢◌, ◌⊎◌, inl, inr, ℕ, zero, suc, ◌+◌, ◌-◌, ◌<◌, ◌≤◌, ◌==◌, nat_le, Bool, true, false, ◌&&◌, not, List, [], ◌∷◌, ◌++◌, length, take, Option, Some, None, is_some, refl, sym, ◌∙◌, ap, subst, arith, length-append}
+use Rattle.std.proofs.Common.{◌≡◌, ◌≢◌, ◌⊎◌, inl, inr, ℕ, zero, suc, ◌+◌, ◌-◌, ◌<◌, ◌≤◌, ◌==◌, Bool, true, false, ◌&&◌, not, List, [], ◌∷◌, ◌++◌, length, take, Option, Some, None, is_some, refl, sym, ◌∙◌, ap, subst, arith, length-append}
 use Rattle.std.proofs.lemmas.List.{take-append-le, take_all, length_push}
 use Rattle.std.specs.Prelude.{slice_get}
 use Rattle.containers.proofs.Choices.{by_test, chosen, eq_from, eq_test, le_from, le_test, not_le_from, not_le_test}
@@ -20,12 +20,12 @@ use Rattle.driver_model.specs.News.{News, silence, connected, refused, overdue, 
 use Rattle.legal_trace.specs.Ledger.{Ledger, Heard, Line, Start, asks, hears, begins, offers, tells, ends, parts, noted, noted_each, with_news, refused_in, bytes_came, is_over, dials, reach, reached, is_full, is_full_by, next_push}
 use Rattle.legal_trace.specs.Story.{Story, Try, last_of, is_open, handed_in, left, holds, clocked, fires, tried, waits, answered}
 use Rattle.legal_trace.specs.Book.{Book, blank_book, book, entered, entered_each, current, is_clock_of, after_event, message_of, if_mine, lines_of, lines_of_each}
-use Rattle.legal_trace.specs.Legal.{MayStand, MayTellPush, MayAnswer, MayTell, AllStand, IsOpen, IsBefore, is_heard, is_heard_in, link_of, Legal}
+use Rattle.legal_trace.specs.Legal.{MayStand, MayTellPush, MayAnswer, MayTell, AllStand, IsOpen, IsBefore, is_heard, is_heard_in, Legal}
 use Rattle.legal_trace.proofs.Books.{stand_front, stand_behind, book_append}
-use Rattle.legal_trace.proofs.Ledgers.{each_keeps, mine_keeps, reach_alike, reach_more, takes_one, HasStarted}
+use Rattle.legal_trace.proofs.Ledgers.{each_keeps, reach_alike, reach_more, takes_one}
 use Rattle.legal_trace.proofs.Moves.{has_no_tries}
 use Rattle.legal_trace.proofs.Plain.{not_none, same_some}
-use Rattle.legal_laws.specs.Pushes.{Tells, HasMessage, AnswersBehind, AnswersBefore, TellsInOrder}
+use Rattle.legal_laws.specs.Pushes.{Tells, HasMessage, TellsInOrder}
 use Rattle.legal_laws.proofs.Configured.{config_kept}
 use Rattle.legal_laws.proofs.Heard.{between_at, between_behind, InRow, in_row, IsBeyond, beyond_keeps}
 use Rattle.legal_laws.proofs.Held.{not_open}

@@ -1,8 +1,7 @@
 -- That a link has ended is told once, where a fault ended it once it was set up: behind its close, and before what it gives.
-use Rattle.std.proofs.Common.{◌≡◌, ◌≢◌, ◌⊎◌, inl, inr, ℕ, ◌-◌, ◌<◌, ◌≤◌, ◌==◌, Bool, true, false, ◌&&◌, not, List, [], ◌∷◌, ◌++◌, take, Option, Some, None, is_some, if◌then◌else◌, refl, sym, ◌∙◌, ap, subst, arith}
+use Rattle.std.proofs.Common.{◌≡◌, ◌≢◌, ◌⊎◌, inl, inr, ℕ, ◌-◌, ◌<◌, ◌==◌, Bool, true, false, ◌&&◌, not, List, [], ◌∷◌, ◌++◌, take, Option, Some, None, is_some, if◌then◌else◌, refl, sym, ◌∙◌, ap, subst, arith}
 use Rattle.std.proofs.lemmas.List.{append-nil}
-use Rattle.containers.proofs.Choices.{by_test, chosen, if_true, left_if, eq_from, eq_test, not_both, both_right}
-use Rattle.redis_error.specs.declared.fault_kind.FaultKind.TheVariants as kind
+use Rattle.containers.proofs.Choices.{by_test, chosen, if_true, left_if, eq_from, eq_test, not_both}
 use Rattle.redis_error.specs.declared.redis_error.RedisError.{RedisError}
 use Rattle.redis_error.specs.declared.redis_error.RedisError.TheVariants as error
 use Rattle.resp_read.specs.Values.{is_spoiled}
@@ -16,26 +15,24 @@ use Rattle.driver_model.specs.declared.outcome.Outcome.{Outcome}
 use Rattle.driver_model.specs.declared.push_info.PushInfo.{PushInfo}
 use Rattle.driver_model.specs.News.{News, silence, connected, refused, overdue, took, came, failed, shut, news_of}
 use Rattle.driver_model.specs.Push.{is_disconnection}
-use Rattle.legal_trace.specs.Ledger.{Ledger, Line, End, Ending, by_shutdown, by_fault, by_opening, asks, hears, begins, offers, tells, ends, parts, noted, noted_each, with_news, refused_in, bytes_came, is_over, is_fault, is_cut, is_set_up, setup_result, error_in, dials, ending, ending_alive, ending_by, ending_unready, ending_asked, ending_or_shutdown, MayNote, AllNoted}
-use Rattle.legal_trace.specs.Book.{Book, blank_book, book, entered, entered_each, if_mine, push_line, info_in, message_of, lines_of_each}
-use Rattle.legal_trace.specs.Legal.{MayStand, MayAnswer, MayTell, MayPart, AllStand, link_of, is_heard, is_heard_in, Legal}
+use Rattle.legal_trace.specs.Ledger.{Ledger, Line, End, Ending, by_opening, asks, hears, begins, offers, tells, ends, parts, noted, noted_each, with_news, refused_in, bytes_came, is_over, is_fault, is_cut, is_set_up, setup_result, error_in, dials, ending, ending_alive, ending_by, ending_unready, ending_asked, ending_or_shutdown, MayNote, AllNoted}
+use Rattle.legal_trace.specs.Book.{Book, blank_book, book, entered, entered_each, push_line, info_in, message_of, lines_of_each}
+use Rattle.legal_trace.specs.Legal.{MayStand, MayAnswer, MayTell, MayPart, AllStand, is_heard, is_heard_in, Legal}
 use Rattle.legal_trace.proofs.Books.{stand_front, stand_behind}
 use Rattle.legal_trace.proofs.Ledgers.{each_keeps, mine_keeps, UpIsNotOver, up_keeps, dials_from}
 use Rattle.legal_trace.proofs.Moves.{mover_is_up, starter_moves, teller_moves}
 use Rattle.legal_trace.proofs.Plain.{none_from, not_none}
 use Rattle.legal_trace.proofs.Setups.{due_is_up}
-use Rattle.legal_laws.specs.Pushes.{Disconnects, DisconnectsOnce, IsClosed, IsCutOff, IsParted, TellsEnds}
+use Rattle.legal_laws.specs.Pushes.{Disconnects, IsClosed, TellsEnds}
 use Rattle.legal_laws.proofs.Bounds.{ready_behind, applied_began}
 use Rattle.legal_laws.proofs.Configured.{config_kept}
-use Rattle.legal_laws.proofs.Leaving.{outcome_is_open}
 use Rattle.legal_laws.proofs.Lines.{told_behind}
 use Rattle.legal_laws.proofs.Links.{each_may}
 use Rattle.legal_laws.proofs.Numbers.{open_is_numbered}
 use Rattle.legal_laws.proofs.Pushed.{push_keeps}
-use Rattle.legal_laws.proofs.Pushes.{parting_of, push_is_heard}
+use Rattle.legal_laws.proofs.Pushes.{parting_of}
 use Rattle.legal_laws.proofs.Quiet.{over_stays}
-use Rattle.legal_laws.proofs.Ranks.{cut_is_over}
-use Rattle.legal_laws.proofs.Sound.{Sound, stays_sound, stay_sound, blank_is_sound, sound_behind}
+use Rattle.legal_laws.proofs.Sound.{Sound, stays_sound, blank_is_sound, sound_behind}
 
 -- what a test says of books, which it didn't at first, it says by one of the actions
 pub record Comes (test : Book → Bool) (b : Book) (trace : List Action) : Type 0 where

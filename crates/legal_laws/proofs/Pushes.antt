@@ -1,5 +1,5 @@
 -- Each push that came is told, once and in order, and none where nobody hears pushes.
-use Rattle.std.proofs.Common.{◌≡◌, ◌≢◌, ◌⊎◌, inl, inr, ℕ, zero, suc, ◌+◌, ◌-◌, ◌<◌, ◌≤◌, ◌==◌, Bool, true, false, ◌&&◌, not, List, [], ◌∷◌, ◌++◌, length, take, Option, Some, None, if◌then◌else◌, refl, sym, ◌∙◌, ap, subst, append_assoc, arith, length-append}
+use Rattle.std.proofs.Common.{◌≡◌, ◌≢◌, ◌⊎◌, inl, inr, ℕ, zero, suc, ◌+◌, ◌-◌, ◌<◌, ◌≤◌, ◌==◌, Bool, true, false, ◌&&◌, not, List, [], ◌∷◌, ◌++◌, length, take, Some, None, if◌then◌else◌, refl, sym, ◌∙◌, ap, subst, append_assoc, arith, length-append}
 use Rattle.std.specs.Prelude.{slice_get}
 use Rattle.std.proofs.lemmas.List.{append-nil, take-append-le}
 use Rattle.containers.proofs.Choices.{by_test, chosen, taken_if, left_if, eq_from, not_both}
@@ -8,21 +8,20 @@ use Rattle.resp_read.specs.Values.{values}
 use Rattle.driver_model.specs.declared.action.Action.{Action}
 use Rattle.driver_model.specs.declared.action.Action.TheVariants as action
 use Rattle.driver_model.specs.declared.action.Cause.TheVariants as cause
-use Rattle.driver_model.specs.declared.action.Owner.TheVariants as owner
 use Rattle.driver_model.specs.declared.config.Config.{Config}
 use Rattle.driver_model.specs.declared.event.Event.{Event}
 use Rattle.driver_model.specs.declared.push_info.PushInfo.{PushInfo}
 use Rattle.driver_model.specs.Config.{hears_pushes}
 use Rattle.driver_model.specs.News.{News, silence, connected, refused, overdue, took, came, failed, shut, news_of}
 use Rattle.driver_model.specs.Push.{is_disconnection}
-use Rattle.legal_trace.specs.Ledger.{Ledger, Heard, asks, hears, begins, offers, tells, ends, parts, noted, noted_each, with_news, refused_in, bytes_came, heard_each, is_over, dials, next_push}
+use Rattle.legal_trace.specs.Ledger.{Ledger, Heard, asks, hears, begins, offers, tells, ends, parts, noted, noted_each, refused_in, bytes_came, heard_each, is_over, dials, next_push}
 use Rattle.legal_trace.specs.Book.{Book, blank_book, book, entered, entered_each, if_mine, push_line, info_in, message_of}
 use Rattle.legal_trace.specs.Legal.{MayStand, MayTellPush, MayPart, MayPush, MayPushBy, AllStand, IsSettled, is_heard, is_heard_in, Legal}
 use Rattle.legal_trace.proofs.Books.{stand_front}
 use Rattle.legal_trace.proofs.Ledgers.{mine_keeps}
 use Rattle.legal_trace.proofs.Plain.{same_some}
-use Rattle.legal_laws.specs.Pushes.{told_by, pushes_told, said_by, IsWhole, Tells, TellsNone, TellsEach, TellsPushes}
-use Rattle.legal_laws.proofs.Bounds.{IsReady, ready_behind, next_may, applied_began}
+use Rattle.legal_laws.specs.Pushes.{told_by, pushes_told, said_by, IsWhole, Tells, TellsPushes}
+use Rattle.legal_laws.proofs.Bounds.{ready_behind, next_may, applied_began}
 use Rattle.legal_laws.proofs.Ranks.{push_rank, rank, reached, step_of}
 use Rattle.legal_laws.proofs.Sound.{Sound}
 
