@@ -6,7 +6,9 @@ use crate::connection::MultiplexedConnection;
 use crate::life::Life;
 use crate::request::{Pending, Waiting};
 use containers::Queue;
-use driver_model::{LinkFault, LinkNews, Outcome, PushInfo, says_nothing, setup_bytes, setup_shape};
+use driver_model::{
+    LinkFault, LinkNews, Outcome, PushInfo, says_nothing, setup_bytes, setup_shape,
+};
 use link_core::{LinkCore, Rest, Settled};
 use redis_error::{FaultKind, RedisError};
 use std::alloc::{AllocError, Global};
@@ -289,7 +291,12 @@ impl MultiplexedConnection {
     }
 
     /// The setup takes its place on this link, with the user name or without it.
-    pub(crate) fn set_up(&mut self, alloc: Global, link: LinkCore, with_user: bool) -> Result<(), AllocError>
+    pub(crate) fn set_up(
+        &mut self,
+        alloc: Global,
+        link: LinkCore,
+        with_user: bool,
+    ) -> Result<(), AllocError>
         ensures conn { OnOk result (
             self.new ≡ (sets_up (work_with self.old []) link with_user).conn
             ) }

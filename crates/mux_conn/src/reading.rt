@@ -23,11 +23,7 @@ impl MultiplexedConnection {
     ghost use Rattle.mux_conn.specs.Effects.{pushed_each, told_each, behind_first, heard_on};
 
     /// These pushes are told, in order.
-    fn tell_each(
-        &self,
-        pushes: &mut Rest<PushAt>,
-        out: &mut Vec<LinkAct>,
-    ) -> Result<(), AllocError>
+    fn tell_each(&self, pushes: &mut Rest<PushAt>, out: &mut Vec<LinkAct>) -> Result<(), AllocError>
         ensures { OnOk result (
             work_with self.now out.new.items
             ≡ pushed_each (work_with self.now out.old.items) pushes.old

@@ -139,11 +139,27 @@ const OPENINGS: [(Deed, &str); 10] = [
         "turn 0 @18446744073709551615 config single url=redis://%25-:0 response=none lib=off\n",
     ),
     (
-        Deed::Opening(0, b" ;", (Some(Some(0)), None, None, None, None, None, None)),
+        Deed::Opening(
+            0,
+            b" ;",
+            (Some(Some(0)), None, None, None, None, None, None),
+        ),
         "turn 0 config single url=%20; connect=0\n",
     ),
     (
-        Deed::Opening(0, b"", (Some(Some(u64::MAX)), None, None, None, None, Some(false), None)),
+        Deed::Opening(
+            0,
+            b"",
+            (
+                Some(Some(u64::MAX)),
+                None,
+                None,
+                None,
+                None,
+                Some(false),
+                None,
+            ),
+        ),
         "turn 0 config single url= connect=18446744073709551615 push=off\n",
     ),
     (
