@@ -1,5 +1,5 @@
 -- What a sender is handed, and the pushes of actions.
-use Rattle.std.specs.Prelude.{◌≡◌, ℕ, ◌+◌, ◌-◌, ◌^◌, ◌≤◌, min, List, [], ◌∷◌, ◌++◌, length, take, Option, Some}
+use Rattle.std.specs.Prelude.{◌≡◌, ℕ, ◌+◌, ◌-◌, ◌^◌, ◌≤◌, min, List, [], ◌∷◌, ◌++◌, Option, Some}
 use Rattle.driver_model.specs.declared.push_info.PushInfo.{PushInfo}
 use Rattle.driver_model.specs.declared.action.Action.{Action}
 use Rattle.driver_model.specs.declared.action.Action.TheVariants as action
@@ -12,11 +12,12 @@ Rose before now = min (before + 1) (2 ^ 64 - 1) ≤ now
 pub record Gained (old new : Option (List PushInfo)) (more : List PushInfo) : Type 0 where
   pub handed : (before : List PushInfo) → old ≡ Some before → new ≡ Some (before ++ more)
 
--- what a sender was handed, if it tells, is what it was handed before and then the first of these pushes, or all of them
+-- what a sender was handed, if it tells, is what it was handed before and then a front of these pushes, or all of them
 pub record GainedPart (old new : Option (List PushInfo)) (more : List PushInfo) : Type 0 where
-  pub count : ℕ
-  pub within : count ≤ length more
-  pub gained : Gained old new (take count more)
+  pub front : List PushInfo
+  pub rest : List PushInfo
+  pub whole : more ≡ front ++ rest
+  pub gained : Gained old new front
 
 -- the push that an action is
 abbrev pub push_of : Action → List PushInfo

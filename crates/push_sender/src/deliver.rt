@@ -1,8 +1,8 @@
-ghost use Rattle.std.specs.Prelude.{◌≡◌, ◌-◌, ◌≤◌, IfOk, OnOk, OnErr};
+ghost use Rattle.std.specs.Prelude.{◌≡◌, ◌-◌, ◌≤◌, [], ◌∷◌, IfOk, OnOk, MatchOption};
 ghost use Rattle.push_sender.specs.Sending.{Gained, GainedPart, pushes_of, push_of};
 
 use crate::sender::{AsyncPushSender, SendError};
-use driver_model::Action;
+use driver_model::{Action, PushInfo};
 use std::alloc::{AllocError, Global};
 
 /// Hands the pushes of these actions to a sender, in order, each as a copy of its own. The answer is how many of them it
@@ -33,10 +33,33 @@ fn hand_on(
     ensures part { GainedPart (handed sender.old) (handed sender.new) (push_of action.now) }
     ensures later { refusals sender.old ≤ refusals sender.new }
 {
-    let Action::Push { link: _, info } = action else {
-        return Ok(());
-    };
-    let info = info.clone(alloc)?;
+    match push_in(action) {
+        Some(info) => {
+            let info = info.clone(alloc)?;
+            send_on(info, sender)?;
+            Ok(())
+        }
+        None => Ok(()),
+    }
+}
+
+/// The push that an action is, if it is one.
+fn push_in(action: &Action) -> Option<&PushInfo>
+    ensures { MatchOption result
+        (push_of action.now ≡ [])
+        (λ info. push_of action.now ≡ info.now ∷ []) }
+{
+    match action {
+        Action::Push { link: _, info } => Some(info),
+        _ => None,
+    }
+}
+
+/// Hands a push to a sender, which may refuse it.
+fn send_on(info: PushInfo, sender: &mut Box<dyn AsyncPushSender>) -> Result<(), AllocError>
+    ensures got { Gained (handed sender.old) (handed sender.new) (info ∷ []) }
+    ensures later { refusals sender.old ≤ refusals sender.new }
+{
     match sender.send(info) {
         Ok(()) => Ok(()),
         Err(SendError::Refused) => Ok(()),

@@ -32,7 +32,15 @@ impl<F: FnMut(PushInfo) -> Result<(), SendError> + Drop> AsyncPushSender for Pus
         self.refused
     }
 
-    fn send(&mut self, info: PushInfo) -> Result<(), SendError> {
+    fn send(&mut self, info: PushInfo) -> Result<(), SendError>
+        ensures handed { Gained None None (info ∷ []) }
+        ensures later { self.old.refused ≤ self.new.refused }
+        ensures refused { IsErrOf result SendError.Refused
+            → Rose self.old.refused self.new.refused }
+
+        // The closure was called with this push, and what it answered is the answer.
+        ensures called { F.step self.old.send info result self.new.send }
+    {
         let taken = (self.send)(info);
         if let Err(SendError::Refused) = taken {
             self.refused = self.refused.saturating_add(1);
