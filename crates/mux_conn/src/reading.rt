@@ -53,7 +53,8 @@ impl MultiplexedConnection {
         while let Some(push) = rest.pop_front() {
             if push.settled > 0 {
                 show_push(push, out)?;
-                return self.tell_each(&mut rest, out);
+                self.tell_each(&mut rest, out)?;
+                return Ok(());
             }
         }
         Ok(())
@@ -78,12 +79,14 @@ impl MultiplexedConnection {
     {
         'behind: while *answered < push.settled {
             let Some(message) = settled.pop_front() else {
-                return show_push(push, out);
+                show_push(push, out)?;
+                return Ok(());
             };
             self.answer(message.id, message.verdict.into_outcome(), out)?;
             *answered += 1;
         }
-        show_push(push, out)
+        show_push(push, out)?;
+        Ok(())
     }
 
     /// What the link has settled is answered, and the pushes that came are told, each behind the messages that were settled
