@@ -1,5 +1,5 @@
 -- What a sender was handed, put together.
-use Rattle.std.proofs.Common.{◌≡◌, ℕ, ◌+◌, ◌<◌, ◌≤◌, List, [], ◌∷◌, ◌++◌, length, take, drop, get_or, Option, Some, refl, sym, ap, subst, ◌∙◌, append_assoc, append-nil}
+use Rattle.std.proofs.Common.{◌≡◌, ℕ, ◌+◌, ◌<◌, ◌≤◌, List, [], ◌∷◌, ◌++◌, length, take, drop, get_or, Option, Some, None, refl, sym, ap, subst, ◌∙◌, append_assoc, append-nil}
 use Rattle.std.proofs.lemmas.List.{take-append-drop, take_more}
 use Rattle.driver_model.specs.declared.push_info.PushInfo.{PushInfo}
 use Rattle.driver_model.specs.declared.action.Action.{Action}
@@ -54,3 +54,7 @@ part_more a b c all k x less is first part =
       whole = cut ∙ ap (λ (ps : List PushInfo). ps ++ behind) parted ∙ append_assoc (before ++ part.front) part.rest behind;
       gained = gained_both a b c before part.front first part.gained;
     }
+
+-- what tells nothing gains what it likes
+pub gained_untold : (xs : List PushInfo) → Gained None None xs
+gained_untold xs = record { handed = λ before is. cc }

@@ -41,10 +41,13 @@ impl<F: FnMut(PushInfo) -> Result<(), SendError> + Drop> AsyncPushSender for Pus
         // The closure was called with this push, and what it answered is the answer.
         ensures called { F.step self.old.send info result self.new.send }
     {
-        let taken = (self.send)(info);
-        if let Err(SendError::Refused) = taken {
-            self.refused = self.refused.saturating_add(1);
+        match (self.send)(info) {
+            Ok(()) => Ok(()),
+            Err(SendError::Refused) => {
+                self.refused = self.refused.saturating_add(1);
+                Err(SendError::Refused)
+            }
+            Err(SendError::NoMemory) => Err(SendError::NoMemory),
         }
-        taken
     }
 }
