@@ -1,10 +1,10 @@
 //! Where the pushes of a session go: senders, and the actions' pushes handed to one.
 #![tactic(auto)]
 
-mod deliver;
+mod delivery;
 mod push_fn;
 mod sender;
 
-pub use deliver::deliver;
+pub use delivery::deliver;
 pub use push_fn::PushFn;
 pub use sender::{AsyncPushSender, SendError};

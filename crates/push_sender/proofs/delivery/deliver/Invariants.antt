@@ -1,6 +1,6 @@
 use Rattle.std.proofs.Common.{◌≡◌, ◌≤◌, take}
 use Rattle.push_sender.specs.Sending.{Gained, pushes_of}
-use Rattle.push_sender.proofs.deliver.deliver.Given as goal
+use Rattle.push_sender.proofs.delivery.deliver.Given as goal
 
 -- the pushes among the actions so far were handed on
 abbrev pub invariant-loop-action : goal.invariant-loop-action
