@@ -16,7 +16,7 @@ use Rattle.link_laws.proofs.Alike.{same_dealt_each}
 use Rattle.link_laws.proofs.Pieces.{value_then}
 use Rattle.mux_conn.specs.Connection.{Work}
 use Rattle.mux_conn.specs.Requests.{answered}
-use Rattle.mux_conn.specs.Effects.{settled_each, pushed, pushed_each, told_each}
+use Rattle.mux_conn.specs.Effects.{settled_each, pushed, told_each}
 
 -- the row behind one value, and what that value settles
 abbrev pub by_value : List Entry → Data → Dealing
