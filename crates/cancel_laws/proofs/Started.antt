@@ -15,7 +15,6 @@ use Rattle.driver_model.specs.Config.{address, buffer_size, buffer_fault, room_f
 use Rattle.driver_model.specs.Request.{packed_bytes, is_reply_awaited, needs_resp3, lacks_resp3}
 use Rattle.mux_conn.specs.Connection.{has_no_permit}
 use Rattle.mux_conn.specs.Effects.{new_link, all_fresh, made_ready, sets_up}
-use Rattle.mux_conn.specs.Passes.{started}
 use Rattle.shared_session.specs.declared.core_state.Core.{Core}
 use Rattle.shared_session.specs.Turn.{work_of, with_work, shut_by, counted, moved_on, timed, next_turn}
 use Rattle.shared_session.specs.Replay.{opening_core, IsSound, state_after}

@@ -19,7 +19,7 @@ use Rattle.driver_model.specs.declared.push_info.PushInfo.{PushInfo}
 use Rattle.driver_model.specs.News.{News, silence, connected, refused, overdue, took, came, failed, shut}
 use Rattle.legal_trace.specs.Ledger.{Ledger, Heard, Line, Start, asks, hears, begins, offers, tells, ends, parts, noted, noted_each, with_news, refused_in, bytes_came, is_over, dials, reach, reached, is_full, is_full_by, next_push}
 use Rattle.legal_trace.specs.Story.{Story, Try, last_of, is_open, handed_in, left, holds, clocked, fires, tried, waits, answered}
-use Rattle.legal_trace.specs.Book.{Book, blank_book, book, entered, entered_each, current, is_clock_of, after_event, message_of, if_mine, lines_of, lines_of_each}
+use Rattle.legal_trace.specs.Book.{Book, blank_book, book, entered, entered_each, current, is_clock_of, after_event, is_unspoken, message_of, if_mine, lines_of, lines_of_each}
 use Rattle.legal_trace.specs.Legal.{MayStand, MayTellPush, MayAnswer, MayTell, AllStand, IsOpen, IsBefore, is_heard, is_heard_in, Legal}
 use Rattle.legal_trace.proofs.Books.{stand_front, stand_behind, book_append}
 use Rattle.legal_trace.proofs.Ledgers.{each_keeps, reach_alike, reach_more, takes_one}
@@ -84,7 +84,7 @@ gone false q e = cc e
 
 -- so it is behind an event
 event_from : (b : Book) (a : Action) (l n k : ℕ) (kind : EventKind) → HasStories b → IsFrom b a l n k (after_event b n kind)
-event_from b a l n k (event.Submit what) blank = chosen (IsFrom b a l n k) (b.submissions == n) (handed_in (b.story n) what b.shut (current b) b.timeout) (b.story n)
+event_from b a l n k (event.Submit what) blank = chosen (IsFrom b a l n k) (b.submissions == n) (handed_in (b.story n) what b.shut (is_unspoken b what) (current b) b.timeout) (b.story n)
     (λ t o h. absurd (let e : b.submissions ≡ n = eq_from b.submissions n t in
     not_none (last_of (b.story n).tries) (record { link = l; message = k }) (ap (λ (s : Story). last_of s.tries) (blank n (omega (arith, e)))) h))
     (λ f o h. inl (o, h))

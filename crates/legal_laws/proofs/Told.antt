@@ -14,7 +14,7 @@ use Rattle.driver_model.specs.declared.event.EventKind.TheVariants as event
 use Rattle.driver_model.specs.News.{News, silence, connected, refused, overdue, took, came, failed, shut, news_of}
 use Rattle.legal_trace.specs.Ledger.{Ledger, Heard, asks, begins, offers, tells, ends, parts, noted, with_news, refused_in, bytes_came, is_over, dials, next_push, MayNote}
 use Rattle.legal_trace.specs.Story.{Story, is_open, handed_in, left, holds, clocked, fires, tried, waits, answered}
-use Rattle.legal_trace.specs.Book.{Book, entered, push_line, info_in, message_of, current, is_clock_of, after_event}
+use Rattle.legal_trace.specs.Book.{Book, entered, push_line, info_in, message_of, current, is_clock_of, after_event, is_unspoken}
 use Rattle.legal_trace.specs.Legal.{MayStand, MayPush, MayPushBy, is_heard}
 use Rattle.legal_trace.proofs.Ledgers.{mine_keeps}
 use Rattle.legal_trace.proofs.Plain.{not_none}
@@ -93,7 +93,7 @@ OnFirst s = s.link ≡ 0
 
 -- so it does behind an event
 event_goes : (b : Book) (n : ℕ) (kind : EventKind) → b.links ≤ 1 → OnFirst (b.story n) → OnFirst (after_event b n kind)
-event_goes b n (event.Submit what) one h = chosen OnFirst (b.submissions == n) (handed_in (b.story n) what b.shut (current b) b.timeout) (b.story n) (λ t. omega (arith, one)) (λ f. h)
+event_goes b n (event.Submit what) one h = chosen OnFirst (b.submissions == n) (handed_in (b.story n) what b.shut (is_unspoken b what) (current b) b.timeout) (b.story n) (λ t. omega (arith, one)) (λ f. h)
 event_goes b n (event.Cancel m) one h = chosen OnFirst (m == n) (left (b.story n)) (b.story n) (λ t. chosen OnFirst (is_open (b.story n)) (record (b.story n) { cancelled = true; permits = 0; waiting = None }) (b.story n) (λ o. h) (λ o. h)) (λ f. h)
 event_goes b n (event.Fired t) one h = chosen OnFirst (is_clock_of n (slice_get b.timers t)) (fires (b.story n)) (b.story n) (λ e. chosen OnFirst (is_open (b.story n)) (record (b.story n) { overdue = true }) (b.story n) (λ o. h) (λ o. h)) (λ f. h)
 event_goes b n (event.Connected l) one h = h

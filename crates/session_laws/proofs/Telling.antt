@@ -202,6 +202,7 @@ push_may b t info h rest tied untold hears alive says kind_is within pending =
 push_owed : (b : Book) (l : ℕ) (info : PushInfo) (m : ℕ) → owed (entered b (action.Push l info)) m ≡ owed b m
 push_owed b l info m = λ i.
     if s.late then Some (outcome.Fault error.Closed)
+    else if s.unspoken then Some (outcome.Fault error.Resp3Required)
     else if length (bytes_of s) == 0 then Some (outcome.Fault error.EmptyCommand)
     else if s.overdue then Some (outcome.Fault (error.Io kinds.TimedOut))
     else by_try (last_of s.tries) i
