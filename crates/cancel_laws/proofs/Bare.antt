@@ -6,7 +6,10 @@ use Rattle.redis_error.specs.declared.fault_kind.FaultKind.TheVariants as kinds
 use Rattle.redis_error.specs.declared.fault_kind.FaultKind.{FaultKind}
 use Rattle.redis_error.specs.declared.redis_error.RedisError.TheVariants as error
 use Rattle.redis_error.specs.declared.redis_error.RedisError.{RedisError}
+use Rattle.resp_value.specs.Data.{Data, push, list_of}
+use Rattle.resp_value.specs.declared.push_kind.PushKind.TheVariants.{Disconnection}
 use Rattle.resp_value.specs.declared.value.Value.TheVariants.{Nil}
+use Rattle.resp_read.specs.Values.{values}
 use Rattle.driver_model.specs.declared.action.WaitKind.{WaitKind}
 use Rattle.driver_model.specs.declared.action.WaitKind.TheVariants as wait
 use Rattle.driver_model.specs.declared.news.LinkFault.{LinkFault}
@@ -14,14 +17,18 @@ use Rattle.driver_model.specs.declared.news.LinkFault.TheVariants as fault
 use Rattle.driver_model.specs.declared.outcome.Outcome.{Outcome}
 use Rattle.driver_model.specs.declared.outcome.Outcome.TheVariants as outcome
 use Rattle.driver_model.specs.declared.outcome.Shape.{Shape}
+use Rattle.driver_model.specs.declared.push_info.PushInfo.{PushInfo}
 use Rattle.driver_model.specs.News.{News, silence, connected, took, failed, shut, refused, overdue}
 use Rattle.driver_model.specs.News.{came}
 use Rattle.driver_model.specs.Shape.{outcome_of}
+use Rattle.link_core.specs.declared.message.Entry.{Entry}
+use Rattle.link_core.specs.declared.message.PushAt.{PushAt}
 use Rattle.link_core.specs.declared.message.Settled.{Settled}
 use Rattle.link_core.specs.declared.message.Started.{Started}
-use Rattle.link_core.specs.Link.{LinkState, Settling, enqueued, started_all, offered_of, piece_dealt}
+use Rattle.link_core.specs.Dealing.{heard_of}
+use Rattle.link_core.specs.Link.{LinkState, Settling, enqueued, started_all, offered_of, piece_dealt, pushes_came}
 use Rattle.link_core.specs.Outbox.{can_offer}
-use Rattle.link_laws.specs.Alike.{others}
+use Rattle.link_laws.specs.Alike.{SameRow, others}
 use Rattle.link_laws.proofs.Cancels.{start_alike, bytes_alike, close_alike, fault_alike}
 use Rattle.mux_conn.specs.declared.act.LinkAct.{LinkAct}
 use Rattle.mux_conn.specs.declared.act.LinkAct.TheVariants as act
@@ -33,14 +40,15 @@ use Rattle.mux_conn.specs.declared.request.Request.{Request}
 use Rattle.mux_conn.specs.declared.request.Waiting.{Waiting}
 use Rattle.mux_conn.specs.Connection.{Work, acted, at_life, with_link, with_setup, has_no_permit, admits_none_at, admits_none, has_room, first_queued}
 use Rattle.mux_conn.specs.Requests.{is_open, is_waiting, is_admitted, is_placed, is_open_at, is_waiting_at, is_admitted_at, is_placed_at, name_at, permits_at, with_permits, given_back, closed, answered, waiting_of, asked}
-use Rattle.mux_conn.specs.Effects.{settled_each, failed_each, nobody_waits, waiting_failed, ended, opening_failed, connected_at, refused_at, overdue_at, taken_at, failed_at, broken_at, read_to, read_at, shut_at, applied, cancelled_in, left, timed_out}
+use Rattle.mux_conn.specs.Effects.{settled_each, failed_each, nobody_waits, waiting_failed, pushed, told_each, cut_short, all_answered, ended, parted, heard_in, opening_failed, connected_at, refused_at, overdue_at, taken_at, failed_at, broken_at, read_to, read_at, shut_at, applied, cancelled_in, left, timed_out}
 use Rattle.mux_conn.specs.Passes.{shown_each, starts_with, started_at, started, message_of, placed_at, told_at_place, seated, still_admitted, moved_up, moved_up_each, moved_up_all, put_behind, seated_or_behind, permits_taken, holding, took_shown, took as holds, timer_asked, let_in, admitted_at, admitted, still_waiting, admitted_each, admitted_all, passed}
 use Rattle.mux_conn.specs.Turn.{written_at, written, is_from, moved_wait, early_wait, fresh_wait, wait_shown, moved_each_shown, moved_shown, fresh_each_shown, fresh_shown, waits_shown, flushed}
-use Rattle.cancel_laws.specs.ButFor.{hushed_link, hushed_life}
+use Rattle.cancel_laws.specs.ButFor.{hushed_each, hushed_link, hushed_life}
 use Rattle.cancel_laws.proofs.Requests.{names, name_stays, progress_twice, progress_apart, progress_push, progress_count, permits_other, permits_own, permits_push, goes_apart, own_closed, closed_set, test_other, same_test, other_test}
 use Rattle.cancel_laws.proofs.Names.{IsOwn, own_name, other_name}
 use Rattle.cancel_laws.proofs.Links.{alike_hushed, none_leaves, hushed_started, hushed_came, hushed_cancelled, own_cancelled}
-use Rattle.cancel_laws.proofs.Kept.{other_act, IsPlain, At, There, answered_kept, settled_kept, failed_each_kept, over_kept, started_kept, told_kept, moved_up_kept, moved_up_all_kept, let_in_admitted, let_in_kept, admitted_kept, unlimited_kept, written_kept, wait_kept, moved_shown_kept}
+use Rattle.cancel_laws.proofs.Kept.{other_act, IsPlain, At, There, answered_kept, settled_kept, telling_kept, failed_each_kept, over_kept, parted_kept, started_kept, told_kept, moved_up_kept, moved_up_all_kept, let_in_admitted, let_in_kept, admitted_kept, unlimited_kept, written_kept, wait_kept, moved_shown_kept}
+use Rattle.cancel_laws.proofs.Values.{by_value, value_told, value_read, values_read, none_told, came_by_values, same_by_value}
 use Rattle.cancel_laws.proofs.Gone.{NoneQueued, NoneIs, IsGone, gone_kept, IsAway, away_kept}
 
 -- the acts of a turn, but for the outcomes of submission n
@@ -206,16 +214,33 @@ bare_waiting n p w e h =
     bare_failed_each n p d e w.conn.waiting (failed_each_kept (gone_kept n p) (nobody_waits w) e w.conn.admitted h)
     ∙ ap (λ (x : Work). failed_each x e w.conn.waiting) (bare_failed_each n p (nobody_waits w) e w.conn.admitted h)
 
+-- those that a link settled are answered, and then those that wait
+bare_all_answered : (n p : ℕ) (w : Work) (ss later : List Settled) → At (There (IsGone n p)) w → others p ss ≡ others p later → bare n p (all_answered w ss) ≡ all_answered (bare n p w) later
+bare_all_answered n p w ss later h e =
+    bare_waiting n p (settled_each w ss) error.Closed (settled_kept (gone_kept n p) w ss h) ∙ ap (λ (x : Work). waiting_failed x error.Closed) (bare_settled_same n p w ss later h e)
+
+-- the link is closed
+bare_cut_short : (n p : ℕ) (w : Work) → bare n p (cut_short w) ≡ cut_short (bare n p w)
+bare_cut_short n p w = bare_acted n p (at_life w (Ended error.Closed)) act.Close (λ m. refl)
+
 -- the end of a link
 bare_ended : (n p : ℕ) (w : Work) (ss later : List Settled) → At (There (IsGone n p)) w → others p ss ≡ others p later → bare n p (ended w ss) ≡ ended (bare n p w) later
 bare_ended n p w ss later h e =
-    let d = acted (at_life w (Ended error.Closed)) act.Close in
-    let g : At (There (IsGone n p)) d = over_kept (gone_kept n p) w error.Closed act.Close (λ m. refl) h in
-    let v = settled_each d ss in
-    let k : At (There (IsGone n p)) v = settled_kept (gone_kept n p) d ss g in
-    bare_waiting n p v error.Closed k
-    ∙ ap (λ (x : Work). waiting_failed x error.Closed)
-    (bare_settled_same n p d ss later g e ∙ ap (λ (x : Work). settled_each x later) (bare_acted n p (at_life w (Ended error.Closed)) act.Close (λ m. refl)))
+    bare_all_answered n p (cut_short w) ss later (over_kept (gone_kept n p) w error.Closed act.Close (λ m. refl) h) e ∙ ap (λ (x : Work). all_answered x later) (bare_cut_short n p w)
+
+-- which is told where somebody hears pushes
+bare_parted : (n p : ℕ) (w : Work) → bare n p (parted w) ≡ parted (bare n p w)
+bare_parted n p w =
+    let info : PushInfo = record { kind = Disconnection; parts = [] } in
+    either (bare n p) w.conn.hears (pushed w info) w (pushed (bare n p w) info) (bare n p w) (λ t. bare_acted n p w (act.Push info) (λ m. refl)) (λ f. refl)
+
+-- so at its end by a fault
+bare_faulted : (n p : ℕ) (w : Work) (ss later : List Settled) → At (There (IsGone n p)) w → others p ss ≡ others p later
+    → bare n p (all_answered (parted (cut_short w)) ss) ≡ all_answered (parted (cut_short (bare n p w))) later
+bare_faulted n p w ss later h e =
+    let g : At (There (IsGone n p)) (cut_short w) = over_kept (gone_kept n p) w error.Closed act.Close (λ m. refl) h in
+    bare_all_answered n p (parted (cut_short w)) ss later (parted_kept (gone_kept n p) (cut_short w) g) e
+    ∙ ap (λ (x : Work). all_answered x later) (bare_parted n p (cut_short w) ∙ ap parted (bare_cut_short n p w))
 
 -- the end of an opening
 bare_opening : (n p : ℕ) (w : Work) (e : RedisError) → At (There (IsGone n p)) w → bare n p (opening_failed w e) ≡ opening_failed (bare n p w) e
@@ -232,7 +257,7 @@ bare_given_up n p w e h = bare_opening n p (acted w act.Close) e h ∙ ap (λ (x
 --
 -- a fault of the link
 bare_failed : (n p : ℕ) (w : Work) (f : LinkFault) (life : Life) → At (There (IsGone n p)) w → bare n p (failed_at w f life) ≡ failed_at (bare n p w) f (hushed_life p life)
-bare_failed n p w f (Ready l) h = bare_ended n p w _ _ h (fault_alike p f l (hushed_link p l) [] [] (alike_hushed p l) refl).out
+bare_failed n p w f (Ready l) h = bare_faulted n p w _ _ h (fault_alike p f l (hushed_link p l) [] [] (alike_hushed p l) refl).out
 bare_failed n p w f Dialing h = refl
 bare_failed n p w f (SettingUp l with_user) h = bare_given_up n p w error.Closed h
 bare_failed n p w f (Ended e) h = refl
@@ -269,19 +294,60 @@ bare_taken n p w count (Ended e) = refl
 bare_broken : (n p : ℕ) (b : Bool) (w : Work) → At (There (IsGone n p)) w → bare n p (broken_at b w) ≡ broken_at b (bare n p w)
 bare_broken n p b w h = either (bare n p) b _ w _ (bare n p w) (λ t. bare_failed n p w fault.Parse w.conn.life h) (λ f. refl)
 
--- what a link settled by bytes
-bare_read : (n p : ℕ) (w : Work) (s t : Settling) → IsGone n p w.conn.requests (Ready s.link) → hushed_link p s.link ≡ t.link → others p s.out ≡ others p t.out → bare n p (read_to w s) ≡ read_to (bare n p w) t
-bare_read n p w s t h link out =
+-- a push
+bare_value_told : (n p : ℕ) (w : Work) (v : Data) → bare n p (value_told w v) ≡ value_told (bare n p w) v
+bare_value_told n p w (push kind parts) = bare_acted n p w (act.Push (record { kind = kind; parts = list_of parts })) (λ m. refl)
+bare_value_told n p w _ = refl
+
+-- it changes nothing but what is shown
+value_told_kept : (n p : ℕ) (w : Work) (v : Data) → At (There (IsGone n p)) w → At (There (IsGone n p)) (value_told w v)
+value_told_kept n p w (push kind parts) h = h
+value_told_kept n p w _ h = h
+
+-- values that come where the rows are the same but for the verdict of message p
+bare_values : (n p : ℕ) (w : Work) (row other : List Entry) (vs : List Data) → At (There (IsGone n p)) w → SameRow p row other → bare n p (values_read w row vs) ≡ values_read (bare n p w) other vs
+bare_values n p w row other [] h same = refl
+bare_values n p w row other (v ∷ vs) h same =
+    let x = by_value row v in
+    let y = by_value other v in
+    let s = same_by_value p row other v same in
+    let d = value_told w v in
+    let k = value_told_kept n p w v h in
+    bare_values n p (value_read w row v) x.row y.row vs (settled_kept (gone_kept n p) d x.out k) s.row
+    ∙ ap (λ (z : Work). values_read z y.row vs) (bare_settled_same n p d x.out y.out k s.out ∙ ap (λ (z : Work). settled_each z y.out) (bare_value_told n p w v))
+
+-- what a link gives with bytes, where somebody hears pushes, and where nobody does
+bare_told_each : (n p : ℕ) (w : Work) (l : LinkState) (piece : List ℕ) (hears : Bool) → At (There (IsGone n p)) w
+    → bare n p (told_each w 0 (heard_of hears (pushes_came l piece)) (piece_dealt (record { link = l; out = [] }) piece).out)
+    ≡ told_each (bare n p w) 0 (heard_of hears (pushes_came (hushed_link p l) piece)) (piece_dealt (record { link = hushed_link p l; out = [] }) piece).out
+bare_told_each n p w l piece true h =
+    let vs = values (l.rest ++ piece) in
+    ap (bare n p) (came_by_values w l piece)
+    ∙ either (bare n p) l.broken w (values_read w l.row vs) (bare n p w) (values_read (bare n p w) (hushed_each p l.row) vs) (λ t. refl)
+    (λ f. bare_values n p w l.row (hushed_each p l.row) vs h (alike_hushed p l).row)
+    ∙ sym (came_by_values (bare n p w) (hushed_link p l) piece)
+bare_told_each n p w l piece false h =
+    let ss = (piece_dealt (record { link = l; out = [] }) piece).out in
+    let later = (piece_dealt (record { link = hushed_link p l; out = [] }) piece).out in
+    ap (bare n p) (none_told w 0 ss) ∙ bare_settled_same n p w ss later h (bytes_alike p l (hushed_link p l) [] [] piece (alike_hushed p l) refl).out ∙ sym (none_told (bare n p w) 0 later)
+
+-- and where those bytes begin no value
+bare_read : (n p : ℕ) (w : Work) (ps later : List PushAt) (s t : Settling) → IsGone n p w.conn.requests (Ready s.link) → hushed_link p s.link ≡ t.link
+    → bare n p (told_each (with_link w s.link) 0 ps s.out) ≡ told_each (with_link (bare n p w) (hushed_link p s.link)) 0 later t.out
+    → bare n p (read_to w ps s) ≡ read_to (bare n p w) later t
+bare_read n p w ps later s t h link told =
     let d = with_link w s.link in
-    bare_broken n p s.link.broken (settled_each d s.out) (settled_kept (gone_kept n p) d s.out h)
-    ∙ ap (broken_at s.link.broken) (bare_settled_same n p d s.out t.out h out)
-    ∙ ap (λ (l : LinkState). broken_at l.broken (settled_each (with_link (bare n p w) l) t.out)) link
+    bare_broken n p s.link.broken (told_each d 0 ps s.out) (telling_kept (gone_kept n p) d 0 ps s.out h)
+    ∙ ap (broken_at s.link.broken) told
+    ∙ ap (λ (l : LinkState). broken_at l.broken (told_each (with_link (bare n p w) l) 0 later t.out)) link
 
 -- bytes come
 bare_came : (n p : ℕ) (w : Work) (piece : List ℕ) (life : Life) → IsGone n p w.conn.requests life → bare n p (read_at w piece life) ≡ read_at (bare n p w) piece (hushed_life p life)
 bare_came n p w piece (Ready l) h =
-    bare_read n p w (piece_dealt (record { link = l; out = [] }) piece) (piece_dealt (record { link = hushed_link p l; out = [] }) piece) ((gone_kept n p).come w.conn.limit w.conn.requests l w.conn.moved w.acts piece h)
-    (hushed_came p l piece) (bytes_alike p l (hushed_link p l) [] [] piece (alike_hushed p l) refl).out
+    let s = piece_dealt (record { link = l; out = [] }) piece in
+    let k = (gone_kept n p).come w.conn.limit w.conn.requests l w.conn.moved w.acts piece h in
+    bare_read n p w (heard_in w l piece) (heard_in (bare n p w) (hushed_link p l) piece) s (piece_dealt (record { link = hushed_link p l; out = [] }) piece) k (hushed_came p l piece)
+    (bare_told_each n p (with_link w s.link) l piece w.conn.hears k)
 bare_came n p w piece Dialing h = refl
 bare_came n p w piece (SettingUp l with_user) h = absurd h.none
 bare_came n p w piece (Ended e) h = refl

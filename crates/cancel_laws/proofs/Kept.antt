@@ -1,5 +1,5 @@
 -- What each part of a turn keeps: a fact of the limit of permits, of the requests, of the link's life, of those that were moved, and of what the turn has shown.
-use Rattle.std.proofs.Common.{◌≡◌, ℕ, ◌+◌, ◌≤◌, ◌==◌, true, false, Bool, List, [], ◌∷◌, ◌++◌, length, Option, Some, None, slice_get, if◌then◌else◌, refl, ap, ◌∙◌, arith}
+use Rattle.std.proofs.Common.{◌≡◌, ℕ, ◌+◌, ◌≤◌, ◌==◌, true, false, Bool, List, [], ◌∷◌, ◌++◌, length, Option, Some, None, slice_get, if◌then◌else◌, refl, ap, ◌∙◌, arith, nat_le}
 use Rattle.containers.proofs.Choices.{chosen}
 use Rattle.redis_error.specs.declared.redis_error.RedisError.TheVariants as error
 use Rattle.redis_error.specs.declared.fault_kind.FaultKind.TheVariants as kinds
@@ -38,21 +38,25 @@ use Rattle.mux_conn.specs.declared.request.Pending.{Pending}
 use Rattle.mux_conn.specs.declared.request.Progress.TheVariants as progress
 use Rattle.mux_conn.specs.declared.request.Request.{Request}
 use Rattle.mux_conn.specs.declared.request.Waiting.{Waiting}
-use Rattle.mux_conn.specs.Connection.{Work, acted, at_life, with_link, with_setup, has_room, admits_none}
+use Rattle.mux_conn.specs.Connection.{Work, acted, at_life, with_link, with_setup, has_room, admits_none, is_ready}
 use Rattle.mux_conn.specs.Requests.{is_open_at, is_waiting_at, is_admitted_at, name_at, with_permits, at_progress, answered}
-use Rattle.mux_conn.specs.Effects.{new_link, settled_each, failed_each, nobody_waits, waiting_failed, ended, opening_failed, connected_at, refused_at, overdue_at, taken_at, failed_at, broken_at, read_to, read_at, shut_at, all_fresh, made_ready, steps_of, setup_queued, sets_up, judged_by, set_up_by, answered_setup, applied, cancelled_in, left, timed_out}
+use Rattle.mux_conn.specs.Effects.{new_link, settled_each, failed_each, nobody_waits, waiting_failed, ended, opening_failed, connected_at, refused_at, overdue_at, taken_at, failed_at, broken_at, read_to, read_at, shut_at, all_fresh, made_ready, steps_of, setup_queued, sets_up, judged_by, set_up_by, answered_setup, applied, cancelled_in, left, timed_out, all_answered, behind_first, cut_short, heard_in, heard_on, parted, pushed, pushed_each, told_each}
 use Rattle.mux_conn.specs.Passes.{shown_each, set_up_each, started_at, started, message_of, placed_at, told_at_place, seated, still_admitted, moved_up, moved_up_each, moved_up_all, put_behind, seated_or_behind, permits_taken, holding, took_shown, took as holds, timer_asked, let_in, admitted_at, admitted, still_waiting, admitted_each, passed}
 use Rattle.mux_conn.specs.Turn.{written_at, written, moved_wait, fresh_wait, wait_shown, moved_each_shown, moved_shown, fresh_each_shown, flushed}
 use Rattle.shared_session.specs.declared.core_state.Core.{Core}
 use Rattle.shared_session.specs.Turn.{Turning, work_of, heard, counted, submitted, left_by, late_by, fired_by, requested, effect, next_turn}
 use Rattle.cancel_laws.proofs.Counts.{count_on, count_started, count_came}
 use Rattle.cancel_laws.proofs.Requests.{admitted_now}
+use Rattle.driver_model.specs.declared.push_info.PushInfo.{PushInfo}
+use Rattle.link_core.specs.declared.message.PushAt.{PushAt}
+use Rattle.resp_value.specs.declared.push_kind.PushKind.TheVariants.{Disconnection}
 
 -- what an act shows, if it is not the outcome of submission n
 abbrev pub other_act : ℕ → LinkAct → List LinkAct
 other_act n (act.Created e) = act.Created e ∷ []
 other_act n (act.Took m count) = act.Took m count ∷ []
 other_act n (act.Timer m ms) = act.Timer m ms ∷ []
+other_act n (act.Push info) = act.Push info ∷ []
 other_act n act.Close = act.Close ∷ []
 other_act n (act.Write bytes) = act.Write bytes ∷ []
 other_act n (act.Wait m kind) = act.Wait m kind ∷ []
@@ -190,6 +194,41 @@ ended_kept k w out h =
     let d = acted (at_life w (Ended error.Closed)) act.Close in
     waiting_kept k (settled_each d out) error.Closed (settled_kept k d out (over_kept k w error.Closed act.Close (λ n. refl) h))
 
+-- pushes
+--
+-- one is told
+pub push_kept : {P : Option ℕ → List Request → Life → List ℕ → List LinkAct → Type 0} → IsKept P → (w : Work) (info : PushInfo) → At P w → At P (pushed w info)
+push_kept k w info h = k.show w.conn.limit w.conn.requests w.conn.life w.conn.moved w.acts (act.Push info) (λ n. refl) h
+
+-- so are more, each in its place, and what the link settled is answered
+pub telling_kept : {P : Option ℕ → List Request → Life → List ℕ → List LinkAct → Type 0} → IsKept P → (w : Work) (n : ℕ) (ps : List PushAt) (ss : List Settled) → At P w → At P (told_each w n ps ss)
+telling_kept k w n [] [] h = h
+telling_kept k w n [] (s ∷ ss) h = settled_kept k w (s ∷ ss) h
+telling_kept k w n (p ∷ ps) [] h = telling_kept k (pushed w p.info) n ps [] (push_kept k w p.info h)
+telling_kept {P = P} k w n (p ∷ ps) (s ∷ ss) h =
+    chosen (At P) (nat_le p.settled n) (told_each (pushed w p.info) n ps (s ∷ ss)) (told_each (answered w s.id (outcome_of s.verdict)) (n + 1) (p ∷ ps) ss)
+    (λ t. telling_kept k (pushed w p.info) n ps (s ∷ ss) (push_kept k w p.info h))
+    (λ f. telling_kept k (answered w s.id (outcome_of s.verdict)) (n + 1) (p ∷ ps) ss (answered_kept k w s.id (outcome_of s.verdict) h))
+
+-- those that came are, in order
+pushes_kept : {P : Option ℕ → List Request → Life → List ℕ → List LinkAct → Type 0} → IsKept P → (w : Work) (ps : List PushAt) → At P w → At P (pushed_each w ps)
+pushes_kept k w [] h = h
+pushes_kept k w (p ∷ ps) h = pushes_kept k (pushed w p.info) ps (push_kept k w p.info h)
+
+-- where the link is set up
+heard_on_kept : {P : Option ℕ → List Request → Life → List ℕ → List LinkAct → Type 0} → IsKept P → (w : Work) (ps : List PushAt) → At P w → At P (heard_on w ps)
+heard_on_kept {P = P} k w ps h = chosen (At P) (is_ready w.conn.life) (pushed_each w ps) w (λ t. pushes_kept k w ps h) (λ f. h)
+
+-- and so is the end
+pub parted_kept : {P : Option ℕ → List Request → Life → List ℕ → List LinkAct → Type 0} → IsKept P → (w : Work) → At P w → At P (parted w)
+parted_kept {P = P} k w h = chosen (At P) w.conn.hears (pushed w (record { kind = Disconnection; parts = [] })) w (λ t. push_kept k w (record { kind = Disconnection; parts = [] }) h) (λ f. h)
+
+-- a fault ends the link
+faulted_kept : {P : Option ℕ → List Request → Life → List ℕ → List LinkAct → Type 0} → IsKept P → (w : Work) (out : List Settled) → At P w → At P (all_answered (parted (cut_short w)) out)
+faulted_kept k w out h =
+    let d = parted (cut_short w) in
+    waiting_kept k (settled_each d out) error.Closed (settled_kept k d out (parted_kept k (cut_short w) (over_kept k w error.Closed act.Close (λ n. refl) h)))
+
 -- the end of an opening
 opening_kept : {P : Option ℕ → List Request → Life → List ℕ → List LinkAct → Type 0} → IsKept P → (w : Work) (e : RedisError) → At P w → At P (opening_failed w e)
 opening_kept k w e h = waiting_kept k (acted (at_life w (Ended e)) (act.Created (Some e))) e (over_kept k w e (act.Created (Some e)) (λ n. refl) h)
@@ -233,7 +272,7 @@ taken_kept k w count (Ended e) g h = h
 
 -- a fault
 failed_kept : {P : Option ℕ → List Request → Life → List ℕ → List LinkAct → Type 0} → IsKept P → (w : Work) (f : LinkFault) (life : Life) → At P w → At P (failed_at w f life)
-failed_kept k w f (Ready l) h = ended_kept k w (faulted (record { link = l; out = [] }) f).out h
+failed_kept k w f (Ready l) h = faulted_kept k w (faulted (record { link = l; out = [] }) f).out h
 failed_kept k w f Dialing h = h
 failed_kept k w f (SettingUp l with_user) h = given_up_kept k w error.Closed h
 failed_kept k w f (Ended e) h = h
@@ -243,8 +282,8 @@ broken_kept : {P : Option ℕ → List Request → Life → List ℕ → List Li
 broken_kept {P = P} k b w h = chosen (At P) b (failed_at w fault.Parse w.conn.life) w (λ t. failed_kept k w fault.Parse w.conn.life h) (λ f. h)
 
 -- what the link settled by bytes
-read_kept : {P : Option ℕ → List Request → Life → List ℕ → List LinkAct → Type 0} → IsKept P → (w : Work) (s : Settling) → P w.conn.limit w.conn.requests (Ready s.link) w.conn.moved w.acts → At P (read_to w s)
-read_kept k w s h = broken_kept k s.link.broken (settled_each (with_link w s.link) s.out) (settled_kept k (with_link w s.link) s.out h)
+read_kept : {P : Option ℕ → List Request → Life → List ℕ → List LinkAct → Type 0} → IsKept P → (w : Work) (ps : List PushAt) (s : Settling) → P w.conn.limit w.conn.requests (Ready s.link) w.conn.moved w.acts → At P (read_to w ps s)
+read_kept k w ps s h = broken_kept k s.link.broken (told_each (with_link w s.link) 0 ps s.out) (telling_kept k (with_link w s.link) 0 ps s.out h)
 
 -- the setup is answered
 set_up_by_kept : {P : Option ℕ → List Request → Life → List ℕ → List LinkAct → Type 0} → IsKept P → (w : Work) (l m : LinkState) (with_user : Bool) (what : SetupResult) → count_on m + 1 ≤ count_on l → P w.conn.limit w.conn.requests (SettingUp l with_user) w.conn.moved w.acts → At P w → At P (set_up_by w m what)
@@ -254,17 +293,19 @@ set_up_by_kept k w l m with_user (result.Failed e) few g h = given_up_kept k w e
 set_up_by_kept k w l m with_user result.NoMemory few g h = h
 
 -- if it is
-answered_setup_kept : {P : Option ℕ → List Request → Life → List ℕ → List LinkAct → Type 0} → IsKept P → (w : Work) (l m : LinkState) (with_user : Bool) (out : List Settled) → count_on m + length out ≤ count_on l → P w.conn.limit w.conn.requests (SettingUp l with_user) w.conn.moved w.acts → At P w → At P (answered_setup w m with_user out)
-answered_setup_kept k w l m with_user [] few g h = k.go_on w.conn.limit w.conn.requests l m with_user w.conn.moved w.acts (omega (arith, few)) g
-answered_setup_kept k w l m with_user (s ∷ ss) few g h = set_up_by_kept k w l m with_user (judged_by (steps_of w.conn with_user) s.verdict) (omega (arith, few)) g h
+answered_setup_kept : {P : Option ℕ → List Request → Life → List ℕ → List LinkAct → Type 0} → IsKept P → (w : Work) (l m : LinkState) (with_user : Bool) (ps : List PushAt) (out : List Settled) → count_on m + length out ≤ count_on l → P w.conn.limit w.conn.requests (SettingUp l with_user) w.conn.moved w.acts → At P w → At P (answered_setup w m with_user ps out)
+answered_setup_kept k w l m with_user ps [] few g h = k.go_on w.conn.limit w.conn.requests l m with_user w.conn.moved w.acts (omega (arith, few)) g
+answered_setup_kept k w l m with_user ps (s ∷ ss) few g h =
+    let r = judged_by (steps_of w.conn with_user) s.verdict in
+    heard_on_kept k (set_up_by w m r) (behind_first ps) (set_up_by_kept k w l m with_user r (omega (arith, few)) g h)
 
 -- bytes come
 came_kept : {P : Option ℕ → List Request → Life → List ℕ → List LinkAct → Type 0} → IsKept P → (w : Work) (piece : List ℕ) (life : Life) → P w.conn.limit w.conn.requests life w.conn.moved w.acts → At P w → At P (read_at w piece life)
-came_kept k w piece (Ready l) g h = read_kept k w (piece_dealt (record { link = l; out = [] }) piece) (k.come w.conn.limit w.conn.requests l w.conn.moved w.acts piece g)
+came_kept k w piece (Ready l) g h = read_kept k w (heard_in w l piece) (piece_dealt (record { link = l; out = [] }) piece) (k.come w.conn.limit w.conn.requests l w.conn.moved w.acts piece g)
 came_kept k w piece Dialing g h = h
 came_kept k w piece (SettingUp l with_user) g h =
     let s = piece_dealt (record { link = l; out = [] }) piece in
-    broken_kept k s.link.broken (answered_setup w s.link with_user s.out) (answered_setup_kept k w l s.link with_user s.out (count_came l piece) g h)
+    broken_kept k s.link.broken (answered_setup w s.link with_user (heard_in w l piece) s.out) (answered_setup_kept k w l s.link with_user (heard_in w l piece) s.out (count_came l piece) g h)
 came_kept k w piece (Ended e) g h = h
 
 -- the shutdown

@@ -5,6 +5,7 @@ pub mod Names
 pub mod Links
 pub mod Kept
 pub mod Gone
+pub mod Values
 pub mod Bare
 pub mod Once
 pub mod Silent

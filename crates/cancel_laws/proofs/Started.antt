@@ -11,16 +11,16 @@ use Rattle.redis_error.specs.declared.config_name.ConfigName.TheVariants as name
 use Rattle.driver_model.specs.declared.config.Config.{Config}
 use Rattle.driver_model.specs.declared.event.Submission.{Submission}
 use Rattle.driver_model.specs.declared.event.Submission.TheVariants.{Cmd, Pipe, Multi}
-use Rattle.driver_model.specs.Config.{address, buffer_size, buffer_fault, room_fault, fault_in}
+use Rattle.driver_model.specs.Config.{address, buffer_size, buffer_fault, room_fault, fault_in, hears_pushes}
 use Rattle.driver_model.specs.Request.{packed_bytes, is_reply_awaited, needs_resp3, lacks_resp3}
 use Rattle.mux_conn.specs.Connection.{has_no_permit}
 use Rattle.mux_conn.specs.Effects.{new_link, all_fresh, made_ready, sets_up}
-use Rattle.mux_conn.specs.Passes.{started}
 use Rattle.shared_session.specs.declared.core_state.Core.{Core}
 use Rattle.shared_session.specs.Turn.{work_of, with_work, shut_by, counted, moved_on, timed, next_turn}
 use Rattle.shared_session.specs.Replay.{opening_core, IsSound, state_after}
 use Rattle.cancel_laws.specs.Cancels.{connected_at, handed_in_after_connect, SaysNothing, IsFree, HasStarted}
 use Rattle.cancel_laws.proofs.Free.{free_started}
+use Rattle.connection_info.specs.Protocol.{is_resp3}
 
 -- what is refused where a test holds isn't refused where it doesn't
 unless_refused : (b : Bool) (what : ConfigName) (rest : Option ConfigName) → (if b then Some what else rest) ≡ None → (b ≡ false) × (rest ≡ None)
@@ -43,9 +43,9 @@ room_permits None size e = refl
 room_permits (Some most) size e = (unless_refused (most == 0) name.Limit (buffer_fault size) e).0
 
 -- so that both are true of a configuration of which nothing is refused
-room_sound : (info : Option ConnectionInfo) (lim : Option ℕ) (size : ℕ) → fault_in info lim size ≡ None → room_fault lim size ≡ None
-room_sound None lim size e = cc
-room_sound (Some info) lim size e = e
+room_sound : (info : Option ConnectionInfo) (heard : Bool) (lim : Option ℕ) (size : ℕ) → fault_in info heard lim size ≡ None → room_fault lim size ≡ None
+room_sound None heard lim size e = cc
+room_sound (Some info) heard lim size e = (unless_refused (heard && not (is_resp3 info.redis.protocol)) name.Push (room_fault lim size) e).1
 
 -- where the connect leads: the link is ready where nothing is to be said, and else it is set up
 abbrev up_at : Config → ℕ → ℕ → Bool → Core
@@ -59,7 +59,7 @@ up_at config word draw silent =
 connected_free : (config : Config) (word draw : ℕ) → IsSound config → SaysNothing config → IsFree (state_after config word (connected_at draw ∷ []))
 unfolding state_after next_turn
 connected_free config word draw sound silent =
-    let fits = room_sound (address config) config.limit (buffer_size config) sound in
+    let fits = room_sound (address config) (hears_pushes config) config.limit (buffer_size config) sound in
     subst (λ (b : Bool). IsFree (up_at config word draw b)) (sym silent)
     (record {
       link = _;

@@ -120,6 +120,7 @@ no_timer : (n : ℕ) (a : LinkAct) (more : List LinkAct) → timers_of (other_ac
 no_timer n (act.Created e) more = refl
 no_timer n (act.Took m count) more = refl
 no_timer n (act.Timer m ms) more = refl
+no_timer n (act.Push info) more = refl
 no_timer n act.Close more = refl
 no_timer n (act.Write bytes) more = refl
 no_timer n (act.Wait m kind) more = refl

@@ -42,7 +42,8 @@ CancelledGetsNone =
     (config : Config) (word draw n : ℕ) (before after : List Event) → HasStarted n (state_after config word before)
     → outcome_after config word (before ++ cancel_of draw n ∷ after) n ≡ outcome_after config word before n
 
--- without a limit the turns show the same but for n's outcome, in the same order
+-- without a limit the turns show the same but for n's outcome, in the same order: so each push stands where it stood among
+-- all other outcomes
 abbrev pub TurnsGoOn : Type 0
 TurnsGoOn =
     (config : Config) (word draw n : ℕ) (before after : List Event) → HasNoLimit config

@@ -13,9 +13,10 @@ ghost use Rattle.cancel_laws.specs.Laws.{StartsOnFreeLink, StartsWhereHandedIn};
 /// Does nothing. Its contract: where submission n has started and is open after a history, its
 /// cancel there is not bad, and n never gets an outcome. Where the configuration has no limit, the
 /// cancel changes nothing of what comes later but n's own outcome: all other submissions have the
-/// same outcomes; the turns show the same starts, timers, offers, waits and closes in the same
-/// order; each item goes to the same message, where n's own is not wanted; and the same events are
-/// bad. With a limit the cancel gives n's permits back at once, so that others may start earlier.
+/// same outcomes; the turns show the same starts, timers, offers, waits, pushes and closes in the
+/// same order; each item goes to the same message, where n's own is not wanted; and the same events
+/// are bad. With a limit the cancel gives n's permits back at once, so that others may start
+/// earlier.
 pub fn a_cancel_changes_one_outcome()
     ensures good { CancelIsGood }
     ensures outcomes { OthersKeepOutcomes }

@@ -93,6 +93,7 @@ fn name(act: &ConnectionAct) -> &'static str {
         ConnectionAct::Created { error: Some(_) } => "failed",
         ConnectionAct::Timer { timer, ms: _ } => timer_name(timer),
         ConnectionAct::Took { .. } => "took",
+        ConnectionAct::Push { info: _ } => "push",
         ConnectionAct::Close => "close",
         ConnectionAct::Write { bytes: _ } => "write",
         ConnectionAct::Wait { .. } => "wait",
@@ -307,11 +308,13 @@ fn configurations_are_refused_by_name(rt: HostRuntime) -> Result<(), AllocError>
     let new = AsyncConnectionConfig::new();
     let buffer = new.set_pipeline_buffer_size(0);
     let limit = buffer.set_concurrency_limit(0);
-    let kind = limit.set_push_sender();
+    let push = limit.set_push_sender();
+    let kind = push.set_credentials_provider();
     for (config, wanted) in [
         (new, None),
         (buffer, Some(ConfigName::Buffer)),
         (limit, Some(ConfigName::Limit)),
+        (push, Some(ConfigName::Push)),
         (kind, Some(ConfigName::Kind)),
     ] {
         assert!(rt; refusal(rt.alloc(), &config)? == wanted);

@@ -47,12 +47,14 @@ pub(crate) enum Call {
     Flush,
 }
 
-/// What a connection is made of: the size of its queue, its boundary, its permits, and the password that it says.
+/// What a connection is made of: the size of its queue, its boundary, its permits, whether it hears pushes, and the password
+/// that it says.
 #[derive(Clone, Copy)]
 pub(crate) struct Made {
     pub(crate) size: u32,
     pub(crate) boundary: u64,
     pub(crate) limit: Option<u32>,
+    pub(crate) hears: bool,
     pub(crate) password: Option<&'static [u8]>,
 }
 
@@ -76,7 +78,14 @@ fn info(alloc: Global, password: Option<&[u8]>) -> Result<RedisConnectionInfo, A
 
 fn connection(alloc: Global, made: &Made) -> Result<MultiplexedConnection, AllocError> {
     let info = info(alloc, made.password)?;
-    Ok(MultiplexedConnection::new(alloc, made.size, made.boundary, made.limit, info))
+    Ok(MultiplexedConnection::new(
+        alloc,
+        made.size,
+        made.boundary,
+        made.limit,
+        made.hears,
+        info,
+    ))
 }
 
 /// A pipeline of which so many replies are kept.
@@ -339,6 +348,7 @@ fn describe(alloc: Global, act: &LinkAct, log: &mut Vec<u8>) -> Result<(), Alloc
             )
         }
         LinkAct::Timer { request, ms } => tell(alloc, log, b"timer", &[u64::from(*request), *ms]),
+        LinkAct::Push { info } => tell_word(log, b"push", info.kind.name()),
         LinkAct::Close => word(log, b"close"),
         LinkAct::Write { bytes } => tell_word(log, b"write", bytes.as_slice()),
         LinkAct::Wait { request, wait } => {

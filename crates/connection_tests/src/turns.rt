@@ -12,6 +12,7 @@ const PLAIN: Made = Made {
     size: 50,
     boundary: 8192,
     limit: None,
+    hears: false,
     password: None,
 };
 
@@ -20,6 +21,7 @@ const NARROW: Made = Made {
     size: 1,
     boundary: 0,
     limit: None,
+    hears: false,
     password: None,
 };
 
@@ -28,6 +30,7 @@ const NARROW_OF_THREE: Made = Made {
     size: 1,
     boundary: 0,
     limit: Some(3),
+    hears: false,
     password: None,
 };
 
@@ -35,6 +38,7 @@ const ONE_PERMIT: Made = Made {
     size: 50,
     boundary: 8192,
     limit: Some(1),
+    hears: false,
     password: None,
 };
 
@@ -42,6 +46,7 @@ const TWO_PERMITS: Made = Made {
     size: 50,
     boundary: 8192,
     limit: Some(2),
+    hears: false,
     password: None,
 };
 
@@ -50,6 +55,25 @@ const PASSWORD: Made = Made {
     size: 50,
     boundary: 8192,
     limit: None,
+    hears: false,
+    password: Some(b"p"),
+};
+
+/// Somebody hears pushes.
+const HEARS: Made = Made {
+    size: 50,
+    boundary: 8192,
+    limit: None,
+    hears: true,
+    password: None,
+};
+
+/// The same where a password is said first.
+const HEARS_PASSWORD: Made = Made {
+    size: 50,
+    boundary: 8192,
+    limit: None,
+    hears: true,
     password: Some(b"p"),
 };
 
@@ -322,6 +346,68 @@ wait 6 place outcome 8 timed-out wait 6 room outcome 6 timed-out ",
     ),
 ];
 
+/// Rows in which pushes come.
+const PUSHES: [Row; 6] = [
+    (
+        "pushes come among replies",
+        HEARS,
+        &[
+            Call::Connected,
+            Call::Ask(7, b"a"),
+            Call::Ask(9, b"b"),
+            Call::Turn,
+            Call::Came(b">1\r\n+m\r\n+x\r\n>1\r\n+n\r\n+y\r\n>1\r\n+o\r\n"),
+        ],
+        b"created ok start 0 7 1 start 1 9 1 write ab push m outcome 7 x push n outcome 9 y push o ",
+    ),
+    (
+        "nobody hears them",
+        PLAIN,
+        &[
+            Call::Connected,
+            Call::Ask(7, b"a"),
+            Call::Turn,
+            Call::Came(b">1\r\n+m\r\n+x\r\n"),
+            Call::Failed(RESET),
+        ],
+        b"created ok start 0 7 1 write a outcome 7 x close ",
+    ),
+    (
+        "a push before the setup is answered reaches nobody",
+        HEARS_PASSWORD,
+        &[
+            Call::Connected,
+            Call::Came(b">1\r\n+m\r\n"),
+            Call::Came(b">1\r\n+m\r\n+OK\r\n>1\r\n+n\r\n"),
+        ],
+        b"setup 0 1 21 write *2\r\n$4\r\nAUTH\r\n$1\r\np\r\n created ok push n ",
+    ),
+    (
+        "the end of the setup is not told",
+        HEARS_PASSWORD,
+        &[Call::Connected, Call::Failed(RESET)],
+        b"setup 0 1 21 write *2\r\n$4\r\nAUTH\r\n$1\r\np\r\n close created closed ",
+    ),
+    (
+        "an end by a fault is told",
+        HEARS,
+        &[
+            Call::Connected,
+            Call::Ask(7, b"a"),
+            Call::Turn,
+            Call::Came(b">1\r\n+m\r\nnone"),
+            Call::Failed(RESET),
+        ],
+        b"created ok start 0 7 1 write a push m close push disconnection outcome 7 parse ",
+    ),
+    (
+        "a shutdown is not told",
+        HEARS,
+        &[Call::Connected, Call::Ask(7, b"a"), Call::Turn, Call::Shut],
+        b"created ok start 0 7 1 write a close outcome 7 closed ",
+    ),
+];
+
 /// The first of these connections that asks or tells something else, by what its calls show.
 fn first_other(alloc: Global, rows: &[Row]) -> Result<Option<&'static str>, AllocError> {
     for row in rows {
@@ -359,5 +445,11 @@ fn links_end(rt: HostRuntime) -> Result<(), AllocError> {
 #[test]
 fn times_are_over(rt: HostRuntime) -> Result<(), AllocError> {
     assert!(rt; first_other(rt.alloc(), &TIMES)? == None);
+    Ok(())
+}
+
+#[test]
+fn pushes_come(rt: HostRuntime) -> Result<(), AllocError> {
+    assert!(rt; first_other(rt.alloc(), &PUSHES)? == None);
     Ok(())
 }

@@ -1,5 +1,5 @@
 -- What the words of a configuration mean.
-use Rattle.std.specs.Prelude.{◌≡◌, ⊤, ℕ, pos, ◌==◌, true, not, Option, Some, None, option_map, unwrap_or, if◌then◌else◌}
+use Rattle.std.specs.Prelude.{◌≡◌, ⊤, ℕ, pos, ◌==◌, Bool, true, false, ◌&&◌, not, Option, Some, None, option_map, unwrap_or, if◌then◌else◌}
 use Rattle.std.specs.Str.{is_utf8}
 use Rattle.redis_error.specs.declared.config_name.ConfigName.{ConfigName}
 use Rattle.redis_error.specs.declared.config_name.ConfigName.TheVariants as name
@@ -8,6 +8,7 @@ use Rattle.connection_info.specs.declared.address.RedisConnectionInfo.{RedisConn
 use Rattle.connection_info.specs.declared.open_error.OpenError.{OpenError}
 use Rattle.connection_info.specs.declared.open_error.OpenError.TheVariants as error
 use Rattle.connection_info.specs.declared.protocol.ProtocolVersion.TheVariants.{RESP2}
+use Rattle.connection_info.specs.Protocol.{is_resp3}
 use Rattle.connection_info.specs.Address.{address_of}
 use Rattle.connection_info.specs.Config.{default_config}
 use Rattle.driver_model.specs.declared.config.Config.{Config}
@@ -44,6 +45,10 @@ bare_info = record { db = pos 0; username = None; password = None; protocol = RE
 abbrev pub told_info : Config → RedisConnectionInfo
 told_info c = unwrap_or (option_map (told_of c) (address c)) bare_info
 
+-- whether somebody hears the pushes that come
+abbrev pub hears_pushes : Config → Bool
+hears_pushes c = unwrap_or c.push false
+
 -- a queue that holds nothing is refused
 abbrev pub buffer_fault : ℕ → Option ConfigName
 buffer_fault size = if size == 0 then Some name.Buffer else None
@@ -53,15 +58,15 @@ abbrev pub room_fault : Option ℕ → ℕ → Option ConfigName
 room_fault None size = buffer_fault size
 room_fault (Some limit) size = if limit == 0 then Some name.Limit else buffer_fault size
 
--- what is refused of an address, or none was, of a number of permits, and of a queue of this size
-abbrev pub fault_in : Option ConnectionInfo → Option ℕ → ℕ → Option ConfigName
-fault_in None limit size = Some name.Url
-fault_in (Some info) limit size = room_fault limit size
+-- what is refused of an address, or none was, of pushes that somebody hears, of a number of permits, and of a queue of this size
+abbrev pub fault_in : Option ConnectionInfo → Bool → Option ℕ → ℕ → Option ConfigName
+fault_in None heard limit size = Some name.Url
+fault_in (Some info) heard limit size = if heard && not (is_resp3 info.redis.protocol) then Some name.Push else room_fault limit size
 
--- what of a configuration is refused first, if anything is: a URL that isn't an address, a limit of no permits, and a queue
--- that holds nothing
+-- what of a configuration is refused first, if anything is: a URL that isn't an address, pushes that somebody hears on RESP2, a
+-- limit of no permits, and a queue that holds nothing
 abbrev pub first_fault : Config → Option ConfigName
-first_fault c = fault_in (address c) c.limit (buffer_size c)
+first_fault c = fault_in (address c) (hears_pushes c) c.limit (buffer_size c)
 
 -- either memory was wanted, or this is refused first
 abbrev pub RefusesConfig : Config → OpenError → Type 0

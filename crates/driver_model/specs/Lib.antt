@@ -1,4 +1,5 @@
 pub mod Shape
+pub mod Push
 pub mod Request
 pub mod Setup
 pub mod News

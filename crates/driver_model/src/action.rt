@@ -3,6 +3,7 @@ ghost use Rattle.std.specs.Prelude.{◌≡◌, IfOk};
 use crate::config::Config;
 use crate::event::Event;
 use crate::outcome::Outcome;
+use crate::push_info::PushInfo;
 use containers::Bytes;
 use redis_error::RedisError;
 use std::alloc::{AllocError, Global};
@@ -71,6 +72,11 @@ pub enum Action {
         owner: Owner,
         link: u32,
         count: u32,
+    },
+    /// A push came on the link, or tells that it has ended.
+    Push {
+        link: u32,
+        info: PushInfo,
     },
     /// The link ended, or is to be closed.
     Close {
@@ -167,6 +173,10 @@ impl Action {
                 link: *link,
                 count: *count,
             }),
+            Action::Push { link, info } => {
+                let info = info.clone(alloc)?;
+                Ok(Action::Push { link: *link, info })
+            }
             Action::Close { link } => Ok(Action::Close { link: *link }),
             Action::Write { link, bytes } => {
                 let bytes = bytes.clone(alloc)?;

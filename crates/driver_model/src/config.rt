@@ -1,6 +1,6 @@
 ghost use Rattle.std.specs.Prelude.{◌≡◌, Some, None, OnOk, IfOk, IfErr};
 ghost use Rattle.driver_model.specs.Config.{address, told_info, connect_timeout, buffer_size};
-ghost use Rattle.driver_model.specs.Config.{response_timeout};
+ghost use Rattle.driver_model.specs.Config.{response_timeout, hears_pushes};
 ghost use Rattle.driver_model.specs.Config.{boundary, first_fault, RefusesConfig};
 ghost use Rattle.connection_info.specs.Refusal.{RefusesUrl};
 
@@ -24,6 +24,8 @@ pub struct Config {
     pub buffer: Option<u32>,
     /// No message starts while bytes of the link are unwritten, and as many as these. 8,192 where nothing is given.
     pub boundary: Option<u64>,
+    /// Whether somebody hears the pushes that come. Nobody does where nothing is given. It needs RESP3.
+    pub push: Option<bool>,
     /// Whether the server is told which library speaks. It is where nothing is given.
     pub lib: Option<bool>,
 }
@@ -39,6 +41,7 @@ impl Config {
               limit = None;
               buffer = None;
               boundary = None;
+              push = None;
               lib = None;
             } }
     {
@@ -49,6 +52,7 @@ impl Config {
             limit: None,
             buffer: None,
             boundary: None,
+            push: None,
             lib: None,
         }
     }
@@ -65,6 +69,7 @@ impl Config {
             limit: self.limit,
             buffer: self.buffer,
             boundary: self.boundary,
+            push: self.push,
             lib: self.lib,
         })
     }
@@ -95,6 +100,13 @@ impl Config {
         ensures { result ≡ boundary self.now }
     {
         self.boundary.unwrap_or(8192)
+    }
+
+    /// Whether somebody hears the pushes that come.
+    pub fn hears_pushes(&self) -> bool
+        ensures { result ≡ hears_pushes self.now }
+    {
+        self.push.unwrap_or(false)
     }
 
     /// What is said to the server before the first request, where this is its address.
@@ -130,13 +142,17 @@ impl Config {
     }
 
     /// The server's address, where nothing of the configuration is refused. Else the name of what is refused first: a URL
-    /// that isn't an address, a limit of no permits, and a queue that holds nothing.
+    /// that isn't an address, pushes that somebody hears on a connection of RESP2, a limit of no permits, and a queue that holds
+    /// nothing.
     pub fn info(&self, alloc: Global) -> Result<ConnectionInfo, OpenError>
         ensures ok { IfOk result (λ info. address self.now ≡ Some info) }
         ensures sound { OnOk result (first_fault self.now ≡ None) }
         ensures err { IfErr result (RefusesConfig self.now) }
     {
         let info = self.read_address(alloc)?;
+        if self.hears_pushes() && !info.redis.protocol.supports_resp3() {
+            return Err(OpenError::Config(ConfigName::Push));
+        }
         if self.limit == Some(0) {
             return Err(OpenError::Config(ConfigName::Limit));
         }

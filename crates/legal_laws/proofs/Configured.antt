@@ -16,6 +16,7 @@ config_stays b (action.Turn k (cause.Event e)) may some = refl
 config_stays b (action.Connect l host port) may some = refl
 config_stays b (action.Timer t ms what) may some = refl
 config_stays b (action.Took who l count) may some = refl
+config_stays b (action.Push l info) may some = refl
 config_stays b (action.Close l) may some = refl
 config_stays b (action.Write l bytes) may some = refl
 config_stays b (action.Wait who kind) may some = refl
@@ -34,6 +35,7 @@ turns_stay b (action.Turn k c) some = turn_began b k c
 turns_stay b (action.Connect l host port) some = some
 turns_stay b (action.Timer t ms what) some = some
 turns_stay b (action.Took who l count) some = some
+turns_stay b (action.Push l info) some = some
 turns_stay b (action.Close l) some = some
 turns_stay b (action.Write l bytes) some = some
 turns_stay b (action.Wait who kind) some = some
@@ -42,7 +44,7 @@ turns_stay b (action.Created e) some = some
 turns_stay b (action.Outcome n o) some = some
 
 -- so the configuration stays
-config_kept : (b : Book) (front : List Action) → AllStand b front → b.turns ≢ 0 → (entered_each b front).config ≡ b.config
+pub config_kept : (b : Book) (front : List Action) → AllStand b front → b.turns ≢ 0 → (entered_each b front).config ≡ b.config
 config_kept b [] all some = refl
 config_kept b (a ∷ more) all some = config_kept (entered b a) more all.1 (turns_stay b a some) ∙ config_stays b a all.0 some
 
@@ -56,6 +58,7 @@ configured_behind b (action.Turn k c ∷ front) more config word cs all e none s
 configured_behind b (action.Connect l host port ∷ front) more config word cs all e none some = configured_behind (entered b (action.Connect l host port)) front more config word cs all.1 e none some
 configured_behind b (action.Timer t ms what ∷ front) more config word cs all e none some = configured_behind (entered b (action.Timer t ms what)) front more config word cs all.1 e none some
 configured_behind b (action.Took who l count ∷ front) more config word cs all e none some = configured_behind (entered b (action.Took who l count)) front more config word cs all.1 e none some
+configured_behind b (action.Push l info ∷ front) more config word cs all e none some = configured_behind (entered b (action.Push l info)) front more config word cs all.1 e none some
 configured_behind b (action.Close l ∷ front) more config word cs all e none some = configured_behind (entered b (action.Close l)) front more config word cs all.1 e none some
 configured_behind b (action.Write l bytes ∷ front) more config word cs all e none some = configured_behind (entered b (action.Write l bytes)) front more config word cs all.1 e none some
 configured_behind b (action.Wait who kind ∷ front) more config word cs all e none some = configured_behind (entered b (action.Wait who kind)) front more config word cs all.1 e none some

@@ -10,6 +10,7 @@ use Rattle.driver_model.specs.declared.action.Owner.TheVariants as owner
 use Rattle.driver_model.specs.declared.config.Config.{Config}
 use Rattle.driver_model.specs.declared.event.Event.{Event}
 use Rattle.driver_model.specs.declared.outcome.Outcome.{Outcome}
+use Rattle.driver_model.specs.declared.push_info.PushInfo.{PushInfo}
 use Rattle.driver_model.specs.declared.outcome.Outcome.TheVariants as outcome
 use Rattle.legal_trace.specs.Ledger.{Ledger, End, Ending, by_shutdown, by_fault, by_opening, begins, offers, ends, failure_of, failure_in, is_set_up, setup_due}
 use Rattle.legal_trace.specs.Story.{Try, bytes_of, last_of}
@@ -29,6 +30,7 @@ use Rattle.legal_laws.proofs.Quiet.{IsQuiet, begins_quiet, ends_quiet, failed_is
 use Rattle.legal_laws.proofs.Ranks.{none_failed, none_over}
 use Rattle.legal_laws.proofs.Turned.{turn_quiet}
 use Rattle.legal_laws.proofs.Sound.{Sound, stays_sound, blank_is_sound, sound_behind}
+use Rattle.legal_laws.proofs.Pushed.{push_keeps}
 
 -- of what was shown of the creation: how often, that a link was asked for before, that no connect is open any more, and that
 -- each error that was shown is that of a failed opening
@@ -143,6 +145,11 @@ connect_shows_none b m host port shown may h told = record {
   caused = cause_kept b (action.Connect m host port) shown may h told;
 }
 
+-- a push
+push_shows_none : (b : Book) (m : ℕ) (info : PushInfo) → ShowsNone b (action.Push m info)
+push_shows_none b m info = unchanged b (action.Push m info) refl refl
+    (λ shown l may h q. push_keeps (IsQuiet shown) (m == l) info.kind (b.link l) (record { quiet = q.quiet; tells = q.tells }) (record { quiet = q.quiet; tells = q.tells }) q)
+
 -- a close
 close_shows_none : (b : Book) (m : ℕ) → ShowsNone b (action.Close m)
 close_shows_none b m = unchanged b (action.Close m) refl refl
@@ -182,6 +189,7 @@ step_told b shown (action.Connect m host port) may h told = still_told b shown (
 step_told b shown (action.Timer t ms what) may h told = still_told b shown (action.Timer t ms what) (unchanged b (action.Timer t ms what) refl refl (λ s l m h q. q)) may h told
 step_told b shown (action.Took owner.Setup l count) may h told = absurd may
 step_told b shown (action.Took (owner.Try n round) l count) may h told = still_told b shown (action.Took (owner.Try n round) l count) (unchanged b (action.Took (owner.Try n round) l count) refl refl (λ s j m h q. q)) may h told
+step_told b shown (action.Push m info) may h told = still_told b shown (action.Push m info) (push_shows_none b m info) may h told
 step_told b shown (action.Close m) may h told = still_told b shown (action.Close m) (close_shows_none b m) may h told
 step_told b shown (action.Write m bytes) may h told = still_told b shown (action.Write m bytes) (write_shows_none b m bytes) may h told
 step_told b shown (action.Wait owner.Setup kind) may h told = absurd may

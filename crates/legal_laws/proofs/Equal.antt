@@ -8,12 +8,13 @@ use Rattle.driver_model.specs.declared.action.Purpose.{Purpose}
 use Rattle.driver_model.specs.declared.config.Config.{Config}
 use Rattle.driver_model.specs.declared.event.Event.{Event}
 use Rattle.driver_model.specs.declared.outcome.Outcome.{Outcome}
+use Rattle.driver_model.specs.Push.{is_disconnection}
 use Rattle.legal_trace.specs.Ledger.{is_over}
 use Rattle.legal_trace.specs.Book.{Book, blank_book, book, entered, entered_each}
 use Rattle.legal_trace.specs.Legal.{link_of, MayStand, MayTimer, MayAnswer, MayTell, AllStand, IsSettled, causes, Legal}
 use Rattle.legal_laws.specs.Next.{BothAnnounce}
 use Rattle.legal_laws.proofs.Next.{AreOne, one_is_next}
-use Rattle.legal_laws.proofs.Ranks.{rank, not_done, step_of, settled, outcome_rank, timer_rank, answer_first, creation_first}
+use Rattle.legal_laws.proofs.Ranks.{rank, not_done, step_of, settled, outcome_rank, timer_rank, answer_first, creation_first, push_first}
 use Rattle.legal_laws.proofs.Sound.{Sound, stays_sound, blank_is_sound}
 
 -- lists that are equal begin alike
@@ -59,6 +60,7 @@ below_the_next : (b : Book) (y : Action) (t : List Action) (may : MayStand b y) 
 below_the_next b (action.Turn k c) t may e = absurd (is_some_cause c (causes t) e)
 below_the_next b (action.Outcome n o) t may e = outcome_below b n o may
 below_the_next b (action.Timer u ms what) t may e = timer_below b u ms what may
+below_the_next b (action.Push l info) t may e = let i = push_first (is_disconnection info.kind) in omega arith
 below_the_next b (action.Created x) t may e = let i = creation_first x in omega arith
 below_the_next b (action.Start l k owner.Setup count len) t may e = omega arith
 below_the_next b (action.Start l k (owner.Try n round) count len) t may e = omega arith

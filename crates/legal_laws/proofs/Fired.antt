@@ -64,6 +64,7 @@ over_kept b (action.Connect m host port) may n i h = h
 over_kept b (action.Timer t ms what) may n i h = chosen IsOver (is_clock_of n (Some what)) (clocked (b.story n) t) (b.story n) (λ e. h) (λ f. h)
 over_kept b (action.Took owner.Setup l count) may n i h = absurd may
 over_kept b (action.Took (owner.Try m round) l count) may n i h = chosen IsOver (m == n) (holds (b.story n) count) (b.story n) (λ e. h) (λ f. h)
+over_kept b (action.Push m info) may n i h = h
 over_kept b (action.Close m) may n i h = h
 over_kept b (action.Write m bytes) may n i h = h
 over_kept b (action.Wait owner.Setup kind) may n i h = absurd may

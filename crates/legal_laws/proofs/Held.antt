@@ -8,7 +8,7 @@ use Rattle.driver_model.specs.declared.action.Owner.TheVariants as owner
 use Rattle.driver_model.specs.declared.action.Purpose.{Purpose}
 use Rattle.driver_model.specs.declared.action.WaitKind.{WaitKind}
 use Rattle.driver_model.specs.declared.outcome.Outcome.{Outcome}
-use Rattle.legal_trace.specs.Ledger.{Ledger, Line, Start, begins, offers, noted_each, is_of_setup, is_set_up, is_ready, setup_due, ending, failure_in}
+use Rattle.legal_trace.specs.Ledger.{Ledger, Line, Start, begins, offers, noted_each, is_of_setup, is_set_up, is_ready, is_cut, setup_due, ending, failure_in, next_push}
 use Rattle.legal_trace.specs.Story.{Story, Try, is_open, is_unstarted, shape, holds, clocked, tried, waits, answered}
 use Rattle.legal_trace.specs.Steps.{is_due, is_held_back, permits_in, permits_on, permits_held, is_in_line, line_before, next_step}
 use Rattle.legal_trace.specs.Owed.{owed_to_message, owed_to_try}
@@ -70,6 +70,10 @@ ready_begins l s request ready none =
     let set : is_set_up l ≡ true = ready_is_set l ready in
     ends_where_set (record l { starts = l.starts ++ s ∷ [] }) (ready_is_up l ready) (set_begins l s request set) ∙ (sym (ends_where_set l (ready_is_up l ready) set) ∙ none)
 
+-- where a fault ended a link, this was told
+abbrev IsToldOver : Ledger → Type 0
+IsToldOver l = is_cut l.end ≡ true → l.parted ≡ true
+
 -- a start leaves the event applied
 pub start_applied : (b : Book) (l k m round count len : ℕ) → MayStart b l k m count len → Sound b → IsApplied (entered b (starting l k m round count len))
 start_applied b l k m round count len may h = record {
@@ -81,6 +85,8 @@ start_applied b l k m round count len may h = record {
     shown = λ j. mine_keeps (λ (x : Ledger). is_ready x ≡ true → b.created ≢ 0) (l == j) (b.link j) (begins (message_of b l (owner.Try m round))) (λ t ready. may.begun.applied.created.shown l (starts_ready b l k m count len may)) (may.begun.applied.created.shown j);
     failed = λ j e. mine_keeps (λ (x : Ledger). failure_in x.end ≡ Some e → b.created ≢ 0) (l == j) (b.link j) (begins (message_of b l (owner.Try m round))) (λ t. may.begun.applied.created.failed j e) (may.begun.applied.created.failed j e);
   };
+  pushed = λ j heard. mine_keeps (λ x. next_push x ≡ None) (l == j) (b.link j) (begins (message_of b l (owner.Try m round))) (λ t. may.begun.applied.pushed j heard) (may.begun.applied.pushed j heard);
+  parted = λ j heard. mine_keeps IsToldOver (l == j) (b.link j) (begins (message_of b l (owner.Try m round))) (λ t. may.begun.applied.parted j heard) (may.begun.applied.parted j heard);
   timed = may.begun.applied.timed;
 }
 
@@ -97,6 +103,8 @@ setup_applied b l k count len may h = record {
         (λ ready. absurd (not_both (is_set_up (record (b.link l) { starts = (b.link l).starts ++ message_of b l owner.Setup ∷ [] })) (begun_undecided (b.link l) (message_of b l owner.Setup) may.k refl may.due (h.few l)).unwell (ready_is_set (record (b.link l) { starts = (b.link l).starts ++ message_of b l owner.Setup ∷ [] }) ready)))) (may.applied.created.shown j);
     failed = λ j e. mine_keeps (λ (x : Ledger). failure_in x.end ≡ Some e → b.created ≢ 0) (l == j) (b.link j) (begins (message_of b l owner.Setup)) (λ t. may.applied.created.failed j e) (may.applied.created.failed j e);
   };
+  pushed = λ j heard. mine_keeps (λ x. next_push x ≡ None) (l == j) (b.link j) (begins (message_of b l owner.Setup)) (λ t. may.applied.pushed j heard) (may.applied.pushed j heard);
+  parted = λ j heard. mine_keeps IsToldOver (l == j) (b.link j) (begins (message_of b l owner.Setup)) (λ t. may.applied.parted j heard) (may.applied.parted j heard);
   timed = may.applied.timed;
 }
 
@@ -112,6 +120,8 @@ tell_applied b m o may = record {
       (λ f open_still. owed_again b (entered b (action.Outcome m o)) (b.story n) (λ e. e, λ t last e. e) (may.begun.applied.answered n open_still));
   ended = may.begun.applied.ended;
   created = record { asked = may.begun.applied.created.asked; shown = may.begun.applied.created.shown; failed = may.begun.applied.created.failed };
+  pushed = may.begun.applied.pushed;
+  parted = may.begun.applied.parted;
   timed = may.begun.applied.timed;
 }
 
@@ -129,6 +139,8 @@ write_applied b l bytes done = record {
     shown = λ j. mine_keeps (λ (x : Ledger). is_ready x ≡ true → b.created ≢ 0) (l == j) (b.link j) (offers bytes) (λ t. done.created.shown j) (done.created.shown j);
     failed = λ j e. mine_keeps (λ (x : Ledger). failure_in x.end ≡ Some e → b.created ≢ 0) (l == j) (b.link j) (offers bytes) (λ t. done.created.failed j e) (done.created.failed j e);
   };
+  pushed = λ j heard. mine_keeps (λ x. next_push x ≡ None) (l == j) (b.link j) (offers bytes) (λ t. done.pushed j heard) (done.pushed j heard);
+  parted = λ j heard. mine_keeps IsToldOver (l == j) (b.link j) (offers bytes) (λ t. done.parted j heard) (done.parted j heard);
   timed = done.timed;
 }
 
@@ -158,6 +170,8 @@ take_applied b m round l count done = record {
       (λ f o. owed_again b (entered b (action.Took (owner.Try m round) l count)) (b.story n) (λ e. e, λ u last e. e) (done.answered n o));
   ended = done.ended;
   created = record { asked = done.created.asked; shown = done.created.shown; failed = done.created.failed };
+  pushed = done.pushed;
+  parted = done.parted;
   timed = done.timed;
 }
 
@@ -169,6 +183,8 @@ ask_applied b t ms what done = record {
       (λ f o. owed_again b (entered b (action.Timer t ms what)) (b.story n) (λ x. x, λ u last x. x) (done.answered n o));
   ended = done.ended;
   created = record { asked = done.created.asked; shown = done.created.shown; failed = done.created.failed };
+  pushed = done.pushed;
+  parted = done.parted;
   timed = λ config word opens bounded none. not_empty b.timers what none;
 }
 
@@ -180,6 +196,8 @@ wait_applied b m round kind done = record {
       (λ f o. owed_again b (entered b (action.Wait (owner.Try m round) kind)) (b.story n) (λ e. e, λ u last e. e) (done.answered n o));
   ended = done.ended;
   created = record { asked = done.created.asked; shown = done.created.shown; failed = done.created.failed };
+  pushed = done.pushed;
+  parted = done.parted;
   timed = done.timed;
 }
 

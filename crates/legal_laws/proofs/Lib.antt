@@ -1,3 +1,5 @@
+pub mod Pushed
+pub mod Told
 pub mod Streams
 pub mod Lines
 pub mod Opens
@@ -7,6 +9,7 @@ pub mod Tales
 pub mod Shutdown
 pub mod Shaped
 pub mod Sound
+pub mod Heard
 pub mod Links
 pub mod Answers
 pub mod Quiet
@@ -28,3 +31,6 @@ pub mod Rising
 pub mod Leaving
 pub mod Fired
 pub mod Opened
+pub mod Pushes
+pub mod Parted
+pub mod Among

@@ -16,7 +16,7 @@ use Rattle.driver_model.specs.declared.action.Purpose.TheVariants as purpose
 use Rattle.driver_model.specs.News.{silence, connected, refused, overdue, took, came, failed, news_of, of_timer}
 use Rattle.legal_trace.specs.Ledger.{Ledger, Line, asks, begins, offers, ends, is_over, IsWithin, MayNote, AllNoted}
 use Rattle.legal_trace.specs.Story.{is_awaited, is_no_error, bytes_of}
-use Rattle.legal_trace.specs.Book.{Book, blank_book, entered, lines_of, lines_of_each, if_mine, info_in, message_of}
+use Rattle.legal_trace.specs.Book.{Book, blank_book, entered, lines_of, lines_of_each, if_mine, push_line, info_in, message_of}
 use Rattle.legal_trace.specs.Events.{is_bad_event, is_no_link}
 use Rattle.legal_trace.specs.Legal.{MayStand, MayStart, AllStand, Legal}
 use Rattle.legal_laws.specs.Links.{LinksAreLegal, TakesInOrder, lines_for}
@@ -26,6 +26,7 @@ use Rattle.legal_trace.proofs.Moves.{has_no_tries, open_or_told, mover_is_up, st
 use Rattle.legal_laws.proofs.Streams.{takes_in_order}
 use Rattle.legal_laws.proofs.Sound.{Sound, stays_sound, blank_is_sound}
 use Rattle.legal_laws.proofs.Owes.{has_bytes}
+use Rattle.legal_laws.proofs.Told.{push_may}
 
 -- a line that is told one link alone
 may_mine : (mine : Bool) (l : Ledger) (x : Line) → (mine ≡ true → MayNote l x) → AllNoted l (if_mine mine x)
@@ -87,6 +88,7 @@ lines_may b l (action.Connect m host port) may h = may_mine (m == l) (b.link l) 
 lines_may b l (action.Timer t ms what) may h = tt
 lines_may b l (action.Took owner.Setup m count) may h = absurd may
 lines_may b l (action.Took (owner.Try n round) m count) may h = tt
+lines_may b l (action.Push m info) may h = may_mine (m == l) (b.link l) (push_line info.kind) (λ t. subst (λ j. MayNote (b.link j) (push_line info.kind)) (eq_from m l t) (push_may b m info may))
 lines_may b l (action.Close m) may h = may_mine (m == l) (b.link l) (ends (b.turns - 1)) (λ t. subst (λ j. MayNote (b.link j) (ends (b.turns - 1))) (eq_from m l t) (may.why, may.ends))
 lines_may b l (action.Write m bytes) may h = may_mine (m == l) (b.link l) (offers bytes) (λ t. subst (λ j. MayNote (b.link j) (offers bytes)) (eq_from m l t) (may.up, may.answered, may.all, may.some))
 lines_may b l (action.Wait owner.Setup kind) may h = absurd may
@@ -101,7 +103,7 @@ lines_may b l (action.Created e) may h = tt
 lines_may b l (action.Outcome n o) may h = tt
 
 -- so what actions tell that may stand, behind what is in a book
-each_may : (b : Book) (l : ℕ) (trace : List Action) → AllStand b trace → Sound b → AllNoted (b.link l) (lines_of_each b l trace)
+pub each_may : (b : Book) (l : ℕ) (trace : List Action) → AllStand b trace → Sound b → AllNoted (b.link l) (lines_of_each b l trace)
 each_may b l [] all h = tt
 each_may b l (a ∷ more) all h =
     may_append (b.link l) (lines_of b l a) (lines_of_each (entered b a) l more) (lines_may b l a all.0 h)

@@ -17,16 +17,21 @@ use Rattle.driver_model.specs.declared.event.Event.{Event}
 use Rattle.driver_model.specs.declared.outcome.Outcome.{Outcome}
 use Rattle.driver_model.specs.declared.outcome.Outcome.TheVariants as outcome
 use Rattle.resp_value.specs.declared.value.Value.TheVariants.{Nil}
-use Rattle.legal_trace.specs.Ledger.{IsOffered, is_over, unwritten, ending, failure_in, setup_due, setup_message}
+use Rattle.resp_value.specs.declared.push_kind.PushKind.{PushKind}
+use Rattle.resp_value.specs.declared.push_kind.PushKind.TheVariants.{Disconnection}
+use Rattle.driver_model.specs.Push.{is_disconnection}
+use Rattle.driver_model.specs.declared.push_info.PushInfo.{PushInfo}
+use Rattle.legal_trace.specs.Ledger.{Heard, IsOffered, is_over, is_cut, unwritten, ending, failure_in, next_push, setup_due, setup_message}
 use Rattle.legal_trace.specs.Story.{shape, bytes_of}
 use Rattle.legal_trace.specs.Owed.{owed}
 use Rattle.legal_trace.specs.Book.{Book, book}
 use Rattle.legal_trace.specs.Steps.{Step, waits, takes, asks, tells, starts, nothing, is_held_back, next_step}
-use Rattle.legal_trace.specs.Legal.{MayStand, MayConnect, MayTimeConnect, MayTime, MayTake, MayTimer, MayClose, MayFail, MayShowCreation, MayAnswer, MayTell, MayStart, MaySetUp, MayWrite, MayWait, IsOpen, IsWaiting, link_of, CanMove}
+use Rattle.legal_trace.specs.Legal.{MayStand, MayConnect, MayTimeConnect, MayTime, MayTake, MayTimer, MayTellPush, MayPart, MayPushBy, MayClose, MayBeCreated, MayFail, MayShowCreation, MayAnswer, MayTell, MayStart, MaySetUp, MayWrite, MayWait, IsOpen, IsWaiting, link_of, CanMove}
 use Rattle.legal_laws.specs.Next.{BothAnnounce, OneIsNext, OneIsNextBehind}
 use Rattle.legal_trace.proofs.Moves.{teller_moves, starter_moves, taker_moves, asker_moves, same_kind}
-use Rattle.legal_laws.proofs.Ranks.{answer_rank, creation_rank, rank, same_rank, outcome_rank, timer_rank, not_offered, not_shown}
+use Rattle.legal_laws.proofs.Ranks.{answer_rank, creation_rank, push_rank, rank, same_rank, outcome_rank, timer_rank, not_offered, not_shown}
 use Rattle.legal_trace.proofs.Plain.{not_none, same_some}
+use Rattle.legal_laws.proofs.Numbers.{up_is_numbered}
 use Rattle.legal_laws.proofs.Sound.{Sound, sound_behind}
 
 -- the least number of a kind is one
@@ -165,6 +170,36 @@ one_close b l m h k =
     (λ none. not_none (ending (b.link l)) h.why none h.ends) (λ none. not_none (ending (b.link m)) k.why none k.ends)
     (λ j i w. w (h.in_order j i)) (λ j i w. w (k.in_order j i)))
 
+-- two pushes that came are one
+one_push : (b : Book) (l m : ℕ) (info other : PushInfo) → MayTellPush b l info → MayTellPush b m other → action.Push l info ≡ action.Push m other
+one_push b l m info other h k =
+    let e : l ≡ m = least_is_one (λ j. next_push (b.link j) ≡ None → ⊥) l m
+    (λ none. not_none (next_push (b.link l)) h.push none h.next) (λ none. not_none (next_push (b.link m)) k.push none k.next)
+    (λ j i w. w (h.in_order j i)) (λ j i w. w (k.in_order j i)) in
+    let p : h.push ≡ k.push = same_some h.push k.push (sym h.next ∙ (ap (λ j. next_push (b.link j)) e ∙ k.next)) in
+    let same : info ≡ other = h.says ∙ (ap (λ (x : Heard). x.info) p ∙ sym k.says) in
+    cc (e, same)
+
+-- what tells that a link has ended is of one kind
+one_kind : (kind : PushKind) → is_disconnection kind ≡ true → kind ≡ Disconnection
+one_kind Disconnection e = refl
+one_kind _ e = cc e
+
+-- and one push
+same_info : (info : PushInfo) → info.kind ≡ Disconnection → info.parts ≡ [] → info ≡ record { kind = Disconnection; parts = [] }
+same_info info k p =
+    let first : info ≡ record { kind = Disconnection; parts = info.parts } = ap (λ x. record { kind = x; parts = info.parts }) k in
+    first ∙ ap (λ x. record { kind = Disconnection; parts = x }) p
+
+-- two that tell that a link has ended are one
+one_part : (b : Book) (l m : ℕ) (info other : PushInfo) → is_disconnection info.kind ≡ true → is_disconnection other.kind ≡ true → MayPart b l info → MayPart b m other → action.Push l info ≡ action.Push m other
+one_part b l m info other d f h k =
+    let e : l ≡ m = least_is_one (λ j. (is_cut (b.link j).end ≡ true) × ((b.link j).parted ≡ true → ⊥)) l m
+    (h.ended, not_both (b.link l).parted h.once) (k.ended, not_both (b.link m).parted k.once)
+    (λ j i w. w.1 (h.in_order j i w.0)) (λ j i w. w.1 (k.in_order j i w.0)) in
+    let same : info ≡ other = same_info info (one_kind info.kind d) h.bare ∙ sym (same_info other (one_kind other.kind f) k.bare) in
+    cc (e, same)
+
 -- two writes are one
 one_write : (b : Book) (l m : ℕ) (bytes other : List ℕ) → MayWrite b l bytes → MayWrite b m other → action.Write l bytes ≡ action.Write m other
 one_write b l m bytes other h k =
@@ -187,15 +222,27 @@ one_wait b m n kind other h k =
 abbrev pub IsAnswering : Book → Bool → Action → Type 0
 IsAnswering b over y = (n : ℕ) × (o : Outcome) × (y ≡ action.Outcome n o) × (is_over (link_of b n) ≡ over) × MayAnswer b n o
 
+-- it is that a link is ready
+abbrev pub IsCreating : Book → Action → Type 0
+IsCreating b y = (y ≡ action.Created None) × MayBeCreated b
+
+-- it is a push that came
+abbrev pub IsTelling : Book → Action → Type 0
+IsTelling b y = (l : ℕ) × (info : PushInfo) × (y ≡ action.Push l info) × MayTellPush b l info
+
+-- it comes from values: an outcome, that a link is ready, or a push
+abbrev pub IsOfValues : Book → Action → Type 0
+IsOfValues b y = IsAnswering b false y ⊎ (IsCreating b y ⊎ IsTelling b y)
+
 -- what an action of this rank is, and that it may stand
 abbrev pub OfRank : ℕ → Book → Action → Type 0
 OfRank zero b y = (k : ℕ) × (config : Config) × (word : ℕ) × (y ≡ action.Turn k (cause.Opening config word)) × (k ≡ b.turns)
 OfRank (suc zero) b y = (l : ℕ) × (host : List ℕ) × (port : ℕ) × (y ≡ action.Connect l host port) × MayConnect b l host port
 OfRank (suc (suc zero)) b y = (t : ℕ) × (ms : ℕ) × (what : Purpose) × (y ≡ action.Timer t ms what) × MayTimeConnect b t ms what
-OfRank (suc (suc (suc zero))) b y = IsAnswering b false y
-OfRank (suc (suc (suc (suc zero)))) b y = y ≡ action.Created None
-OfRank (suc (suc (suc (suc (suc zero))))) b y = (l : ℕ) × (y ≡ action.Close l) × MayClose b l
-OfRank (suc (suc (suc (suc (suc (suc zero)))))) b y = (e : RedisError) × (y ≡ action.Created (Some e)) × MayFail b e
+OfRank (suc (suc (suc zero))) b y = IsOfValues b y
+OfRank (suc (suc (suc (suc zero)))) b y = (l : ℕ) × (y ≡ action.Close l) × MayClose b l
+OfRank (suc (suc (suc (suc (suc zero))))) b y = (e : RedisError) × (y ≡ action.Created (Some e)) × MayFail b e
+OfRank (suc (suc (suc (suc (suc (suc zero)))))) b y = (l : ℕ) × (info : PushInfo) × (y ≡ action.Push l info) × (is_disconnection info.kind ≡ true) × MayPart b l info
 OfRank (suc (suc (suc (suc (suc (suc (suc zero))))))) b y = IsAnswering b true y
 OfRank (suc (suc (suc (suc (suc (suc (suc (suc zero)))))))) b y = (l : ℕ) × (k : ℕ) × (count : ℕ) × (len : ℕ) × (y ≡ action.Start l k owner.Setup count len) × MaySetUp b l k count len
 OfRank (suc (suc (suc (suc (suc (suc (suc (suc (suc zero))))))))) b y = IsMoving b y
@@ -205,7 +252,7 @@ OfRank (suc (suc (suc (suc (suc (suc (suc (suc (suc (suc (suc (suc more)))))))))
 
 -- an outcome that is owed is of its rank
 answer_of_rank : (b : Book) (n : ℕ) (o : Outcome) (over : Bool) → is_over (link_of b n) ≡ over → MayAnswer b n o → OfRank (answer_rank over) b (action.Outcome n o)
-answer_of_rank b n o false e may = (n, o, refl, e, may)
+answer_of_rank b n o false e may = inl (n, o, refl, e, may)
 answer_of_rank b n o true e may = (n, o, refl, e, may)
 
 -- so is any outcome
@@ -215,8 +262,13 @@ outcome_of_rank b n o (inr told) = tell_moving b n o told
 
 -- so is the creation
 creation_of_rank : (b : Book) (e : Option RedisError) → MayShowCreation b e → OfRank (creation_rank e) b (action.Created e)
-creation_of_rank b None may = refl
+creation_of_rank b None may = inr (inl (refl, may))
 creation_of_rank b (Some e) may = (e, refl, may)
+
+-- and a push
+push_of_rank : (b : Book) (l : ℕ) (info : PushInfo) (disconnects : Bool) → is_disconnection info.kind ≡ disconnects → MayPushBy disconnects b l info → OfRank (push_rank disconnects) b (action.Push l info)
+push_of_rank b l info false e may = inr (inr (l, info, refl, may))
+push_of_rank b l info true e may = (l, info, refl, e, may)
 
 -- and a timer
 timer_of_rank : (b : Book) (t ms : ℕ) (what : Purpose) (may : MayTimer b t ms what) → OfRank (timer_rank b t ms what may) b (action.Timer t ms what)
@@ -231,6 +283,7 @@ of_rank b (action.Timer t ms what) may = timer_of_rank b t ms what may
 of_rank b (action.Took owner.Setup l count) may = absurd may
 of_rank b (action.Took (owner.Try n round) l count) may = subst (λ r. IsMoving b (action.Took (owner.Try n r) l count)) (sym may.0) (take_moving b n l count may.1)
 of_rank b (action.Outcome n o) may = outcome_of_rank b n o may
+of_rank b (action.Push l info) may = push_of_rank b l info (is_disconnection info.kind) refl may
 of_rank b (action.Close l) may = (l, refl, may)
 of_rank b (action.Created e) may = creation_of_rank b e may
 of_rank b (action.Start l k owner.Setup count len) may = (l, k, count, len, refl, may)
@@ -240,19 +293,64 @@ of_rank b (action.Wait owner.Setup kind) may = absurd may
 of_rank b (action.Wait (owner.Try n round) kind) may = (n, kind, ap (λ r. action.Wait (owner.Try n r) kind) may.0, may.1)
 of_rank b (action.Turn k (cause.Event e)) may = (k, e, refl, may.next)
 
+-- an outcome that values gave and that a link is ready don't both stand
+answer_or_created : (b : Book) (n : ℕ) (o : Outcome) → is_over (link_of b n) ≡ false → MayAnswer b n o → MayBeCreated b → ⊥
+answer_or_created b n o e p q = not_none (owed b n) o (q.answered n p.asked e) p.owes
+
+-- submissions go to the link of a push that waits
+pub on_its_link : (b : Book) (n l : ℕ) (info : PushInfo) → Sound b → MayTellPush b l info → (b.story n).link ≡ l
+on_its_link b n l info h q =
+    let first : (b.story n).link ≡ 0 = h.goes n in
+    let i : l < b.links = up_is_numbered b l h.links (h.waits l q.heard q.push q.next) in
+    let one : b.links ≤ 1 = h.opens.one_link in
+    omega (arith, first, i, one)
+
+-- nor do an outcome and a push
+answer_or_push : (b : Book) (n : ℕ) (o : Outcome) (l : ℕ) (info : PushInfo) → Sound b → MayAnswer b n o → MayTellPush b l info → ⊥
+answer_or_push b n o l info h p q =
+    let same : (b.story n).link ≡ l = on_its_link b n l info h q in
+    q.answered n p.asked same (p.after_pushes q.heard q.push (ap (λ j. next_push (b.link j)) same ∙ q.next))
+
+-- nor a push and that a link is ready
+push_or_created : (b : Book) (l : ℕ) (info : PushInfo) → MayTellPush b l info → MayBeCreated b → ⊥
+push_or_created b l info p q = p.created q.l q.ready q.once
+
+-- beside an outcome that values gave
+beside_verdict : (b : Book) (n : ℕ) (o : Outcome) (y : Action) → Sound b → is_over (link_of b n) ≡ false → MayAnswer b n o → IsOfValues b y → AreOne (action.Outcome n o) y
+beside_verdict b n o y h e p (inl q) = inl (one_answer b n q.0 o q.1 false e q.3 p q.4 ∙ sym q.2)
+beside_verdict b n o y h e p (inr (inl q)) = absurd (answer_or_created b n o e p q.1)
+beside_verdict b n o y h e p (inr (inr q)) = absurd (answer_or_push b n o q.0 q.1 h p q.3)
+
 -- beside an outcome that is owed, another action of its rank
-beside_answer : (b : Book) (n : ℕ) (o : Outcome) (y : Action) (over : Bool) → is_over (link_of b n) ≡ over → MayAnswer b n o → OfRank (answer_rank over) b y → AreOne (action.Outcome n o) y
-beside_answer b n o y false e p q = inl (one_answer b n q.0 o q.1 false e q.3 p q.4 ∙ sym q.2)
-beside_answer b n o y true e p q = inl (one_answer b n q.0 o q.1 true e q.3 p q.4 ∙ sym q.2)
+beside_answer : (b : Book) (n : ℕ) (o : Outcome) (y : Action) (over : Bool) → Sound b → is_over (link_of b n) ≡ over → MayAnswer b n o → OfRank (answer_rank over) b y → AreOne (action.Outcome n o) y
+beside_answer b n o y false h e p q = beside_verdict b n o y h e p q
+beside_answer b n o y true h e p q = inl (one_answer b n q.0 o q.1 true e q.3 p q.4 ∙ sym q.2)
 
 -- beside any outcome
-beside_outcome : (b : Book) (n : ℕ) (o : Outcome) (y : Action) (p : MayAnswer b n o ⊎ MayTell b n o) → OfRank (outcome_rank b n o p) b y → AreOne (action.Outcome n o) y
-beside_outcome b n o y (inl p) q = beside_answer b n o y (is_over (link_of b n)) refl p q
-beside_outcome b n o y (inr p) q = inl (one_moving b (action.Outcome n o) y (tell_moving b n o p) q)
+beside_outcome : (b : Book) (n : ℕ) (o : Outcome) (y : Action) (p : MayAnswer b n o ⊎ MayTell b n o) → Sound b → OfRank (outcome_rank b n o p) b y → AreOne (action.Outcome n o) y
+beside_outcome b n o y (inl p) h q = beside_answer b n o y (is_over (link_of b n)) h refl p q
+beside_outcome b n o y (inr p) h q = inl (one_moving b (action.Outcome n o) y (tell_moving b n o p) q)
+
+-- beside that a link is ready
+beside_ready : (b : Book) (y : Action) → MayBeCreated b → IsOfValues b y → AreOne (action.Created None) y
+beside_ready b y p (inl q) = absurd (answer_or_created b q.0 q.1 q.3 q.4 p)
+beside_ready b y p (inr (inl q)) = inl (sym q.0)
+beside_ready b y p (inr (inr q)) = absurd (push_or_created b q.0 q.1 q.3 p)
+
+-- beside a push that came
+beside_telling : (b : Book) (l : ℕ) (info : PushInfo) (y : Action) → Sound b → MayTellPush b l info → IsOfValues b y → AreOne (action.Push l info) y
+beside_telling b l info y h p (inl q) = absurd (answer_or_push b q.0 q.1 l info h q.4 p)
+beside_telling b l info y h p (inr (inl q)) = absurd (push_or_created b l info p q.1)
+beside_telling b l info y h p (inr (inr q)) = inl (one_push b l q.0 info q.1 p q.3 ∙ sym q.2)
+
+-- beside any push
+beside_push : (b : Book) (l : ℕ) (info : PushInfo) (y : Action) (disconnects : Bool) → Sound b → is_disconnection info.kind ≡ disconnects → MayPushBy disconnects b l info → OfRank (push_rank disconnects) b y → AreOne (action.Push l info) y
+beside_push b l info y false h e p q = beside_telling b l info y h p q
+beside_push b l info y true h e p q = inl (one_part b l q.0 info q.1 e q.3 p q.4 ∙ sym q.2)
 
 -- beside the creation
 beside_creation : (b : Book) (e : Option RedisError) (y : Action) → MayShowCreation b e → OfRank (creation_rank e) b y → AreOne (action.Created e) y
-beside_creation b None y p q = inl (sym q)
+beside_creation b None y p q = beside_ready b y p q
 beside_creation b (Some e) y p q = inl (ap (λ x. action.Created (Some x)) (one_failure b e q.0 p q.2) ∙ sym q.1)
 
 -- beside a timer
@@ -261,25 +359,26 @@ beside_timer b t ms what y (inl p) q = inl (one_timer b t q.0 ms q.1 what q.2 p 
 beside_timer b t ms what y (inr p) q = inl (one_moving b (action.Timer t ms what) y (ask_moving b t ms what p) q)
 
 -- beside each
-pub beside : (b : Book) (x y : Action) (p : MayStand b x) → OfRank (rank b x p) b y → AreOne x y
-beside b (action.Turn j (cause.Opening config word)) y p q = subst (AreOne (action.Turn j (cause.Opening config word))) (sym q.3) (inr (p.next ∙ sym q.4, tt))
-beside b (action.Connect l host port) y p q = inl (one_connect b l q.0 host q.1 port q.2 p q.4 ∙ sym q.3)
-beside b (action.Timer t ms what) y p q = beside_timer b t ms what y p q
-beside b (action.Took owner.Setup l count) y p q = absurd p
-beside b (action.Took (owner.Try n round) l count) y p q = subst (λ r. AreOne (action.Took (owner.Try n r) l count) y) (sym p.0) (inl (one_moving b (action.Took (owner.Try n 0) l count) y (take_moving b n l count p.1) q))
-beside b (action.Outcome n o) y p q = beside_outcome b n o y p q
-beside b (action.Close l) y p q = inl (one_close b l q.0 p q.2 ∙ sym q.1)
-beside b (action.Created e) y p q = beside_creation b e y p q
-beside b (action.Start l k owner.Setup count len) y p q = inl (one_setup b l q.0 k q.1 count q.2 len q.3 p q.5 ∙ sym q.4)
-beside b (action.Start l k (owner.Try n round) count len) y p q = subst (λ r. AreOne (action.Start l k (owner.Try n r) count len) y) (sym p.0) (inl (one_moving b (action.Start l k (owner.Try n 0) count len) y (start_moving b l k n count len p.1) q))
-beside b (action.Write l bytes) y p q = inl (one_write b l q.0 bytes q.1 p q.3 ∙ sym q.2)
-beside b (action.Wait owner.Setup kind) y p q = absurd p
-beside b (action.Wait (owner.Try n round) kind) y p q = subst (λ r. AreOne (action.Wait (owner.Try n r) kind) y) (sym p.0) (inl (one_wait b n q.0 kind q.1 p.1 q.3 ∙ sym q.2))
-beside b (action.Turn j (cause.Event e)) y p q = subst (AreOne (action.Turn j (cause.Event e))) (sym q.2) (inr (p.next ∙ sym q.3, tt))
+pub beside : (b : Book) (x y : Action) (p : MayStand b x) → Sound b → OfRank (rank b x p) b y → AreOne x y
+beside b (action.Turn j (cause.Opening config word)) y p h q = subst (AreOne (action.Turn j (cause.Opening config word))) (sym q.3) (inr (p.next ∙ sym q.4, tt))
+beside b (action.Connect l host port) y p h q = inl (one_connect b l q.0 host q.1 port q.2 p q.4 ∙ sym q.3)
+beside b (action.Timer t ms what) y p h q = beside_timer b t ms what y p q
+beside b (action.Took owner.Setup l count) y p h q = absurd p
+beside b (action.Took (owner.Try n round) l count) y p h q = subst (λ r. AreOne (action.Took (owner.Try n r) l count) y) (sym p.0) (inl (one_moving b (action.Took (owner.Try n 0) l count) y (take_moving b n l count p.1) q))
+beside b (action.Outcome n o) y p h q = beside_outcome b n o y p h q
+beside b (action.Push l info) y p h q = beside_push b l info y (is_disconnection info.kind) h refl p q
+beside b (action.Close l) y p h q = inl (one_close b l q.0 p q.2 ∙ sym q.1)
+beside b (action.Created e) y p h q = beside_creation b e y p q
+beside b (action.Start l k owner.Setup count len) y p h q = inl (one_setup b l q.0 k q.1 count q.2 len q.3 p q.5 ∙ sym q.4)
+beside b (action.Start l k (owner.Try n round) count len) y p h q = subst (λ r. AreOne (action.Start l k (owner.Try n r) count len) y) (sym p.0) (inl (one_moving b (action.Start l k (owner.Try n 0) count len) y (start_moving b l k n count len p.1) q))
+beside b (action.Write l bytes) y p h q = inl (one_write b l q.0 bytes q.1 p q.3 ∙ sym q.2)
+beside b (action.Wait owner.Setup kind) y p h q = absurd p
+beside b (action.Wait (owner.Try n round) kind) y p h q = subst (λ r. AreOne (action.Wait (owner.Try n r) kind) y) (sym p.0) (inl (one_wait b n q.0 kind q.1 p.1 q.3 ∙ sym q.2))
+beside b (action.Turn j (cause.Event e)) y p h q = subst (AreOne (action.Turn j (cause.Event e))) (sym q.2) (inr (p.next ∙ sym q.3, tt))
 
 -- so that one is next
 pub one_is_next : (b : Book) → Sound b → OneIsNext b
-one_is_next b h x y p q = beside b x y p (subst (λ k. OfRank k b y) (sym (same_rank b x y p q h)) (of_rank b y q))
+one_is_next b h x y p q = beside b x y p h (subst (λ k. OfRank k b y) (sym (same_rank b x y p q h)) (of_rank b y q))
 
 -- so behind actions that may stand
 pub one_is_next_behind : (front : List Action) → OneIsNextBehind front

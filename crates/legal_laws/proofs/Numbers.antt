@@ -21,6 +21,7 @@ use Rattle.legal_trace.specs.Legal.{MayAnswer, MayTell, MayTimer, MayStand, IsOp
 use Rattle.legal_trace.proofs.Ledgers.{each_keeps, mine_keeps, IsAsked, asked_keeps, IsUnasked, unasked_hears}
 use Rattle.legal_trace.proofs.Plain.{not_none}
 use Rattle.legal_trace.proofs.Moves.{open_or_told, starter_moves, taker_moves, asker_moves}
+use Rattle.legal_laws.proofs.Pushed.{push_keeps}
 
 -- the links below that number were asked for, and no others
 pub record LinksAreNumbered (links : ℕ) (link : ℕ → Ledger) : Type 0 where
@@ -75,6 +76,7 @@ unasked_kept b l (action.Connect m host port) may i h =
     mine_keeps IsUnasked (m == l) (b.link l) (asks (info_in b.config)) (λ t. absurd (not_both (m == l) other t)) h
 unasked_kept b l (action.Timer t ms what) may i h = h
 unasked_kept b l (action.Took who m count) may i h = h
+unasked_kept b l (action.Push m info) may i h = push_keeps IsUnasked (m == l) info.kind (b.link l) h h h
 unasked_kept b l (action.Close m) may i h =
     mine_keeps IsUnasked (m == l) (b.link l) (ends (b.turns - 1))
     (λ t. absurd (not_none (ending (b.link m)) may.why (unasked_stays (b.link m) (subst (λ j. IsUnasked (b.link j)) (sym (eq_from m l t)) h)) may.ends)) h
@@ -91,6 +93,7 @@ links_grow b (action.Turn k (cause.Event e)) = omega arith
 links_grow b (action.Connect m host port) = omega arith
 links_grow b (action.Timer t ms what) = omega arith
 links_grow b (action.Took who m count) = omega arith
+links_grow b (action.Push m info) = omega arith
 links_grow b (action.Close m) = omega arith
 links_grow b (action.Write m bytes) = omega arith
 links_grow b (action.Wait who kind) = omega arith
@@ -114,6 +117,7 @@ asked_kept b l (action.Connect m host port) may h i =
 asked_kept b l (action.Timer t ms what) may h i = asked_stays b l (action.Timer t ms what) (h.asked l i)
 asked_kept b l (action.Took owner.Setup m count) may h i = absurd may
 asked_kept b l (action.Took (owner.Try n round) m count) may h i = asked_stays b l (action.Took (owner.Try n round) m count) (h.asked l i)
+asked_kept b l (action.Push m info) may h i = asked_stays b l (action.Push m info) (h.asked l i)
 asked_kept b l (action.Close m) may h i = asked_stays b l (action.Close m) (h.asked l i)
 asked_kept b l (action.Write m bytes) may h i = asked_stays b l (action.Write m bytes) (h.asked l i)
 asked_kept b l (action.Wait owner.Setup kind) may h i = absurd may
@@ -212,6 +216,7 @@ stories_kept b (action.Connect l host port) may h n i = h n i
 stories_kept b (action.Timer t ms what) may h n i = timer_leaves_blank b t ms what n may h i
 stories_kept b (action.Took owner.Setup l count) may h n i = absurd may
 stories_kept b (action.Took (owner.Try m round) l count) may h n i = others_blank b m n (holds (b.story n) count) h i (mover_is_numbered b m h (taker_moves b m l count may.1))
+stories_kept b (action.Push l info) may h n i = h n i
 stories_kept b (action.Close l) may h n i = h n i
 stories_kept b (action.Write l bytes) may h n i = h n i
 stories_kept b (action.Wait owner.Setup kind) may h n i = absurd may

@@ -22,6 +22,7 @@ use Rattle.legal_laws.proofs.Numbers.{mover_is_numbered}
 use Rattle.legal_laws.proofs.Quiet.{IsQuiet, begins_quiet, ends_quiet}
 use Rattle.legal_laws.proofs.Turned.{turn_quiet}
 use Rattle.legal_laws.proofs.Sound.{Sound, stays_sound, blank_is_sound}
+use Rattle.legal_laws.proofs.Pushed.{push_keeps}
 
 -- one of these timers is that of submission n
 abbrev pub HasClock : ℕ → List Purpose → Type 0
@@ -53,6 +54,7 @@ quiet_stays b (action.Connect m host port) may h some l q = absurd (some (h.open
 quiet_stays b (action.Timer t ms what) may h some l q = q
 quiet_stays b (action.Took owner.Setup m count) may h some l q = absurd may
 quiet_stays b (action.Took (owner.Try n round) m count) may h some l q = q
+quiet_stays b (action.Push m info) may h some l q = push_keeps (IsQuiet []) (m == l) info.kind (b.link l) (record { quiet = q.quiet; tells = q.tells }) (record { quiet = q.quiet; tells = q.tells }) q
 quiet_stays b (action.Close m) may h some l q = mine_keeps (IsQuiet []) (m == l) (b.link l) (ends (b.turns - 1)) (λ t. ends_quiet [] (b.link l) (b.turns - 1) q) q
 quiet_stays b (action.Write m bytes) may h some l q = mine_keeps (IsQuiet []) (m == l) (b.link l) (offers bytes) (λ t. record { quiet = q.quiet; tells = q.tells }) q
 quiet_stays b (action.Wait owner.Setup kind) may h some l q = absurd may
@@ -103,6 +105,7 @@ clock_before b (action.Turn k (cause.Event e)) may h run n c = run.asked n c
 clock_before b (action.Connect m host port) may h run n c = run.asked n c
 clock_before b (action.Timer t ms what) may h run n c = elim (clock_more n b.timers what c) [ inl before ↦ run.asked n before | inr new ↦ new_clock b t ms what n h may new ]
 clock_before b (action.Took who m count) may h run n c = run.asked n c
+clock_before b (action.Push m info) may h run n c = run.asked n c
 clock_before b (action.Close m) may h run n c = run.asked n c
 clock_before b (action.Write m bytes) may h run n c = run.asked n c
 clock_before b (action.Wait who kind) may h run n c = run.asked n c
@@ -138,6 +141,7 @@ over_before b (action.Connect m host port) n = λ e. inl e
 over_before b (action.Timer t ms what) n = chosen (WasOver b n) (is_clock_of n (Some what)) (clocked (b.story n) t) (b.story n) (λ c e. inl e) (λ f e. inl e)
 over_before b (action.Took owner.Setup l count) n = λ e. inl e
 over_before b (action.Took (owner.Try m round) l count) n = chosen (WasOver b n) (m == n) (holds (b.story n) count) (b.story n) (λ t e. inl e) (λ f e. inl e)
+over_before b (action.Push m info) n = λ e. inl e
 over_before b (action.Close m) n = λ e. inl e
 over_before b (action.Write m bytes) n = λ e. inl e
 over_before b (action.Wait owner.Setup kind) n = λ e. inl e

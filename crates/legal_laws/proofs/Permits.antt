@@ -144,6 +144,7 @@ within_kept b (action.Timer t ms what) may sound h = kept_by b (action.Timer t m
     (λ n i. chosen (λ (s : Story). s.permits ≤ (b.story n).permits) (is_clock_of n (Some what)) (clocked (b.story n) t) (b.story n) (λ e. omega arith) (λ f. omega arith)) h
 within_kept b (action.Took owner.Setup l count) may sound h = absurd may
 within_kept b (action.Took (owner.Try m round) l count) may sound h = taken_within b m round l count may.1 may sound h
+within_kept b (action.Push m info) may sound h = kept_by b (action.Push m info) may sound refl (λ n i. omega arith) h
 within_kept b (action.Close m) may sound h = kept_by b (action.Close m) may sound refl (λ n i. omega arith) h
 within_kept b (action.Write m bytes) may sound h = kept_by b (action.Write m bytes) may sound refl (λ n i. omega arith) h
 within_kept b (action.Wait owner.Setup kind) may sound h = absurd may

@@ -7,7 +7,7 @@ use Rattle.redis_error.specs.declared.redis_error.RedisError.TheVariants as erro
 use Rattle.driver_model.specs.declared.news.LinkFault.TheVariants as fault
 use Rattle.driver_model.specs.News.{News, silence, connected, refused, overdue, took, came, failed, shut}
 use Rattle.resp_read.specs.Values.{is_spoiled}
-use Rattle.legal_trace.specs.Ledger.{Ledger, Line, Start, End, Ending, is_of_setup, is_set_up, setup_result, error_in, ending_by, ending_unready, ending_alive, by_fault, asks, hears, begins, offers, ends, noted, noted_each, with_news, refused_in, bytes_came, is_over, dials, ending, ending_up, ending_asked, ending_or_shutdown, failure_of, failure_in, MayNote, AllNoted}
+use Rattle.legal_trace.specs.Ledger.{Ledger, Line, Start, End, Ending, is_of_setup, is_set_up, setup_result, error_in, ending_by, ending_unready, ending_alive, by_fault, asks, hears, begins, offers, tells, ends, parts, noted, noted_each, with_news, refused_in, bytes_came, is_over, dials, ending, ending_up, ending_asked, ending_or_shutdown, failure_of, failure_in, MayNote, AllNoted}
 use Rattle.legal_trace.proofs.Ledgers.{dials_from, UpIsNotOver, up_keeps}
 use Rattle.legal_trace.proofs.Plain.{none_from, not_none}
 use Rattle.legal_trace.proofs.Setups.{AreSetups, set_came, set_begins}
@@ -90,7 +90,7 @@ pub begins_quiet : (shown : List (Option RedisError)) (l : Ledger) (s : Start) �
 begins_quiet shown l s request h = record { quiet = (h.quiet.0, λ u. set_begins l s request (h.quiet.1 u)); tells = h.tells }
 
 -- what has ended ends no second time
-over_stays : (l : Ledger) (end : End) → UpIsNotOver l → l.end ≡ Some end → ending l ≡ None
+pub over_stays : (l : Ledger) (end : End) → UpIsNotOver l → l.end ≡ Some end → ending l ≡ None
 over_stays l end h over =
     chosen (λ (x : Option Ending). x ≡ None) l.up (ending_alive l) (if l.asked && not (is_over l) then ending_asked l.heard else None)
     (λ t. absurd (not_none l.end end (h t) over))
@@ -127,7 +127,9 @@ failed_noted e l (asks info) may up h = h
 failed_noted e l (hears turn news) may up h = failed_hears e l turn news h
 failed_noted e l (begins s) may up h = h
 failed_noted e l (offers bytes) may up h = h
+failed_noted e l tells may up h = h
 failed_noted e l (ends turn) may up h = let over = failed_is_over l.end e h in absurd (not_none (ending l) may.0 (over_stays l over.0 up over.1) may.1)
+failed_noted e l parts may up h = h
 
 -- and with many
 pub failed_stays : (e : RedisError) (l : Ledger) (lines : List Line) → AllNoted l lines → UpIsNotOver l → failure_in l.end ≡ Some e → failure_in (noted_each l lines).end ≡ Some e

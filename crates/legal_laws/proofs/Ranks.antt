@@ -10,17 +10,20 @@ use Rattle.driver_model.specs.declared.outcome.Outcome.{Outcome}
 use Rattle.driver_model.specs.declared.action.Purpose.{Purpose}
 use Rattle.driver_model.specs.declared.action.WaitKind.{WaitKind}
 use Rattle.driver_model.specs.Config.{connect_timeout}
-use Rattle.legal_trace.specs.Ledger.{End, Ending, is_over, IsOffered, ending}
+use Rattle.driver_model.specs.Push.{is_disconnection}
+use Rattle.driver_model.specs.declared.push_info.PushInfo.{PushInfo}
+use Rattle.legal_trace.specs.Ledger.{End, Ending, by_shutdown, by_fault, by_opening, failure_of, failure_in, is_fault, is_cut, is_over, IsOffered, ending, next_push}
 use Rattle.legal_trace.specs.Story.{Try, last_of}
 use Rattle.legal_trace.specs.Book.{Book}
 use Rattle.legal_trace.specs.Steps.{is_held_back, next_step}
-use Rattle.legal_trace.specs.Legal.{MayStand, MayTimer, MayAnswer, MayTell, MayWrite, MayWait, MayShowCreation, IsOpen, link_of, NoneIsOwed, VerdictsAreShown, NoneEnds, FailuresAreShown, ReadyIsShown, SetupsAreStarted, IsTimed, IsApplied, IsBegun, IsMoved, IsWritten, IsSettled, IsStarted, IsWaiting, CanMove}
+use Rattle.legal_trace.specs.Legal.{MayStand, MayTimer, MayAnswer, MayTell, MayWrite, MayWait, MayShowCreation, MayPushBy, IsOpen, link_of, NoneIsOwed, VerdictsAreShown, NoneEnds, FailuresAreShown, ReadyIsShown, PushesAreTold, EndsAreTold, SetupsAreStarted, IsTimed, IsApplied, IsBegun, IsMoved, IsWritten, IsSettled, IsStarted, IsWaiting, CanMove}
 use Rattle.legal_trace.proofs.Moves.{teller_moves, starter_moves, taker_moves, asker_moves, same_kind, ready_is_up}
 use Rattle.legal_laws.proofs.Numbers.{up_is_numbered, over_is_numbered, open_is_numbered, unasked_stays}
 use Rattle.legal_laws.proofs.Opens.{still_stays}
 use Rattle.legal_laws.proofs.Quiet.{failed_is_over}
 use Rattle.legal_trace.specs.Owed.{owed}
 use Rattle.legal_trace.proofs.Plain.{not_none}
+use Rattle.legal_laws.proofs.Told.{none_unless}
 use Rattle.legal_laws.proofs.Sound.{Sound}
 
 -- the outcomes that are owed: what values gave, where the link has not ended, and then the others
@@ -31,8 +34,13 @@ answer_rank true = 7
 -- the creation: that a link is ready comes before the closes, and that an opening failed behind them, and before the outcomes
 -- that it gives
 abbrev pub creation_rank : Option RedisError → ℕ
-creation_rank (Some e) = 6
-creation_rank None = 4
+creation_rank (Some e) = 5
+creation_rank None = 3
+
+-- the pushes: those that came stand among the outcomes that values gave, and that a link has ended behind the closes
+abbrev pub push_rank : Bool → ℕ
+push_rank false = 3
+push_rank true = 6
 
 -- these come before one that is told at its place
 abbrev pub outcome_rank : (b : Book) (n : ℕ) (o : Outcome) → MayAnswer b n o ⊎ MayTell b n o → ℕ
@@ -44,15 +52,17 @@ abbrev pub timer_rank : (b : Book) (t ms : ℕ) (what : Purpose) → MayTimer b 
 timer_rank b t ms what (inl opening) = 2
 timer_rank b t ms what (inr response) = 9
 
--- the opening, its connect and its timer, the outcomes of links that have not ended, the creation, the closes, the creation
--- that failed, the other outcomes that are owed, the setups, the passes, the writes, the waits, and the next event
+-- the opening, its connect and its timer, the outcomes of links that have not ended, the creation and the pushes, the closes, the
+-- creation that failed, that links have ended, the other outcomes that are owed, the setups, the passes, the writes, the waits,
+-- and the next event
 abbrev pub rank : (b : Book) (a : Action) → MayStand b a → ℕ
 rank b (action.Turn k (cause.Opening config word)) may = 0
 rank b (action.Connect l host port) may = 1
 rank b (action.Timer t ms what) may = timer_rank b t ms what may
 rank b (action.Took who l count) may = 9
 rank b (action.Outcome n o) may = outcome_rank b n o may
-rank b (action.Close l) may = 5
+rank b (action.Push l info) may = push_rank (is_disconnection info.kind)
+rank b (action.Close l) may = 4
 rank b (action.Created e) may = creation_rank e
 rank b (action.Start l k owner.Setup count len) may = 8
 rank b (action.Start l k (owner.Try n round) count len) may = 9
@@ -70,15 +80,26 @@ pub creation_first : (e : Option RedisError) → creation_rank e < 8
 creation_first None = omega arith
 creation_first (Some e) = omega arith
 
+-- and a push
+pub push_first : (disconnects : Bool) → push_rank disconnects < 8
+push_first false = omega arith
+push_first true = omega arith
+
+-- what came from values is told: their outcomes, that a link is ready, and the pushes
+pub record IsTold (b : Book) : Type 0 where
+  pub answered : VerdictsAreShown b
+  pub created : ReadyIsShown b
+  pub pushed : PushesAreTold b
+
 -- what is done once nothing of this rank is due
 abbrev pub Step : ℕ → Book → Type 0
 Step zero b = b.turns ≢ 0
 Step (suc zero) b = b.links ≢ 0
 Step (suc (suc zero)) b = IsTimed b
-Step (suc (suc (suc zero))) b = VerdictsAreShown b
-Step (suc (suc (suc (suc zero)))) b = ReadyIsShown b
-Step (suc (suc (suc (suc (suc zero))))) b = NoneEnds b
-Step (suc (suc (suc (suc (suc (suc zero)))))) b = FailuresAreShown b
+Step (suc (suc (suc zero))) b = IsTold b
+Step (suc (suc (suc (suc zero)))) b = NoneEnds b
+Step (suc (suc (suc (suc (suc zero))))) b = FailuresAreShown b
+Step (suc (suc (suc (suc (suc (suc zero)))))) b = EndsAreTold b
 Step (suc (suc (suc (suc (suc (suc (suc zero))))))) b = NoneIsOwed b
 Step (suc (suc (suc (suc (suc (suc (suc (suc zero)))))))) b = SetupsAreStarted b
 Step (suc (suc (suc (suc (suc (suc (suc (suc (suc zero))))))))) b = (n : ℕ) → CanMove b n → ⊥
@@ -116,7 +137,7 @@ not_gone b n kind may h = elim h [ inl s ↦ not_started (b.story n).tries s.try
 
 -- an outcome that is owed is due
 answer_not_done : (b : Book) (n : ℕ) (o : Outcome) (over : Bool) → is_over (link_of b n) ≡ over → MayAnswer b n o → Step (answer_rank over) b → ⊥
-answer_not_done b n o false e may h = not_none (owed b n) o (h n may.asked e) may.owes
+answer_not_done b n o false e may h = not_none (owed b n) o (h.answered n may.asked e) may.owes
 answer_not_done b n o true e may h = not_none (owed b n) o (h n may.asked) may.owes
 
 -- so is any outcome that may stand
@@ -126,8 +147,13 @@ outcome_not_done b n o (inr told) h = h n (teller_moves b n o told)
 
 -- the creation that may be shown is due
 creation_not_done : (b : Book) (e : Option RedisError) → MayShowCreation b e → Step (creation_rank e) b → ⊥
-creation_not_done b None may h = h may.l may.ready may.once
+creation_not_done b None may h = h.created may.l may.ready may.once
 creation_not_done b (Some e) may h = h may.l e may.fails may.once
+
+-- a push that may be told is due
+push_not_done : (b : Book) (l : ℕ) (info : PushInfo) (disconnects : Bool) → MayPushBy disconnects b l info → Step (push_rank disconnects) b → ⊥
+push_not_done b l info false may h = not_none (next_push (b.link l)) may.push (h.pushed l may.heard) may.next
+push_not_done b l info true may h = not_both (b.link l).parted may.once (h l may.heard may.ended)
 
 -- a timer that may be asked for is due
 timer_not_done : (b : Book) (t ms : ℕ) (what : Purpose) (may : MayTimer b t ms what) → Step (timer_rank b t ms what may) b → ⊥
@@ -142,6 +168,7 @@ not_done b (action.Timer t ms what) may h = timer_not_done b t ms what may h
 not_done b (action.Took owner.Setup l count) may h = absurd may
 not_done b (action.Took (owner.Try n round) l count) may h = h n (taker_moves b n l count may.1)
 not_done b (action.Outcome n o) may h = outcome_not_done b n o may h
+not_done b (action.Push l info) may h = push_not_done b l info (is_disconnection info.kind) may h
 not_done b (action.Close l) may h = not_none (ending (b.link l)) may.why (h l) may.ends
 not_done b (action.Created e) may h = creation_not_done b e may h
 not_done b (action.Start l k owner.Setup count len) may h = not_both (is_held_back b (b.link l)) may.free (h l may.k may.due)
@@ -165,8 +192,10 @@ verdicts b none n o e = none n o
 
 -- what is done where the event has had its effect
 pub applied : (b : Book) → Sound b → IsApplied b → Reached 8 b
-applied b h done =
-    (done.answered, (done.created.failed, (done.ended, (done.created.shown, (verdicts b done.answered, (done.timed, linked b h done.created.asked))))))
+applied b h done = (
+  done.answered,
+  (done.parted, (done.created.failed, (done.ended, (record { answered = verdicts b done.answered; created = done.created.shown; pushed = done.pushed }, (done.timed, linked b h done.created.asked))))),
+)
 
 -- where setups have started
 pub begun_all : (b : Book) → Sound b → IsBegun b → Reached 9 b
@@ -225,6 +254,41 @@ none_failed b l h up m e fails created = let over = failed_is_over (b.link m).en
 none_ready : (b : Book) (m : ℕ) (end : End) → Sound b → (b.link m).end ≡ Some end → ReadyIsShown b
 none_ready b m end h over l ready created = none_over b l m end h (ready_is_up (b.link l) ready) over
 
+-- nor does a push wait
+no_push_waits : (b : Book) (m : ℕ) (end : End) → Sound b → (b.link m).end ≡ Some end → PushesAreTold b
+no_push_waits b m end h over l heard = none_unless (next_push (b.link l)) (λ p next. none_over b l m end h (h.waits l heard p next) over)
+
+-- so what came from values is told where what it gave is shown
+told_over : (b : Book) (m : ℕ) (end : End) → Sound b → (b.link m).end ≡ Some end → VerdictsAreShown b → IsTold b
+told_over b m end h over answered = record { answered = answered; created = none_ready b m end h over; pushed = no_push_waits b m end h over }
+
+-- a fault is no failed opening
+fault_fails_not : (why : Ending) (e : RedisError) → is_fault why ≡ true → failure_of why ≡ Some e → ⊥
+fault_fails_not by_shutdown e cuts fails = cc fails
+fault_fails_not (by_fault f) e cuts fails = cc fails
+fault_fails_not (by_opening x) e cuts fails = cc cuts
+
+-- so no link has ended by both
+cut_fails_not : (o : Option End) (e : RedisError) → is_cut o ≡ true → failure_in o ≡ Some e → ⊥
+cut_fails_not None e cuts fails = cc fails
+cut_fails_not (Some end) e cuts fails = fault_fails_not end.why e cuts fails
+
+-- what a fault ended has ended
+pub cut_is_over : (o : Option End) → is_cut o ≡ true → (end : End) × (o ≡ Some end)
+cut_is_over None cuts = absurd (cc cuts)
+cut_is_over (Some end) cuts = (end, refl)
+
+-- where a fault ended a link, no opening failed, since there is one link
+none_failed_beside : (b : Book) (l : ℕ) → Sound b → is_cut (b.link l).end ≡ true → FailuresAreShown b
+none_failed_beside b l h cuts m e fails created =
+    let over = cut_is_over (b.link l).end cuts in
+    let failed = failed_is_over (b.link m).end e fails in
+    let i : l < b.links = over_is_numbered b l over.0 h.links over.1 in
+    let j : m < b.links = over_is_numbered b m failed.0 h.links failed.1 in
+    let one : b.links ≤ 1 = h.opens.one_link in
+    let same : l ≡ m = omega arith in
+    cut_fails_not (b.link m).end e (subst (λ k. is_cut (b.link k).end ≡ true) same cuts) fails
+
 -- an end that some is
 some_end : (o : Option End) → is_some o ≡ true → (end : End) × (o ≡ Some end)
 some_end None e = absurd (cc e)
@@ -235,13 +299,21 @@ answer_reached : (b : Book) (n : ℕ) (o : Outcome) (over : Bool) → is_over (l
 answer_reached b n o false e may h = open_is_begun b n h may.asked
 answer_reached b n o true e may h =
     let end = some_end (link_of b n).end e in
-    ((may.after_closes e).2, ((may.after_closes e).0, (none_ready b (b.story n).link end.0 h end.1, ((may.after_closes e).1, open_is_begun b n h may.asked))))
+    let after = may.after_closes e in
+    (after.3, (after.2, (after.0, (told_over b (b.story n).link end.0 h end.1 after.1, open_is_begun b n h may.asked))))
 
 -- all before the creation
 creation_reached : (b : Book) (e : Option RedisError) → MayShowCreation b e → Sound b → Reached (creation_rank e) b
-creation_reached b None may h = (may.answered, up_is_begun b may.l h (ready_is_up (b.link may.l) may.ready))
+creation_reached b None may h = up_is_begun b may.l h (ready_is_up (b.link may.l) may.ready)
 creation_reached b (Some e) may h =
-    let over = failed_is_over (b.link may.l).end e may.fails in (may.ended, (none_ready b may.l over.0 h over.1, (may.answered, over_is_begun b may.l over.0 h over.1)))
+    let over = failed_is_over (b.link may.l).end e may.fails in (may.ended, (told_over b may.l over.0 h over.1 may.answered, over_is_begun b may.l over.0 h over.1))
+
+-- and before a push
+push_reached : (b : Book) (l : ℕ) (info : PushInfo) (disconnects : Bool) → MayPushBy disconnects b l info → Sound b → Reached (push_rank disconnects) b
+push_reached b l info false may h = up_is_begun b l h (h.waits l may.heard may.push may.next)
+push_reached b l info true may h =
+    let over = cut_is_over (b.link l).end may.ended in
+    (none_failed_beside b l h may.ended, (may.closed, (told_over b l over.0 h over.1 may.answered, over_is_begun b l over.0 h over.1)))
 
 -- and before any outcome
 outcome_reached : (b : Book) (n : ℕ) (o : Outcome) (may : MayAnswer b n o ⊎ MayTell b n o) → Sound b → Reached (outcome_rank b n o may) b
@@ -261,7 +333,8 @@ reached b (action.Outcome n o) may h = outcome_reached b n o may h
 reached b (action.Timer t ms what) may h = timer_reached b t ms what may h
 reached b (action.Took owner.Setup l count) may h = absurd may
 reached b (action.Took (owner.Try n round) l count) may h = begun_all b h may.1.begun
-reached b (action.Close l) may h = (may.created, (may.answered, end_is_begun b l may.why h may.ends))
+reached b (action.Push l info) may h = push_reached b l info (is_disconnection info.kind) may h
+reached b (action.Close l) may h = (record { answered = may.answered; created = may.created; pushed = may.pushed }, end_is_begun b l may.why h may.ends)
 reached b (action.Created e) may h = creation_reached b e may h
 reached b (action.Start l k owner.Setup count len) may h = applied b h may.applied
 reached b (action.Start l k (owner.Try n round) count len) may h = begun_all b h may.1.begun

@@ -172,6 +172,7 @@ seated_kept b (action.Timer w ms what) may sound holders h =
 seated_kept b (action.Took owner.Setup l count) may sound holders h = absurd may
 seated_kept b (action.Took (owner.Try m round) l count) may sound holders h =
     kept_by b (action.Took (owner.Try m round) l count) may refl (unchanged b (action.Took (owner.Try m round) l count) (λ n. chosen (λ s. is_told s ≡ true → is_told (b.story n) ≡ true) (m == n) (holds (b.story n) count) (b.story n) (λ e t. t) (λ f t. t))) h
+seated_kept b (action.Push l info) may sound holders h = kept_by b (action.Push l info) may refl (unchanged b (action.Push l info) (λ n t. t)) h
 seated_kept b (action.Close l) may sound holders h = kept_by b (action.Close l) may refl (unchanged b (action.Close l) (λ n t. t)) h
 seated_kept b (action.Write l bytes) may sound holders h = kept_by b (action.Write l bytes) may refl (unchanged b (action.Write l bytes) (λ n t. t)) h
 seated_kept b (action.Wait owner.Setup kind) may sound holders h = absurd may
@@ -231,6 +232,7 @@ gains b (action.Timer t ms what) may n = chosen (Gains b n) (is_clock_of n (Some
 gains b (action.Took owner.Setup l count) may n = absurd may
 gains b (action.Took (owner.Try m round) l count) may n = chosen (Gains b n) (m == n) (holds (b.story n) count) (b.story n)
     (λ t i. inr (subst (TakesNow b) (eq_from m n t) (l, count, may.1))) (λ f i. inl i)
+gains b (action.Push l info) may n = λ i. inl i
 gains b (action.Close l) may n = λ i. inl i
 gains b (action.Write l bytes) may n = λ i. inl i
 gains b (action.Wait owner.Setup kind) may n = absurd may

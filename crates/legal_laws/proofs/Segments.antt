@@ -9,12 +9,13 @@ use Rattle.driver_model.specs.declared.action.Purpose.{Purpose}
 use Rattle.driver_model.specs.declared.config.Config.{Config}
 use Rattle.driver_model.specs.declared.event.Event.{Event}
 use Rattle.driver_model.specs.declared.outcome.Outcome.{Outcome}
+use Rattle.driver_model.specs.Push.{is_disconnection}
 use Rattle.legal_trace.specs.Ledger.{is_over}
 use Rattle.legal_trace.specs.Book.{Book, blank_book, entered}
 use Rattle.legal_trace.specs.Legal.{MayStand, MayTimer, MayAnswer, MayTell, AllStand, link_of, IsApplied, IsMoved, IsWritten, Legal}
 use Rattle.legal_laws.specs.Segments.{answers_in, timer_in, segment, MayCome, AreInOrder}
 use Rattle.legal_laws.proofs.Held.{start_applied, setup_applied, tell_applied, take_applied, ask_applied, write_moved, wait_written}
-use Rattle.legal_laws.proofs.Ranks.{rank, not_done, step_of, applied, moved, written, answer_first, creation_first}
+use Rattle.legal_laws.proofs.Ranks.{rank, not_done, step_of, applied, moved, written, answer_first, creation_first, push_first}
 use Rattle.legal_laws.proofs.Sound.{Sound, stays_sound, blank_is_sound}
 
 -- what is done in a turn from this segment on
@@ -44,6 +45,7 @@ done_behind b (action.Connect l host port) may h = tt
 done_behind b (action.Timer t ms what) may h = timer_done b t ms what may
 done_behind b (action.Took owner.Setup l count) may h = absurd may
 done_behind b (action.Took (owner.Try n round) l count) may h = take_applied b n round l count may.1.begun.applied
+done_behind b (action.Push l info) may h = tt
 done_behind b (action.Close l) may h = tt
 done_behind b (action.Created e) may h = tt
 done_behind b (action.Outcome n o) may h = outcome_done b n o may
@@ -118,6 +120,7 @@ comes b (action.Connect l host port) may k h done = effect_early b (action.Conne
 comes b (action.Timer t ms what) may k h done = timer_early b t ms what may k h done
 comes b (action.Took owner.Setup l count) may k h done = absurd may
 comes b (action.Took (owner.Try n round) l count) may k h done = pass_early b (action.Took (owner.Try n round) l count) may k h done (omega arith)
+comes b (action.Push l info) may k h done = effect_early b (action.Push l info) may k h done (push_first (is_disconnection info.kind))
 comes b (action.Close l) may k h done = effect_early b (action.Close l) may k h done (omega arith)
 comes b (action.Created e) may k h done = effect_early b (action.Created e) may k h done (creation_first e)
 comes b (action.Outcome n o) may k h done = outcome_early b n o may k h done

@@ -15,6 +15,7 @@ use Rattle.legal_trace.proofs.Ledgers.{mine_keeps, hears_past}
 use Rattle.legal_trace.proofs.Moves.{mover_is_up, starter_moves}
 use Rattle.legal_trace.proofs.Setups.{SetupsOf, due_is_up, setups_request, setups_setup}
 use Rattle.legal_laws.proofs.Numbers.{HasLinks, up_is_asked}
+use Rattle.legal_laws.proofs.Pushed.{push_keeps}
 
 -- nothing starts on a link that was not asked for, and its setups take what they are to
 pub record IsShaped (l : Ledger) : Type 0 where
@@ -57,6 +58,7 @@ shaped_kept b (action.Connect m host port) l may links h = mine_keeps IsShaped (
 shaped_kept b (action.Timer t ms what) l may links h = h
 shaped_kept b (action.Took owner.Setup m count) l may links h = absurd may
 shaped_kept b (action.Took (owner.Try n round) m count) l may links h = h
+shaped_kept b (action.Push m info) l may links h = push_keeps IsShaped (m == l) info.kind (b.link l) (record { none = h.none; are = h.are }) (record { none = h.none; are = h.are }) h
 shaped_kept b (action.Close m) l may links h = mine_keeps IsShaped (m == l) (b.link l) (ends (b.turns - 1)) (λ t. record { none = h.none; are = h.are }) h
 shaped_kept b (action.Write m bytes) l may links h = mine_keeps IsShaped (m == l) (b.link l) (offers bytes) (λ t. record { none = h.none; are = h.are }) h
 shaped_kept b (action.Wait owner.Setup kind) l may links h = absurd may

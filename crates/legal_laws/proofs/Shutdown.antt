@@ -15,6 +15,7 @@ use Rattle.legal_trace.specs.Legal.{MayStand, NoneEnds}
 use Rattle.legal_trace.proofs.Ledgers.{mine_keeps, hears_past}
 use Rattle.legal_trace.proofs.Plain.{not_none}
 use Rattle.legal_laws.proofs.Opens.{IsOpening}
+use Rattle.legal_laws.proofs.Pushed.{push_keeps}
 
 -- a link that was asked for and has not ended was told of the shutdown by the turn that runs
 abbrev pub HearsShut : Ledger → Type 0
@@ -83,6 +84,7 @@ shut_kept b (action.Connect m host port) may opening h = λ s. absurd (not_both 
 shut_kept b (action.Timer t ms what) may opening h = h
 shut_kept b (action.Took owner.Setup l count) may opening h = absurd may
 shut_kept b (action.Took (owner.Try n round) l count) may opening h = h
+shut_kept b (action.Push m info) may opening h = λ s l. push_keeps HearsShut (m == l) info.kind (b.link l) (h s l) (h s l) (h s l)
 shut_kept b (action.Close m) may opening h = λ s l. mine_keeps HearsShut (m == l) (b.link l) (ends (b.turns - 1)) (λ t a e. cc) (h s l)
 shut_kept b (action.Write m bytes) may opening h = λ s l. mine_keeps HearsShut (m == l) (b.link l) (offers bytes) (λ t. h s l) (h s l)
 shut_kept b (action.Wait owner.Setup kind) may opening h = absurd may

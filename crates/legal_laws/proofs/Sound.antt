@@ -9,9 +9,11 @@ use Rattle.legal_laws.proofs.Numbers.{HasLinks, links_kept, HasStories, stories_
 use Rattle.legal_laws.proofs.Tales.{AnsweredOnce, once_kept, TriesAreStarted, starts_kept}
 use Rattle.legal_laws.proofs.Shutdown.{ShutIsHeard, shut_kept}
 use Rattle.legal_laws.proofs.Shaped.{IsShaped, shaped_kept}
+use Rattle.legal_laws.proofs.Told.{PushesWait, waits_kept, GoToOne, goes_kept}
 
 -- how it opens, and that until the first event nothing happens to links; the numbers of links and submissions; that links which are up have not ended, and are not dealt too many
--- items; what submissions were answered, and which messages they started; what links hear of a shutdown, and that setups take what they are to
+-- items; what submissions were answered, and which messages they started; what links hear of a shutdown, and that setups take what they are to;
+-- that a link on which a push waits is up, where somebody hears it, and that submissions go to one link
 pub record Sound (b : Book) : Type 0 where
   pub opens : IsOpening b
   pub still : StillAtFirst b.turns b.link
@@ -23,6 +25,8 @@ pub record Sound (b : Book) : Type 0 where
   pub starts : (n : ℕ) → TriesAreStarted b.link (b.story n)
   pub shut : ShutIsHeard b.shut b.link
   pub shaped : (l : ℕ) → IsShaped (b.link l)
+  pub waits : PushesWait b
+  pub goes : GoToOne b
 
 -- each action that may stand keeps it
 pub stays_sound : (b : Book) (a : Action) → MayStand b a → Sound b → Sound (entered b a)
@@ -37,6 +41,8 @@ stays_sound b a may h = record {
   starts = λ n. starts_kept b a may n (h.starts n);
   shut = shut_kept b a may h.opens h.shut;
   shaped = λ l. shaped_kept b a l may h.links (h.shaped l);
+  waits = waits_kept b a may h.still h.waits;
+  goes = goes_kept b a h.opens.one_link h.goes;
 }
 
 -- the blank book has it
@@ -51,7 +57,7 @@ blank_is_sound = record {
     not_shut = λ e. refl;
     one_link = omega arith;
   };
-  still = λ i l. record { down = refl; lives = refl; untold = refl };
+  still = λ i l. record { down = refl; lives = refl; untold = refl; mute = refl };
   links = record { asked = λ l i. absurd (omega arith); unasked = λ l i. (refl, refl, refl) };
   stories = λ n i. refl;
   up = λ l u. refl;
@@ -60,6 +66,8 @@ blank_is_sound = record {
   starts = λ n t e. absurd (cc e);
   shut = λ s l. absurd (cc s);
   shaped = λ l. record { none = λ e. refl; are = λ k s i. absurd (omega (arith, i)) };
+  waits = λ l heard. absurd (cc heard);
+  goes = λ n. refl;
 }
 
 -- and so do many

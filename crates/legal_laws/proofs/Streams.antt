@@ -5,7 +5,7 @@ use Rattle.std.proofs.Math.Seq.{drop-append_seam}
 use Rattle.containers.proofs.Choices.{chosen}
 use Rattle.redis_error.specs.declared.redis_error.RedisError.TheVariants as error
 use Rattle.driver_model.specs.News.{News, silence, connected, refused, overdue, took, came, failed, shut}
-use Rattle.legal_trace.specs.Ledger.{Ledger, Line, asks, hears, begins, offers, ends, blank_ledger, noted, noted_each, with_news, refused_in, bytes_came, is_over, dials, joined, stream, MayNote, AllNoted, LinkLegal}
+use Rattle.legal_trace.specs.Ledger.{Ledger, Line, asks, hears, begins, offers, tells, ends, parts, blank_ledger, noted, noted_each, with_news, refused_in, bytes_came, is_over, dials, joined, stream, MayNote, AllNoted, LinkLegal}
 use Rattle.legal_trace.proofs.Ledgers.{joined_more}
 use Rattle.legal_laws.specs.Links.{IsPrefix, TakesInOrder}
 
@@ -51,7 +51,9 @@ noted_in_order l (asks info) may h = h
 noted_in_order l (hears turn news) may h = hears_in_order l turn news h
 noted_in_order l (begins s) may h = subst (IsPrefix (stream l)) (sym (joined_more l.starts s)) (prefix_more (stream l) (joined l.starts) s.bytes h)
 noted_in_order l (offers bytes) may h = subst (λ x. IsPrefix (l.taken ++ x) (joined l.starts)) (sym may.2) (prefix_offered l.taken l.offer (joined l.starts) h)
+noted_in_order l tells may h = h
 noted_in_order l (ends turn) may h = h
+noted_in_order l parts may h = h
 
 -- so do many
 each_in_order : (l : Ledger) (lines : List Line) → AllNoted l lines → InOrder l → InOrder (noted_each l lines)

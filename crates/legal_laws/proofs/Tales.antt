@@ -110,6 +110,7 @@ once_kept b (action.Connect l host port) may blank n h = h
 once_kept b (action.Timer t ms what) may blank n h = chosen AnsweredOnce (is_clock_of n (Some what)) (clocked (b.story n) t) (b.story n) (λ e. h) (λ f. h)
 once_kept b (action.Took owner.Setup l count) may blank n h = absurd may
 once_kept b (action.Took (owner.Try m round) l count) may blank n h = chosen AnsweredOnce (m == n) (holds (b.story n) count) (b.story n) (λ t. h) (λ f. h)
+once_kept b (action.Push l info) may blank n h = h
 once_kept b (action.Close l) may blank n h = h
 once_kept b (action.Write l bytes) may blank n h = h
 once_kept b (action.Wait owner.Setup kind) may blank n h = absurd may
@@ -167,6 +168,7 @@ tries_kept b (action.Connect l host port) may n h = h
 tries_kept b (action.Timer t ms what) may n h = chosen (TriesAreStarted (entered b (action.Timer t ms what)).link) (is_clock_of n (Some what)) (clocked (b.story n) t) (b.story n) (λ e. h) (λ f. h)
 tries_kept b (action.Took owner.Setup l count) may n h = absurd may
 tries_kept b (action.Took (owner.Try m round) l count) may n h = chosen (TriesAreStarted (entered b (action.Took (owner.Try m round) l count)).link) (m == n) (holds (b.story n) count) (b.story n) (λ t. h) (λ f. h)
+tries_kept b (action.Push l info) may n h = h
 tries_kept b (action.Close l) may n h = h
 tries_kept b (action.Write l bytes) may n h = h
 tries_kept b (action.Wait owner.Setup kind) may n h = absurd may

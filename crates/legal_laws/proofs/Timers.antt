@@ -68,6 +68,7 @@ clock_stays b (action.Connect m host port) n h = h
 clock_stays b (action.Timer t ms what) n h = chosen Clocked (is_clock_of n (Some what)) (clocked (b.story n) t) (b.story n) (λ e. refl) (λ f. h)
 clock_stays b (action.Took owner.Setup l count) n h = h
 clock_stays b (action.Took (owner.Try m round) l count) n h = chosen Clocked (m == n) (holds (b.story n) count) (b.story n) (λ e. h) (λ f. h)
+clock_stays b (action.Push m info) n h = h
 clock_stays b (action.Close m) n h = h
 clock_stays b (action.Write m bytes) n h = h
 clock_stays b (action.Wait owner.Setup kind) n h = h
@@ -126,6 +127,7 @@ timeout_stays b (action.Connect m host port) n i = refl
 timeout_stays b (action.Timer t ms what) n i = chosen (λ (s : Story). s.timeout ≡ (b.story n).timeout) (is_clock_of n (Some what)) (clocked (b.story n) t) (b.story n) (λ e. refl) (λ f. refl)
 timeout_stays b (action.Took owner.Setup l count) n i = refl
 timeout_stays b (action.Took (owner.Try m round) l count) n i = chosen (λ (s : Story). s.timeout ≡ (b.story n).timeout) (m == n) (holds (b.story n) count) (b.story n) (λ e. refl) (λ f. refl)
+timeout_stays b (action.Push m info) n i = refl
 timeout_stays b (action.Close m) n i = refl
 timeout_stays b (action.Write m bytes) n i = refl
 timeout_stays b (action.Wait owner.Setup kind) n i = refl

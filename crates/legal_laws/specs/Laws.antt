@@ -9,6 +9,7 @@ use Rattle.legal_laws.specs.Links.{lines_for, TakesInOrder}
 use Rattle.legal_laws.specs.Segments.{AreInOrder}
 use Rattle.legal_laws.specs.Starts.{StaysWithin}
 use Rattle.legal_laws.specs.Permits.{KeepsPermits, AsksTimers}
+use Rattle.legal_laws.specs.Pushes.{TellsPushes, TellsEnds}
 
 -- it is so of each legal trace
 abbrev pub OfEachLegal : (List Action → Type 0) → Type 0
@@ -48,3 +49,15 @@ abbrev pub EachAsksTimers : Type 0
 EachAsksTimers =
     (config : Config) (word : ℕ) (events : List Event) (trace : List Action) → Legal config word events trace
     → AsksTimers config trace
+
+-- each legal trace tells the pushes that come
+abbrev pub EachTellsPushes : Type 0
+EachTellsPushes =
+    (config : Config) (word : ℕ) (events : List Event) (trace : List Action) → Legal config word events trace
+    → TellsPushes config trace
+
+-- and that links have ended
+abbrev pub EachTellsEnds : Type 0
+EachTellsEnds =
+    (config : Config) (word : ℕ) (events : List Event) (trace : List Action) → Legal config word events trace
+    → TellsEnds config trace

@@ -6,4 +6,5 @@ pub mod Creation
 pub mod Starts
 pub mod Opened
 pub mod Permits
+pub mod Pushes
 pub mod Laws

@@ -12,7 +12,9 @@ ghost use Rattle.legal_laws.specs.Starts.{StartsRise, LeftStartNoMore};
 ghost use Rattle.legal_laws.specs.Opened.{StartsOpened};
 ghost use Rattle.legal_laws.specs.Laws.{OfEachLegal, LinksTakeInOrder, OneIsLegal, TurnsAreInOrder};
 ghost use Rattle.legal_laws.specs.Permits.{TimedOutStartNoMore, FiredStartNoMore};
+ghost use Rattle.legal_laws.specs.Pushes.{TellsInOrder};
 ghost use Rattle.legal_laws.specs.Laws.{EachStaysWithin, EachKeepsPermits, EachAsksTimers};
+ghost use Rattle.legal_laws.specs.Laws.{EachTellsPushes, EachTellsEnds};
 
 /// Does nothing. Its contract: what a legal trace tells of each link is legal by itself. What the
 /// book of any trace has of a link is what these lines come to.
@@ -112,4 +114,21 @@ pub fn permits_never_exceed_the_limit()
 /// permits, where they are counted.
 pub fn a_timer_is_asked_once()
     ensures { EachAsksTimers }
+{}
+
+/// Does nothing. Its contract: where nobody hears pushes, a legal trace tells none. Where somebody
+/// does, behind each whole turn it has told of each link the pushes that came on it once it was set
+/// up, in order, each once. A push stands behind the outcomes of the messages that were full before
+/// it came, where their items gave them, and before the outcomes of those that take an item behind
+/// it.
+pub fn each_push_is_told()
+    ensures told { EachTellsPushes }
+    ensures in_order { OfEachLegal TellsInOrder }
+{}
+
+/// Does nothing. Its contract: a legal trace tells at most once that a link has ended, and only
+/// where a fault ended it once it was set up: behind its close, and before the outcomes that this
+/// end gives. Where somebody hears pushes it tells that of each such link.
+pub fn an_end_is_told_once()
+    ensures { EachTellsEnds }
 {}

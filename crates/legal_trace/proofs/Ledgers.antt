@@ -2,7 +2,7 @@
 use Rattle.std.proofs.Common.{◌≡◌, ◌≢◌, ℕ, ◌+◌, ◌-◌, ◌<◌, ◌≤◌, ◌==◌, min, if◌then◌else◌, Bool, true, false, ◌&&◌, not, List, [], ◌∷◌, ◌++◌, length, take, drop, None, refl, sym, ap, ◌∙◌, subst, arith, append_assoc, length-append}
 use Rattle.containers.proofs.Choices.{chosen, if_false, ne_from, not_both}
 use Rattle.std.proofs.lemmas.List.{append-nil, length-take}
-use Rattle.resp_read.specs.Values.{left_over}
+use Rattle.resp_read.specs.Values.{values, left_over}
 use Rattle.resp_read.specs.Items.{items}
 use Rattle.resp_value.specs.Data.{Data}
 use Rattle.redis_error.specs.declared.redis_error.RedisError.TheVariants as error
@@ -10,7 +10,7 @@ use Rattle.driver_model.specs.News.{News, silence, connected, refused, overdue, 
 use Rattle.driver_model.specs.declared.outcome.Shape.{Shape}
 use Rattle.driver_model.specs.declared.outcome.Shape.TheVariants.{Single, Pipeline, Confirmation}
 use Rattle.driver_model.specs.Shape.{need_of}
-use Rattle.legal_trace.specs.Ledger.{Ledger, Line, Start, asks, hears, begins, offers, ends, noted, noted_each, with_news, refused_in, bytes_came, items_came, is_over, dials, reach, joined, AllNoted}
+use Rattle.legal_trace.specs.Ledger.{Ledger, Line, Start, asks, hears, begins, offers, tells, ends, parts, noted, noted_each, with_news, refused_in, bytes_came, heard_each, items_came, is_over, dials, reach, joined, AllNoted}
 use Rattle.legal_trace.specs.Book.{if_mine}
 use Rattle.legal_trace.proofs.Plain.{none_from}
 
@@ -70,7 +70,9 @@ up_keeps l (asks info) h = h
 up_keeps l (hears turn news) h = up_hears l turn news h
 up_keeps l (begins s) h = h
 up_keeps l (offers bytes) h = h
+up_keeps l tells h = h
 up_keeps l (ends turn) h = λ u. cc
+up_keeps l parts h = h
 
 -- a link that was asked for has been
 abbrev pub IsAsked : Ledger → Type 0
@@ -103,7 +105,9 @@ asked_keeps l (asks info) h = refl
 asked_keeps l (hears turn news) h = subst (λ (b : Bool). b ≡ true) (sym (hears_past l turn news).asked) h
 asked_keeps l (begins s) h = h
 asked_keeps l (offers bytes) h = h
+asked_keeps l tells h = h
 asked_keeps l (ends turn) h = h
+asked_keeps l parts h = h
 
 -- so many messages started, and more start
 abbrev pub HasStarted : ℕ → Ledger → Type 0
@@ -115,7 +119,9 @@ started_keeps k l (asks info) h = h
 started_keeps k l (hears turn news) h = subst (λ (ss : List Start). k < length ss) (sym (hears_past l turn news).starts) h
 started_keeps k l (begins s) h = let e : length (l.starts ++ s ∷ []) ≡ length l.starts + 1 = length-append l.starts (s ∷ []) in omega arith
 started_keeps k l (offers bytes) h = h
+started_keeps k l tells h = h
 started_keeps k l (ends turn) h = h
+started_keeps k l parts h = h
 
 -- a link that was not asked for is not up, and has not ended
 abbrev pub IsUnasked : Ledger → Type 0
@@ -178,7 +184,7 @@ few_hears l turn connected h = chosen FewAreDealt (is_over l) l (record l { up =
 few_hears l turn (refused f) h = chosen FewAreDealt (dials l) (refused_in l turn (error.Io f)) l (λ t. h) (λ e. h)
 few_hears l turn overdue h = h
 few_hears l turn (took count) h = chosen FewAreDealt l.up (record l { taken = l.taken ++ take count l.offer; offer = [] }) l (λ t. h) (λ e. h)
-few_hears l turn (came piece) h = chosen FewAreDealt l.up (bytes_came l piece) l (λ t. few_come (record l { rest = left_over (l.rest ++ piece) }) (items (l.rest ++ piece)) h) (λ e. h)
+few_hears l turn (came piece) h = chosen FewAreDealt l.up (bytes_came l piece) l (λ t. few_come (record l { rest = left_over (l.rest ++ piece); pushes = l.pushes ++ heard_each l (values (l.rest ++ piece)) }) (items (l.rest ++ piece)) h) (λ e. h)
 few_hears l turn (failed f) h = h
 few_hears l turn shut h = h
 
@@ -188,4 +194,6 @@ few_keeps l (asks info) h = h
 few_keeps l (hears turn news) h = few_hears l turn news h
 few_keeps l (begins s) h = let e : reach (l.starts ++ s ∷ []) l.dealt ≡ reach l.starts l.dealt + need_of s.shape = reach_more l.starts s l.dealt in omega arith
 few_keeps l (offers bytes) h = h
+few_keeps l tells h = h
 few_keeps l (ends turn) h = h
+few_keeps l parts h = h

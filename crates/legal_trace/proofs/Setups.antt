@@ -330,19 +330,17 @@ take_push (x ∷ ss) (suc k) s e =
     ap (λ n. take n (x ∷ ss)) one ∙ ap (λ (xs : List Start). x ∷ xs) (take_push ss k s e)
 
 -- a start that a count tells is there
-start_at : (ss : List Start) (k : ℕ) → k < length ss → (s : Start) × (slice_get ss k ≡ Some s)
+pub start_at : (ss : List Start) (k : ℕ) → k < length ss → (s : Start) × (slice_get ss k ≡ Some s)
 start_at [] k i = absurd (omega arith)
 start_at (x ∷ ss) zero i = (x, refl)
 start_at (x ∷ ss) (suc k) i = start_at ss k (omega arith)
 
--- what a setup came to stays where more items come
-result_more : (l : Ledger) (rest : List ℕ) (more : List Data) (k : ℕ) (s : Start) → slice_get l.starts k ≡ Some s → s.shape ≡ setup_shape (setup_steps l k) → is_well (result_of l k) ≡ true → is_well (result_of (record l { rest = rest; dealt = l.dealt ++ more }) k) ≡ true
-result_more l rest more k s stands shaped well =
+-- what a setup that has all its items came to stays where more come
+pub result_same : (l : Ledger) (rest : List ℕ) (more : List Data) (k : ℕ) (s : Start) → slice_get l.starts k ≡ Some s → s.shape ≡ setup_shape (setup_steps l k) → is_full l k ≡ true → result_of (record l { rest = rest; dealt = l.dealt ++ more }) k ≡ result_of l k
+result_same l rest more k s stands shaped t =
     let m : Ledger = record l { rest = rest; dealt = l.dealt ++ more } in
     let steps : List Step = setup_steps l k in
     let need : ℕ = need_of (setup_shape steps) in
-    by_test (is_full l k) (is_well (result_of m k) ≡ true)
-    (λ t.
     let fits : reached l (k + 1) ≤ length l.dealt = le_from (reached l (k + 1)) (length l.dealt) t in
     let next : reached l (k + 1) ≡ reached l k + need_of s.shape = ap (λ (ss : List Start). reach ss l.dealt) (take_push l.starts k s stands) ∙ reach_more (take k l.starts) s l.dealt in
     let same : need_of s.shape ≡ need = ap need_of shaped in
@@ -351,9 +349,16 @@ result_more l rest more k s stands shaped well =
     let full : is_full m k ≡ true = le_test (reached m (k + 1)) (length (l.dealt ++ more)) (omega (arith, fits, long, far)) in
     let cuts : take need (drop (reached m k) (l.dealt ++ more)) ≡ take need (drop (reached l k) l.dealt) =
     ap (λ n. take need (drop n (l.dealt ++ more))) (reached_dealt l rest more k) ∙ cut_stays (reached l k) need l.dealt more (omega (arith, fits, next, same)) in
-    ap is_well (taken_if (is_full m k) (Some (judged steps (take need (drop (reached m k) (l.dealt ++ more))))) None full
+    taken_if (is_full m k) (Some (judged steps (take need (drop (reached m k) (l.dealt ++ more))))) None full
     ∙ (ap (λ (ds : List Data). Some (judged steps ds)) cuts
-    ∙ sym (taken_if (is_full l k) (Some (judged steps (take need (drop (reached l k) l.dealt)))) None t))) ∙ well)
+    ∙ sym (taken_if (is_full l k) (Some (judged steps (take need (drop (reached l k) l.dealt)))) None t))
+
+-- so one that is well stays so
+result_more : (l : Ledger) (rest : List ℕ) (more : List Data) (k : ℕ) (s : Start) → slice_get l.starts k ≡ Some s → s.shape ≡ setup_shape (setup_steps l k) → is_well (result_of l k) ≡ true → is_well (result_of (record l { rest = rest; dealt = l.dealt ++ more }) k) ≡ true
+result_more l rest more k s stands shaped well =
+    let steps : List Step = setup_steps l k in
+    by_test (is_full l k) (is_well (result_of (record l { rest = rest; dealt = l.dealt ++ more }) k) ≡ true)
+    (λ t. ap is_well (result_same l rest more k s stands shaped t) ∙ well)
     (λ f. absurd (let x : false ≡ true = sym (ap is_well (left_if (is_full l k) (Some (judged steps (cut l k (setup_shape steps)))) None f)) ∙ well in cc x))
 
 -- so does what the last came to

@@ -16,7 +16,9 @@ use Rattle.driver_model.specs.Config.{response_timeout, told_info, bare_info}
 use Rattle.driver_model.specs.declared.event.Submission.{Submission}
 use Rattle.driver_model.specs.News.{news_of}
 use Rattle.driver_model.specs.Request.{lacks_resp3}
-use Rattle.legal_trace.specs.Ledger.{Ledger, Start, Line, asks, hears, begins, offers, ends, blank_ledger, setup_count, setup_message, noted_each}
+use Rattle.legal_trace.specs.Ledger.{Ledger, Start, Line, asks, hears, begins, offers, ends, blank_ledger, setup_count, setup_message, noted_each, tells, parts}
+use Rattle.resp_value.specs.declared.push_kind.PushKind.{PushKind}
+use Rattle.driver_model.specs.Push.{is_disconnection}
 use Rattle.legal_trace.specs.Story.{Story, blank_story, bytes_of, shape, handed_in, left, holds, clocked, fires, tried, waits, answered}
 
 -- the configuration, once the opening has told it; how many links were asked for, and the ledger of each; how many
@@ -53,6 +55,10 @@ message_of b l (owner.Try n round) = record { owner = owner.Try n round; shape =
 abbrev pub if_mine : Bool → Line → List Line
 if_mine mine line = if mine then line ∷ [] else []
 
+-- a push tells one that came, or, where it is of the kind that the driver alone makes, that the link has ended
+abbrev pub push_line : PushKind → Line
+push_line kind = if is_disconnection kind then parts else tells
+
 -- what an action tells of link n
 abbrev pub lines_of : Book → ℕ → Action → List Line
 lines_of b n (action.Turn number (cause.Opening config word)) = []
@@ -60,6 +66,7 @@ lines_of b n (action.Turn number (cause.Event e)) = hears number (news_of b.time
 lines_of b n (action.Connect l host port) = if_mine (l == n) (asks (info_in b.config))
 lines_of b n (action.Timer t ms what) = []
 lines_of b n (action.Took who l count) = []
+lines_of b n (action.Push l info) = if_mine (l == n) (push_line info.kind)
 lines_of b n (action.Close l) = if_mine (l == n) (ends (b.turns - 1))
 lines_of b n (action.Write l bytes) = if_mine (l == n) (offers bytes)
 lines_of b n (action.Start l message who count len) = if_mine (l == n) (begins (message_of b l who))
@@ -114,6 +121,7 @@ story_after b n (action.Took owner.Setup l count) = b.story n
 story_after b n (action.Start l message owner.Setup count len) = b.story n
 story_after b n (action.Wait owner.Setup kind) = b.story n
 story_after b n (action.Took (owner.Try m round) l count) = if_own (m == n) (holds (b.story n) count) (b.story n)
+story_after b n (action.Push l info) = b.story n
 story_after b n (action.Close l) = b.story n
 story_after b n (action.Write l bytes) = b.story n
 story_after b n (action.Created e) = b.story n
@@ -150,6 +158,7 @@ counted b (action.Connect l host port) = record b { links = b.links + 1 }
 counted b (action.Timer t ms what) = record b { timers = b.timers ++ what ∷ [] }
 counted b (action.Took who l count) = b
 counted b (action.Created e) = record b { created = b.created + 1 }
+counted b (action.Push l info) = b
 counted b (action.Close l) = b
 counted b (action.Write l bytes) = b
 counted b (action.Wait who kind) = b

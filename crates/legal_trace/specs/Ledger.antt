@@ -1,9 +1,9 @@
 -- What is told of one link, line by line, and what it comes to: the link's ledger. It knows neither its number nor whose
 -- messages it carries.
-use Rattle.std.specs.Prelude.{◌≡◌, ◌≢◌, ◌⊎◌, ◌≤◌, ℕ, zero, suc, ◌+◌, ◌-◌, ◌==◌, nat_le, Bool, true, false, ◌&&◌, not, List, [], ◌∷◌, ◌++◌, length, take, drop, flat_map, Option, Some, None, is_some, if◌then◌else◌}
-use Rattle.resp_value.specs.Data.{Data}
-use Rattle.resp_read.specs.Values.{left_over, is_spoiled}
-use Rattle.resp_read.specs.Items.{items}
+use Rattle.std.specs.Prelude.{◌≡◌, ◌≢◌, ◌⊎◌, ◌≤◌, ℕ, zero, suc, ◌+◌, ◌-◌, ◌==◌, nat_le, Bool, true, false, ◌&&◌, not, List, [], ◌∷◌, ◌++◌, length, take, drop, flat_map, Option, Some, None, is_some, slice_get, if◌then◌else◌}
+use Rattle.resp_value.specs.Data.{Data, push, list_of}
+use Rattle.resp_read.specs.Values.{values, left_over, is_spoiled}
+use Rattle.resp_read.specs.Items.{items, is_item}
 use Rattle.redis_error.specs.declared.fault_kind.FaultKind.TheVariants as kind
 use Rattle.redis_error.specs.declared.redis_error.RedisError.{RedisError}
 use Rattle.redis_error.specs.declared.redis_error.RedisError.TheVariants as error
@@ -14,6 +14,7 @@ use Rattle.connection_setup.specs.Setup.{Step, setup}
 use Rattle.connection_setup.specs.Judgement.{judged}
 use Rattle.driver_model.specs.Config.{bare_info}
 use Rattle.driver_model.specs.Setup.{says_nothing, setup_bytes, setup_shape}
+use Rattle.driver_model.specs.declared.push_info.PushInfo.{PushInfo}
 use Rattle.driver_model.specs.declared.action.Owner.{Owner}
 use Rattle.driver_model.specs.declared.action.Owner.TheVariants as owner
 use Rattle.driver_model.specs.declared.news.LinkFault.{LinkFault}
@@ -40,6 +41,12 @@ failure_of by_shutdown = None
 failure_of (by_fault f) = None
 failure_of (by_opening e) = Some e
 
+-- whether it is a fault of the link, once it was set up
+abbrev pub is_fault : Ending → Bool
+is_fault by_shutdown = false
+is_fault (by_fault f) = true
+is_fault (by_opening e) = false
+
 -- how a link ended: in which turn, why, and how many of its messages, from the first on, were full then, which is the number
 -- of the oldest that was not
 pub record End : Type 0 where
@@ -47,9 +54,15 @@ pub record End : Type 0 where
   pub why : Ending
   pub oldest : ℕ
 
+-- a push that came on a link that was set up: how many items had been dealt before it, and what it says
+pub record Heard : Type 0 where
+  pub after : ℕ
+  pub info : PushInfo
+
 -- whether its connect was asked for, and what is to be said to its server then; whether the connect succeeded and it has not ended; how it ended; its starts in order;
 -- the bytes that were taken from it; the bytes of its unanswered offer; what came behind the last whole value; the items
--- dealt; and what it was told by the turn that runs
+-- dealt; the pushes that came once it was set up, how many of them were told, and whether its end was told as one; and what it
+-- was told by the turn that runs
 pub record Ledger : Type 0 where
   pub asked : Bool
   pub info : RedisConnectionInfo
@@ -60,10 +73,13 @@ pub record Ledger : Type 0 where
   pub offer : List ℕ
   pub rest : List ℕ
   pub dealt : List Data
+  pub pushes : List Heard
+  pub told : ℕ
+  pub parted : Bool
   pub heard : News
 
 abbrev pub blank_ledger : Ledger
-blank_ledger = record { asked = false; info = bare_info; up = false; end = None; starts = []; taken = []; offer = []; rest = []; dealt = []; heard = silence }
+blank_ledger = record { asked = false; info = bare_info; up = false; end = None; starts = []; taken = []; offer = []; rest = []; dealt = []; pushes = []; told = 0; parted = false; heard = silence }
 
 abbrev pub is_over : Ledger → Bool
 is_over l = is_some l.end
@@ -89,33 +105,6 @@ cut l k of_shape = let from = drop (reached l k) l.dealt in take (need_in of_sha
 -- the message that started as number k has all its items
 abbrev pub is_full : Ledger → ℕ → Bool
 is_full l k = nat_le (reached l (k + 1)) (length l.dealt)
-
--- items come: as many are dealt as the starts before them still take, and the others are dropped
-abbrev pub items_came : Ledger → List Data → Ledger
-items_came l more = record l { dealt = l.dealt ++ take (reach l.starts l.dealt - length l.dealt) more }
-
--- bytes come: the values that are whole now are items, but for pushes without reply
-abbrev pub bytes_came : Ledger → List ℕ → Ledger
-bytes_came l piece = items_came (record l { rest = left_over (l.rest ++ piece) }) (items (l.rest ++ piece))
-
--- its connect was asked for and isn't answered
-abbrev pub dials : Ledger → Bool
-dials l = l.asked && not l.up && not (is_over l)
-
--- a link whose connect failed in this turn: it ends by that alone
-abbrev pub refused_in : Ledger → ℕ → RedisError → Ledger
-refused_in l turn e = record l { end = Some (record { turn = turn; why = by_opening e; oldest = 0 }) }
-
--- what news makes of it in this turn: a link is up from its first successful connect until its end
-abbrev pub with_news : Ledger → ℕ → News → Ledger
-with_news l turn connected = if is_over l then l else record l { up = true }
-with_news l turn (refused f) = if dials l then refused_in l turn (error.Io f) else l
-with_news l turn (took count) = if l.up then record l { taken = l.taken ++ take count l.offer; offer = [] } else l
-with_news l turn (came piece) = if l.up then bytes_came l piece else l
-with_news l turn silence = l
-with_news l turn overdue = l
-with_news l turn (failed f) = l
-with_news l turn shut = l
 
 -- a start of the setup
 abbrev pub is_of_setup : Owner → Bool
@@ -155,6 +144,51 @@ is_set_up l = is_well (setup_result l)
 -- it is up, and set up
 abbrev pub is_ready : Ledger → Bool
 is_ready l = l.up && is_set_up l
+
+-- it was full when so many items had been dealt
+abbrev pub is_full_by : Ledger → ℕ → ℕ → Bool
+is_full_by l count k = nat_le (reached l (k + 1)) count
+
+-- items come: as many are dealt as the starts before them still take, and the others are dropped
+abbrev pub items_came : Ledger → List Data → Ledger
+items_came l more = record l { dealt = l.dealt ++ take (reach l.starts l.dealt - length l.dealt) more }
+
+-- a value comes: it is an item, but for a push without reply
+abbrev pub value_came : Ledger → Data → Ledger
+value_came l v = if is_item v then items_came l (v ∷ []) else l
+
+-- a push that comes once the link is set up, behind the items dealt so far
+abbrev pub heard_at : Ledger → Data → List Heard
+heard_at l (push kind parts) = if is_set_up l then record { after = length l.dealt; info = record { kind = kind; parts = list_of parts } } ∷ [] else []
+heard_at l _ = []
+
+-- the pushes among these values that come once the link is set up, in order
+abbrev pub heard_each : Ledger → List Data → List Heard
+heard_each l [] = []
+heard_each l (v ∷ vs) = heard_at l v ++ heard_each (value_came l v) vs
+
+-- bytes come: the values that are whole now are items, but for pushes without reply; and pushes are heard
+abbrev pub bytes_came : Ledger → List ℕ → Ledger
+bytes_came l piece = items_came (record l { rest = left_over (l.rest ++ piece); pushes = l.pushes ++ heard_each l (values (l.rest ++ piece)) }) (items (l.rest ++ piece))
+
+-- its connect was asked for and isn't answered
+abbrev pub dials : Ledger → Bool
+dials l = l.asked && not l.up && not (is_over l)
+
+-- a link whose connect failed in this turn: it ends by that alone
+abbrev pub refused_in : Ledger → ℕ → RedisError → Ledger
+refused_in l turn e = record l { end = Some (record { turn = turn; why = by_opening e; oldest = 0 }) }
+
+-- what news makes of it in this turn: a link is up from its first successful connect until its end
+abbrev pub with_news : Ledger → ℕ → News → Ledger
+with_news l turn connected = if is_over l then l else record l { up = true }
+with_news l turn (refused f) = if dials l then refused_in l turn (error.Io f) else l
+with_news l turn (took count) = if l.up then record l { taken = l.taken ++ take count l.offer; offer = [] } else l
+with_news l turn (came piece) = if l.up then bytes_came l piece else l
+with_news l turn silence = l
+with_news l turn overdue = l
+with_news l turn (failed f) = l
+with_news l turn shut = l
 
 -- the error with which a setup failed
 abbrev pub error_in : Option SetupResult → Option RedisError
@@ -241,13 +275,15 @@ abbrev pub ended : Ledger → ℕ → Ledger
 ended l turn = record l { up = false; end = Some (record { turn = turn; why = ending_or_shutdown (ending l); oldest = full_count l.starts l.dealt }) }
 
 -- a line of what is told of a link: its connect is asked for, and this is to be said to its server then; the turn of that number, with this news for it; a message
--- begins; its unwritten bytes are offered; it is closed, in that turn
+-- begins; its unwritten bytes are offered; the next push is told; it is closed, in that turn; its end is told as a push
 pub data Line : Type 0 where
   asks : RedisConnectionInfo → Line
   hears : ℕ → News → Line
   begins : Start → Line
   offers : List ℕ → Line
+  tells : Line
   ends : ℕ → Line
+  parts : Line
 
 -- what one more line makes of it
 abbrev pub noted : Ledger → Line → Ledger
@@ -255,7 +291,9 @@ noted l (asks info) = record l { asked = true; info = info }
 noted l (hears turn news) = record (with_news l turn news) { heard = news }
 noted l (begins s) = record l { starts = l.starts ++ s ∷ [] }
 noted l (offers bytes) = record l { offer = bytes }
+noted l tells = record l { told = l.told + 1 }
 noted l (ends turn) = ended l turn
+noted l parts = record l { parted = true }
 
 abbrev pub noted_each : Ledger → List Line → Ledger
 noted_each l [] = l
@@ -291,14 +329,26 @@ abbrev pub IsWithin : Ledger → News → Type 0
 IsWithin l (took count) = l.up ≡ true → count ≤ length l.offer
 IsWithin l _ = Unit {0}
 
+-- the next push of a link that is to be told, if one came that wasn't
+abbrev pub next_push : Ledger → Option Heard
+next_push l = slice_get l.pushes l.told
+
+-- its link ended by a fault once it was set up, so that this is told as a push where somebody hears pushes
+abbrev pub is_cut : Option End → Bool
+is_cut None = false
+is_cut (Some end) = is_fault end.why
+
 -- where a line may stand: a link is asked for once; its messages have bytes, and start while it is up; it is offered all
--- its unwritten bytes at once, where no offer is unanswered; and it ends where something must end it
+-- its unwritten bytes at once, where no offer is unanswered; a push is told that came; it ends where something must end it;
+-- and that a fault ended it is told once
 abbrev pub MayNote : Ledger → Line → Type 0
 MayNote l (asks info) = l.asked ≡ false
 MayNote l (hears turn news) = IsWithin l news
 MayNote l (begins s) = (l.up ≡ true) × (s.bytes ≢ [])
 MayNote l (offers bytes) = (l.up ≡ true) × (l.offer ≡ []) × (bytes ≡ unwritten l) × (bytes ≢ [])
+MayNote l tells = is_some (next_push l) ≡ true
 MayNote l (ends turn) = (why : Ending) × (ending l ≡ Some why)
+MayNote l parts = (is_cut l.end ≡ true) × (l.parted ≡ false)
 
 -- each of these lines stands where it may, behind what is in the ledger
 abbrev pub AllNoted : Ledger → List Line → Type 0

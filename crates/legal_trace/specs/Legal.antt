@@ -1,7 +1,7 @@
 -- When a trace can be relied on: said of its book alone, apart from any machine. A turn has five segments: the event's own
 -- effect, the passes, the writes, the waits, and the closes of links that nothing uses any more, of which there are none on
 -- one connection. An action stands where it is the next that is due, once all before it are done.
-use Rattle.std.specs.Prelude.{◌≡◌, ◌≢◌, ◌⊎◌, ℕ, ◌<◌, true, false, List, [], ◌∷◌, length, Option, Some, None}
+use Rattle.std.specs.Prelude.{◌≡◌, ◌≢◌, ◌⊎◌, ℕ, ◌<◌, Bool, true, false, List, [], ◌∷◌, length, Option, Some, None}
 use Rattle.redis_error.specs.declared.redis_error.RedisError.{RedisError}
 use Rattle.resp_value.specs.declared.value.Value.TheVariants.{Nil}
 use Rattle.connection_info.specs.declared.address.ConnectionInfo.{ConnectionInfo}
@@ -17,9 +17,11 @@ use Rattle.driver_model.specs.declared.config.Config.{Config}
 use Rattle.driver_model.specs.declared.event.Event.{Event}
 use Rattle.driver_model.specs.declared.outcome.Outcome.{Outcome}
 use Rattle.driver_model.specs.declared.outcome.Outcome.TheVariants as outcome
-use Rattle.driver_model.specs.Config.{address, connect_timeout, first_fault}
+use Rattle.driver_model.specs.Push.{is_disconnection}
+use Rattle.driver_model.specs.declared.push_info.PushInfo.{PushInfo}
+use Rattle.driver_model.specs.Config.{address, connect_timeout, first_fault, hears_pushes}
 use Rattle.driver_model.specs.Shape.{need_of}
-use Rattle.legal_trace.specs.Ledger.{Ledger, Ending, IsOffered, is_full, is_over, is_ready, ending, failure_in, setup_due, setup_message, unwritten}
+use Rattle.legal_trace.specs.Ledger.{Ledger, Heard, Ending, IsOffered, is_full, is_full_by, is_over, is_ready, is_cut, ending, failure_in, next_push, setup_due, setup_message, unwritten}
 use Rattle.legal_trace.specs.Story.{Try, last_of, is_open, is_unstarted, bytes_of, shape}
 use Rattle.legal_trace.specs.Book.{Book, blank_book, book, entered, current}
 use Rattle.legal_trace.specs.Owed.{owed}
@@ -54,6 +56,22 @@ FailuresAreShown b = (l : ℕ) (e : RedisError) → failure_in (b.link l).end �
 abbrev pub ReadyIsShown : Book → Type 0
 ReadyIsShown b = (l : ℕ) → is_ready (b.link l) ≡ true → b.created ≢ 0
 
+-- somebody hears the pushes of the connection
+abbrev pub is_heard_in : Option Config → Bool
+is_heard_in None = false
+is_heard_in (Some config) = hears_pushes config
+
+abbrev pub is_heard : Book → Bool
+is_heard b = is_heard_in b.config
+
+-- all pushes that came were told, where somebody hears them
+abbrev pub PushesAreTold : Book → Type 0
+PushesAreTold b = (l : ℕ) → is_heard b ≡ true → next_push (b.link l) ≡ None
+
+-- the end of each link that a fault ended, once it was set up, was told as a push, where somebody hears pushes
+abbrev pub EndsAreTold : Book → Type 0
+EndsAreTold b = (l : ℕ) → is_heard b ≡ true → is_cut (b.link l).end ≡ true → (b.link l).parted ≡ true
+
 -- a link was asked for, and where a link is ready, or its opening failed, the creation was shown
 pub record IsCreated (b : Book) : Type 0 where
   pub asked : b.links ≢ 0
@@ -69,6 +87,8 @@ pub record IsApplied (b : Book) : Type 0 where
   pub answered : NoneIsOwed b
   pub ended : NoneEnds b
   pub created : IsCreated b
+  pub pushed : PushesAreTold b
+  pub parted : EndsAreTold b
   pub timed : IsTimed b
 
 -- the setup of each link has started that is to start, but where the link is held back
@@ -153,13 +173,50 @@ pub record MayTimeConnect (b : Book) (t ms : ℕ) (what : Purpose) : Type 0 wher
   pub next : t ≡ length b.timers
   pub is_for : what ≡ purpose.Connect (current b)
 
--- a link is closed by what must end it, in the order of their numbers, once the outcomes that values gave are shown
+-- its last message was full before this push came
+pub record IsBefore (b : Book) (n : ℕ) (p : Heard) : Type 0 where
+  pub try : Try
+  pub last : last_of (b.story n).tries ≡ Some try
+  pub full : is_full_by (b.link try.link) p.after try.message ≡ true
+
+-- the next push of a link is told, where somebody hears it, in the order of the links, once the creation is shown of those that
+-- are ready, and the outcomes of messages that were full before it came
+pub record MayTellPush (b : Book) (l : ℕ) (info : PushInfo) : Type 0 where
+  pub heard : is_heard b ≡ true
+  pub push : Heard
+  pub next : next_push (b.link l) ≡ Some push
+  pub says : info ≡ push.info
+  pub in_order : (m : ℕ) → m < l → next_push (b.link m) ≡ None
+  pub created : ReadyIsShown b
+  pub answered : (n : ℕ) → IsOpen b n → (b.story n).link ≡ l → IsBefore b n push → ⊥
+
+-- that a fault ended a link, once it was set up, is told once as a push without parts, where somebody hears it, in the order of
+-- the links, once all links that must end have, and the outcomes that values gave are shown
+pub record MayPart (b : Book) (l : ℕ) (info : PushInfo) : Type 0 where
+  pub heard : is_heard b ≡ true
+  pub ended : is_cut (b.link l).end ≡ true
+  pub once : (b.link l).parted ≡ false
+  pub bare : info.parts ≡ []
+  pub in_order : (m : ℕ) → m < l → is_cut (b.link m).end ≡ true → (b.link m).parted ≡ true
+  pub closed : NoneEnds b
+  pub answered : VerdictsAreShown b
+
+abbrev pub MayPushBy : Bool → Book → ℕ → PushInfo → Type 0
+MayPushBy true b l info = MayPart b l info
+MayPushBy false b l info = MayTellPush b l info
+
+abbrev pub MayPush : Book → ℕ → PushInfo → Type 0
+MayPush b l info = MayPushBy (is_disconnection info.kind) b l info
+
+-- a link is closed by what must end it, in the order of their numbers, once the outcomes that values gave are shown, and the
+-- pushes that came told
 pub record MayClose (b : Book) (l : ℕ) : Type 0 where
   pub why : Ending
   pub ends : ending (b.link l) ≡ Some why
   pub in_order : (m : ℕ) → m < l → ending (b.link m) ≡ None
   pub answered : VerdictsAreShown b
   pub created : ReadyIsShown b
+  pub pushed : PushesAreTold b
 
 -- the creation is shown once, when a link is ready: once the outcomes that values gave are shown, and before a link ends
 pub record MayBeCreated (b : Book) : Type 0 where
@@ -183,13 +240,15 @@ abbrev pub MayShowCreation : Book → Option RedisError → Type 0
 MayShowCreation b None = MayBeCreated b
 MayShowCreation b (Some e) = MayFail b e
 
--- an open submission is answered with what it is owed: first those whose link has not ended, and then the others, once all
--- links that must end have and a failed opening was shown; each in the order of their numbers
+-- an open submission is answered with what it is owed: first those whose link has not ended, each before the pushes of its link
+-- that came after its message was full, and then the others, once all links that must end have, a failed opening was shown, and
+-- the ends that are told as pushes were; each in the order of their numbers
 pub record MayAnswer (b : Book) (n : ℕ) (o : Outcome) : Type 0 where
   pub asked : IsOpen b n
   pub owes : owed b n ≡ Some o
   pub in_order : (m : ℕ) → m < n → IsOpen b m → is_over (link_of b m) ≡ is_over (link_of b n) → owed b m ≡ None
-  pub after_closes : is_over (link_of b n) ≡ true → NoneEnds b × VerdictsAreShown b × FailuresAreShown b
+  pub after_pushes : is_heard b ≡ true → (push : Heard) → next_push (link_of b n) ≡ Some push → IsBefore b n push
+  pub after_closes : is_over (link_of b n) ≡ true → NoneEnds b × VerdictsAreShown b × FailuresAreShown b × EndsAreTold b
 
 -- the setup of a link starts once its cause is there, and once more where the server counts other arguments, while the link
 -- isn't held back
@@ -274,6 +333,7 @@ MayStand b (action.Connect l host port) = MayConnect b l host port
 MayStand b (action.Timer t ms what) = MayTimer b t ms what
 MayStand b (action.Took owner.Setup l count) = ⊥
 MayStand b (action.Took (owner.Try n round) l count) = (round ≡ 0) × MayTake b n l count
+MayStand b (action.Push l info) = MayPush b l info
 MayStand b (action.Close l) = MayClose b l
 MayStand b (action.Write l bytes) = MayWrite b l bytes
 MayStand b (action.Wait owner.Setup kind) = ⊥

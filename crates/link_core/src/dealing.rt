@@ -6,9 +6,10 @@ ghost use Rattle.resp_read.specs.Values.{values, left_over, is_spoiled};
 ghost use Rattle.resp_read.specs.Items.{items, items_among, is_item};
 ghost use Rattle.resp_read.specs.Limits.{default_limits};
 
-use crate::message::{PushAt, PushInfo, Settled};
+use crate::message::{PushAt, Settled};
 use crate::row::Row;
 use crate::spare::Rest;
+use driver_model::PushInfo;
 use resp_read::{Health, ReadError, Reader, Steps};
 use resp_value::Value;
 use std::alloc::{AllocError, Global};

@@ -9,10 +9,10 @@ mod outbox;
 mod row;
 mod spare;
 
-pub use driver_model::LinkFault;
+pub use driver_model::{LinkFault, PushInfo};
 pub use errors::{EnqueueError, StartError};
 pub use link::LinkCore;
-pub use message::{Entry, PushAt, PushInfo, Queued, Settled, Started};
+pub use message::{Entry, PushAt, Queued, Settled, Started};
 pub use outbox::Outbox;
 pub use row::Row;
 pub use spare::{Rest, Spare};

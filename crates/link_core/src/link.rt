@@ -505,7 +505,7 @@ impl LinkCore {
         ensures no_memory { IsErrOf result ReadError.NoMemory → self.new.failed ≡ true }
         ensures failed { self.old.failed ≡ true → IsErrOf result ReadError.NoMemory }
     {
-        self.take_bytes(alloc, piece, true, out, pushes)
+        self.bytes_heard(alloc, piece, true, out, pushes)
     }
 
     /// The same where nobody listens to pushes: none is noted or copied.
@@ -529,11 +529,11 @@ impl LinkCore {
         ensures failed { self.old.failed ≡ true → IsErrOf result ReadError.NoMemory }
     {
         let mut pushes = Vec::new(alloc);
-        self.take_bytes(alloc, piece, false, out, &mut pushes)
+        self.bytes_heard(alloc, piece, false, out, &mut pushes)
     }
 
-    /// What `bytes` does; `pushes` gains the pushes where they are `heard`.
-    fn take_bytes(
+    /// What `bytes` does where pushes are `heard`, and what `bytes_unheard` does where they aren't: then `pushes` gains nothing.
+    pub fn bytes_heard(
         &mut self,
         alloc: Global,
         piece: &[u8],

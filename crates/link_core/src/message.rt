@@ -1,9 +1,6 @@
-ghost use Rattle.std.specs.Prelude.{◌≡◌, IfOk};
-
 use containers::Bytes;
-use driver_model::{Shape, Verdict};
-use resp_value::{PushKind, Values};
-use std::alloc::{AllocError, Global};
+use driver_model::{PushInfo, Shape, Verdict};
+use resp_value::Values;
 
 /// A message that has its place in the queue.
 #[derive(Drop)]
@@ -41,27 +38,9 @@ pub struct Settled {
     pub verdict: Verdict,
 }
 
-/// A push: what it is about, and its other parts.
-#[derive(Drop)]
-pub struct PushInfo {
-    pub kind: PushKind,
-    pub parts: Values,
-}
-
 /// A push, and how many messages the call had settled before it.
 #[derive(Drop)]
 pub struct PushAt {
     pub settled: u64,
     pub info: PushInfo,
-}
-
-impl PushInfo {
-    /// An equal value of its own.
-    pub fn clone(&self, alloc: Global) -> Result<PushInfo, AllocError>
-        ensures { IfOk result (λ p. p ≡ self.now) }
-    {
-        let kind = self.kind.clone(alloc)?;
-        let parts = self.parts.clone(alloc)?;
-        Ok(PushInfo { kind, parts })
-    }
 }

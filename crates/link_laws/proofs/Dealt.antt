@@ -29,9 +29,14 @@ pub record HasCut (ss : List Start) (items : List Data) (who : Owner) (of_shape 
   pub full : reach (take (suc number) ss) items ≤ length items
   pub cut_is : got ≡ cut_at ss items number of_shape
 
--- a message whose last item comes has its cut
-full_cut : (ss : List Start) (items : List Data) (item : Data) (o : Open) (rows : List Open) → open_rows ss items ≡ o ∷ rows → nat_le (need_of o.shape) (length o.got + 1) ≡ true
-    → HasCut ss (items ++ item ∷ []) o.owner o.shape (o.got ++ item ∷ [])
+-- a start that just these last items filled has its cut, and reached further than what was dealt before them
+pub record IsJustFull (ss : List Start) (before items : List Data) (who : Owner) (of_shape : Shape) (got : List Data) : Type 0 where
+  pub cut : HasCut ss items who of_shape got
+  pub late : length before < reach (take (suc cut.number) ss) before
+
+-- a message whose last item comes has its cut, and had not before
+pub full_cut : (ss : List Start) (items : List Data) (item : Data) (o : Open) (rows : List Open) → open_rows ss items ≡ o ∷ rows → nat_le (need_of o.shape) (length o.got + 1) ≡ true
+    → IsJustFull ss items (items ++ item ∷ []) o.owner o.shape (o.got ++ item ∷ [])
 full_cut [] items item o rows e t = cc
 full_cut (s ∷ ss) items item o rows e t =
     let n = need_of s.shape in
@@ -39,13 +44,17 @@ full_cut (s ∷ ss) items item o rows e t =
     by_test (nat_le n (length items)) _
     (λ u.
     let l : n ≤ length items = le_from _ _ u in
-    let h = full_cut ss (drop n items) item o rows (rw u at e) t in
+    let j = full_cut ss (drop n items) item o rows (rw u at e) t in
+    let h = j.cut in
     let past : drop n (items ++ item ∷ []) ≡ drop n items ++ item ∷ [] = drop-append-le n items (item ∷ []) l in
     record {
-      number = suc h.number;
-      place = record { start = h.place.start; stands = h.place.stands; owned = h.place.owned; shaped = h.place.shaped };
-      full = rw past (omega (arith, h.full, length_push (drop n items) item, length-drop n items));
-      cut_is = rw (← drop-drop (reach (take h.number ss) (drop n (items ++ item ∷ []))) n (items ++ item ∷ []), past) h.cut_is;
+      cut = record {
+        number = suc h.number;
+        place = record { start = h.place.start; stands = h.place.stands; owned = h.place.owned; shaped = h.place.shaped };
+        full = rw past (omega (arith, h.full, length_push (drop n items) item, length-drop n items));
+        cut_is = rw (← drop-drop (reach (take h.number ss) (drop n (items ++ item ∷ []))) n (items ++ item ∷ []), past) h.cut_is;
+      };
+      late = omega (arith, j.late, length-drop n items);
     })
     (λ f.
     let l : length items < n = not_le_from _ _ f in
@@ -55,31 +64,39 @@ full_cut (s ∷ ss) items item o rows e t =
     let k : need_of o.shape ≤ length o.got + 1 = le_from _ _ t in
     let m : length items ≡ length o.got = ap length got in
     record {
-      number = 0;
-      place = record { start = s; stands = refl; owned = ap (λ (x : Open). x.owner) h.0; shaped = ap (λ (x : Open). x.shape) h.0 };
-      full = omega arith;
-      cut_is = rw (← got) (sym (take_all (need_of o.shape) (items ++ item ∷ []) (omega arith)));
+      cut = record {
+        number = 0;
+        place = record { start = s; stands = refl; owned = ap (λ (x : Open). x.owner) h.0; shaped = ap (λ (x : Open). x.shape) h.0 };
+        full = omega arith;
+        cut_is = rw (← got) (sym (take_all (need_of o.shape) (items ++ item ∷ []) (omega arith)));
+      };
+      late = omega arith;
     })
 
 -- how far the starts up to a full one reach
-cut_within : (ss : List Start) (items : List Data) (who : Owner) (of_shape : Shape) (k : ℕ) → StandsAs ss who of_shape k → reach (take (suc k) ss) items ≤ length items → reach (take k ss) items + need_of of_shape ≤ length items
+pub cut_within : (ss : List Start) (items : List Data) (who : Owner) (of_shape : Shape) (k : ℕ) → StandsAs ss who of_shape k → reach (take (suc k) ss) items ≤ length items → reach (take k ss) items + need_of of_shape ≤ length items
 cut_within ss items who of_shape k h full =
     let next = reach_next ss k items h.start h.stands in
     let same : need_of h.start.shape ≡ need_of of_shape = ap need_of h.shaped in
     omega arith
 
--- more items leave a full cut as it is
+-- more items leave the cut of a start that has all its items as it is
+pub cut_more : (ss : List Start) (items more : List Data) (of_shape : Shape) (k : ℕ) → reach (take k ss) items + need_of of_shape ≤ length items → cut_at ss (items ++ more) k of_shape ≡ cut_at ss items k of_shape
+cut_more ss items more of_shape k far =
+    let m = reach (take k ss) items in
+    rw (reach_alike (take k ss) (items ++ more) items, drop-append-le m items more (omega arith), take-append-le (need_of of_shape) (drop m items) more (omega (arith, length-drop m items))) refl
+
+-- so it has its cut still
 pub cut_stays : (ss : List Start) (items more : List Data) (who : Owner) (of_shape : Shape) (got : List Data) → HasCut ss items who of_shape got → HasCut ss (items ++ more) who of_shape got
 cut_stays ss items more who of_shape got h =
     let k = h.number in
     let far = cut_within ss items who of_shape k h.place h.full in
-    let m = reach (take k ss) items in
     let next : reach (take (suc k) ss) (items ++ more) ≡ reach (take (suc k) ss) items = reach_alike (take (suc k) ss) (items ++ more) items in
     record {
       number = k;
       place = h.place;
       full = omega (arith, next, h.full, length-append items more);
-      cut_is = rw (reach_alike (take k ss) (items ++ more) items, drop-append-le m items more (omega arith), take-append-le (need_of of_shape) (drop m items) more (omega (arith, length-drop m items))) h.cut_is;
+      cut_is = h.cut_is ∙ sym (cut_more ss items more of_shape k far);
     }
 
 -- and so do more starts
@@ -140,7 +157,7 @@ settled_cuts name ss items e h =
     (λ f. tt)
 
 -- an entry that an item fills
-full_from : (e : Entry) (item : Data) → nat_lt (length (with_item e item).got) (need_of e.shape) ≡ false → nat_le (need_of e.shape) (length e.got + 1) ≡ true
+pub full_from : (e : Entry) (item : Data) → nat_lt (length (with_item e item).got) (need_of e.shape) ≡ false → nat_le (need_of e.shape) (length e.got + 1) ≡ true
 full_from e item f = le_test _ _ (omega (arith, not_lt_from _ _ f, length_push e.got item))
 
 -- an entry that takes more behind an item
@@ -164,7 +181,7 @@ given_dealt name ss items d item e es is h =
           })
           (λ f.
           let full = full_from e item f in
-          let cut = full_cut ss items item (open_of name e) (open_list name es) r full in
+          let cut = (full_cut ss items item (open_of name e) (open_list name es) r full).cut in
           record {
             row = sym (k.1 ∙ if_true (λ os. os ≡ open_list name es) _ (open_list name es) _ full refl);
             within = w;
@@ -173,7 +190,7 @@ given_dealt name ss items d item e es is h =
     )
 
 -- an item as the ledger takes it: where one is wanted
-abbrev taken_item : ℕ → List Data → Data → List Data
+abbrev pub taken_item : ℕ → List Data → Data → List Data
 taken_item all items item = if nat_lt (length items) all then items ++ item ∷ [] else items
 
 -- one item is dealt alike
@@ -195,14 +212,14 @@ none_wanted : (all : ℕ) (items more : List Data) → all ≤ length items → 
 none_wanted all items more l = let z : all - length items ≡ 0 = omega arith in rw z (append-nil items)
 
 -- where more are wanted, the first is taken
-first_wanted : (all : ℕ) (items : List Data) (item : Data) (more : List Data) → length items < all → items_with all items (item ∷ more) ≡ items_with all (items ++ item ∷ []) more
+pub first_wanted : (all : ℕ) (items : List Data) (item : Data) (more : List Data) → length items < all → items_with all items (item ∷ more) ≡ items_with all (items ++ item ∷ []) more
 first_wanted all items item more l =
     let n = length_push items item in
     let z : all - length items ≡ suc (all - length (items ++ item ∷ [])) = omega arith in
     rw z (sym (append_assoc items (item ∷ []) (take (all - length (items ++ item ∷ [])) more)))
 
 -- items are taken one by one
-one_wanted : (all : ℕ) (items : List Data) (item : Data) (more : List Data) → items_with all items (item ∷ more) ≡ items_with all (taken_item all items item) more
+pub one_wanted : (all : ℕ) (items : List Data) (item : Data) (more : List Data) → items_with all items (item ∷ more) ≡ items_with all (taken_item all items item) more
 one_wanted all items item more =
     by_test (nat_lt (length items) all) _
     (λ t. if_true (λ xs. items_with all items (item ∷ more) ≡ items_with all xs more) _ _ _ t (first_wanted all items item more (lt_from _ _ t)))
@@ -210,7 +227,7 @@ one_wanted all items item more =
     (let l = not_lt_from _ _ f in none_wanted all items (item ∷ more) l ∙ sym (none_wanted all items more l)))
 
 -- items one after another are dealt alike
-each_dealt : (name : ℕ → Owner) (ss : List Start) (all : ℕ) (items : List Data) (d : Dealing) (vs : List Data) → reach ss items ≡ all → IsDealt name ss items d
+pub each_dealt : (name : ℕ → Owner) (ss : List Start) (all : ℕ) (items : List Data) (d : Dealing) (vs : List Data) → reach ss items ≡ all → IsDealt name ss items d
     → IsDealt name ss (items_with all items vs) (dealt_each d vs)
 each_dealt name ss all items d [] e h = let z : items_with all items [] ≡ items = ap (λ xs. items ++ xs) (take_none (all - length items)) ∙ append-nil items in subst (λ xs. IsDealt name ss xs d) (sym z) h
 each_dealt name ss all items d (v ∷ vs) e h =

@@ -14,3 +14,6 @@ pub mod Pieces
 pub mod Bounds
 pub mod AlikeRuns
 pub mod Started
+pub mod PushKinds
+pub mod Pushes
+pub mod Unheard

@@ -113,7 +113,7 @@ same_broken d p q = chosen (λ (x : Settling). x.link.broken ≡ true → SameBr
 
 -- pushes
 --
-value_then : (d : Dealing) (v : Data) (vs : List Data) → dealt_each (value_dealt d v) (items_among vs) ≡ dealt_each d (items_among (v ∷ vs))
+pub value_then : (d : Dealing) (v : Data) (vs : List Data) → dealt_each (value_dealt d v) (items_among vs) ≡ dealt_each d (items_among (v ∷ vs))
 value_then d v vs = by_item (is_item v) d v (items_among vs)
   where
     by_item : (b : Bool) (d : Dealing) (v : Data) (vs : List Data) → dealt_each (if b then dealt d v else d) vs ≡ dealt_each d (if b then v ∷ vs else vs)

@@ -2,8 +2,8 @@
 use Rattle.std.proofs.Common.{◌≡◌, ◌+◌, ◌-◌, ◌≢◌, ◌⊎◌, inl, inr, ℕ, ◌==◌, nat_le, Bool, true, false, ◌||◌, List, [], ◌∷◌, ◌++◌, length, Some, None, refl, sym, ap, ◌∙◌, subst, append_assoc}
 use Rattle.std.specs.List.{AllByRecursion}
 use Rattle.std.proofs.lemmas.List.{append-nil}
-use Rattle.containers.proofs.Choices.{not_both, chosen, if_true, if_false, taken_if, le_from, ne_from, or_right}
-use Rattle.resp_read.specs.Values.{is_spoiled}
+use Rattle.containers.proofs.Choices.{not_both, chosen, if_true, if_false, taken_if, left_if, le_from, ne_from, or_right}
+use Rattle.resp_read.specs.Values.{values, is_spoiled}
 use Rattle.resp_read.proofs.ValueLaws.{values-empty}
 use Rattle.redis_error.specs.declared.redis_error.RedisError.TheVariants as error
 use Rattle.driver_model.specs.declared.action.Owner.{Owner}
@@ -14,19 +14,22 @@ use Rattle.driver_model.specs.News.{News, silence, connected, took, came, failed
 use Rattle.link_core.specs.declared.message.Queued.{Queued}
 use Rattle.link_core.specs.declared.message.Settled.{Settled}
 use Rattle.link_core.specs.Ends.{row_closed, row_hit, queue_closed}
-use Rattle.link_core.specs.Link.{Settling, fresh, is_full, enqueued, started_all, offered_of, wrote_of, cancelled, emptied, closed_all, faulted}
+use Rattle.link_core.specs.Link.{Settling, fresh, is_full, enqueued, started_all, offered_of, wrote_of, cancelled, emptied, piece_dealt, pushes_came, closed_all, faulted}
 use Rattle.link_core.specs.Outbox.{can_offer}
 use Rattle.link_core.specs.Waiting.{is_wanted, without}
-use Rattle.legal_trace.specs.Ledger.{Ledger, reach, Ending, by_shutdown, by_fault, Line, asks, hears, begins, offers, ends, blank_ledger, ending, ending_up, ended, noted, noted_each, ledger, AllNoted, LinkLegal}
+use Rattle.legal_trace.specs.Ledger.{Ledger, reach, Ending, by_shutdown, by_fault, Line, asks, hears, begins, offers, ends, blank_ledger, ending, ending_up, ended, heard_each, noted, noted_each, ledger, AllNoted, LinkLegal}
 use Rattle.legal_trace.specs.Owed.{unstarted_error}
 use Rattle.legal_trace.proofs.Ledgers.{noted_append, may_append}
 use Rattle.legal_trace.proofs.Setups.{bare_is_set, ends_where_set}
 use Rattle.link_laws.specs.Settles.{IsOwed, IsOwedUnstarted}
+use Rattle.link_laws.specs.Pushes.{AreApart}
+use Rattle.link_laws.specs.Laws.{PushesAreHeard}
 use Rattle.link_laws.specs.Starts.{start_from, starting, begins_each}
 use Rattle.link_laws.specs.Runs.{Operation, place, begin, offer, take_up, read, withdraw, fail, shut_down, pass, Run, fresh_run, heard, settling, over_with, placed, begun_all, offered, taken_up, has_come, or_parse, has_read, acted, performed, performed_each, run, AreOwed}
 use Rattle.link_laws.proofs.Dealt.{AreCuts, cuts_stay, cuts_kept, all_append}
 use Rattle.link_laws.proofs.TiedLink.{TiedLink, IsPacked, all_push, fresh_tied, asked_tied, connected_tied, told_tied, enqueued_tied, cancelled_tied, started_tied, starting_front, starts_stand, offered_tied, offer_stands, taken_within, wrote_tied, deals, has_read as link_read, has_heard, reads_on, heard_is, dealt_alike, read_tied}
 use Rattle.link_core.specs.Row.{lack_of_row}
+use Rattle.link_laws.proofs.Pushes.{bare_stays, pushes_say, settles_apart, stand_apart}
 use Rattle.link_laws.proofs.Settles.{lacks_are, cuts_owed, row_hit_owed, row_closed_owed, queue_owed}
 
 -- what was told so far
@@ -386,3 +389,40 @@ sound_lacks name r (inr h) g = absurd (not_both r.over g h.0)
 pub run_lacks : (name : ℕ → Owner) (size boundary : ℕ) (os : List Operation) → (run name size boundary os).over ≡ false
     → lack_of_row (run name size boundary os).link.row ≡ reach (ledger (run name size boundary os).lines).starts (ledger (run name size boundary os).lines).dealt - length (ledger (run name size boundary os).lines).dealt
 run_lacks name size boundary os = sound_lacks name (run name size boundary os) (run_sound name size boundary os)
+
+-- pushes
+--
+-- what holds of a ledger that has heard these bytes, also where it ends then, holds of that of the run
+read_told : (name : ℕ → Owner) (P : Ledger → Type 0) (l : Ledger) (r : Run) (piece : List ℕ) → IsLive name l r → P (has_heard l piece) → ((turn : ℕ) → P (ended (has_heard l piece) turn)) → P (ledger (or_parse (after_read r piece)).lines)
+read_told name P l r piece h whole over =
+    let e = read_ending name l r piece h in
+    let a = after_read r piece in
+    chosen (λ (x : Run). P (ledger x.lines)) a.link.broken (over_with a (faulted (settling a) fault.Parse)) a
+    (λ t. subst P (sym (noted_append blank_ledger a.lines (ends a.turn ∷ []) ∙ ap (λ (x : Ledger). ended x a.turn) e.told.told)) (over a.turn))
+    (λ f. subst P (sym e.told.told) whole)
+
+-- the pushes of a run that goes on
+live_pushes : (name : ℕ → Owner) (l : Ledger) (r : Run) (piece : List ℕ) → r.over ≡ false → IsLive name l r → PushesAreHeard name r piece
+live_pushes name l r piece goes_on h =
+    let sound : r.link.broken ≡ false = h.tied.broken ∙ ap is_spoiled (sym h.tied.rest) ∙ h.lives.unspoiled in
+    let set = bare_stays l h.lives.bare in
+    let new = heard_each l (values (l.rest ++ piece)) in
+    let given = pushes_came r.link piece in
+    let out = (piece_dealt (record { link = r.link; out = [] }) piece).out in
+    let out_is : out ≡ (deals r.link piece).out = ap (λ (x : Settling). x.out) (reads_on r.link [] piece sound) in
+    let run_is : performed name r (read piece) ≡ or_parse (after_read r piece) =
+    left_if r.over r (has_read r piece) goes_on ∙ ap (λ (x : Settling). or_parse (has_come (heard r (came piece)) x)) (reads_on r.link r.settled piece sound) in
+    let both = subst (λ (x : Run). ((ledger x.lines).pushes ≡ (ledger r.lines).pushes ++ new) × AreApart name (ledger x.lines) given new 0 out) (sym run_is)
+    (read_told name (λ (m : Ledger). (m.pushes ≡ (ledger r.lines).pushes ++ new) × AreApart name m given new 0 out) l r piece h
+    (ap (λ (m : Ledger). m.pushes ++ new) (sym h.told.told), subst (AreApart name (has_heard l piece) given new 0) (sym out_is) (settles_apart name l r.link piece h.lives.lives sound set h.tied))
+    (λ turn. (ap (λ (m : Ledger). m.pushes ++ new) (sym h.told.told), subst (AreApart name (ended (has_heard l piece) turn) given new 0) (sym out_is) (stand_apart name l (ended (has_heard l piece) turn) r.link piece refl refl h.lives.lives sound set h.tied)))) in
+    record { heard = new; pushes = both.0; same = pushes_say name l r.link piece sound set h.tied; apart = both.1 }
+
+-- and of any that has not ended
+sound_pushes : (name : ℕ → Owner) (r : Run) (piece : List ℕ) → Sound name r → r.over ≡ false → PushesAreHeard name r piece
+sound_pushes name r piece (inl h) g = live_pushes name h.1.0 r piece g h.1.1
+sound_pushes name r piece (inr h) g = absurd (not_both r.over g h.0)
+
+-- each push that a run gives is heard where it came
+pub run_pushes : (name : ℕ → Owner) (size boundary : ℕ) (os : List Operation) (piece : List ℕ) → (run name size boundary os).over ≡ false → PushesAreHeard name (run name size boundary os) piece
+run_pushes name size boundary os piece g = sound_pushes name (run name size boundary os) piece (run_sound name size boundary os) g

@@ -9,6 +9,7 @@ use Rattle.driver_model.specs.declared.action.Owner.{Owner}
 use Rattle.driver_model.specs.declared.news.LinkFault.{LinkFault}
 use Rattle.driver_model.specs.declared.news.LinkFault.TheVariants as fault
 use Rattle.driver_model.specs.declared.outcome.Outcome.TheVariants as outcome
+use Rattle.driver_model.specs.declared.outcome.Verdict.{Verdict}
 use Rattle.driver_model.specs.declared.outcome.Shape.{Shape}
 use Rattle.driver_model.specs.declared.outcome.Shape.TheVariants.{Single, Pipeline, Confirmation}
 use Rattle.driver_model.specs.Shape.{need_of, verdict_of, outcome_of}
@@ -33,16 +34,20 @@ pub is_full_from : (l : Ledger) (k : ℕ) → reach (take (suc k) l.starts) l.de
 is_full_from l k far = le_test _ _ (subst (λ (n : ℕ). reach (take n l.starts) l.dealt ≤ length l.dealt) (sym (add-one k)) far)
 
 -- a full message is owed the verdict of its cut
+pub full_owes : (l : Ledger) (k : ℕ) (of_shape : Shape) (got : List Data) (v : Verdict) → reach (take (suc k) l.starts) l.dealt ≤ length l.dealt → got ≡ cut l k of_shape → v ≡ verdict_of of_shape got → owed_to_message l k of_shape ≡ Some (outcome_of v)
+full_owes l k of_shape got v far cut_is verdict_is =
+    taken_if (is_full l k) (Some (outcome_of (verdict_of of_shape (cut l k of_shape)))) _ (is_full_from l k far)
+    ∙ ap (λ (items : List Data). Some (outcome_of (verdict_of of_shape items))) (sym cut_is)
+    ∙ ap (λ x. Some (outcome_of x)) (sym verdict_is)
+
+-- so it is owed what it settled
 pub cut_owed : (name : ℕ → Owner) (l : Ledger) (s : Settled) → IsCutOf name l.starts l.dealt s → IsOwed name l s
-cut_owed name l s h =
-    let k = h.cut.number in
-    let owes : owed_to_message l k h.of_shape ≡ Some (outcome_of (verdict_of h.of_shape (cut l k h.of_shape))) = taken_if (is_full l k) _ _ (is_full_from l k h.cut.full) in
-    record {
-      number = k;
-      of_shape = h.of_shape;
-      place = h.cut.place;
-      owes = owes ∙ ap (λ (items : List Data). Some (outcome_of (verdict_of h.of_shape items))) (sym h.cut.cut_is) ∙ ap (λ v. Some (outcome_of v)) (sym h.verdict_is);
-    }
+cut_owed name l s h = record {
+  number = h.cut.number;
+  of_shape = h.of_shape;
+  place = h.cut.place;
+  owes = full_owes l h.cut.number h.of_shape h.got s.verdict h.cut.full h.cut.cut_is h.verdict_is;
+}
 
 -- and so is each of them
 pub cuts_owed : (name : ℕ → Owner) (l : Ledger) (out : List Settled) → AreCuts name l.starts l.dealt out → AllByRecursion (IsOwed name l) out

@@ -7,13 +7,14 @@ use Rattle.driver_model.specs.declared.action.Owner.{Owner}
 use Rattle.link_core.specs.declared.message.Settled.{Settled}
 use Rattle.link_core.specs.declared.message.Started.{Started}
 use Rattle.link_core.specs.Dealing.{pushes_each}
-use Rattle.link_core.specs.Link.{LinkState, Starting, Settling, pushes_came}
+use Rattle.link_core.specs.Link.{LinkState, Starting, Settling, piece_dealt, pushes_came}
 use Rattle.link_core.specs.Row.{lack_of_row}
 use Rattle.link_core.specs.Waiting.{without}
-use Rattle.legal_trace.specs.Ledger.{reach, ledger}
+use Rattle.legal_trace.specs.Ledger.{Heard, reach, ledger}
 use Rattle.link_laws.specs.Alike.{SameLink, SameStarting, SameSettling, others}
 use Rattle.link_laws.specs.Pieces.{dealt_by}
-use Rattle.link_laws.specs.Runs.{Operation, withdraw, Run, performed, run, answered_or_wanted, wanted_by, is_withdraw}
+use Rattle.link_laws.specs.Pushes.{SayTheSame, AreApart}
+use Rattle.link_laws.specs.Runs.{Operation, read, withdraw, Run, performed, run, answered_or_wanted, wanted_by, is_withdraw, is_read}
 use Rattle.link_laws.specs.Settles.{settled_ids, awaited_of}
 
 -- links that are alike but for one message's own verdict are so after this call
@@ -60,6 +61,26 @@ PushStandsBehind =
     ≡ pushes_each (dealt_by s []) before
     ++ record { settled = length (dealt_by s before).out; info = record { kind = kind; parts = list_of parts } }
     ∷ pushes_each (dealt_by s (before ++ push kind parts ∷ [])) after
+
+-- the pushes that a link gives with bytes are those that its ledger hears then, in order; and each stands among the messages
+-- that these bytes settle where it came: behind those that were full before it, and before the others
+pub record PushesAreHeard (name : ℕ → Owner) (r : Run) (piece : List ℕ) : Type 0 where
+  pub heard : List Heard
+  pub pushes : (ledger (performed name r (read piece)).lines).pushes ≡ (ledger r.lines).pushes ++ heard
+  pub same : SayTheSame (pushes_came r.link piece) heard
+  pub apart : AreApart name (ledger (performed name r (read piece)).lines) (pushes_came r.link piece) heard 0 (piece_dealt (record { link = r.link; out = [] }) piece).out
+
+-- so it is until the link ends, whatever was done with it
+abbrev pub EachPushIsHeard : Type 0
+EachPushIsHeard =
+    (name : ℕ → Owner) (size boundary : ℕ) (ops : List Operation) (piece : List ℕ) → (run name size boundary ops).over ≡ false
+    → PushesAreHeard name (run name size boundary ops) piece
+
+-- and no other operation lets the ledger hear one
+abbrev pub NothingElseIsHeard : Type 0
+NothingElseIsHeard =
+    (name : ℕ → Owner) (r : Run) (op : Operation) → is_read op ≡ false
+    → (ledger (performed name r op).lines).pushes ≡ (ledger r.lines).pushes
 
 -- the message has left the queue
 abbrev pub HasLeft : ℕ → Run → Type 0

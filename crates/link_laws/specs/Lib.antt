@@ -1,6 +1,7 @@
 pub mod Alike
 pub mod Places
 pub mod Settles
+pub mod Pushes
 pub mod Starts
 pub mod Runs
 pub mod Pieces

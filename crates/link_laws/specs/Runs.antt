@@ -127,3 +127,8 @@ wanted_by r _ = []
 abbrev pub is_withdraw : Operation → Bool
 is_withdraw (withdraw id) = true
 is_withdraw _ = false
+
+-- whether bytes come
+abbrev pub is_read : Operation → Bool
+is_read (read piece) = true
+is_read _ = false

@@ -16,7 +16,7 @@ ghost use Rattle.link_laws.specs.Places.{places, line_up};
 ghost use Rattle.link_laws.specs.Runs.{Operation, run, AreOwed};
 ghost use Rattle.link_laws.specs.Laws.{KeepsAlike, StartsAlike, SettlesAlike};
 ghost use Rattle.link_laws.specs.Laws.{LackWhatWasNotDealt, OneLine, EndSettlesAll};
-ghost use Rattle.link_laws.specs.Laws.{PushStandsBehind};
+ghost use Rattle.link_laws.specs.Laws.{PushStandsBehind, EachPushIsHeard, NothingElseIsHeard};
 ghost use Rattle.link_laws.specs.Laws.{WithdrawalIsNotTold, WithdrawalSparesOthers};
 
 /// Does nothing. Its contract: a cancel of a message that has left the queue changes nothing of its
@@ -78,6 +78,15 @@ pub fn an_end_answers_each_message_once()
 /// the same bytes, settled.
 pub fn a_push_stands_behind_what_came_before_it()
     ensures { PushStandsBehind }
+{}
+
+/// Does nothing. Its contract: the pushes that a link gives with bytes are those that its ledger
+/// hears then, in order, and each stands among the messages that the bytes settle where it came:
+/// behind those that were full before it, and before the others. Nothing else lets the ledger hear
+/// a push.
+pub fn a_push_is_heard_where_it_came()
+    ensures heard { EachPushIsHeard }
+    ensures only { NothingElseIsHeard }
 {}
 
 /// Does nothing. Its contract: one withdrawal more, of a message that has left the queue, changes

@@ -4,23 +4,65 @@ use driver_model::Config;
 use redis_error::ConfigName;
 use std::alloc::{AllocError, Global};
 
-/// An address with its number of permits and the size of its queue, and with what is refused first, if anything is.
-type Row = (&'static [u8], Option<u32>, Option<u32>, Option<ConfigName>);
+/// An address with whether somebody hears pushes, its number of permits and the size of its queue, and with what is refused
+/// first, if anything is.
+type Row = (
+    &'static [u8],
+    Option<bool>,
+    Option<u32>,
+    Option<u32>,
+    Option<ConfigName>,
+);
 
-const REFUSED: [Row; 13] = [
-    (b"redis://h", None, None, None),
-    (b"redis://h", None, Some(1), None),
-    (b"redis://h", None, Some(u32::MAX), None),
-    (b"redis://h", Some(1), None, None),
-    (b"redis://h", Some(u32::MAX), Some(1), None),
-    (b"redis://h", None, Some(0), Some(ConfigName::Buffer)),
-    (b"redis://h", Some(1), Some(0), Some(ConfigName::Buffer)),
-    (b"redis://h", Some(0), None, Some(ConfigName::Limit)),
-    (b"redis://h", Some(0), Some(0), Some(ConfigName::Limit)),
-    (b"http://h", Some(0), Some(0), Some(ConfigName::Url)),
-    (b"http://h", None, None, Some(ConfigName::Url)),
-    (b"redis://h/1", Some(0), Some(0), Some(ConfigName::Limit)),
-    (b"redis://u:p@h/1?protocol=resp3", None, Some(1), None),
+const REFUSED: [Row; 18] = [
+    (b"redis://h", None, None, None, None),
+    (b"redis://h", None, None, Some(1), None),
+    (b"redis://h", None, None, Some(u32::MAX), None),
+    (b"redis://h", None, Some(1), None, None),
+    (b"redis://h", None, Some(u32::MAX), Some(1), None),
+    (b"redis://h", None, None, Some(0), Some(ConfigName::Buffer)),
+    (
+        b"redis://h",
+        None,
+        Some(1),
+        Some(0),
+        Some(ConfigName::Buffer),
+    ),
+    (b"redis://h", None, Some(0), None, Some(ConfigName::Limit)),
+    (
+        b"redis://h",
+        None,
+        Some(0),
+        Some(0),
+        Some(ConfigName::Limit),
+    ),
+    (b"http://h", None, Some(0), Some(0), Some(ConfigName::Url)),
+    (b"http://h", None, None, None, Some(ConfigName::Url)),
+    (
+        b"redis://h/1",
+        None,
+        Some(0),
+        Some(0),
+        Some(ConfigName::Limit),
+    ),
+    (b"redis://u:p@h/1?protocol=resp3", None, None, Some(1), None),
+    (b"redis://h?protocol=3", Some(true), None, None, None),
+    (b"redis://h", Some(false), None, None, None),
+    (b"redis://h", Some(true), None, None, Some(ConfigName::Push)),
+    (
+        b"redis://h",
+        Some(true),
+        Some(0),
+        Some(0),
+        Some(ConfigName::Push),
+    ),
+    (
+        b"http://h",
+        Some(true),
+        Some(0),
+        None,
+        Some(ConfigName::Url),
+    ),
 ];
 
 /// A configuration with that address alone.
@@ -29,11 +71,12 @@ fn plain(alloc: Global, url: &[u8]) -> Result<Config, AllocError> {
     Ok(Config::new(url))
 }
 
-/// A configuration with the address, the permits and the queue of a row.
+/// A configuration with the address, the pushes, the permits and the queue of a row.
 fn configured(alloc: Global, row: &Row) -> Result<Config, AllocError> {
     let mut config = plain(alloc, row.0)?;
-    config.limit = row.1;
-    config.buffer = row.2;
+    config.push = row.1;
+    config.limit = row.2;
+    config.buffer = row.3;
     Ok(config)
 }
 
@@ -57,7 +100,7 @@ fn is_refused(alloc: Global, config: &Config, wanted: Option<ConfigName>) -> boo
 /// Whether the configuration of a row is refused as the row tells.
 fn is_so(alloc: Global, row: &Row) -> Result<bool, AllocError> {
     let config = configured(alloc, row)?;
-    Ok(is_refused(alloc, &config, row.3))
+    Ok(is_refused(alloc, &config, row.4))
 }
 
 #[test]
@@ -68,14 +111,15 @@ fn one_name_is_refused_first(rt: HostRuntime) -> Result<(), AllocError> {
     Ok(())
 }
 
-/// How long a connect and a reply may take, how many permits there are, the size of the queue, the boundary, and
-/// whether the server is told which library speaks.
+/// How long a connect and a reply may take, how many permits there are, the size of the queue, the boundary, whether somebody
+/// hears pushes, and whether the server is told which library speaks.
 type Settings = (
     Option<u64>,
     Option<u64>,
     Option<u32>,
     u32,
     u64,
+    bool,
     Option<bool>,
 );
 
@@ -86,6 +130,7 @@ fn settings(config: &Config) -> Settings {
         config.limit,
         config.buffer_size(),
         config.boundary(),
+        config.hears_pushes(),
         config.lib,
     )
 }
@@ -95,7 +140,7 @@ fn has(config: &Config, url: &[u8], wanted: Settings) -> bool {
     config.url.as_slice() == url && settings(config) == wanted
 }
 
-const NOTHING_GIVEN: Settings = (Some(1000), Some(500), None, 50, 8192, None);
+const NOTHING_GIVEN: Settings = (Some(1000), Some(500), None, 50, 8192, false, None);
 
 /// Whether a configuration of which only the address is given has these settings.
 fn plain_has(alloc: Global, wanted: Settings) -> Result<bool, AllocError> {
@@ -109,7 +154,7 @@ fn what_is_not_given_has_a_value(rt: HostRuntime) -> Result<(), AllocError> {
     Ok(())
 }
 
-const ALL_GIVEN: Settings = (Some(5), None, Some(3), 7, 0, Some(false));
+const ALL_GIVEN: Settings = (Some(5), None, Some(3), 7, 0, true, Some(false));
 
 /// A configuration of which all is given.
 fn full(alloc: Global) -> Result<Config, AllocError> {
@@ -119,6 +164,7 @@ fn full(alloc: Global) -> Result<Config, AllocError> {
     config.limit = Some(3);
     config.buffer = Some(7);
     config.boundary = Some(0);
+    config.push = Some(true);
     config.lib = Some(false);
     Ok(config)
 }

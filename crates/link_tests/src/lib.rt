@@ -8,4 +8,6 @@ mod events;
 #[cfg(test)]
 mod links;
 #[cfg(test)]
+mod pushes;
+#[cfg(test)]
 mod requests;

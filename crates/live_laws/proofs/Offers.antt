@@ -5,7 +5,7 @@ use Rattle.driver_model.specs.declared.action.Action.{Action}
 use Rattle.driver_model.specs.declared.action.Action.TheVariants as action
 use Rattle.driver_model.specs.declared.event.EventKind.{EventKind}
 use Rattle.driver_model.specs.declared.event.EventKind.TheVariants as event
-use Rattle.legal_trace.specs.Book.{Book, entered}
+use Rattle.legal_trace.specs.Book.{Book, push_line, entered}
 use Rattle.legal_trace.specs.Ledger.{ends, offers}
 use Rattle.legal_trace.specs.Legal.{MayStand}
 use Rattle.legal_trace.proofs.Ledgers.{mine_keeps}
@@ -13,7 +13,7 @@ use Rattle.live_run.specs.Agenda.{noted, offer_of, offered, removed, stands, und
 use Rattle.live_run.specs.Passes.{Each}
 use Rattle.live_laws.specs.Taken.{IsNoWrote}
 use Rattle.live_run.proofs.Agendas.{AreSingle, each_as, each_last, offering, single_last, single_offered, single_without}
-use Rattle.live_run.proofs.Hearing.{IsNoTurn, turn_of}
+use Rattle.live_run.proofs.Hearing.{IsNoTurn, turn_of, push_noted}
 use Rattle.live_laws.proofs.Agendas.{Agenda, Link, each_offered, each_without}
 use Rattle.live_laws.proofs.News.{Stays, mine_offers, mine_takes, not_mine, other_stays, stays_same}
 use Rattle.live_laws.proofs.Taking.{taken_of, turn_stays}
@@ -74,6 +74,10 @@ noted_ties a b (action.Write l bytes) quiet may h =
     h
 noted_ties a b (action.Start l message who count len) quiet may h =
     all_stay b (entered b (action.Start l message who count len)) a.links (λ n. mine_keeps (Stays (b.link n)) (l == n) (b.link n) _ (λ t. (λ u. u, refl, refl)) (stays_same (b.link n))) h
+noted_ties a b (action.Push l info) quiet may h =
+    all_stay b (entered b (action.Push l info)) a.links
+    (λ n. mine_keeps (Stays (b.link n)) (l == n) (b.link n) (push_line info.kind)
+    (λ t. push_noted (Stays (b.link n)) (b.link n) info.kind (λ u. u, refl, refl) (λ u. u, refl, refl)) (stays_same (b.link n))) h
 noted_ties a b (action.Took who l count) quiet may h = all_stay b (entered b (action.Took who l count)) a.links (λ n. stays_same (b.link n)) h
 noted_ties a b (action.Wait who kind) quiet may h = all_stay b (entered b (action.Wait who kind)) a.links (λ n. stays_same (b.link n)) h
 noted_ties a b (action.Created e) quiet may h = all_stay b (entered b (action.Created e)) a.links (λ n. stays_same (b.link n)) h

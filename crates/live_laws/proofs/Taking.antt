@@ -14,12 +14,12 @@ use Rattle.shared_session.specs.declared.core_state.Core.{Core}
 use Rattle.shared_session.specs.Turn.{actions_of, next_turn, shown, shown_each, timer_of}
 use Rattle.shared_session.specs.Replay.{connect_asked, opening_actions, opening_core, trace_of, turns_on}
 use Rattle.legal_trace.specs.Ledger.{Ledger}
-use Rattle.legal_trace.specs.Book.{Book, blank_book, book, entered, entered_each}
+use Rattle.legal_trace.specs.Book.{Book, push_line, blank_book, book, entered, entered_each}
 use Rattle.legal_trace.proofs.Books.{entered_append}
 use Rattle.legal_trace.proofs.Ledgers.{mine_keeps}
 use Rattle.driver_model.specs.News.{news_of}
 use Rattle.live_run.proofs.Heard.{no_turn}
-use Rattle.live_run.proofs.Hearing.{IsNoTurn, turn_of}
+use Rattle.live_run.proofs.Hearing.{IsNoTurn, turn_of, push_noted}
 use Rattle.live_laws.specs.Taken.{AreUnwritten, IsNoWrote}
 use Rattle.live_laws.proofs.News.{Stays, event_not_took, hears_stays}
 
@@ -35,6 +35,8 @@ action_taken b (action.Turn number c) n quiet = absurd quiet
 action_taken b (action.Connect l host port) n quiet = mine_keeps (λ (g : Ledger). g.taken ≡ (b.link n).taken) (l == n) (b.link n) _ (λ t. refl) refl
 action_taken b (action.Timer t ms what) n quiet = refl
 action_taken b (action.Took who l count) n quiet = refl
+action_taken b (action.Push l info) n quiet =
+    mine_keeps (λ (g : Ledger). g.taken ≡ (b.link n).taken) (l == n) (b.link n) (push_line info.kind) (λ t. push_noted (λ (g : Ledger). g.taken ≡ (b.link n).taken) (b.link n) info.kind refl refl) refl
 action_taken b (action.Close l) n quiet = mine_keeps (λ (g : Ledger). g.taken ≡ (b.link n).taken) (l == n) (b.link n) _ (λ t. refl) refl
 action_taken b (action.Write l bytes) n quiet = mine_keeps (λ (g : Ledger). g.taken ≡ (b.link n).taken) (l == n) (b.link n) _ (λ t. refl) refl
 action_taken b (action.Start l message who count len) n quiet = mine_keeps (λ (g : Ledger). g.taken ≡ (b.link n).taken) (l == n) (b.link n) _ (λ t. refl) refl

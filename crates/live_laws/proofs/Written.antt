@@ -37,6 +37,7 @@ early_noted a (action.Close l) =
     chosen (λ (e : Agenda). e.early ≡ a.early) (stands l a.unclosed) (record d { unclosed = removed l a.unclosed; closes = a.closes ++ l ∷ [] }) d (λ t. refl) (λ f. refl)
 early_noted a (action.Write l bytes) = refl
 early_noted a (action.Took who l count) = refl
+early_noted a (action.Push l info) = refl
 early_noted a (action.Start l message who count len) = refl
 early_noted a (action.Wait who kind) = refl
 early_noted a (action.Created e) = refl
@@ -57,6 +58,7 @@ links_none a (action.Close l) none =
     chosen (λ (e : Agenda). e.links ≡ []) (stands l a.unclosed) (record d { unclosed = removed l a.unclosed; closes = a.closes ++ l ∷ [] }) d (λ t. gone) (λ f. gone)
 links_none a (action.Write l bytes) none = ap (offered l bytes) none
 links_none a (action.Took who l count) none = none
+links_none a (action.Push l info) none = none
 links_none a (action.Start l message who count len) none = none
 links_none a (action.Wait who kind) none = none
 links_none a (action.Created e) none = none

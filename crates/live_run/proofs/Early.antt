@@ -37,6 +37,7 @@ early_noted a (action.Close l) =
     chosen (λ (e : Agenda). e.early ≡ a.early) (stands l a.unclosed) (record d { unclosed = removed l a.unclosed; closes = a.closes ++ l ∷ [] }) d (λ t. refl) (λ f. refl)
 early_noted a (action.Write l bytes) = refl
 early_noted a (action.Took who l count) = refl
+early_noted a (action.Push l info) = refl
 early_noted a (action.Start l message who count len) = refl
 early_noted a (action.Wait who kind) = refl
 early_noted a (action.Created e) = refl
@@ -79,6 +80,7 @@ links_none a (action.Close l) none =
     chosen (λ (e : Agenda). e.links ≡ []) (stands l a.unclosed) (record d { unclosed = removed l a.unclosed; closes = a.closes ++ l ∷ [] }) d (λ t. gone) (λ f. gone)
 links_none a (action.Write l bytes) none = ap (offered l bytes) none
 links_none a (action.Took who l count) none = none
+links_none a (action.Push l info) none = none
 links_none a (action.Start l message who count len) none = none
 links_none a (action.Wait who kind) none = none
 links_none a (action.Created e) none = none
@@ -94,6 +96,7 @@ early_known a b (action.Timer t ms what) none may h = noted_known a b (action.Ti
 early_known a b (action.Close l) none may h = noted_known a b (action.Close l) tt may h
 early_known a b (action.Write l bytes) none may h = noted_known a b (action.Write l bytes) tt may h
 early_known a b (action.Took who l count) none may h = noted_known a b (action.Took who l count) tt may h
+early_known a b (action.Push l info) none may h = noted_known a b (action.Push l info) tt may h
 early_known a b (action.Start l message who count len) none may h = noted_known a b (action.Start l message who count len) tt may h
 early_known a b (action.Wait who kind) none may h = noted_known a b (action.Wait who kind) tt may h
 early_known a b (action.Created e) none may h = noted_known a b (action.Created e) tt may h

@@ -32,6 +32,7 @@ no_turn l t (act.Created e) = tt
 no_turn l t (act.Took n count) = tt
 no_turn l t (act.Timer n ms) = tt
 no_turn l t (act.SetUp message need len) = tt
+no_turn l t (act.Push info) = tt
 no_turn l t act.Close = tt
 no_turn l t (act.Write bytes) = tt
 no_turn l t (act.Wait n kind) = tt

@@ -10,9 +10,11 @@ use Rattle.driver_model.specs.declared.action.Purpose.TheVariants as purpose
 use Rattle.driver_model.specs.declared.event.EventKind.{EventKind}
 use Rattle.driver_model.specs.declared.event.EventKind.TheVariants as event
 use Rattle.driver_model.specs.declared.news.LinkFault.TheVariants as fault
+use Rattle.resp_value.specs.declared.push_kind.PushKind.{PushKind}
+use Rattle.driver_model.specs.Push.{is_disconnection}
 use Rattle.driver_model.specs.News.{News, silence, connected, refused, overdue, took, came, failed, shut, for_link, of_timer, news_of}
-use Rattle.legal_trace.specs.Ledger.{Ledger, hears, offers, noted, is_over, dials, refused_in, bytes_came}
-use Rattle.legal_trace.specs.Book.{Book, entered}
+use Rattle.legal_trace.specs.Ledger.{Ledger, Line, hears, offers, tells, parts, noted, is_over, dials, refused_in, bytes_came}
+use Rattle.legal_trace.specs.Book.{Book, push_line, entered}
 use Rattle.legal_trace.specs.Legal.{MayStand}
 use Rattle.legal_trace.proofs.Ledgers.{mine_keeps}
 
@@ -94,6 +96,10 @@ stays b c links timers keeps = record { links = links; timers = timers; keeps = 
 same_keeps : (l : Ledger) → Keeps l l
 same_keeps l = λ going. (going, omega arith)
 
+-- what holds of a link of which a push is told, or its end as one
+pub push_noted : (P : Ledger → Type 0) (g : Ledger) (kind : PushKind) → P (noted g tells) → P (noted g parts) → P (noted g (push_line kind))
+push_noted P g kind told gone = chosen (λ (x : Line). P (noted g x)) (is_disconnection kind) parts tells (λ t. gone) (λ f. told)
+
 pub action_grows : (b : Book) (x : Action) → IsNoTurn x → MayStand b x → Grows b (entered b x)
 action_grows b (action.Turn number c) quiet may = absurd quiet
 action_grows b (action.Connect l host port) quiet may =
@@ -111,6 +117,9 @@ action_grows b (action.Write l bytes) quiet may =
 action_grows b (action.Start l message who count len) quiet may =
     stays b (entered b (action.Start l message who count len)) (omega arith) (omega arith) (λ n. mine_keeps (Keeps (b.link n)) (l == n) (b.link n) _ (λ t going. (going, omega arith)) (same_keeps (b.link n)))
 action_grows b (action.Took who l count) quiet may = stays b (entered b (action.Took who l count)) (omega arith) (omega arith) (λ n. same_keeps (b.link n))
+action_grows b (action.Push l info) quiet may =
+    stays b (entered b (action.Push l info)) (omega arith) (omega arith) (λ n. mine_keeps (Keeps (b.link n)) (l == n) (b.link n) (push_line info.kind)
+    (λ t. push_noted (Keeps (b.link n)) (b.link n) info.kind (same_keeps (b.link n)) (same_keeps (b.link n))) (same_keeps (b.link n)))
 action_grows b (action.Wait who kind) quiet may = stays b (entered b (action.Wait who kind)) (omega arith) (omega arith) (λ n. same_keeps (b.link n))
 action_grows b (action.Created e) quiet may = stays b (entered b (action.Created e)) (omega arith) (omega arith) (λ n. same_keeps (b.link n))
 action_grows b (action.Outcome n o) quiet may = stays b (entered b (action.Outcome n o)) (omega arith) (omega arith) (λ m. same_keeps (b.link m))

@@ -118,6 +118,7 @@ impl Agenda {
                 link: _,
                 count: _,
             } => Ok(()),
+            Action::Push { link: _, info: _ } => Ok(()),
             Action::Wait { owner: _, wait: _ } => Ok(()),
             Action::Start {
                 link: _,

@@ -1,9 +1,10 @@
 -- A connection as its user sees it.
-use Rattle.std.specs.Prelude.{◌≡◌, ⊤, ℕ, ◌||◌, List, [], ◌∷◌, Option, Some, None, slice_get, if◌then◌else◌}
+use Rattle.std.specs.Prelude.{◌≡◌, ⊤, ℕ, ◌&&◌, not, List, [], ◌∷◌, Option, Some, None, slice_get, if◌then◌else◌}
 use Rattle.redis_error.specs.declared.config_name.ConfigName.{ConfigName}
 use Rattle.redis_error.specs.declared.config_name.ConfigName.TheVariants as name
 use Rattle.connection_info.specs.declared.address.RedisConnectionInfo.{RedisConnectionInfo}
 use Rattle.connection_info.specs.declared.config.AsyncConnectionConfig.{AsyncConnectionConfig}
+use Rattle.connection_info.specs.Protocol.{is_resp3}
 use Rattle.connection_info.specs.declared.open_error.OpenError.{OpenError}
 use Rattle.connection_info.specs.declared.open_error.OpenError.TheVariants as error
 use Rattle.driver_model.specs.Config.{room_fault}
@@ -31,21 +32,23 @@ connect_timer (Some ms) = act.Timer timer.Connect ms ∷ []
 abbrev pub opened : RedisConnectionInfo → ℕ → AsyncConnectionConfig → MultiplexedConnection
 opened info link c = record {
   link = link;
-  core = dialing c.pipeline_buffer_size c.write_backpressure_boundary c.concurrency_limit info;
+  core = dialing c.pipeline_buffer_size c.write_backpressure_boundary c.concurrency_limit c.push_sender info;
   timeout = c.response_timeout;
   outcomes = [];
   early = connect_timer c.connection_timeout;
 }
 
--- what is refused first of a connection's configuration, if anything is: a sender of pushes and credentials that come while
--- it lives, which aren't built yet; a limit of no permits; and a queue that holds nothing
-abbrev pub fault_of : AsyncConnectionConfig → Option ConfigName
-fault_of c =
-    if c.push_sender || c.credentials_provider then Some name.Kind
+-- what is refused first of a connection's configuration, where this is said to its server, if anything is: credentials that
+-- come while it lives, which aren't built yet; a sender of pushes on RESP2; a limit of no permits; and a queue that holds
+-- nothing
+abbrev pub fault_of : RedisConnectionInfo → AsyncConnectionConfig → Option ConfigName
+fault_of info c =
+    if c.credentials_provider then Some name.Kind
+    else if c.push_sender && not (is_resp3 info.protocol) then Some name.Push
     else room_fault c.concurrency_limit c.pipeline_buffer_size
 
 -- either memory was wanted, or this is refused first
-abbrev pub RefusesConnection : AsyncConnectionConfig → OpenError → Type 0
-RefusesConnection c (error.Config fault) = fault_of c ≡ Some fault
-RefusesConnection c error.Client = ⊥
-RefusesConnection c error.NoMemory = ⊤
+abbrev pub RefusesConnection : RedisConnectionInfo → AsyncConnectionConfig → OpenError → Type 0
+RefusesConnection info c (error.Config fault) = fault_of info c ≡ Some fault
+RefusesConnection info c error.Client = ⊥
+RefusesConnection info c error.NoMemory = ⊤

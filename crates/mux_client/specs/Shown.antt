@@ -15,6 +15,7 @@ abbrev pub shown : LinkAct → ConnectionAct
 shown (link_act.Created e) = act.Created e
 shown (link_act.Took p count) = act.Took (pending p) count
 shown (link_act.Timer p ms) = act.Timer (timer.Response (pending p)) ms
+shown (link_act.Push info) = act.Push info
 shown link_act.Close = act.Close
 shown (link_act.Write bytes) = act.Write bytes
 shown (link_act.Wait p kind) = act.Wait (pending p) kind
@@ -30,6 +31,7 @@ abbrev pub kept : List (Option Outcome) → LinkAct → List (Option Outcome)
 kept os (link_act.Created e) = os
 kept os (link_act.Took p count) = os
 kept os (link_act.Timer p ms) = os
+kept os (link_act.Push info) = os
 kept os link_act.Close = os
 kept os (link_act.Write bytes) = os
 kept os (link_act.Wait p kind) = os

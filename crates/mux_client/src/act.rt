@@ -1,5 +1,5 @@
 use containers::Bytes;
-use driver_model::WaitKind;
+use driver_model::{PushInfo, WaitKind};
 use mux_conn::Pending;
 use redis_error::RedisError;
 
@@ -28,6 +28,10 @@ pub enum ConnectionAct {
     Took {
         request: Pending,
         count: u32,
+    },
+    /// A push came, or tells that the link has ended.
+    Push {
+        info: PushInfo,
     },
     /// The link ended, or is to be closed.
     Close,

@@ -45,12 +45,15 @@ impl Drop for MultiplexedConnection {
     }
 }
 
-/// What is refused first of a connection's configuration, if anything is.
-fn fault(config: &AsyncConnectionConfig) -> Option<ConfigName>
-    ensures { result ≡ fault_of config.now }
+/// What is refused first of a connection's configuration, where this is said to its server, if anything is.
+fn fault(info: &RedisConnectionInfo, config: &AsyncConnectionConfig) -> Option<ConfigName>
+    ensures { result ≡ fault_of info.now config.now }
 {
-    if config.push_sender || config.credentials_provider {
+    if config.credentials_provider {
         return Some(ConfigName::Kind);
+    }
+    if config.push_sender && !info.protocol.supports_resp3() {
+        return Some(ConfigName::Push);
     }
     if config.concurrency_limit == Some(0) {
         return Some(ConfigName::Limit);
@@ -85,15 +88,15 @@ impl MultiplexedConnection {
         link: u32,
     ) -> Result<MultiplexedConnection, OpenError>
         ensures ok { IfOk result (λ c. c ≡ opened info.now link default_config) }
-        ensures err { IfErr result (RefusesConnection default_config) }
+        ensures err { IfErr result (RefusesConnection info.now default_config) }
     {
         MultiplexedConnection::new_with_config(alloc, info, link, &AsyncConnectionConfig::new())
     }
 
     /// A connection over the link of this number, whose connect isn't answered. Whoever makes it asks for the connect; the
     /// timer of the connect stands in the acts of the first step. `Config` tells what of its configuration is refused first:
-    /// a sender of pushes and credentials that come while it lives aren't built yet (`kind`), and a limit of no permits and a
-    /// queue that holds nothing make no connection.
+    /// credentials that come while it lives aren't built yet (`kind`), and a sender of pushes on RESP2, a limit of no permits and
+    /// a queue that holds nothing make no connection.
     pub fn new_with_config(
         alloc: Global,
         info: &RedisConnectionInfo,
@@ -101,10 +104,10 @@ impl MultiplexedConnection {
         config: &AsyncConnectionConfig,
     ) -> Result<MultiplexedConnection, OpenError>
         ensures ok { IfOk result (λ c. c ≡ opened info.now link config.now) }
-        ensures sound { OnOk result (fault_of config.now ≡ None) }
-        ensures err { IfErr result (RefusesConnection config.now) }
+        ensures sound { OnOk result (fault_of info.now config.now ≡ None) }
+        ensures err { IfErr result (RefusesConnection info.now config.now) }
     {
-        if let Some(name) = fault(config) {
+        if let Some(name) = fault(info, config) {
             return Err(OpenError::Config(name));
         }
         let told = info.clone(alloc)?;
@@ -116,6 +119,7 @@ impl MultiplexedConnection {
                 config.pipeline_buffer_size,
                 config.write_backpressure_boundary,
                 config.concurrency_limit,
+                config.push_sender,
                 told,
             ),
             timeout: config.response_timeout,

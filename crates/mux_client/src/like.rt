@@ -94,8 +94,8 @@ pub trait Connect: ConnectionLike + Sized {
         link: u32,
     ) -> Result<Self, OpenError>
         ensures ok { IfOk result (λ c. Self.seen c ≡ opened info.now.redis link config.now) }
-        ensures sound { OnOk result (fault_of config.now ≡ None) }
-        ensures err { IfErr result (RefusesConnection config.now) };
+        ensures sound { OnOk result (fault_of info.now.redis config.now ≡ None) }
+        ensures err { IfErr result (RefusesConnection info.now.redis config.now) };
 
     /// Sends what the driver itself says, as `MultiplexedConnection::send_internal`.
     fn send_internal(&mut self, alloc: Global, pipeline: &Pipeline) -> Result<Pending, SendError>

@@ -1,7 +1,7 @@
-ghost use Rattle.std.specs.Prelude.{◌≡◌, ◌||◌, false, IfOk, IfErr, OnOk};
+ghost use Rattle.std.specs.Prelude.{◌≡◌, false, IfOk, IfErr, OnOk};
 ghost use Rattle.connection_info.specs.Config.{default_config};
 ghost use Rattle.connection_info.specs.Written.{ReadsBack};
-ghost use Rattle.mux_client.specs.Makers.{config_of, time_given, number_given, library_given};
+ghost use Rattle.mux_client.specs.Makers.{config_of, time_given, number_given, push_given, library_given};
 ghost use Rattle.mux_client.specs.Makers.{Keeps, RefusesMaking};
 
 use connection_info::{AsyncConnectionConfig, Client, ConnectionInfo, OpenError};
@@ -30,6 +30,13 @@ fn room(default: u64, value: u64) -> Option<u64>
     if value == default { None } else { Some(value) }
 }
 
+/// That somebody hears pushes is given where somebody does.
+fn pushes(hears: bool) -> Option<bool>
+    ensures { result ≡ push_given hears }
+{
+    if hears { Some(true) } else { None }
+}
+
 /// The library is left out where the address leaves it out.
 fn library(skips: bool) -> Option<bool>
     ensures { result ≡ library_given skips }
@@ -45,10 +52,10 @@ fn words(
 ) -> Result<Config, OpenError>
     ensures value { IfOk result (λ words. words ≡ config_of info.now config.now) }
     ensures read { OnOk result (ReadsBack info.now) }
-    ensures built { OnOk result ((config.now.push_sender || config.now.credentials_provider) ≡ false) }
+    ensures built { OnOk result (config.now.credentials_provider ≡ false) }
     ensures err { IfErr result (RefusesMaking info.now config.now) }
 {
-    if config.push_sender || config.credentials_provider {
+    if config.credentials_provider {
         return Err(OpenError::Config(ConfigName::Kind));
     }
     let default = AsyncConnectionConfig::new();
@@ -63,6 +70,7 @@ fn words(
             default.write_backpressure_boundary,
             config.write_backpressure_boundary,
         ),
+        push: pushes(config.push_sender),
         lib: library(info.redis.skip_set_lib_name),
     })
 }
@@ -74,8 +82,9 @@ pub trait ConnectionGetters {
     ghost info: { Self → ConnectionInfo };
 
     /// The configuration of a session over one connection that behaves as `config` says: its words are the address as a URL
-    /// and what isn't the default. `Config(Kind)` comes exactly where `config` has a sender of pushes or credentials, which
-    /// aren't built yet, and else `Config(Url)` exactly where no URL says the address.
+    /// and what isn't the default. `Config(Kind)` comes exactly where `config` has credentials, which aren't built yet, and
+    /// else `Config(Url)` exactly where no URL says the address. Whether a sender of pushes has RESP3 is asked when the session
+    /// is made.
     fn get_multiplexed_async_connection_with_config(
         &self,
         alloc: Global,

@@ -39,6 +39,7 @@ fn show(act: LinkAct, outcomes: &mut Seq<Option<Outcome>>) -> ConnectionAct
             },
             ms,
         },
+        LinkAct::Push { info } => ConnectionAct::Push { info },
         LinkAct::Close => ConnectionAct::Close,
         LinkAct::Write { bytes } => ConnectionAct::Write { bytes },
         LinkAct::Wait { request, wait } => ConnectionAct::Wait {

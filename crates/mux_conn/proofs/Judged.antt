@@ -12,13 +12,14 @@ use Rattle.connection_setup.specs.Setup.{Step}
 use Rattle.connection_setup.specs.Judgement.{counts_arguments, judged_error, judged_reply, unless_ready, judged, Tells}
 use Rattle.driver_model.specs.declared.outcome.Verdict.{Verdict}
 use Rattle.driver_model.specs.declared.outcome.Verdict.TheVariants as verdict
+use Rattle.link_core.specs.declared.message.PushAt.{PushAt}
 use Rattle.link_core.specs.declared.message.Settled.{Settled}
 use Rattle.link_core.specs.Link.{LinkState, Settling, settling_with, piece_dealt}
 use Rattle.mux_conn.specs.declared.act.LinkAct.TheVariants as act
 use Rattle.mux_conn.specs.declared.life.Life.{Life}
 use Rattle.mux_conn.specs.declared.life.Life.TheVariants.{SettingUp}
 use Rattle.mux_conn.specs.Connection.{Work, acted, at_life}
-use Rattle.mux_conn.specs.Effects.{judged_by, steps_of, made_ready, sets_up, opening_failed, set_up_by, answered_setup, broken_at, read_setup, read_at}
+use Rattle.mux_conn.specs.Effects.{judged_by, steps_of, made_ready, sets_up, opening_failed, set_up_by, behind_first, heard_on, heard_in, answered_setup, broken_at, read_setup, read_at}
 
 -- memory isn't wanted to tell it
 abbrev pub IsTold : SetupResult → Type 0
@@ -67,17 +68,17 @@ set_up_anew w life link result.RepeatWithoutUser told = refl
 set_up_anew w life link (result.Failed e) told = refl
 set_up_anew w life link result.NoMemory told = absurd told
 
-answered_anew : (w : Work) (life : Life) (link : LinkState) (with_user : Bool) (out : List Settled) → answered_setup (at_life w life) link with_user out ≡ answered_setup w link with_user out
-answered_anew w life link with_user [] = refl
-answered_anew w life link with_user (s ∷ ss) =
+answered_anew : (w : Work) (life : Life) (link : LinkState) (with_user : Bool) (pushes : List PushAt) (out : List Settled) → answered_setup (at_life w life) link with_user pushes out ≡ answered_setup w link with_user pushes out
+answered_anew w life link with_user pushes [] = refl
+answered_anew w life link with_user pushes (s ∷ ss) =
     let steps = steps_of w.conn with_user in
-    set_up_anew w life link (judged_by steps s.verdict) (verdict_told steps s.verdict)
+    ap (λ (v : Work). heard_on v (behind_first pushes)) (set_up_anew w life link (judged_by steps s.verdict) (verdict_told steps s.verdict))
 
 -- bytes that are read while the link is out of its connection are read as if it were there
-pub read_back : (w v : Work) (life : Life) (link : LinkState) (with_user : Bool) (piece : List ℕ) → w.conn.life ≡ SettingUp link with_user → v ≡ read_setup (at_life w life) with_user (piece_dealt (settling_with link []) piece) → v ≡ read_at w piece w.conn.life
+pub read_back : (w v : Work) (life : Life) (link : LinkState) (with_user : Bool) (piece : List ℕ) → w.conn.life ≡ SettingUp link with_user → v ≡ read_setup (at_life w life) with_user (heard_in w link piece) (piece_dealt (settling_with link []) piece) → v ≡ read_at w piece w.conn.life
 read_back w v life link with_user piece is h =
     let s = piece_dealt (settling_with link []) piece in
-    h ∙ ap (broken_at s.link.broken) (answered_anew w life s.link with_user s.out) ∙ ap (read_at w piece) (sym is)
+    h ∙ ap (broken_at s.link.broken) (answered_anew w life s.link with_user (heard_in w link piece) s.out) ∙ ap (read_at w piece) (sym is)
 
 -- a setup that is well makes the link ready
 pub ready_by : (w v : Work) (link : LinkState) (expected found : SetupResult) → Tells expected found → found ≡ result.Ready → v ≡ made_ready w link → v ≡ set_up_by w link expected

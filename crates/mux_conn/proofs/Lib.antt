@@ -2,3 +2,4 @@ pub mod Spent
 pub mod Entries
 pub mod Threads
 pub mod Judged
+pub mod Told

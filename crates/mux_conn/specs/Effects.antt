@@ -1,5 +1,5 @@
 -- What news of its link does to a connection, and the leave of a caller. No request is moved.
-use Rattle.std.specs.Prelude.{◌≤◌, ℕ, ◌+◌, ◌^◌, Bool, true, false, List, [], ◌∷◌, Some, None, if◌then◌else◌}
+use Rattle.std.specs.Prelude.{◌≤◌, ℕ, ◌+◌, ◌^◌, ◌==◌, nat_le, Bool, true, false, List, [], ◌∷◌, Some, None, if◌then◌else◌}
 use Rattle.redis_error.specs.declared.fault_kind.FaultKind.{FaultKind}
 use Rattle.redis_error.specs.declared.fault_kind.FaultKind.TheVariants as kind
 use Rattle.redis_error.specs.declared.redis_error.RedisError.{RedisError}
@@ -7,6 +7,8 @@ use Rattle.redis_error.specs.declared.redis_error.RedisError.TheVariants as erro
 use Rattle.driver_model.specs.declared.news.LinkFault.{LinkFault}
 use Rattle.driver_model.specs.declared.news.LinkFault.TheVariants as fault
 use Rattle.driver_model.specs.declared.outcome.Outcome.TheVariants as outcome
+use Rattle.resp_value.specs.declared.push_kind.PushKind.TheVariants.{Disconnection}
+use Rattle.driver_model.specs.declared.push_info.PushInfo.{PushInfo}
 use Rattle.driver_model.specs.News.{News, silence, connected, refused, overdue, took, came, failed, shut}
 use Rattle.connection_setup.specs.declared.judgement.SetupResult.{SetupResult}
 use Rattle.connection_setup.specs.declared.judgement.SetupResult.TheVariants as result
@@ -19,13 +21,15 @@ use Rattle.driver_model.specs.Shape.{outcome_of}
 use Rattle.link_core.specs.declared.message.Queued.{Queued}
 use Rattle.link_core.specs.declared.message.Settled.{Settled}
 use Rattle.link_core.specs.Link.{LinkState, Settling, fresh, enqueued, wrote_of, cancelled, faulted, closed_all}
-use Rattle.link_core.specs.Link.{piece_dealt}
+use Rattle.link_core.specs.declared.message.PushAt.{PushAt}
+use Rattle.link_core.specs.Dealing.{heard_of}
+use Rattle.link_core.specs.Link.{piece_dealt, pushes_came}
 use Rattle.mux_conn.specs.declared.act.LinkAct.TheVariants as act
 use Rattle.mux_conn.specs.declared.connection.MultiplexedConnection.{MultiplexedConnection}
 use Rattle.mux_conn.specs.declared.life.Life.{Life}
 use Rattle.mux_conn.specs.declared.life.Life.TheVariants.{Dialing, SettingUp, Ready, Ended}
 use Rattle.mux_conn.specs.declared.request.Waiting.{Waiting}
-use Rattle.mux_conn.specs.Connection.{Work, acted, at_life, with_link, with_setup}
+use Rattle.mux_conn.specs.Connection.{Work, acted, at_life, with_link, with_setup, is_ready}
 use Rattle.mux_conn.specs.Requests.{is_open_at, closed, answered}
 
 -- a link without messages, with the queue and the boundary of its connection
@@ -50,12 +54,47 @@ nobody_waits w = record w { conn = record w.conn { waiting = []; admitted = [] }
 abbrev pub waiting_failed : Work → RedisError → Work
 waiting_failed w e = failed_each (failed_each (nobody_waits w) e w.conn.admitted) e w.conn.waiting
 
+-- a push is told
+abbrev pub pushed : Work → PushInfo → Work
+pushed w info = acted w (act.Push info)
+
+-- these pushes are told, in order
+abbrev pub pushed_each : Work → List PushAt → Work
+pushed_each w [] = w
+pushed_each w (p ∷ ps) = pushed_each (pushed w p.info) ps
+
+-- what the link has settled is answered, and the pushes that came are told, each behind as many of these messages as were
+-- settled before it, where n were answered so far
+abbrev pub told_each : Work → ℕ → List PushAt → List Settled → Work
+told_each w n ps [] = pushed_each w ps
+told_each w n [] (s ∷ ss) = settled_each w (s ∷ ss)
+told_each w n (p ∷ ps) (s ∷ ss) = if nat_le p.settled n then told_each (pushed w p.info) n ps (s ∷ ss) else told_each (answered w s.id (outcome_of s.verdict)) (n + 1) (p ∷ ps) ss
+
+-- the pushes behind the first settled message
+abbrev pub behind_first : List PushAt → List PushAt
+behind_first [] = []
+behind_first (p ∷ ps) = if p.settled == 0 then behind_first ps else p ∷ ps
+
+-- the link is closed
+abbrev pub cut_short : Work → Work
+cut_short w = acted (at_life w (Ended error.Closed)) act.Close
+
+-- its messages are answered, and then those that have no place
+abbrev pub all_answered : Work → List Settled → Work
+all_answered w out = waiting_failed (settled_each w out) error.Closed
+
 -- the link ends: it is closed, its messages are answered, and then those that have no place
 abbrev pub ended : Work → List Settled → Work
-ended w out = waiting_failed (settled_each (acted (at_life w (Ended error.Closed)) act.Close) out) error.Closed
+ended w out = all_answered (cut_short w) out
 
+-- that the link has ended is told as a push, where somebody hears pushes
+abbrev pub parted : Work → Work
+parted w = if w.conn.hears then pushed w (record { kind = Disconnection; parts = [] }) else w
+
+-- a link that was set up ends by a fault: it is closed, which is told, its messages are answered, and then those that have no
+-- place
 abbrev pub ended_by : Work → LinkState → LinkFault → Work
-ended_by w link f = ended w (faulted (record { link = link; out = [] }) f).out
+ended_by w link f = all_answered (parted (cut_short w)) (faulted (record { link = link; out = [] }) f).out
 
 -- the opening fails with this error, which is shown, and those that have no place are answered
 abbrev pub opening_failed : Work → RedisError → Work
@@ -139,9 +178,9 @@ failed_at w f (Ended e) = w
 abbrev pub broken_at : Bool → Work → Work
 broken_at broken w = if broken then failed_at w fault.Parse w.conn.life else w
 
--- what the link has settled is answered, and bytes that begin no value end it
-abbrev pub read_to : Work → Settling → Work
-read_to w s = broken_at s.link.broken (settled_each (with_link w s.link) s.out)
+-- what the link has settled is answered, the pushes that came are told, and bytes that begin no value end it
+abbrev pub read_to : Work → List PushAt → Settling → Work
+read_to w pushes s = broken_at s.link.broken (told_each (with_link w s.link) 0 pushes s.out)
 
 -- what the replies to the setup come to
 abbrev pub judged_by : List Step → Verdict → SetupResult
@@ -157,18 +196,26 @@ set_up_by w link result.RepeatWithoutUser = sets_up w link false
 set_up_by w link (result.Failed e) = opening_failed (acted w act.Close) e
 set_up_by w link result.NoMemory = w
 
-abbrev pub answered_setup : Work → LinkState → Bool → List Settled → Work
-answered_setup w link with_user [] = with_setup w link with_user
-answered_setup w link with_user (s ∷ ss) = set_up_by w link (judged_by (steps_of w.conn with_user) s.verdict)
+-- these pushes are told on a link that is set up, and reach nobody before
+abbrev pub heard_on : Work → List PushAt → Work
+heard_on w pushes = if is_ready w.conn.life then pushed_each w pushes else w
 
--- the setup is answered, if it is, and bytes that begin no value end the link
-abbrev pub read_setup : Work → Bool → Settling → Work
-read_setup w with_user s = broken_at s.link.broken (answered_setup w s.link with_user s.out)
+abbrev pub answered_setup : Work → LinkState → Bool → List PushAt → List Settled → Work
+answered_setup w link with_user pushes [] = with_setup w link with_user
+answered_setup w link with_user pushes (s ∷ ss) = heard_on (set_up_by w link (judged_by (steps_of w.conn with_user) s.verdict)) (behind_first pushes)
+
+-- the setup is answered, if it is, the pushes behind it are told, and bytes that begin no value end the link
+abbrev pub read_setup : Work → Bool → List PushAt → Settling → Work
+read_setup w with_user pushes s = broken_at s.link.broken (answered_setup w s.link with_user pushes s.out)
+
+-- the pushes that come with bytes, where somebody hears them
+abbrev pub heard_in : Work → LinkState → List ℕ → List PushAt
+heard_in w link piece = heard_of w.conn.hears (pushes_came link piece)
 
 abbrev pub read_at : Work → List ℕ → Life → Work
-read_at w piece (Ready link) = read_to w (piece_dealt (record { link = link; out = [] }) piece)
+read_at w piece (Ready link) = read_to w (heard_in w link piece) (piece_dealt (record { link = link; out = [] }) piece)
 read_at w piece Dialing = w
-read_at w piece (SettingUp link with_user) = read_setup w with_user (piece_dealt (record { link = link; out = [] }) piece)
+read_at w piece (SettingUp link with_user) = read_setup w with_user (heard_in w link piece) (piece_dealt (record { link = link; out = [] }) piece)
 read_at w piece (Ended e) = w
 
 -- everything is closed

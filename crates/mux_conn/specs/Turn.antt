@@ -16,12 +16,13 @@ use Rattle.mux_conn.specs.Effects.{applied}
 use Rattle.mux_conn.specs.Passes.{passed}
 
 -- a connection whose connect isn't answered, without requests
-abbrev pub dialing : ℕ → ℕ → Option ℕ → RedisConnectionInfo → MultiplexedConnection
-dialing size boundary limit info = record {
+abbrev pub dialing : ℕ → ℕ → Option ℕ → Bool → RedisConnectionInfo → MultiplexedConnection
+dialing size boundary limit hears info = record {
   size = size;
   boundary = boundary;
   limit = limit;
   free = unwrap_or limit 0;
+  hears = hears;
   info = info;
   life = Dialing;
   requests = [];
@@ -31,6 +32,7 @@ dialing size boundary limit info = record {
   moved = [];
   starts = tt;
   settled = tt;
+  pushes = tt;
   failure = None;
 }
 

@@ -1,5 +1,5 @@
 use containers::Bytes;
-use driver_model::{Outcome, WaitKind};
+use driver_model::{Outcome, PushInfo, WaitKind};
 use redis_error::RedisError;
 
 /// What a connection asks of the outside, or tells it. A request goes by the name that its maker gave it.
@@ -18,6 +18,10 @@ pub enum LinkAct {
     Timer {
         request: u32,
         ms: u64,
+    },
+    /// A push came, or tells that the link has ended.
+    Push {
+        info: PushInfo,
     },
     /// The link ended, or is to be closed.
     Close,

@@ -1,31 +1,25 @@
 ghost use Rattle.std.specs.Prelude.{◌≡◌, ◌≤◌, [], length, OnOk, IfOk};
-ghost use Rattle.std.specs.Prelude.{false};
-ghost use Rattle.connection_setup.specs.Setup.{setup};
-ghost use Rattle.connection_setup.specs.Judgement.{Tells};
-ghost use Rattle.link_core.specs.Link.{piece_dealt, settling_with};
-ghost use Rattle.mux_conn.specs.Effects.{numbers_of, setup_id, judged_by};
+ghost use Rattle.mux_conn.specs.Effects.{numbers_of, setup_id};
 
 use crate::act::LinkAct;
 use crate::connection::MultiplexedConnection;
 use crate::life::Life;
 use crate::request::{Pending, Waiting};
-use connection_info::RedisConnectionInfo;
-use connection_setup::{SetupResult, check_setup};
 use containers::Queue;
-use driver_model::{LinkFault, LinkNews, Outcome, Verdict, says_nothing, setup_bytes, setup_shape};
+use driver_model::{
+    LinkFault, LinkNews, Outcome, PushInfo, says_nothing, setup_bytes, setup_shape,
+};
 use link_core::{LinkCore, Rest, Settled};
 use redis_error::{FaultKind, RedisError};
-use resp_read::ReadError;
 use std::alloc::{AllocError, Global};
 
 impl MultiplexedConnection {
     ghost use Rattle.driver_model.specs.News.{told};
-    ghost use Rattle.mux_conn.specs.Connection.{work_with, acted, is_setting_up};
-    ghost use Rattle.mux_conn.specs.Effects.{made_ready, sets_up, come_up, set_up_by, steps_of};
-    ghost use Rattle.mux_conn.specs.Effects.{all_fresh, answered_setup, read_setup};
-    ghost use Rattle.mux_conn.specs.Effects.{settled_each, failed_each, waiting_failed};
-    ghost use Rattle.mux_conn.specs.Effects.{ended, ended_by, opening_failed, refused_at, overdue_at};
-    ghost use Rattle.mux_conn.specs.Effects.{connected_at, taken_at, read_at, failed_at, shut_at};
+    ghost use Rattle.mux_conn.specs.Connection.{work_with, acted};
+    ghost use Rattle.mux_conn.specs.Effects.{made_ready, sets_up, come_up, all_fresh};
+    ghost use Rattle.mux_conn.specs.Effects.{settled_each, failed_each, waiting_failed, all_answered};
+    ghost use Rattle.mux_conn.specs.Effects.{cut_short, parted, ended, opening_failed, refused_at, overdue_at};
+    ghost use Rattle.mux_conn.specs.Effects.{connected_at, taken_at, failed_at, shut_at};
     ghost use Rattle.mux_conn.specs.Effects.{applied, cancelled_in, left, timed_out};
     ghost use Rattle.mux_conn.specs.Effects.{CanTake, IsWithin};
 
@@ -39,10 +33,27 @@ impl MultiplexedConnection {
         ensures failure { self.new.failure ≡ self.old.failure }
     {
         let mut rest = Rest::of(settled);
+        self.settle_rest(&mut rest, out)?;
+        self.settled.give(rest.into_list());
+        Ok(())
+    }
+
+    /// What is left of what the link has settled is answered, in order.
+    pub(crate) fn settle_rest(
+        &mut self,
+        rest: &mut Rest<Settled>,
+        out: &mut Vec<LinkAct>,
+    ) -> Result<(), AllocError>
+        ensures work { OnOk result (
+            work_with self.new out.new.items
+            ≡ settled_each (work_with self.old out.old.items) rest.old
+            ) }
+        ensures count { length self.new.requests ≡ length self.old.requests }
+        ensures failure { self.new.failure ≡ self.old.failure }
+    {
         while let Some(message) = rest.pop_front() {
             self.answer(message.id, message.verdict.into_outcome(), out)?;
         }
-        self.settled.give(rest.into_list());
         Ok(())
     }
 
@@ -89,6 +100,53 @@ impl MultiplexedConnection {
         self.fail_each(alloc, error, waiting, out)
     }
 
+    /// The link is closed.
+    fn cut_short(&mut self, out: &mut Vec<LinkAct>) -> Result<(), AllocError>
+        ensures work { OnOk result (
+            work_with self.new out.new.items ≡ cut_short (work_with self.old out.old.items)
+            ) }
+        ensures count { length self.new.requests ≡ length self.old.requests }
+        ensures failure { self.new.failure ≡ self.old.failure }
+    {
+        self.life = Life::Ended {
+            error: RedisError::Closed,
+        };
+        out.push(LinkAct::Close)?;
+        Ok(())
+    }
+
+    /// That the link has ended is told as a push, where somebody hears pushes.
+    fn part(&self, alloc: Global, out: &mut Vec<LinkAct>) -> Result<(), AllocError>
+        ensures { OnOk result (
+            work_with self.now out.new.items ≡ parted (work_with self.now out.old.items)
+            ) }
+    {
+        if self.hears {
+            out.push(LinkAct::Push {
+                info: PushInfo::disconnection(alloc),
+            })?;
+        }
+        Ok(())
+    }
+
+    /// What the link has settled is answered, and then what has no place.
+    fn answer_all(
+        &mut self,
+        alloc: Global,
+        settled: Vec<Settled>,
+        out: &mut Vec<LinkAct>,
+    ) -> Result<(), AllocError>
+        ensures work { OnOk result (
+            work_with self.new out.new.items
+            ≡ all_answered (work_with self.old out.old.items) settled.items
+            ) }
+        ensures count { length self.new.requests ≡ length self.old.requests }
+        ensures failure { self.new.failure ≡ self.old.failure }
+    {
+        self.settle(settled, out)?;
+        self.fail_waiting(alloc, &RedisError::Closed, out)
+    }
+
     /// The link ends: it is closed, what it has settled is answered, and then what has no place.
     fn end(
         &mut self,
@@ -103,12 +161,28 @@ impl MultiplexedConnection {
         ensures count { length self.new.requests ≡ length self.old.requests }
         ensures failure { self.new.failure ≡ self.old.failure }
     {
-        self.life = Life::Ended {
-            error: RedisError::Closed,
-        };
-        out.push(LinkAct::Close)?;
-        self.settle(settled, out)?;
-        self.fail_waiting(alloc, &RedisError::Closed, out)
+        self.cut_short(out)?;
+        self.answer_all(alloc, settled, out)
+    }
+
+    /// A link that was set up ends by a fault: it is closed, which is told, what it has settled is answered, and then what has no
+    /// place.
+    fn end_by_fault(
+        &mut self,
+        alloc: Global,
+        settled: Vec<Settled>,
+        out: &mut Vec<LinkAct>,
+    ) -> Result<(), AllocError>
+        ensures work { OnOk result (
+            work_with self.new out.new.items
+            ≡ all_answered (parted (cut_short (work_with self.old out.old.items))) settled.items
+            ) }
+        ensures count { length self.new.requests ≡ length self.old.requests }
+        ensures failure { self.new.failure ≡ self.old.failure }
+    {
+        self.cut_short(out)?;
+        self.part(alloc, out)?;
+        self.answer_all(alloc, settled, out)
     }
 
     /// The opening fails with this error, which is shown, and what has no place is answered.
@@ -133,7 +207,7 @@ impl MultiplexedConnection {
     }
 
     /// The link is closed, and its opening fails with this error.
-    fn close_opening(
+    pub(crate) fn close_opening(
         &mut self,
         alloc: Global,
         error: RedisError,
@@ -197,7 +271,7 @@ impl MultiplexedConnection {
     }
 
     /// This link is set up, which is shown: the waits of all that waited for it are to be shown anew.
-    fn make_ready(
+    pub(crate) fn make_ready(
         &mut self,
         alloc: Global,
         link: LinkCore,
@@ -217,7 +291,12 @@ impl MultiplexedConnection {
     }
 
     /// The setup takes its place on this link, with the user name or without it.
-    fn set_up(&mut self, alloc: Global, link: LinkCore, with_user: bool) -> Result<(), AllocError>
+    pub(crate) fn set_up(
+        &mut self,
+        alloc: Global,
+        link: LinkCore,
+        with_user: bool,
+    ) -> Result<(), AllocError>
         ensures conn { OnOk result (
             self.new ≡ (sets_up (work_with self.old []) link with_user).conn
             ) }
@@ -278,170 +357,8 @@ impl MultiplexedConnection {
         }
     }
 
-    /// The setup came to this verdict: the link is ready, the setup is sent once more without the user name, or the opening
-    /// failed.
-    #[tactic(auto, using(crate::proofs::Judged::ready_by, crate::proofs::Judged::repeated_by, crate::proofs::Judged::failed_by))]
-    fn judge(
-        &mut self,
-        alloc: Global,
-        link: LinkCore,
-        with_user: bool,
-        verdict: Verdict,
-        out: &mut Vec<LinkAct>,
-    ) -> Result<(), AllocError>
-        ensures work { OnOk result (
-            work_with self.new out.new.items
-            ≡ set_up_by (work_with self.old out.old.items) link
-            (judged_by (steps_of self.old with_user) verdict)
-            ) }
-        ensures count { length self.new.requests ≡ length self.old.requests }
-        ensures failure { self.new.failure ≡ self.old.failure }
-    {
-        match judged(alloc, &self.info, with_user, verdict) {
-            SetupResult::Ready => {
-                self.make_ready(alloc, link, out)?;
-                Ok(())
-            }
-            SetupResult::RepeatWithoutUser => {
-                self.set_up(alloc, link, false)?;
-                Ok(())
-            }
-            SetupResult::Failed(error) => {
-                self.close_opening(alloc, error, out)?;
-                Ok(())
-            }
-            SetupResult::NoMemory => Err(AllocError),
-        }
-    }
-
-    /// The setup is answered, if it is.
-    fn answer_setup(
-        &mut self,
-        alloc: Global,
-        link: LinkCore,
-        with_user: bool,
-        settled: Vec<Settled>,
-        out: &mut Vec<LinkAct>,
-    ) -> Result<(), AllocError>
-        ensures work { OnOk result (
-            work_with self.new out.new.items
-            ≡ answered_setup (work_with self.old out.old.items) link with_user settled.items
-            ) }
-        ensures count { length self.new.requests ≡ length self.old.requests }
-        ensures failure { self.new.failure ≡ self.old.failure }
-    {
-        let mut rest = Queue::from_vec(settled);
-        match rest.pop_front() {
-            Some(message) => {
-                self.judge(alloc, link, with_user, message.verdict, out)?;
-                Ok(())
-            }
-            None => {
-                self.life = Life::SettingUp { link, with_user };
-                Ok(())
-            }
-        }
-    }
-
-    /// Bytes came on this link, which is set up: the setup is answered, if it is, and bytes that begin no value end the link.
-    fn read_setup(
-        &mut self,
-        alloc: Global,
-        link: LinkCore,
-        with_user: bool,
-        piece: &[u8],
-        out: &mut Vec<LinkAct>,
-    ) -> Result<(), AllocError>
-        ensures work { OnOk result (
-            work_with self.new out.new.items
-            ≡ read_setup (work_with self.old out.old.items) with_user
-            (piece_dealt (settling_with link []) piece.now)
-            ) }
-        ensures count { length self.new.requests ≡ length self.old.requests }
-        ensures failure { self.new.failure ≡ self.old.failure }
-    {
-        let mut link = link;
-        let mut settled = Vec::new(alloc);
-        let broken = match link.bytes_unheard(alloc, piece, &mut settled) {
-            Ok(()) => false,
-            Err(ReadError::Parse) => true,
-            Err(ReadError::NoMemory) => return Err(AllocError),
-        };
-        self.answer_setup(alloc, link, with_user, settled, out)?;
-        if broken {
-            self.fail(alloc, LinkFault::Parse, out)?;
-        }
-        Ok(())
-    }
-
-    /// Bytes came on a link that isn't set up any more.
-    fn read_ready(
-        &mut self,
-        alloc: Global,
-        piece: &[u8],
-        out: &mut Vec<LinkAct>,
-    ) -> Result<(), AllocError>
-        requires { is_setting_up self.old.life ≡ false }
-        ensures work { OnOk result (
-            work_with self.new out.new.items
-            ≡ read_at (work_with self.old out.old.items) piece.now self.old.life
-            ) }
-        ensures count { length self.new.requests ≡ length self.old.requests }
-        ensures failure { self.new.failure ≡ self.old.failure }
-    {
-        let mut settled = self.settled.take(alloc);
-        let read = match &mut self.life {
-            Life::Ready { link } => link.bytes_unheard(alloc, piece, &mut settled),
-            Life::SettingUp {
-                link: _,
-                with_user: _,
-            } => unreachable!(),
-            Life::Dialing => return Ok(()),
-            Life::Ended { error: _ } => return Ok(()),
-        };
-        let broken = match read {
-            Ok(()) => false,
-            Err(ReadError::Parse) => true,
-            Err(ReadError::NoMemory) => return Err(AllocError),
-        };
-        self.settle(settled, out)?;
-        if broken {
-            self.fail(alloc, LinkFault::Parse, out)?;
-        }
-        Ok(())
-    }
-
-    /// Bytes came: the messages that they fill are answered, and bytes that begin no value end the link.
-    fn read(
-        &mut self,
-        alloc: Global,
-        piece: &[u8],
-        out: &mut Vec<LinkAct>,
-    ) -> Result<(), AllocError>
-        ensures work { OnOk result (
-            work_with self.new out.new.items
-            ≡ read_at (work_with self.old out.old.items) piece.now self.old.life
-            ) }
-        ensures count { length self.new.requests ≡ length self.old.requests }
-        ensures failure { self.new.failure ≡ self.old.failure }
-    {
-        if !self.life.is_setting_up() {
-            return self.read_ready(alloc, piece, out);
-        }
-        let life = std::mem::replace(&mut self.life, Life::Dialing);
-        match life {
-            Life::SettingUp { link, with_user } => {
-                self.read_setup(alloc, link, with_user, piece, out)?;
-                Ok(())
-            }
-            Life::Dialing => unreachable!(),
-            Life::Ready { link: _ } => unreachable!(),
-            Life::Ended { error: _ } => unreachable!(),
-        }
-    }
-
     /// The link ends by a fault, where it is up. Before it is set up its opening fails.
-    fn fail(
+    pub(crate) fn fail(
         &mut self,
         alloc: Global,
         fault: LinkFault,
@@ -467,7 +384,7 @@ impl MultiplexedConnection {
             Life::Dialing => return Ok(()),
             Life::Ended { error: _ } => return Ok(()),
         }
-        self.end(alloc, settled, out)
+        self.end_by_fault(alloc, settled, out)
     }
 
     /// Everything is closed.
@@ -588,21 +505,4 @@ fn setup_id(with_user: bool) -> u64
     ensures { result ≡ setup_id with_user }
 {
     if with_user { 1 << 32 } else { (1 << 32) + 1 }
-}
-
-/// What the verdict on a setup makes of the connection.
-fn judged(
-    alloc: Global,
-    info: &RedisConnectionInfo,
-    with_user: bool,
-    verdict: Verdict,
-) -> SetupResult
-    ensures { Tells (judged_by (setup info.now with_user) verdict) result }
-{
-    match verdict {
-        Verdict::Many(replies) => check_setup(alloc, info, with_user, &replies),
-        Verdict::One(_) => SetupResult::Ready,
-        Verdict::Done => SetupResult::Ready,
-        Verdict::Fault(error) => SetupResult::Failed(error),
-    }
 }

@@ -9,7 +9,7 @@ use crate::request::{Pending, Progress, Request, Waiting};
 use connection_info::RedisConnectionInfo;
 use containers::{Bytes, Queue, Seq};
 use driver_model::{Outcome, Shape};
-use link_core::{Settled, Spare, Started};
+use link_core::{PushAt, Settled, Spare, Started};
 use std::alloc::{AllocError, Global};
 
 /// One multiplexed connection: how many messages the queue of its link holds, and at how many unwritten bytes none starts;
@@ -21,6 +21,8 @@ pub struct MultiplexedConnection {
     /// How many permits there are, if they are counted, and how many of them nobody holds.
     pub limit: Option<u32>,
     pub free: u32,
+    /// Whether somebody hears the pushes that come.
+    pub hears: bool,
     /// What is said to the server before the first request.
     pub info: RedisConnectionInfo,
     pub life: Life,
@@ -29,9 +31,10 @@ pub struct MultiplexedConnection {
     pub admitted: Queue<Waiting>,
     pub fresh: Queue<u32>,
     pub moved: Queue<u32>,
-    /// Room for the lists of a turn: of what starts, and of what the link settles.
+    /// Room for the lists of a turn: of what starts, of what the link settles, and of the pushes that come.
     pub(crate) starts: Spare<Started>,
     pub(crate) settled: Spare<Settled>,
+    pub(crate) pushes: Spare<PushAt>,
     /// Why every call fails, if it does: a call was refused memory, or a number has run out.
     pub failure: Option<ConnectionError>,
 }
@@ -43,6 +46,7 @@ impl Drop for MultiplexedConnection {
             boundary: _,
             limit: _,
             free: _,
+            hears: _,
             info,
             life,
             requests,
@@ -52,6 +56,7 @@ impl Drop for MultiplexedConnection {
             moved,
             starts,
             settled,
+            pushes,
             failure: _,
         } = self;
         drop(info);
@@ -63,6 +68,7 @@ impl Drop for MultiplexedConnection {
         drop(moved);
         drop(starts);
         drop(settled);
+        drop(pushes);
     }
 }
 
@@ -75,22 +81,25 @@ impl MultiplexedConnection {
 
     /// A connection whose connect isn't answered. The queue of its link will hold `size` messages, at least one, and no
     /// message will start on it while `boundary` bytes or more, and at least one, are unwritten. Its requests will hold no
-    /// more than `limit` permits, at least one, and where there is no limit they need none. `info` is what is said to the
-    /// server before the first of them. Takes no memory.
+    /// more than `limit` permits, at least one, and where there is no limit they need none. Where it `hears`, the pushes that
+    /// come are told, and so is an end by a fault. `info` is what is said to the server before the first of them. Takes no
+    /// memory.
     pub fn new(
         alloc: Global,
         size: u32,
         boundary: u64,
         limit: Option<u32>,
+        hears: bool,
         info: RedisConnectionInfo,
     ) -> MultiplexedConnection
-        ensures { result ≡ dialing size boundary limit info }
+        ensures { result ≡ dialing size boundary limit hears info }
     {
         MultiplexedConnection {
             size,
             boundary,
             limit,
             free: limit.unwrap_or(0),
+            hears,
             info,
             life: Life::Dialing,
             requests: Seq::new(alloc),
@@ -100,6 +109,7 @@ impl MultiplexedConnection {
             moved: Queue::new(alloc),
             starts: Spare::new(alloc),
             settled: Spare::new(alloc),
+            pushes: Spare::new(alloc),
             failure: None,
         }
     }

@@ -10,6 +10,7 @@ mod errors;
 mod flush;
 mod internal;
 mod life;
+mod reading;
 mod request;
 mod step;
 

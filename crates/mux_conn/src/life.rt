@@ -18,7 +18,8 @@ pub enum Life {
 
 impl Life {
     ghost use Rattle.std.specs.Prelude.{◌≡◌};
-    ghost use Rattle.mux_conn.specs.Connection.{awaits_connect, is_setting_up, admits_none_at, has_room};
+    ghost use Rattle.mux_conn.specs.Connection.{awaits_connect, is_setting_up, is_ready, admits_none_at};
+    ghost use Rattle.mux_conn.specs.Connection.{has_room};
     ghost use Rattle.mux_conn.specs.Connection.{first_queued};
     ghost use Rattle.mux_conn.specs.Turn.{early_wait};
 
@@ -48,6 +49,21 @@ impl Life {
                 with_user: _,
             } => true,
             Life::Ready { link: _ } => false,
+            Life::Ended { error: _ } => false,
+        }
+    }
+
+    /// Whether it is up and set up.
+    pub fn is_ready(&self) -> bool
+        ensures { result ≡ is_ready self.now }
+    {
+        match self {
+            Life::Dialing => false,
+            Life::SettingUp {
+                link: _,
+                with_user: _,
+            } => false,
+            Life::Ready { link: _ } => true,
             Life::Ended { error: _ } => false,
         }
     }

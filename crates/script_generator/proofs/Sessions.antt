@@ -27,6 +27,7 @@ connection_with info life requests waiting fresh moved = record {
   boundary = 8192;
   limit = None;
   free = 0;
+  hears = false;
   info = info;
   life = life;
   requests = requests;
@@ -36,6 +37,7 @@ connection_with info life requests waiting fresh moved = record {
   moved = moved;
   starts = tt;
   settled = tt;
+  pushes = tt;
   failure = None;
 }
 

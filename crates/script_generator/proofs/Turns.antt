@@ -109,7 +109,7 @@ answer_turn info turns k n table rs =
     let over : Work → Turning = λ v. timed (moved_on (turning_with (session_with (turns + 1) table v.conn) v.acts)) in
     let done : List Request → Option Request → ℕ → Turning =
     λ requests o name. over (work_with (record (still info (Ready (link_with [] k no_bytes)) requests) { free = min 0 (0 + permits_or_none o) }) (act.Outcome name answer ∷ [])) in
-    ap (λ s. over (read_to w s)) (dealt p k true)
+    ap (λ s. over (read_to w [] s)) (dealt p k true)
     ∙ ap (λ o. over (if if_there is_open o then acted (work_with (closed bare p) []) (act.Outcome (name_at placed p) answer) else work_with bare [])) (get_last rs (come_to n progress.Placed))
     ∙ (λ i. done (permits_last rs n progress.Placed progress.Closed i) (get_last rs (come_to n progress.Placed) i) (name_last rs n progress.Placed i))
 
@@ -120,7 +120,7 @@ unfolding next_turn
 unheard_turn info turns k p table rs =
     let w = work_with (still info (Ready (link_with (entry p false ∷ []) k no_bytes)) rs) [] in
     let over : Work → Turning = λ v. timed (moved_on (turning_with (session_with (turns + 1) table v.conn) v.acts)) in
-    ap (λ s. over (read_to w s)) (dealt p k false)
+    ap (λ s. over (read_to w [] s)) (dealt p k false)
 
 -- everything is closed
 abbrev pub shut : RedisConnectionInfo → ℕ → List (Option Pending) → List Request → Core

@@ -18,6 +18,7 @@ pub fn generated_config(alloc: Global) -> Result<Config, AllocError>
         limit: None,
         buffer: None,
         boundary: None,
+        push: None,
         lib: Some(false),
     })
 }

@@ -33,7 +33,7 @@ only _ = None
 
 -- the keys of one connection
 abbrev pub keys : List (List ℕ)
-keys = codes "url" ∷ codes "connect" ∷ codes "response" ∷ codes "buffer" ∷ codes "limit" ∷ codes "boundary" ∷ codes "lib" ∷ []
+keys = codes "url" ∷ codes "connect" ∷ codes "response" ∷ codes "buffer" ∷ codes "limit" ∷ codes "boundary" ∷ codes "push" ∷ codes "lib" ∷ []
 
 -- these values of a key are none, or one alone that can be read
 abbrev pub allows : {A : Type 0} → (List ℕ → Option A) → List (List ℕ) → Bool
@@ -61,9 +61,13 @@ allows_numbers words = allows (number max_u32) (values (codes "limit") words) &&
 abbrev pub allows_optional : List (List ℕ) → Bool
 allows_optional words = allows_times words && allows_numbers words
 
+-- what is given of what is on or off can be read
+abbrev pub allows_switches : List (List ℕ) → Bool
+allows_switches words = allows switch (values (codes "push") words) && allows switch (values (codes "lib") words)
+
 -- all settings but the URL, each of which may be left out, are, or can be read
 abbrev pub are_allowed : List (List ℕ) → Bool
-are_allowed words = allows_optional words && allows switch (values (codes "lib") words)
+are_allowed words = allows_optional words && allows_switches words
 
 -- the configuration with this URL, and with what words give it beside that
 abbrev pub config_with : List (List ℕ) → List ℕ → Config
@@ -74,6 +78,7 @@ config_with words url = record {
   limit = given (number max_u32) (values (codes "limit") words);
   buffer = given (number max_u32) (values (codes "buffer") words);
   boundary = given (number max_u64) (values (codes "boundary") words);
+  push = given switch (values (codes "push") words);
   lib = given switch (values (codes "lib") words);
 }
 

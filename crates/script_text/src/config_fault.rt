@@ -2,13 +2,13 @@ ghost use Rattle.std.specs.Prelude.{◌≡◌, not, is_some, is_none, codes};
 ghost use Rattle.std.specs.List.{list_all};
 ghost use Rattle.script_text.specs.ConfigLine.{keys, is_setting, values, only};
 ghost use Rattle.script_text.specs.ConfigLine.{allows, allows_times, allows_queue};
-ghost use Rattle.script_text.specs.ConfigLine.{allows_numbers, allows_optional, are_allowed};
+ghost use Rattle.script_text.specs.ConfigLine.{allows_numbers, allows_optional, allows_switches, are_allowed};
 ghost use Rattle.script_text.specs.ConfigLine.{single, config_of, opening_of};
 ghost use Rattle.script_text.specs.Faults.{FindsFault, values_reason};
 ghost use Rattle.script_text.specs.Numbers.{number, max_u32, max_u64, time_limit, switch};
 
 use crate::config_line::{
-    allows_large_number, allows_lib, allows_number, allows_time, has_value, is_known_setting,
+    allows_large_number, allows_number, allows_switch, allows_time, has_value, is_known_setting,
     only_value, value,
 };
 use crate::draw::{draw_fault, drawn, fault_behind};
@@ -76,14 +76,14 @@ fn values_fault(words: &[Word<'_>], key: &[u8], wrong: Reason) -> Fault
     }
 }
 
-/// What is wrong with what is said of the library.
-fn lib_fault(words: &[Word<'_>]) -> Option<Fault>
-    ensures { is_some result ≡ not (allows switch (values (codes "lib") words.now)) }
+/// What is wrong with what is on or off.
+fn switch_fault(words: &[Word<'_>], key: &[u8], reason: ConfigReason) -> Option<Fault>
+    ensures { is_some result ≡ not (allows switch (values key.now words.now)) }
 {
-    if allows_lib(words) {
+    if allows_switch(words, key) {
         return None;
     }
-    Some(values_fault(words, b"lib", Reason::Config(ConfigReason::OnOrOff)))
+    Some(values_fault(words, key, Reason::Config(reason)))
 }
 
 /// What is wrong with the time of a key.
@@ -158,6 +158,16 @@ fn optional_fault(words: &[Word<'_>]) -> Option<Fault>
     numbers_fault(words)
 }
 
+/// What is wrong with what is given of what is on or off.
+fn switches_fault(words: &[Word<'_>]) -> Option<Fault>
+    ensures { is_some result ≡ not (allows_switches words.now) }
+{
+    if let Some(fault) = switch_fault(words, b"push", ConfigReason::Push) {
+        return Some(fault);
+    }
+    switch_fault(words, b"lib", ConfigReason::Library)
+}
+
 /// What is wrong with a setting other than the URL.
 #[tactic(auto, using(crate::proofs::Values::first_fails, crate::proofs::Values::second_tells))]
 fn allowed_fault(words: &[Word<'_>]) -> Option<Fault>
@@ -166,7 +176,7 @@ fn allowed_fault(words: &[Word<'_>]) -> Option<Fault>
     if let Some(fault) = optional_fault(words) {
         return Some(fault);
     }
-    lib_fault(words)
+    switches_fault(words)
 }
 
 /// What is wrong with the URL: that it doesn't stand just once. Whether it is an address is no matter of the script.

@@ -1,9 +1,8 @@
 ghost use Rattle.std.specs.Prelude.{◌≡◌, ◌==◌, not, length, MatchOption, Some, None, IfOk};
-ghost use Rattle.std.specs.Prelude.{codes};
 ghost use Rattle.std.specs.List.{list_all};
 ghost use Rattle.script_text.specs.ConfigLine.{keys, is_setting, value_of, values, only};
 ghost use Rattle.script_text.specs.ConfigLine.{allows, given, allows_times, allows_queue};
-ghost use Rattle.script_text.specs.ConfigLine.{allows_numbers, allows_optional, are_allowed};
+ghost use Rattle.script_text.specs.ConfigLine.{allows_numbers, allows_optional, allows_switches, are_allowed};
 ghost use Rattle.script_text.specs.ConfigLine.{config_with, single, config_of, opening_of};
 ghost use Rattle.script_text.specs.Numbers.{number, max_u32, max_u64, time_limit, switch};
 
@@ -28,6 +27,7 @@ pub fn is_known_setting(word: &[u8]) -> bool
             || key == b"buffer".as_slice()
             || key == b"limit".as_slice()
             || key == b"boundary".as_slice()
+            || key == b"push".as_slice()
             || key == b"lib".as_slice(),
     }
 }
@@ -104,11 +104,11 @@ fn large_number_of(words: &[Word<'_>], key: &[u8]) -> Option<u64>
     number_u64(only_value(words, key)?)
 }
 
-/// Whether the server is told which library speaks, where words say so once.
-fn lib_of(words: &[Word<'_>]) -> Option<bool>
-    ensures { result ≡ given switch (values (codes "lib") words.now) }
+/// Whether what the key names is on, where words say so once.
+fn switch_of(words: &[Word<'_>], key: &[u8]) -> Option<bool>
+    ensures { result ≡ given switch (values key.now words.now) }
 {
-    switch(only_value(words, b"lib")?)
+    switch(only_value(words, key)?)
 }
 
 /// Whether words leave the time of the key open, or give it once.
@@ -144,14 +144,14 @@ pub fn allows_large_number(words: &[Word<'_>], key: &[u8]) -> bool
     }
 }
 
-/// Whether words leave open whether the server is told which library speaks, or say it once.
+/// Whether words leave open whether what the key names is on, or say it once.
 #[tactic(auto, using(crate::proofs::Values::allowed_once, crate::proofs::Values::allowed_never))]
-pub fn allows_lib(words: &[Word<'_>]) -> bool
-    ensures { result ≡ allows switch (values (codes "lib") words.now) }
+pub fn allows_switch(words: &[Word<'_>], key: &[u8]) -> bool
+    ensures { result ≡ allows switch (values key.now words.now) }
 {
-    match only_value(words, b"lib") {
+    match only_value(words, key) {
         Some(value) => switch(value).is_some(),
-        None => !has_value(words, b"lib"),
+        None => !has_value(words, key),
     }
 }
 
@@ -183,11 +183,18 @@ fn allows_optional(words: &[Word<'_>]) -> bool
     allows_times(words) && allows_numbers(words)
 }
 
+/// Whether words leave open what is on, or say it of each once.
+fn allows_switches(words: &[Word<'_>]) -> bool
+    ensures { result ≡ allows_switches words.now }
+{
+    allows_switch(words, b"push") && allows_switch(words, b"lib")
+}
+
 /// Whether all settings but the URL are allowed.
 fn are_allowed(words: &[Word<'_>]) -> bool
     ensures { result ≡ are_allowed words.now }
 {
-    allows_optional(words) && allows_lib(words)
+    allows_optional(words) && allows_switches(words)
 }
 
 /// The configuration with this URL, and with what words give it beside that.
@@ -201,7 +208,8 @@ fn config_with(words: &[Word<'_>], url: Bytes) -> Config
         limit: number_of(words, b"limit"),
         buffer: number_of(words, b"buffer"),
         boundary: large_number_of(words, b"boundary"),
-        lib: lib_of(words),
+        push: switch_of(words, b"push"),
+        lib: switch_of(words, b"lib"),
     }
 }
 

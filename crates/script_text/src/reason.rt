@@ -62,8 +62,10 @@ pub enum ConfigReason {
     Limit,
     /// The boundary: no number of 64 bits.
     Boundary,
+    /// Whether somebody hears pushes: neither `on` nor `off`.
+    Push,
     /// Whether the library is named: neither `on` nor `off`.
-    OnOrOff,
+    Library,
 }
 
 /// Why the words of a line are no event.
@@ -150,14 +152,14 @@ impl ConfigReason {
     fn sentence(self) -> &'static [u8] {
         match self {
             ConfigReason::Name => {
-                b"the first line is config single url=URL, with connect=MS, response=MS (MS or none), buffer=COUNT, limit=COUNT, boundary=BYTES and lib=on or lib=off where wanted"
+                b"the first line is config single url=URL, with connect=MS, response=MS (MS or none), buffer=COUNT, limit=COUNT, boundary=BYTES, push=on or push=off, and lib=on or lib=off where wanted"
             }
             ConfigReason::Kind => b"only single is supported yet",
             ConfigReason::Setting => {
-                b"a setting is KEY=VALUE, with url, connect, response, buffer, limit, boundary or lib"
+                b"a setting is KEY=VALUE, with url, connect, response, buffer, limit, boundary, push or lib"
             }
             ConfigReason::UnknownKey => {
-                b"the keys are url, connect, response, buffer, limit, boundary and lib"
+                b"the keys are url, connect, response, buffer, limit, boundary, push and lib"
             }
             ConfigReason::KeyTwice => b"each key stands once",
             ConfigReason::NoKey => b"url stands once",
@@ -176,7 +178,8 @@ impl ConfigReason {
             ConfigReason::Boundary => {
                 b"boundary is a number of bytes, digits alone without a leading zero, at most 18446744073709551615"
             }
-            ConfigReason::OnOrOff => b"lib is on or off",
+            ConfigReason::Push => b"push is on or off",
+            ConfigReason::Library => b"lib is on or off",
         }
     }
 }

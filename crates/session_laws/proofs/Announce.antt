@@ -23,12 +23,12 @@ use Rattle.mux_conn.specs.declared.life.Life.TheVariants.{Dialing, SettingUp, Re
 use Rattle.mux_conn.specs.declared.request.Request.{Request}
 use Rattle.shared_session.specs.declared.core_state.Core.{Core}
 use Rattle.shared_session.specs.Turn.{is_shutdown, shut_by, exceeds_offer, is_no_link, is_bad}
-use Rattle.legal_trace.specs.Ledger.{Ledger, Start, setup_count, hears, noted, is_over, bytes_came, dials, refused_in}
+use Rattle.legal_trace.specs.Ledger.{Ledger, Start, setup_count, hears, noted, is_over, bytes_came, dials, refused_in, Heard}
 use Rattle.legal_trace.specs.Story.{Story, fires}
 use Rattle.legal_trace.specs.Book.{Book, book, entered, is_clock_of}
 use Rattle.legal_trace.specs.Events.{is_bad_event}
-use Rattle.legal_trace.specs.Legal.{MayTurn}
-use Rattle.session_laws.proofs.Tied.{AreAimed, IsAim, owners_of, owners_each, setup_owners, Inner, inner, link_in, carried, whole_link, IsUnknown, TiedLife, TiedSetup, TiedTries, TiedLines, AreQueued, TiedWaits, Tied, Sound, no_opening, has_ended}
+use Rattle.legal_trace.specs.Legal.{MayTurn, is_heard}
+use Rattle.session_laws.proofs.Tied.{AreAimed, IsAim, owners_of, owners_each, setup_owners, Inner, inner, link_in, carried, whole_link, IsUnknown, TiedLife, TiedSetup, TiedTries, TiedLines, AreQueued, TiedWaits, Tied, Sound, no_opening, has_ended, TiedPushes}
 use Rattle.session_laws.proofs.States.{Between}
 use Rattle.session_laws.proofs.Entered.{book_more, sound_more}
 use Rattle.session_laws.proofs.Answer.{some_end}
@@ -120,8 +120,8 @@ elsewhere c m event.Shutdown only aims good other = inr refl
 
 -- and stay unknown
 unknown_heard : (l : Ledger) (turn : ℕ) (n : News) → (n ≡ silence) ⊎ (n ≡ shut) → IsUnknown l → IsUnknown (noted l (hears turn n))
-unknown_heard l turn n (inl e) h = subst (λ (x : News). IsUnknown (noted l (hears turn x))) (sym e) (record { asked = h.asked; up = h.up; end = h.end; starts = h.starts })
-unknown_heard l turn n (inr e) h = subst (λ (x : News). IsUnknown (noted l (hears turn x))) (sym e) (record { asked = h.asked; up = h.up; end = h.end; starts = h.starts })
+unknown_heard l turn n (inl e) h = subst (λ (x : News). IsUnknown (noted l (hears turn x))) (sym e) (record { asked = h.asked; up = h.up; end = h.end; starts = h.starts; pushes = h.pushes })
+unknown_heard l turn n (inr e) h = subst (λ (x : News). IsUnknown (noted l (hears turn x))) (sym e) (record { asked = h.asked; up = h.up; end = h.end; starts = h.starts; pushes = h.pushes })
 
 -- so all other links stay unknown
 pub others_heard : (b : Book) (c : Core) (started : List ℕ) (kind : EventKind) → Tied b (inner c started) → is_bad c kind ≡ false → (m : ℕ) → m ≢ c.single.link → IsUnknown (noted (b.link m) (hears c.turns (news_of b.timers m kind)))
@@ -222,14 +222,14 @@ aims_longer timers link count more l h k what e = by_purpose what (h k what e)
     by_purpose (purpose.Response (owner.Try n round)) is = (let less = is.0 in omega arith, is.1)
 
 -- the session tied to a book with these ledgers, by what its link has come to there; the creation may be shown with it
-pub heard_tied_by : (b : Book) (c : Core) (started : List ℕ) (word created : ℕ) (kind : EventKind) (life : Life) (fresh pending : List ℕ) (links : ℕ → Ledger) (l : Ledger) → Tied b (inner c started) → ((m : ℕ) → m ≢ c.single.link → IsUnknown (links m)) → links c.single.link ≡ l
+pub heard_tied_by : (b : Book) (c : Core) (started : List ℕ) (word created : ℕ) (kind : EventKind) (life : Life) (fresh pending : List ℕ) (untold : List Heard) (links : ℕ → Ledger) (l : Ledger) → Tied b (inner c started) → ((m : ℕ) → m ≢ c.single.link → IsUnknown (links m)) → links c.single.link ≡ l
     → l.starts ≡ (b.link c.single.link).starts → TiedLife l created life → TiedSetup l c.single.connection.info started life → (has_ended life ≡ false → TiedLink (carried life c.single.connection.requests) l (whole_link life))
     → TiedLines b.story c.single.connection.requests (link_in life) c.single.connection.waiting c.single.connection.admitted pending started → (has_ended life ≡ false → AreQueued b.story c.single.connection.requests (link_in life))
-    → TiedWaits b.story c.single.connection.requests life fresh c.single.connection.moved
-    → Tied (record (heard_book b c.turns word kind) { created = created; link = links }) (seen (turned c kind) [] (record c.single.connection { life = life; fresh = fresh }) pending started)
-heard_tied_by b c started word created kind life fresh pending links l h others is same lived said linked lines told waits =
+    → TiedWaits b.story c.single.connection.requests life fresh c.single.connection.moved → TiedPushes (is_heard b) c.single.connection.hears l.pushes l.told l.end l.parted untold false
+    → Tied (record (heard_book b c.turns word kind) { created = created; link = links }) (record (seen (turned c kind) [] (record c.single.connection { life = life; fresh = fresh }) pending started) { untold = untold })
+heard_tied_by b c started word created kind life fresh pending untold links l h others is same lived said linked lines told waits pushed =
     let after = record (heard_book b c.turns word kind) { created = created; link = links } in
-    let t = seen (turned c kind) [] (record c.single.connection { life = life; fresh = fresh }) pending started in
+    let t = record (seen (turned c kind) [] (record c.single.connection { life = life; fresh = fresh }) pending started) { untold = untold } in
     tied_by after t l is (record {
       numbers = record {
         turns = ap (λ n. n + 1) h.numbers.turns;
@@ -245,6 +245,7 @@ heard_tied_by b c started word created kind life fresh pending links l h others 
         only = h.numbers.only;
       };
       others = others;
+      pushes = pushed;
       life = lived;
       setup = said;
       link = linked;
@@ -259,13 +260,13 @@ heard_tied_by b c started word created kind life fresh pending links l h others 
     })
 
 -- by what its link hears
-pub heard_tied : (b : Book) (c : Core) (started : List ℕ) (word created : ℕ) (kind : EventKind) (life : Life) (fresh pending : List ℕ) (l : Ledger) → Tied b (inner c started) → is_bad c kind ≡ false → noted (b.link c.single.link) (hears c.turns (news_of b.timers c.single.link kind)) ≡ l
+pub heard_tied : (b : Book) (c : Core) (started : List ℕ) (word created : ℕ) (kind : EventKind) (life : Life) (fresh pending : List ℕ) (untold : List Heard) (l : Ledger) → Tied b (inner c started) → is_bad c kind ≡ false → noted (b.link c.single.link) (hears c.turns (news_of b.timers c.single.link kind)) ≡ l
     → l.starts ≡ (b.link c.single.link).starts → TiedLife l created life → TiedSetup l c.single.connection.info started life → (has_ended life ≡ false → TiedLink (carried life c.single.connection.requests) l (whole_link life))
     → TiedLines b.story c.single.connection.requests (link_in life) c.single.connection.waiting c.single.connection.admitted pending started → (has_ended life ≡ false → AreQueued b.story c.single.connection.requests (link_in life))
-    → TiedWaits b.story c.single.connection.requests life fresh c.single.connection.moved
-    → Tied (record (heard_book b c.turns word kind) { created = created }) (seen (turned c kind) [] (record c.single.connection { life = life; fresh = fresh }) pending started)
-heard_tied b c started word created kind life fresh pending l h good is same lived said linked lines told waits =
-    heard_tied_by b c started word created kind life fresh pending (heard_book b c.turns word kind).link l h (others_heard b c started kind h good) is same lived said linked lines told waits
+    → TiedWaits b.story c.single.connection.requests life fresh c.single.connection.moved → TiedPushes (is_heard b) c.single.connection.hears l.pushes l.told l.end l.parted untold false
+    → Tied (record (heard_book b c.turns word kind) { created = created }) (record (seen (turned c kind) [] (record c.single.connection { life = life; fresh = fresh }) pending started) { untold = untold })
+heard_tied b c started word created kind life fresh pending untold l h good is same lived said linked lines told waits pushed =
+    heard_tied_by b c started word created kind life fresh pending untold (heard_book b c.turns word kind).link l h (others_heard b c started kind h good) is same lived said linked lines told waits pushed
 
 -- the trace begins
 --

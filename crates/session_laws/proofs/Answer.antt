@@ -18,11 +18,11 @@ use Rattle.mux_conn.specs.declared.request.Progress.TheVariants as progress
 use Rattle.mux_conn.specs.declared.request.Request.{Request}
 use Rattle.mux_conn.specs.declared.request.Waiting.{Waiting}
 use Rattle.mux_conn.specs.Requests.{is_open as is_open_progress, is_placed, is_open_at, name_at, permits_at, with_permits, given_back}
-use Rattle.legal_trace.specs.Ledger.{End, ending_alive, ending_asked, Ledger, is_over, ending}
+use Rattle.legal_trace.specs.Ledger.{End, Heard, ending_alive, ending_asked, Ledger, is_over, ending, next_push}
 use Rattle.legal_trace.specs.Story.{Story, Try, last_of, is_no_error, is_open, packed_in, shape_in, bytes_of, answered}
 use Rattle.legal_trace.specs.Book.{Book, entered}
 use Rattle.legal_trace.specs.Owed.{owed, owed_to_try, owed_to_message, owed_unstarted, unstarted_error}
-use Rattle.legal_trace.specs.Legal.{NoneEnds, VerdictsAreShown, MayAnswer, FailuresAreShown}
+use Rattle.legal_trace.specs.Legal.{NoneEnds, VerdictsAreShown, MayAnswer, FailuresAreShown, EndsAreTold, IsBefore, is_heard}
 use Rattle.session_laws.proofs.Numbers.{IsIn, in_either, in_right, in_left, Rising, rising_in}
 use Rattle.session_laws.proofs.Tied.{Inner, link_in, queue_ids, IsUnknown, TiedLife, TiedNames, IsEntry, AreQueued, TiedLines, Tied, relined, has_ended, numbers_kept}
 use Rattle.session_laws.proofs.Said.{carried_tied}
@@ -31,7 +31,7 @@ use Rattle.session_laws.proofs.InLine.{kept_ids, line_of, IsInLine, awaited_in, 
 use Rattle.session_laws.proofs.Behind.{open_unanswered, told_answered}
 use Rattle.session_laws.proofs.Closing.{Closes, closed_other, late_closed, with_closed, story_closed, tries_closed, packs_closed, queue_closed, waits_closed, kept_other, IsUntried, told_closed}
 use Rattle.session_laws.proofs.Permits.{permits_closed}
-use Rattle.session_laws.proofs.Owes.{request_story, open_request, answered_closed, failures_shown}
+use Rattle.session_laws.proofs.Owes.{request_story, open_request, answered_closed, ends_told, failures_shown, pushes_told}
 
 -- where it may stand
 --
@@ -39,8 +39,9 @@ use Rattle.session_laws.proofs.Owes.{request_story, open_request, answered_close
 -- due before
 pub may_answer : (b : Book) (t : Inner) (p : ℕ) (o : Outcome) → Tied b t → is_open_at t.requests p ≡ true → owed b (name_at t.requests p) ≡ Some o
     → ((q : ℕ) → q < p → is_open_at t.requests q ≡ true → owed b (name_at t.requests q) ≡ None)
-    → (is_over (b.link t.link) ≡ true → NoneEnds b × VerdictsAreShown b × FailuresAreShown b) → MayAnswer b (name_at t.requests p) o
-may_answer b t p o h e owes before after =
+    → (is_heard b ≡ true → (push : Heard) → next_push (b.link t.link) ≡ Some push → IsBefore b (name_at t.requests p) push)
+    → (is_over (b.link t.link) ≡ true → NoneEnds b × VerdictsAreShown b × FailuresAreShown b × EndsAreTold b) → MayAnswer b (name_at t.requests p) o
+may_answer b t p o h e owes before pushed after =
     let l = open_within t.requests p e in
     let r = request_story b t p h l in
     record {
@@ -50,6 +51,7 @@ may_answer b t p o h e owes before after =
           let q = open_request b t m h asked in
           let k = open_within t.requests q.number q.open_at in
           ap (owed b) (sym q.named) ∙ before q.number (earlier_name t.table t.requests q.number p h.names k l (subst (λ n. n < name_at t.requests p) (sym q.named) less)) q.open_at;
+      after_pushes = λ heard push next. pushed heard push (subst (λ n. next_push (b.link n) ≡ Some push) r.on next);
       after_closes = λ over. after (subst (λ n. is_over (b.link n) ≡ true) r.on over);
     }
 
@@ -101,6 +103,18 @@ after_end b t h over = (
       absurd (not_both (is_over (b.link t.link)) (subst (λ m. is_over (b.link m) ≡ false) on alive) (ended_over (b.link t.link) b.created t.life over h.life))),
   failures_shown b t h,
 )
+
+-- all that is told of the ends
+pub after_closes : (b : Book) (t : Inner) → Tied b t → t.parting ≡ false → has_ended t.life ≡ true → NoneEnds b × VerdictsAreShown b × FailuresAreShown b × EndsAreTold b
+after_closes b t h done over = let a = after_end b t h over in (a.0, a.1, a.2, ends_told b t h done)
+
+-- none is not some
+pub no_push : (x : Option Heard) (y : Heard) → x ≡ None → x ≡ Some y → ⊥
+no_push x y e f = let no : ◌≡◌ {A = Option Heard} None (Some y) = sym e ∙ f in cc
+
+-- where no push is still to be told none is
+pub none_before : (b : Book) (t : Inner) (n : ℕ) → Tied b t → t.untold ≡ [] → is_heard b ≡ true → (push : Heard) → next_push (b.link t.link) ≡ Some push → IsBefore b n push
+none_before b t n h none heard push next = absurd (no_push (next_push (b.link t.link)) push (pushes_told b t h none t.link heard) next)
 
 -- what it leaves
 --
@@ -205,6 +219,7 @@ answer_apart b t p pending o l apart told h =
     record {
       numbers = numbers_kept b b.link (entered b (action.Outcome n o)).story now t.life (given_back t.limit t.free (permits_at t.requests p)) (with_permits t.requests p progress.Closed 0) t.waiting t.admitted t.fresh t.moved t.letting pending t.started h.numbers;
       others = h.others;
+      pushes = h.pushes;
       life = h.life;
       setup = h.setup;
       link = λ up. carried_tied t.life t.requests (with_permits t.requests p progress.Closed 0) (b.link t.link) (sym (owners_with t.requests p progress.Closed 0)) (h.link up);

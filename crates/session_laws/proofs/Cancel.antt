@@ -364,7 +364,7 @@ silent_numbers b c started word kind timeout story free life requests pending q 
 
 -- all other links stay unknown
 pub silent_others : (b : Book) (c : Core) (kind : EventKind) (timeout : Option ℕ) (m : ℕ) → IsSilent b c kind timeout → IsUnknown (b.link m) → IsUnknown (noted (b.link m) (hears c.turns (news_of b.timers m kind)))
-silent_others b c kind timeout m q u = subst (λ (x : News). IsUnknown (noted (b.link m) (hears c.turns x))) (sym (q.silent m)) (record { asked = u.asked; up = u.up; end = u.end; starts = u.starts })
+silent_others b c kind timeout m q u = subst (λ (x : News). IsUnknown (noted (b.link m) (hears c.turns x))) (sym (q.silent m)) (record { asked = u.asked; up = u.up; end = u.end; starts = u.starts; pushes = u.pushes })
 
 -- no link must end
 pub silent_ends : (b : Book) (c : Core) (kind : EventKind) (timeout : Option ℕ) → IsSilent b c kind timeout → NoneEnds b → (m : ℕ) → ending (noted (b.link m) (hears c.turns (news_of b.timers m kind))) ≡ None
@@ -384,6 +384,7 @@ still_tied b c started word kind timeout q same h =
     (tied_by (record now { story = b.story }) t (record ledger { heard = silence }) heard (record {
       numbers = silent_numbers b c started word kind timeout b.story conn.free conn.life conn.requests [] q h;
       others = λ m other. silent_others b c kind timeout m q (h.others m other);
+      pushes = h.pushes;
       life = told_life ledger b.created conn.life silence h.life;
       setup = setup_on ledger ledger.asked ledger.up ledger.end ledger.taken ledger.offer ledger.rest silence conn.info started conn.life h.setup;
       link = λ alive. told_tied (carried conn.life conn.requests) ledger (whole_link conn.life) ledger.asked ledger.up silence (h.link alive);
@@ -422,7 +423,8 @@ gone_tied b c started word p n h o named =
     subst (λ m. Tied (entered b (turn_of c word (event.Cancel m))) (seen (turned c (event.Cancel m)) [] (record (closed_conn conn p) { life = cancelled_in conn.life p }) [] started)) named
     (record {
       numbers = silent_numbers b c started word (event.Cancel own) c.timeout after free (cancelled_in conn.life p) requests [] (leave_silent b c word own started h) h;
-      others = λ m other. let u = h.others m other in record { asked = u.asked; up = u.up; end = u.end; starts = u.starts };
+      others = λ m other. let u = h.others m other in record { asked = u.asked; up = u.up; end = u.end; starts = u.starts; pushes = u.pushes };
+      pushes = h.pushes;
       life = left_life ledger b.created conn.life p h.life;
       setup = left_setup ledger conn.info started conn.life p h.setup;
       link = λ alive. left_link requests ledger conn.life p (λ up. carried_tied conn.life conn.requests requests ledger (sym (owners_with conn.requests p progress.Closed 0)) (h.link up)) alive;

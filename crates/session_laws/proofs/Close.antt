@@ -22,34 +22,40 @@ use Rattle.mux_conn.specs.declared.request.Request.{Request}
 use Rattle.mux_conn.specs.declared.request.Waiting.{Waiting}
 use Rattle.mux_conn.specs.Connection.{Work, acted, at_life}
 use Rattle.mux_conn.specs.Requests.{is_open_at, name_at}
-use Rattle.mux_conn.specs.Effects.{waiting_failed, nobody_waits, failed_each, settled_each, ended}
+use Rattle.mux_conn.specs.Effects.{waiting_failed, nobody_waits, failed_each, settled_each, ended, all_answered, cut_short, parted, pushed}
 use Rattle.shared_session.specs.declared.core_state.Core.{Core}
 use Rattle.shared_session.specs.Turn.{with_work}
-use Rattle.legal_trace.specs.Ledger.{Ledger, Ending, ends, noted, ending, ending_or_shutdown, failure_of}
+use Rattle.legal_trace.specs.Ledger.{Ledger, Ending, ends, noted, ending, ending_or_shutdown, failure_of, is_fault, is_cut, parts, by_fault}
 use Rattle.legal_trace.specs.Story.{Story}
 use Rattle.legal_trace.specs.Book.{Book, book, entered}
 use Rattle.legal_trace.specs.Owed.{owed, owed_unstarted, unstarted_error}
-use Rattle.legal_trace.specs.Legal.{MayClose}
+use Rattle.legal_trace.specs.Legal.{MayClose, MayPart}
 use Rattle.session_laws.proofs.Numbers.{IsIn, in_left, in_right, Rising, rising_in, rising_within, rising_right, rising_tail}
 use Rattle.session_laws.proofs.Tied.{Inner, no_link, link_in, owner_of, queue_ids, waiting_ids, IsKept, TiedLines, TiedWaits, Tied, relined, FailureIsShown, TiedLife, has_ended}
 use Rattle.session_laws.proofs.Said.{ready_shown}
 use Rattle.session_laws.proofs.States.{HasApplied}
 use Rattle.session_laws.proofs.InLine.{kept_ids, kept_in, line_of, IsInLine, awaited_rises}
-use Rattle.session_laws.proofs.Owes.{in_time, none_owed, in_line, later_unstarted, owed_none_started, settled_owed}
+use Rattle.session_laws.proofs.Owes.{in_time, none_owed, in_line, later_unstarted, owed_none_started, settled_owed, pushes_told, lives}
 use Rattle.session_laws.proofs.Kept.{mine_noted, others_kept, tied_by}
 use Rattle.session_laws.proofs.Answer.{unknown_ends, after_end}
-use Rattle.session_laws.proofs.Settle.{book_of_more, seen, trace_of_acts, Holds, holds_more, IsAnswering, answering, IsDue, IsDueError, settled_holds, failed_holds, Leaves, leaves_on, settled_leaves, failed_leaves}
+use Rattle.session_laws.proofs.Settle.{book_of_more, seen, trace_of_acts, Holds, holds_more, IsAnswering, answering, IsDue, IsDueError, settled_holds, failed_holds, Leaves, leaves_on, settled_leaves, failed_leaves, Parts, sound_told}
+use Rattle.containers.proofs.Choices.{not_both, chosen}
+use Rattle.driver_model.specs.declared.push_info.PushInfo.{PushInfo}
+use Rattle.resp_value.specs.declared.push_kind.PushKind.TheVariants.{Disconnection}
+use Rattle.session_laws.proofs.Told.{owed_told, push_tied}
+use Rattle.driver_model.specs.declared.news.LinkFault.{LinkFault}
 
 -- the link is closed
 --
 -- where it must end, and nothing is to be answered
-pub may_close : (b : Book) (t : Inner) (why : Ending) → Tied b t → t.pending ≡ [] → has_ended t.life ≡ false → ending (b.link t.link) ≡ Some why → MayClose b t.link
-may_close b t why h none n must = record {
+pub may_close : (b : Book) (t : Inner) (why : Ending) → Tied b t → t.pending ≡ [] → t.untold ≡ [] → has_ended t.life ≡ false → ending (b.link t.link) ≡ Some why → MayClose b t.link
+may_close b t why h none told n must = record {
   why = why;
   ends = must;
   in_order = λ m less. unknown_ends (b.link m) (h.others m (λ e. omega arith));
   answered = λ m asked alive. none_owed b t h none n m asked;
   created = ready_shown b t h;
+  pushed = pushes_told b t h told;
 }
 
 -- the wanted messages of the row and the queue are to be answered
@@ -96,15 +102,23 @@ ends_failed : (l : Ledger) (turn created : ℕ) (why : Ending) → ending l ≡ 
 ends_failed l turn created why must shown e fails = shown e (sym (ap (λ w. failure_of (ending_or_shutdown w)) must) ∙ fails)
 
 -- the session is tied to the book with the end of the link; the creation may be shown with it
-pub close_tied : (b : Book) (t : Inner) (created : ℕ) (why : Ending) (e : RedisError) (pending : List ℕ) → pending ≡ wanted (link_in t.life).row ++ awaited_ids (link_in t.life).queue → ending (b.link t.link) ≡ Some why → unstarted_error why ≡ e
-    → ((f : RedisError) → failure_of why ≡ Some f → created ≢ 0) → Tied b (record t { pending = [] })
-    → Tied (record (entered b (action.Close t.link)) { created = created }) (record t { life = Ended e; pending = pending })
-close_tied b t created why e pending ids must is shown h =
+pub close_tied : (b : Book) (t : Inner) (created : ℕ) (why : Ending) (e : RedisError) (parting : Bool) (pending : List ℕ) → pending ≡ wanted (link_in t.life).row ++ awaited_ids (link_in t.life).queue → ending (b.link t.link) ≡ Some why → unstarted_error why ≡ e
+    → ((f : RedisError) → failure_of why ≡ Some f → created ≢ 0) → (t.hears ≡ true → parting ≡ false → is_fault why ≡ false) → has_ended t.life ≡ false → Tied b (record t { pending = []; untold = []; parting = false })
+    → Tied (record (entered b (action.Close t.link)) { created = created }) (record t { life = Ended e; pending = pending; untold = []; parting = parting })
+close_tied b t created why e parting pending ids must is shown mild up h =
     let turn = b.turns - 1 in
     let after = record (entered b (action.Close t.link)) { created = created } in
-    tied_by after (record t { life = Ended e; pending = pending }) (noted (b.link t.link) (ends turn)) (mine_noted (b.link t.link) t.link (ends turn)) (record {
+    tied_by after (record t { life = Ended e; pending = pending; untold = []; parting = parting }) (noted (b.link t.link) (ends turn)) (mine_noted (b.link t.link) t.link (ends turn)) (record {
       numbers = record { turns = h.numbers.turns; links = h.numbers.links; timers = h.numbers.timers; aims = h.numbers.aims; timed = h.numbers.timed; submissions = h.numbers.submissions; timeout = h.numbers.timeout; shut = h.numbers.shut; settings = record { size_is = h.numbers.settings.size_is; bound_is = h.numbers.settings.bound_is; limit_is = h.numbers.settings.limit_is; some = h.numbers.settings.some; limited = h.numbers.settings.limited }; one = h.numbers.one; only = h.numbers.only };
       others = others_kept b t.link (ends turn) h.others;
+      pushes = record {
+        heard_is = h.pushes.heard_is;
+        within = h.pushes.within;
+        untold_is = h.pushes.untold_is;
+        parts = λ heard done cut. absurd (not_both (is_fault why) (mild heard done) (sym (ap (λ w. is_fault (ending_or_shutdown w)) must) ∙ cut));
+        alive = λ none. cc;
+        due = λ parted. h.pushes.alive (lives (b.link t.link) b.created t.life h.life up);
+      };
       life = (refl, ends_owed (b.link t.link) turn why e must is, ends_failed (b.link t.link) turn created why must shown);
       setup = record { info_is = h.setup.info_is; sent = h.setup.sent; said = tt };
       link = λ n. cc;
@@ -295,53 +309,157 @@ queue_due b t ids (s ∷ ss) h early over within unstarted all = (
   queue_due b t ids ss h early over (λ n i. within n (inr i)) unstarted all.1,
 )
 
--- a link that must end is closed, and all that it has settled is answered, and then all that wait
-pub ended_holds : (before : List Action) (f : Core) (w : Work) (row queue : List Settled) (why : Ending) (started : List ℕ) → Holds before f w [] started → has_ended w.conn.life ≡ false → unstarted_error why ≡ error.Closed → failure_of why ≡ None
+-- a link was closed: its messages are to be answered, in line; what started is owed what it comes to, and what waits in the
+-- queue gets the closed connection
+pub record IsCutShort (before : List Action) (f : Core) (w : Work) (parting : Bool) (ids : List ℕ) (row queue : List Settled) (started : List ℕ) : Type 0 where
+  pub holds : Parts before f w parting (settled_ids (row ++ queue)) started
+  pub over : w.conn.life ≡ Ended error.Closed
+  pub line : IsInLine w.conn.requests no_link w.conn.admitted w.conn.waiting (settled_ids (row ++ queue))
+  pub early : AreInTime (book (trace_of_acts before f w.acts)).story w.conn.requests
+  pub owes : AllByRecursion (IsOwed (owner_of w.conn.requests) ((book (trace_of_acts before f w.acts)).link f.single.link)) row
+  pub waits : AllByRecursion (IsClosedOf ids) queue
+  pub unstarted : (n : ℕ) → IsIn n ids → IsIn n started → ⊥
+
+-- no error is none
+no_failure : (e : RedisError) → ◌≡◌ {A = Option RedisError} None (Some e) → ⊥
+no_failure e is = cc
+
+-- so is a link that must end; where a fault ends it that somebody hears, this is still to be told
+pub cut_holds : (before : List Action) (f : Core) (w : Work) (row queue : List Settled) (why : Ending) (parting : Bool) (started : List ℕ) → Holds before f w [] started → has_ended w.conn.life ≡ false → unstarted_error why ≡ error.Closed → failure_of why ≡ None
+    → (w.conn.hears ≡ true → parting ≡ false → is_fault why ≡ false)
     → (let b = book (trace_of_acts before f w.acts) in let l = b.link f.single.link in
     (ending l ≡ Some why) × SettlesAll (owner_of w.conn.requests) (noted l (ends (b.turns - 1))) (link_in w.conn.life) row queue)
-    → HasEnded before f (ended w (row ++ queue)) error.Closed started
-ended_holds before f w row queue why started h alive closes opened must =
+    → IsCutShort before f (cut_short w) parting (queue_ids (link_in w.conn.life).queue) row queue started
+cut_holds before f w row queue why parting started h alive closes opened mild must =
     let b = book (trace_of_acts before f w.acts) in
     let t = seen f w.acts w.conn [] started in
     let link = link_in w.conn.life in
-    let v = acted (at_life w (Ended error.Closed)) act.Close in
+    let ns = settled_ids (row ++ queue) in
+    let ids = must.1.ids in
+    let link_is : (book (trace_of_acts before f (cut_short w).acts)).link f.single.link ≡ noted (b.link f.single.link) (ends (b.turns - 1)) = ap (λ (x : Book). x.link f.single.link) (book_of_more before f w.acts act.Close) ∙ mine_noted (b.link f.single.link) f.single.link (ends (b.turns - 1)) in
+    record {
+      holds = sound_told before f w.acts act.Close (record w.conn { life = Ended error.Closed }) [] parting ns started h.stands (may_close b t why h.tied refl refl alive must.0)
+          (close_tied b t b.created why error.Closed parting ns ids must.0 closes (λ e fails. absurd (no_failure e (sym opened ∙ fails))) mild alive h.tied);
+      over = refl;
+      line = close_in_line w.conn.requests link w.conn.admitted w.conn.waiting ns ids (in_line b t h.tied alive);
+      early = λ p o. ap (λ (x : Book). (x.story (name_at w.conn.requests p)).overdue) (book_of_more before f w.acts act.Close) ∙ are_in_time b t h.tied refl p o;
+      owes = subst (λ (x : Ledger). AllByRecursion (IsOwed (owner_of w.conn.requests) x) row) (sym link_is) must.1.started;
+      waits = must.1.waits;
+      unstarted = λ n i. later_unstarted b t n h.tied (in_left n (queue_ids link.queue) (kept_ids w.conn.admitted w.conn.waiting) i);
+    }
+
+-- all that it has settled is answered, and then all that wait
+pub all_ends : (before : List Action) (f : Core) (w : Work) (ids : List ℕ) (row queue : List Settled) (started : List ℕ) → IsCutShort before f w false ids row queue started → HasEnded before f (all_answered w (row ++ queue)) error.Closed started
+all_ends before f w ids row queue started h =
     let out = row ++ queue in
     let ns = settled_ids out in
     let split : ns ≡ settled_ids row ++ settled_ids queue = settled_ids-append row queue in
-    let ids = must.1.ids in
-    let held : Holds before f v ns started =
-    holds_more before f w act.Close (record w.conn { life = Ended error.Closed }) [] ns started h (may_close b t why h.tied refl alive must.0)
-    (close_tied b t b.created why error.Closed ns ids must.0 closes (λ e fails. absurd (no_failure e (sym opened ∙ fails))) h.tied) in
-    let line : IsInLine w.conn.requests no_link w.conn.admitted w.conn.waiting ns = close_in_line w.conn.requests link w.conn.admitted w.conn.waiting ns ids (in_line b t h.tied alive) in
-    let c = book (trace_of_acts before f v.acts) in
-    let s = seen f v.acts v.conn ns started in
-    let link_is : c.link f.single.link ≡ noted (b.link f.single.link) (ends (b.turns - 1)) = ap (λ (x : Book). x.link f.single.link) (book_of_more before f w.acts act.Close) ∙ mine_noted (b.link f.single.link) f.single.link (ends (b.turns - 1)) in
-    let early : AreInTime c.story w.conn.requests = λ p o. ap (λ (x : Book). (x.story (name_at w.conn.requests p)).overdue) (book_of_more before f w.acts act.Close) ∙ are_in_time b t h.tied refl p o in
-    let within : (n : ℕ) → IsIn n ns → n < length w.conn.requests = λ n i. pending_within w.conn.requests no_link w.conn.admitted w.conn.waiting ns n line i in
-    let owed_row = subst (λ (x : Ledger). AllByRecursion (IsOwed (owner_of w.conn.requests) x) row) (sym link_is) must.1.started in
-    let due_row = due_each c s row held.tied early (λ n i. within n (subst (IsIn n) (sym split) (in_left n (settled_ids row) (settled_ids queue) i))) owed_row in
-    let due_queue = queue_due c s (queue_ids link.queue) queue held.tied early held.tied.life.1 (λ n i. within n (subst (IsIn n) (sym split) (in_right n (settled_ids row) (settled_ids queue) i)))
-    (λ n i. later_unstarted b t n h.tied (in_left n (queue_ids link.queue) (kept_ids w.conn.admitted w.conn.waiting) i)) must.1.waits in
+    let c = book (trace_of_acts before f w.acts) in
+    let s = seen f w.acts w.conn ns started in
+    let tied : Tied c s = h.holds.tied in
+    let line = subst (λ (x : Life). IsInLine w.conn.requests (link_in x) w.conn.admitted w.conn.waiting ns) (sym h.over) h.line in
+    let owed_end = (subst (λ (x : Life). TiedLife (c.link f.single.link) c.created x) h.over tied.life).1 in
+    let within : (n : ℕ) → IsIn n ns → n < length w.conn.requests = λ n i. pending_within w.conn.requests no_link w.conn.admitted w.conn.waiting ns n h.line i in
+    let due_row = due_each c s row tied h.early (λ n i. within n (subst (IsIn n) (sym split) (in_left n (settled_ids row) (settled_ids queue) i))) h.owes in
+    let due_queue = queue_due c s ids queue tied h.early owed_end (λ n i. within n (subst (IsIn n) (sym split) (in_right n (settled_ids row) (settled_ids queue) i))) h.unstarted h.waits in
     let due = all_append (IsDue (owed c) (name_at w.conn.requests) (is_open_at w.conn.requests)) row queue due_row due_queue in
-    let later = all_waiting_due c s error.Closed held.tied early held.tied.life.1 in
-    let a = answering before f v (ns ++ []) started (subst (λ ms. Holds before f v ms started) (sym (append-nil ns)) held) (subst (IsInLine w.conn.requests no_link w.conn.admitted w.conn.waiting) (sym (append-nil ns)) line) in
-    let u = settled_each v out in
-    let k = settled_leaves v out in
-    let settled = settled_holds before f (c.link f.single.link) (owed c) (name_at w.conn.requests) (is_open_at w.conn.requests) v out [] started due a in
-    rest_ends before f (c.link f.single.link) (owed c) (name_at w.conn.requests) (is_open_at w.conn.requests) u error.Closed started k.life
+    let later = all_waiting_due c s error.Closed tied h.early owed_end in
+    let a = answering before f w (ns ++ []) started (subst (λ ms. Holds before f w ms started) (sym (append-nil ns)) h.holds) (subst (IsInLine w.conn.requests (link_in w.conn.life) w.conn.admitted w.conn.waiting) (sym (append-nil ns)) line) in
+    let u = settled_each w out in
+    let k = settled_leaves w out in
+    let settled = settled_holds before f (c.link f.single.link) (owed c) (name_at w.conn.requests) (is_open_at w.conn.requests) w out [] started due a in
+    rest_ends before f (c.link f.single.link) (owed c) (name_at w.conn.requests) (is_open_at w.conn.requests) u error.Closed started (k.life ∙ h.over)
     (record {
       place = subst (AllByRecursion (IsDueError (owed c) (name_at w.conn.requests) (is_open_at w.conn.requests) error.Closed)) (sym k.admitted) later.place;
       connection = subst (AllByRecursion (IsDueError (owed c) (name_at w.conn.requests) (is_open_at w.conn.requests) error.Closed)) (sym k.waiting) later.connection;
     }) settled
-  where
-    no_failure : (e : RedisError) → ◌≡◌ {A = Option RedisError} None (Some e) → ⊥
-    no_failure e is = cc
+
+-- so a link ends that need not be told to have
+pub ended_holds : (before : List Action) (f : Core) (w : Work) (row queue : List Settled) (why : Ending) (started : List ℕ) → Holds before f w [] started → has_ended w.conn.life ≡ false → unstarted_error why ≡ error.Closed → failure_of why ≡ None → is_fault why ≡ false
+    → (let b = book (trace_of_acts before f w.acts) in let l = b.link f.single.link in
+    (ending l ≡ Some why) × SettlesAll (owner_of w.conn.requests) (noted l (ends (b.turns - 1))) (link_in w.conn.life) row queue)
+    → HasEnded before f (ended w (row ++ queue)) error.Closed started
+ended_holds before f w row queue why started h alive closes opened mild must =
+    all_ends before f (cut_short w) (queue_ids (link_in w.conn.life).queue) row queue started (cut_holds before f w row queue why false started h alive closes opened (λ heard done. mild) must)
+
+-- that it was closed by a fault is told, where somebody hears it
+parts_may : (b : Book) (t : Inner) (e : RedisError) → Tied b t → t.life ≡ Ended e → t.hears ≡ true → t.parting ≡ true → is_cut (b.link t.link).end ≡ true → MayPart b t.link (record { kind = Disconnection; parts = [] })
+parts_may b t e h over hears due cut =
+    let a = after_end b t h (ap has_ended over) in
+    record {
+      heard = h.pushes.heard_is ∙ hears;
+      ended = cut;
+      once = h.pushes.due due;
+      bare = refl;
+      in_order = λ m less other. absurd (not_both (is_cut (b.link m).end) (ap is_cut (h.others m (λ same. absurd (omega arith))).end) other);
+      closed = a.0;
+      answered = a.1;
+    }
+
+-- so all are answered then
+pub parted_holds : (before : List Action) (f : Core) (w : Work) (ids : List ℕ) (row queue : List Settled) (started : List ℕ) → w.conn.hears ≡ true → is_cut ((book (trace_of_acts before f w.acts)).link f.single.link).end ≡ true → IsCutShort before f w true ids row queue started
+    → IsCutShort before f (pushed w (record { kind = Disconnection; parts = [] })) false ids row queue started
+parted_holds before f w ids row queue started hears cut h =
+    let info : PushInfo = record { kind = Disconnection; parts = [] } in
+    let b = book (trace_of_acts before f w.acts) in
+    let ns = settled_ids (row ++ queue) in
+    let t = record (seen f w.acts w.conn ns started) { parting = true } in
+    let l = b.link f.single.link in
+    let after = record l { parted = true } in
+    let link_is : (book (trace_of_acts before f (pushed w info).acts)).link f.single.link ≡ after = ap (λ (x : Book). x.link f.single.link) (book_of_more before f w.acts (act.Push info)) ∙ mine_noted l f.single.link parts in
+    record {
+      holds = sound_told before f w.acts (act.Push info) w.conn [] false ns started h.holds.stands (parts_may b t error.Closed h.holds.tied h.over hears refl cut)
+          (push_tied b t info l.told true [] false refl (record {
+            heard_is = h.holds.tied.pushes.heard_is;
+            within = h.holds.tied.pushes.within;
+            untold_is = h.holds.tied.pushes.untold_is;
+            parts = λ heard done was. refl;
+            alive = λ none. absurd (not_both (is_cut l.end) (ap is_cut none) cut);
+            due = λ no_more. cc;
+          }) h.holds.tied);
+      over = h.over;
+      line = h.line;
+      early = λ p o. ap (λ (x : Book). (x.story (name_at w.conn.requests p)).overdue) (book_of_more before f w.acts (act.Push info)) ∙ h.early p o;
+      owes = subst (λ (x : Ledger). AllByRecursion (IsOwed (owner_of w.conn.requests) x) row) (sym link_is) (owed_told (owner_of w.conn.requests) l l.told true row h.owes);
+      waits = h.waits;
+      unstarted = h.unstarted;
+    }
+
+-- answers leave those that were moved in this turn
+answered_moved : (w : Work) (out : List Settled) → (all_answered w out).conn.moved ≡ w.conn.moved
+answered_moved w out = (waiting_leaves (settled_each w out) error.Closed).moved ∙ (settled_leaves w out).moved
+
+-- and one that a fault ends, which is told where somebody hears it
+pub faulted_holds : (before : List Action) (f : Core) (w : Work) (row queue : List Settled) (fault : LinkFault) (started : List ℕ) → Holds before f w [] started → has_ended w.conn.life ≡ false
+    → (let b = book (trace_of_acts before f w.acts) in let l = b.link f.single.link in
+    (ending l ≡ Some (by_fault fault)) × SettlesAll (owner_of w.conn.requests) (noted l (ends (b.turns - 1))) (link_in w.conn.life) row queue)
+    → HasEnded before f (all_answered (parted (cut_short w)) (row ++ queue)) error.Closed started
+faulted_holds before f w row queue fault started h alive must =
+    let b = book (trace_of_acts before f w.acts) in
+    let l = b.link f.single.link in
+    let v = cut_short w in
+    let ids = queue_ids (link_in w.conn.life).queue in
+    let cut : is_cut ((book (trace_of_acts before f v.acts)).link f.single.link).end ≡ true =
+    ap (λ (x : Book). is_cut (x.link f.single.link).end) (book_of_more before f w.acts act.Close) ∙ ap (λ (x : Ledger). is_cut x.end) (mine_noted l f.single.link (ends (b.turns - 1))) ∙ ap (λ x. is_fault (ending_or_shutdown x)) must.0 in
+    chosen (λ (x : Work). HasEnded before f (all_answered x (row ++ queue)) error.Closed started) w.conn.hears (pushed v (record { kind = Disconnection; parts = [] })) v
+    (λ t.
+    all_ends before f (pushed v (record { kind = Disconnection; parts = [] })) ids row queue started
+    (parted_holds before f v ids row queue started t cut (cut_holds before f w row queue (by_fault fault) true started h alive refl refl (λ heard done. cc) must)))
+    (λ n. all_ends before f v ids row queue started (cut_holds before f w row queue (by_fault fault) false started h alive refl refl (λ heard done. absurd (not_both w.conn.hears n heard)) must))
 
 -- those that were moved in this turn stay
 pub ended_moved : (w : Work) (out : List Settled) → (ended w out).conn.moved ≡ w.conn.moved
 ended_moved w out =
     let v = acted (at_life w (Ended error.Closed)) act.Close in
-    (waiting_leaves (settled_each v out) error.Closed).moved ∙ (settled_leaves v out).moved
+    answered_moved v out
+
+-- nor do they where the end is told
+pub parted_moved : (w : Work) (out : List Settled) → (all_answered (parted (cut_short w)) out).conn.moved ≡ w.conn.moved
+parted_moved w out =
+    let v = cut_short w in
+    chosen (λ (x : Work). (all_answered x out).conn.moved ≡ w.conn.moved) v.conn.hears (pushed v (record { kind = Disconnection; parts = [] })) v
+    (λ t. answered_moved (pushed v (record { kind = Disconnection; parts = [] })) out)
+    (λ t. answered_moved v out)
 
 -- so the event has had its effect
 pub ended_applied : (before : List Action) (f : Core) (w : Work) (e : RedisError) (started : List ℕ) → f.turns ≢ 0 → w.conn.moved ≡ [] → HasEnded before f w e started → HasApplied before (with_work (record { core = f; acts = [] }) w) started

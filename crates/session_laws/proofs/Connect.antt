@@ -32,22 +32,22 @@ use Rattle.mux_conn.specs.declared.request.Request.{Request}
 use Rattle.mux_conn.specs.declared.request.Waiting.{Waiting}
 use Rattle.shared_session.specs.declared.core_state.Core.{Core}
 use Rattle.shared_session.specs.Turn.{with_work, is_bad}
-use Rattle.legal_trace.specs.Ledger.{Ledger, hears, noted, ending, ending_alive, is_over, is_ready as is_ready_link, is_well, by_opening, ends, dials, last_result, refused_in, failure_in, failure_of, ending_or_shutdown, setup_after, setup_count, setup_steps}
+use Rattle.legal_trace.specs.Ledger.{Ledger, hears, noted, ending, ending_alive, is_over, is_ready as is_ready_link, is_well, by_opening, ends, dials, last_result, refused_in, failure_in, failure_of, ending_or_shutdown, setup_after, setup_count, setup_steps, Heard}
 use Rattle.legal_trace.specs.Book.{Book, blank_book, book, entered}
 use Rattle.legal_trace.specs.Story.{Story}
-use Rattle.legal_trace.specs.Legal.{AllStand, MayBeCreated}
-use Rattle.session_laws.proofs.Tied.{AreSetups, HasSaid, IsEntry, IsQueued, IsSettingUp, IsSetupDue, IsSetUp, Inner, inner, queue_ids, shown_wait, waiting_ids, no_link, link_in, carried, whole_link, owner_of, TiedLife, TiedLines, AreQueued, TiedWaits, Tied, has_ended}
+use Rattle.legal_trace.specs.Legal.{AllStand, MayBeCreated, is_heard}
+use Rattle.session_laws.proofs.Tied.{AreSetups, HasSaid, IsEntry, IsQueued, IsSettingUp, IsSetupDue, IsSetUp, Inner, inner, queue_ids, shown_wait, waiting_ids, no_link, link_in, carried, whole_link, owner_of, TiedLife, TiedLines, AreQueued, TiedWaits, Tied, has_ended, TiedPushes}
 use Rattle.legal_trace.proofs.Setups.{ends_where_set}
 use Rattle.session_laws.proofs.Said.{IsNoPiece, ending_setting, ready_heard, setting_heard, setup_hears}
 use Rattle.session_laws.proofs.Failing.{IsFailing, failing_applied}
 use Rattle.session_laws.proofs.States.{IsFit, Between, HasApplied}
 use Rattle.session_laws.proofs.Entered.{all_stand-append, book_more, sound_more, shown_more}
 use Rattle.session_laws.proofs.Owes.{none_owed}
-use Rattle.session_laws.proofs.Settle.{seen, trace_of_acts, Holds, book_of_more}
+use Rattle.session_laws.proofs.Settle.{seen, trace_of_acts, Holds, book_of_more, Tells}
 use Rattle.session_laws.proofs.InLine.{kept_ids}
 use Rattle.session_laws.proofs.Numbers.{IsIn, Rising, rising_right}
 use Rattle.session_laws.proofs.Announce.{turn_of, turned, IsNewsKind, heard_book, heard_is, heard_starts, heard_tied, may_turn}
-use Rattle.session_laws.proofs.Heard.{heard_by, book_kind, book_news, lives_as, none_ends, leads_on, quiet_applied, fresh_applied, told_life, ended_quiet}
+use Rattle.session_laws.proofs.Heard.{heard_by, book_kind, book_news, lives_as, none_ends, leads_on, quiet_applied, fresh_applied, told_life, ended_quiet, pushes_still}
 use Rattle.session_laws.proofs.End.{up_tied, setting_tied, setting_overdue, plain_begins}
 use Rattle.session_laws.proofs.Kept.{mine_noted}
 use Rattle.session_laws.proofs.Close.{may_close, close_tied, ended_waits}
@@ -77,7 +77,7 @@ again before c started word kind h good k is up =
     let conn = c.single.connection in
     let same = again_is l c.turns up.0 up.1 in
     quiet_applied before c started word kind connected conn.life h good k is
-    (leads_on before c started connected h (
+    (leads_on before c started connected h (inl tt) (
       subst (λ (x : Ledger). TiedLife x b.created conn.life) (sym same) (told_life l b.created conn.life connected h.sound.tied.life),
       setup_hears l c.turns connected conn.info started conn.life tt h.sound.tied.setup,
       λ alive. connected_tied (carried conn.life conn.requests) l (whole_link conn.life) c.turns (h.sound.tied.link alive),
@@ -201,34 +201,34 @@ pub record IsMade (l : Ledger) (created : ℕ) (requests : List Request) (link :
   pub row : link.row ≡ []
 
 -- which is shown
-pub record IsShownReady (front : List Action) (f : Core) (w : Work) (l : Ledger) (started : List ℕ) : Type 0 where
-  pub holds : Holds front f w [] started
+pub record IsShownReady (front : List Action) (f : Core) (w : Work) (l : Ledger) (untold : List Heard) (started : List ℕ) : Type 0 where
+  pub holds : Tells front f w untold [] started
   pub ledger : (book (trace_of_acts front f w.acts)).link f.single.link ≡ l
 
 -- where it wasn't before
-pub makes_ready : (before : List Action) (c : Core) (started : List ℕ) (word : ℕ) (kind : EventKind) (n : News) (link : LinkState) → Between before c started → is_bad c kind ≡ false → IsNewsKind c.timers kind → news_of c.timers c.single.link kind ≡ n
-    → link_in c.single.connection.life ≡ no_link → is_ready c.single.connection.life ≡ false → has_ended c.single.connection.life ≡ false → (let l = heard_by (book before) c n in (l.info ≡ c.single.connection.info) × AreSetups l × IsMade l (book before).created c.single.connection.requests link)
-    → IsShownReady (before ++ turn_of c word kind ∷ []) (turned c kind) (made_ready (record { conn = c.single.connection; acts = [] }) link) (heard_by (book before) c n) started
-makes_ready before c started word kind n link h good k is bare unready up facts =
+pub makes_ready : (before : List Action) (c : Core) (started : List ℕ) (word : ℕ) (kind : EventKind) (n : News) (link : LinkState) (untold : List Heard) → Between before c started → is_bad c kind ≡ false → IsNewsKind c.timers kind → news_of c.timers c.single.link kind ≡ n
+    → link_in c.single.connection.life ≡ no_link → is_ready c.single.connection.life ≡ false → has_ended c.single.connection.life ≡ false → (let l = heard_by (book before) c n in (l.info ≡ c.single.connection.info) × AreSetups l × IsMade l (book before).created c.single.connection.requests link × TiedPushes (is_heard (book before)) c.single.connection.hears l.pushes l.told l.end l.parted untold false)
+    → IsShownReady (before ++ turn_of c word kind ∷ []) (turned c kind) (made_ready (record { conn = c.single.connection; acts = [] }) link) (heard_by (book before) c n) untold started
+makes_ready before c started word kind n link untold h good k is bare unready up facts =
     let b = book before in
     let h0 = h.sound.tied in
     let conn = c.single.connection in
     let l = heard_by b c n in
-    let made = facts.2 in
+    let made : IsMade l b.created conn.requests link = facts.2 in
     let now = heard_book b c.turns word kind in
     let front = before ++ turn_of c word kind ∷ [] in
     let ns = numbers_of conn.waiting in
     let shown = action.Created None in
-    let t = seen (turned c kind) [] (record conn { life = Ready link; fresh = ns }) [] started in
+    let t = record (seen (turned c kind) [] (record conn { life = Ready link; fresh = ns }) [] started) { untold = untold } in
     let nobody = h.fit.none (λ x r. not_both (is_ready conn.life) unready (ap is_ready r)) in
     let own : now.link c.single.link ≡ l = ap (heard_by b c) (book_news b c kind n h0.numbers.timers is) in
-    let tied : Tied (entered now shown) t = heard_tied b c started word (b.created + 1) kind (Ready link) ns [] l h0 good own (heard_starts (b.link c.single.link) c.turns n)
+    let tied : Tied (entered now shown) t = heard_tied b c started word (b.created + 1) kind (Ready link) ns [] untold l h0 good own (heard_starts (b.link c.single.link) c.turns n)
     (made.asked, made.up, made.alive, λ z. absurd (omega arith))
     (record { info_is = facts.0; sent = facts.1; said = made.said })
     (λ z. made.tied)
     (bare_lines b.story conn.requests link conn.waiting conn.admitted started made.queue made.row (subst (λ (x : LinkState). TiedLines b.story conn.requests x conn.waiting conn.admitted [] started) bare h0.lines))
     (λ z m told none. absurd (let q = subst (λ (x : LinkState). AreQueued b.story conn.requests x) bare (h0.told up) m told none in q.3))
-    (ready_waits b (inner c started) link h0 refl nobody h.fresh bare unready up made.queue) in
+    (ready_waits b (inner c started) link h0 refl nobody h.fresh bare unready up made.queue) facts.3 in
     let may : MayBeCreated now = record {
       l = c.single.link;
       ready = ap is_ready_link own ∙ (λ i. made.up i && made.said.well i);
@@ -244,7 +244,7 @@ makes_ready before c started word kind n link h good k is bare unready up facts 
 
 -- so the event has had its effect, where the link need not end
 pub ready_applied : (front : List Action) (f : Core) (conn : MultiplexedConnection) (link : LinkState) (l : Ledger) (started : List ℕ) → f.turns ≢ 0 → conn.moved ≡ [] → IsFit conn.size conn.boundary link → ending l ≡ None
-    → IsShownReady front f (made_ready (record { conn = conn; acts = [] }) link) l started → HasApplied front (with_work (record { core = f; acts = [] }) (made_ready (record { conn = conn; acts = [] }) link)) started
+    → IsShownReady front f (made_ready (record { conn = conn; acts = [] }) link) l [] started → HasApplied front (with_work (record { core = f; acts = [] }) (made_ready (record { conn = conn; acts = [] }) link)) started
 ready_applied front f conn link l started began none_moved fit none h =
     let w = made_ready (record { conn = conn; acts = [] }) link in
     record {
@@ -320,7 +320,7 @@ connected_ready before c started word kind h good k is e nothing =
     let made : IsMade l (book before).created conn.requests (new_link conn) = record { asked = u.asked; up = u.up; alive = u.alive; unshown = u.unshown; said = said; tied = new_tied before c started h e; queue = refl; row = refl } in
     ready_applied (before ++ turn_of c word kind ∷ []) (turned c kind) conn (new_link conn) l started (λ z. absurd (omega arith)) h.moved
     (record { sound = refl; size_is = refl; bound_is = refl; within = omega arith }) (ends_where_set l u.up said.well)
-    (makes_ready before c started word kind connected (new_link conn) h good k is (ap link_in e) (ap is_ready e) (ap has_ended e) (u.info_is, u.sent, made))
+    (makes_ready before c started word kind connected (new_link conn) [] h good k is (ap link_in e) (ap is_ready e) (ap has_ended e) (u.info_is, u.sent, made, pushes_still before c started connected h (inl tt)))
 
 -- or its setup is to start
 connected_says : (before : List Action) (c : Core) (started : List ℕ) (word : ℕ) (kind : EventKind) → Between before c started → is_bad c kind ≡ false → IsNewsKind c.timers kind → news_of c.timers c.single.link kind ≡ connected → c.single.connection.life ≡ Dialing
@@ -357,6 +357,7 @@ connected_says before c started word kind h good k is e something =
       lines = bare;
       told = queued;
       waits = setup_waits b (inner c started) link true h0 refl nobody h.fresh e;
+      pushes = pushes_still before c started connected h (inl tt);
     })
     (ending_setting l link true u.up said)
     (record {
@@ -411,13 +412,14 @@ refused_fails before c started word kind f h good k is e =
     let lived = subst (λ (x : Life). TiedLife l0 b.created x) e h0.life in
     let over : l ≡ record (refused_in l0 c.turns (error.Io f)) { heard = refused f } = refused_is l0 c.turns b.created f lived in
     let own_ledger : now.link c.single.link ≡ l = ap (heard_by b c) (book_news b c kind (refused f) h0.numbers.timers is) in
-    let tied : Tied (entered now (action.Created (Some (error.Io f)))) t = heard_tied b c started word (b.created + 1) kind life conn.fresh [] l h0 good own_ledger (heard_starts l0 c.turns (refused f))
+    let tied : Tied (entered now (action.Created (Some (error.Io f)))) t = heard_tied b c started word (b.created + 1) kind life conn.fresh [] [] l h0 good own_ledger (heard_starts l0 c.turns (refused f))
     (subst (λ (x : Ledger). TiedLife x (b.created + 1) life) (sym over) (lived.1, refl, λ x fails z. absurd (omega arith)))
     (let told = setup_hears l0 c.turns (refused f) conn.info started conn.life tt h0.setup in record { info_is = told.info_is; sent = told.sent; said = tt })
     (λ n. cc)
     (subst (λ (x : Life). TiedLines b.story conn.requests (link_in x) conn.waiting conn.admitted [] started) e h0.lines)
     (λ n. cc)
-    (ended_waits b.story conn.requests conn.life (error.Io f) conn.fresh conn.moved h0.waits) in
+    (ended_waits b.story conn.requests conn.life (error.Io f) conn.fresh conn.moved h0.waits)
+    (pushes_still before c started (refused f) h (inl tt)) in
     let book_is : book front ≡ now = book_more before (turn_of c word kind) ∙ heard_is b c.turns word kind (book_kind b c kind h0.numbers.timers k) in
     record {
       stands = all_stand-append before (turn_of c word kind ∷ []) h.sound.stands (may_turn before c started word kind h good, tt);
@@ -468,7 +470,7 @@ late_quiet before c started word kind n late h good k is up =
     let conn = c.single.connection in
     let stays : heard_by b c n ≡ record l { heard = n } = late_leaves l c.turns n late up.0 in
     quiet_applied before c started word kind n conn.life h good k is
-    (leads_on before c started n h (
+    (leads_on before c started n h (inl (late_piece n late)) (
       subst (λ (x : Ledger). TiedLife x b.created conn.life) (sym stays) (told_life l b.created conn.life n h.sound.tied.life),
       setup_hears l c.turns n conn.info started conn.life (late_piece n late) h.sound.tied.setup,
       λ alive. subst (λ (x : Ledger). TiedLink (carried conn.life conn.requests) x (whole_link conn.life)) (sym stays) (told_tied (carried conn.life conn.requests) l (whole_link conn.life) l.asked l.up n (h.sound.tied.link alive)),
@@ -515,12 +517,12 @@ overdue_fails before c started word kind h good k is e =
     let asked : (l0.asked && not (is_over l0)) ≡ true = (λ i. lived0.0 i && not (is_some (lived0.2 i))) in
     let must : ending l ≡ Some why = ap ending begins.ledger ∙ left_if l0.up (ending_alive (record l0 { heard = overdue })) _ lived0.1 ∙ taken_if (l0.asked && not (is_over l0)) (Some why) None asked in
     let now = entered b (action.Close c.single.link) in
-    let tied = close_tied b t (b.created + 1) why x [] (ap (λ (y : Life). wanted (link_in y).row ++ awaited_ids (link_in y).queue) (sym e)) must refl (λ y fails z. absurd (omega arith)) begins.holds.tied in
+    let tied = close_tied b t (b.created + 1) why x false [] (ap (λ (y : Life). wanted (link_in y).row ++ awaited_ids (link_in y).queue) (sym e)) must refl (λ y fails z. absurd (omega arith)) (λ heard done. refl) (ap has_ended e) begins.holds.tied in
     let trace = trace_of_acts front f (act.Close ∷ []) in
     let shown : trace ≡ trace_of_acts front f [] ++ action.Close c.single.link ∷ [] = shown_more front c.single.link (length f.timers) [] act.Close in
     let book_is : book trace ≡ now = book_of_more front f [] act.Close in
     record {
-      stands = subst (AllStand blank_book) (sym shown) (all_stand-append (trace_of_acts front f []) (action.Close c.single.link ∷ []) begins.holds.stands (may_close b t why begins.holds.tied refl (ap has_ended e) must, tt));
+      stands = subst (AllStand blank_book) (sym shown) (all_stand-append (trace_of_acts front f []) (action.Close c.single.link ∷ []) begins.holds.stands (may_close b t why begins.holds.tied refl refl (ap has_ended e) must, tt));
       fails = ap (λ (y : Book). failure_in (y.link c.single.link).end) book_is
           ∙ ap (λ (y : Ledger). failure_in y.end) (mine_noted l c.single.link (ends (b.turns - 1)))
           ∙ ap (λ w. failure_of (ending_or_shutdown w)) must;

@@ -36,9 +36,10 @@ use Rattle.session_laws.proofs.Said.{ready_heard, setting_heard, setting_told, s
 use Rattle.session_laws.proofs.Failing.{Fails, setup_failed}
 use Rattle.session_laws.proofs.States.{Between, HasApplied}
 use Rattle.session_laws.proofs.Settle.{seen, trace_of_acts, Holds}
-use Rattle.session_laws.proofs.Close.{HasEnded, IsClosedOf, SettlesAll, ended_holds, ended_moved, ended_applied}
+use Rattle.session_laws.proofs.Close.{HasEnded, IsClosedOf, SettlesAll, ended_holds, ended_moved, ended_applied, faulted_holds, parted_moved}
 use Rattle.session_laws.proofs.Announce.{turn_of, turned, IsNewsKind}
 use Rattle.session_laws.proofs.Heard.{told_life, heard_by, Begins, Leads, heard_begins, leads_on, ended_quiet, dialing_quiet}
+use Rattle.legal_trace.specs.Legal.{is_heard}
 
 -- what waits in the queue gets the closed connection
 queue_waits : (ids : List ℕ) (queue : List Queued) → ((n : ℕ) → IsIn n (queue_ids queue) → IsIn n ids) → AllByRecursion (IsClosedOf ids) (queue_closed queue)
@@ -114,7 +115,7 @@ fault_ends before f w link fault started h is must =
     let tied = up_tied b (seen f w.acts w.conn [] started) link is h.tied in
     let turn = b.turns - 1 in
     let row = row_hit_owed name l link turn fault must tied.alive tied.tied in
-    ended_holds before f w (row_hit fault link.row) (queue_closed link.queue) (by_fault fault) started h (ap has_ended is) refl refl
+    faulted_holds before f w (row_hit fault link.row) (queue_closed link.queue) fault started h (ap has_ended is)
     (must, settles_ready name (noted l (ends turn)) w.conn.life link (row_hit fault link.row) is row (hit_ids fault link.row link.queue))
 
 -- or by the shutdown
@@ -127,7 +128,7 @@ shutdown_ends before f w link started h is must =
     let tied = up_tied b (seen f w.acts w.conn [] started) link is h.tied in
     let turn = b.turns - 1 in
     let row = row_closed_owed name l link turn must tied.alive tied.tied in
-    ended_holds before f w (row_closed link.row) (queue_closed link.queue) by_shutdown started h (ap has_ended is) refl refl
+    ended_holds before f w (row_closed link.row) (queue_closed link.queue) by_shutdown started h (ap has_ended is) refl refl refl
     (must, settles_ready name (noted l (ends turn)) w.conn.life link (row_closed link.row) is row (closed_ids link.row link.queue))
 
 -- also before it is ready
@@ -136,7 +137,7 @@ pub bare_ends : (before : List Action) (f : Core) (w : Work) (started : List ℕ
 bare_ends before f w started h alive bare must =
     let b = book (trace_of_acts before f w.acts) in
     let settles = λ (x : LinkState). SettlesAll (owner_of w.conn.requests) (noted (b.link f.single.link) (ends (b.turns - 1))) x [] [] in
-    ended_holds before f w [] [] by_shutdown started h alive refl refl (must, subst settles (sym bare) (record { started = tt; waits = tt; ids = refl }))
+    ended_holds before f w [] [] by_shutdown started h alive refl refl refl (must, subst settles (sym bare) (record { started = tt; waits = tt; ids = refl }))
 
 -- the turns of these events
 --
@@ -161,9 +162,9 @@ plain_leads before c started n k h = by_news n k
     by_news (took count) j = absurd j
     by_news (came piece) j = absurd j
     by_news (refused f) j = absurd j
-    by_news overdue j = leads_on before c started overdue h (told_life l (book before).created c.single.connection.life overdue h.sound.tied.life, setup_hears l c.turns overdue c.single.connection.info started c.single.connection.life tt h.sound.tied.setup, λ alive. told_tied (carried c.single.connection.life c.single.connection.requests) l (whole_link c.single.connection.life) l.asked l.up overdue (h.sound.tied.link alive))
-    by_news (failed f) j = leads_on before c started (failed f) h (told_life l (book before).created c.single.connection.life (failed f) h.sound.tied.life, setup_hears l c.turns (failed f) c.single.connection.info started c.single.connection.life tt h.sound.tied.setup, λ alive. told_tied (carried c.single.connection.life c.single.connection.requests) l (whole_link c.single.connection.life) l.asked l.up (failed f) (h.sound.tied.link alive))
-    by_news shut j = leads_on before c started shut h (told_life l (book before).created c.single.connection.life shut h.sound.tied.life, setup_hears l c.turns shut c.single.connection.info started c.single.connection.life tt h.sound.tied.setup, λ alive. told_tied (carried c.single.connection.life c.single.connection.requests) l (whole_link c.single.connection.life) l.asked l.up shut (h.sound.tied.link alive))
+    by_news overdue j = leads_on before c started overdue h (inl tt) (told_life l (book before).created c.single.connection.life overdue h.sound.tied.life, setup_hears l c.turns overdue c.single.connection.info started c.single.connection.life tt h.sound.tied.setup, λ alive. told_tied (carried c.single.connection.life c.single.connection.requests) l (whole_link c.single.connection.life) l.asked l.up overdue (h.sound.tied.link alive))
+    by_news (failed f) j = leads_on before c started (failed f) h (inl tt) (told_life l (book before).created c.single.connection.life (failed f) h.sound.tied.life, setup_hears l c.turns (failed f) c.single.connection.info started c.single.connection.life tt h.sound.tied.setup, λ alive. told_tied (carried c.single.connection.life c.single.connection.requests) l (whole_link c.single.connection.life) l.asked l.up (failed f) (h.sound.tied.link alive))
+    by_news shut j = leads_on before c started shut h (inl tt) (told_life l (book before).created c.single.connection.life shut h.sound.tied.life, setup_hears l c.turns shut c.single.connection.info started c.single.connection.life tt h.sound.tied.setup, λ alive. told_tied (carried c.single.connection.life c.single.connection.requests) l (whole_link c.single.connection.life) l.asked l.up shut (h.sound.tied.link alive))
 
 -- the turn of such an event begins with its link as it was
 pub plain_begins : (before : List Action) (c : Core) (started : List ℕ) (word : ℕ) (kind : EventKind) (n : News) → IsPlain n → Between before c started → is_bad c kind ≡ false → IsNewsKind c.timers kind → news_of c.timers c.single.link kind ≡ n
@@ -172,7 +173,7 @@ plain_begins before c started word kind n p h good k is = heard_begins before c 
 
 -- a link that is set up fails by news that leave its ledger
 plain_fails : (before : List Action) (c : Core) (started : List ℕ) (n : News) (x : RedisError) (link : LinkState) (with_user : Bool) → Between before c started → c.single.connection.life ≡ SettingUp link with_user
-    → (let l = record ((book before).link c.single.link) { heard = n } in ending_unready l n ≡ Some (by_opening x)) → Fails (record ((book before).link c.single.link) { heard = n }) c.single.connection.info x
+    → (let l = record ((book before).link c.single.link) { heard = n } in ending_unready l n ≡ Some (by_opening x)) → Fails (record ((book before).link c.single.link) { heard = n }) c.single.connection.info (is_heard (book before)) c.single.connection.hears x
 plain_fails before c started n x link with_user h e is =
     let b = book before in
     let l = b.link c.single.link in
@@ -183,6 +184,7 @@ plain_fails before c started n x link with_user h e is =
       must = setting_heard l n link with_user s.up s.said ∙ is;
       info_is = h.sound.tied.setup.info_is;
       sent = h.sound.tied.setup.sent;
+      pushes = h.sound.tied.pushes;
     }
 
 -- a fault, or the peer's end
@@ -201,7 +203,7 @@ failed_applied before c started word kind f h good k is = by_life c.single.conne
         let u = up_tied (book before) (inner c started) link e h.sound.tied in
         let must = ap ending begins.ledger ∙ ready_heard l (failed f) u.up u.well in
         ended_applied (before ++ turn_of c word kind ∷ []) (turned c kind) (failed_at (record { conn = c.single.connection; acts = [] }) f (Ready link)) error.Closed started (λ z. absurd (omega arith))
-        (ended_moved (record { conn = c.single.connection; acts = [] }) (row_hit f link.row ++ queue_closed link.queue) ∙ h.moved)
+        (parted_moved (record { conn = c.single.connection; acts = [] }) (row_hit f link.row ++ queue_closed link.queue) ∙ h.moved)
         (fault_ends (before ++ turn_of c word kind ∷ []) (turned c kind) (record { conn = c.single.connection; acts = [] }) link f started begins.holds e must)
 
 -- the time of the opening is over while the link is set up

@@ -1,5 +1,5 @@
 -- The opening of the connection's link has failed, which is shown; and a link that is closed while it is set up.
-use Rattle.std.proofs.Common.{◌≡◌, ◌≢◌, ℕ, ◌+◌, ◌-◌, ◌==◌, Bool, true, false, List, [], ◌∷◌, ◌++◌, length, Some, None, refl, sym, ap, ◌∙◌, subst, arith}
+use Rattle.std.proofs.Common.{◌≡◌, ◌≢◌, ℕ, ◌+◌, ◌-◌, ◌==◌, Bool, true, false, List, [], ◌∷◌, ◌++◌, length, Some, None, refl, sym, ap, ◌∙◌, subst, arith, slice_get}
 use Rattle.std.proofs.lemmas.List.{append-nil}
 use Rattle.containers.proofs.Choices.{by_test, left_if, both_left, both_right, eq_from, ne_from, not_both}
 use Rattle.redis_error.specs.declared.redis_error.RedisError.{RedisError}
@@ -20,23 +20,24 @@ use Rattle.mux_conn.specs.Effects.{opening_failed}
 use Rattle.mux_conn.specs.Requests.{name_at}
 use Rattle.shared_session.specs.declared.core_state.Core.{Core}
 use Rattle.shared_session.specs.Turn.{with_work, is_bad}
-use Rattle.legal_trace.specs.Ledger.{Ledger, by_opening, ends, noted, noted_each, ending, ending_or_shutdown, failure_in, failure_of, is_ready, is_set_up}
+use Rattle.legal_trace.specs.Ledger.{Ledger, by_opening, ends, noted, noted_each, ending, ending_or_shutdown, failure_in, failure_of, is_ready, is_set_up, Heard, is_fault, next_push}
 use Rattle.legal_trace.specs.Story.{Story, bytes_of, is_open, last_of}
 use Rattle.legal_trace.specs.Book.{Book, blank_book, book, entered, if_mine}
 use Rattle.legal_trace.specs.Owed.{owed_to_try, owed_unstarted, unstarted_error}
-use Rattle.legal_trace.specs.Legal.{AllStand, FailuresAreShown, MayClose, MayFail, NoneEnds, VerdictsAreShown}
+use Rattle.legal_trace.specs.Legal.{AllStand, FailuresAreShown, MayClose, MayFail, NoneEnds, VerdictsAreShown, is_heard}
 use Rattle.session_laws.proofs.Numbers.{IsIn}
 use Rattle.session_laws.proofs.Tied.{AreSetups, HasSaid, inner, link_in, TiedLife, TiedLines, Tied}
 use Rattle.session_laws.proofs.States.{Between, HasApplied}
 use Rattle.session_laws.proofs.Entered.{all_stand-append, shown_more}
 use Rattle.session_laws.proofs.Names.{get_some, name_of_some, open_within}
-use Rattle.session_laws.proofs.Owes.{in_time, not_empty, open_request, request_story}
+use Rattle.session_laws.proofs.Owes.{in_time, not_empty, open_request, request_story, get_behind}
 use Rattle.session_laws.proofs.Kept.{mine_noted, others_kept}
 use Rattle.session_laws.proofs.Answer.{after_end, unknown_ends}
 use Rattle.session_laws.proofs.Settle.{seen, sound_act, trace_of_acts, Holds, book_of_more}
 use Rattle.session_laws.proofs.Close.{ended_applied, ended_waits, waiting_ends, waiting_leaves}
 use Rattle.session_laws.proofs.Announce.{turn_of, turned, IsNewsKind, first_book, heard_book, heard_is, heard_starts, heard_tied_by, may_turn, others_heard}
 use Rattle.session_laws.proofs.Heard.{heard_by, book_kind, book_news}
+use Rattle.session_laws.proofs.Said.{PushesOf}
 
 -- the failure is shown
 --
@@ -95,16 +96,17 @@ unstarted_owed b now c started h none same alive n asked on =
     ∙ ap (λ ts. owed_to_try now (now.story n) (last_of ts)) untried ∙ ap (λ m. owed_unstarted (now.link m).end) (ap (λ (x : Story). x.link) is ∙ q.on) ∙ ap owed_unstarted alive
 
 -- a link that isn't set up, and whose opening fails with this error
-pub record Fails (l : Ledger) (info : RedisConnectionInfo) (x : RedisError) : Type 0 where
+pub record Fails (l : Ledger) (info : RedisConnectionInfo) (heard mine : Bool) (x : RedisError) : Type 0 where
   pub alive : l.end ≡ None
   pub unready : is_set_up l ≡ false
   pub must : ending l ≡ Some (by_opening x)
   pub info_is : l.info ≡ info
   pub sent : AreSetups l
+  pub pushes : PushesOf heard mine l
 
 -- it is closed, and its opening has failed
 pub setup_fails : (before : List Action) (c : Core) (started : List ℕ) (word : ℕ) (kind : EventKind) (n : News) (x : RedisError) (link : LinkState) (with_user : Bool) → Between before c started → is_bad c kind ≡ false → IsNewsKind c.timers kind → news_of c.timers c.single.link kind ≡ n
-    → c.single.connection.life ≡ SettingUp link with_user → Fails (heard_by (book before) c n) c.single.connection.info x
+    → c.single.connection.life ≡ SettingUp link with_user → Fails (heard_by (book before) c n) c.single.connection.info (is_heard (book before)) c.single.connection.hears x
     → IsFailing (trace_of_acts (before ++ turn_of c word kind ∷ []) (turned c kind) (act.Close ∷ [])) (turned c kind) (act.Close ∷ []) c.single.connection x started
 setup_fails before c started word kind n x link with_user h good k is e fails =
     let b = book before in
@@ -124,14 +126,22 @@ setup_fails before c started word kind n x link with_user h good k is e fails =
     let links : ℕ → Ledger = λ m. noted_each (now.link m) (if_mine (c.single.link == m) line) in
     let closed : links c.single.link ≡ noted l line = mine_noted (now.link c.single.link) c.single.link line ∙ ap (λ (y : Ledger). noted y line) own in
     let t = seen f (act.Close ∷ []) (record conn { life = Ended x }) [] started in
-    let tied : Tied (entered (entered now close) (action.Created (Some x))) t = heard_tied_by b c started word (b.created + 1) kind (Ended x) conn.fresh [] links (noted l line) h0
+    let tied : Tied (entered (entered now close) (action.Created (Some x))) t = heard_tied_by b c started word (b.created + 1) kind (Ended x) conn.fresh [] [] links (noted l line) h0
     (others_kept now c.single.link line others) closed (heard_starts l0 c.turns n)
     (refl, ap (λ w. Some (outcome.Fault (unstarted_error (ending_or_shutdown w)))) fails.must, λ y shown z. absurd (omega arith))
     (record { info_is = fails.info_is; sent = fails.sent; said = tt })
     (λ z. cc)
     (subst (λ (y : Life). TiedLines b.story conn.requests (link_in y) conn.waiting conn.admitted [] started) e h0.lines)
     (λ z. cc)
-    (ended_waits b.story conn.requests conn.life x conn.fresh conn.moved h0.waits) in
+    (ended_waits b.story conn.requests conn.life x conn.fresh conn.moved h0.waits)
+    (record {
+      heard_is = fails.pushes.heard_is;
+      within = fails.pushes.within;
+      untold_is = fails.pushes.untold_is;
+      parts = λ heard done cut. absurd (not_both (is_fault (by_opening x)) refl (sym (ap (λ w. is_fault (ending_or_shutdown w)) fails.must) ∙ cut));
+      alive = λ none. cc;
+      due = fails.pushes.due;
+    }) in
     let first : book (trace_of_acts front f []) ≡ now = first_book before (turn_of c word kind) f ∙ heard_is b c.turns word kind (book_kind b c kind h0.numbers.timers k) in
     let trace = trace_of_acts front f (act.Close ∷ []) in
     let book_is : book trace ≡ entered now close = book_of_more front f [] act.Close ∙ ap (λ (y : Book). entered y close) first in
@@ -145,6 +155,9 @@ setup_fails before c started word kind n x link with_user h good k is e fails =
       created = λ m ready. by_test (m == c.single.link) _
           (λ same. absurd (not_both (is_set_up l) fails.unready (ap is_set_up (sym own) ∙ both_right (now.link c.single.link).up (is_set_up (now.link c.single.link)) (subst (λ i. is_ready (now.link i) ≡ true) (eq_from m c.single.link same) ready))))
           (λ other. absurd (not_both (now.link m).up (others m (ne_from m c.single.link other)).up (both_left (now.link m).up (is_set_up (now.link m)) ready)));
+      pushed = λ m heard. by_test (m == c.single.link) _
+          (λ same. subst (λ i. next_push (now.link i) ≡ None) (sym (eq_from m c.single.link same)) (ap next_push own ∙ get_behind l.told l.pushes (fails.pushes.untold_is (sym fails.pushes.heard_is ∙ heard))))
+          (λ other. ap (λ (hs : List Heard). slice_get hs (now.link m).told) (others m (ne_from m c.single.link other)).pushes);
     } in
     record {
       stands = subst (AllStand blank_book) (sym shown) (all_stand-append (trace_of_acts front f []) (close ∷ []) all (subst (λ (y : Book). MayClose y c.single.link) (sym first) may, tt));
@@ -155,7 +168,7 @@ setup_fails before c started word kind n x link with_user h good k is e fails =
 
 -- so the event has had its effect
 pub setup_failed : (before : List Action) (c : Core) (started : List ℕ) (word : ℕ) (kind : EventKind) (n : News) (x : RedisError) (link : LinkState) (with_user : Bool) → Between before c started → is_bad c kind ≡ false → IsNewsKind c.timers kind → news_of c.timers c.single.link kind ≡ n
-    → c.single.connection.life ≡ SettingUp link with_user → Fails (heard_by (book before) c n) c.single.connection.info x
+    → c.single.connection.life ≡ SettingUp link with_user → Fails (heard_by (book before) c n) c.single.connection.info (is_heard (book before)) c.single.connection.hears x
     → HasApplied (before ++ turn_of c word kind ∷ []) (with_work (record { core = turned c kind; acts = [] }) (opening_failed (record { conn = c.single.connection; acts = act.Close ∷ [] }) x)) started
 setup_failed before c started word kind n x link with_user h good k is e fails =
     failing_applied (before ++ turn_of c word kind ∷ []) (turned c kind) (record { conn = c.single.connection; acts = act.Close ∷ [] }) x started (λ z. absurd (omega arith)) h.moved

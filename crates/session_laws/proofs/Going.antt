@@ -24,10 +24,10 @@ use Rattle.session_laws.proofs.InLine.{first_is_least, kept_ids, kept_in}
 use Rattle.session_laws.proofs.Moves.{IsLater, later_of, unstarted_alive}
 use Rattle.session_laws.proofs.Names.{earlier_name}
 use Rattle.session_laws.proofs.Numbers.{IsIn, Rising, in_left, in_right, rising_in, rising_right}
-use Rattle.session_laws.proofs.Owes.{created_is, none_open, none_owed}
+use Rattle.session_laws.proofs.Owes.{created_is, ends_told, none_open, none_owed, pushes_told}
 use Rattle.session_laws.proofs.SetUp.{down_undue, none_due, sent_undue, set_up_undue}
 use Rattle.session_laws.proofs.States.{IsFit}
-use Rattle.session_laws.proofs.Tied.{HasSaid, Inner, IsSetUp, Sound, Tied, TiedLife, carried, has_ended, link_in, queue_ids, waiting_ids, whole_link}
+use Rattle.session_laws.proofs.Tied.{HasSaid, Inner, IsSetUp, Sound, Tied, TiedLife, carried, has_ended, link_in, queue_ids, waiting_ids, whole_link, IsToldIn}
 
 -- nothing must end
 pub record IsGoing (trace : List Action) (t : Inner) : Type 0 where
@@ -42,8 +42,8 @@ going_more trace a t stands may tied none = record {
 }
 
 -- the event has had its effect, while nothing is to be answered and the link has not ended
-pub applied_up : (b : Book) (t : Inner) → Tied b t → t.pending ≡ [] → has_ended t.life ≡ false → NoneEnds b → IsApplied b
-applied_up b t h none up ended = record { answered = none_owed b t h none up; ended = ended; created = created_is b t h; timed = h.numbers.timed }
+pub applied_up : (b : Book) (t : Inner) → Tied b t → t.pending ≡ [] → IsToldIn t → has_ended t.life ≡ false → NoneEnds b → IsApplied b
+applied_up b t h none told up ended = record { answered = none_owed b t h none up; ended = ended; created = created_is b t h; pushed = pushes_told b t h told.0; parted = ends_told b t h told.1; timed = h.numbers.timed }
 
 -- each setup has started that is to start, but where its link is held back, where it is so of the link of the session
 pub setups_started : (b : Book) (t : Inner) → Tied b t → ((link : LinkState) (with_user : Bool) → t.life ≡ SettingUp link with_user → (setup_due (b.link t.link) ≡ None) ⊎ (is_held_back b (b.link t.link) ≡ true)) → SetupsAreStarted b
@@ -67,18 +67,20 @@ ready_not_setting : (life : Life) (link : LinkState) (with_user : Bool) → is_r
 ready_not_setting life link with_user r e = not_both (is_ready life) (ap is_ready e) r
 
 -- so on a link that is up requests may be moved
-pub begun_up : (b : Book) (t : Inner) → Tied b t → t.pending ≡ [] → is_ready t.life ≡ true → NoneEnds b → IsBegun b
-begun_up b t h none ready ended = record {
-  applied = applied_up b t h none (ready_alive t.life ready) ended;
+pub begun_up : (b : Book) (t : Inner) → Tied b t → t.pending ≡ [] → IsToldIn t → is_ready t.life ≡ true → NoneEnds b → IsBegun b
+begun_up b t h none told ready ended = record {
+  applied = applied_up b t h none told (ready_alive t.life ready) ended;
   setups = setups_started b t h (λ link with_user e. absurd (ready_not_setting t.life link with_user ready e));
 }
 
 -- or none waits
-pub applied_over : (b : Book) (t : Inner) (e : RedisError) → Tied b t → t.pending ≡ [] → t.life ≡ Ended e → kept_ids t.admitted t.waiting ≡ [] → NoneEnds b → IsApplied b
-applied_over b t e h none over empty ended = record {
+pub applied_over : (b : Book) (t : Inner) (e : RedisError) → Tied b t → t.pending ≡ [] → IsToldIn t → t.life ≡ Ended e → kept_ids t.admitted t.waiting ≡ [] → NoneEnds b → IsApplied b
+applied_over b t e h none told over empty ended = record {
   answered = λ n o. absurd (none_open b t e n h none over empty o);
   ended = ended;
   created = created_is b t h;
+  pushed = pushes_told b t h told.0;
+  parted = ends_told b t h told.1;
   timed = h.numbers.timed;
 }
 
@@ -203,28 +205,28 @@ up_moves_none b t h r nobody still full none n m =
     ]
 
 -- where nothing is to be answered, nothing must end, and nothing moves
-pub is_moved : (b : Book) (t : Inner) → Tied b t → t.pending ≡ [] → t.letting ≡ [] → NoneEnds b → ((link : LinkState) → t.life ≡ Ready link → IsFit t.size t.bound link) → (((link : LinkState) → t.life ≡ Ready link → ⊥) → t.admitted ≡ [])
+pub is_moved : (b : Book) (t : Inner) → Tied b t → t.pending ≡ [] → IsToldIn t → t.letting ≡ [] → NoneEnds b → ((link : LinkState) → t.life ≡ Ready link → IsFit t.size t.bound link) → (((link : LinkState) → t.life ≡ Ready link → ⊥) → t.admitted ≡ [])
     → ((link : LinkState) → t.life ≡ Ready link → (link.queue ≡ []) ⊎ (holds_back link ≡ true)) → ((link : LinkState) → t.life ≡ Ready link → (t.admitted ≡ []) ⊎ (is_full link ≡ true))
     → ((link : LinkState) → t.life ≡ Ready link → (t.waiting ≡ []) ⊎ (has_no_permit t.limit t.free ≡ true)) → (has_ended t.life ≡ true → t.waiting ≡ [])
     → ((link : LinkState) (with_user : Bool) → t.life ≡ SettingUp link with_user → IsFit t.size t.bound link) → ((link : LinkState) (with_user : Bool) → t.life ≡ SettingUp link with_user → (link.queue ≡ []) ⊎ (holds_back link ≡ true)) → IsMoved b
-is_moved b t h none alone ends fit nobody held full stuck gone setup_fit setup_held = by_life t.life refl
+is_moved b t h none told alone ends fit nobody held full stuck gone setup_fit setup_held = by_life t.life refl
   where
     setups : SetupsAreStarted b
     setups = setups_started b t h (λ link with_user e. setting_done b t link with_user h e (setup_fit link with_user e) (setup_held link with_user e))
 
     by_life : (life : Life) → t.life ≡ life → IsMoved b
     by_life Dialing e = record {
-      begun = record { applied = applied_up b t h none (ap has_ended e) ends; setups = setups };
+      begun = record { applied = applied_up b t h none told (ap has_ended e) ends; setups = setups };
       moved = down_moves_none b t h (dialing_down (b.link t.link) b.created t.life e h.life);
     }
     by_life (SettingUp link with_user) e = record {
-      begun = record { applied = applied_up b t h none (ap has_ended e) ends; setups = setups };
+      begun = record { applied = applied_up b t h none told (ap has_ended e) ends; setups = setups };
       moved = setting_moves_none b t link with_user h e;
     }
     by_life (Ready link) e =
         let here : link_in t.life ≡ link = ap link_in e in
         record {
-          begun = record { applied = applied_up b t h none (ap has_ended e) ends; setups = setups };
+          begun = record { applied = applied_up b t h none told (ap has_ended e) ends; setups = setups };
           moved = up_moves_none b t h (running_of t link none e (fit link e)) alone
               (subst (λ (x : LinkState). (x.queue ≡ []) ⊎ (holds_back x ≡ true)) (sym here) (held link e))
               (subst (λ (x : LinkState). (t.admitted ≡ []) ⊎ (is_full x ≡ true)) (sym here) (full link e))
@@ -232,7 +234,7 @@ is_moved b t h none alone ends fit nobody held full stuck gone setup_fit setup_h
         }
     by_life (Ended x) e = record {
       begun = record {
-        applied = applied_over b t x h none e (λ i. kept_ids (nobody (λ link r. (let no : Ended x ≡ Ready link = sym e ∙ r in cc)) i) (gone (ap has_ended e) i)) ends;
+        applied = applied_over b t x h none told e (λ i. kept_ids (nobody (λ link r. (let no : Ended x ≡ Ready link = sym e ∙ r in cc)) i) (gone (ap has_ended e) i)) ends;
         setups = setups;
       };
       moved = down_moves_none b t h (subst (λ (x : Life). TiedLife (b.link t.link) b.created x) e h.life).0;

@@ -1,5 +1,5 @@
 -- The turn of an event with news: how it begins, and where no act follows.
-use Rattle.std.proofs.Common.{◌≡◌, ◌≢◌, ℕ, ◌==◌, false, ◌&&◌, not, List, [], ◌∷◌, ◌++◌, Option, None, refl, sym, ap, ◌∙◌, subst, arith, Bool, true}
+use Rattle.std.proofs.Common.{◌≡◌, ◌≢◌, ℕ, ◌==◌, false, ◌&&◌, not, List, [], ◌∷◌, ◌++◌, Option, None, refl, sym, ap, ◌∙◌, subst, arith, Bool, true, ◌⊎◌, inl, inr}
 use Rattle.containers.proofs.Choices.{by_test, chosen, if_false, left_if, eq_from, ne_from, not_both}
 use Rattle.redis_error.specs.declared.redis_error.RedisError.TheVariants as error
 use Rattle.redis_error.specs.declared.redis_error.RedisError.{RedisError}
@@ -19,8 +19,8 @@ use Rattle.shared_session.specs.Turn.{with_work, is_bad}
 use Rattle.legal_trace.specs.Ledger.{Ledger, Ending, hears, noted, ending, ending_alive, ending_asked, is_over, bytes_came, dials, refused_in}
 use Rattle.legal_trace.specs.Book.{Book, book, entered}
 use Rattle.legal_trace.specs.Story.{Story}
-use Rattle.legal_trace.specs.Legal.{NoneEnds}
-use Rattle.session_laws.proofs.Said.{mild_end, setup_unheard}
+use Rattle.legal_trace.specs.Legal.{NoneEnds, is_heard}
+use Rattle.session_laws.proofs.Said.{mild_end, setup_unheard, IsNoPiece, PushesOf, pushes_hear}
 use Rattle.session_laws.proofs.Tied.{Inner, link_in, carried, whole_link, TiedLife, TiedSetup, TiedLines, AreQueued, TiedWaits, Tied, has_ended}
 use Rattle.session_laws.proofs.States.{IsFit, IsFitIn, Between, HasApplied}
 use Rattle.session_laws.proofs.Answer.{unknown_ends, not_up_ends, over_not_asked, some_end}
@@ -55,6 +55,7 @@ pub record Leads (b : Book) (c : Core) (n : News) (life : Life) (pending started
   pub lines : TiedLines b.story c.single.connection.requests (link_in life) c.single.connection.waiting c.single.connection.admitted pending started
   pub told : has_ended life ≡ false → AreQueued b.story c.single.connection.requests (link_in life)
   pub waits : TiedWaits b.story c.single.connection.requests life c.single.connection.fresh c.single.connection.moved
+  pub pushes : PushesOf (is_heard b) c.single.connection.hears (heard_by b c n)
 
 -- the news by the timers of the book
 pub book_news : (b : Book) (c : Core) (kind : EventKind) (n : News) → b.timers ≡ c.timers → news_of c.timers c.single.link kind ≡ n → news_of b.timers c.single.link kind ≡ n
@@ -76,6 +77,7 @@ pub record LeadsTo (b : Book) (c : Core) (n : News) (life : Life) (fresh pending
   pub lines : TiedLines b.story c.single.connection.requests (link_in life) c.single.connection.waiting c.single.connection.admitted pending started
   pub told : has_ended life ≡ false → AreQueued b.story c.single.connection.requests (link_in life)
   pub waits : TiedWaits b.story c.single.connection.requests life fresh c.single.connection.moved
+  pub pushes : PushesOf (is_heard b) c.single.connection.hears (heard_by b c n)
 
 -- it begins so
 pub fresh_begins : (before : List Action) (c : Core) (started : List ℕ) (word : ℕ) (kind : EventKind) (n : News) (life : Life) (fresh pending : List ℕ) → Between before c started → is_bad c kind ≡ false → IsNewsKind c.timers kind → news_of c.timers c.single.link kind ≡ n
@@ -85,7 +87,7 @@ fresh_begins before c started word kind n life fresh pending h good k is g =
     let l = heard_by b c n in
     let t = seen (turned c kind) [] (fresh_as c life fresh) pending started in
     let same : noted (b.link c.single.link) (hears c.turns (news_of b.timers c.single.link kind)) ≡ l = ap (λ (x : News). heard_by b c x) (book_news b c kind n h.sound.tied.numbers.timers is) in
-    let tied : Tied (heard_book b c.turns word kind) t = heard_tied b c started word b.created kind life fresh pending l h.sound.tied good same (heard_starts (b.link c.single.link) c.turns n) g.lived g.said g.linked g.lines g.told g.waits in
+    let tied : Tied (heard_book b c.turns word kind) t = heard_tied b c started word b.created kind life fresh pending [] l h.sound.tied good same (heard_starts (b.link c.single.link) c.turns n) g.lived g.said g.linked g.lines g.told g.waits g.pushes in
     let book_is : entered b (turn_of c word kind) ≡ heard_book b c.turns word kind = heard_is b c.turns word kind (book_kind b c kind h.sound.tied.numbers.timers k) in
     record {
       holds = holds_first (before ++ turn_of c word kind ∷ []) (turned c kind) (fresh_as c life fresh) pending started (announced_sound before c started word kind t h good (subst (λ (x : Book). Tied x t) (sym book_is) tied));
@@ -97,7 +99,7 @@ fresh_begins before c started word kind n life fresh pending h good k is g =
 pub heard_begins : (before : List Action) (c : Core) (started : List ℕ) (word : ℕ) (kind : EventKind) (n : News) (life : Life) (pending : List ℕ) → Between before c started → is_bad c kind ≡ false → IsNewsKind c.timers kind → news_of c.timers c.single.link kind ≡ n
     → Leads (book before) c n life pending started → Begins (before ++ turn_of c word kind ∷ []) (turned c kind) (lives_as c life) (heard_by (book before) c n) (book before).story pending started
 heard_begins before c started word kind n life pending h good k is g =
-    let s = fresh_begins before c started word kind n life c.single.connection.fresh pending h good k is (record { lived = g.lived; said = g.said; linked = g.linked; lines = g.lines; told = g.told; waits = g.waits }) in
+    let s = fresh_begins before c started word kind n life c.single.connection.fresh pending h good k is (record { lived = g.lived; said = g.said; linked = g.linked; lines = g.lines; told = g.told; waits = g.waits; pushes = g.pushes }) in
     record { holds = s.holds; ledger = s.ledger; stories = s.stories }
 
 -- where the link need not end then, and no act follows, the event has had its effect
@@ -128,11 +130,15 @@ quiet_applied before c started word kind n life h good k is g no_end fit =
       fit = fit;
     }
 
+-- what is still to be told of the pushes
+pub pushes_still : (before : List Action) (c : Core) (started : List ℕ) (n : News) → Between before c started → IsNoPiece n ⊎ (((book before).link c.single.link).up ≡ false) → PushesOf (is_heard (book before)) c.single.connection.hears (heard_by (book before) c n)
+pushes_still before c started n h k = pushes_hear ((book before).link c.single.link) c.turns n (is_heard (book before)) c.single.connection.hears k h.sound.tied.pushes
+
 -- what is alike of any life
-pub leads_on : (before : List Action) (c : Core) (started : List ℕ) (n : News) → Between before c started → (let l = heard_by (book before) c n in let life = c.single.connection.life in
+pub leads_on : (before : List Action) (c : Core) (started : List ℕ) (n : News) → Between before c started → IsNoPiece n ⊎ (((book before).link c.single.link).up ≡ false) → (let l = heard_by (book before) c n in let life = c.single.connection.life in
     TiedLife l (book before).created life × TiedSetup l c.single.connection.info started life × (has_ended life ≡ false → TiedLink (carried life c.single.connection.requests) l (whole_link life)))
     → Leads (book before) c n c.single.connection.life [] started
-leads_on before c started n h g = record { lived = g.0; said = g.1; linked = g.2; lines = h.sound.tied.lines; told = h.sound.tied.told; waits = h.sound.tied.waits }
+leads_on before c started n h k g = record { lived = g.0; said = g.1; linked = g.2; lines = h.sound.tied.lines; told = h.sound.tied.told; waits = h.sound.tied.waits; pushes = pushes_still before c started n h k }
 
 -- a link that has ended hears nothing
 --
@@ -169,7 +175,7 @@ ended_quiet before c started word kind n error h good k is over =
     let life = subst (λ (x : Life). TiedLife l b.created x) over h.sound.tied.life in
     let after = ended_hears l b.created error c.turns n life in
     quiet_applied before c started word kind n c.single.connection.life h good k is
-    (leads_on before c started n h (
+    (leads_on before c started n h (inr life.0) (
       subst (λ (x : Life). TiedLife (noted l (hears c.turns n)) b.created x) (sym over) after,
       setup_unheard l c.turns n c.single.connection.info started c.single.connection.life life.0 h.sound.tied.setup,
       λ alive. absurd (not_both (has_ended c.single.connection.life) alive (ap has_ended over)),
@@ -226,7 +232,7 @@ dialing_quiet before c started word kind n o h good k is dialing =
     let l = b.link c.single.link in
     let life = subst (λ (x : Life). TiedLife l b.created x) dialing h.sound.tied.life in
     quiet_applied before c started word kind n c.single.connection.life h good k is
-    (leads_on before c started n h (
+    (leads_on before c started n h (inr life.1) (
       subst (λ (x : Life). TiedLife (noted l (hears c.turns n)) b.created x) (sym dialing) (dialing_hears l b.created c.turns n o life),
       setup_unheard l c.turns n c.single.connection.info started c.single.connection.life life.1 h.sound.tied.setup,
       λ alive. unheard_tied (carried c.single.connection.life c.single.connection.requests) l (whole_link c.single.connection.life) c.turns n life.1 (h.sound.tied.link alive),

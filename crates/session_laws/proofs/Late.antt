@@ -46,7 +46,7 @@ use Rattle.session_laws.proofs.Owes.{answered_closed, in_time, line_unowed, live
 use Rattle.session_laws.proofs.Permits.{IsHolding, permits_same}
 use Rattle.session_laws.proofs.Kept.{one_changed, packed_same, queued_same, tied_by, tries_same}
 use Rattle.session_laws.proofs.Closing.{one_of, told_closed}
-use Rattle.session_laws.proofs.Answer.{answer_apart, may_answer, owed_untold}
+use Rattle.session_laws.proofs.Answer.{answer_apart, may_answer, owed_untold, none_before}
 use Rattle.session_laws.proofs.Settle.{book_of_more, holds_more, seen, trace_of_acts}
 use Rattle.session_laws.proofs.Announce.{announced_sound, first_book, holds_first, turn_of, turned}
 use Rattle.session_laws.proofs.Heard.{silent_applied, still_none}
@@ -270,6 +270,7 @@ late_tied b c started word n p h is o =
     (tied_by (record now { story = after }) t (record ledger { heard = silence }) heard (record {
       numbers = silent_numbers b c started word (event.Fired n) c.timeout after conn.free (cancelled_in conn.life p) conn.requests (p ∷ []) q h;
       others = λ k other. silent_others b c (event.Fired n) c.timeout k q (h.others k other);
+      pushes = h.pushes;
       life = left_life ledger b.created conn.life p h.life;
       setup = left_setup ledger conn.info started conn.life p h.setup;
       link = λ alive. left_link conn.requests ledger conn.life p h.link alive;
@@ -388,7 +389,7 @@ late_answered before c started word n p h good is o =
     let was_asked = (request_story b0 (inner c started) p h.sound.tied l).open_is ∙ o in
     let apart = late_apart b0 (inner c started) conn.life p h.sound.tied refl alive was_asked in
     let lived = lives (b.link f.single.link) b.created (cancelled_in conn.life p) holds.tied.life up in
-    let may = may_answer b t p over holds.tied o owes (λ q less asked_q. others_unowed b t p q holds.tied refl up less asked_q) (λ ended. absurd (not_both (is_over (b.link f.single.link)) (ap is_some lived) ended)) in
+    let may = may_answer b t p over holds.tied o owes (λ q less asked_q. others_unowed b t p q holds.tied refl up less asked_q) (none_before b t m holds.tied refl) (λ ended. absurd (not_both (is_over (b.link f.single.link)) (ap is_some lived) ended)) in
     let link = link_in (cancelled_in conn.life p) in
     let told = λ (x : has_ended (cancelled_in conn.life p) ≡ false). told_closed b.story conn.requests p (λ k. answered (b.story k) over) link link (λ u. absurd (owed_untold b m over asked owes u)) (λ q told_q i. i) (holds.tied.told x) in
     let answer = answer_apart b (seen f [] (late_conn c p) [] started) p [] over l apart told holds.tied in

@@ -126,6 +126,7 @@ no_causes l n [] = refl
 no_causes l n (act.Created e ∷ acts) = no_causes l (n + length (timer_of (act.Created e))) acts
 no_causes l n (act.Took k count ∷ acts) = no_causes l (n + length (timer_of (act.Took k count))) acts
 no_causes l n (act.Timer k ms ∷ acts) = no_causes l (n + length (timer_of (act.Timer k ms))) acts
+no_causes l n (act.Push info ∷ acts) = no_causes l (n + length (timer_of (act.Push info))) acts
 no_causes l n (act.Close ∷ acts) = no_causes l (n + length (timer_of act.Close)) acts
 no_causes l n (act.Write bytes ∷ acts) = no_causes l (n + length (timer_of (act.Write bytes))) acts
 no_causes l n (act.Wait k kind ∷ acts) = no_causes l (n + length (timer_of (act.Wait k kind))) acts

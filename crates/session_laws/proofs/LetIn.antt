@@ -49,7 +49,7 @@ use Rattle.session_laws.proofs.Permits.{held_changed, held_same, on_this}
 use Rattle.session_laws.proofs.Closing.{one_of}
 use Rattle.session_laws.proofs.Said.{carried_tied}
 use Rattle.session_laws.proofs.States.{IsFit}
-use Rattle.session_laws.proofs.Tied.{IsAim, AreAimed, AreQueued, Inner, IsEntry, IsKept, IsOf, IsPacked, IsQueued, IsRequest, Tied, TiedLines, TiedNames, TiedNumbers, TiedPermits, TiedStory, TiedTries, TiedWaits, link_in, owners_each, queue_ids, setup_owners, shown_wait, waiting_ids, numbers_kept}
+use Rattle.session_laws.proofs.Tied.{IsAim, AreAimed, AreQueued, Inner, IsEntry, IsKept, IsOf, IsPacked, IsQueued, IsRequest, Tied, TiedLines, TiedNames, TiedNumbers, TiedPermits, TiedStory, TiedTries, TiedWaits, link_in, owners_each, queue_ids, setup_owners, shown_wait, waiting_ids, numbers_kept, IsToldIn}
 use Rattle.session_laws.proofs.Moves.{or_true}
 use Rattle.session_laws.proofs.Behind.{some_more}
 
@@ -290,6 +290,7 @@ let_tied : (b : Book) (t : Inner) (p count free : ℕ) (g : ℕ → Story) (note
 let_tied b t p count free g noted timers w alone eased has sum numbers h = record {
   numbers = numbers;
   others = h.others;
+  pushes = h.pushes;
   life = h.life;
   setup = h.setup;
   link = λ e. carried_tied t.life t.requests (with_permits t.requests p progress.Waiting count) (b.link t.link) (sym (owners_with t.requests p progress.Waiting count)) (h.link e);
@@ -334,6 +335,7 @@ first_early b t q rest h r still full first n before m =
 pub record IsOpening (t : Inner) (link : LinkState) (q : Waiting) (qs : List Waiting) : Type 0 where
   pub life : t.life ≡ Ready link
   pub settled : t.pending ≡ []
+  pub told : IsToldIn t
   pub fit : IsFit t.size t.bound link
   pub held : (link.queue ≡ []) ⊎ (holds_back link ≡ true)
   pub full : (t.admitted ≡ []) ⊎ (is_full link ≡ true)
@@ -378,7 +380,7 @@ may_take b t link q qs k o alone e some h ends =
     let p = q.number in
     let within = there_within is_waiting t.requests p o.is_waiting in
     record {
-      begun = begun_up b t h o.settled (ap is_ready o.life) ends;
+      begun = begun_up b t h o.settled o.told (ap is_ready o.life) ends;
       unstarted = opening_unstarted b t link q qs o h;
       takes = take_step b t p k h (opening_running t link q qs o) o.is_waiting (λ i. subst (IsIn p) alone i) e some
           ∙ ap (λ x. takes (min t.free (permits_for x k))) (sym (opening_packed b t link q qs o h).is_of.shape_is);
@@ -442,7 +444,7 @@ may_time b t link q qs number ms o h ends counted has time none =
     let p = q.number in
     record {
       n = name_at t.requests p;
-      begun = begun_up b t h o.settled (ap is_ready o.life) ends;
+      begun = begun_up b t h o.settled o.told (ap is_ready o.life) ends;
       unstarted = opening_unstarted b t link q qs o h;
       asks = ask_step b t p ms h (opening_running t link q qs o) (waiting_open t.requests p o.is_waiting) has (sym (opening_packed b t link q qs o h).time_is ∙ time) none;
       in_order = opening_first b t link q qs o h;
@@ -573,6 +575,7 @@ opening_taken : (t : Inner) (link : LinkState) (q : Waiting) (qs : List Waiting)
 opening_taken t link q qs count free timers o = record {
   life = o.life;
   settled = o.settled;
+  told = o.told;
   fit = o.fit;
   held = o.held;
   full = o.full;

@@ -12,6 +12,7 @@ pub mod Owes
 pub mod Closing
 pub mod Answer
 pub mod Kept
+pub mod Told
 pub mod Start
 pub mod Moves
 pub mod Ahead
@@ -22,6 +23,7 @@ pub mod Settle
 pub mod LetIn
 pub mod SetsUp
 pub mod Close
+pub mod Telling
 pub mod Announce
 pub mod Heard
 pub mod Failing

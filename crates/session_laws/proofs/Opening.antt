@@ -1,5 +1,5 @@
 -- The opening: the first link is asked for.
-use Rattle.std.proofs.Common.{List, None, Option, Some, [], ap, arith, false, inl, inr, refl, subst, suc, sym, zero, ℕ, ◌+◌, ◌<◌, ◌∙◌, ◌∷◌, ◌≡◌, ◌≢◌}
+use Rattle.std.proofs.Common.{List, None, Option, Some, [], ap, arith, false, inl, inr, refl, subst, suc, sym, zero, ℕ, ◌+◌, ◌<◌, ◌∙◌, ◌∷◌, ◌≡◌, ◌≢◌, Bool, ◌&&◌, not}
 use Rattle.std.specs.Prelude.{unwrap_or, ◌==◌}
 use Rattle.containers.proofs.Choices.{chosen, left_if, ne_from, ne_test}
 use Rattle.connection_info.specs.declared.address.ConnectionInfo.{ConnectionInfo}
@@ -8,7 +8,7 @@ use Rattle.redis_error.specs.declared.config_name.ConfigName.TheVariants as name
 use Rattle.driver_model.specs.declared.action.Action.TheVariants as action
 use Rattle.driver_model.specs.declared.action.Cause.TheVariants as cause
 use Rattle.driver_model.specs.declared.config.Config.{Config}
-use Rattle.driver_model.specs.Config.{address, boundary, buffer_fault, buffer_size, connect_timeout, fault_in, response_timeout, room_fault, told_info}
+use Rattle.driver_model.specs.Config.{address, boundary, buffer_fault, buffer_size, connect_timeout, fault_in, response_timeout, room_fault, told_info, hears_pushes}
 use Rattle.driver_model.specs.declared.action.Action.{Action}
 use Rattle.driver_model.specs.declared.action.Cause.{Cause}
 use Rattle.driver_model.specs.declared.action.Purpose.{Purpose}
@@ -28,6 +28,7 @@ use Rattle.session_laws.proofs.States.{IsFitIn, IsStill}
 use Rattle.session_laws.proofs.Tied.{AreAimed, IsAim, IsUnknown, Tied, TiedLines, TiedNames, TiedNumbers, TiedPermits, TiedTries, TiedWaits, inner, no_link, owner_of, owners_of, setup_owners}
 use Rattle.session_laws.proofs.Waits.{IsQuiet}
 use Rattle.session_laws.proofs.Write.{is_written}
+use Rattle.connection_info.specs.Protocol.{is_resp3}
 
 -- what timers the opening has asked for
 abbrev asks_timers : List Purpose → Book → Book
@@ -46,7 +47,7 @@ opened_core config timers = record {
   timeout = response_timeout config;
   timers = timers;
   table = [];
-  single = record { link = first_link; connection = dialing (buffer_size config) (boundary config) config.limit (told_info config) };
+  single = record { link = first_link; connection = dialing (buffer_size config) (boundary config) config.limit (hears_pushes config) (told_info config) };
 }
 
 -- no other link is told of
@@ -93,8 +94,9 @@ room_sized (Some k) size =
     same_number k l e = cc
 
 -- behind the address
-sized : (info : ConnectionInfo) (limit : Option ℕ) (size : ℕ) → fault_in (Some info) limit size ≡ None → IsSized limit size
-sized info limit size e = room_sized limit size e
+sized : (info : ConnectionInfo) (heard : Bool) (limit : Option ℕ) (size : ℕ) → fault_in (Some info) heard limit size ≡ None → IsSized limit size
+sized info heard limit size =
+    chosen (λ (x : Option ConfigName). x ≡ None → IsSized limit size) (heard && not (is_resp3 info.redis.protocol)) (Some name.Push) (room_fault limit size) (λ t e. absurd (no_fault name.Push e)) (λ n e. room_sized limit size e)
 
 -- its numbers
 opening_numbers : (config : Config) (word : ℕ) (info : ConnectionInfo) (timeout : Option ℕ) → IsSized config.limit (buffer_size config) → connect_timeout config ≡ timeout → TiedNumbers (opened config word info (connect_timers timeout)) (inner (opened_core config (connect_timers timeout)) [])
@@ -154,7 +156,8 @@ opening_tries l none = record { owners = ap owners_of none ∙ ap (λ (ss : List
 opening_tied : (config : Config) (word : ℕ) (info : ConnectionInfo) (timeout : Option ℕ) → IsSized config.limit (buffer_size config) → connect_timeout config ≡ timeout → Tied (opened config word info (connect_timers timeout)) (inner (opened_core config (connect_timers timeout)) [])
 opening_tied config word info timeout some is = record {
   numbers = opening_numbers config word info timeout some is;
-  others = λ m other. subst IsUnknown (sym (opened_link config word info (connect_timers timeout) m other)) (record { asked = refl; up = refl; end = refl; starts = refl });
+  others = λ m other. subst IsUnknown (sym (opened_link config word info (connect_timers timeout) m other)) (record { asked = refl; up = refl; end = refl; starts = refl; pushes = refl });
+  pushes = record { heard_is = refl; within = λ y. omega arith; untold_is = λ y. refl; parts = λ y d z. cc; alive = λ z. refl; due = λ z. cc };
   life = (refl, refl, refl, refl);
   setup = record { info_is = refl; sent = λ k s less e. absurd (omega arith); said = (refl, refl) };
   link = λ e. asked_tied (owner_of []) blank_ledger (told_info config) no_link (fresh_tied (owner_of []) 0 0);
@@ -206,7 +209,7 @@ opened_between config word info timeout sound at some is =
     let tied = opening_tied config word info timeout some is in
     let fit : IsFitIn conn = record { setup = λ link u e. cc; link = λ link e. cc; none = λ no. refl } in
     let still : IsStill conn = record { setup = λ link u e. cc; held = λ link e. cc; full = λ link e. cc; waiting = λ link e. cc; none_waits = λ e. refl } in
-    let moved = is_moved b t tied refl refl (opening_ends config word info timers) fit.link fit.none still.held still.full still.waiting still.none_waits fit.setup still.setup in
+    let moved = is_moved b t tied refl (refl, refl) refl (opening_ends config word info timers) fit.link fit.none still.held still.full still.waiting still.none_waits fit.setup still.setup in
     let written = is_written b t tied moved refl in
     let quiet : IsQuiet t = record { settled = refl; alone = refl; fit = fit.link; none = fit.none; held = still.held; full = still.full; waiting = still.waiting; gone = still.none_waits; setup_fit = fit.setup; setup_held = still.setup } in
     let book_is = sym (opening_book config word info timeout) in
@@ -227,7 +230,7 @@ opened_between config word info timeout sound at some is =
 pub opening_between : (config : Config) (word : ℕ) → IsSound config → IsBetween (opening_actions config word) (opening_core config word)
 opening_between config word sound = by_address (address config) refl sound
   where
-    by_address : (x : Option ConnectionInfo) → address config ≡ x → fault_in x config.limit (buffer_size config) ≡ None
+    by_address : (x : Option ConnectionInfo) → address config ≡ x → fault_in x (hears_pushes config) config.limit (buffer_size config) ≡ None
         → IsBetween (action.Turn 0 (cause.Opening config word) ∷ connect_asked x (connect_timeout config)) (opening_core config word)
     by_address None at none = cc
-    by_address (Some info) at none = opened_between config word info (connect_timeout config) sound at (sized info config.limit (buffer_size config) none) refl
+    by_address (Some info) at none = opened_between config word info (connect_timeout config) sound at (sized info (hears_pushes config) config.limit (buffer_size config) none) refl

@@ -144,6 +144,7 @@ action_outcomes os b (action.Connect l host port) may h = same_outcomes os b (ac
 action_outcomes os b (action.Timer t ms what) may h = same_outcomes os b (action.Timer t ms what) refl (timer_same b t ms what) h
 action_outcomes os b (action.Took owner.Setup l count) may h = absurd may
 action_outcomes os b (action.Took (owner.Try m round) l count) may h = same_outcomes os b (action.Took (owner.Try m round) l count) refl (took_same b m round l count) h
+action_outcomes os b (action.Push l info) may h = same_outcomes os b (action.Push l info) refl (λ n. (refl, refl)) h
 action_outcomes os b (action.Close l) may h = same_outcomes os b (action.Close l) refl (λ n. (refl, refl)) h
 action_outcomes os b (action.Write l bytes) may h = same_outcomes os b (action.Write l bytes) refl (λ n. (refl, refl)) h
 action_outcomes os b (action.Wait owner.Setup kind) may h = absurd may

@@ -1,5 +1,5 @@
 -- What submissions are owed, by the requests that they are.
-use Rattle.std.proofs.Common.{◌≡◌, ◌≢◌, inl, inr, ℕ, zero, suc, ◌+◌, ◌<◌, ◌==◌, Bool, true, false, ◌&&◌, not, is_some, length-append, List, [], ◌∷◌, ◌++◌, length, Option, Some, None, slice_get, refl, sym, ap, ◌∙◌, subst, arith}
+use Rattle.std.proofs.Common.{◌≡◌, ◌≢◌, inl, inr, ℕ, zero, suc, ◌+◌, ◌<◌, ◌==◌, Bool, true, false, ◌&&◌, not, is_some, length-append, List, [], ◌∷◌, ◌++◌, length, Option, Some, None, slice_get, refl, sym, ap, ◌∙◌, subst, arith, drop}
 use Rattle.std.specs.List.{AllByRecursion}
 use Rattle.std.proofs.lemmas.List.{nil_from_length}
 use Rattle.containers.proofs.Choices.{by_test, left_if, eq_from, ne_from, ne_test, not_both}
@@ -20,11 +20,11 @@ use Rattle.mux_conn.specs.declared.life.Life.TheVariants.{Dialing, SettingUp, Re
 use Rattle.mux_conn.specs.declared.request.Pending.{Pending}
 use Rattle.mux_conn.specs.declared.request.Request.{Request}
 use Rattle.mux_conn.specs.Requests.{name_at, is_open_at}
-use Rattle.legal_trace.specs.Ledger.{full_count, Ledger, Start, End, failure_in, is_of_setup, setup_count}
+use Rattle.legal_trace.specs.Ledger.{full_count, Ledger, Heard, Start, End, failure_in, is_cut, is_of_setup, next_push, setup_count}
 use Rattle.legal_trace.specs.Story.{Story, bytes_of, shape, last_of, is_open}
 use Rattle.legal_trace.specs.Book.{Book}
 use Rattle.legal_trace.specs.Owed.{owed, owed_to_message, owed_unstarted, owed_to_try}
-use Rattle.legal_trace.specs.Legal.{IsOpen, NoneIsOwed, IsCreated, FailuresAreShown}
+use Rattle.legal_trace.specs.Legal.{IsOpen, NoneIsOwed, IsCreated, FailuresAreShown, PushesAreTold, EndsAreTold}
 use Rattle.session_laws.proofs.Numbers.{Rising, IsIn, in_either, rising_in, rising_left, rising_right, rising_apart}
 use Rattle.session_laws.proofs.Said.{ready_shown}
 use Rattle.session_laws.proofs.Tied.{IsEntry, Inner, carried, link_in, owner_of, setup_owners, whole_link, owners_of, owners_each, queue_ids, IsRequest, TiedStory, TiedLife, Tied, FailureIsShown, has_ended}
@@ -249,6 +249,25 @@ created_is b t h = record {
   shown = ready_shown b t h;
   failed = failures_shown b t h;
 }
+
+-- nothing comes behind all of a list
+pub get_behind : (n : ℕ) (hs : List Heard) → drop n hs ≡ [] → slice_get hs n ≡ None
+get_behind zero [] e = refl
+get_behind zero (h ∷ hs) e = cc
+get_behind (suc n) [] e = refl
+get_behind (suc n) (h ∷ hs) e = get_behind n hs e
+
+-- all pushes that came were told, where none is still to be
+pub pushes_told : (b : Book) (t : Inner) → Tied b t → t.untold ≡ [] → PushesAreTold b
+pushes_told b t h none m heard = by_test (m == t.link) _
+    (λ same. subst (λ k. next_push (b.link k) ≡ None) (sym (eq_from m t.link same)) (get_behind (b.link t.link).told (b.link t.link).pushes (h.pushes.untold_is (sym h.pushes.heard_is ∙ heard) ∙ none)))
+    (λ other. ap (λ (hs : List Heard). slice_get hs (b.link m).told) (h.others m (ne_from m t.link other)).pushes)
+
+-- and so was the end of each link, where none is
+pub ends_told : (b : Book) (t : Inner) → Tied b t → t.parting ≡ false → EndsAreTold b
+ends_told b t h none m heard cut = by_test (m == t.link) _
+    (λ same. let e = eq_from m t.link same in subst (λ k. (b.link k).parted ≡ true) (sym e) (h.pushes.parts (sym h.pushes.heard_is ∙ heard) none (subst (λ k. is_cut (b.link k).end ≡ true) e cut)))
+    (λ other. absurd (not_both (is_cut (b.link m).end) (ap is_cut (h.others m (ne_from m t.link other)).end) cut))
 
 -- the entries of a row are started one after another
 row_places : (b : Book) (t : Inner) (k j : ℕ) (row : List Entry) → Tied b t → k ≡ setup_count (b.link t.link).starts + j → AllByRecursion (IsEntry t.requests) row → OpenFrom (owner_of t.requests) (b.link t.link) k row → AtPlaces t.started j (row_ids row)

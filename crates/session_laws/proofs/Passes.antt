@@ -144,7 +144,7 @@ tell_may b t link q waiting admitted not_awaited fit held room next h ends =
     let kept = kept_ids admitted waiting in
     let running : IsRunning was = record { settled = refl; up = refl; fit = fit } in
     record {
-      begun = begun_up b was h refl refl ends;
+      begun = begun_up b was h refl (refl, refl) refl ends;
       asked = (request_story b was p h (open_within t.requests p o)).open_is ∙ o;
       unstarted = kept_unstarted b was p h o (subst (IsIn p) (sym next.first) (inl refl));
       tells = first_step b was p kept h running room o next.first next.let_in (sym next.packed.is_of.awaited_is ∙ not_awaited);
@@ -385,6 +385,7 @@ letting_up before f w q qs s wt some =
     let opening : IsOpening (moving f w.acts w.conn w.conn.admitted (q ∷ qs) h.started) h.link q qs = record {
       life = h.life;
       settled = refl;
+      told = (refl, refl);
       fit = h.fit;
       held = h.held;
       full = elim s.full [ inl empty ↦ inl empty | inr none ↦ inr (no_room w.conn.life h.link h.life none) ];

@@ -1,19 +1,19 @@
 -- Bytes come: what they settle is answered, and bytes that begin no value end the link.
-use Rattle.std.proofs.Common.{◌≡◌, inl, inr, ℕ, Bool, true, false, List, [], ◌∷◌, ◌++◌, length, Some, None, if◌then◌else◌, refl, sym, ap, ◌∙◌, subst, append_assoc, arith}
+use Rattle.std.proofs.Common.{◌≡◌, inl, inr, ℕ, Bool, true, false, List, [], ◌∷◌, ◌++◌, length, Some, None, if◌then◌else◌, refl, sym, ap, ◌∙◌, subst, append_assoc, arith, suc, ◌+◌, ◌≤◌, length-append, slice_get, drop}
 use Rattle.std.specs.List.{AllByRecursion}
-use Rattle.std.proofs.lemmas.List.{append-nil}
-use Rattle.containers.proofs.Choices.{chosen, taken_if, left_if}
+use Rattle.std.proofs.lemmas.List.{append-nil, drop-append-le}
+use Rattle.containers.proofs.Choices.{chosen, taken_if, left_if, not_both}
 use Rattle.redis_error.specs.declared.redis_error.RedisError.TheVariants as error
 use Rattle.resp_value.specs.Data.{Data}
-use Rattle.resp_read.specs.Values.{is_spoiled}
+use Rattle.resp_read.specs.Values.{is_spoiled, values}
 use Rattle.resp_read.specs.Items.{items}
 use Rattle.driver_model.specs.declared.action.Action.{Action}
 use Rattle.driver_model.specs.declared.action.Owner.{Owner}
 use Rattle.driver_model.specs.declared.event.EventKind.{EventKind}
 use Rattle.driver_model.specs.declared.news.LinkFault.TheVariants as fault
-use Rattle.driver_model.specs.News.{came, news_of}
-use Rattle.link_core.specs.Dealing.{Dealing, dealt_each}
-use Rattle.link_core.specs.Link.{LinkState, Settling}
+use Rattle.driver_model.specs.News.{came, news_of, News}
+use Rattle.link_core.specs.Dealing.{Dealing, dealt_each, heard_of}
+use Rattle.link_core.specs.Link.{LinkState, Settling, pushes_came}
 use Rattle.link_core.specs.Ends.{row_hit, queue_closed}
 use Rattle.link_laws.specs.Settles.{settled_ids, wanted, awaited_ids, IsOwed}
 use Rattle.link_laws.proofs.Once.{items_keep}
@@ -26,27 +26,34 @@ use Rattle.mux_conn.specs.declared.request.Request.{Request}
 use Rattle.mux_conn.specs.declared.request.Waiting.{Waiting}
 use Rattle.mux_conn.specs.Connection.{Work}
 use Rattle.mux_conn.specs.Requests.{is_open_at, name_at}
-use Rattle.mux_conn.specs.Effects.{settled_each, failed_at, read_to, read_at, read_setup}
+use Rattle.mux_conn.specs.Effects.{settled_each, failed_at, read_to, read_at, read_setup, told_each}
 use Rattle.shared_session.specs.declared.core_state.Core.{Core}
 use Rattle.shared_session.specs.Turn.{with_work, is_bad}
-use Rattle.legal_trace.specs.Ledger.{Ledger, by_fault, ending, is_set_up}
+use Rattle.legal_trace.specs.Ledger.{Ledger, by_fault, ending, is_set_up, Heard, heard_each, hears, noted}
 use Rattle.legal_trace.specs.Story.{Story}
-use Rattle.legal_trace.specs.Book.{Book, book}
+use Rattle.legal_trace.specs.Book.{Book, book, entered}
 use Rattle.legal_trace.specs.Owed.{owed}
 use Rattle.session_laws.proofs.Numbers.{IsIn, Rising}
-use Rattle.session_laws.proofs.Tied.{inner, link_in, owner_of, queue_ids, IsEntry, TiedLife, TiedLines, TiedSetup, AreQueued, TiedWaits, has_ended}
+use Rattle.session_laws.proofs.Tied.{inner, link_in, owner_of, queue_ids, IsEntry, TiedLife, TiedLines, TiedSetup, AreQueued, TiedWaits, has_ended, Tied, TiedPushes, Sound}
 use Rattle.session_laws.proofs.SetUp.{set_up_hears}
 use Rattle.legal_trace.proofs.Setups.{ends_where_set}
-use Rattle.session_laws.proofs.ReadSetup.{dealt_all, setup_read}
+use Rattle.session_laws.proofs.ReadSetup.{dealt_all, setup_read, all_heard, fit_by, heard_pushes}
 use Rattle.session_laws.proofs.States.{IsFit, IsFitIn, Between, HasApplied}
 use Rattle.session_laws.proofs.InLine.{kept_ids, IsInLine}
 use Rattle.session_laws.proofs.Owes.{in_line}
-use Rattle.session_laws.proofs.Settle.{seen, trace_of_acts, Holds, IsAnswering, answering, settled_holds, settled_leaves}
-use Rattle.session_laws.proofs.Close.{AreInTime, are_in_time, HasEnded, pending_due, ended_moved, ended_applied}
-use Rattle.session_laws.proofs.Announce.{turn_of, turned, IsNewsKind}
-use Rattle.session_laws.proofs.Heard.{heard_by, lives_as, none_ends, Begins, heard_begins, ended_quiet, dialing_quiet}
+use Rattle.session_laws.proofs.Settle.{seen, trace_of_acts, Holds, IsAnswering, answering, settled_holds, settled_leaves, IsDue, Tells}
+use Rattle.session_laws.proofs.Close.{AreInTime, are_in_time, HasEnded, pending_due, ended_moved, ended_applied, parted_moved}
+use Rattle.session_laws.proofs.Announce.{turn_of, turned, IsNewsKind, announced_sound, first_book, heard_book, heard_is as turn_is, heard_tied}
+use Rattle.session_laws.proofs.Heard.{heard_by, lives_as, none_ends, Begins, heard_begins, ended_quiet, dialing_quiet, book_kind, book_news}
 use Rattle.session_laws.proofs.End.{up_tied, fault_ends}
 use Rattle.session_laws.proofs.Took.{queue_waits}
+use Rattle.legal_trace.specs.Legal.{is_heard}
+use Rattle.session_laws.proofs.Said.{PushesOf}
+use Rattle.session_laws.proofs.Told.{retells, well_told}
+use Rattle.session_laws.proofs.Telling.{IsHeard, IsTelling, telling, told_holds, told_leaves, unheard_holds}
+use Rattle.link_laws.proofs.Pushes.{heard_kind, heard_within, pushes_say, set_stays, settles_apart}
+use Rattle.link_core.specs.declared.message.PushAt.{PushAt}
+use Rattle.link_core.specs.declared.message.Settled.{Settled}
 
 -- items that are dealt leave entries as they are, but for what they got
 dealt_entries : (requests : List Request) (d : Dealing) (vs : List Data) → AllByRecursion (IsEntry requests) d.row → AllByRecursion (IsEntry requests) (dealt_each d vs).row
@@ -84,10 +91,10 @@ read_in_line requests link piece admitted waiting r =
     subst (λ ns. Rising 0 ns (length requests)) (ap (λ ns. ns ++ later) (sym (read_wanted link piece)) ∙ append_assoc ids rows later) r
 
 -- what ends the link is what breaks it
-read_ending : (name : ℕ → Owner) (l : Ledger) (link : LinkState) (piece : List ℕ) → l.up ≡ true → is_set_up (has_heard l piece) ≡ true → TiedLink name (has_heard l piece) (has_read link piece)
-    → ending (has_heard l piece) ≡ (if (has_read link piece).broken then Some (by_fault fault.Parse) else None)
-read_ending name l link piece up well h =
-    ends_where_set (has_heard l piece) up well
+read_ending : (name : ℕ → Owner) (l : Ledger) (told : ℕ) (link : LinkState) (piece : List ℕ) → l.up ≡ true → is_set_up (has_heard l piece) ≡ true → TiedLink name (has_heard l piece) (has_read link piece)
+    → ending (retells (has_heard l piece) told l.parted) ≡ (if (has_read link piece).broken then Some (by_fault fault.Parse) else None)
+read_ending name l told link piece up well h =
+    ends_where_set (retells (has_heard l piece) told l.parted) up (well_told (has_heard l piece) told l.parted ∙ well)
     ∙ ap (λ (b : Bool). if b then Some (by_fault fault.Parse) else None) (ap is_spoiled h.rest ∙ sym h.broken)
 
 -- a link that is not broken is fit
@@ -96,27 +103,43 @@ read_fit size bound link piece h sound x e = let same : has_read link piece ≡ 
 
 -- the link that is up
 --
--- the turn begins, with those to be answered that the bytes settle
-read_begins : (before : List Action) (c : Core) (started : List ℕ) (word : ℕ) (kind : EventKind) (piece : List ℕ) (link : LinkState) → Between before c started → is_bad c kind ≡ false → IsNewsKind c.timers kind → news_of c.timers c.single.link kind ≡ came piece
-    → c.single.connection.life ≡ Ready link
-    → Begins (before ++ turn_of c word kind ∷ []) (turned c kind) (lives_as c (Ready (has_read link piece))) (has_heard ((book before).link c.single.link) piece) (book before).story (settled_ids (deals link piece).out) started
-read_begins before c started word kind piece link h good k is e =
+-- the turn begins, with those to be answered that the bytes settle, and the pushes to be told that came
+record BeginsTelling (before : List Action) (f : Core) (conn : MultiplexedConnection) (l : Ledger) (story : ℕ → Story) (untold : List Heard) (pending started : List ℕ) : Type 0 where
+  pub holds : Tells before f (record { conn = conn; acts = [] }) untold pending started
+  pub ledger : (book (trace_of_acts before f [])).link f.single.link ≡ l
+  pub stories : (n : ℕ) → (book (trace_of_acts before f [])).story n ≡ story n
+
+-- so it does
+read_begins : (before : List Action) (c : Core) (started : List ℕ) (word : ℕ) (kind : EventKind) (piece : List ℕ) (link : LinkState) (untold : List Heard) → Between before c started → is_bad c kind ≡ false → IsNewsKind c.timers kind → news_of c.timers c.single.link kind ≡ came piece
+    → c.single.connection.life ≡ Ready link → (let l = (book before).link c.single.link in c.single.connection.hears ≡ true → untold ≡ heard_each l (values (l.rest ++ piece)))
+    → BeginsTelling (before ++ turn_of c word kind ∷ []) (turned c kind) (lives_as c (Ready (has_read link piece))) (has_heard ((book before).link c.single.link) piece) (book before).story untold (settled_ids (deals link piece).out) started
+read_begins before c started word kind piece link untold h good k is e came_so =
     let b = book before in
+    let h0 = h.sound.tied in
     let l = b.link c.single.link in
     let conn = c.single.connection in
+    let life = Ready (has_read link piece) in
+    let ids = settled_ids (deals link piece).out in
     let name = owner_of conn.requests in
-    let u = up_tied b (inner c started) link e h.sound.tied in
-    let said = subst (λ (x : Life). TiedSetup l conn.info started x) e h.sound.tied.setup in
-    let same : heard_by b c (came piece) ≡ has_heard l piece = heard_is l c.turns piece u.up in
-    let begins = heard_begins before c started word kind (came piece) (Ready (has_read link piece)) (settled_ids (deals link piece).out) h good k is (record {
-      lived = subst (λ (x : Ledger). TiedLife x b.created (Ready (has_read link piece))) (sym same) (u.asked, u.up, u.alive, u.shown);
-      said = subst (λ (x : Ledger). TiedSetup x conn.info started (Ready (has_read link piece))) (sym same) (record { info_is = said.info_is; sent = said.sent; said = set_up_hears l piece said.sent said.said });
-      linked = λ n. subst (λ (x : Ledger). TiedLink name x (has_read link piece)) (sym same) (read_tied name l link piece u.alive u.tied);
-      lines = read_lines b.story conn.requests link piece conn.waiting conn.admitted started (subst (λ (x : Life). TiedLines b.story conn.requests (link_in x) conn.waiting conn.admitted [] started) e h.sound.tied.lines);
-      told = λ n. subst (λ (x : Life). AreQueued b.story conn.requests (link_in x)) e (h.sound.tied.told (ap has_ended e));
-      waits = queue_waits b.story conn.requests link (has_read link piece) conn.fresh conn.moved (λ p i. i) (subst (λ (x : Life). TiedWaits b.story conn.requests x conn.fresh conn.moved) e h.sound.tied.waits);
-    }) in
-    record { holds = begins.holds; ledger = begins.ledger ∙ same; stories = begins.stories }
+    let u = up_tied b (inner c started) link e h0 in
+    let said = subst (λ (x : Life). TiedSetup l conn.info started x) e h0.setup in
+    let same : noted l (hears c.turns (news_of b.timers c.single.link kind)) ≡ has_heard l piece = ap (λ (x : News). heard_by b c x) (book_news b c kind (came piece) h0.numbers.timers is) ∙ heard_is l c.turns piece u.up in
+    let t = record (seen (turned c kind) [] (lives_as c life) ids started) { untold = untold } in
+    let tied : Tied (heard_book b c.turns word kind) t = heard_tied b c started word b.created kind life conn.fresh ids untold (has_heard l piece) h0 good same refl
+    (u.asked, u.up, u.alive, u.shown)
+    (record { info_is = said.info_is; sent = said.sent; said = set_up_hears l piece said.sent said.said })
+    (λ n. read_tied name l link piece u.alive u.tied)
+    (read_lines b.story conn.requests link piece conn.waiting conn.admitted started (subst (λ (x : Life). TiedLines b.story conn.requests (link_in x) conn.waiting conn.admitted [] started) e h0.lines))
+    (λ n. subst (λ (x : Life). AreQueued b.story conn.requests (link_in x)) e (h0.told (ap has_ended e)))
+    (queue_waits b.story conn.requests link (has_read link piece) conn.fresh conn.moved (λ p i. i) (subst (λ (x : Life). TiedWaits b.story conn.requests x conn.fresh conn.moved) e h0.waits))
+    (heard_pushes l piece (is_heard b) conn.hears untold came_so h0.pushes) in
+    let book_is : entered b (turn_of c word kind) ≡ heard_book b c.turns word kind = turn_is b c.turns word kind (book_kind b c kind h0.numbers.timers k) in
+    let first = first_book before (turn_of c word kind) (turned c kind) ∙ book_is in
+    record {
+      holds = subst (λ (x : List Action). Sound x t) (sym (append-nil (before ++ turn_of c word kind ∷ []))) (announced_sound before c started word kind t h good (subst (λ (x : Book). Tied x t) (sym book_is) tied));
+      ledger = ap (λ (x : Book). x.link c.single.link) first ∙ same;
+      stories = λ m. ap (λ (x : Book). x.story m) first;
+    }
 
 -- a link that reads on, and what it has settled
 abbrev reads : Core → LinkState → List ℕ → Work
@@ -126,18 +149,23 @@ reads c link piece = record { conn = lives_as c (Ready (has_read link piece)); a
 read_in_time : (now b : Book) (requests : List Request) → ((n : ℕ) → now.story n ≡ b.story n) → AreInTime b.story requests → AreInTime now.story requests
 read_in_time now b requests same early p o = ap (λ (s : Story). s.overdue) (same (name_at requests p)) ∙ early p o
 
--- what the bytes settle is answered
-read_answered : (before : List Action) (c : Core) (started : List ℕ) (word : ℕ) (kind : EventKind) (piece : List ℕ) (link : LinkState) → Between before c started → is_bad c kind ≡ false → IsNewsKind c.timers kind → news_of c.timers c.single.link kind ≡ came piece
-    → c.single.connection.life ≡ Ready link
-    → (let front = before ++ turn_of c word kind ∷ [] in let f = turned c kind in
-    IsAnswering front f ((book (trace_of_acts front f [])).link c.single.link) (owed (book (trace_of_acts front f []))) (name_at c.single.connection.requests) (is_open_at c.single.connection.requests) (settled_each (reads c link piece) (deals link piece).out) [] started)
-read_answered before c started word kind piece link h good k is e =
+-- what the bytes settle is to be answered, and is due
+record Reads (front : List Action) (f : Core) (l : Ledger) (w : Work) (untold : List Heard) (out : List Settled) (started : List ℕ) : Type 0 where
+  pub ledger : (book (trace_of_acts front f [])).link f.single.link ≡ l
+  pub due : AllByRecursion (IsDue (owed (book (trace_of_acts front f []))) (name_at w.conn.requests) (is_open_at w.conn.requests)) out
+  pub telling : IsTelling front f ((book (trace_of_acts front f [])).link f.single.link) (owed (book (trace_of_acts front f []))) (name_at w.conn.requests) (is_open_at w.conn.requests) w untold (settled_ids out ++ []) started
+
+-- so it is
+read_due : (before : List Action) (c : Core) (started : List ℕ) (word : ℕ) (kind : EventKind) (piece : List ℕ) (link : LinkState) (untold : List Heard) → Between before c started → is_bad c kind ≡ false → IsNewsKind c.timers kind → news_of c.timers c.single.link kind ≡ came piece
+    → c.single.connection.life ≡ Ready link → (let l = (book before).link c.single.link in c.single.connection.hears ≡ true → untold ≡ heard_each l (values (l.rest ++ piece)))
+    → Reads (before ++ turn_of c word kind ∷ []) (turned c kind) (has_heard ((book before).link c.single.link) piece) (reads c link piece) untold (deals link piece).out started
+read_due before c started word kind piece link untold h good k is e came_so =
     let b = book before in
     let l = b.link c.single.link in
     let conn = c.single.connection in
     let name = owner_of conn.requests in
     let u = up_tied b (inner c started) link e h.sound.tied in
-    let begins = read_begins before c started word kind piece link h good k is e in
+    let begins = read_begins before c started word kind piece link untold h good k is e came_so in
     let front = before ++ turn_of c word kind ∷ [] in
     let f = turned c kind in
     let now = book (trace_of_acts front f []) in
@@ -148,39 +176,65 @@ read_answered before c started word kind piece link h good k is e =
     let line : IsInLine conn.requests (has_read link piece) conn.admitted conn.waiting ids = read_in_line conn.requests link piece conn.admitted conn.waiting before_line in
     let all = subst (λ (x : Ledger). AllByRecursion (IsOwed name x) out) (sym begins.ledger) (read_owed name l link piece u.alive u.tied) in
     let early = read_in_time now b conn.requests begins.stories (are_in_time b (inner c started) h.sound.tied refl) in
-    let due = pending_due now (seen f [] w.conn ids started) out begins.holds.tied early line all in
-    settled_holds front f (now.link c.single.link) (owed now) (name_at conn.requests) (is_open_at conn.requests) w out [] started due
-    (answering front f w (ids ++ []) started (subst (λ ns. Holds front f w ns started) (sym (append-nil ids)) begins.holds) (subst (IsInLine conn.requests (has_read link piece) conn.admitted conn.waiting) (sym (append-nil ids)) line))
+    record {
+      ledger = begins.ledger;
+      due = pending_due now (record (seen f [] w.conn ids started) { untold = untold }) out begins.holds.tied early line all;
+      telling = telling front f w untold (ids ++ []) started (subst (λ ns. Tells front f w untold ns started) (sym (append-nil ids)) begins.holds) (subst (IsInLine conn.requests (has_read link piece) conn.admitted conn.waiting) (sym (append-nil ids)) line);
+    }
 
--- a connection whose link is up is fit where the link is
-fit_by : (c : MultiplexedConnection) (size bound : ℕ) (link : LinkState) → c.size ≡ size → c.boundary ≡ bound → c.life ≡ Ready link → ((x : LinkState) → Ready link ≡ Ready x → IsFit size bound x) → IsFitIn c
-fit_by c size bound link size_is bound_is life h = record {
-  setup = λ x u same. (let no : Ready link ≡ SettingUp x u = sym life ∙ same in cc);
-  link = λ x same. subst (λ n. IsFit n c.boundary x) (sym size_is) (subst (λ n. IsFit size n x) (sym bound_is) (h x (sym life ∙ same)));
-  none = λ none. absurd (none link life);
-}
+-- what the bytes settle is answered, and the pushes that came are told
+read_answered : (before : List Action) (c : Core) (started : List ℕ) (word : ℕ) (kind : EventKind) (piece : List ℕ) (link : LinkState) → Between before c started → is_bad c kind ≡ false → IsNewsKind c.timers kind → news_of c.timers c.single.link kind ≡ came piece
+    → c.single.connection.life ≡ Ready link
+    → (let front = before ++ turn_of c word kind ∷ [] in let f = turned c kind in
+    IsTelling front f (has_heard ((book before).link c.single.link) piece) (owed (book (trace_of_acts front f []))) (name_at c.single.connection.requests) (is_open_at c.single.connection.requests)
+    (told_each (reads c link piece) 0 (heard_of c.single.connection.hears (pushes_came link piece)) (deals link piece).out) [] [] started)
+read_answered before c started word kind piece link h good k is e =
+    let b = book before in
+    let l = b.link c.single.link in
+    let conn = c.single.connection in
+    let name = owner_of conn.requests in
+    let after = has_heard l piece in
+    let hs = heard_each l (values (l.rest ++ piece)) in
+    let out = (deals link piece).out in
+    let u = up_tied b (inner c started) link e h.sound.tied in
+    let said = subst (λ (x : Life). TiedSetup l conn.info started x) e h.sound.tied.setup in
+    let front = before ++ turn_of c word kind ∷ [] in
+    let f = turned c kind in
+    let owes = owed (book (trace_of_acts front f [])) in
+    let w = reads c link piece in
+    let sound = (h.fit.link link e).sound in
+    let stays = set_stays l (λ i x less at. (said.sent i x less at).1) u.well in
+    chosen (λ (ps : List PushAt). IsTelling front f after owes (name_at conn.requests) (is_open_at conn.requests) (told_each w 0 ps out) [] [] started) conn.hears (pushes_came link piece) []
+    (λ t.
+    let r = read_due before c started word kind piece link hs h good k is e (λ y. refl) in
+    told_holds front f after owes (name_at conn.requests) (is_open_at conn.requests) w 0 (pushes_came link piece) hs out started t refl (pushes_say name l link piece sound stays u.tied) (settles_apart name l link piece u.alive sound stays u.tied) (all_heard l piece) r.due
+    (subst (λ (x : Ledger). IsTelling front f x owes (name_at conn.requests) (is_open_at conn.requests) w hs (settled_ids out ++ []) started) r.ledger r.telling))
+    (λ n.
+    let r = read_due before c started word kind piece link [] h good k is e (λ y. absurd (not_both conn.hears n y)) in
+    unheard_holds front f after owes (name_at conn.requests) (is_open_at conn.requests) w 0 out started r.due
+    (subst (λ (x : Ledger). IsTelling front f x owes (name_at conn.requests) (is_open_at conn.requests) w [] (settled_ids out ++ []) started) r.ledger r.telling))
 
 -- a link that is up reads on, or is broken and ends
 read_on : (before : List Action) (c : Core) (started : List ℕ) (word : ℕ) (kind : EventKind) (piece : List ℕ) (link : LinkState) → Between before c started → is_bad c kind ≡ false → IsNewsKind c.timers kind → news_of c.timers c.single.link kind ≡ came piece
     → c.single.connection.life ≡ Ready link
-    → HasApplied (before ++ turn_of c word kind ∷ []) (with_work (record { core = turned c kind; acts = [] }) (read_to (record { conn = c.single.connection; acts = [] }) (record { link = has_read link piece; out = (deals link piece).out }))) started
+    → HasApplied (before ++ turn_of c word kind ∷ []) (with_work (record { core = turned c kind; acts = [] }) (read_to (record { conn = c.single.connection; acts = [] }) (heard_of c.single.connection.hears (pushes_came link piece)) (record { link = has_read link piece; out = (deals link piece).out }))) started
 read_on before c started word kind piece link h good k is e =
     let b = book before in
     let l = b.link c.single.link in
     let name = owner_of c.single.connection.requests in
     let u = up_tied b (inner c started) link e h.sound.tied in
     let said = subst (λ (x : Life). TiedSetup l c.single.connection.info started x) e h.sound.tied.setup in
-    let begins = read_begins before c started word kind piece link h good k is e in
     let a = read_answered before c started word kind piece link h good k is e in
     let front = before ++ turn_of c word kind ∷ [] in
     let f = turned c kind in
     let after = has_read link piece in
-    let v = settled_each (reads c link piece) (deals link piece).out in
-    let still = settled_leaves (reads c link piece) (deals link piece).out in
-    let ends_so = ap ending (a.ledger_is ∙ begins.ledger) ∙ read_ending name l link piece u.up (set_up_hears l piece said.sent said.said).well (read_tied name l link piece u.alive u.tied) in
+    let ps = heard_of c.single.connection.hears (pushes_came link piece) in
+    let v = told_each (reads c link piece) 0 ps (deals link piece).out in
+    let still = told_leaves (reads c link piece) 0 ps (deals link piece).out in
+    let ends_so = ap ending a.ledger_is ∙ read_ending name l a.told link piece u.up (set_up_hears l piece said.sent said.said).well (read_tied name l link piece u.alive u.tied) in
     chosen (λ (x : Work). HasApplied front (with_work (record { core = f; acts = [] }) x) started) after.broken (failed_at v fault.Parse v.conn.life) v
     (λ t. ended_applied front f (failed_at v fault.Parse v.conn.life) error.Closed started (λ z. absurd (omega arith))
-    (subst (λ (x : Life). (failed_at v fault.Parse x).conn.moved ≡ []) (sym still.life) (ended_moved v (row_hit fault.Parse after.row ++ queue_closed after.queue) ∙ still.moved ∙ h.moved))
+    (subst (λ (x : Life). (failed_at v fault.Parse x).conn.moved ≡ []) (sym still.life) (parted_moved v (row_hit fault.Parse after.row ++ queue_closed after.queue) ∙ still.moved ∙ h.moved))
     (subst (λ (x : Life). HasEnded front f (failed_at v fault.Parse x) error.Closed started) (sym still.life)
     (fault_ends front f v after fault.Parse started a.holds still.life (ends_so ∙ taken_if after.broken (Some (by_fault fault.Parse)) None t))))
     (λ n. record {
@@ -200,8 +254,8 @@ read_applied before c started word kind piece h good k is = by_life c.single.con
     by_life Dialing e = dialing_quiet before c started word kind (came piece) tt h good k is e
     by_life (Ended x) e = ended_quiet before c started word kind (came piece) x h good k is e
     by_life (SettingUp link with_user) e =
-        subst (λ (s : Settling). HasApplied (before ++ turn_of c word kind ∷ []) (with_work (record { core = turned c kind; acts = [] }) (read_setup (record { conn = c.single.connection; acts = [] }) with_user s)) started)
+        subst (λ (s : Settling). HasApplied (before ++ turn_of c word kind ∷ []) (with_work (record { core = turned c kind; acts = [] }) (read_setup (record { conn = c.single.connection; acts = [] }) with_user (heard_of c.single.connection.hears (pushes_came link piece)) s)) started)
         (sym (reads_on link [] piece (h.fit.setup link with_user e).sound)) (setup_read before c started word kind piece link with_user h good k is e)
     by_life (Ready link) e =
-        subst (λ (s : Settling). HasApplied (before ++ turn_of c word kind ∷ []) (with_work (record { core = turned c kind; acts = [] }) (read_to (record { conn = c.single.connection; acts = [] }) s)) started)
+        subst (λ (s : Settling). HasApplied (before ++ turn_of c word kind ∷ []) (with_work (record { core = turned c kind; acts = [] }) (read_to (record { conn = c.single.connection; acts = [] }) (heard_of c.single.connection.hears (pushes_came link piece)) s)) started)
         (sym (reads_on link [] piece (h.fit.link link e).sound)) (read_on before c started word kind piece link h good k is e)

@@ -1,5 +1,5 @@
 -- Bytes come on a link that is set up: its setup may be answered then.
-use Rattle.std.proofs.Common.{◌≡◌, ◌≢◌, inl, inr, ℕ, zero, suc, ◌+◌, ◌-◌, ◌<◌, ◌≤◌, ◌==◌, nat_le, nat_lt, Bool, true, false, if◌then◌else◌, List, [], ◌∷◌, ◌++◌, length, take, drop, Option, Some, None, slice_get, refl, sym, ap, ◌∙◌, subst, arith, length-append, length-drop}
+use Rattle.std.proofs.Common.{◌≡◌, ◌≢◌, inl, inr, ℕ, zero, suc, ◌+◌, ◌-◌, ◌<◌, ◌≤◌, ◌==◌, nat_le, nat_lt, Bool, true, false, if◌then◌else◌, List, [], ◌∷◌, ◌++◌, length, take, drop, Option, Some, None, slice_get, refl, sym, ap, ◌∙◌, subst, arith, length-append, length-drop, ◌⊎◌}
 use Rattle.std.specs.List.{AllByRecursion}
 use Rattle.std.specs.Prelude.{ℤ, pos, negsuc}
 use Rattle.std.proofs.lemmas.List.{append-nil, drop-append-le, take_all}
@@ -9,7 +9,7 @@ use Rattle.redis_error.specs.declared.redis_error.RedisError.{RedisError}
 use Rattle.redis_error.specs.declared.redis_error.RedisError.TheVariants as reason
 use Rattle.resp_value.specs.Data.{Data, error}
 use Rattle.resp_value.specs.declared.server_error.ServerError.{ServerError}
-use Rattle.resp_read.specs.Values.{is_spoiled}
+use Rattle.resp_read.specs.Values.{is_spoiled, values}
 use Rattle.resp_read.specs.Items.{items}
 use Rattle.connection_info.specs.declared.address.RedisConnectionInfo.{RedisConnectionInfo}
 use Rattle.connection_info.specs.declared.protocol.ProtocolVersion.{ProtocolVersion}
@@ -33,9 +33,9 @@ use Rattle.driver_model.specs.Shape.{need_of, verdict_of}
 use Rattle.link_core.specs.declared.message.Entry.{Entry}
 use Rattle.link_core.specs.declared.message.Queued.{Queued}
 use Rattle.link_core.specs.declared.message.Settled.{Settled}
-use Rattle.link_core.specs.Dealing.{Dealing, with_item, dealt_to, dealt, dealt_each}
+use Rattle.link_core.specs.Dealing.{Dealing, with_item, dealt_to, dealt, dealt_each, heard_of}
 use Rattle.link_core.specs.Ends.{row_hit, queue_closed}
-use Rattle.link_core.specs.Link.{LinkState, enqueued}
+use Rattle.link_core.specs.Link.{LinkState, enqueued, pushes_came}
 use Rattle.link_laws.specs.Settles.{settled_ids, wanted}
 use Rattle.link_laws.proofs.Dealt.{all_append, AreCuts, IsCutOf, cut_at, items_with, row_dealt}
 use Rattle.link_laws.proofs.Once.{items_keep}
@@ -45,24 +45,36 @@ use Rattle.link_laws.proofs.TiedLink.{TiedLink, SameNames, deals, dealt_alike, h
 use Rattle.legal_trace.proofs.Ledgers.{reach_alike}
 use Rattle.mux_conn.specs.declared.act.LinkAct.TheVariants as act
 use Rattle.mux_conn.specs.declared.life.Life.{Life}
-use Rattle.mux_conn.specs.declared.life.Life.TheVariants.{SettingUp, Ended}
+use Rattle.mux_conn.specs.declared.life.Life.TheVariants.{SettingUp, Ended, Ready}
 use Rattle.mux_conn.specs.Connection.{Work, acted, at_life, is_ready, with_setup}
-use Rattle.mux_conn.specs.Effects.{answered_setup, broken_at, failed_at, judged_by, made_ready, opening_failed, read_setup, set_up_by, sets_up, setup_queued, steps_of}
+use Rattle.mux_conn.specs.Effects.{answered_setup, broken_at, failed_at, judged_by, made_ready, opening_failed, read_setup, set_up_by, sets_up, setup_queued, steps_of, behind_first, heard_on, pushed_each, told_each}
 use Rattle.shared_session.specs.declared.core_state.Core.{Core}
 use Rattle.shared_session.specs.Turn.{with_work, is_bad}
-use Rattle.legal_trace.specs.Ledger.{Ledger, Start, by_fault, by_opening, cut, ending, is_full, is_set_up, is_well, last_result, reach, repeats, result_of, setup_after, setup_count, setup_result, setup_steps}
+use Rattle.legal_trace.specs.Ledger.{Ledger, Start, by_fault, by_opening, cut, ending, is_full, is_set_up, is_well, last_result, reach, repeats, result_of, setup_after, setup_count, setup_result, setup_steps, Heard, heard_each}
 use Rattle.legal_trace.specs.Book.{Book, book}
-use Rattle.session_laws.proofs.Tied.{AreSetups, IsSettingUp, IsSetupDue, IsSetupSent, IsSetUp, AreQueued, TiedLife, TiedLines, TiedSetup, TiedWaits, has_ended, inner, link_in, owner_of, owners_each, owners_of, setup_owners}
-use Rattle.session_laws.proofs.States.{IsFit, Between, HasApplied}
+use Rattle.session_laws.proofs.Tied.{AreSetups, IsSettingUp, IsSetupDue, IsSetupSent, IsSetUp, AreQueued, TiedLife, TiedLines, TiedSetup, TiedWaits, has_ended, inner, link_in, owner_of, owners_each, owners_of, setup_owners, TiedPushes}
+use Rattle.session_laws.proofs.States.{IsFit, Between, HasApplied, IsFitIn}
 use Rattle.session_laws.proofs.SetUp.{count_length, not_set_up}
-use Rattle.legal_trace.proofs.Setups.{ends_where_set}
-use Rattle.session_laws.proofs.Said.{after_on, ending_failed, ending_setting, retold}
-use Rattle.session_laws.proofs.Close.{ended_applied, ended_moved, waiting_leaves}
+use Rattle.legal_trace.proofs.Setups.{ends_where_set, AreSetups as SetUpsAre}
+use Rattle.session_laws.proofs.Said.{after_on, ending_failed, ending_setting, retold, PushesOf}
+use Rattle.session_laws.proofs.Close.{ended_applied, ended_moved, waiting_leaves, HasEnded, parted_moved}
 use Rattle.session_laws.proofs.Announce.{turn_of, turned, IsNewsKind}
-use Rattle.session_laws.proofs.Heard.{heard_by, quiet_applied, setting_fit, setting_waits}
+use Rattle.session_laws.proofs.Heard.{heard_by, quiet_applied, setting_fit, setting_waits, none_ends}
 use Rattle.session_laws.proofs.Failing.{Fails, setup_failed}
 use Rattle.session_laws.proofs.End.{IsSetting, fault_ends, setting_tied}
 use Rattle.session_laws.proofs.Connect.{IsMade, makes_ready, ready_applied}
+use Rattle.legal_trace.specs.Legal.{is_heard}
+use Rattle.session_laws.proofs.Told.{retells, well_told}
+use Rattle.session_laws.proofs.Telling.{IsHeard, IsTelling, telling, told_holds, told_leaves}
+use Rattle.link_laws.proofs.Pushes.{behind_first as behind_setup, heard_kind, heard_none, heard_within, setup_heard}
+use Rattle.link_laws.specs.Pushes.{SayTheSame}
+use Rattle.link_core.specs.declared.message.PushAt.{PushAt}
+use Rattle.legal_trace.specs.Owed.{owed}
+use Rattle.driver_model.specs.declared.outcome.Outcome.{Outcome}
+use Rattle.mux_conn.specs.Requests.{is_open_at, name_at}
+use Rattle.session_laws.proofs.Owes.{in_line}
+use Rattle.session_laws.proofs.Settle.{seen, trace_of_acts}
+use Rattle.mux_conn.specs.declared.connection.MultiplexedConnection.{MultiplexedConnection}
 
 -- what a setup is judged to be
 --
@@ -370,6 +382,7 @@ pub record IsAnswered (l : Ledger) (link : LinkState) (piece : List ℕ) (with_u
   pub queue : link.queue ≡ []
   pub row : (deals link piece).row ≡ []
   pub answers : Answers (has_heard l piece) k x
+  pub last : IsLast l k
 
 -- where something is settled it was answered
 reads_answered : (name : ℕ → Owner) (l : Ledger) (link : LinkState) (with_user : Bool) (piece : List ℕ) (x : Settled) (xs : List Settled) → IsSettingUp l link with_user → owners_of l.starts ≡ setup_owners (setup_count l.starts) [] → AreSetups l → l.end ≡ None → TiedLink name l link
@@ -385,7 +398,7 @@ reads_answered name l link with_user piece x xs h owners sents alive tied is = e
       let last = sent_last l link with_user owners s in
       let a = setup_answers name l link piece s.k x xs last sents alive tied is in
       let rows = (read_tied name l link piece alive tied).row alive ∙ rows_full after.starts after.dealt (full_last after s.k last.long a.full) in
-      record { k = s.k; few = s.few; count = s.count; user = s.user; queue = s.queue; row = no_entries name (deals link piece).row rows; answers = a })
+      record { k = s.k; few = s.few; count = s.count; user = s.user; queue = s.queue; row = no_entries name (deals link piece).row rows; answers = a; last = last })
 ]
 
 -- what it comes to
@@ -411,12 +424,48 @@ repeats_first l link piece with_user x info h e =
     let none : judged (setup info false) replies ≡ result.RepeatWithoutUser = ap (λ u. judged (setup info u) replies) (sym (h.user ∙ f)) ∙ ap (judged_by (setup info with_user)) (sym h.answers.verdict_is) ∙ e in
     absurd (judged_repeats (setup info false) replies (setup_no_user info) none))
 
+-- what is still to be told of a link when bytes come
+pub heard_pushes : (l : Ledger) (piece : List ℕ) (heard mine : Bool) (untold : List Heard) → (mine ≡ true → untold ≡ heard_each l (values (l.rest ++ piece))) → PushesOf heard mine l
+    → (let after = has_heard l piece in TiedPushes heard mine after.pushes after.told after.end after.parted untold false)
+heard_pushes l piece heard mine untold is h =
+    let hs = heard_each l (values (l.rest ++ piece)) in
+    record {
+      heard_is = h.heard_is;
+      within = λ y. let w = h.within y in let long = length-append l.pushes hs in omega arith;
+      untold_is = λ y. drop-append-le l.told l.pushes hs (h.within y) ∙ ap (λ xs. xs ++ hs) (h.untold_is y) ∙ sym (is y);
+      parts = h.parts;
+      alive = h.alive;
+      due = h.due;
+    }
+
+-- what is so at each place is so of all
+all_places : (P : Heard → Type 0) (hs : List Heard) → ((i : ℕ) (h : Heard) → slice_get hs i ≡ Some h → P h) → AllByRecursion P hs
+all_places P [] each = tt
+all_places P (h ∷ hs) each = (each 0 h refl, all_places P hs (λ i x at. each (suc i) x at))
+
+-- each push that came is no end, and stands behind no more items than there are
+pub all_heard : (l : Ledger) (piece : List ℕ) → AllByRecursion (IsHeard (has_heard l piece)) (heard_each l (values (l.rest ++ piece)))
+all_heard l piece = all_places (IsHeard (has_heard l piece)) (heard_each l (values (l.rest ++ piece))) (λ i h at. record { kind_is = heard_kind l (l.rest ++ piece) i h at; within = heard_within l piece i h at })
+
+-- a connection whose link is up is fit where the link is
+pub fit_by : (c : MultiplexedConnection) (size bound : ℕ) (link : LinkState) → c.size ≡ size → c.boundary ≡ bound → c.life ≡ Ready link → ((x : LinkState) → Ready link ≡ Ready x → IsFit size bound x) → IsFitIn c
+fit_by c size bound link size_is bound_is life h = record {
+  setup = λ x u same. (let no : Ready link ≡ SettingUp x u = sym life ∙ same in cc);
+  link = λ x same. subst (λ n. IsFit n c.boundary x) (sym size_is) (subst (λ n. IsFit size n x) (sym bound_is) (h x (sym life ∙ same)));
+  none = λ none. absurd (none link life);
+}
+
+-- the pushes behind the first settled message are the same for the connection and for its link
+behind_same : (ps : List PushAt) → behind_first ps ≡ behind_setup ps
+behind_same [] = refl
+behind_same (p ∷ ps) = λ i. if p.settled == 0 then behind_same ps i else p ∷ ps
+
 -- bytes come on such a link
 --
 -- the event has its effect
 pub setup_read : (before : List Action) (c : Core) (started : List ℕ) (word : ℕ) (kind : EventKind) (piece : List ℕ) (link : LinkState) (with_user : Bool) → Between before c started → is_bad c kind ≡ false → IsNewsKind c.timers kind → news_of c.timers c.single.link kind ≡ came piece
     → c.single.connection.life ≡ SettingUp link with_user
-    → HasApplied (before ++ turn_of c word kind ∷ []) (with_work (record { core = turned c kind; acts = [] }) (read_setup (record { conn = c.single.connection; acts = [] }) with_user (record { link = has_read link piece; out = (deals link piece).out }))) started
+    → HasApplied (before ++ turn_of c word kind ∷ []) (with_work (record { core = turned c kind; acts = [] }) (read_setup (record { conn = c.single.connection; acts = [] }) with_user (heard_of c.single.connection.hears (pushes_came link piece)) (record { link = has_read link piece; out = (deals link piece).out }))) started
 setup_read before c started word kind piece link with_user h good k is e = by_out (deals link piece).out refl
   where
     b : Book
@@ -467,10 +516,20 @@ setup_read before c started word kind piece link with_user h good k is e = by_ou
     spoiled : (x : Bool) → read.broken ≡ x → is_spoiled after.rest ≡ x
     spoiled x t = ap is_spoiled tied.rest ∙ sym tied.broken ∙ t
 
+    behind : List PushAt
+    behind = behind_first (heard_of c.single.connection.hears (pushes_came link piece))
+
+    sents : SetUpsAre l
+    sents i x less at = (h.sound.tied.setup.sent i x less at).1
+
+    -- where it isn't set up then no push is to be told
+    quiet : is_set_up after ≡ false → PushesOf (is_heard b) c.single.connection.hears after
+    quiet unready = heard_pushes l piece (is_heard b) c.single.connection.hears [] (λ y. sym (heard_none l piece sents unready)) h.sound.tied.pushes
+
     fails : (x : RedisError) → is_set_up after ≡ false → ending after ≡ Some (by_opening x) → applied (opening_failed (record { conn = c.single.connection; acts = act.Close ∷ [] }) x)
     fails x unready must =
         setup_failed before c started word kind (came piece) x link with_user h good k is e
-        (subst (λ (y : Ledger). Fails y info x) (sym same) (record { alive = s.alive; unready = unready; must = must; info_is = h.sound.tied.setup.info_is; sent = h.sound.tied.setup.sent }))
+        (subst (λ (y : Ledger). Fails y info (is_heard b) c.single.connection.hears x) (sym same) (record { alive = s.alive; unready = unready; must = must; info_is = h.sound.tied.setup.info_is; sent = h.sound.tied.setup.sent; pushes = quiet unready }))
 
     -- the link is set up still
     goes_on : (next : LinkState) (user : Bool) → IsSettingUp after next user → TiedLink name after next → IsFit c.single.connection.size c.single.connection.boundary next → read.broken ≡ false → applied (with_setup w next user)
@@ -483,6 +542,7 @@ setup_read before c started word kind piece link with_user h good k is e = by_ou
           lines = subst (λ (x : Life). TiedLines b.story c.single.connection.requests (link_in x) c.single.connection.waiting c.single.connection.admitted [] started) e h.sound.tied.lines;
           told = λ z. subst (λ (x : Life). AreQueued b.story c.single.connection.requests (link_in x)) e (h.sound.tied.told (ap has_ended e));
           waits = setting_waits b.story c.single.connection.requests link next with_user user c.single.connection.fresh c.single.connection.moved (subst (λ (x : Life). TiedWaits b.story c.single.connection.requests x c.single.connection.fresh c.single.connection.moved) e h.sound.tied.waits);
+          pushes = subst (λ (y : Ledger). PushesOf (is_heard b) c.single.connection.hears y) (sym same) (quiet (not_set_up after next user said).unwell);
         })
         (ap ending same ∙ ending_setting after next user s.up said ∙ left_if (is_spoiled after.rest) (Some (by_opening reason.Closed)) None (spoiled false f))
         (setting_fit c.single.connection link next with_user user c.single.connection.fresh e h.fit fits)
@@ -495,23 +555,56 @@ setup_read before c started word kind piece link with_user h good k is e = by_ou
         (λ t. fails reason.Closed (not_set_up after next user said).unwell (ending_setting after next user s.up said ∙ taken_if (is_spoiled after.rest) (Some (by_opening reason.Closed)) None (spoiled true t)))
         (λ f. goes_on next user said tied_next (fits f) f)
 
-    -- the link is ready, and ends where bytes came that begin no value
-    ready : (x : Settled) → IsAnswered l link piece with_user x → setup_result after ≡ Some result.Ready → applied (broken_at read.broken (made_ready w read))
-    ready x a r =
+    -- the link is ready, the pushes behind its setup are told, and it ends where bytes came that begin no value
+    ready_told : (ps : List PushAt) (untold : List Heard) (x : Settled) → IsAnswered l link piece with_user x → setup_result after ≡ Some result.Ready → (c.single.connection.hears ≡ true → untold ≡ heard_each l (values (l.rest ++ piece)))
+        → ((owes : ℕ → Option Outcome) → IsTelling front (turned c kind) after owes (name_at c.single.connection.requests) (is_open_at c.single.connection.requests) (made_ready w read) untold [] started
+        → IsTelling front (turned c kind) after owes (name_at c.single.connection.requests) (is_open_at c.single.connection.requests) (told_each (made_ready w read) 0 ps []) [] [] started)
+        → applied (broken_at read.broken (told_each (made_ready w read) 0 ps []))
+    ready_told ps untold x a r came_so tells =
         let v = made_ready w read in
+        let u = told_each v 0 ps [] in
+        let f = turned c kind in
+        let still = told_leaves v 0 ps [] in
         let well : is_set_up after ≡ true = ap is_well r in
         let said : IsSetUp after = record { well = well; none = λ t. absurd (not_both (says_nothing (setup_steps l 0)) s.said.says t) } in
         let owned = named_tied name (owner_of c.single.connection.requests) after read (subst (SameNames name (owner_of c.single.connection.requests)) (sym a.row) tt) tied in
         let made : IsMade after b.created c.single.connection.requests read = record { asked = s.asked; up = s.up; alive = s.alive; unshown = s.unshown; said = said; tied = owned; queue = a.queue; row = a.row } in
-        let facts = subst (λ (y : Ledger). (y.info ≡ info) × AreSetups y × IsMade y b.created c.single.connection.requests read) (sym same) (h.sound.tied.setup.info_is, h.sound.tied.setup.sent, made) in
-        let shown = makes_ready before c started word kind (came piece) read h good k is (ap link_in e) (ap is_ready e) (ap has_ended e) facts in
-        let up = ap ending same ∙ ends_where_set after s.up well in
-        chosen applied read.broken (failed_at v fault.Parse v.conn.life) v
+        let facts = subst (λ (y : Ledger). (y.info ≡ info) × AreSetups y × IsMade y b.created c.single.connection.requests read × TiedPushes (is_heard b) c.single.connection.hears y.pushes y.told y.end y.parted untold false) (sym same)
+        (h.sound.tied.setup.info_is, h.sound.tied.setup.sent, made, heard_pushes l piece (is_heard b) c.single.connection.hears untold came_so h.sound.tied.pushes) in
+        let shown = makes_ready before c started word kind (came piece) read untold h good k is (ap link_in e) (ap is_ready e) (ap has_ended e) facts in
+        let now = book (trace_of_acts front f v.acts) in
+        let line = in_line now (record (seen f v.acts v.conn [] started) { untold = untold }) shown.holds.tied refl in
+        let begins = subst (λ (y : Ledger). IsTelling front f y (owed now) (name_at v.conn.requests) (is_open_at v.conn.requests) v untold [] started) (shown.ledger ∙ same) (telling front f v untold [] started shown.holds line) in
+        let done : IsTelling front f after (owed now) (name_at v.conn.requests) (is_open_at v.conn.requests) u [] [] started = tells (owed now) begins in
+        let up = ap ending done.ledger_is ∙ ends_where_set (retells after done.told after.parted) s.up (well_told after done.told after.parted ∙ well) in
+        chosen applied read.broken (failed_at u fault.Parse u.conn.life) u
         (λ t.
-        ended_applied front (turned c kind) (failed_at v fault.Parse v.conn.life) reason.Closed started (λ z. absurd (omega arith))
-        (ended_moved v (row_hit fault.Parse read.row ++ queue_closed read.queue) ∙ h.moved)
-        (fault_ends front (turned c kind) v read fault.Parse started shown.holds refl (ap ending shown.ledger ∙ up ∙ taken_if (is_spoiled after.rest) (Some (by_fault fault.Parse)) None (spoiled true t))))
-        (λ f. ready_applied front (turned c kind) c.single.connection read (heard_by b c (came piece)) started (λ z. absurd (omega arith)) h.moved (sound f) (up ∙ left_if (is_spoiled after.rest) (Some (by_fault fault.Parse)) None (spoiled false f)) shown)
+        ended_applied front f (failed_at u fault.Parse u.conn.life) reason.Closed started (λ z. absurd (omega arith))
+        (subst (λ (y : Life). (failed_at u fault.Parse y).conn.moved ≡ []) (sym still.life) (parted_moved u (row_hit fault.Parse read.row ++ queue_closed read.queue) ∙ still.moved ∙ h.moved))
+        (subst (λ (y : Life). HasEnded front f (failed_at u fault.Parse y) reason.Closed started) (sym still.life)
+        (fault_ends front f u read fault.Parse started done.holds still.life (up ∙ taken_if (is_spoiled after.rest) (Some (by_fault fault.Parse)) None (spoiled true t)))))
+        (λ t. record {
+          sound = done.holds;
+          ended = none_ends (book (trace_of_acts front f u.acts)) (seen f u.acts u.conn [] started) done.holds.tied (up ∙ left_if (is_spoiled after.rest) (Some (by_fault fault.Parse)) None (spoiled false t));
+          began = λ z. absurd (omega arith);
+          moved = still.moved ∙ h.moved;
+          fit = fit_by u.conn c.single.connection.size c.single.connection.boundary read still.size still.boundary still.life (λ y is_it. (let one : read ≡ y = cc in subst (IsFit c.single.connection.size c.single.connection.boundary) one (sound t)));
+        })
+
+    -- so it does, whether somebody hears them or not
+    ready : (x : Settled) (xs : List Settled) → (deals link piece).out ≡ x ∷ xs → IsAnswered l link piece with_user x → setup_result after ≡ Some result.Ready
+        → applied (broken_at read.broken (told_each (made_ready w read) 0 (behind_first (heard_of c.single.connection.hears (pushes_came link piece))) []))
+    ready x xs some a r =
+        let conn = c.single.connection in
+        let ps = pushes_came link piece in
+        let hs = heard_each l (values (l.rest ++ piece)) in
+        let says : SayTheSame (behind_first ps) hs = subst (λ qs. SayTheSame qs hs) (sym (behind_same ps))
+        (setup_heard name l link piece a.k x xs (record { count = a.last.count; long = a.last.long; earlier = a.last.earlier }) s.said.says sents s.alive fit.sound s.tied some (ap is_well r)) in
+        chosen (λ (qs : List PushAt). applied (broken_at read.broken (told_each (made_ready w read) 0 (behind_first qs) []))) conn.hears ps []
+        (λ t.
+        ready_told (behind_first ps) hs x a r (λ y. refl)
+        (λ owes k. told_holds front (turned c kind) after owes (name_at conn.requests) (is_open_at conn.requests) (made_ready w read) 0 (behind_first ps) hs [] started t refl says tt (all_heard l piece) tt k))
+        (λ n. ready_told [] [] x a r (λ y. absurd (not_both conn.hears n y)) (λ owes k. k))
 
     -- it is sent once more without the user name
     again : (x : Settled) → IsAnswered l link piece with_user x → setup_result after ≡ Some result.RepeatWithoutUser → judged_by (setup info with_user) x.verdict ≡ result.RepeatWithoutUser → applied (broken_at read.broken (sets_up w read false))
@@ -542,16 +635,19 @@ setup_read before c started word kind piece link with_user h good k is e = by_ou
         (λ t. subst (λ (y : Life). applied (failed_at v fault.Parse y)) (sym over) done)
         (λ f. done)
 
-    by_result : (x : Settled) → IsAnswered l link piece with_user x → (r : SetupResult) → judged_by (setup info with_user) x.verdict ≡ r → setup_result after ≡ Some r → applied (broken_at read.broken (set_up_by w read r))
-    by_result x a result.Ready j r = ready x a r
-    by_result x a result.RepeatWithoutUser j r = again x a r j
-    by_result x a (result.Failed y) j r = failed y r
-    by_result x a result.NoMemory j r =
+    by_result : (x : Settled) (xs : List Settled) → (deals link piece).out ≡ x ∷ xs → IsAnswered l link piece with_user x → (r : SetupResult) → judged_by (setup info with_user) x.verdict ≡ r → setup_result after ≡ Some r → applied (broken_at read.broken (heard_on (set_up_by w read r) behind))
+    by_result x xs some a result.Ready j r = ready x xs some a r
+    by_result x xs some a result.RepeatWithoutUser j r = again x a r j
+    by_result x xs some a (result.Failed y) j r =
+        let u = acted (at_life (acted w act.Close) (Ended y)) (act.Created (Some y)) in
+        let v = opening_failed (acted w act.Close) y in
+        subst (λ (z : Work). applied (broken_at read.broken z)) (sym (left_if (is_ready v.conn.life) (pushed_each v behind) v (ap is_ready (waiting_leaves u y).life))) (failed y r)
+    by_result x xs some a result.NoMemory j r =
         let replies = cut after a.k (setup_shape (setup_steps after a.k)) in
         absurd (judged_memory (setup info with_user) replies (ap (judged_by (setup info with_user)) (sym a.answers.verdict_is) ∙ j))
 
-    by_out : (out : List Settled) → (deals link piece).out ≡ out → applied (broken_at read.broken (answered_setup w read with_user out))
+    by_out : (out : List Settled) → (deals link piece).out ≡ out → applied (broken_at read.broken (answered_setup w read with_user (heard_of c.single.connection.hears (pushes_came link piece)) out))
     by_out [] none = stays read with_user (reads_still name l link with_user piece s.said owners s.alive s.tied none) tied sound
     by_out (x ∷ xs) some =
         let a = reads_answered name l link with_user piece x xs s.said owners h.sound.tied.setup.sent s.alive s.tied some in
-        by_result x a (judged_by (steps_of c.single.connection with_user) x.verdict) refl (answered_result l link piece with_user x info h.sound.tied.setup.info_is s.said.says a)
+        by_result x xs some a (judged_by (steps_of c.single.connection with_user) x.verdict) refl (answered_result l link piece with_user x info h.sound.tied.setup.info_is s.said.says a)

@@ -1,5 +1,5 @@
 -- How far the setup of a link has come: what it stands on, and what it is to the end of the link.
-use Rattle.std.proofs.Common.{◌≡◌, ◌≢◌, inl, inr, ℕ, zero, suc, ◌==◌, Bool, true, false, ◌&&◌, not, if◌then◌else◌, List, [], ◌++◌, take, Option, None, Some, refl, sym, ap, ◌∙◌, subst}
+use Rattle.std.proofs.Common.{◌≡◌, ◌≢◌, inl, inr, ℕ, zero, suc, ◌==◌, Bool, true, false, ◌&&◌, not, if◌then◌else◌, List, [], ◌++◌, take, Option, None, Some, refl, sym, ap, ◌∙◌, subst, ◌⊎◌}
 use Rattle.std.specs.List.{AllByRecursion}
 use Rattle.containers.proofs.Choices.{by_test, chosen, taken_if, left_if, if_false, both_left, both_right, eq_from, ne_from, not_both}
 use Rattle.redis_error.specs.declared.redis_error.RedisError.{RedisError}
@@ -20,7 +20,7 @@ use Rattle.legal_trace.proofs.Setups.{ends_where_set}
 use Rattle.legal_trace.specs.Book.{Book}
 use Rattle.legal_trace.specs.Legal.{ReadyIsShown}
 use Rattle.session_laws.proofs.SetUp.{not_set_up}
-use Rattle.session_laws.proofs.Tied.{Inner, HasSaid, IsSettingUp, Tied, TiedLife, TiedSetup, carried, owner_of, whole_link}
+use Rattle.session_laws.proofs.Tied.{Inner, HasSaid, IsSettingUp, Tied, TiedLife, TiedSetup, carried, owner_of, whole_link, TiedPushes}
 
 -- whose messages a link carries
 --
@@ -147,6 +147,29 @@ setup_unheard l turn overdue info started life down h = setup_hears l turn overd
 setup_unheard l turn (took count) info started life down h = setup_hears l turn (took count) info started life tt h
 setup_unheard l turn (failed f) info started life down h = setup_hears l turn (failed f) info started life tt h
 setup_unheard l turn shut info started life down h = setup_hears l turn shut info started life tt h
+
+-- what is still to be told of a link stays
+--
+-- what is told of its pushes, in a record of its ledger
+abbrev pub PushesOf : Bool → Bool → Ledger → Type 0
+PushesOf heard mine l = TiedPushes heard mine l.pushes l.told l.end l.parted [] false
+
+-- so it does whatever news come that are no bytes of a link that is up
+pub pushes_hear : (l : Ledger) (turn : ℕ) (n : News) (heard mine : Bool) → IsNoPiece n ⊎ (l.up ≡ false) → PushesOf heard mine l → PushesOf heard mine (noted l (hears turn n))
+pushes_hear l turn silence heard mine k h = h
+pushes_hear l turn overdue heard mine k h = h
+pushes_hear l turn (refused f) heard mine k h =
+    chosen (λ (x : Ledger). PushesOf heard mine x) (dials l) (refused_in l turn (error.Io f)) l
+    (λ t. record { heard_is = h.heard_is; within = h.within; untold_is = h.untold_is; parts = λ y d cut. cc; alive = λ e. cc; due = h.due })
+    (λ t. h)
+pushes_hear l turn connected heard mine k h = chosen (λ (x : Ledger). PushesOf heard mine x) (is_over l) l (record l { up = true }) (λ t. h) (λ f. h)
+pushes_hear l turn (took count) heard mine k h = chosen (λ (x : Ledger). PushesOf heard mine x) l.up (record l { taken = l.taken ++ take count l.offer; offer = [] }) l (λ t. h) (λ f. h)
+pushes_hear l turn (came piece) heard mine k h = elim k [
+  | inl piece_is ↦ absurd piece_is
+  | inr down ↦ if_false (λ (x : Ledger). PushesOf heard mine x) l.up (bytes_came l piece) l down h
+]
+pushes_hear l turn (failed f) heard mine k h = h
+pushes_hear l turn shut heard mine k h = h
 
 -- what ends a link
 --

@@ -147,7 +147,7 @@ setting_next l link with_user all within due user h =
 --
 -- whose link is set up, while nothing is to be answered
 abbrev pub setting_on : Inner → LinkState → Bool → Inner
-setting_on t link with_user = record t { life = SettingUp link with_user; pending = [] }
+setting_on t link with_user = record t { life = SettingUp link with_user; pending = []; untold = []; parting = false }
 
 -- what the start of the setup shows
 abbrev set_up_action : Inner → LinkState → Queued → Action
@@ -164,7 +164,7 @@ set_up_may b t link with_user due fit free h ended =
     let q = due_queued l with_user in
     let was = setting_on t (with_queue link (q ∷ [])) with_user in
     record {
-      applied = applied_up b was h refl refl ended;
+      applied = applied_up b was h refl (refl, refl) refl ended;
       k = c;
       due = taken_if l.up (setup_after l c) None h.life.1 ∙ due;
       free = held_by b was (λ (p : ℕ). owner.Setup) (with_queue link (q ∷ [])) h.numbers fit.bound_is (h.link refl) ∙ free;
@@ -193,6 +193,7 @@ set_up_tied b t link with_user due user h =
     (record {
       numbers = numbers_kept b _ _ was _ _ _ _ _ _ _ _ _ _ h.numbers;
       others = others_kept b t.link (begins s) h.others;
+      pushes = h.pushes;
       life = h.life;
       setup = record { info_is = h.setup.info_is; sent = setups_next l all h.setup.sent; said = (said.0, setting_next l link with_user all tied.within due user said.1) };
       link = λ e. queue_tied name (noted l (begins s)) (begun (with_queue link (q ∷ [])) q) [] (begun_tied name l (with_queue link (q ∷ [])) q (setup_packed l (setup_count l.starts) said.1.says) tied);

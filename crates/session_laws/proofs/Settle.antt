@@ -25,16 +25,16 @@ use Rattle.mux_conn.specs.Requests.{is_open, is_open_at, name_at, closed, answer
 use Rattle.mux_conn.specs.Effects.{settled_each, failed_each}
 use Rattle.shared_session.specs.declared.core_state.Core.{Core}
 use Rattle.shared_session.specs.Turn.{shown, shown_each, timer_of, timers_of}
-use Rattle.legal_trace.specs.Ledger.{Ledger, is_over}
+use Rattle.legal_trace.specs.Ledger.{Ledger, is_over, Heard, next_push}
 use Rattle.legal_trace.specs.Book.{Book, blank_book, book, entered}
 use Rattle.legal_trace.specs.Owed.{owed}
-use Rattle.legal_trace.specs.Legal.{AllStand, MayStand, MayAnswer}
+use Rattle.legal_trace.specs.Legal.{AllStand, MayStand, MayAnswer, IsBefore, is_heard}
 use Rattle.session_laws.proofs.Numbers.{Rising, rising_from}
 use Rattle.session_laws.proofs.Tied.{Inner, link_in, TiedLife, Tied, Sound, waiting_ids, has_ended}
 use Rattle.session_laws.proofs.Entered.{book_more, sound_more, shown_more, timers_more}
 use Rattle.session_laws.proofs.Names.{open_within, name_with, length_with, with_then}
 use Rattle.session_laws.proofs.InLine.{line_of, IsInLine, open_in_line, first_is_least}
-use Rattle.session_laws.proofs.Answer.{may_answer, after_end, owed_still, answer_tied, skip_tied}
+use Rattle.session_laws.proofs.Answer.{may_answer, after_closes, none_before, owed_still, answer_tied, skip_tied}
 
 -- a session in the middle of a turn, by its connection, and by the acts so far, which may ask for timers
 abbrev pub seen : Core → List LinkAct → MultiplexedConnection → List ℕ → List ℕ → Inner
@@ -50,6 +50,9 @@ seen f acts conn pending started = record {
   bound = conn.boundary;
   limit = conn.limit;
   free = conn.free;
+  hears = conn.hears;
+  untold = [];
+  parting = false;
   info = conn.info;
   life = conn.life;
   requests = conn.requests;
@@ -69,6 +72,14 @@ trace_of_acts before f acts = before ++ shown_each f.single.link (length f.timer
 -- the session is tied to the book of that trace
 abbrev pub Holds : List Action → Core → Work → List ℕ → List ℕ → Type 0
 Holds before f w pending started = Sound (trace_of_acts before f w.acts) (seen f w.acts w.conn pending started)
+
+-- so it is in the middle of a turn, where these pushes are still to be told
+abbrev pub Tells : List Action → Core → Work → List Heard → List ℕ → List ℕ → Type 0
+Tells before f w untold pending started = Sound (trace_of_acts before f w.acts) (record (seen f w.acts w.conn pending started) { untold = untold })
+
+-- or where the end of the link is
+abbrev pub Parts : List Action → Core → Work → Bool → List ℕ → List ℕ → Type 0
+Parts before f w parting pending started = Sound (trace_of_acts before f w.acts) (record (seen f w.acts w.conn pending started) { parting = parting })
 
 -- what one more act shows
 abbrev pub shown_now : Core → List LinkAct → LinkAct → Action
@@ -93,6 +104,14 @@ seen_is : (f : Core) (acts : List LinkAct) (a : LinkAct) (conn : MultiplexedConn
 seen_is f acts a conn pending started =
     ap (λ (ts : List Purpose). record (seen f acts conn pending started) { timers = ts })
     (add_is (f.timers ++ timers_of acts) (timer_of a) ∙ append_assoc f.timers (timers_of acts) (timer_of a) ∙ ap (λ ts. f.timers ++ ts) (sym (timers_more acts a)))
+
+-- also where these pushes are still to be told, and the end of the link is
+pub sound_told : (before : List Action) (f : Core) (acts : List LinkAct) (a : LinkAct) (conn : MultiplexedConnection) (untold : List Heard) (parting : Bool) (pending started : List ℕ) → AllStand blank_book (trace_of_acts before f acts) → MayStand (book (trace_of_acts before f acts)) (shown_now f acts a)
+    → Tied (entered (book (trace_of_acts before f acts)) (shown_now f acts a)) (record (seen_more f acts a conn pending started) { untold = untold; parting = parting }) → Sound (trace_of_acts before f (acts ++ a ∷ [])) (record (seen f (acts ++ a ∷ []) conn pending started) { untold = untold; parting = parting })
+sound_told before f acts a conn untold parting pending started stands may tied =
+    subst (λ (t : Inner). Sound (trace_of_acts before f (acts ++ a ∷ [])) (record t { untold = untold; parting = parting })) (seen_is f acts a conn pending started)
+    (subst (λ (x : List Action). Sound x (record (seen_more f acts a conn pending started) { untold = untold; parting = parting })) (sym (shown_more before f.single.link (length f.timers) acts a))
+    (sound_more (trace_of_acts before f acts) (shown_now f acts a) (record (seen_more f acts a conn pending started) { untold = untold; parting = parting }) stands may tied))
 
 -- one more act that may stand behind those that do
 pub sound_act : (before : List Action) (f : Core) (acts : List LinkAct) (a : LinkAct) (conn : MultiplexedConnection) (pending started : List ℕ) → AllStand blank_book (trace_of_acts before f acts) → MayStand (book (trace_of_acts before f acts)) (shown_now f acts a)
@@ -135,17 +154,18 @@ over_life l created (Ended e) h over = refl
 
 -- the first of those that are to be answered may be
 pub first_may : (b : Book) (t : Inner) (p : ℕ) (pending : List ℕ) (o : Outcome) → Tied b (record t { pending = p ∷ pending }) → IsInLine t.requests (link_in t.life) t.admitted t.waiting (p ∷ pending) → is_open_at t.requests p ≡ true
-    → owed b (name_at t.requests p) ≡ Some o → MayAnswer b (name_at t.requests p) o
-first_may b t p pending o h line e owes =
+    → owed b (name_at t.requests p) ≡ Some o → (is_heard b ≡ true → (push : Heard) → next_push (b.link t.link) ≡ Some push → IsBefore b (name_at t.requests p) push) → t.parting ≡ false → MayAnswer b (name_at t.requests p) o
+first_may b t p pending o h line e owes pushed done =
     let now = record t { pending = p ∷ pending } in
     may_answer b now p o h e owes
     (λ q less asked.
     let i = open_in_line b.story t.requests (link_in t.life) t.waiting t.admitted (p ∷ pending) t.started q h.lines asked in
     absurd (let k = first_is_least 0 p (pending ++ line_of (link_in t.life) t.admitted t.waiting) (length t.requests) q line i in omega arith))
-    (λ over. after_end b now h (over_life (b.link t.link) b.created t.life h.life over))
+    pushed
+    (λ over. after_closes b now h done (over_life (b.link t.link) b.created t.life h.life over))
 
 -- one is answered
-rest_in_line : (requests : List Request) (link : LinkState) (admitted waiting : List Waiting) (p : ℕ) (pending : List ℕ) → IsInLine requests link admitted waiting (p ∷ pending) → IsInLine requests link admitted waiting pending
+pub rest_in_line : (requests : List Request) (link : LinkState) (admitted waiting : List Waiting) (p : ℕ) (pending : List ℕ) → IsInLine requests link admitted waiting (p ∷ pending) → IsInLine requests link admitted waiting pending
 rest_in_line requests link admitted waiting p pending line = rising_from (suc p) 0 (pending ++ line_of link admitted waiting) (length requests) (omega arith) line.1
 
 -- the first is answered
@@ -158,7 +178,7 @@ one_answered before f ledger owes name was w p o pending started due e h =
     let owes_now = h.owed_is (name_at w.conn.requests p) ∙ ap owes (h.named p) ∙ due (h.opens p e) in
     record {
       holds = holds_more before f w a (closed w.conn p) (p ∷ pending) pending started h.holds
-          (inl (first_may b t p pending o h.holds.tied h.line e owes_now))
+          (inl (first_may b t p pending o h.holds.tied h.line e owes_now (none_before b (record t { pending = p ∷ pending }) (name_at w.conn.requests p) h.holds.tied refl) refl))
           (answer_tied b t p pending o e owes_now h.line h.holds.tied);
       line = subst (λ n. Rising 0 (pending ++ line_of (link_in w.conn.life) w.conn.admitted w.conn.waiting) n) (sym (length_with w.conn.requests p progress.Closed 0)) (rest_in_line w.conn.requests (link_in w.conn.life) w.conn.admitted w.conn.waiting p pending h.line);
       ledger_is = ap (λ (x : Book). x.link f.single.link) (book_of_more before f w.acts a) ∙ h.ledger_is;
@@ -219,10 +239,11 @@ pub record Leaves (w v : Work) : Type 0 where
   pub admitted : v.conn.admitted ≡ w.conn.admitted
   pub fresh : v.conn.fresh ≡ w.conn.fresh
   pub moved : v.conn.moved ≡ w.conn.moved
+  pub hears : v.conn.hears ≡ w.conn.hears
 
 -- nothing is changed
-leaves_all : (w : Work) → Leaves w w
-leaves_all w = record { size = refl; boundary = refl; life = refl; waiting = refl; admitted = refl; fresh = refl; moved = refl }
+pub leaves_all : (w : Work) → Leaves w w
+leaves_all w = record { size = refl; boundary = refl; life = refl; waiting = refl; admitted = refl; fresh = refl; moved = refl; hears = refl }
 
 -- one after another
 pub leaves_on : (u v w : Work) → Leaves u v → Leaves v w → Leaves u w
@@ -234,11 +255,12 @@ leaves_on u v w h k = record {
   admitted = k.admitted ∙ h.admitted;
   fresh = k.fresh ∙ h.fresh;
   moved = k.moved ∙ h.moved;
+  hears = k.hears ∙ h.hears;
 }
 
 -- one answer leaves them
 pub answered_leaves : (w : Work) (p : ℕ) (o : Outcome) → Leaves w (answered w p o)
-answered_leaves w p o = chosen (Leaves w) (is_open_at w.conn.requests p) _ w (λ t. record { size = refl; boundary = refl; life = refl; waiting = refl; admitted = refl; fresh = refl; moved = refl }) (λ f. leaves_all w)
+answered_leaves w p o = chosen (Leaves w) (is_open_at w.conn.requests p) _ w (λ t. record { size = refl; boundary = refl; life = refl; waiting = refl; admitted = refl; fresh = refl; moved = refl; hears = refl }) (λ f. leaves_all w)
 
 -- so do the answers to what was settled
 pub settled_leaves : (w : Work) (ss : List Settled) → Leaves w (settled_each w ss)

@@ -60,7 +60,7 @@ showing_written : (before : List Action) (f : Core) (w : Work) (moved fresh star
 showing_written before f w moved fresh started h =
     let b = book (trace_of_acts before f w.acts) in
     let t = unshown f w moved fresh started in
-    let all : IsMoved b = is_moved b t h.sound.tied refl refl h.ended h.fit.link h.fit.none h.still.held h.still.full h.still.waiting h.still.none_waits h.fit.setup h.still.setup in
+    let all : IsMoved b = is_moved b t h.sound.tied refl (refl, refl) refl h.ended h.fit.link h.fit.none h.still.held h.still.full h.still.waiting h.still.none_waits h.fit.setup h.still.setup in
     is_written b t h.sound.tied all h.offered
 
 -- other waits are still to be shown

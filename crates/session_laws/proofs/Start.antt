@@ -41,7 +41,7 @@ start_action t link q = action.Start t.link link.started (owner.Try (name_at t.r
 
 -- the session with this link, where nothing is to be answered
 abbrev pub on_link : Inner → LinkState → Inner
-on_link t link = record t { life = Ready link; pending = [] }
+on_link t link = record t { life = Ready link; pending = []; untold = []; parting = false }
 
 -- a link with this queue
 abbrev pub with_queue : LinkState → List Queued → LinkState
@@ -49,7 +49,7 @@ with_queue link qs = record link { queue = qs }
 
 -- the session once the first message of the queue has started
 abbrev pub after_start : Inner → LinkState → Queued → List Queued → Inner
-after_start t link q qs = record t { life = Ready (with_queue (begun link q) qs); pending = []; started = t.started ++ q.id ∷ [] }
+after_start t link q qs = record t { life = Ready (with_queue (begun link q) qs); pending = []; untold = []; parting = false; started = t.started ++ q.id ∷ [] }
 
 -- the story of one submission with one try more
 abbrev tried_at : ℕ → ℕ → ℕ → (ℕ → Story) → ℕ → Story
@@ -302,6 +302,7 @@ start_tied b t link q qs h =
     (record {
       numbers = numbers_kept b _ _ was _ _ _ _ _ _ _ _ _ _ h.numbers;
       others = others_kept b t.link (begins (message_of b t.link (name q.id))) h.others;
+      pushes = h.pushes;
       life = h.life;
       setup = record { info_is = h.setup.info_is; sent = setups_begins l s refl h.setup.sent; said = set_up_begins l s refl h.setup.said };
       link = λ e. queue_tied name (noted l (begins s)) (begun (with_queue link (q ∷ qs)) q) qs (begun_tied name l (with_queue link (q ∷ qs)) q (queued_some b was q h within is) up);

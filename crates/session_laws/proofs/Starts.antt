@@ -43,7 +43,7 @@ start_may b t link q qs fit free h ended =
     let running = running_on t link (q ∷ qs) fit in
     let r = request_story b was q.id h (queue_within b was q.id h (inl refl)) in
     record {
-      begun = begun_up b was h refl refl ended;
+      begun = begun_up b was h refl (refl, refl) refl ended;
       unstarted = queue_unstarted b was q.id h (inl refl);
       starts = queue_step b was q.id h running (inl refl) ∙ ap starts_or_waits free;
       in_order = first_in_queue b was q.id (queue_ids qs) h running refl;

@@ -17,7 +17,7 @@ use Rattle.mux_conn.specs.declared.request.Request.{Request}
 use Rattle.mux_conn.specs.Requests.{is_open as is_open_progress, is_waiting, is_admitted, is_placed, if_there}
 use Rattle.mux_conn.specs.declared.request.Progress.{Progress}
 use Rattle.shared_session.specs.declared.core_state.Core.{Core}
-use Rattle.legal_trace.specs.Ledger.{is_over}
+use Rattle.legal_trace.specs.Ledger.{is_over, next_push}
 use Rattle.legal_trace.specs.Story.{Story, Try, blank_story, is_open, is_no_error, is_told, is_awaited, bytes_of, handed_in, answered, last_of}
 use Rattle.legal_trace.specs.Book.{Book, entered, if_own, current, is_unspoken}
 use Rattle.legal_trace.specs.Owed.{owed, owed_to_try}
@@ -25,8 +25,8 @@ use Rattle.legal_trace.specs.Legal.{IsOpen, link_of, NoneIsOwed, NoneEnds, MayAn
 use Rattle.session_laws.proofs.Numbers.{IsIn, in_left, in_right, Rising, rising_in}
 use Rattle.session_laws.proofs.Tied.{carried, inner, link_in, queue_ids, waiting_ids, whole_link, IsRefused, TiedStory, Tied, no_opening}
 use Rattle.session_laws.proofs.Names.{there_within, names_refused}
-use Rattle.session_laws.proofs.Owes.{started_within}
-use Rattle.session_laws.proofs.Answer.{owed_in}
+use Rattle.session_laws.proofs.Owes.{started_within, ends_told, pushes_told}
+use Rattle.session_laws.proofs.Answer.{owed_in, no_push}
 use Rattle.session_laws.proofs.Settle.{seen}
 use Rattle.session_laws.proofs.Announce.{aims_longer, aims_on, turn_of, turned}
 use Rattle.session_laws.proofs.Heard.{told_life, silent_no_end}
@@ -111,12 +111,14 @@ may_refuse b c started word what e h none no_end shown why =
       asked = ap is_open own;
       owes = ap (owed_in now) own ∙ new_owed b now what e why;
       in_order = λ m less asked same. others m (λ x. absurd (omega arith)) asked;
+      after_pushes = λ heard push next. absurd (no_push (next_push (b.link (now.story size).link)) push (pushes_told b (inner c started) h refl (now.story size).link heard) next);
       after_closes = λ over. (
         (λ l. silent_no_end (b.link l) c.turns (no_end l)),
         (λ m asked alive. by_test (m == size) _
             (λ t. absurd (not_both (is_over (link_of now size)) (subst (λ k. is_over (link_of now k) ≡ false) (eq_from m size t) alive) over))
             (λ o. others m (ne_from m size o) asked)),
         shown,
+        ends_told b (inner c started) h refl,
       );
     }
 
@@ -179,7 +181,8 @@ refused_tied b c started word what e h no_fresh =
         one = h.numbers.one;
         only = h.numbers.only;
       };
-      others = λ m other. let u = h.others m other in record { asked = u.asked; up = u.up; end = u.end; starts = u.starts };
+      others = λ m other. let u = h.others m other in record { asked = u.asked; up = u.up; end = u.end; starts = u.starts; pushes = u.pushes };
+      pushes = h.pushes;
       life = told_life ledger b.created conn.life silence h.life;
       setup = setup_on ledger ledger.asked ledger.up ledger.end ledger.taken ledger.offer ledger.rest silence conn.info started conn.life h.setup;
       link = λ alive. told_tied (carried conn.life conn.requests) ledger (whole_link conn.life) ledger.asked ledger.up silence (h.link alive);

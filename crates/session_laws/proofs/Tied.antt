@@ -1,5 +1,5 @@
 -- What ties a session to the book of its trace.
-use Rattle.std.proofs.Common.{◌≡◌, ◌≢◌, ◌⊎◌, ℕ, zero, suc, ◌+◌, ◌<◌, ◌==◌, Bool, true, false, List, [], ◌∷◌, ◌++◌, length, Option, Some, None, slice_get}
+use Rattle.std.proofs.Common.{◌≡◌, ◌≢◌, ◌⊎◌, ℕ, zero, suc, ◌+◌, ◌<◌, ◌≤◌, ◌==◌, Bool, true, false, List, [], ◌∷◌, ◌++◌, length, drop, Option, Some, None, slice_get}
 use Rattle.std.specs.List.{AllByRecursion}
 use Rattle.redis_error.specs.declared.redis_error.RedisError.{RedisError}
 use Rattle.resp_value.specs.declared.value.Value.TheVariants.{Nil}
@@ -33,11 +33,11 @@ use Rattle.mux_conn.specs.declared.request.Waiting.{Waiting}
 use Rattle.mux_conn.specs.Effects.{setup_queued}
 use Rattle.mux_conn.specs.Requests.{name_at, permits_at, is_open_at, is_waiting_at, is_admitted_at, is_placed_at}
 use Rattle.shared_session.specs.declared.core_state.Core.{Core}
-use Rattle.legal_trace.specs.Ledger.{Ledger, Start, End, failure_in, is_full, is_set_up, setup_count, setup_steps, setup_after}
+use Rattle.legal_trace.specs.Ledger.{Ledger, Heard, Start, End, failure_in, is_cut, is_full, is_set_up, setup_count, setup_steps, setup_after}
 use Rattle.legal_trace.specs.Story.{Story, blank_story, is_open, is_told, bytes_of, shape, is_awaited}
 use Rattle.legal_trace.specs.Book.{Book, blank_book, book}
 use Rattle.legal_trace.specs.Steps.{configured, queue_size, permits_in, permits_held, is_let_in}
-use Rattle.legal_trace.specs.Legal.{AllStand, IsTimed}
+use Rattle.legal_trace.specs.Legal.{AllStand, IsTimed, is_heard}
 use Rattle.legal_trace.specs.Owed.{owed_unstarted}
 use Rattle.session_laws.proofs.Numbers.{IsIn, Rising}
 
@@ -45,7 +45,8 @@ use Rattle.session_laws.proofs.Numbers.{IsIn, Rising}
 -- which of them is its connection's, what each timer was asked for, whether everything was shut down, the request of
 -- each submission, and within how many milliseconds one that comes now is to be answered; how many messages the queue
 -- of its connection's link holds, at how many unwritten bytes none starts, how many permits there are, if they are
--- counted, and how many are free; what is said to the server before the first request; its connection's life and
+-- counted, and how many are free; whether somebody hears pushes, which pushes of those that came are still to be told, and
+-- whether the end of the link is; what is said to the server before the first request; its connection's life and
 -- requests, those that wait for the connection, those that wait for a place, those that came in this turn and those
 -- that were moved in it, whose waits aren't shown yet; the one that is being let in; the requests that are settled
 -- and not answered yet; and the requests whose messages started, in order
@@ -61,6 +62,9 @@ pub record Inner : Type 0 where
   pub bound : ℕ
   pub limit : Option ℕ
   pub free : ℕ
+  pub hears : Bool
+  pub untold : List Heard
+  pub parting : Bool
   pub info : RedisConnectionInfo
   pub life : Life
   pub requests : List Request
@@ -170,6 +174,17 @@ pub record IsUnknown (l : Ledger) : Type 0 where
   pub up : l.up ≡ false
   pub end : l.end ≡ None
   pub starts : l.starts ≡ []
+  pub pushes : l.pushes ≡ []
+
+-- where somebody hears the pushes of a link: those are still to be told that weren't, and its end, by a fault once it was set
+-- up, was told but where it is still to be
+pub record TiedPushes (heard hears : Bool) (pushes : List Heard) (told : ℕ) (end : Option End) (parted : Bool) (untold : List Heard) (parting : Bool) : Type 0 where
+  pub heard_is : heard ≡ hears
+  pub within : hears ≡ true → told ≤ length pushes
+  pub untold_is : hears ≡ true → drop told pushes ≡ untold
+  pub parts : hears ≡ true → parting ≡ false → is_cut end ≡ true → parted ≡ true
+  pub alive : end ≡ None → parted ≡ false
+  pub due : parting ≡ true → parted ≡ false
 
 -- where the opening failed, this was shown
 abbrev pub FailureIsShown : Option End → ℕ → Type 0
@@ -343,6 +358,7 @@ AreLate story requests pending = (p : ℕ) → is_open_at requests p ≡ true �
 pub record Tied (b : Book) (t : Inner) : Type 0 where
   pub numbers : TiedNumbers b t
   pub others : (m : ℕ) → m ≢ t.link → IsUnknown (b.link m)
+  pub pushes : TiedPushes (is_heard b) t.hears (b.link t.link).pushes (b.link t.link).told (b.link t.link).end (b.link t.link).parted t.untold t.parting
   pub life : TiedLife (b.link t.link) b.created t.life
   pub setup : TiedSetup (b.link t.link) t.info t.started t.life
   pub link : has_ended t.life ≡ false → TiedLink (carried t.life t.requests) (b.link t.link) (whole_link t.life)
@@ -354,6 +370,10 @@ pub record Tied (b : Book) (t : Inner) : Type 0 where
   pub waits : TiedWaits b.story t.requests t.life t.fresh t.moved
   pub permits : TiedPermits b.story b.submissions t.requests t.link t.limit t.free t.letting
   pub late : AreLate b.story t.requests t.pending
+
+-- all pushes of the link are told, and so is its end
+abbrev pub IsToldIn : Inner → Type 0
+IsToldIn t = (t.untold ≡ []) × (t.parting ≡ false)
 
 -- each action of the trace stands where it may, and the session is tied to its book
 pub record Sound (trace : List Action) (t : Inner) : Type 0 where
@@ -374,6 +394,9 @@ inner c started = record {
   bound = c.single.connection.boundary;
   limit = c.single.connection.limit;
   free = c.single.connection.free;
+  hears = c.single.connection.hears;
+  untold = [];
+  parting = false;
   info = c.single.connection.info;
   life = c.single.connection.life;
   requests = c.single.connection.requests;
@@ -416,6 +439,7 @@ pub relined : (b : Book) (t : Inner) (waiting admitted : List Waiting) (fresh mo
 relined b t waiting admitted fresh moved pending h lines waits late = record {
   numbers = numbers_kept b b.link b.story t t.life t.free t.requests waiting admitted fresh moved t.letting pending t.started h.numbers;
   others = h.others;
+  pushes = h.pushes;
   life = h.life;
   setup = h.setup;
   link = h.link;

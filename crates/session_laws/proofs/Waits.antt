@@ -151,6 +151,7 @@ wait_tied b t p kind moved fresh within h waits =
     record {
       numbers = numbers_kept b b.link after t t.life t.free t.requests t.waiting t.admitted fresh moved t.letting t.pending t.started h.numbers;
       others = h.others;
+      pushes = h.pushes;
       life = h.life;
       setup = h.setup;
       link = h.link;

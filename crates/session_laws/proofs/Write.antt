@@ -40,6 +40,7 @@ write_tied b t link h =
     tied_by (entered b (action.Write t.link link.outbox.unwritten)) (on_link t (offered_of link)) (noted l line) (mine_noted l t.link line) (record {
       numbers = numbers_kept b _ _ (on_link t link) _ _ _ _ _ _ _ _ _ _ h.numbers;
       others = others_kept b t.link line h.others;
+      pushes = h.pushes;
       life = h.life;
       setup = record { info_is = h.setup.info_is; sent = h.setup.sent; said = record { well = h.setup.said.well; none = h.setup.said.none } };
       link = λ e. offered_tied (owner_of t.requests) l link (h.link refl);
@@ -61,6 +62,7 @@ write_set_tied b t link with_user h =
     tied_by (entered b (action.Write t.link link.outbox.unwritten)) (setting_on t (offered_of link) with_user) (noted l line) (mine_noted l t.link line) (record {
       numbers = numbers_kept b _ _ (setting_on t link with_user) _ _ _ _ _ _ _ _ _ _ h.numbers;
       others = others_kept b t.link line h.others;
+      pushes = h.pushes;
       life = h.life;
       setup = setup_link (noted l line) t.info t.started link (offered_of link) with_user refl refl
           (setup_on l l.asked l.up l.end l.taken link.outbox.unwritten l.rest l.heard t.info t.started (SettingUp link with_user) h.setup);
@@ -108,7 +110,7 @@ pub record HasWritten (before : List Action) (f : Core) (w : Work) : Type 0 wher
 
 -- all requests of a session are moved
 pub moved_book : (before : List Action) (f : Core) (w : Work) → HasMoved before f w → IsMoved (book (trace_of_acts before f w.acts))
-moved_book before f w h = is_moved (book (trace_of_acts before f w.acts)) (seen f w.acts w.conn [] h.started) h.holds.tied refl refl h.ended h.fit.link h.fit.none h.still.held h.still.full h.still.waiting h.still.none_waits h.fit.setup h.still.setup
+moved_book before f w h = is_moved (book (trace_of_acts before f w.acts)) (seen f w.acts w.conn [] h.started) h.holds.tied refl (refl, refl) refl h.ended h.fit.link h.fit.none h.still.held h.still.full h.still.waiting h.still.none_waits h.fit.setup h.still.setup
 
 -- the link of a life
 same_link : (link other : LinkState) → Ready link ≡ Ready other → link ≡ other

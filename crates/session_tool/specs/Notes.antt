@@ -42,6 +42,7 @@ pub record IsScriptNote (bytes text : List ℕ) : Type 0 where
 -- what of a configuration is to be mended, by the name of what is refused
 abbrev pub config_words : ConfigName → List ℕ
 config_words name.Url = codes "the URL is no address: it has the scheme redis or valkey and a host, and beside them no more than a user, a password, a port, a database and a protocol"
+config_words name.Push = codes "pushes come on RESP3 alone: push=on goes with ?protocol=3 in the URL"
 config_words name.Limit = codes "a request holds at least 1 permit: limit=0 leaves none for any"
 config_words name.Buffer = codes "the queue of a link holds at least 1 message: buffer=0 leaves no place for any"
 config_words other = codes "the configuration is refused for its " ++ config_name other

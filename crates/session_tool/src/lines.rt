@@ -42,6 +42,7 @@ What the URL has of a user, a password, a database and a protocol is said to the
 The time of the connect is 1000 ms, or what connect=MS or connect=none says in the first line.
 The time of a request is 500 ms, or what response=MS or response=none says there; limit=COUNT sets how many permits there are.
 The queue of a link holds 50 messages, or what buffer=COUNT says there, and none starts while 8192 bytes or more, or what boundary=BYTES says, are unwritten.
+Pushes are heard where push=on stands there, on a URL with ?protocol=3: each is an action, and so is the end of a link.
 A fault is refused, reset, aborted, not-connected, broken-pipe, eof, timed-out, interrupted, denied or other.
 Status: 0 done, 1 no command, 2 no script, 3 refused configuration, 4 bad event, 5 no memory, 6 no input, 7 no output, 8 no more numbers.
 ";

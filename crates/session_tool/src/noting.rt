@@ -49,6 +49,9 @@ const LIVE_SPENT_NOTE: &[u8] = b"a number of 32 bits has run out: hand in fewer 
 const URL_WORDS: &[u8] =
     b"the URL is no address: it has the scheme redis or valkey and a host, and beside them no more than a user, a password, a port, a database and a protocol";
 
+/// Where pushes couldn't come.
+const PUSH_WORDS: &[u8] = b"pushes come on RESP3 alone: push=on goes with ?protocol=3 in the URL";
+
 /// Where there would be no permit.
 const LIMIT_WORDS: &[u8] = b"a request holds at least 1 permit: limit=0 leaves none for any";
 
@@ -114,6 +117,7 @@ fn config_words(alloc: Global, name: ConfigName) -> Result<Bytes, AllocError>
 {
     match name {
         ConfigName::Url => Bytes::from_slice(alloc, URL_WORDS),
+        ConfigName::Push => Bytes::from_slice(alloc, PUSH_WORDS),
         ConfigName::Limit => Bytes::from_slice(alloc, LIMIT_WORDS),
         ConfigName::Buffer => Bytes::from_slice(alloc, BUFFER_WORDS),
         _ => {

@@ -122,6 +122,7 @@ impl Offer {
     }
 
     /// After one more action.
+    #[tactic(auto, using(crate::proofs::Offers::push_offer))]
     fn after(self, action: &Action) -> Offer
         ensures { (b : Book) → IsOfferOf self b → IsOfferOf result (entered b action.now) }
     {
@@ -145,6 +146,7 @@ impl Offer {
                     self
                 }
             }
+            Action::Push { link: _, info: _ } => self,
             Action::Close { link } => {
                 if *link == FIRST_LINK {
                     Offer {

@@ -68,6 +68,7 @@ told_shown link (act.Outcome n o ∷ more) os t = told_shown link more _ _
 told_shown link (act.Created e ∷ more) os t = told_shown link more os _
 told_shown link (act.Took n count ∷ more) os t = told_shown link more os _
 told_shown link (act.Timer n ms ∷ more) os t = told_shown link more os _
+told_shown link (act.Push info ∷ more) os t = told_shown link more os _
 told_shown link (act.Close ∷ more) os t = told_shown link more os _
 told_shown link (act.Write bytes ∷ more) os t = told_shown link more os _
 told_shown link (act.Wait n kind ∷ more) os t = told_shown link more os _

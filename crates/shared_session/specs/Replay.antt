@@ -12,7 +12,7 @@ use Rattle.driver_model.specs.declared.event.Event.{Event}
 use Rattle.driver_model.specs.declared.event.EventKind.{EventKind}
 use Rattle.driver_model.specs.declared.event.EventKind.TheVariants as event
 use Rattle.driver_model.specs.declared.outcome.Outcome.{Outcome}
-use Rattle.driver_model.specs.Config.{address, connect_timeout, response_timeout, buffer_size, boundary, told_info, first_fault}
+use Rattle.driver_model.specs.Config.{address, connect_timeout, response_timeout, buffer_size, boundary, hears_pushes, told_info, first_fault}
 use Rattle.mux_conn.specs.Turn.{dialing}
 use Rattle.shared_session.specs.declared.core_state.Core.{Core}
 use Rattle.shared_session.specs.Turn.{next_turn, actions_of, is_bad, spends}
@@ -35,7 +35,7 @@ opening_core config word = record {
   timeout = response_timeout config;
   timers = connect_timers (connect_timeout config);
   table = [];
-  single = record { link = first_link; connection = dialing (buffer_size config) (boundary config) config.limit (told_info config) };
+  single = record { link = first_link; connection = dialing (buffer_size config) (boundary config) config.limit (hears_pushes config) (told_info config) };
 }
 
 -- the timer of the opening is asked for
@@ -95,6 +95,7 @@ told os (action.Outcome n o) = slice_set os n (Some o)
 told os (action.Connect l host port) = os
 told os (action.Timer t ms what) = os
 told os (action.Took who l count) = os
+told os (action.Push l info) = os
 told os (action.Close l) = os
 told os (action.Write l bytes) = os
 told os (action.Wait who kind) = os

@@ -113,6 +113,7 @@ fn opened(alloc: Global, config: &Config, info: RedisConnectionInfo) -> Result<C
                 config.buffer_size(),
                 config.boundary(),
                 config.limit,
+                config.hears_pushes(),
                 info,
             ),
         },

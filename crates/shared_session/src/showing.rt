@@ -42,6 +42,7 @@ fn action_of(link: u32, timer: u64, act: LinkAct) -> Action
                 owner: try_of(request),
             },
         },
+        LinkAct::Push { info } => Action::Push { link, info },
         LinkAct::Close => Action::Close { link },
         LinkAct::Write { bytes } => Action::Write { link, bytes },
         LinkAct::Wait { request, wait } => Action::Wait {

@@ -21,7 +21,7 @@ use Rattle.script_text.specs.Draws.{drawn}
 use Rattle.script_text.specs.EventLine.{by_first, commands, calls, submissions, faults, fault_among, failed, others, events, drawing, event_of}
 use Rattle.script_text.specs.Words.{LineWords, all_of}
 use Rattle.legal_trace.specs.Legal.{event_causes}
-use Rattle.trace_text.specs.Show.{url, draw_words, connect_words, response_words, buffer_words, limit_words, boundary_words, lib_words, times_words, numbers_words, later_words, config_words, time_word, first_of, behind_first, submission_words, submission_more, event_words, event_more}
+use Rattle.trace_text.specs.Show.{url, draw_words, connect_words, response_words, buffer_words, limit_words, boundary_words, push_words, lib_words, switch_words, times_words, numbers_words, later_words, config_words, time_word, first_of, behind_first, submission_words, submission_more, event_words, event_more}
 use Rattle.containers.proofs.Choices.{chosen, eq_from}
 use Rattle.text_laws.specs.Fits.{FitsSubmission, FitsKind, FitsEvent, FitsLimit, FitsNumber, FitsConfig, FitsHistory, HasForm, HaveForms}
 use Rattle.text_laws.specs.History.{script_with, history_in}
@@ -177,13 +177,13 @@ small_given n = setting_of (number max_u32) (numbers_in n ++ [])
 abbrev long_given : Option ℕ → Setting ℕ
 long_given n = setting_of (number max_u64) (numbers_in n ++ [])
 
-abbrev lib_given : Option Bool → Setting Bool
-lib_given lib = setting_of switch (switches_in lib ++ [])
+abbrev switch_given : Option Bool → Setting Bool
+switch_given on = setting_of switch (switches_in on ++ [])
 
-lib_back : (lib : Option Bool) → lib_given lib ≡ as_given lib
-lib_back None = refl
-lib_back (Some true) = refl
-lib_back (Some false) = refl
+switch_back : (on : Option Bool) → switch_given on ≡ as_given on
+switch_back None = refl
+switch_back (Some true) = refl
+switch_back (Some false) = refl
 
 limit_back : (limit : Option (Option ℕ)) → FitsLimit limit → time_given limit ≡ as_given limit
 limit_back None fits = refl
@@ -206,6 +206,7 @@ record Found : Type 0 where
   limit : List (List ℕ)
   buffer : List (List ℕ)
   boundary : List (List ℕ)
+  push : List (List ℕ)
   lib : List (List ℕ)
 
 abbrev found_in : List (List ℕ) → Found
@@ -217,6 +218,7 @@ found_in words = record {
   limit = values (codes "limit") words;
   buffer = values (codes "buffer") words;
   boundary = values (codes "boundary") words;
+  push = values (codes "push") words;
   lib = values (codes "lib") words;
 }
 
@@ -235,6 +237,9 @@ with_limit limit f = record f { limit = numbers_in limit ++ f.limit }
 
 abbrev with_boundary : Option ℕ → Found → Found
 with_boundary boundary f = record f { boundary = numbers_in boundary ++ f.boundary }
+
+abbrev with_push : Option Bool → Found → Found
+with_push push f = record f { push = switches_in push ++ f.push }
 
 abbrev with_lib : Option Bool → Found → Found
 with_lib lib f = record f { lib = switches_in lib ++ f.lib }
@@ -261,6 +266,11 @@ boundary_found : (boundary : Option ℕ) (words : List (List ℕ)) → found_in 
 boundary_found None words = refl
 boundary_found (Some bytes) words = refl
 
+push_found : (push : Option Bool) (words : List (List ℕ)) → found_in (push_words push ++ words) ≡ with_push push (found_in words)
+push_found None words = refl
+push_found (Some true) words = refl
+push_found (Some false) words = refl
+
 -- nothing is behind it
 lib_found : (lib : Option Bool) → found_in (lib_words lib) ≡ with_lib lib (found_in [])
 lib_found None = refl
@@ -269,15 +279,16 @@ lib_found (Some false) = refl
 
 -- what is found in the words behind the address
 abbrev found_of : Config → Found
-found_of c = with_connect c.connect (with_response c.response (with_buffer c.buffer (with_limit c.limit (with_boundary c.boundary (with_lib c.lib (found_in []))))))
+found_of c = with_connect c.connect (with_response c.response (with_buffer c.buffer (with_limit c.limit (with_boundary c.boundary (with_push c.push (with_lib c.lib (found_in [])))))))
 
 -- the words behind the address, in a row
 abbrev in_a_row : Config → List (List ℕ)
-in_a_row c = connect_words c.connect ++ (response_words c.response ++ (buffer_words c.buffer ++ (limit_words c.limit ++ (boundary_words c.boundary ++ lib_words c.lib))))
+in_a_row c = connect_words c.connect ++ (response_words c.response ++ (buffer_words c.buffer ++ (limit_words c.limit ++ (boundary_words c.boundary ++ switch_words c))))
 
 row_found : (c : Config) → found_in (in_a_row c) ≡ found_of c
 row_found c =
-    let permits = limit_words c.limit ++ (boundary_words c.boundary ++ lib_words c.lib) in
+    let bound = boundary_words c.boundary ++ switch_words c in
+    let permits = limit_words c.limit ++ bound in
     let numbers = buffer_words c.buffer ++ permits in
     connect_found c.connect (response_words c.response ++ numbers)
     ∙ ap (with_connect c.connect)
@@ -285,27 +296,29 @@ row_found c =
     ∙ ap (with_response c.response)
     (buffer_found c.buffer permits
     ∙ ap (with_buffer c.buffer)
-    (limit_found c.limit (boundary_words c.boundary ++ lib_words c.lib)
-    ∙ ap (with_limit c.limit) (boundary_found c.boundary (lib_words c.lib) ∙ ap (with_boundary c.boundary) (lib_found c.lib)))))
+    (limit_found c.limit bound
+    ∙ ap (with_limit c.limit)
+    (boundary_found c.boundary (switch_words c)
+    ∙ ap (with_boundary c.boundary) (push_found c.push (lib_words c.lib) ∙ ap (with_push c.push) (lib_found c.lib))))))
 
 later_row : (c : Config) → later_words c ≡ in_a_row c
 later_row c =
-    append_assoc (times_words c) (numbers_words c) (lib_words c.lib)
-    ∙ append_assoc (connect_words c.connect) (response_words c.response) (numbers_words c ++ lib_words c.lib)
+    append_assoc (times_words c) (numbers_words c) (switch_words c)
+    ∙ append_assoc (connect_words c.connect) (response_words c.response) (numbers_words c ++ switch_words c)
     ∙ ap (λ t. connect_words c.connect ++ (response_words c.response ++ t))
-    (append_assoc (buffer_words c.buffer ++ limit_words c.limit) (boundary_words c.boundary) (lib_words c.lib)
-    ∙ append_assoc (buffer_words c.buffer) (limit_words c.limit) (boundary_words c.boundary ++ lib_words c.lib))
+    (append_assoc (buffer_words c.buffer ++ limit_words c.limit) (boundary_words c.boundary) (switch_words c)
+    ∙ append_assoc (buffer_words c.buffer) (limit_words c.limit) (boundary_words c.boundary ++ switch_words c))
 
 -- a configuration by what is read of its settings
-abbrev config_by : List ℕ → Setting (Option ℕ) → Setting (Option ℕ) → Setting ℕ → Setting ℕ → Setting ℕ → Setting Bool → Option Config
-config_by address connect response limit buffer boundary lib =
-    if ((connect.allowed && response.allowed) && (limit.allowed && (buffer.allowed && boundary.allowed))) && lib.allowed
-    then Some (record { url = address; connect = connect.read; response = response.read; limit = limit.read; buffer = buffer.read; boundary = boundary.read; lib = lib.read }) else None
+abbrev config_by : List ℕ → Setting (Option ℕ) → Setting (Option ℕ) → Setting ℕ → Setting ℕ → Setting ℕ → Setting Bool → Setting Bool → Option Config
+config_by address connect response limit buffer boundary push lib =
+    if ((connect.allowed && response.allowed) && (limit.allowed && (buffer.allowed && boundary.allowed))) && (push.allowed && lib.allowed)
+    then Some (record { url = address; connect = connect.read; response = response.read; limit = limit.read; buffer = buffer.read; boundary = boundary.read; push = push.read; lib = lib.read }) else None
 
 -- a configuration by what is found in the words behind its address
 abbrev config_found : List ℕ → Found → Option Config
 config_found address f =
-    if f.are && (((allows time_limit f.connect && allows time_limit f.response) && (allows (number max_u32) f.limit && (allows (number max_u32) f.buffer && allows (number max_u64) f.boundary))) && allows switch f.lib)
+    if f.are && (((allows time_limit f.connect && allows time_limit f.response) && (allows (number max_u32) f.limit && (allows (number max_u32) f.buffer && allows (number max_u64) f.boundary))) && (allows switch f.push && allows switch f.lib))
     then option_map (λ text. record {
       url = text;
       connect = given time_limit f.connect;
@@ -313,6 +326,7 @@ config_found address f =
       limit = given (number max_u32) f.limit;
       buffer = given (number max_u32) f.buffer;
       boundary = given (number max_u64) f.boundary;
+      push = given switch f.push;
       lib = given switch f.lib;
     }) (only (address ∷ f.url)) else None
 
@@ -320,12 +334,13 @@ config_back : (c : Config) → FitsConfig c → config_of (record { words = conf
 unfolding url config_of
 config_back c fits =
     ap (config_found c.url) (ap found_in (later_row c) ∙ row_found c)
-    ∙ ap (λ s. config_by c.url s (time_given c.response) (small_given c.limit) (small_given c.buffer) (long_given c.boundary) (lib_given c.lib)) (limit_back c.connect fits.connect)
-    ∙ ap (λ s. config_by c.url (as_given c.connect) s (small_given c.limit) (small_given c.buffer) (long_given c.boundary) (lib_given c.lib)) (limit_back c.response fits.response)
-    ∙ ap (λ s. config_by c.url (as_given c.connect) (as_given c.response) s (small_given c.buffer) (long_given c.boundary) (lib_given c.lib)) (small_back c.limit fits.limit)
-    ∙ ap (λ s. config_by c.url (as_given c.connect) (as_given c.response) (as_given c.limit) s (long_given c.boundary) (lib_given c.lib)) (small_back c.buffer fits.buffer)
-    ∙ ap (λ s. config_by c.url (as_given c.connect) (as_given c.response) (as_given c.limit) (as_given c.buffer) s (lib_given c.lib)) (long_back c.boundary fits.boundary)
-    ∙ ap (λ s. config_by c.url (as_given c.connect) (as_given c.response) (as_given c.limit) (as_given c.buffer) (as_given c.boundary) s) (lib_back c.lib)
+    ∙ ap (λ s. config_by c.url s (time_given c.response) (small_given c.limit) (small_given c.buffer) (long_given c.boundary) (switch_given c.push) (switch_given c.lib)) (limit_back c.connect fits.connect)
+    ∙ ap (λ s. config_by c.url (as_given c.connect) s (small_given c.limit) (small_given c.buffer) (long_given c.boundary) (switch_given c.push) (switch_given c.lib)) (limit_back c.response fits.response)
+    ∙ ap (λ s. config_by c.url (as_given c.connect) (as_given c.response) s (small_given c.buffer) (long_given c.boundary) (switch_given c.push) (switch_given c.lib)) (small_back c.limit fits.limit)
+    ∙ ap (λ s. config_by c.url (as_given c.connect) (as_given c.response) (as_given c.limit) s (long_given c.boundary) (switch_given c.push) (switch_given c.lib)) (small_back c.buffer fits.buffer)
+    ∙ ap (λ s. config_by c.url (as_given c.connect) (as_given c.response) (as_given c.limit) (as_given c.buffer) s (switch_given c.push) (switch_given c.lib)) (long_back c.boundary fits.boundary)
+    ∙ ap (λ s. config_by c.url (as_given c.connect) (as_given c.response) (as_given c.limit) (as_given c.buffer) (as_given c.boundary) s (switch_given c.lib)) (switch_back c.push)
+    ∙ ap (λ s. config_by c.url (as_given c.connect) (as_given c.response) (as_given c.limit) (as_given c.buffer) (as_given c.boundary) (as_given c.push) s) (switch_back c.lib)
 
 config_undrawn : (config : Config) → IsUndrawn (config_words config)
 config_undrawn config = refl

@@ -22,7 +22,7 @@ use Rattle.redis_error.specs.declared.fault_kind.FaultKind.{FaultKind}
 use Rattle.redis_error.specs.declared.fault_kind.FaultKind.TheVariants as fault
 use Rattle.redis_error.specs.Names.{fault_name}
 use Rattle.script_text.specs.Numbers.{is_decimal, number}
-use Rattle.trace_text.specs.Show.{url, connect_words, response_words, buffer_words, limit_words, boundary_words, lib_words, times_words, numbers_words, later_words, time_word, draw_words, config_words, first_of, behind_first, call_word, submission_words, submission_more, event_words, event_more, cause_words, cause_more}
+use Rattle.trace_text.specs.Show.{url, connect_words, response_words, buffer_words, limit_words, boundary_words, lib_words, times_words, numbers_words, later_words, time_word, draw_words, config_words, first_of, behind_first, call_word, submission_words, submission_more, event_words, event_more, cause_words, cause_more, push_words, switch_words}
 use Rattle.containers.proofs.Choices.{chosen, lt_from, not_lt_from, le_test, ne_test}
 use Rattle.text_laws.specs.Fits.{IsByte, AreBytes, FitsSubmission, FitsKind, FitsEvent, FitsConfig}
 
@@ -213,6 +213,11 @@ boundary_bytes : (boundary : Option ℕ) → All AreBytes (boundary_words bounda
 boundary_bytes None = no_words
 boundary_bytes (Some bytes) = setting_bytes (codes "boundary=") (decimal bytes) (looked (codes "boundary=") refl) (decimal_bytes bytes)
 
+push_bytes : (push : Option Bool) → All AreBytes (push_words push)
+push_bytes None = no_words
+push_bytes (Some true) = word_and (codes "push=on") [] (looked (codes "push=on") refl) no_words
+push_bytes (Some false) = word_and (codes "push=off") [] (looked (codes "push=off") refl) no_words
+
 lib_bytes : (lib : Option Bool) → All AreBytes (lib_words lib)
 lib_bytes None = no_words
 lib_bytes (Some true) = word_and (codes "lib=on") [] (looked (codes "lib=on") refl) no_words
@@ -226,10 +231,13 @@ numbers_bytes config =
     All-append AreBytes (buffer_words config.buffer ++ limit_words config.limit) (boundary_words config.boundary)
     (All-append AreBytes (buffer_words config.buffer) (limit_words config.limit) (buffer_bytes config.buffer) (limit_bytes config.limit)) (boundary_bytes config.boundary)
 
+switch_bytes : (config : Config) → All AreBytes (switch_words config)
+switch_bytes config = All-append AreBytes (push_words config.push) (lib_words config.lib) (push_bytes config.push) (lib_bytes config.lib)
+
 later_bytes : (config : Config) → All AreBytes (later_words config)
 later_bytes config =
-    All-append AreBytes (times_words config ++ numbers_words config) (lib_words config.lib)
-    (All-append AreBytes (times_words config) (numbers_words config) (times_bytes config) (numbers_bytes config)) (lib_bytes config.lib)
+    All-append AreBytes (times_words config ++ numbers_words config) (switch_words config)
+    (All-append AreBytes (times_words config) (numbers_words config) (times_bytes config) (numbers_bytes config)) (switch_bytes config)
 
 config_bytes : (config : Config) → FitsConfig config → All AreBytes (config_words config)
 config_bytes config fits =

@@ -347,7 +347,8 @@ fn events_as_given(rt: HostRuntime) -> Result<(), Fail> {
     Ok(())
 }
 
-/// What is configured: the times of a connect and of a reply, the permits, the queue, the boundary and the library.
+/// What is configured: the times of a connect and of a reply, the permits, the queue, the boundary, whether somebody hears
+/// pushes, and the library.
 #[derive(Clone, Copy)]
 struct Given {
     connect: Option<Option<u64>>,
@@ -355,6 +356,7 @@ struct Given {
     limit: Option<u32>,
     buffer: Option<u32>,
     boundary: Option<u64>,
+    push: Option<bool>,
     lib: Option<bool>,
 }
 
@@ -365,6 +367,7 @@ fn settings_of(config: &Config) -> Given {
         limit: config.limit,
         buffer: config.buffer,
         boundary: config.boundary,
+        push: config.push,
         lib: config.lib,
     }
 }
@@ -446,17 +449,19 @@ fn permits_as_given(rt: HostRuntime) -> Result<(), Fail> {
     Ok(())
 }
 
-/// Settings, each line with whether the server is told which library speaks.
-const LIBS: [(&[u8], Option<bool>); 3] = [
-    (b"url=a", None),
-    (b"lib=on url=a limit=1", Some(true)),
-    (b"url=a lib=off connect=1", Some(false)),
+/// Settings, each line with whether somebody hears pushes, and with whether the server is told which library speaks.
+const SWITCHES: [(&[u8], Option<bool>, Option<bool>); 4] = [
+    (b"url=a", None, None),
+    (b"lib=on url=a limit=1", None, Some(true)),
+    (b"url=a push=on lib=off connect=1", Some(true), Some(false)),
+    (b"push=off url=a", Some(false), None),
 ];
 
 #[test]
-fn libs_as_given(rt: HostRuntime) -> Result<(), Fail> {
-    for (settings, lib) in LIBS {
+fn switches_as_given(rt: HostRuntime) -> Result<(), Fail> {
+    for (settings, push, lib) in SWITCHES {
         let config = read(rt.alloc(), settings)?;
+        assert!(rt; config.push == push);
         assert!(rt; config.lib == lib);
     }
     Ok(())

@@ -1,11 +1,11 @@
 use crate::errors::{Fault, Plain, bytes, error, server};
 use containers::{Bytes, Names, Seq};
 use driver_model::{
-    Action, Cause, Commands, Config, Event, EventKind, Outcome, Owner, Purpose, Submission,
-    WaitKind,
+    Action, Cause, Commands, Config, Event, EventKind, Outcome, Owner, Purpose, PushInfo,
+    Submission, WaitKind,
 };
 use redis_error::FaultKind;
-use resp_value::{Value, Values};
+use resp_value::{PushKind, Value, Values};
 use std::alloc::{AllocError, Global};
 use trace_text::{append_action, show};
 
@@ -41,13 +41,15 @@ enum News {
     Shutdown,
 }
 
-/// What is configured: the times of a connect and of a reply, the queue, the permits, the boundary and the library.
+/// What is configured: the times of a connect and of a reply, the queue, the permits, the boundary, whether somebody hears
+/// pushes, and the library.
 type Settings = (
     Option<Option<u64>>,
     Option<Option<u64>>,
     Option<u32>,
     Option<u32>,
     Option<u64>,
+    Option<bool>,
     Option<bool>,
 );
 
@@ -76,6 +78,8 @@ enum Deed {
     Start(u32, Owner, u64, u64),
     Took(Owner, u32, u32),
     Write(u32, &'static [u8]),
+    Push(u32, &'static [u8]),
+    Parted(u32),
     Close(u32),
     Timer(u32, u64, Purpose),
     Wait(Owner, WaitKind),
@@ -83,10 +87,10 @@ enum Deed {
 }
 
 /// What is left out of an opening, but not of the library.
-const BARE: Settings = (None, Some(None), None, None, None, Some(false));
+const BARE: Settings = (None, Some(None), None, None, None, None, Some(false));
 
 /// What is given of the first openings below.
-const TIMELESS: Settings = (Some(None), Some(None), None, None, None, Some(false));
+const TIMELESS: Settings = (Some(None), Some(None), None, None, None, None, Some(false));
 
 /// Tries of submissions.
 const FIRST: Owner = Owner::Try {
@@ -135,18 +139,34 @@ const OPENINGS: [(Deed, &str); 10] = [
         "turn 0 @18446744073709551615 config single url=redis://%25-:0 response=none lib=off\n",
     ),
     (
-        Deed::Opening(0, b" ;", (Some(Some(0)), None, None, None, None, None)),
+        Deed::Opening(
+            0,
+            b" ;",
+            (Some(Some(0)), None, None, None, None, None, None),
+        ),
         "turn 0 config single url=%20; connect=0\n",
     ),
     (
-        Deed::Opening(0, b"", (Some(Some(u64::MAX)), None, None, None, None, None)),
-        "turn 0 config single url= connect=18446744073709551615\n",
+        Deed::Opening(
+            0,
+            b"",
+            (
+                Some(Some(u64::MAX)),
+                None,
+                None,
+                None,
+                None,
+                Some(false),
+                None,
+            ),
+        ),
+        "turn 0 config single url= connect=18446744073709551615 push=off\n",
     ),
     (
         Deed::Opening(
             0,
             b"a",
-            (None, None, Some(u32::MAX), Some(u32::MAX), None, None),
+            (None, None, Some(u32::MAX), Some(u32::MAX), None, None, None),
         ),
         "turn 0 config single url=a buffer=4294967295 limit=4294967295\n",
     ),
@@ -161,9 +181,10 @@ const OPENINGS: [(Deed, &str); 10] = [
                 None,
                 Some(u64::MAX),
                 Some(true),
+                Some(true),
             ),
         ),
-        "turn 0 config single url=a connect=none response=none boundary=18446744073709551615 lib=on\n",
+        "turn 0 config single url=a connect=none response=none boundary=18446744073709551615 push=on lib=on\n",
     ),
     (
         Deed::Opening(
@@ -175,6 +196,7 @@ const OPENINGS: [(Deed, &str); 10] = [
                 Some(0),
                 Some(1),
                 Some(0),
+                None,
                 Some(false),
             ),
         ),
@@ -277,8 +299,8 @@ const EVENTS: [(Deed, &str); 18] = [
     ),
 ];
 
-/// Starts, permits, times, waits, and how requests end.
-const REQUESTS: [(Deed, &str); 16] = [
+/// Starts, permits, times, waits, pushes, and how requests end.
+const REQUESTS: [(Deed, &str); 18] = [
     (
         Deed::Start(7, Owner::Setup, 3, 4_294_967_296),
         "start 7 0 setup 3 4294967296\n",
@@ -296,7 +318,12 @@ const REQUESTS: [(Deed, &str); 16] = [
     (Deed::Wait(FIRST, WaitKind::Room), "wait s0.0 room\n"),
     (Deed::Wait(FIRST, WaitKind::Permit), "wait s0.0 permit\n"),
     (Deed::Wait(FIRST, WaitKind::Setup), "wait s0.0 setup\n"),
+    (
+        Deed::Push(u32::MAX, b"a b"),
+        "push 4294967295 >3%0D%0A$7%0D%0Amessage%0D%0A$3%0D%0Aa%20b%0D%0A:7%0D%0A\n",
+    ),
     (Deed::Close(0), "close 0\n"),
+    (Deed::Parted(0), "push 0 disconnect\n"),
     (
         Deed::Outcome(0, Reply::Fault(Fault::Plain(Plain::Parse))),
         "outcome s0 err parse\n",
@@ -418,7 +445,7 @@ fn turn(alloc: Global, number: u32, word: u64, news: News) -> Result<Action, All
 
 fn opening(alloc: Global, word: u64, url: &[u8], given: Settings) -> Result<Action, AllocError> {
     let url = bytes(alloc, url)?;
-    let (connect, response, buffer, limit, boundary, lib) = given;
+    let (connect, response, buffer, limit, boundary, push, lib) = given;
     let config = Config {
         url,
         connect,
@@ -426,6 +453,7 @@ fn opening(alloc: Global, word: u64, url: &[u8], given: Settings) -> Result<Acti
         limit,
         buffer,
         boundary,
+        push,
         lib,
     };
     let cause = Cause::Opening { config, word };
@@ -440,6 +468,22 @@ fn connect(alloc: Global, link: u32, host: &[u8], port: u16) -> Result<Action, A
 fn write(alloc: Global, link: u32, piece: &[u8]) -> Result<Action, AllocError> {
     let bytes = bytes(alloc, piece)?;
     Ok(Action::Write { link, bytes })
+}
+
+/// A message of two parts, a text and 7.
+fn push(alloc: Global, link: u32, text: &[u8]) -> Result<Action, AllocError> {
+    let text = bytes(alloc, text)?;
+    let mut parts = Values::new(alloc);
+    parts.push(Value::BulkString(text))?;
+    parts.push(Value::Int(7))?;
+    let kind = PushKind::Message;
+    let info = PushInfo { kind, parts };
+    Ok(Action::Push { link, info })
+}
+
+fn parted(alloc: Global, link: u32) -> Action {
+    let info = PushInfo::disconnection(alloc);
+    Action::Push { link, info }
 }
 
 fn not_created(alloc: Global, fault: Fault) -> Result<Action, AllocError> {
@@ -491,6 +535,8 @@ fn action(alloc: Global, deed: Deed) -> Result<Action, AllocError> {
         }),
         Deed::Took(owner, link, count) => Ok(Action::Took { owner, link, count }),
         Deed::Write(link, piece) => write(alloc, link, piece),
+        Deed::Push(link, text) => push(alloc, link, text),
+        Deed::Parted(link) => Ok(parted(alloc, link)),
         Deed::Close(link) => Ok(Action::Close { link }),
         Deed::Timer(timer, ms, purpose) => Ok(Action::Timer { timer, ms, purpose }),
         Deed::Wait(owner, wait) => Ok(Action::Wait { owner, wait }),

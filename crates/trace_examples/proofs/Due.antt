@@ -1,7 +1,7 @@
 -- A trace whose steps are tested one by one is legal: each action stands where it may, since it is the next that is due.
 use Rattle.std.proofs.Common.{◌≡◌, ◌⊎◌, ℕ, ◌==◌, Bool, true, false, ◌&&◌, not, List, [], ◌∷◌, length, Option, Some, None, is_some, refl, sym, ap, subst, ◌∙◌, inl, inr, arith}
 use Rattle.std.proofs.lemmas.Bool.{not-true}
-use Rattle.containers.proofs.Choices.{eq_from, ne_from, both_left, both_right}
+use Rattle.containers.proofs.Choices.{eq_from, ne_from, both_left, both_right, not_both}
 use Rattle.resp_value.specs.declared.value.Value.TheVariants.{Nil}
 use Rattle.driver_model.specs.declared.action.Action.{Action}
 use Rattle.driver_model.specs.declared.action.Action.TheVariants as action
@@ -15,21 +15,23 @@ use Rattle.driver_model.specs.declared.outcome.Outcome.{Outcome}
 use Rattle.driver_model.specs.declared.outcome.Outcome.TheVariants as outcome
 use Rattle.driver_model.specs.declared.action.Purpose.{Purpose}
 use Rattle.driver_model.specs.declared.action.Purpose.TheVariants as purpose
+use Rattle.driver_model.specs.Push.{is_disconnection}
+use Rattle.driver_model.specs.declared.push_info.PushInfo.{PushInfo}
 use Rattle.driver_model.specs.Config.{address, connect_timeout, first_fault}
 use Rattle.connection_info.specs.declared.address.ConnectionInfo.{ConnectionInfo}
 use Rattle.redis_error.specs.declared.redis_error.RedisError.{RedisError}
 use Rattle.driver_model.specs.Shape.{need_of}
-use Rattle.legal_trace.specs.Ledger.{Ending, is_ready, setup_count, setup_due, setup_message, is_over, ending, failure_in, unwritten}
-use Rattle.legal_trace.specs.Story.{is_open, is_unstarted, bytes_of, shape}
+use Rattle.legal_trace.specs.Ledger.{Heard, Ending, is_cut, is_full_by, is_ready, next_push, setup_count, setup_due, setup_message, is_over, ending, failure_in, unwritten}
+use Rattle.legal_trace.specs.Story.{Try, last_of, is_open, is_unstarted, bytes_of, shape}
 use Rattle.legal_trace.specs.Book.{Book, blank_book, book, current, entered, entered_each}
 use Rattle.legal_trace.specs.Steps.{is_held_back, takes, asks, tells, starts, next_step}
 use Rattle.legal_trace.specs.Owed.{owed}
 use Rattle.legal_trace.specs.Events.{is_bad_event}
-use Rattle.legal_trace.specs.Legal.{IsOpen, IsWaiting, link_of, MayTurn, MayConnect, MayTimeConnect, MayTime, MayTake, MayTimer, MayClose, MaySetUp, MayBeCreated, MayFail, MayAnswer, MayTell, MayStart, MayWrite, MayWait, MayStand, AllStand, causes, event_causes, Legal}
+use Rattle.legal_trace.specs.Legal.{IsOpen, IsWaiting, IsBefore, is_heard, link_of, MayTellPush, MayPart, MayPushBy, MayTurn, MayConnect, MayTimeConnect, MayTime, MayTake, MayTimer, MayClose, MaySetUp, MayBeCreated, MayFail, MayAnswer, MayTell, MayStart, MayWrite, MayWait, MayStand, AllStand, causes, event_causes, Legal}
 use Rattle.legal_trace.proofs.Setups.{due_count}
 use Rattle.trace_examples.proofs.Bounded.{IsBounded, is_of_first, still_bounded, blank_bounded}
 use Rattle.trace_examples.proofs.Checks.{holds_if, held, is_empty, empty_from, filled_from, each_below, below, same_step, step_from, is_other_wait, other_wait}
-use Rattle.trace_examples.proofs.Settled.{is_quiet, quiet, all_shown, verdicts_are_shown, none_ends, no_end, failure_shown, failures_are_shown, is_applied, applied, ready_shown, ready_is_shown, is_to_set_up, is_begun, has_begun, all_stay, none_before, is_moved, moved, is_written, written, wait_holds, holds, is_waiting, waiting, is_settled, settled}
+use Rattle.trace_examples.proofs.Settled.{is_quiet, quiet, all_shown, verdicts_are_shown, none_ends, no_end, failure_shown, failures_are_shown, pushes_told, pushes_are_told, end_told, ends_are_told, of_open, is_applied, applied, ready_shown, ready_is_shown, is_to_set_up, is_begun, has_begun, all_stay, none_before, is_moved, moved, is_written, written, wait_holds, holds, is_waiting, waiting, is_settled, settled}
 
 -- a turn
 abbrev pub turn_due : Book → ℕ → Cause → Bool
@@ -45,14 +47,99 @@ turn_stands b k (cause.Event e) bounded t = record {
 
 -- a close of the first link
 abbrev pub close_due : Book → ℕ → Bool
-close_due b l = (l == 0) && is_some (ending (b.link l)) && all_shown b && ready_shown b
+close_due b l = (l == 0) && is_some (ending (b.link l)) && all_shown b && ready_shown b && pushes_told b
 
 close_stands : (b : Book) (l : ℕ) → IsBounded b → close_due b l ≡ true → MayClose b l
 close_stands b l bounded e = of_ending (ending (b.link l)) refl (search (both_left, both_right))
   where
     of_ending : (x : Option Ending) → ending (b.link l) ≡ x → is_some x ≡ true → MayClose b l
     of_ending None same t = cc t
-    of_ending (Some why) same t = record { why = why; ends = same; in_order = λ m below. let first = eq_from l 0 (search (both_left, both_right)) in absurd (omega arith); answered = verdicts_are_shown b bounded (search (both_left, both_right)); created = ready_is_shown b bounded (search (both_left, both_right)) }
+    of_ending (Some why) same t = record { why = why; ends = same; in_order = λ m below. let first = eq_from l 0 (search (both_left, both_right)) in absurd (omega arith); answered = verdicts_are_shown b bounded (search (both_left, both_right)); created = ready_is_shown b bounded (search (both_left, both_right)); pushed = pushes_are_told b bounded (search (both_left, both_right)) }
+
+-- its last message was full before this push came
+abbrev pub try_before : Book → Heard → Option Try → Bool
+try_before b p None = false
+try_before b p (Some t) = is_full_by (b.link t.link) p.after t.message
+
+abbrev pub is_before : Book → ℕ → Heard → Bool
+is_before b n p = try_before b p (last_of (b.story n).tries)
+
+-- what this says
+before_from : (b : Book) (n : ℕ) (p : Heard) → is_before b n p ≡ true → IsBefore b n p
+before_from b n p e = of_try (last_of (b.story n).tries) refl e
+  where
+    of_try : (t : Option Try) → last_of (b.story n).tries ≡ t → try_before b p t ≡ true → IsBefore b n p
+    of_try None same e = cc e
+    of_try (Some t) same e = record { try = t; last = same; full = e }
+
+-- and where it isn't so
+not_before : (b : Book) (n : ℕ) (p : Heard) → is_before b n p ≡ false → IsBefore b n p → ⊥
+not_before b n p e before = not_both (is_before b n p) e (ap (try_before b p) before.last ∙ before.full)
+
+-- it is open, and its message was full before this push came
+abbrev pub answers_first : Book → Heard → ℕ → Bool
+answers_first b p n = is_open (b.story n) && is_before b n p
+
+-- the next push of the first link; what it says is left to be said
+abbrev pub tell_due : Book → ℕ → Option Heard → Bool
+tell_due b l None = false
+tell_due b l (Some p) = is_heard b && (l == 0) && ready_shown b && each_below (λ n. not (answers_first b p n)) b.submissions
+
+-- the push says what came
+abbrev pub IsPushOf : PushInfo → Option Heard → Type 0
+IsPushOf info None = ⊥
+IsPushOf info (Some p) = info ≡ p.info
+
+-- so it may stand
+tell_stands : (b : Book) (l : ℕ) (info : PushInfo) → IsBounded b → tell_due b l (next_push (b.link l)) ≡ true → IsPushOf info (next_push (b.link l)) → MayTellPush b l info
+tell_stands b l info bounded e said = of_push (next_push (b.link l)) refl e said
+  where
+    second_of : (p q : Bool) → (p && q) ≡ false → p ≡ true → q ≡ false
+    second_of true q e t = e
+    second_of false q e t = cc t
+
+    of_push : (x : Option Heard) → next_push (b.link l) ≡ x → tell_due b l x ≡ true → IsPushOf info x → MayTellPush b l info
+    of_push None same t s = absurd s
+    of_push (Some p) same t s = record {
+      heard = search (both_left, both_right);
+      push = p;
+      next = same;
+      says = s;
+      in_order = λ m below. let first = eq_from l 0 (search (both_left, both_right)) in absurd (omega arith);
+      created = ready_is_shown b bounded (search (both_left, both_right));
+      answered = λ n o on before. of_open b ⊥ n bounded
+          (λ i. not_before b n p (second_of (is_open (b.story n)) (is_before b n p) (not-true (answers_first b p n) (below (λ m. not (answers_first b p m)) b.submissions n (search (both_left, both_right)) i)) o) before) o;
+    }
+
+-- that a fault ended the first link; that it says no more is left to be said
+abbrev pub part_due : Book → ℕ → Bool
+part_due b l = is_heard b && (l == 0) && is_cut (b.link l).end && not (b.link l).parted && none_ends b && all_shown b
+
+-- what this says
+part_stands : (b : Book) (l : ℕ) (info : PushInfo) → IsBounded b → part_due b l ≡ true → info.parts ≡ [] → MayPart b l info
+part_stands b l info bounded e bare = record {
+  heard = search (both_left, both_right);
+  ended = search (both_left, both_right);
+  once = not-true (b.link l).parted (search (both_left, both_right));
+  bare = bare;
+  in_order = λ m below. let first = eq_from l 0 (search (both_left, both_right)) in absurd (omega arith);
+  closed = no_end b bounded (search (both_left, both_right));
+  answered = verdicts_are_shown b bounded (search (both_left, both_right));
+}
+
+-- any push
+abbrev pub push_due : Bool → Book → ℕ → Bool
+push_due true b l = part_due b l
+push_due false b l = tell_due b l (next_push (b.link l))
+
+-- what is left to be said of it
+abbrev pub IsPushSaid : Bool → Book → ℕ → PushInfo → Type 0
+IsPushSaid true b l info = info.parts ≡ []
+IsPushSaid false b l info = IsPushOf info (next_push (b.link l))
+
+push_stands : (disconnects : Bool) (b : Book) (l : ℕ) (info : PushInfo) → IsBounded b → push_due disconnects b l ≡ true → IsPushSaid disconnects b l info → MayPushBy disconnects b l info
+push_stands true b l info bounded e said = part_stands b l info bounded e said
+push_stands false b l info bounded e said = tell_stands b l info bounded e said
 
 -- the bytes of the first link; which bytes they are is left to be said
 abbrev pub write_due : Book → ℕ → List ℕ → Bool
@@ -235,9 +322,19 @@ set_up_stands b l message count len bounded e =
           long_as_its_bytes = eq_from len (length (setup_message (b.link l) (setup_count (b.link l).starts)).bytes) (search (both_left, both_right)) ∙ ap (λ n. length (setup_message (b.link l) n).bytes) number;
         }
 
+-- its message was full before the next push of its link came, if one waits
+abbrev pub is_before_next : Book → ℕ → Option Heard → Bool
+is_before_next b n None = true
+is_before_next b n (Some p) = is_before b n p
+
+-- what this says
+before_next : (b : Book) (n : ℕ) (x : Option Heard) (p : Heard) → is_before_next b n x ≡ true → x ≡ Some p → IsBefore b n p
+before_next b n None p e same = cc same
+before_next b n (Some q) p e same = before_from b n p (ap (λ o. is_before_next b n o) (sym same) ∙ e)
+
 -- an outcome: what is owed, or where nothing is, the Nil of a command whose reply nobody awaits; which it is is left to be said
 abbrev pub outcome_due : Book → ℕ → Option Outcome → Bool
-outcome_due b n (Some o) = each_below (λ m. is_quiet b m) n && holds_if (is_over (link_of b n)) (none_ends b && all_shown b && failure_shown b)
+outcome_due b n (Some o) = each_below (λ m. is_quiet b m) n && holds_if (is_heard b) (is_before_next b n (next_push (link_of b n))) && holds_if (is_over (link_of b n)) (none_ends b && all_shown b && failure_shown b && end_told b)
 outcome_due b n None = is_begun b && is_unstarted (b.story n) && same_step (next_step b n) tells && all_stay b n
 
 -- what is said is what is owed, or Nil
@@ -256,11 +353,14 @@ outcome_stands b n o bounded e said = of_owed (owed b n) refl (both_right (is_op
       asked = open_still;
       owes = same ∙ ap Some (sym s);
       in_order = λ m l open_too alike. quiet b m (below (λ m. is_quiet b m) n m (search both_left) l) open_too;
+      after_pushes = λ heard p waits.
+          before_next b n (next_push (link_of b n)) p (held (is_heard b) (is_before_next b n (next_push (link_of b n))) (search (both_left, both_right)) heard) waits;
       after_closes = λ over.
-          let done = held (is_over (link_of b n)) (none_ends b && all_shown b && failure_shown b) (search (both_left, both_right)) over in (
+          let done = held (is_over (link_of b n)) (none_ends b && all_shown b && failure_shown b && end_told b) (search (both_left, both_right)) over in (
             no_end b bounded (search (both_left, both_right)),
             verdicts_are_shown b bounded (search (both_left, both_right)),
             failures_are_shown b bounded (search (both_left, both_right)),
+            ends_are_told b bounded (search (both_left, both_right)),
           );
     })
     of_owed None same t s = inr (record {
@@ -279,6 +379,7 @@ due b (action.Connect l host port) = (b.links == 0) && (l == 0)
 due b (action.Timer t ms what) = timer_due b t ms what
 due b (action.Took owner.Setup l count) = false
 due b (action.Took (owner.Try n round) l count) = (round == 0) && take_due b n l count
+due b (action.Push l info) = push_due (is_disconnection info.kind) b l
 due b (action.Close l) = close_due b l
 due b (action.Write l bytes) = write_due b l bytes
 due b (action.Wait owner.Setup kind) = false
@@ -338,6 +439,7 @@ AllSaid b (action.Outcome n o ∷ more) = IsSaid o (owed b n) × AllSaid (entere
 AllSaid b (action.Turn k c ∷ more) = AllSaid (entered b (action.Turn k c)) more
 AllSaid b (action.Timer t ms what ∷ more) = IsTimeOf b ms what × AllSaid (entered b (action.Timer t ms what)) more
 AllSaid b (action.Took who l count ∷ more) = AllSaid (entered b (action.Took who l count)) more
+AllSaid b (action.Push l info ∷ more) = IsPushSaid (is_disconnection info.kind) b l info × AllSaid (entered b (action.Push l info)) more
 AllSaid b (action.Close l ∷ more) = AllSaid (entered b (action.Close l)) more
 AllSaid b (action.Wait who kind ∷ more) = AllSaid (entered b (action.Wait who kind)) more
 AllSaid b (action.Start l k who count len ∷ more) = AllSaid (entered b (action.Start l k who count len)) more
@@ -352,6 +454,7 @@ first_stands b (action.Timer t ms what) more bounded e said = (timer_stands b t 
 first_stands b (action.Took owner.Setup l count) more bounded e said = absurd (cc e)
 first_stands b (action.Took (owner.Try n round) l count) more bounded e said =
     ((eq_from round 0 (both_left (round == 0) (take_due b n l count) e), take_stands b n l count bounded (both_right (round == 0) (take_due b n l count) e)), said)
+first_stands b (action.Push l info) more bounded e said = (push_stands (is_disconnection info.kind) b l info bounded e said.0, said.1)
 first_stands b (action.Close l) more bounded e said = (close_stands b l bounded e, said)
 first_stands b (action.Write l bytes) more bounded e said = (write_stands b l bytes bounded e said.0, said.1)
 first_stands b (action.Wait owner.Setup kind) more bounded e said = absurd (cc e)

@@ -16,3 +16,4 @@ pub mod Permits
 pub mod Setups
 pub mod Unready
 pub mod Called
+pub mod Pushes

@@ -35,12 +35,12 @@ is_limited_server limit ms = refl
 
 -- so an opening asks for it
 pub at_h : (connect : Option (Option ℕ)) → IsPlace (at_server connect) (codes "h") 6379
-at_h connect = record { sound = ap (λ a. fault_in a None 50) (is_server connect); info = server; configured = is_server connect; is = (refl, refl) }
+at_h connect = record { sound = ap (λ a. fault_in a false None 50) (is_server connect); info = server; configured = is_server connect; is = (refl, refl) }
 
 -- also where the queue holds something
 pub at_held : (bound size : ℕ) → (size == 0) ≡ false → IsPlace (held_at bound size) (codes "h") 6379
 at_held bound size some = record {
-  sound = ap (λ a. fault_in a None size) (is_held_server bound size) ∙ left_if (size == 0) (Some name.Buffer) None some;
+  sound = ap (λ a. fault_in a false None size) (is_held_server bound size) ∙ left_if (size == 0) (Some name.Buffer) None some;
   info = server;
   configured = is_held_server bound size;
   is = (refl, refl);
@@ -49,7 +49,7 @@ at_held bound size some = record {
 -- also where there is a permit
 pub at_limited : (limit : ℕ) (ms : Option ℕ) → (limit == 0) ≡ false → IsPlace (limited_to limit ms) (codes "h") 6379
 at_limited limit ms some = record {
-  sound = ap (λ a. fault_in a (Some limit) 50) (is_limited_server limit ms) ∙ left_if (limit == 0) (Some name.Limit) None some;
+  sound = ap (λ a. fault_in a false (Some limit) 50) (is_limited_server limit ms) ∙ left_if (limit == 0) (Some name.Limit) None some;
   info = server;
   configured = is_limited_server limit ms;
   is = (refl, refl);
@@ -62,7 +62,7 @@ is_plain_server = refl
 
 -- so the opening asks for it
 pub at_plain : IsPlace plain (codes "h") 6379
-at_plain = record { sound = ap (λ a. fault_in a None 50) is_plain_server; info = server; configured = is_plain_server; is = (refl, refl) }
+at_plain = record { sound = ap (λ a. fault_in a false None 50) is_plain_server; info = server; configured = is_plain_server; is = (refl, refl) }
 
 -- it is that server, too
 is_held_for_server : (ms : ℕ) → address (held_for ms) ≡ Some server
@@ -71,4 +71,4 @@ is_held_for_server ms = refl
 
 -- which its opening asks for
 pub at_held_for : (ms : ℕ) → IsPlace (held_for ms) (codes "h") 6379
-at_held_for ms = record { sound = ap (λ a. fault_in a None 1) (is_held_for_server ms); info = server; configured = is_held_for_server ms; is = (refl, refl) }
+at_held_for ms = record { sound = ap (λ a. fault_in a false None 1) (is_held_for_server ms); info = server; configured = is_held_for_server ms; is = (refl, refl) }

@@ -1,6 +1,7 @@
 -- Tests of a book, and what each says: what holds of all submissions and all links is tested of those that were given out.
-use Rattle.std.proofs.Common.{◌≡◌, ◌≢◌, ◌⊎◌, ℕ, ◌<◌, ◌==◌, nat_lt, Bool, true, false, ◌&&◌, ◌||◌, not, length, Option, Some, None, is_some, refl, sym, ap, ◌∙◌, subst, inl, inr, arith}
+use Rattle.std.proofs.Common.{◌≡◌, ◌≢◌, ◌⊎◌, ℕ, ◌<◌, ◌==◌, nat_lt, Bool, true, false, ◌&&◌, ◌||◌, not, List, length, Option, Some, None, is_some, refl, sym, ap, ◌∙◌, subst, inl, inr, arith}
 use Rattle.std.specs.Option.{is_none}
+use Rattle.std.specs.Prelude.{slice_get}
 use Rattle.std.proofs.lemmas.Bool.{not-true}
 use Rattle.containers.proofs.Choices.{by_test, not_both, eq_from, ne_from, lt_from, not_lt_from, left_if, both_left, both_right}
 use Rattle.redis_error.specs.declared.redis_error.RedisError.{RedisError}
@@ -9,13 +10,13 @@ use Rattle.driver_model.specs.declared.action.Cause.{Cause}
 use Rattle.driver_model.specs.declared.action.Cause.TheVariants as cause
 use Rattle.driver_model.specs.declared.action.WaitKind.{WaitKind}
 use Rattle.driver_model.specs.declared.event.Submission.{Submission}
-use Rattle.legal_trace.specs.Ledger.{Ledger, IsOffered, is_over, ending, failure_in, unwritten, is_full, is_ready, is_set_up, setup_due}
+use Rattle.legal_trace.specs.Ledger.{Ledger, Heard, IsOffered, is_over, is_cut, ending, next_push, failure_in, unwritten, is_full, is_ready, is_set_up, setup_due}
 use Rattle.legal_trace.specs.Story.{Try, last_of, is_open, is_told, is_unstarted, is_awaited, is_no_error, awaited_in}
 use Rattle.legal_trace.specs.Book.{Book}
 use Rattle.legal_trace.specs.Steps.{waits, is_due, next_step, is_held_back}
 use Rattle.legal_trace.proofs.Setups.{due_is_up}
 use Rattle.legal_trace.specs.Owed.{owed}
-use Rattle.legal_trace.specs.Legal.{IsOpen, link_of, NoneIsOwed, VerdictsAreShown, NoneEnds, FailuresAreShown, IsTimed, IsApplied, CanMove, IsMoved, IsWritten, WaitHolds, IsStarted, IsWaiting, IsSettled, ReadyIsShown, IsBegun}
+use Rattle.legal_trace.specs.Legal.{IsOpen, link_of, NoneIsOwed, VerdictsAreShown, NoneEnds, FailuresAreShown, IsTimed, IsApplied, CanMove, IsMoved, IsWritten, WaitHolds, IsStarted, IsWaiting, IsSettled, ReadyIsShown, PushesAreTold, EndsAreTold, IsBegun, is_heard}
 use Rattle.trace_examples.proofs.Bounded.{IsBounded, IsIdle}
 use Rattle.trace_examples.proofs.Checks.{holds_if, held, none_from, is_empty, empty_from, filled_from, each_below, below, same_step, step_from}
 
@@ -127,9 +128,34 @@ ready_is_shown b bounded t l = first_and_idle b (λ m. is_ready (b.link m) ≡ t
     (λ ready. other_than_zero b.created (held (is_ready (b.link 0)) (not (b.created == 0)) t ready))
     (λ idle ready. absurd (not_both (b.link l).up idle.down (both_left (b.link l).up (is_set_up (b.link l)) ready)))
 
+-- the pushes of the link were told, where somebody hears them
+abbrev pub pushes_told : Book → Bool
+pushes_told b = holds_if (is_heard b) (is_none (next_push (b.link 0)))
+
+-- on an idle link none waits
+idle_waits_not : (l : Ledger) → IsIdle l → next_push l ≡ None
+idle_waits_not l idle = ap (λ (hs : List Heard). slice_get hs l.told) idle.mute
+
+pub pushes_are_told : (b : Book) → IsBounded b → pushes_told b ≡ true → PushesAreTold b
+pushes_are_told b bounded t l heard = first_and_idle b (λ m. next_push (b.link m) ≡ None) l bounded
+    (none_from (next_push (b.link 0)) (held (is_heard b) (is_none (next_push (b.link 0))) t heard)) (idle_waits_not (b.link l))
+
+-- where a fault ended the link this was told, where somebody hears pushes
+abbrev pub end_told : Book → Bool
+end_told b = holds_if (is_heard b) (holds_if (is_cut (b.link 0).end) (b.link 0).parted)
+
+-- no fault ended an idle link
+idle_uncut : (l : Ledger) → IsIdle l → is_cut l.end ≡ true → ⊥
+idle_uncut l idle cut = let x : false ≡ true = sym (ap is_cut idle.lives) ∙ cut in cc x
+
+pub ends_are_told : (b : Book) → IsBounded b → end_told b ≡ true → EndsAreTold b
+ends_are_told b bounded t l heard = first_and_idle b (λ m. is_cut (b.link m).end ≡ true → (b.link m).parted ≡ true) l bounded
+    (λ cut. held (is_cut (b.link 0).end) (b.link 0).parted (held (is_heard b) (holds_if (is_cut (b.link 0).end) (b.link 0).parted) t heard) cut)
+    (λ idle cut. absurd (idle_uncut (b.link l) idle cut))
+
 -- the event has had its own effect
 abbrev pub is_applied : Book → Bool
-is_applied b = all_quiet b && none_ends b && not (b.links == 0) && ready_shown b && failure_shown b && is_timed b
+is_applied b = (all_quiet b && none_ends b && not (b.links == 0) && is_timed b) && (ready_shown b && failure_shown b && pushes_told b && end_told b)
 
 pub applied : (b : Book) → IsBounded b → is_applied b ≡ true → IsApplied b
 applied b bounded e = record {
@@ -140,6 +166,8 @@ applied b bounded e = record {
     shown = ready_is_shown b bounded (search (both_left, both_right));
     failed = failures_are_shown b bounded (search (both_left, both_right));
   };
+  pushed = pushes_are_told b bounded (search (both_left, both_right));
+  parted = ends_are_told b bounded (search (both_left, both_right));
   timed = timed b (search (both_left, both_right));
 }
 

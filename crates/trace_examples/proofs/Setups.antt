@@ -26,7 +26,7 @@ use Rattle.trace_examples.proofs.Due.{IsPlace, legal}
 
 -- the place of a server whose URL is this
 pub at_url : (url : List ℕ) (connect : Option (Option ℕ)) (lib : Option Bool) (info : ConnectionInfo) → address (told_at url connect lib) ≡ Some info → IsPlace (told_at url connect lib) info.host info.port
-at_url url connect lib info e = record { sound = ap (λ a. fault_in a None 50) e; info = info; configured = e; is = (refl, refl) }
+at_url url connect lib info e = record { sound = ap (λ a. fault_in a false None 50) e; info = info; configured = e; is = (refl, refl) }
 
 -- the server with the password
 abbrev secured_server : ConnectionInfo
@@ -79,7 +79,7 @@ unfolding url_on_literals utf8_lossy utf8_valid_len
 is_default = refl
 
 at_default : IsPlace by_default (codes "h") 6379
-at_default = record { sound = ap (λ a. fault_in a None 50) is_default; info = open_server; configured = is_default; is = (refl, refl) }
+at_default = record { sound = ap (λ a. fault_in a false None 50) is_default; info = open_server; configured = is_default; is = (refl, refl) }
 
 -- and the one with a user, where nothing starts while bytes are unwritten
 is_held_users : address of_a_held_user ≡ Some users_server
@@ -87,7 +87,7 @@ unfolding url_on_literals utf8_lossy utf8_valid_len
 is_held_users = refl
 
 pub at_held_users : IsPlace of_a_held_user (codes "h") 6379
-at_held_users = record { sound = ap (λ a. fault_in a None 50) is_held_users; info = users_server; configured = is_held_users; is = (refl, refl) }
+at_held_users = record { sound = ap (λ a. fault_in a false None 50) is_held_users; info = users_server; configured = is_held_users; is = (refl, refl) }
 
 -- and the one to which all is said
 abbrev server_of_all : ConnectionInfo

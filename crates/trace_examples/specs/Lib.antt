@@ -7,3 +7,4 @@ pub mod Claims
 pub mod Permits
 pub mod Setups
 pub mod Calls
+pub mod Pushes

@@ -65,6 +65,13 @@ ghost use Rattle.trace_examples.specs.Setups.{all_said, cut_off_during, shut_dur
 ghost use Rattle.trace_examples.specs.Setups.{by_default, of_a_held_user, counted_early};
 ghost use Rattle.trace_examples.specs.Setups.{said_later, named_in_time};
 ghost use Rattle.trace_examples.specs.Setups.{overdue_during, waited_for_both, setup_fronts};
+ghost use Rattle.trace_examples.specs.Pushes.{heard, unheard, hello_reply, get, subscribe};
+ghost use Rattle.trace_examples.specs.Pushes.{invalid_between, invalidation, subscribed_line};
+ghost use Rattle.trace_examples.specs.Pushes.{subscription, subscribed, disconnection};
+ghost use Rattle.trace_examples.specs.Pushes.{pushed_early, cut_off_early, invalid_while_asked};
+ghost use Rattle.trace_examples.specs.Pushes.{first_told, invalid_told, pushed_alone, confirmed};
+ghost use Rattle.trace_examples.specs.Pushes.{cut_off_asked, end_told, push_fronts};
+ghost use Rattle.driver_model.specs.declared.push_info.PushInfo.{PushInfo};
 ghost use Rattle.trace_examples.specs.Traces.{opening};
 ghost use Rattle.trace_examples.specs.Calls.{of_third, call_of_c, hello_well, confirmation};
 ghost use Rattle.trace_examples.specs.Calls.{denied_line, denial, called};
@@ -650,4 +657,55 @@ pub fn these_calls_are_legal()
 /// whatever comes after: a subscription call that is done before it is confirmed.
 pub fn nor_is_this_call()
     ensures { NoneBeginsIn of_third called (action.Outcome 0 outcome.Done) }
+{}
+
+/// Does nothing. Its contract: these are legal too. Where somebody hears pushes, one that came
+/// between two replies is told between their outcomes; one that is itself the reply to a command is
+/// told before the outcome that it gives; and that a fault ended a link, once it was set up, is
+/// told behind its close and before the outcomes that this gives. Where nobody hears them none is
+/// told.
+pub fn these_tell_pushes()
+    ensures told_between { IsTraceIn heard
+        (event.Connected 0 ∷ event.Wrote 0 22 ∷ event.Bytes 0 hello_reply ∷ event.Submit (get 97)
+        ∷ event.Submit (get 98) ∷ event.Bytes 0 invalid_between ∷ []) invalid_while_asked
+        (action.Outcome 0 (reply 120) ∷ action.Push 0 invalidation
+        ∷ action.Outcome 1 (reply 121) ∷ []) }
+    ensures told_and_answered { IsTraceIn heard
+        (event.Connected 0 ∷ event.Wrote 0 22 ∷ event.Bytes 0 hello_reply ∷ event.Submit subscribe
+        ∷ event.Bytes 0 subscribed_line ∷ []) confirmed
+        (action.Push 0 subscription ∷ action.Outcome 0 subscribed ∷ []) }
+    ensures answered_unheard { IsTraceIn unheard
+        (event.Connected 0 ∷ event.Wrote 0 22 ∷ event.Bytes 0 hello_reply ∷ event.Submit subscribe
+        ∷ event.Bytes 0 subscribed_line ∷ []) confirmed
+        (action.Outcome 0 subscribed ∷ []) }
+    ensures end_is_told { IsTraceIn heard
+        (event.Connected 0 ∷ event.Wrote 0 22 ∷ event.Bytes 0 hello_reply ∷ event.Submit (get 97)
+        ∷ event.ReadFault 0 Reset ∷ []) cut_off_asked
+        (action.Push 0 disconnection ∷ action.Outcome 0 (outcome.Fault (error.Io Reset)) ∷ []) }
+{}
+
+/// Does nothing. Its contract: no trace that begins so is legal, whatever its events were and
+/// whatever comes after: a push that is told twice, before the outcome of a message that was full
+/// when it came, with nobody to hear it, or though it came before the link was set up; an outcome
+/// before a push that came before the last of its items; the end of a link that was never set up,
+/// or has not ended, or was told; an outcome of such an end before it is told; and a turn that
+/// begins while a push waits. Each action of their fronts stands where it may.
+pub fn nor_are_these_pushes()
+    ensures fronts { (word : ℕ) → EachStands (push_fronts word) }
+    ensures told_twice { NoneBeginsIn heard invalid_told (action.Push 0 invalidation) }
+    ensures told_too_soon { NoneBeginsIn heard invalid_while_asked (action.Push 0 invalidation) }
+    ensures answered_before_the_push { (o : Outcome)
+        → NoneBeginsIn heard confirmed (action.Outcome 0 o) }
+    ensures answered_before_another { (o : Outcome)
+        → NoneBeginsIn heard first_told (action.Outcome 1 o) }
+    ensures told_unheard { (l : ℕ) (info : PushInfo)
+        → NoneBeginsIn unheard confirmed (action.Push l info) }
+    ensures told_early { NoneBeginsIn heard pushed_early (action.Push 0 invalidation) }
+    ensures early_end_told { NoneBeginsIn heard cut_off_early (action.Push 0 disconnection) }
+    ensures no_end_told { NoneBeginsIn heard confirmed (action.Push 0 disconnection) }
+    ensures end_told_twice { NoneBeginsIn heard end_told (action.Push 0 disconnection) }
+    ensures answered_before_the_end { (o : Outcome)
+        → NoneBeginsIn heard cut_off_asked (action.Outcome 0 o) }
+    ensures push_left_out { (number : ℕ) (c : Cause)
+        → NoneBeginsIn heard pushed_alone (action.Turn number c) }
 {}

@@ -1,7 +1,7 @@
 -- The text of a trace: for each action the line of its words.
 use Rattle.std.specs.Prelude.{ℕ, Bool, true, false, ◌==◌, List, [], ◌∷◌, ◌++◌, Option, Some, None, codes, decimal, flat_map, if◌then◌else◌}
 use Rattle.std.specs.Str.{byte}
-use Rattle.resp_value.specs.Data.{array, items_of}
+use Rattle.resp_value.specs.Data.{array, push, items_of}
 use Rattle.redis_error.specs.Names.{fault_name}
 use Rattle.redis_error.specs.declared.redis_error.RedisError.{RedisError}
 use Rattle.resp_value.specs.View.{data_of}
@@ -22,6 +22,8 @@ use Rattle.driver_model.specs.declared.action.Cause.{Cause}
 use Rattle.driver_model.specs.declared.action.Cause.TheVariants.{Opening, Event}
 use Rattle.driver_model.specs.declared.action.Action.{Action}
 use Rattle.driver_model.specs.declared.action.Action.TheVariants as action
+use Rattle.driver_model.specs.declared.push_info.PushInfo.{PushInfo}
+use Rattle.driver_model.specs.Push.{is_disconnection}
 use Rattle.driver_model.specs.declared.outcome.Outcome.{Outcome}
 use Rattle.driver_model.specs.declared.outcome.Outcome.TheVariants.{One, Many, Done, Fault}
 use Rattle.resp_write.specs.Canonical.{canonical}
@@ -83,6 +85,12 @@ abbrev pub boundary_words : Option ℕ → List (List ℕ)
 boundary_words None = []
 boundary_words (Some bytes) = (codes "boundary=" ++ decimal bytes) ∷ []
 
+-- whether somebody hears pushes, where it is given
+abbrev pub push_words : Option Bool → List (List ℕ)
+push_words None = []
+push_words (Some true) = codes "push=on" ∷ []
+push_words (Some false) = codes "push=off" ∷ []
+
 -- whether the server is told which library speaks, where it is given
 abbrev pub lib_words : Option Bool → List (List ℕ)
 lib_words None = []
@@ -97,9 +105,13 @@ times_words c = connect_words c.connect ++ response_words c.response
 abbrev pub numbers_words : Config → List (List ℕ)
 numbers_words c = buffer_words c.buffer ++ limit_words c.limit ++ boundary_words c.boundary
 
--- the settings behind the address: what is given of the times, of the numbers, and of the library
+-- what is given of what is on or off
+abbrev pub switch_words : Config → List (List ℕ)
+switch_words c = push_words c.push ++ lib_words c.lib
+
+-- the settings behind the address: what is given of the times, of the numbers, and of what is on or off
 abbrev pub later_words : Config → List (List ℕ)
-later_words c = times_words c ++ numbers_words c ++ lib_words c.lib
+later_words c = times_words c ++ numbers_words c ++ switch_words c
 
 -- the config line of one multiplexed connection
 abbrev pub config_words : Config → List (List ℕ)
@@ -193,12 +205,17 @@ abbrev pub created_words : Option RedisError → List (List ℕ)
 created_words None = codes "ok" ∷ []
 created_words (Some error) = codes "err" ∷ error_words error
 
+-- a push: its value, or that the link has ended
+abbrev pub push_word : PushInfo → List ℕ
+push_word info = if is_disconnection info.kind then codes "disconnect" else canonical (push info.kind (items_of info.parts))
+
 -- the words of an action, as they are before any escape
 abbrev pub words_of : Action → List (List ℕ)
 words_of (action.Turn number cause) = codes "turn" ∷ decimal number ∷ cause_words cause
 words_of (action.Connect link host port) = codes "connect" ∷ decimal link ∷ address host port ∷ []
 words_of (action.Timer timer ms what) = codes "timer" ∷ decimal timer ∷ decimal ms ∷ purpose_words what
 words_of (action.Took owner link count) = codes "took" ∷ owner_word owner ∷ decimal link ∷ decimal count ∷ []
+words_of (action.Push link info) = codes "push" ∷ decimal link ∷ push_word info ∷ []
 words_of (action.Close link) = codes "close" ∷ decimal link ∷ []
 words_of (action.Write link bytes) = codes "write" ∷ decimal link ∷ bytes ∷ []
 words_of (action.Wait owner kind) = codes "wait" ∷ owner_word owner ∷ wait_word kind ∷ []

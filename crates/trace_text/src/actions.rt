@@ -1,11 +1,11 @@
-ghost use Rattle.std.specs.Prelude.{◌≡◌, ◌∷◌, ◌++◌, OnOk, OnErr, IfOk};
+ghost use Rattle.std.specs.Prelude.{◌≡◌, ◌∷◌, [], ◌++◌, OnOk, OnErr, IfOk};
 ghost use Rattle.trace_text.specs.Words.{following};
-ghost use Rattle.trace_text.specs.Show.{show, action_line, created_words, purpose_words};
+ghost use Rattle.trace_text.specs.Show.{show, action_line, created_words, purpose_words, push_word};
 ghost use Rattle.trace_text.specs.Writer.{Added, AddedWords};
 
 use crate::writer::Writer;
 use containers::Bytes;
-use driver_model::{Action, Cause, Event, Outcome, Owner, Purpose, WaitKind};
+use driver_model::{Action, Cause, Event, Outcome, Owner, Purpose, PushInfo, WaitKind};
 use redis_error::RedisError;
 use std::alloc::{AllocError, Global};
 use std::mem;
@@ -83,6 +83,27 @@ impl Writer {
         self.owner(owner)?;
         self.number(u64::from(link))?;
         self.number(u64::from(count))?;
+        self.end_line()
+    }
+
+    /// A push, or that the link has ended.
+    fn push_word(&mut self, info: &PushInfo) -> Result<(), AllocError>
+        ensures before { self.new.before ≡ self.old.before }
+        ensures ok { OnOk result (AddedWords self.old self.new (push_word info.now ∷ [])) }
+    {
+        if info.is_disconnection() {
+            return self.literal(b"disconnect");
+        }
+        self.push_value_word(info)
+    }
+
+    fn pushed(&mut self, link: u32, info: &PushInfo) -> Result<(), AllocError>
+        ensures before { self.new.before ≡ self.old.before }
+        ensures ok { OnOk result (Added self.old self.new (action_line (Action.Push link info.now))) }
+    {
+        self.first(b"push")?;
+        self.number(u64::from(link))?;
+        self.push_word(info)?;
         self.end_line()
     }
 
@@ -182,6 +203,7 @@ impl Writer {
             Action::Connect { link, host, port } => self.connect(*link, host, *port),
             Action::Timer { timer, ms, purpose } => self.timer(*timer, *ms, *purpose),
             Action::Took { owner, link, count } => self.took(*owner, *link, *count),
+            Action::Push { link, info } => self.pushed(*link, info),
             Action::Close { link } => self.close(*link),
             Action::Write { link, bytes } => self.write(*link, bytes),
             Action::Wait { owner, wait } => self.wait(*owner, *wait),

@@ -3,7 +3,7 @@ ghost use Rattle.redis_error.specs.Names.{fault_name};
 ghost use Rattle.trace_text.specs.Words.{following, separated};
 ghost use Rattle.trace_text.specs.Show.{behind_first, config_words, connect_words, first_of, url};
 ghost use Rattle.trace_text.specs.Show.{boundary_words, buffer_words, limit_words, response_words};
-ghost use Rattle.trace_text.specs.Show.{lib_words};
+ghost use Rattle.trace_text.specs.Show.{push_words, lib_words, switch_words};
 ghost use Rattle.trace_text.specs.Show.{later_words, numbers_words, times_words, time_word};
 ghost use Rattle.trace_text.specs.Show.{cause_more, cause_words, event_more, event_words};
 ghost use Rattle.trace_text.specs.Show.{submission_more, submission_words, call_word};
@@ -83,6 +83,18 @@ impl Writer {
         }
     }
 
+    /// Whether somebody hears pushes, where it is given.
+    fn pushes(&mut self, push: Option<bool>) -> Result<(), AllocError>
+        ensures before { self.new.before ≡ self.old.before }
+        ensures ok { OnOk result (AddedWords self.old self.new (push_words push)) }
+    {
+        match push {
+            None => Ok(()),
+            Some(true) => self.literal(b"push=on"),
+            Some(false) => self.literal(b"push=off"),
+        }
+    }
+
     /// Whether the server is told which library speaks, where it is given.
     fn lib(&mut self, lib: Option<bool>) -> Result<(), AllocError>
         ensures before { self.new.before ≡ self.old.before }
@@ -114,6 +126,15 @@ impl Writer {
         self.boundary(config.boundary)
     }
 
+    /// What is given of what is on or off.
+    fn switch_settings(&mut self, config: &Config) -> Result<(), AllocError>
+        ensures before { self.new.before ≡ self.old.before }
+        ensures ok { OnOk result (AddedWords self.old self.new (switch_words config.now)) }
+    {
+        self.pushes(config.push)?;
+        self.lib(config.lib)
+    }
+
     /// The settings behind the address.
     fn later_settings(&mut self, config: &Config) -> Result<(), AllocError>
         ensures before { self.new.before ≡ self.old.before }
@@ -121,7 +142,7 @@ impl Writer {
     {
         self.time_settings(config)?;
         self.number_settings(config)?;
-        self.lib(config.lib)
+        self.switch_settings(config)
     }
 
     /// The words of a config line.

@@ -1,12 +1,13 @@
 ghost use Rattle.std.specs.Prelude.{◌≡◌, ◌∷◌, [], ◌<◌, ◌^◌, ◌++◌, OnOk, length};
-ghost use Rattle.resp_value.specs.Data.{array, items_of, list_of, members_of, pairs_of};
+ghost use Rattle.resp_value.specs.Data.{array, push, items_of, list_of, members_of, pairs_of};
 ghost use Rattle.resp_value.specs.View.{data_of};
 ghost use Rattle.resp_write.specs.Canonical.{canonical, each_item, each_member};
 ghost use Rattle.trace_text.specs.Words.{following};
 ghost use Rattle.trace_text.specs.Writer.{AddedEscaped, AddedWords};
 
 use crate::writer::Writer;
-use resp_value::{Pairs, Value, Values};
+use driver_model::PushInfo;
+use resp_value::{Pairs, PushKind, Value, Values};
 use std::alloc::AllocError;
 
 /// How many values there are.
@@ -43,6 +44,28 @@ impl Writer {
     {
         self.push(b" ")?;
         self.list(values)
+    }
+
+    /// One more word: the canonical text of a push.
+    pub fn push_value_word(&mut self, info: &PushInfo) -> Result<(), AllocError>
+        ensures before { self.new.before ≡ self.old.before }
+        ensures ok { OnOk result
+            (AddedWords self.old self.new
+            (canonical (push info.now.kind (items_of info.now.parts)) ∷ [])) }
+    {
+        self.push(b" ")?;
+        self.push_value(&info.kind, &info.parts)
+    }
+
+    /// The canonical text of a push of this kind, with these parts behind it, each byte as itself or as its escape.
+    fn push_value(&mut self, kind: &PushKind, parts: &Values) -> Result<(), AllocError>
+        ensures before { self.new.before ≡ self.old.before }
+        ensures ok { OnOk result
+            (AddedEscaped self.old self.new (canonical (push kind.now (items_of parts.now)))) }
+    {
+        self.number_line(b'>', count_of(parts) + 1)?;
+        self.bulk_string(kind.name())?;
+        self.values(parts)
     }
 
     /// The canonical text of an array of these values, each byte as itself or as its escape.

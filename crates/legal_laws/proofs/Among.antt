@@ -1,0 +1,296 @@
+-- Where a push stands among the outcomes: behind those of messages that were full before it came, and before those of messages
+-- that take an item behind it.
+use Rattle.std.proofs.Common.{◌≡◌, ◌≢◌, ◌⊎◌, inl, inr, ℕ, zero, suc, ◌+◌, ◌-◌, ◌<◌, ◌≤◌, ◌==◌, Bool, true, false, ◌&&◌, not, List, [], ◌∷◌, ◌++◌, length, take, Option, Some, None, is_some, refl, sym, ◌∙◌, ap, subst, arith, length-append}
+use Rattle.std.proofs.lemmas.List.{take-append-le, take_all, length_push}
+use Rattle.std.specs.Prelude.{slice_get}
+use Rattle.containers.proofs.Choices.{by_test, chosen, eq_from, eq_test, le_from, le_test, not_le_from, not_le_test}
+use Rattle.redis_error.specs.declared.redis_error.RedisError.TheVariants as error
+use Rattle.resp_read.specs.Items.{items}
+use Rattle.driver_model.specs.declared.action.Action.{Action}
+use Rattle.driver_model.specs.declared.action.Action.TheVariants as action
+use Rattle.driver_model.specs.declared.action.Cause.TheVariants as cause
+use Rattle.driver_model.specs.declared.action.Owner.TheVariants as owner
+use Rattle.driver_model.specs.declared.config.Config.{Config}
+use Rattle.driver_model.specs.declared.event.Event.{Event}
+use Rattle.driver_model.specs.declared.event.EventKind.{EventKind}
+use Rattle.driver_model.specs.declared.event.EventKind.TheVariants as event
+use Rattle.driver_model.specs.declared.outcome.Outcome.{Outcome}
+use Rattle.driver_model.specs.declared.push_info.PushInfo.{PushInfo}
+use Rattle.driver_model.specs.News.{News, silence, connected, refused, overdue, took, came, failed, shut}
+use Rattle.legal_trace.specs.Ledger.{Ledger, Heard, Line, Start, asks, hears, begins, offers, tells, ends, parts, noted, noted_each, with_news, refused_in, bytes_came, is_over, dials, reach, reached, is_full, is_full_by, next_push}
+use Rattle.legal_trace.specs.Story.{Story, Try, last_of, is_open, handed_in, left, holds, clocked, fires, tried, waits, answered}
+use Rattle.legal_trace.specs.Book.{Book, blank_book, book, entered, entered_each, current, is_clock_of, after_event, is_unspoken, message_of, if_mine, lines_of, lines_of_each}
+use Rattle.legal_trace.specs.Legal.{MayStand, MayTellPush, MayAnswer, MayTell, AllStand, IsOpen, IsBefore, is_heard, is_heard_in, Legal}
+use Rattle.legal_trace.proofs.Books.{stand_front, stand_behind, book_append}
+use Rattle.legal_trace.proofs.Ledgers.{each_keeps, reach_alike, reach_more, takes_one}
+use Rattle.legal_trace.proofs.Moves.{has_no_tries}
+use Rattle.legal_trace.proofs.Plain.{not_none, same_some}
+use Rattle.legal_laws.specs.Pushes.{Tells, HasMessage, TellsInOrder}
+use Rattle.legal_laws.proofs.Configured.{config_kept}
+use Rattle.legal_laws.proofs.Heard.{between_at, between_behind, InRow, in_row, IsBeyond, beyond_keeps}
+use Rattle.legal_laws.proofs.Held.{not_open}
+use Rattle.legal_laws.proofs.Leaving.{outcome_is_open}
+use Rattle.legal_laws.proofs.Lines.{told_behind}
+use Rattle.legal_laws.proofs.Next.{on_its_link}
+use Rattle.legal_laws.proofs.Numbers.{HasStories, open_is_numbered}
+use Rattle.legal_laws.proofs.Pushes.{telling}
+use Rattle.legal_laws.proofs.Sound.{Sound, stays_sound, stay_sound, sound_behind}
+use Rattle.legal_laws.proofs.Tales.{last_behind}
+
+-- a message that started takes as many items with those before it, whatever comes
+pub record TakesUpTo (k count : ℕ) (l : Ledger) : Type 0 where
+  pub started : k < length l.starts
+  pub takes : reached l (k + 1) ≡ count
+
+-- so with any news
+takes_hears : (k count : ℕ) (l : Ledger) (turn : ℕ) (news : News) → TakesUpTo k count l → TakesUpTo k count (with_news l turn news)
+takes_hears k count l turn silence h = h
+takes_hears k count l turn connected h = chosen (TakesUpTo k count) (is_over l) l (record l { up = true }) (λ t. h) (λ e. record { started = h.started; takes = h.takes })
+takes_hears k count l turn (refused f) h = chosen (TakesUpTo k count) (dials l) (refused_in l turn (error.Io f)) l (λ t. record { started = h.started; takes = h.takes }) (λ e. h)
+takes_hears k count l turn overdue h = h
+takes_hears k count l turn (took n) h = chosen (TakesUpTo k count) l.up (record l { taken = l.taken ++ take n l.offer; offer = [] }) l (λ t. record { started = h.started; takes = h.takes }) (λ e. h)
+takes_hears k count l turn (came piece) h = chosen (TakesUpTo k count) l.up (bytes_came l piece) l
+    (λ t. record { started = h.started; takes = reach_alike (take (k + 1) l.starts) (bytes_came l piece).dealt l.dealt ∙ h.takes }) (λ e. h)
+takes_hears k count l turn (failed f) h = h
+takes_hears k count l turn shut h = h
+
+-- and with any line
+takes_keeps : (k count : ℕ) (l : Ledger) (x : Line) → TakesUpTo k count l → TakesUpTo k count (noted l x)
+takes_keeps k count l (asks info) h = record { started = h.started; takes = h.takes }
+takes_keeps k count l (hears turn news) h = let m = takes_hears k count l turn news h in record { started = m.started; takes = m.takes }
+takes_keeps k count l (begins s) h = record {
+  started = let i : k < length l.starts = h.started in let e = length_push l.starts s in omega arith;
+  takes = ap (λ (ss : List Start). reach ss l.dealt) (take-append-le (k + 1) l.starts (s ∷ []) (let i : k < length l.starts = h.started in omega (arith, i))) ∙ h.takes;
+}
+takes_keeps k count l (offers bytes) h = record { started = h.started; takes = h.takes }
+takes_keeps k count l tells h = record { started = h.started; takes = h.takes }
+takes_keeps k count l (ends turn) h = record { started = h.started; takes = h.takes }
+takes_keeps k count l parts h = record { started = h.started; takes = h.takes }
+
+-- message k of link l starts, which is of submission n
+abbrev StartsNow : ℕ → ℕ → ℕ → Action → Type 0
+StartsNow l n k (action.Start m j (owner.Try i round) count len) = (m ≡ l) × (j ≡ k) × (i ≡ n)
+StartsNow l n k _ = ⊥
+
+-- a story of submission n: where it is open and its last message is that, it was so before, or starts now
+abbrev IsFrom : Book → Action → ℕ → ℕ → ℕ → Story → Type 0
+IsFrom b a l n k s = is_open s ≡ true → last_of s.tries ≡ Some (record { link = l; message = k }) → (IsOpen b n × HasMessage b n l k) ⊎ StartsNow l n k a
+
+-- who has gone is not open
+gone : (p q : Bool) → (p && q && not true) ≡ true → ⊥
+gone true true e = cc e
+gone true false e = cc e
+gone false q e = cc e
+
+-- so it is behind an event
+event_from : (b : Book) (a : Action) (l n k : ℕ) (kind : EventKind) → HasStories b → IsFrom b a l n k (after_event b n kind)
+event_from b a l n k (event.Submit what) blank = chosen (IsFrom b a l n k) (b.submissions == n) (handed_in (b.story n) what b.shut (is_unspoken b what) (current b) b.timeout) (b.story n)
+    (λ t o h. absurd (let e : b.submissions ≡ n = eq_from b.submissions n t in
+    not_none (last_of (b.story n).tries) (record { link = l; message = k }) (ap (λ (s : Story). last_of s.tries) (blank n (omega (arith, e)))) h))
+    (λ f o h. inl (o, h))
+event_from b a l n k (event.Cancel m) blank = chosen (IsFrom b a l n k) (m == n) (left (b.story n)) (b.story n)
+    (λ t. chosen (IsFrom b a l n k) (is_open (b.story n)) (record (b.story n) { cancelled = true; permits = 0; waiting = None }) (b.story n)
+    (λ u o h. absurd (gone (is_some (b.story n).submission) (length (b.story n).outcomes == 0) o)) (λ u o h. inl (o, h)))
+    (λ f o h. inl (o, h))
+event_from b a l n k (event.Fired t) blank = chosen (IsFrom b a l n k) (is_clock_of n (slice_get b.timers t)) (fires (b.story n)) (b.story n)
+    (λ e. chosen (IsFrom b a l n k) (is_open (b.story n)) (record (b.story n) { overdue = true }) (b.story n) (λ u o h. inl (o, h)) (λ u o h. inl (o, h)))
+    (λ f o h. inl (o, h))
+event_from b a l n k (event.Connected m) blank = λ o h. inl (o, h)
+event_from b a l n k (event.Refused m f) blank = λ o h. inl (o, h)
+event_from b a l n k (event.Wrote m count) blank = λ o h. inl (o, h)
+event_from b a l n k (event.Bytes m piece) blank = λ o h. inl (o, h)
+event_from b a l n k (event.Ended m) blank = λ o h. inl (o, h)
+event_from b a l n k (event.ReadFault m kind) blank = λ o h. inl (o, h)
+event_from b a l n k (event.WriteFault m kind) blank = λ o h. inl (o, h)
+event_from b a l n k (event.Timeout ms) blank = λ o h. inl (o, h)
+event_from b a l n k event.Shutdown blank = λ o h. inl (o, h)
+
+-- the last of tries, behind which one more stands
+same_last : (ts : List Try) (m j l k : ℕ) → last_of (ts ++ record { link = m; message = j } ∷ []) ≡ Some (record { link = l; message = k }) → (m ≡ l) × (j ≡ k)
+same_last ts m j l k e =
+    let same : record { link = m; message = j } ≡ record { link = l; message = k } = same_some (record { link = m; message = j }) (record { link = l; message = k }) (sym (last_behind ts (record { link = m; message = j })) ∙ e) in
+    (ap (λ (t : Try). t.link) same, ap (λ (t : Try). t.message) same)
+
+-- and behind each action
+message_from : (b : Book) (a : Action) (l n k : ℕ) → HasStories b → IsFrom b a l n k ((entered b a).story n)
+message_from b (action.Turn j (cause.Opening config word)) l n k blank = λ o h. inl (o, h)
+message_from b (action.Turn j (cause.Event e)) l n k blank = event_from b (action.Turn j (cause.Event e)) l n k e.kind blank
+message_from b (action.Connect m host port) l n k blank = λ o h. inl (o, h)
+message_from b (action.Timer t ms what) l n k blank = chosen (IsFrom b (action.Timer t ms what) l n k) (is_clock_of n (Some what)) (clocked (b.story n) t) (b.story n) (λ e o h. inl (o, h)) (λ f o h. inl (o, h))
+message_from b (action.Took owner.Setup m count) l n k blank = λ o h. inl (o, h)
+message_from b (action.Took (owner.Try i round) m count) l n k blank = chosen (IsFrom b (action.Took (owner.Try i round) m count) l n k) (i == n) (holds (b.story n) count) (b.story n) (λ e o h. inl (o, h)) (λ f o h. inl (o, h))
+message_from b (action.Push m info) l n k blank = λ o h. inl (o, h)
+message_from b (action.Close m) l n k blank = λ o h. inl (o, h)
+message_from b (action.Write m bytes) l n k blank = λ o h. inl (o, h)
+message_from b (action.Wait owner.Setup kind) l n k blank = λ o h. inl (o, h)
+message_from b (action.Wait (owner.Try i round) kind) l n k blank = chosen (IsFrom b (action.Wait (owner.Try i round) kind) l n k) (i == n) (waits (b.story n) kind) (b.story n) (λ e o h. inl (o, h)) (λ f o h. inl (o, h))
+message_from b (action.Start m j owner.Setup count len) l n k blank = λ o h. inl (o, h)
+message_from b (action.Start m j (owner.Try i round) count len) l n k blank = chosen (IsFrom b (action.Start m j (owner.Try i round) count len) l n k) (i == n) (tried (b.story n) m j) (b.story n)
+    (λ e o h. let same = same_last (b.story n).tries m j l k h in inr (same.0, same.1, eq_from i n e)) (λ f o h. inl (o, h))
+message_from b (action.Created e) l n k blank = λ o h. inl (o, h)
+message_from b (action.Outcome i o) l n k blank = chosen (IsFrom b (action.Outcome i o) l n k) (i == n) (answered (b.story n) o) (b.story n)
+    (λ e open_still h. absurd (not_open (b.story n) o open_still)) (λ f u h. inl (u, h))
+
+-- behind a push that came when so many items had been dealt: the last message of submission n, where it is open and that is of
+-- the push's link, takes an item behind it
+pub record TakesBehind (l n count : ℕ) (b : Book) : Type 0 where
+  pub dealt : count ≤ length (b.link l).dealt
+  pub takes : (k : ℕ) → IsOpen b n → HasMessage b n l k → count < reached (b.link l) (k + 1)
+
+-- a message that starts now takes items behind all that were dealt
+starts_behind : (b : Book) (a : Action) (l n k count : ℕ) → MayStand b a → Sound b → count ≤ length (b.link l).dealt → StartsNow l n k a → count < reached ((entered b a).link l) (k + 1)
+starts_behind b (action.Start m j (owner.Try i round) need len) l n k count may sound few is =
+    let s : Start = message_of b m (owner.Try i round) in
+    let started : Ledger = noted (b.link l) (begins s) in
+    let same : (entered b (action.Start m j (owner.Try i round) need len)).link l ≡ started = mine_is (b.link l) m l s is.0 in
+    let next : k ≡ length (b.link l).starts = sym is.1 ∙ (may.1.next ∙ ap (λ x. length (b.link x).starts) is.0) in
+    let long = length_push (b.link l).starts s in
+    let all : take (k + 1) ((b.link l).starts ++ s ∷ []) ≡ (b.link l).starts ++ s ∷ [] = take_all (k + 1) ((b.link l).starts ++ s ∷ []) (omega (arith, long, next)) in
+    let whole : reached started (k + 1) ≡ reach ((b.link l).starts ++ s ∷ []) (b.link l).dealt = ap (λ (xs : List Start). reach xs (b.link l).dealt) all in
+    let more = reach_more (b.link l).starts s (b.link l).dealt in
+    let one = takes_one s.shape in
+    let fits : length (b.link l).dealt ≤ reach (b.link l).starts (b.link l).dealt = sound.few l in
+    subst (λ (x : Ledger). count < reached x (k + 1)) (sym same) (omega (arith, few, whole, more, one, fits))
+  where
+    mine_is : (x : Ledger) (m l : ℕ) (s : Start) → m ≡ l → noted_each x (if_mine (m == l) (begins s)) ≡ noted x (begins s)
+    mine_is x m l s e = ap (λ t. noted_each x (if_mine t (begins s))) (eq_test m l e)
+starts_behind b _ l n k count may sound few is = absurd is
+
+-- no item is taken back by news
+dealt_hears : (count : ℕ) (l : Ledger) (turn : ℕ) (news : News) → count ≤ length l.dealt → count ≤ length (with_news l turn news).dealt
+dealt_hears count l turn silence i = i
+dealt_hears count l turn connected i = chosen (λ (x : Ledger). count ≤ length x.dealt) (is_over l) l (record l { up = true }) (λ t. i) (λ e. i)
+dealt_hears count l turn (refused f) i = chosen (λ (x : Ledger). count ≤ length x.dealt) (dials l) (refused_in l turn (error.Io f)) l (λ t. i) (λ e. i)
+dealt_hears count l turn overdue i = i
+dealt_hears count l turn (took n) i = chosen (λ (x : Ledger). count ≤ length x.dealt) l.up (record l { taken = l.taken ++ take n l.offer; offer = [] }) l (λ t. i) (λ e. i)
+dealt_hears count l turn (came piece) i = chosen (λ (x : Ledger). count ≤ length x.dealt) l.up (bytes_came l piece) l
+    (λ t.
+    let room : ℕ = reach l.starts l.dealt - length l.dealt in
+    let long : length (l.dealt ++ take room (items (l.rest ++ piece))) ≡ length l.dealt + length (take room (items (l.rest ++ piece))) = length-append l.dealt (take room (items (l.rest ++ piece))) in
+    omega (arith, long, i)) (λ e. i)
+dealt_hears count l turn (failed f) i = i
+dealt_hears count l turn shut i = i
+
+-- nor by any line
+dealt_keeps : (count : ℕ) (l : Ledger) (x : Line) → count ≤ length l.dealt → count ≤ length (noted l x).dealt
+dealt_keeps count l (asks info) i = i
+dealt_keeps count l (hears turn news) i = dealt_hears count l turn news i
+dealt_keeps count l (begins s) i = i
+dealt_keeps count l (offers bytes) i = i
+dealt_keeps count l tells i = i
+dealt_keeps count l (ends turn) i = i
+dealt_keeps count l parts i = i
+
+-- so each action that may stand leaves it
+behind_kept : (b : Book) (a : Action) (l n count : ℕ) → MayStand b a → Sound b → TakesBehind l n count b → TakesBehind l n count (entered b a)
+behind_kept b a l n count may sound h = record {
+  dealt = each_keeps (λ (x : Ledger). count ≤ length x.dealt) (dealt_keeps count) (b.link l) (lines_of b l a) h.dealt;
+  takes = λ k o has. elim (message_from b a l n k sound.stories o has) [
+    | inl before ↦
+        let up_to = each_keeps (TakesUpTo k (reached (b.link l) (k + 1))) (takes_keeps k (reached (b.link l) (k + 1))) (b.link l) (lines_of b l a)
+        (record { started = sound.starts n (record { link = l; message = k }) before.1; takes = refl }) in
+        let less : count < reached (b.link l) (k + 1) = h.takes k before.0 before.1 in
+        let same : reached ((entered b a).link l) (k + 1) ≡ reached (b.link l) (k + 1) = up_to.takes in omega (arith, less, same)
+    | inr now ↦ starts_behind b a l n k count may sound h.dealt now
+  ];
+}
+
+-- and so do many
+each_behind : (b : Book) (trace : List Action) (l n count : ℕ) → AllStand b trace → Sound b → TakesBehind l n count b → TakesBehind l n count (entered_each b trace)
+each_behind b [] l n count all sound h = h
+each_behind b (a ∷ more) l n count all sound h = each_behind (entered b a) more l n count all.1 (stays_sound b a all.0 sound) (behind_kept b a l n count all.0 sound h)
+
+-- where a push is told
+told_takes : (b : Book) (l n : ℕ) (info : PushInfo) (p : Heard) → Sound b → InRow (b.link l) → MayTellPush b l info → next_push (b.link l) ≡ Some p → TakesBehind l n p.after b
+told_takes b l n info p sound row may next = record {
+  dealt = (between_at 0 (b.link l).pushes (length (b.link l).dealt) (b.link l).told p row.rise next).1;
+  takes = λ k o has. by_test (is_full_by (b.link l) p.after k) (p.after < reached (b.link l) (k + 1))
+      (λ t. absurd (may.answered n o (on_its_link b n l info sound may) (record {
+        try = record { link = l; message = k };
+        last = has;
+        full = subst (λ (q : Heard). is_full_by (b.link l) q.after k ≡ true) (same_some p may.push (sym next ∙ may.next)) t;
+      })))
+      (λ f. not_le_from (reached (b.link l) (k + 1)) p.after f);
+}
+
+-- whoever is answered behind a push takes an item behind it
+answers_behind : (b : Book) (middle more : List Action) (a : Action) (l n k : ℕ) (o : Outcome) (p : Heard) → Sound b → InRow (b.link l) → AllStand b (a ∷ (middle ++ action.Outcome n o ∷ more)) → Tells l a
+    → next_push (b.link l) ≡ Some p → HasMessage (entered_each (entered b a) middle) n l k → is_full_by ((entered_each (entered b a) middle).link l) p.after k ≡ false
+answers_behind b middle more a l n k o p sound row all is next has =
+    let t = telling b l a all.0 is in
+    let later : Book = entered_each (entered b a) middle in
+    let front : AllStand b (a ∷ middle) = stand_front b (a ∷ middle) (action.Outcome n o ∷ more) all in
+    let behind = each_behind b (a ∷ middle) l n p.after front sound (told_takes b l n t.0 p sound row t.1 next) in
+    let asked : IsOpen later n = outcome_is_open later n o (stand_behind (entered b a) middle (action.Outcome n o ∷ more) all.1).0 in
+    not_le_test (reached (later.link l) (k + 1)) p.after (behind.takes k asked has)
+
+-- where one of a list isn't there, none is behind it
+none_beyond : (hs : List Heard) (k i : ℕ) (p : Heard) → slice_get hs k ≡ None → k ≤ i → slice_get hs i ≡ Some p → ⊥
+none_beyond [] k i p none le e = cc e
+none_beyond (x ∷ hs) zero i p none le e = cc none
+none_beyond (x ∷ hs) (suc k) zero p none le e = omega (arith, le)
+none_beyond (x ∷ hs) (suc k) (suc i) p none le e = none_beyond hs k i p none (omega (arith, le)) e
+
+-- whoever is answered by its items: no push that waits came before it was full
+answered_beyond : (b : Book) (l n k : ℕ) (o : Outcome) → InRow (b.link l) → is_heard b ≡ true → (b.story n).link ≡ l → MayAnswer b n o → HasMessage b n l k → is_full (b.link l) k ≡ true → IsBeyond (reached (b.link l) (k + 1)) (b.link l)
+answered_beyond b l n k o row heard on may has full = record {
+  dealt = le_from (reached (b.link l) (k + 1)) (length (b.link l).dealt) full;
+  waits = λ i p told at. of_next (next_push (b.link l)) refl i p told at;
+}
+  where
+    of_next : (next : Option Heard) → next_push (b.link l) ≡ next → (i : ℕ) (p : Heard) → (b.link l).told ≤ i → slice_get (b.link l).pushes i ≡ Some p → reached (b.link l) (k + 1) ≤ p.after
+    of_next None same i p told at = absurd (none_beyond (b.link l).pushes (b.link l).told i p same told at)
+    of_next (Some q) same i p told at =
+        let before : IsBefore b n q = may.after_pushes heard q (ap (λ j. next_push (b.link j)) on ∙ same) in
+        let it : before.try ≡ record { link = l; message = k } = same_some before.try (record { link = l; message = k }) (sym before.last ∙ has) in
+        let early : is_full_by (b.link l) q.after k ≡ true = subst (λ (t : Try). is_full_by (b.link t.link) q.after t.message ≡ true) it before.full in
+        let first : reached (b.link l) (k + 1) ≤ q.after = le_from (reached (b.link l) (k + 1)) q.after early in
+        let later : q.after ≤ p.after = between_behind 0 (b.link l).pushes (length (b.link l).dealt) (b.link l).told i q p told row.rise same at in
+        omega (arith, first, later)
+
+-- whoever has a message isn't told at its place
+answer_of : (b : Book) (n l k : ℕ) (o : Outcome) → MayAnswer b n o ⊎ MayTell b n o → HasMessage b n l k → MayAnswer b n o
+answer_of b n l k o (inl owes) has = owes
+answer_of b n l k o (inr told) has = absurd (not_none (last_of (b.story n).tries) (record { link = l; message = k }) (ap last_of (has_no_tries (b.story n) told.unstarted)) has)
+
+-- whoever is answered before a push by its items had them all
+answers_before : (b : Book) (middle more : List Action) (a : Action) (l n k : ℕ) (o : Outcome) (p : Heard) → Sound b → InRow (b.link l) → AllStand b (action.Outcome n o ∷ (middle ++ a ∷ more)) → Tells l a
+    → next_push ((entered_each (entered b (action.Outcome n o)) middle).link l) ≡ Some p → HasMessage b n l k → is_full (b.link l) k ≡ true → is_full_by (b.link l) p.after k ≡ true
+answers_before b middle more a l n k o p sound row all is next has full =
+    let answer : Action = action.Outcome n o in
+    let later : Book = entered_each (entered b answer) middle in
+    let front : AllStand b (answer ∷ middle) = stand_front b (answer ∷ middle) (a ∷ more) all in
+    let sound_later : Sound later = stay_sound b (answer ∷ middle) front sound in
+    let t = telling later l a (stand_behind (entered b answer) middle (a ∷ more) all.1).0 is in
+    let may : MayAnswer b n o = answer_of b n l k o all.0 has in
+    let numbered : n < b.submissions = open_is_numbered b n sound.stories may.asked in
+    let some : b.turns ≢ 0 = λ none. let empty : b.submissions ≡ 0 = sound.opens.none_yet (omega (arith, none)) in omega (arith, numbered, empty) in
+    let heard : is_heard b ≡ true = sym (ap is_heard_in (config_kept b (answer ∷ middle) front some)) ∙ t.1.heard in
+    let on : (b.story n).link ≡ l = sound.goes n ∙ (sym (sound_later.goes n) ∙ on_its_link later n l t.0 sound_later t.1) in
+    let count : ℕ = reached (b.link l) (k + 1) in
+    let beyond : IsBeyond count (later.link l) = subst (IsBeyond count) (sym (told_behind b l (answer ∷ middle)))
+    (each_keeps (IsBeyond count) (beyond_keeps count) (b.link l) (lines_of_each b l (answer ∷ middle)) (answered_beyond b l n k o row heard on may has full)) in
+    le_test count p.after (beyond.waits (later.link l).told p (omega arith) next)
+
+-- what stands behind a front
+behind_front : (front rest : List Action) → AllStand blank_book (front ++ rest) → AllStand (book front) rest
+unfolding book
+behind_front front rest all = stand_behind blank_book front rest all
+
+-- so it is in a legal trace
+pub tells_in_order : (config : Config) (word : ℕ) (events : List Event) (trace : List Action) → Legal config word events trace → TellsInOrder trace
+tells_in_order config word events trace h = record {
+  behind = λ front middle more l n k a o p is tells_it next has.
+      let rest : List Action = a ∷ (middle ++ action.Outcome n o ∷ more) in
+      let all : AllStand blank_book (front ++ rest) = subst (AllStand blank_book) is h.each in
+      let same : book (front ++ a ∷ middle) ≡ entered_each (book front) (a ∷ middle) = book_append front (a ∷ middle) in
+      subst (λ (b : Book). is_full_by (b.link l) p.after k ≡ false) (sym same)
+      (answers_behind (book front) middle more a l n k o p (sound_behind front (stand_front blank_book front rest all)) (in_row front l) (behind_front front rest all) tells_it next
+      (subst (λ (b : Book). HasMessage b n l k) same has));
+  before = λ front middle more l n k a o p is tells_it next has full.
+      let rest : List Action = action.Outcome n o ∷ (middle ++ a ∷ more) in
+      let all : AllStand blank_book (front ++ rest) = subst (AllStand blank_book) is h.each in
+      let same : book (front ++ action.Outcome n o ∷ middle) ≡ entered_each (book front) (action.Outcome n o ∷ middle) = book_append front (action.Outcome n o ∷ middle) in
+      answers_before (book front) middle more a l n k o p (sound_behind front (stand_front blank_book front rest all)) (in_row front l) (behind_front front rest all) tells_it
+      (subst (λ (b : Book). next_push (b.link l) ≡ Some p) same next) has full;
+}

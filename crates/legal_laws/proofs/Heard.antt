@@ -1,0 +1,207 @@
+-- The pushes that a link hears stand in order among the items that are dealt.
+use Rattle.std.proofs.Common.{◌≡◌, ◌⊎◌, inl, inr, ℕ, zero, suc, ◌+◌, ◌-◌, ◌≤◌, min, true, List, [], ◌∷◌, ◌++◌, length, take, Some, refl, sym, ◌∙◌, ap, subst, arith, length-append}
+use Rattle.std.proofs.lemmas.List.{length-take}
+use Rattle.std.specs.Prelude.{slice_get}
+use Rattle.containers.proofs.Choices.{by_test, chosen, taken_if, left_if}
+use Rattle.redis_error.specs.declared.redis_error.RedisError.TheVariants as error
+use Rattle.resp_value.specs.Data.{Data, push, list_of}
+use Rattle.resp_read.specs.Values.{values}
+use Rattle.resp_read.specs.Items.{items, items_among, is_item}
+use Rattle.driver_model.specs.declared.action.Action.{Action}
+use Rattle.driver_model.specs.News.{News, silence, connected, refused, overdue, took, came, failed, shut}
+use Rattle.legal_trace.specs.Ledger.{Ledger, Heard, Line, asks, hears, begins, offers, tells, ends, parts, blank_ledger, noted, with_news, refused_in, bytes_came, items_came, value_came, heard_at, heard_each, is_over, is_set_up, dials, reach}
+use Rattle.legal_trace.specs.Book.{book}
+use Rattle.legal_trace.proofs.Ledgers.{each_keeps, reach_alike, FewAreDealt, few_keeps}
+use Rattle.legal_trace.proofs.Plain.{same_some}
+use Rattle.legal_laws.specs.Links.{lines_for}
+use Rattle.legal_laws.proofs.Lines.{ledgers_are_told}
+
+-- each of these came behind so many items at least, and so many at most, and none behind fewer than the one before it
+abbrev pub Between : ℕ → List Heard → ℕ → Type 0
+Between low [] high = low ≤ high
+Between low (h ∷ hs) high = (low ≤ h.after) × Between h.after hs high
+
+-- so behind fewer
+between_lower : (a b : ℕ) (hs : List Heard) (c : ℕ) → a ≤ b → Between b hs c → Between a hs c
+between_lower a b [] c i h = omega (arith, i, h)
+between_lower a b (x ∷ hs) c i h = let first : b ≤ x.after = h.0 in (omega (arith, i, first), h.1)
+
+-- and up to more
+between_upper : (a : ℕ) (hs : List Heard) (b c : ℕ) → Between a hs b → b ≤ c → Between a hs c
+between_upper a [] b c h i = omega (arith, i, h)
+between_upper a (x ∷ hs) b c h i = (h.0, between_upper x.after hs b c h.1 i)
+
+-- these and then those
+between_append : (a : ℕ) (xs : List Heard) (b : ℕ) (ys : List Heard) (c : ℕ) → Between a xs b → Between b ys c → Between a (xs ++ ys) c
+between_append a [] b ys c h k = between_lower a b ys c h k
+between_append a (x ∷ xs) b ys c h k = (h.0, between_append x.after xs b ys c h.1 k)
+
+-- the bounds themselves
+between_le : (a : ℕ) (xs : List Heard) (b : ℕ) → Between a xs b → a ≤ b
+between_le a [] b h = h
+between_le a (x ∷ xs) b h =
+    let first : a ≤ x.after = h.0 in
+    let rest : x.after ≤ b = between_le x.after xs b h.1 in omega (arith, first, rest)
+
+-- each is within them
+pub between_at : (a : ℕ) (xs : List Heard) (b i : ℕ) (p : Heard) → Between a xs b → slice_get xs i ≡ Some p → (a ≤ p.after) × (p.after ≤ b)
+between_at a [] b i p h e = absurd (cc e)
+between_at a (x ∷ xs) b zero p h e = subst (λ (q : Heard). (a ≤ q.after) × (q.after ≤ b)) (same_some x p e) (h.0, between_le x.after xs b h.1)
+between_at a (x ∷ xs) b (suc i) p h e =
+    let r = between_at x.after xs b i p h.1 e in
+    let low : a ≤ x.after = h.0 in
+    let more : x.after ≤ p.after = r.0 in (omega (arith, low, more), r.1)
+
+-- one that stands behind another came no earlier
+pub between_behind : (a : ℕ) (xs : List Heard) (b i j : ℕ) (p q : Heard) → i ≤ j → Between a xs b → slice_get xs i ≡ Some p → slice_get xs j ≡ Some q → p.after ≤ q.after
+between_behind a [] b i j p q le h e f = absurd (cc e)
+between_behind a (x ∷ xs) b zero zero p q le h e f = subst (λ (r : Heard). p.after ≤ r.after) (sym (same_some x p e) ∙ same_some x q f) (omega arith)
+between_behind a (x ∷ xs) b zero (suc j) p q le h e f = subst (λ (r : Heard). r.after ≤ q.after) (same_some x p e) (between_at x.after xs b j q h.1 f).0
+between_behind a (x ∷ xs) b (suc i) zero p q le h e f = absurd (omega (arith, le))
+between_behind a (x ∷ xs) b (suc i) (suc j) p q le h e f = between_behind x.after xs b i j p q (omega (arith, le)) h.1 e f
+
+-- these values come, one after another
+abbrev pub came_each : Ledger → List Data → Ledger
+came_each l [] = l
+came_each l (v ∷ vs) = came_each (value_came l v) vs
+
+-- no item is taken back
+value_grows : (l : Ledger) (v : Data) → length l.dealt ≤ length (value_came l v).dealt
+value_grows l v = chosen (λ (x : Ledger). length l.dealt ≤ length x.dealt) (is_item v) (items_came l (v ∷ [])) l
+    (λ t.
+    let room : ℕ = reach l.starts l.dealt - length l.dealt in
+    let f : length (l.dealt ++ take room (v ∷ [])) ≡ length l.dealt + length (take room (v ∷ [])) = length-append l.dealt (take room (v ∷ [])) in omega (arith, f))
+    (λ f. omega arith)
+
+-- a push comes behind the items dealt so far
+at_between : (l : Ledger) (v : Data) (high : ℕ) → length l.dealt ≤ high → Between (length l.dealt) (heard_at l v) high
+at_between l (push kind rest) high i = chosen (λ hs. Between (length l.dealt) hs high) (is_set_up l) (record { after = length l.dealt; info = record { kind = kind; parts = list_of rest } } ∷ []) [] (λ t. (omega arith, i)) (λ f. i)
+at_between l _ high i = i
+
+-- so do those among many values
+pub heard_between : (l : Ledger) (vs : List Data) → Between (length l.dealt) (heard_each l vs) (length (came_each l vs).dealt)
+heard_between l [] = omega arith
+heard_between l (v ∷ vs) = between_append (length l.dealt) (heard_at l v) (length (value_came l v).dealt) (heard_each (value_came l v) vs) (length (came_each (value_came l v) vs).dealt)
+    (at_between l v (length (value_came l v).dealt) (value_grows l v)) (heard_between (value_came l v) vs)
+
+-- one after another no more items are dealt than together
+came_few : (l : Ledger) (vs : List Data) → FewAreDealt l → length (came_each l vs).dealt ≤ length l.dealt + min (reach l.starts l.dealt - length l.dealt) (length (items_among vs))
+came_few l [] few = omega arith
+came_few l (v ∷ vs) few = by_test (is_item v) (length (came_each (value_came l v) vs).dealt ≤ length l.dealt + min (reach l.starts l.dealt - length l.dealt) (length (items_among (v ∷ vs))))
+    (λ t.
+    let room : ℕ = reach l.starts l.dealt - length l.dealt in
+    let m : Ledger = items_came l (v ∷ []) in
+    let is : value_came l v ≡ m = taken_if (is_item v) m l t in
+    let some : items_among (v ∷ vs) ≡ v ∷ items_among vs = taken_if (is_item v) (v ∷ items_among vs) (items_among vs) t in
+    let count : length (items_among (v ∷ vs)) ≡ length (v ∷ items_among vs) = ap (λ (ds : List Data). length ds) some in
+    let one : length (v ∷ items_among vs) ≡ suc (length (items_among vs)) = refl in
+    let far : reach m.starts m.dealt ≡ reach l.starts l.dealt = reach_alike l.starts m.dealt l.dealt in
+    let long : length m.dealt ≡ length l.dealt + length (take room (v ∷ [])) = length-append l.dealt (take room (v ∷ [])) in
+    let cut : length (take room (v ∷ [])) ≡ min room 1 = length-take room (v ∷ []) in
+    let fits : length l.dealt ≤ reach l.starts l.dealt = few in
+    let few_more : length m.dealt ≤ reach m.starts m.dealt = omega (arith, far, long, cut, fits) in
+    let rest : length (came_each m vs).dealt ≤ length m.dealt + min (reach m.starts m.dealt - length m.dealt) (length (items_among vs)) = came_few m vs few_more in
+    subst (λ (x : Ledger). length (came_each x vs).dealt ≤ length l.dealt + min (reach l.starts l.dealt - length l.dealt) (length (items_among (v ∷ vs)))) (sym is)
+    (omega (arith, count, one, far, long, cut, fits, rest)))
+    (λ f.
+    let is : value_came l v ≡ l = left_if (is_item v) (items_came l (v ∷ [])) l f in
+    let same : items_among (v ∷ vs) ≡ items_among vs = left_if (is_item v) (v ∷ items_among vs) (items_among vs) f in
+    subst (λ (x : Ledger). length (came_each x vs).dealt ≤ length l.dealt + min (reach l.starts l.dealt - length l.dealt) (length (items_among (v ∷ vs)))) (sym is)
+    (subst (λ (ds : List Data). length (came_each l vs).dealt ≤ length l.dealt + min (reach l.starts l.dealt - length l.dealt) (length ds)) (sym same) (came_few l vs few)))
+
+-- no more items are dealt than messages take, and pushes came in order, behind no more items than are dealt
+pub record InRow (l : Ledger) : Type 0 where
+  pub few : FewAreDealt l
+  pub rise : Between 0 l.pushes (length l.dealt)
+
+-- so where bytes come
+came_rises : (l : Ledger) (piece : List ℕ) → InRow l → Between 0 (bytes_came l piece).pushes (length (bytes_came l piece).dealt)
+unfolding items
+came_rises l piece h =
+    let vs : List Data = values (l.rest ++ piece) in
+    let room : ℕ = reach l.starts l.dealt - length l.dealt in
+    let high : ℕ = length (l.dealt ++ take room (items_among vs)) in
+    let long : length (l.dealt ++ take room (items_among vs)) ≡ length l.dealt + length (take room (items_among vs)) = length-append l.dealt (take room (items_among vs)) in
+    let cut : length (take room (items_among vs)) ≡ min room (length (items_among vs)) = length-take room (items_among vs) in
+    let bound : length (came_each l vs).dealt ≤ length l.dealt + min room (length (items_among vs)) = came_few l vs h.few in
+    between_append 0 l.pushes (length l.dealt) (heard_each l vs) high h.rise
+    (between_upper (length l.dealt) (heard_each l vs) (length (came_each l vs).dealt) high (heard_between l vs) (omega (arith, long, cut, bound)))
+
+-- the order alone
+abbrev Rises : Ledger → Type 0
+Rises l = Between 0 l.pushes (length l.dealt)
+
+-- so with any news
+rises_hears : (l : Ledger) (turn : ℕ) (news : News) → InRow l → Rises (with_news l turn news)
+rises_hears l turn silence h = h.rise
+rises_hears l turn connected h = chosen Rises (is_over l) l (record l { up = true }) (λ t. h.rise) (λ e. h.rise)
+rises_hears l turn (refused f) h = chosen Rises (dials l) (refused_in l turn (error.Io f)) l (λ t. h.rise) (λ e. h.rise)
+rises_hears l turn overdue h = h.rise
+rises_hears l turn (took count) h = chosen Rises l.up (record l { taken = l.taken ++ take count l.offer; offer = [] }) l (λ t. h.rise) (λ e. h.rise)
+rises_hears l turn (came piece) h = chosen Rises l.up (bytes_came l piece) l (λ t. came_rises l piece h) (λ e. h.rise)
+rises_hears l turn (failed f) h = h.rise
+rises_hears l turn shut h = h.rise
+
+-- and with any line
+rises_keeps : (l : Ledger) (x : Line) → InRow l → Rises (noted l x)
+rises_keeps l (asks info) h = h.rise
+rises_keeps l (hears turn news) h = rises_hears l turn news h
+rises_keeps l (begins s) h = h.rise
+rises_keeps l (offers bytes) h = h.rise
+rises_keeps l tells h = h.rise
+rises_keeps l (ends turn) h = h.rise
+rises_keeps l parts h = h.rise
+
+row_keeps : (l : Ledger) (x : Line) → InRow l → InRow (noted l x)
+row_keeps l x h = record { few = few_keeps l x h.few; rise = rises_keeps l x h }
+
+-- so it is of each link of a trace
+pub in_row : (trace : List Action) (l : ℕ) → InRow ((book trace).link l)
+in_row trace l = subst InRow (sym (ledgers_are_told trace l)) (each_keeps InRow row_keeps blank_ledger (lines_for trace l) (record { few = omega arith; rise = omega arith }))
+
+-- so many items were dealt, and no push that waits came behind fewer
+pub record IsBeyond (count : ℕ) (l : Ledger) : Type 0 where
+  pub dealt : count ≤ length l.dealt
+  pub waits : (i : ℕ) (p : Heard) → l.told ≤ i → slice_get l.pushes i ≡ Some p → count ≤ p.after
+
+-- what stands in two lists stands in one of them
+get_append : (xs ys : List Heard) (i : ℕ) (p : Heard) → slice_get (xs ++ ys) i ≡ Some p → (slice_get xs i ≡ Some p) ⊎ ((j : ℕ) × (slice_get ys j ≡ Some p))
+get_append [] ys i p e = inr (i, e)
+get_append (x ∷ xs) ys zero p e = inl e
+get_append (x ∷ xs) ys (suc i) p e = get_append xs ys i p e
+
+-- so where bytes come
+came_beyond : (count : ℕ) (l : Ledger) (piece : List ℕ) → IsBeyond count l → IsBeyond count (bytes_came l piece)
+came_beyond count l piece h = record {
+  dealt =
+      let room : ℕ = reach l.starts l.dealt - length l.dealt in
+      let long : length (l.dealt ++ take room (items (l.rest ++ piece))) ≡ length l.dealt + length (take room (items (l.rest ++ piece))) = length-append l.dealt (take room (items (l.rest ++ piece))) in
+      let before : count ≤ length l.dealt = h.dealt in omega (arith, long, before);
+  waits = λ i p told at. elim (get_append l.pushes (heard_each l (values (l.rest ++ piece))) i p at) [
+    | inl old ↦ h.waits i p told old
+    | inr new ↦
+        let low : length l.dealt ≤ p.after = (between_at (length l.dealt) (heard_each l (values (l.rest ++ piece))) (length (came_each l (values (l.rest ++ piece))).dealt) new.0 p (heard_between l (values (l.rest ++ piece))) new.1).0 in
+        let before : count ≤ length l.dealt = h.dealt in omega (arith, low, before)
+  ];
+}
+
+-- with any news
+beyond_hears : (count : ℕ) (l : Ledger) (turn : ℕ) (news : News) → IsBeyond count l → IsBeyond count (with_news l turn news)
+beyond_hears count l turn silence h = h
+beyond_hears count l turn connected h = chosen (IsBeyond count) (is_over l) l (record l { up = true }) (λ t. h) (λ e. record { dealt = h.dealt; waits = h.waits })
+beyond_hears count l turn (refused f) h = chosen (IsBeyond count) (dials l) (refused_in l turn (error.Io f)) l (λ t. record { dealt = h.dealt; waits = h.waits }) (λ e. h)
+beyond_hears count l turn overdue h = h
+beyond_hears count l turn (took n) h = chosen (IsBeyond count) l.up (record l { taken = l.taken ++ take n l.offer; offer = [] }) l (λ t. record { dealt = h.dealt; waits = h.waits }) (λ e. h)
+beyond_hears count l turn (came piece) h = chosen (IsBeyond count) l.up (bytes_came l piece) l (λ t. came_beyond count l piece h) (λ e. h)
+beyond_hears count l turn (failed f) h = h
+beyond_hears count l turn shut h = h
+
+-- and with any line
+pub beyond_keeps : (count : ℕ) (l : Ledger) (x : Line) → IsBeyond count l → IsBeyond count (noted l x)
+beyond_keeps count l (asks info) h = record { dealt = h.dealt; waits = h.waits }
+beyond_keeps count l (hears turn news) h = let k = beyond_hears count l turn news h in record { dealt = k.dealt; waits = k.waits }
+beyond_keeps count l (begins s) h = record { dealt = h.dealt; waits = h.waits }
+beyond_keeps count l (offers bytes) h = record { dealt = h.dealt; waits = h.waits }
+beyond_keeps count l tells h = record { dealt = h.dealt; waits = λ i p told at. h.waits i p (omega (arith, told)) at }
+beyond_keeps count l (ends turn) h = record { dealt = h.dealt; waits = h.waits }
+beyond_keeps count l parts h = record { dealt = h.dealt; waits = h.waits }

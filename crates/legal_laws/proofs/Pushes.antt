@@ -1,0 +1,254 @@
+-- Each push that came is told, once and in order, and none where nobody hears pushes.
+use Rattle.std.proofs.Common.{◌≡◌, ◌≢◌, ◌⊎◌, inl, inr, ℕ, zero, suc, ◌+◌, ◌-◌, ◌<◌, ◌≤◌, ◌==◌, Bool, true, false, ◌&&◌, not, List, [], ◌∷◌, ◌++◌, length, take, Some, None, if◌then◌else◌, refl, sym, ◌∙◌, ap, subst, append_assoc, arith, length-append}
+use Rattle.std.specs.Prelude.{slice_get}
+use Rattle.std.proofs.lemmas.List.{append-nil, take-append-le}
+use Rattle.containers.proofs.Choices.{by_test, chosen, taken_if, left_if, eq_from, not_both}
+use Rattle.redis_error.specs.declared.redis_error.RedisError.TheVariants as error
+use Rattle.resp_read.specs.Values.{values}
+use Rattle.driver_model.specs.declared.action.Action.{Action}
+use Rattle.driver_model.specs.declared.action.Action.TheVariants as action
+use Rattle.driver_model.specs.declared.action.Cause.TheVariants as cause
+use Rattle.driver_model.specs.declared.config.Config.{Config}
+use Rattle.driver_model.specs.declared.event.Event.{Event}
+use Rattle.driver_model.specs.declared.push_info.PushInfo.{PushInfo}
+use Rattle.driver_model.specs.Config.{hears_pushes}
+use Rattle.driver_model.specs.News.{News, silence, connected, refused, overdue, took, came, failed, shut, news_of}
+use Rattle.driver_model.specs.Push.{is_disconnection}
+use Rattle.legal_trace.specs.Ledger.{Ledger, Heard, asks, hears, begins, offers, tells, ends, parts, noted, noted_each, refused_in, bytes_came, heard_each, is_over, dials, next_push}
+use Rattle.legal_trace.specs.Book.{Book, blank_book, book, entered, entered_each, if_mine, push_line, info_in, message_of}
+use Rattle.legal_trace.specs.Legal.{MayStand, MayTellPush, MayPart, MayPush, MayPushBy, AllStand, IsSettled, is_heard, is_heard_in, Legal}
+use Rattle.legal_trace.proofs.Books.{stand_front}
+use Rattle.legal_trace.proofs.Ledgers.{mine_keeps}
+use Rattle.legal_trace.proofs.Plain.{same_some}
+use Rattle.legal_laws.specs.Pushes.{told_by, pushes_told, said_by, IsWhole, Tells, TellsPushes}
+use Rattle.legal_laws.proofs.Bounds.{ready_behind, next_may, applied_began}
+use Rattle.legal_laws.proofs.Ranks.{push_rank, rank, reached, step_of}
+use Rattle.legal_laws.proofs.Sound.{Sound}
+
+-- what may tell that a link has ended, and what may tell a push that came
+pub parting_of : (b : Book) (l : ℕ) (info : PushInfo) → is_disconnection info.kind ≡ true → MayPush b l info → MayPart b l info
+parting_of b l info e may = subst (λ t. MayPushBy t b l info) e may
+
+pub telling_of : (b : Book) (l : ℕ) (info : PushInfo) → is_disconnection info.kind ≡ false → MayPush b l info → MayTellPush b l info
+telling_of b l info e may = subst (λ t. MayPushBy t b l info) e may
+
+-- the push that an action tells
+pub telling : (b : Book) (l : ℕ) (a : Action) → MayStand b a → Tells l a → (info : PushInfo) × MayTellPush b l info
+telling b l (action.Push m info) may is = (info, subst (λ j. MayTellPush b j info) is.0 (telling_of b m info is.1 may))
+telling b l _ may is = absurd is
+
+-- of a second ledger: no push was told that wasn't in the first, and what came stands behind what had come
+pub record GoesOn (l m : Ledger) : Type 0 where
+  pub told : m.told ≡ l.told
+  pub more : List Heard
+  pub pushes : m.pushes ≡ l.pushes ++ more
+
+-- each goes on from itself
+same_pushes : (l m : Ledger) → m.told ≡ l.told → m.pushes ≡ l.pushes → GoesOn l m
+same_pushes l m told pushes = record { told = told; more = []; pushes = pushes ∙ sym (append-nil l.pushes) }
+
+-- so it does with news
+hears_on : (l : Ledger) (turn : ℕ) (news : News) → GoesOn l (noted l (hears turn news))
+hears_on l turn silence = same_pushes l _ refl refl
+hears_on l turn connected = chosen (λ (x : Ledger). GoesOn l (record x { heard = connected })) (is_over l) l (record l { up = true }) (λ t. same_pushes l _ refl refl) (λ e. same_pushes l _ refl refl)
+hears_on l turn (refused f) = chosen (λ (x : Ledger). GoesOn l (record x { heard = refused f })) (dials l) (refused_in l turn (error.Io f)) l (λ t. same_pushes l _ refl refl) (λ e. same_pushes l _ refl refl)
+hears_on l turn overdue = same_pushes l _ refl refl
+hears_on l turn (took count) = chosen (λ (x : Ledger). GoesOn l (record x { heard = took count })) l.up (record l { taken = l.taken ++ take count l.offer; offer = [] }) l (λ t. same_pushes l _ refl refl) (λ e. same_pushes l _ refl refl)
+hears_on l turn (came piece) = chosen (λ (x : Ledger). GoesOn l (record x { heard = came piece })) l.up (bytes_came l piece) l (λ t. record { told = refl; more = heard_each l (values (l.rest ++ piece)); pushes = refl }) (λ e. same_pushes l _ refl refl)
+hears_on l turn (failed f) = same_pushes l _ refl refl
+hears_on l turn shut = same_pushes l _ refl refl
+
+-- an action tells no push of link l, which goes on
+pub record TellsNothing (b : Book) (l : ℕ) (a : Action) : Type 0 where
+  pub none : told_by l a ≡ []
+  pub goes : GoesOn (b.link l) ((entered b a).link l)
+
+-- or it tells the next one
+pub record TellsNext (b : Book) (l : ℕ) (a : Action) : Type 0 where
+  pub push : Heard
+  pub next : next_push (b.link l) ≡ Some push
+  pub one : told_by l a ≡ push.info ∷ []
+  pub told : ((entered b a).link l).told ≡ (b.link l).told + 1
+  pub pushes : ((entered b a).link l).pushes ≡ (b.link l).pushes
+
+-- where it is no push
+no_push : (b : Book) (l : ℕ) (a : Action) → told_by l a ≡ [] → GoesOn (b.link l) ((entered b a).link l) → TellsNothing b l a ⊎ TellsNext b l a
+no_push b l a none goes = inl (record { none = none; goes = goes })
+
+-- a push that tells nothing of link l
+other_push : (b : Book) (l m : ℕ) (info : PushInfo) → ((m == l) && not (is_disconnection info.kind)) ≡ false → TellsNothing b l (action.Push m info)
+other_push b l m info e = record {
+  none = left_if ((m == l) && not (is_disconnection info.kind)) (info ∷ []) [] e;
+  goes = mine_keeps (GoesOn (b.link l)) (m == l) (b.link l) (push_line info.kind)
+      (λ t. chosen (λ x. GoesOn (b.link l) (noted (b.link l) x)) (is_disconnection info.kind) parts tells
+      (λ d. same_pushes (b.link l) _ refl refl)
+      (λ n. absurd (not_both ((m == l) && not (is_disconnection info.kind)) e (ap (λ x. x && not (is_disconnection info.kind)) t ∙ ap (λ x. true && not x) n))))
+      (same_pushes (b.link l) (b.link l) refl refl);
+}
+
+-- the ledger behind a push that is told
+told_ledger : (b : Book) (m l : ℕ) (info : PushInfo) → (m == l) ≡ true → is_disconnection info.kind ≡ false → (entered b (action.Push m info)).link l ≡ noted (b.link l) tells
+told_ledger b m l info mine real =
+    ap (λ t. noted_each (b.link l) (if_mine t (push_line info.kind))) mine ∙ ap (λ t. noted (b.link l) (if t then parts else tells)) real
+
+-- a push that tells one
+one_told : (b : Book) (l m : ℕ) (info : PushInfo) → MayPush b m info → (m == l) ≡ true → is_disconnection info.kind ≡ false → TellsNext b l (action.Push m info)
+one_told b l m info may mine real =
+    let it : MayTellPush b l info = subst (λ j. MayTellPush b j info) (eq_from m l mine) (telling_of b m info real may) in
+    let e = told_ledger b m l info mine real in
+    record {
+      push = it.push;
+      next = it.next;
+      one = taken_if ((m == l) && not (is_disconnection info.kind)) (info ∷ []) [] (ap (λ x. x && not (is_disconnection info.kind)) mine ∙ ap (λ x. true && not x) real) ∙ ap (λ x. x ∷ []) it.says;
+      told = ap (λ (x : Ledger). x.told) e;
+      pushes = ap (λ (x : Ledger). x.pushes) e;
+    }
+
+-- of two that both hold, each does
+both_hold_of : (p q : Bool) → (p && not q) ≡ true → (p ≡ true) × (q ≡ false)
+both_hold_of true false e = (refl, refl)
+both_hold_of true true e = absurd (cc e)
+both_hold_of false q e = absurd (cc e)
+
+-- each action that may stand does one of the two
+step_tells : (b : Book) (l : ℕ) (a : Action) → MayStand b a → TellsNothing b l a ⊎ TellsNext b l a
+step_tells b l (action.Push m info) may = by_test ((m == l) && not (is_disconnection info.kind)) (TellsNothing b l (action.Push m info) ⊎ TellsNext b l (action.Push m info))
+    (λ t. let both = both_hold_of (m == l) (is_disconnection info.kind) t in inr (one_told b l m info may both.0 both.1))
+    (λ f. inl (other_push b l m info f))
+step_tells b l (action.Turn k (cause.Opening config word)) may = no_push b l (action.Turn k (cause.Opening config word)) refl (same_pushes (b.link l) (b.link l) refl refl)
+step_tells b l (action.Turn k (cause.Event e)) may = no_push b l (action.Turn k (cause.Event e)) refl (hears_on (b.link l) k (news_of b.timers l e.kind))
+step_tells b l (action.Connect m host port) may = no_push b l (action.Connect m host port) refl (mine_keeps (GoesOn (b.link l)) (m == l) (b.link l) (asks (info_in b.config)) (λ t. same_pushes (b.link l) _ refl refl) (same_pushes (b.link l) (b.link l) refl refl))
+step_tells b l (action.Timer t ms what) may = no_push b l (action.Timer t ms what) refl (same_pushes (b.link l) (b.link l) refl refl)
+step_tells b l (action.Took who m count) may = no_push b l (action.Took who m count) refl (same_pushes (b.link l) (b.link l) refl refl)
+step_tells b l (action.Close m) may = no_push b l (action.Close m) refl (mine_keeps (GoesOn (b.link l)) (m == l) (b.link l) (ends (b.turns - 1)) (λ t. same_pushes (b.link l) _ refl refl) (same_pushes (b.link l) (b.link l) refl refl))
+step_tells b l (action.Write m bytes) may = no_push b l (action.Write m bytes) refl (mine_keeps (GoesOn (b.link l)) (m == l) (b.link l) (offers bytes) (λ t. same_pushes (b.link l) _ refl refl) (same_pushes (b.link l) (b.link l) refl refl))
+step_tells b l (action.Wait who kind) may = no_push b l (action.Wait who kind) refl (same_pushes (b.link l) (b.link l) refl refl)
+step_tells b l (action.Start m k who count len) may = no_push b l (action.Start m k who count len) refl (mine_keeps (GoesOn (b.link l)) (m == l) (b.link l) (begins (message_of b m who)) (λ t. same_pushes (b.link l) _ refl refl) (same_pushes (b.link l) (b.link l) refl refl))
+step_tells b l (action.Created e) may = no_push b l (action.Created e) refl (same_pushes (b.link l) (b.link l) refl refl)
+step_tells b l (action.Outcome n o) may = no_push b l (action.Outcome n o) refl (same_pushes (b.link l) (b.link l) refl refl)
+
+-- these were told of a link: the first of those that came
+pub record IsSaid (shown : List PushInfo) (l : Ledger) : Type 0 where
+  pub within : l.told ≤ length l.pushes
+  pub said : shown ≡ said_by (take l.told l.pushes)
+
+-- what is said one behind another
+said_more : (hs : List Heard) (h : Heard) → said_by (hs ++ h ∷ []) ≡ said_by hs ++ h.info ∷ []
+said_more [] h = refl
+said_more (x ∷ hs) h = ap (λ (is : List PushInfo). x.info ∷ is) (said_more hs h)
+
+-- the first of a list and the next
+take_next : (hs : List Heard) (k : ℕ) (h : Heard) → slice_get hs k ≡ Some h → take (k + 1) hs ≡ take k hs ++ h ∷ []
+take_next [] k h e = absurd (cc e)
+take_next (x ∷ hs) zero h e = ap (λ (y : Heard). y ∷ []) (same_some x h e)
+take_next (x ∷ hs) (suc k) h e =
+    let one : suc k + 1 ≡ suc (k + 1) = omega arith in
+    ap (λ n. take n (x ∷ hs)) one ∙ ap (λ (ys : List Heard). x ∷ ys) (take_next hs k h e)
+
+-- what stands in a list is within it
+get_within : (hs : List Heard) (k : ℕ) (h : Heard) → slice_get hs k ≡ Some h → k < length hs
+get_within [] k h e = absurd (cc e)
+get_within (x ∷ hs) zero h e = omega arith
+get_within (x ∷ hs) (suc k) h e = omega (arith, get_within hs k h e)
+
+-- where nothing is told
+said_on : (shown : List PushInfo) (l m : Ledger) → GoesOn l m → IsSaid shown l → IsSaid (shown ++ []) m
+said_on shown l m on h = record {
+  within =
+      let i : l.told ≤ length l.pushes = h.within in
+      let e : length m.pushes ≡ length l.pushes + length on.more = ap (λ (hs : List Heard). length hs) on.pushes ∙ length-append l.pushes on.more in
+      let t : m.told ≡ l.told = on.told in omega (arith, i, e, t);
+  said = append-nil shown ∙ (h.said ∙ ap said_by (sym (ap (λ k. take k m.pushes) on.told ∙ (ap (take l.told) on.pushes ∙ take-append-le l.told l.pushes on.more h.within))));
+}
+
+-- where the next one is
+said_next : (shown : List PushInfo) (l m : Ledger) (p : Heard) → next_push l ≡ Some p → m.told ≡ l.told + 1 → m.pushes ≡ l.pushes → IsSaid shown l → IsSaid (shown ++ p.info ∷ []) m
+said_next shown l m p next told pushes h = record {
+  within =
+      let i : l.told < length l.pushes = get_within l.pushes l.told p next in
+      let e : length m.pushes ≡ length l.pushes = ap (λ (hs : List Heard). length hs) pushes in omega (arith, i, e, told);
+  said = ap (λ (is : List PushInfo). is ++ p.info ∷ []) h.said
+      ∙ (sym (said_more (take l.told l.pushes) p) ∙ ap said_by (sym (ap (λ k. take k m.pushes) told ∙ (ap (take (l.told + 1)) pushes ∙ take_next l.pushes l.told p next))));
+}
+
+-- so with each action that may stand
+step_said : (b : Book) (l : ℕ) (shown : List PushInfo) (a : Action) → MayStand b a → IsSaid shown (b.link l) → IsSaid (shown ++ told_by l a) ((entered b a).link l)
+step_said b l shown a may h = elim (step_tells b l a may) [
+  | inl nothing ↦ subst (λ (is : List PushInfo). IsSaid (shown ++ is) ((entered b a).link l)) (sym nothing.none) (said_on shown (b.link l) ((entered b a).link l) nothing.goes h)
+  | inr next ↦ subst (λ (is : List PushInfo). IsSaid (shown ++ is) ((entered b a).link l)) (sym next.one) (said_next shown (b.link l) ((entered b a).link l) next.push next.next next.told next.pushes h)
+]
+
+-- and with many
+each_said : (b : Book) (l : ℕ) (shown : List PushInfo) (trace : List Action) → AllStand b trace → IsSaid shown (b.link l) → IsSaid (shown ++ pushes_told l trace) ((entered_each b trace).link l)
+each_said b l shown [] all h = subst (λ (is : List PushInfo). IsSaid is (b.link l)) (sym (append-nil shown)) h
+each_said b l shown (a ∷ more) all h =
+    subst (λ (is : List PushInfo). IsSaid is ((entered_each (entered b a) more).link l)) (append_assoc shown (told_by l a) (pushes_told l more))
+    (each_said (entered b a) l (shown ++ told_by l a) more all.1 (step_said b l shown a all.0 h))
+
+-- a list of which no more stands is taken whole
+take_whole : (hs : List Heard) (k : ℕ) → slice_get hs k ≡ None → take k hs ≡ hs
+take_whole [] zero e = refl
+take_whole [] (suc k) e = refl
+take_whole (x ∷ hs) zero e = absurd (cc e)
+take_whole (x ∷ hs) (suc k) e = ap (λ (ys : List Heard). x ∷ ys) (take_whole hs k e)
+
+-- where none waits, all that came were told
+pub all_said : (l : ℕ) (front : List Action) → AllStand blank_book front → next_push ((book front).link l) ≡ None → pushes_told l front ≡ said_by ((book front).link l).pushes
+unfolding book
+all_said l front all none =
+    let h = each_said blank_book l [] front all (record { within = omega arith; said = refl }) in
+    h.said ∙ ap said_by (take_whole ((book front).link l).pushes ((book front).link l).told none)
+
+-- a push comes behind the opening
+push_later : (disconnects : Bool) → 0 < push_rank disconnects
+push_later false = omega arith
+push_later true = omega arith
+
+-- so a turn began before it
+pub push_began : (b : Book) (l : ℕ) (info : PushInfo) → Sound b → MayPush b l info → b.turns ≢ 0
+push_began b l info sound may = step_of b 0 (rank b (action.Push l info) may) (push_later (is_disconnection info.kind)) (reached b (action.Push l info) may sound)
+
+-- and somebody hears it
+heard_by : (b : Book) (l : ℕ) (info : PushInfo) (disconnects : Bool) → MayPushBy disconnects b l info → is_heard b ≡ true
+heard_by b l info true may = may.heard
+heard_by b l info false may = may.heard
+
+pub push_is_heard : (b : Book) (l : ℕ) (info : PushInfo) → MayPush b l info → is_heard b ≡ true
+push_is_heard b l info may = heard_by b l info (is_disconnection info.kind) may
+
+-- a turn that is over is settled
+settled_whole : (config : Config) (word : ℕ) (events : List Event) (front more : List Action) → Legal config word events (front ++ more) → IsWhole more → IsSettled (book front)
+settled_whole config word events front [] h whole = subst (λ t. IsSettled (book t)) (append-nil front) h.settled
+settled_whole config word events front (action.Turn k (cause.Event e) ∷ more) h whole = (next_may config word events front more (action.Turn k (cause.Event e)) h).is_for.1
+settled_whole config word events front (action.Turn k (cause.Opening c w) ∷ more) h whole = absurd whole
+settled_whole config word events front (action.Connect l host port ∷ more) h whole = absurd whole
+settled_whole config word events front (action.Timer t ms what ∷ more) h whole = absurd whole
+settled_whole config word events front (action.Took who l count ∷ more) h whole = absurd whole
+settled_whole config word events front (action.Push l info ∷ more) h whole = absurd whole
+settled_whole config word events front (action.Close l ∷ more) h whole = absurd whole
+settled_whole config word events front (action.Write l bytes ∷ more) h whole = absurd whole
+settled_whole config word events front (action.Wait who kind ∷ more) h whole = absurd whole
+settled_whole config word events front (action.Start l k who count len ∷ more) h whole = absurd whole
+settled_whole config word events front (action.Created e ∷ more) h whole = absurd whole
+settled_whole config word events front (action.Outcome n o ∷ more) h whole = absurd whole
+
+-- the front of a legal trace
+pub front_stands : (config : Config) (word : ℕ) (events : List Event) (front more : List Action) → Legal config word events (front ++ more) → AllStand blank_book front
+front_stands config word events front more h = stand_front blank_book front more h.each
+
+-- so a legal trace tells its pushes
+pub tells_pushes : (config : Config) (word : ℕ) (events : List Event) (trace : List Action) → Legal config word events trace → TellsPushes config trace
+tells_pushes config word events trace h = record {
+  none = λ deaf front more l info is.
+      let legal : Legal config word events (front ++ action.Push l info ∷ more) = subst (Legal config word events) is h in
+      let ready = ready_behind config word events front (action.Push l info ∷ more) legal in
+      let may = next_may config word events front more (action.Push l info) legal in
+      not_both (hears_pushes config) deaf (sym (ap is_heard_in (ready.configured (push_began (book front) l info ready.sound may))) ∙ push_is_heard (book front) l info may);
+  each = λ hears front more l is whole.
+      let legal : Legal config word events (front ++ more) = subst (Legal config word events) is h in
+      let ready = ready_behind config word events front more legal in
+      let settled = settled_whole config word events front more legal whole in
+      let done = settled.written.moved.begun.applied in
+      let heard : is_heard (book front) ≡ true = ap is_heard_in (ready.configured (applied_began (book front) ready.sound done)) ∙ hears in
+      all_said l front (front_stands config word events front more legal) (done.pushed l heard);
+}

@@ -1,0 +1,125 @@
+-- What a push that is told does to ledgers, and where pushes wait that aren't told.
+use Rattle.std.proofs.Common.{◌≡◌, ℕ, zero, suc, ◌+◌, ◌≤◌, ◌==◌, ◌-◌, Bool, true, false, List, [], ◌∷◌, ◌++◌, take, Option, Some, None, is_some, if◌then◌else◌, refl, ap, subst, arith}
+use Rattle.std.specs.Prelude.{slice_get}
+use Rattle.containers.proofs.Choices.{chosen}
+use Rattle.redis_error.specs.declared.redis_error.RedisError.TheVariants as error
+use Rattle.driver_model.specs.Push.{is_disconnection}
+use Rattle.driver_model.specs.declared.push_info.PushInfo.{PushInfo}
+use Rattle.driver_model.specs.declared.action.Action.{Action}
+use Rattle.driver_model.specs.declared.action.Action.TheVariants as action
+use Rattle.driver_model.specs.declared.action.Cause.TheVariants as cause
+use Rattle.driver_model.specs.declared.action.Owner.TheVariants as owner
+use Rattle.driver_model.specs.declared.event.EventKind.{EventKind}
+use Rattle.driver_model.specs.declared.event.EventKind.TheVariants as event
+use Rattle.driver_model.specs.News.{News, silence, connected, refused, overdue, took, came, failed, shut, news_of}
+use Rattle.legal_trace.specs.Ledger.{Ledger, Heard, asks, begins, offers, tells, ends, parts, noted, with_news, refused_in, bytes_came, is_over, dials, next_push, MayNote}
+use Rattle.legal_trace.specs.Story.{Story, is_open, handed_in, left, holds, clocked, fires, tried, waits, answered}
+use Rattle.legal_trace.specs.Book.{Book, entered, push_line, info_in, message_of, current, is_clock_of, after_event, is_unspoken}
+use Rattle.legal_trace.specs.Legal.{MayStand, MayPush, MayPushBy, is_heard}
+use Rattle.legal_trace.proofs.Ledgers.{mine_keeps}
+use Rattle.legal_trace.proofs.Plain.{not_none}
+use Rattle.legal_laws.proofs.Opens.{StillAtFirst}
+use Rattle.legal_laws.proofs.Pushed.{push_keeps}
+
+-- a push that may be told is a line that may stand
+push_may_by : (b : Book) (l : ℕ) (info : PushInfo) (disconnects : Bool) → MayPushBy disconnects b l info → MayNote (b.link l) (if disconnects then parts else tells)
+push_may_by b l info true may = (may.ended, may.once)
+push_may_by b l info false may = ap is_some may.next
+
+pub push_may : (b : Book) (l : ℕ) (info : PushInfo) → MayPush b l info → MayNote (b.link l) (push_line info.kind)
+push_may b l info may = push_may_by b l info (is_disconnection info.kind) may
+
+-- what is never some is none
+pub none_unless : {X : Type 0} (o : Option X) → ((x : X) → o ≡ Some x → ⊥) → o ≡ None
+none_unless None never = refl
+none_unless (Some x) never = absurd (never x refl)
+
+-- where one of a list stands, so does the one before it
+one_before : (hs : List Heard) (k : ℕ) (h : Heard) → slice_get hs (k + 1) ≡ Some h → (g : Heard) × (slice_get hs k ≡ Some g)
+one_before [] k h e = absurd (cc e)
+one_before (x ∷ hs) zero h e = (x, refl)
+one_before (x ∷ hs) (suc k) h e = let more : suc k + 1 ≡ suc (k + 1) = omega arith in one_before hs k h (subst (λ n. slice_get (x ∷ hs) n ≡ Some h) more e)
+
+-- a link on which a push waits is up
+abbrev pub Waits : Ledger → Type 0
+Waits l = (p : Heard) → next_push l ≡ Some p → l.up ≡ true
+
+-- so with any news
+waits_hears : (l : Ledger) (turn : ℕ) (news : News) → Waits l → Waits (with_news l turn news)
+waits_hears l turn silence h = h
+waits_hears l turn connected h = chosen Waits (is_over l) l (record l { up = true }) (λ t. h) (λ e p next. refl)
+waits_hears l turn (refused f) h = chosen Waits (dials l) (refused_in l turn (error.Io f)) l (λ t. h) (λ e. h)
+waits_hears l turn overdue h = h
+waits_hears l turn (took count) h = chosen Waits l.up (record l { taken = l.taken ++ take count l.offer; offer = [] }) l (λ t. h) (λ e. h)
+waits_hears l turn (came piece) h = chosen Waits l.up (bytes_came l piece) l (λ t p next. t) (λ e. h)
+waits_hears l turn (failed f) h = h
+waits_hears l turn shut h = h
+
+-- and where one is told
+waits_tells : (l : Ledger) → Waits l → Waits (noted l tells)
+waits_tells l h p next = let first = one_before l.pushes l.told p next in h first.0 first.1
+
+-- so of each link, where somebody hears pushes
+abbrev pub PushesWait : Book → Type 0
+PushesWait b = (l : ℕ) → is_heard b ≡ true → Waits (b.link l)
+
+-- each action that may stand keeps it
+pub waits_kept : (b : Book) (a : Action) → MayStand b a → StillAtFirst b.turns b.link → PushesWait b → PushesWait (entered b a)
+waits_kept b (action.Turn k (cause.Opening config word)) may still h = λ l heard p next.
+    let none : b.turns ≡ 0 = may.is_for in
+    absurd (not_none (next_push (b.link l)) p (ap (λ (hs : List Heard). slice_get hs (b.link l).told) (still (omega (arith, none)) l).mute) next)
+waits_kept b (action.Turn k (cause.Event e)) may still h = λ l heard. waits_hears (b.link l) k (news_of b.timers l e.kind) (h l heard)
+waits_kept b (action.Connect m host port) may still h = λ l heard. mine_keeps Waits (m == l) (b.link l) (asks (info_in b.config)) (λ t. h l heard) (h l heard)
+waits_kept b (action.Timer t ms what) may still h = h
+waits_kept b (action.Took owner.Setup m count) may still h = absurd may
+waits_kept b (action.Took (owner.Try n round) m count) may still h = h
+waits_kept b (action.Push m info) may still h = λ l heard. push_keeps Waits (m == l) info.kind (b.link l) (waits_tells (b.link l) (h l heard)) (h l heard) (h l heard)
+waits_kept b (action.Close m) may still h = λ l heard. mine_keeps Waits (m == l) (b.link l) (ends (b.turns - 1)) (λ t p next. absurd (not_none (next_push (b.link l)) p (may.pushed l heard) next)) (h l heard)
+waits_kept b (action.Write m bytes) may still h = λ l heard. mine_keeps Waits (m == l) (b.link l) (offers bytes) (λ t. h l heard) (h l heard)
+waits_kept b (action.Wait owner.Setup kind) may still h = absurd may
+waits_kept b (action.Wait (owner.Try n round) kind) may still h = h
+waits_kept b (action.Start m k owner.Setup count len) may still h = λ l heard. mine_keeps Waits (m == l) (b.link l) (begins (message_of b m owner.Setup)) (λ t. h l heard) (h l heard)
+waits_kept b (action.Start m k (owner.Try n round) count len) may still h = λ l heard. mine_keeps Waits (m == l) (b.link l) (begins (message_of b m (owner.Try n round))) (λ t. h l heard) (h l heard)
+waits_kept b (action.Created e) may still h = h
+waits_kept b (action.Outcome n o) may still h = h
+
+-- each submission goes to the only link
+abbrev pub GoToOne : Book → Type 0
+GoToOne b = (n : ℕ) → (b.story n).link ≡ 0
+
+-- it goes to that link
+abbrev OnFirst : Story → Type 0
+OnFirst s = s.link ≡ 0
+
+-- so it does behind an event
+event_goes : (b : Book) (n : ℕ) (kind : EventKind) → b.links ≤ 1 → OnFirst (b.story n) → OnFirst (after_event b n kind)
+event_goes b n (event.Submit what) one h = chosen OnFirst (b.submissions == n) (handed_in (b.story n) what b.shut (is_unspoken b what) (current b) b.timeout) (b.story n) (λ t. omega (arith, one)) (λ f. h)
+event_goes b n (event.Cancel m) one h = chosen OnFirst (m == n) (left (b.story n)) (b.story n) (λ t. chosen OnFirst (is_open (b.story n)) (record (b.story n) { cancelled = true; permits = 0; waiting = None }) (b.story n) (λ o. h) (λ o. h)) (λ f. h)
+event_goes b n (event.Fired t) one h = chosen OnFirst (is_clock_of n (slice_get b.timers t)) (fires (b.story n)) (b.story n) (λ e. chosen OnFirst (is_open (b.story n)) (record (b.story n) { overdue = true }) (b.story n) (λ o. h) (λ o. h)) (λ f. h)
+event_goes b n (event.Connected l) one h = h
+event_goes b n (event.Refused l f) one h = h
+event_goes b n (event.Wrote l count) one h = h
+event_goes b n (event.Bytes l piece) one h = h
+event_goes b n (event.Ended l) one h = h
+event_goes b n (event.ReadFault l kind) one h = h
+event_goes b n (event.WriteFault l kind) one h = h
+event_goes b n (event.Timeout ms) one h = h
+event_goes b n event.Shutdown one h = h
+
+-- and behind each action
+pub goes_kept : (b : Book) (a : Action) → b.links ≤ 1 → GoToOne b → GoToOne (entered b a)
+goes_kept b (action.Turn k (cause.Opening config word)) one h n = h n
+goes_kept b (action.Turn k (cause.Event e)) one h n = event_goes b n e.kind one (h n)
+goes_kept b (action.Connect m host port) one h n = h n
+goes_kept b (action.Timer t ms what) one h n = chosen OnFirst (is_clock_of n (Some what)) (clocked (b.story n) t) (b.story n) (λ e. h n) (λ f. h n)
+goes_kept b (action.Took owner.Setup m count) one h n = h n
+goes_kept b (action.Took (owner.Try i round) m count) one h n = chosen OnFirst (i == n) (holds (b.story n) count) (b.story n) (λ e. h n) (λ f. h n)
+goes_kept b (action.Push m info) one h n = h n
+goes_kept b (action.Close m) one h n = h n
+goes_kept b (action.Write m bytes) one h n = h n
+goes_kept b (action.Wait owner.Setup kind) one h n = h n
+goes_kept b (action.Wait (owner.Try i round) kind) one h n = chosen OnFirst (i == n) (waits (b.story n) kind) (b.story n) (λ e. h n) (λ f. h n)
+goes_kept b (action.Start m k owner.Setup count len) one h n = h n
+goes_kept b (action.Start m k (owner.Try i round) count len) one h n = chosen OnFirst (i == n) (tried (b.story n) m k) (b.story n) (λ e. h n) (λ f. h n)
+goes_kept b (action.Created e) one h n = h n
+goes_kept b (action.Outcome i o) one h n = chosen OnFirst (i == n) (answered (b.story n) o) (b.story n) (λ e. h n) (λ f. h n)

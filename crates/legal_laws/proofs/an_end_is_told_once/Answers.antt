@@ -1,0 +1,5 @@
+use Rattle.legal_laws.proofs.Parted.{tells_ends}
+use Rattle.legal_laws.proofs.an_end_is_told_once.Goals as goal
+
+pub returns : goal.returns
+returns c = tells_ends
