@@ -6,6 +6,8 @@ mod callers;
 #[cfg(test)]
 mod meetings;
 #[cfg(test)]
+mod pushes;
+#[cfg(test)]
 mod sessions;
 #[cfg(test)]
 mod threads;
