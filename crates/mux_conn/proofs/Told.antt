@@ -51,7 +51,7 @@ told_first w v p ps left all is behind same ready tells =
 
 -- none is told where it isn't set up, or where none is left
 pub unheard : (w : Work) (ps : List PushAt) → is_ready w.conn.life ≡ false → w ≡ heard_on w ps
-unheard w ps no = sym (left_if (is_ready w.conn.life) (pushed_each w ps) w no)
+unheard w ps early = sym (left_if (is_ready w.conn.life) (pushed_each w ps) w early)
 
 heard_none : (b : Bool) (w : Work) → w ≡ (if b then w else w)
 heard_none true w = refl
