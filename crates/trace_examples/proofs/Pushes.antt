@@ -33,7 +33,7 @@ use Rattle.trace_examples.proofs.Due.{IsPlace, legal, stands}
 use Rattle.trace_examples.proofs.Called.{third_server, at_third}
 use Rattle.trace_examples.proofs.Stood.{book_of, may_stand, answer}
 
--- whether pushes are heard, it is the server that speaks the third protocol
+-- where pushes are heard the opening asks for the server that speaks the third protocol
 is_heard_server : address heard ≡ Some third_server
 unfolding url_on_literals utf8_lossy utf8_valid_len
 is_heard_server = refl
@@ -41,7 +41,7 @@ is_heard_server = refl
 at_heard : IsPlace heard (codes "h") 6379
 at_heard = record { sound = ap (λ a. fault_in a true None 50) is_heard_server; info = third_server; configured = is_heard_server; is = (refl, refl) }
 
--- or not
+-- and so it does where they aren't
 at_unheard : IsPlace unheard (codes "h") 6379
 at_unheard = at_third
 

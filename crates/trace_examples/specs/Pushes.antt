@@ -16,7 +16,7 @@ use Rattle.driver_model.specs.declared.outcome.Outcome.TheVariants as outcome
 use Rattle.driver_model.specs.declared.push_info.PushInfo.{PushInfo}
 use Rattle.driver_model.specs.Request.{packed_bytes}
 use Rattle.trace_examples.specs.Parts.{turn, reply}
-use Rattle.trace_examples.specs.Traces.{opening}
+use Rattle.trace_examples.specs.Setups.{setup_sent}
 use Rattle.trace_examples.specs.Calls.{of_third, hello_line, hello_well, confirmation}
 
 -- the third protocol, and somebody hears the pushes that come, or nothing is said of that
@@ -60,7 +60,7 @@ disconnection = record { kind = Disconnection; parts = [] }
 
 -- the setup is under way
 abbrev pub greeting : Config → ℕ → List Action
-greeting config word = opening config word ++ turn 1 (event.Connected 0) ∷ action.Start 0 0 owner.Setup 1 22 ∷ action.Write 0 hello_line ∷ []
+greeting config word = setup_sent config word 1 22 hello_line
 
 -- a push comes before it is answered
 abbrev pub pushed_early : Config → ℕ → List Action
