@@ -166,7 +166,9 @@ no_end_told word events after h = let m = may_stand heard word events (confirmed
 -- an end that is told twice
 pub end_told_twice : NoneBeginsIn heard end_told (action.Push 0 disconnection)
 unfolding digits items values left_over max_depth url_on_literals utf8_lossy utf8_valid_len
-end_told_twice word events after h = let m = may_stand heard word events (end_told heard word) after (action.Push 0 disconnection) h in cc m.once
+end_told_twice word events after h =
+    let m = may_stand heard word events (end_told heard word) after (action.Push 0 disconnection) h in
+    let x : true ≡ false = m.once in cc x
 
 -- an outcome that the end gives, before it is told
 pub answered_before_the_end : (o : Outcome) → NoneBeginsIn heard cut_off_asked (action.Outcome 0 o)
