@@ -38,7 +38,7 @@ use Rattle.session_laws.proofs.InLine.{kept_ids, kept_in, line_of, IsInLine, awa
 use Rattle.session_laws.proofs.Owes.{in_time, none_owed, in_line, later_unstarted, owed_none_started, settled_owed, pushes_told, lives}
 use Rattle.session_laws.proofs.Kept.{mine_noted, others_kept, tied_by}
 use Rattle.session_laws.proofs.Answer.{unknown_ends, after_end}
-use Rattle.session_laws.proofs.Settle.{book_of_more, seen, trace_of_acts, Holds, holds_more, IsAnswering, answering, IsDue, IsDueError, settled_holds, failed_holds, Leaves, leaves_on, settled_leaves, failed_leaves, Parts, sound_told}
+use Rattle.session_laws.proofs.Settle.{book_of_more, seen, trace_of_acts, Holds, IsAnswering, answering, IsDue, IsDueError, settled_holds, failed_holds, Leaves, leaves_on, settled_leaves, failed_leaves, Parts, sound_told}
 use Rattle.containers.proofs.Choices.{not_both, chosen}
 use Rattle.driver_model.specs.declared.push_info.PushInfo.{PushInfo}
 use Rattle.resp_value.specs.declared.push_kind.PushKind.TheVariants.{Disconnection}

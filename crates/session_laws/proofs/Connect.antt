@@ -43,7 +43,7 @@ use Rattle.session_laws.proofs.Failing.{IsFailing, failing_applied}
 use Rattle.session_laws.proofs.States.{IsFit, Between, HasApplied}
 use Rattle.session_laws.proofs.Entered.{all_stand-append, book_more, sound_more, shown_more}
 use Rattle.session_laws.proofs.Owes.{none_owed}
-use Rattle.session_laws.proofs.Settle.{seen, trace_of_acts, Holds, book_of_more, Tells}
+use Rattle.session_laws.proofs.Settle.{seen, trace_of_acts, book_of_more, Tells}
 use Rattle.session_laws.proofs.InLine.{kept_ids}
 use Rattle.session_laws.proofs.Numbers.{IsIn, Rising, rising_right}
 use Rattle.session_laws.proofs.Announce.{turn_of, turned, IsNewsKind, heard_book, heard_is, heard_starts, heard_tied, may_turn}

@@ -1,7 +1,7 @@
 -- Bytes come: what they settle is answered, and bytes that begin no value end the link.
-use Rattle.std.proofs.Common.{◌≡◌, inl, inr, ℕ, Bool, true, false, List, [], ◌∷◌, ◌++◌, length, Some, None, if◌then◌else◌, refl, sym, ap, ◌∙◌, subst, append_assoc, arith, suc, ◌+◌, ◌≤◌, length-append, slice_get, drop}
+use Rattle.std.proofs.Common.{◌≡◌, inl, inr, ℕ, Bool, true, false, List, [], ◌∷◌, ◌++◌, length, Some, None, if◌then◌else◌, refl, sym, ap, ◌∙◌, subst, append_assoc, arith}
 use Rattle.std.specs.List.{AllByRecursion}
-use Rattle.std.proofs.lemmas.List.{append-nil, drop-append-le}
+use Rattle.std.proofs.lemmas.List.{append-nil}
 use Rattle.containers.proofs.Choices.{chosen, taken_if, left_if, not_both}
 use Rattle.redis_error.specs.declared.redis_error.RedisError.TheVariants as error
 use Rattle.resp_value.specs.Data.{Data}
@@ -26,7 +26,7 @@ use Rattle.mux_conn.specs.declared.request.Request.{Request}
 use Rattle.mux_conn.specs.declared.request.Waiting.{Waiting}
 use Rattle.mux_conn.specs.Connection.{Work}
 use Rattle.mux_conn.specs.Requests.{is_open_at, name_at}
-use Rattle.mux_conn.specs.Effects.{settled_each, failed_at, read_to, read_at, read_setup, told_each}
+use Rattle.mux_conn.specs.Effects.{failed_at, read_to, read_at, read_setup, told_each}
 use Rattle.shared_session.specs.declared.core_state.Core.{Core}
 use Rattle.shared_session.specs.Turn.{with_work, is_bad}
 use Rattle.legal_trace.specs.Ledger.{Ledger, by_fault, ending, is_set_up, Heard, heard_each, hears, noted}
@@ -34,24 +34,23 @@ use Rattle.legal_trace.specs.Story.{Story}
 use Rattle.legal_trace.specs.Book.{Book, book, entered}
 use Rattle.legal_trace.specs.Owed.{owed}
 use Rattle.session_laws.proofs.Numbers.{IsIn, Rising}
-use Rattle.session_laws.proofs.Tied.{inner, link_in, owner_of, queue_ids, IsEntry, TiedLife, TiedLines, TiedSetup, AreQueued, TiedWaits, has_ended, Tied, TiedPushes, Sound}
+use Rattle.session_laws.proofs.Tied.{inner, link_in, owner_of, queue_ids, IsEntry, TiedLines, TiedSetup, AreQueued, TiedWaits, has_ended, Tied, Sound}
 use Rattle.session_laws.proofs.SetUp.{set_up_hears}
 use Rattle.legal_trace.proofs.Setups.{ends_where_set}
 use Rattle.session_laws.proofs.ReadSetup.{dealt_all, setup_read, all_heard, fit_by, heard_pushes}
-use Rattle.session_laws.proofs.States.{IsFit, IsFitIn, Between, HasApplied}
+use Rattle.session_laws.proofs.States.{IsFit, Between, HasApplied}
 use Rattle.session_laws.proofs.InLine.{kept_ids, IsInLine}
 use Rattle.session_laws.proofs.Owes.{in_line}
-use Rattle.session_laws.proofs.Settle.{seen, trace_of_acts, Holds, IsAnswering, answering, settled_holds, settled_leaves, IsDue, Tells}
-use Rattle.session_laws.proofs.Close.{AreInTime, are_in_time, HasEnded, pending_due, ended_moved, ended_applied, parted_moved}
+use Rattle.session_laws.proofs.Settle.{seen, trace_of_acts, IsDue, Tells}
+use Rattle.session_laws.proofs.Close.{AreInTime, are_in_time, HasEnded, pending_due, ended_applied, parted_moved}
 use Rattle.session_laws.proofs.Announce.{turn_of, turned, IsNewsKind, announced_sound, first_book, heard_book, heard_is as turn_is, heard_tied}
-use Rattle.session_laws.proofs.Heard.{heard_by, lives_as, none_ends, Begins, heard_begins, ended_quiet, dialing_quiet, book_kind, book_news}
+use Rattle.session_laws.proofs.Heard.{heard_by, lives_as, none_ends, ended_quiet, dialing_quiet, book_kind, book_news}
 use Rattle.session_laws.proofs.End.{up_tied, fault_ends}
 use Rattle.session_laws.proofs.Took.{queue_waits}
 use Rattle.legal_trace.specs.Legal.{is_heard}
-use Rattle.session_laws.proofs.Said.{PushesOf}
 use Rattle.session_laws.proofs.Told.{retells, well_told}
-use Rattle.session_laws.proofs.Telling.{IsHeard, IsTelling, telling, told_holds, told_leaves, unheard_holds}
-use Rattle.link_laws.proofs.Pushes.{heard_kind, heard_within, pushes_say, set_stays, settles_apart}
+use Rattle.session_laws.proofs.Telling.{IsTelling, telling, told_holds, told_leaves, unheard_holds}
+use Rattle.link_laws.proofs.Pushes.{pushes_say, set_stays, settles_apart}
 use Rattle.link_core.specs.declared.message.PushAt.{PushAt}
 use Rattle.link_core.specs.declared.message.Settled.{Settled}
 

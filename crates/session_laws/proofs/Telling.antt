@@ -1,5 +1,5 @@
 -- The pushes that came are told, each behind as many of the messages that were settled as it came behind.
-use Rattle.std.proofs.Common.{◌≡◌, ◌≢◌, inl, inr, ℕ, zero, suc, ◌+◌, ◌<◌, ◌≤◌, ◌==◌, nat_le, nat_lt, Bool, true, false, if◌then◌else◌, List, [], ◌∷◌, ◌++◌, length, drop, Option, Some, None, slice_get, refl, sym, ap, ◌∙◌, subst, arith}
+use Rattle.std.proofs.Common.{◌≡◌, inl, inr, ℕ, zero, suc, ◌+◌, ◌<◌, ◌≤◌, ◌==◌, nat_le, nat_lt, Bool, true, false, if◌then◌else◌, List, [], ◌∷◌, ◌++◌, length, drop, Option, Some, None, slice_get, refl, sym, ap, ◌∙◌, subst, arith}
 use Rattle.std.specs.List.{AllByRecursion}
 use Rattle.containers.proofs.Choices.{by_test, chosen, le_from, le_test, lt_from, not_both, not_le_from, not_lt_from}
 use Rattle.driver_model.specs.declared.action.Action.{Action}
@@ -12,14 +12,14 @@ use Rattle.driver_model.specs.Push.{is_disconnection}
 use Rattle.driver_model.specs.Shape.{outcome_of}
 use Rattle.link_core.specs.declared.message.PushAt.{PushAt}
 use Rattle.link_core.specs.declared.message.Settled.{Settled}
-use Rattle.link_laws.specs.Pushes.{AreApart, IsApart, SayTheSame}
+use Rattle.link_laws.specs.Pushes.{AreApart, SayTheSame}
 use Rattle.link_laws.specs.Settles.{StandsAs, settled_ids, wanted, awaited_ids}
 use Rattle.link_laws.proofs.Started.{row_open}
 use Rattle.mux_conn.specs.declared.act.LinkAct.TheVariants as act
 use Rattle.mux_conn.specs.declared.request.Progress.TheVariants as progress
 use Rattle.mux_conn.specs.declared.request.Request.{Request}
 use Rattle.mux_conn.specs.Connection.{Work}
-use Rattle.mux_conn.specs.Effects.{pushed, pushed_each, settled_each, told_each}
+use Rattle.mux_conn.specs.Effects.{pushed, settled_each, told_each}
 use Rattle.mux_conn.specs.Requests.{answered, closed, is_open, is_open_at, name_at}
 use Rattle.shared_session.specs.declared.core_state.Core.{Core}
 use Rattle.redis_error.specs.declared.fault_kind.FaultKind.TheVariants as kinds
@@ -30,18 +30,18 @@ use Rattle.legal_trace.specs.Ledger.{Ledger, Heard, Line, is_full, is_full_by, n
 use Rattle.legal_trace.specs.Story.{Story, Try, bytes_of, last_of, shape}
 use Rattle.legal_trace.specs.Book.{Book, book, entered, if_mine}
 use Rattle.legal_trace.specs.Owed.{owed, owed_to_message, owed_to_try, owed_unstarted}
-use Rattle.legal_trace.specs.Legal.{IsBefore, IsOpen, MayPush, MayPushBy, MayTellPush, is_heard}
+use Rattle.legal_trace.specs.Legal.{IsBefore, IsOpen, MayPush, MayPushBy}
 use Rattle.session_laws.proofs.Numbers.{IsIn, Rising, in_either, in_left, in_right}
 use Rattle.session_laws.proofs.Tied.{Inner, Tied, has_ended, link_in, owner_of, queue_ids}
 use Rattle.session_laws.proofs.Said.{ready_shown}
 use Rattle.session_laws.proofs.Names.{length_with, name_with, open_within, with_then}
 use Rattle.session_laws.proofs.InLine.{IsInLine, awaited_in, kept_ids, kept_in, line_of, wanted_in}
-use Rattle.session_laws.proofs.Owes.{later_unstarted, lives, open_request, row_link, stands_started, wanted_entry}
+use Rattle.session_laws.proofs.Owes.{lives, open_request, row_link, stands_started, wanted_entry}
 use Rattle.session_laws.proofs.Ahead.{later_untried}
 use Rattle.session_laws.proofs.Answer.{answer_tied, owed_still, skip_tied}
 use Rattle.session_laws.proofs.Told.{push_tied, retells}
 use Rattle.session_laws.proofs.Kept.{mine_noted}
-use Rattle.session_laws.proofs.Settle.{IsAnswering, IsDue, Tells, answered_leaves, book_of_more, first_may, leaves_all, leaves_on, Leaves, rest_in_line, seen, settled_holds, settled_leaves, sound_told, trace_of_acts}
+use Rattle.session_laws.proofs.Settle.{IsDue, Tells, answered_leaves, book_of_more, first_may, leaves_all, leaves_on, Leaves, rest_in_line, seen, settled_holds, settled_leaves, sound_told, trace_of_acts}
 
 -- the first of what is behind so many
 --

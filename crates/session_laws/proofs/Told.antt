@@ -1,7 +1,6 @@
 -- One push is told of a link, or its end is: what this leaves as it is.
-use Rattle.std.proofs.Common.{◌≡◌, inl, inr, ℕ, zero, suc, Bool, true, false, if◌then◌else◌, List, [], ◌∷◌, Option, Some, None, refl, sym, ap, ◌∙◌, subst}
+use Rattle.std.proofs.Common.{◌≡◌, inl, inr, ℕ, zero, suc, Bool, if◌then◌else◌, List, [], ◌∷◌, Some, refl, ap, ◌∙◌}
 use Rattle.std.specs.List.{AllByRecursion}
-use Rattle.connection_info.specs.declared.address.RedisConnectionInfo.{RedisConnectionInfo}
 use Rattle.connection_setup.specs.declared.judgement.SetupResult.TheVariants.{Ready as Well}
 use Rattle.driver_model.specs.declared.action.Action.TheVariants as action
 use Rattle.driver_model.specs.declared.action.Owner.{Owner}
@@ -13,11 +12,11 @@ use Rattle.link_laws.specs.Settles.{IsOwed}
 use Rattle.link_laws.proofs.TiedLink.{TiedLink}
 use Rattle.mux_conn.specs.declared.life.Life.{Life}
 use Rattle.mux_conn.specs.declared.life.Life.TheVariants.{Dialing, SettingUp, Ready, Ended}
-use Rattle.legal_trace.specs.Ledger.{Ledger, Heard, noted, is_well, is_set_up, last_result, setup_after, setup_count, setup_result, setup_steps}
+use Rattle.legal_trace.specs.Ledger.{Ledger, Heard, noted, is_well, is_set_up, last_result, setup_after, setup_count, setup_steps}
 use Rattle.legal_trace.specs.Book.{Book, entered, push_line}
 use Rattle.legal_trace.specs.Legal.{is_heard}
 use Rattle.session_laws.proofs.Kept.{mine_noted, others_kept, tied_by}
-use Rattle.session_laws.proofs.Tied.{Inner, HasSaid, Tied, TiedLife, TiedPushes, TiedSetup, carried, numbers_kept, whole_link}
+use Rattle.session_laws.proofs.Tied.{Inner, HasSaid, Tied, TiedLife, TiedPushes, carried, whole_link}
 
 -- a ledger of which so many pushes were told, and its end or not
 abbrev pub retells : Ledger → ℕ → Bool → Ledger

@@ -1,5 +1,5 @@
 -- Subscription calls: traces that can be relied on, and an answer that comes too early.
-use Rattle.std.proofs.Common.{◌≡◌, ℕ, false, List, [], ◌∷◌, Some, None, codes, pos, refl}
+use Rattle.std.proofs.Common.{◌≡◌, false, [], ◌∷◌, Some, None, codes, pos, refl}
 use Rattle.std.specs.Fmt.{digits}
 use Rattle.std.specs.Str.Lossy.{utf8_lossy, utf8_valid_len}
 use Rattle.url.proofs.OnLiterals.{url_on_literals}
@@ -25,7 +25,7 @@ use Rattle.trace_examples.proofs.Setups.{at_url}
 use Rattle.trace_examples.proofs.Stood.{answer}
 
 -- the server that speaks the third protocol
-abbrev third_server : ConnectionInfo
+abbrev pub third_server : ConnectionInfo
 third_server = record {
   host = codes "h";
   port = 6379;
@@ -36,7 +36,7 @@ is_third : address of_third ≡ Some third_server
 unfolding url_on_literals utf8_lossy utf8_valid_len
 is_third = refl
 
-at_third : IsPlace of_third (codes "h") 6379
+pub at_third : IsPlace of_third (codes "h") 6379
 at_third = at_url (codes "redis://h:6379/?protocol=3") (Some None) (Some false) third_server is_third
 
 -- the call is confirmed

@@ -1,5 +1,5 @@
 -- Pushes: traces that can be relied on, and pushes that stand where they may not.
-use Rattle.std.proofs.Common.{◌≡◌, ℕ, Bool, true, false, [], ◌∷◌, Option, Some, None, codes, pos, refl, sym, ap, subst}
+use Rattle.std.proofs.Common.{◌≡◌, ℕ, Bool, true, false, [], ◌∷◌, Some, None, codes, refl, sym, ap, subst}
 use Rattle.std.specs.Fmt.{digits}
 use Rattle.std.specs.Str.Lossy.{utf8_lossy, utf8_valid_len}
 use Rattle.url.proofs.OnLiterals.{url_on_literals}
@@ -9,8 +9,6 @@ use Rattle.resp_value.specs.Kinds.{kind_of}
 use Rattle.resp_read.specs.Grammar.{max_depth}
 use Rattle.resp_read.specs.Values.{values, left_over, is_spoiled}
 use Rattle.resp_read.specs.Items.{items}
-use Rattle.connection_info.specs.declared.address.ConnectionInfo.{ConnectionInfo}
-use Rattle.connection_info.specs.declared.protocol.ProtocolVersion.TheVariants.{RESP3}
 use Rattle.driver_model.specs.Config.{address, fault_in}
 use Rattle.driver_model.specs.Push.{is_disconnection}
 use Rattle.driver_model.specs.declared.action.Action.TheVariants as action
@@ -27,35 +25,29 @@ use Rattle.legal_trace.specs.Book.{Book}
 use Rattle.legal_trace.specs.Legal.{MayTurn, MayPushBy, is_heard}
 use Rattle.legal_trace.proofs.Plain.{same_some}
 use Rattle.trace_examples.specs.Parts.{reply}
-use Rattle.trace_examples.specs.Pushes.{by_resp3, heard, unheard, hello_reply, get, subscribe, invalid_between, invalidation, subscribed_line, subscription, subscribed, disconnection, pushed_early, cut_off_early, invalid_while_asked, first_told, invalid_told, pushed_alone, confirmed, cut_off_asked, end_told, push_fronts}
+use Rattle.trace_examples.specs.Calls.{hello_well, confirmation}
+use Rattle.trace_examples.specs.Pushes.{heard, unheard, get, subscribe, invalid_between, invalidation, subscription, subscribed, disconnection, pushed_early, cut_off_early, invalid_while_asked, first_told, invalid_told, pushed_alone, confirmed, cut_off_asked, end_told, push_fronts}
 use Rattle.trace_examples.specs.Claims.{IsTraceIn, NoneBeginsIn}
 use Rattle.trace_examples.specs.Fronts.{EachStands}
 use Rattle.trace_examples.proofs.Due.{IsPlace, legal, stands}
+use Rattle.trace_examples.proofs.Called.{third_server, at_third}
 use Rattle.trace_examples.proofs.Stood.{book_of, may_stand, answer}
 
--- h and 6379, and the third protocol
-abbrev resp3_server : ConnectionInfo
-resp3_server = record {
-  host = codes "h";
-  port = 6379;
-  redis = record { db = pos 0; username = None; password = None; protocol = RESP3; skip_set_lib_name = false };
-}
-
-is_resp3_server : (heard : Option Bool) → address (by_resp3 heard) ≡ Some resp3_server
+-- where pushes are heard the opening asks for the server that speaks the third protocol
+is_heard_server : address heard ≡ Some third_server
 unfolding url_on_literals utf8_lossy utf8_valid_len
-is_resp3_server heard = refl
+is_heard_server = refl
 
--- the opening asks for it, whether pushes are heard
 at_heard : IsPlace heard (codes "h") 6379
-at_heard = record { sound = ap (λ a. fault_in a true None 50) (is_resp3_server (Some true)); info = resp3_server; configured = is_resp3_server (Some true); is = (refl, refl) }
+at_heard = record { sound = ap (λ a. fault_in a true None 50) is_heard_server; info = third_server; configured = is_heard_server; is = (refl, refl) }
 
--- or not
+-- and so it does where they aren't
 at_unheard : IsPlace unheard (codes "h") 6379
-at_unheard = record { sound = ap (λ a. fault_in a false None 50) (is_resp3_server None); info = resp3_server; configured = is_resp3_server None; is = (refl, refl) }
+at_unheard = at_third
 
 -- a push between two replies is told between their outcomes
 pub told_between : IsTraceIn heard
-    (event.Connected 0 ∷ event.Wrote 0 22 ∷ event.Bytes 0 hello_reply ∷ event.Submit (get 97) ∷ event.Submit (get 98) ∷ event.Bytes 0 invalid_between ∷ [])
+    (event.Connected 0 ∷ event.Wrote 0 22 ∷ event.Bytes 0 hello_well ∷ event.Submit (get 97) ∷ event.Submit (get 98) ∷ event.Bytes 0 invalid_between ∷ [])
     invalid_while_asked
     (action.Outcome 0 (reply 120) ∷ action.Push 0 invalidation ∷ action.Outcome 1 (reply 121) ∷ [])
 unfolding digits is_bad_event items values left_over is_spoiled max_depth kind_of url_on_literals utf8_lossy utf8_valid_len
@@ -63,7 +55,7 @@ told_between word = legal heard word _ _ refl refl (at_heard, (refl, (refl, (ref
 
 -- a push with reply is told before the outcome that it gives
 pub told_and_answered : IsTraceIn heard
-    (event.Connected 0 ∷ event.Wrote 0 22 ∷ event.Bytes 0 hello_reply ∷ event.Submit subscribe ∷ event.Bytes 0 subscribed_line ∷ [])
+    (event.Connected 0 ∷ event.Wrote 0 22 ∷ event.Bytes 0 hello_well ∷ event.Submit subscribe ∷ event.Bytes 0 confirmation ∷ [])
     confirmed
     (action.Push 0 subscription ∷ action.Outcome 0 subscribed ∷ [])
 unfolding digits is_bad_event items values left_over is_spoiled max_depth kind_of url_on_literals utf8_lossy utf8_valid_len
@@ -71,7 +63,7 @@ told_and_answered word = legal heard word _ _ refl refl (at_heard, (refl, (refl,
 
 -- where nobody hears pushes it gives its outcome alone
 pub answered_unheard : IsTraceIn unheard
-    (event.Connected 0 ∷ event.Wrote 0 22 ∷ event.Bytes 0 hello_reply ∷ event.Submit subscribe ∷ event.Bytes 0 subscribed_line ∷ [])
+    (event.Connected 0 ∷ event.Wrote 0 22 ∷ event.Bytes 0 hello_well ∷ event.Submit subscribe ∷ event.Bytes 0 confirmation ∷ [])
     confirmed
     (action.Outcome 0 subscribed ∷ [])
 unfolding digits is_bad_event items values left_over is_spoiled max_depth kind_of url_on_literals utf8_lossy utf8_valid_len
@@ -79,7 +71,7 @@ answered_unheard word = legal unheard word _ _ refl refl (at_unheard, (refl, (re
 
 -- a link that a fault ended is closed, this is told, and then the outcome comes
 pub end_is_told : IsTraceIn heard
-    (event.Connected 0 ∷ event.Wrote 0 22 ∷ event.Bytes 0 hello_reply ∷ event.Submit (get 97) ∷ event.ReadFault 0 Reset ∷ [])
+    (event.Connected 0 ∷ event.Wrote 0 22 ∷ event.Bytes 0 hello_well ∷ event.Submit (get 97) ∷ event.ReadFault 0 Reset ∷ [])
     cut_off_asked
     (action.Push 0 disconnection ∷ action.Outcome 0 (outcome.Fault (error.Io Reset)) ∷ [])
 unfolding digits is_bad_event items values left_over is_spoiled max_depth url_on_literals utf8_lossy utf8_valid_len
@@ -174,7 +166,9 @@ no_end_told word events after h = let m = may_stand heard word events (confirmed
 -- an end that is told twice
 pub end_told_twice : NoneBeginsIn heard end_told (action.Push 0 disconnection)
 unfolding digits items values left_over max_depth url_on_literals utf8_lossy utf8_valid_len
-end_told_twice word events after h = let m = may_stand heard word events (end_told heard word) after (action.Push 0 disconnection) h in cc m.once
+end_told_twice word events after h =
+    let m = may_stand heard word events (end_told heard word) after (action.Push 0 disconnection) h in
+    let x : true ≡ false = m.once in cc x
 
 -- an outcome that the end gives, before it is told
 pub answered_before_the_end : (o : Outcome) → NoneBeginsIn heard cut_off_asked (action.Outcome 0 o)

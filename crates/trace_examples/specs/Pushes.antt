@@ -1,5 +1,5 @@
 -- Traces of links on which pushes come.
-use Rattle.std.specs.Prelude.{ℕ, Bool, true, false, List, [], ◌∷◌, ◌++◌, Option, Some, None, codes, pos}
+use Rattle.std.specs.Prelude.{ℕ, true, List, [], ◌∷◌, ◌++◌, Some, None, codes, pos}
 use Rattle.redis_error.specs.declared.fault_kind.FaultKind.TheVariants.{Reset}
 use Rattle.resp_value.specs.declared.push_kind.PushKind.TheVariants.{Disconnection, Invalidate, Subscribe}
 use Rattle.resp_value.specs.Data.{Data, bulk, int, push, simple, items_of}
@@ -16,25 +16,15 @@ use Rattle.driver_model.specs.declared.outcome.Outcome.TheVariants as outcome
 use Rattle.driver_model.specs.declared.push_info.PushInfo.{PushInfo}
 use Rattle.driver_model.specs.Request.{packed_bytes}
 use Rattle.trace_examples.specs.Parts.{turn, reply}
-use Rattle.trace_examples.specs.Traces.{opening}
+use Rattle.trace_examples.specs.Setups.{setup_sent}
+use Rattle.trace_examples.specs.Calls.{of_third, hello_line, hello_well, confirmation}
 
--- the server at h:6379 by the third protocol, and whether somebody hears the pushes that come, if that is said
-abbrev pub by_resp3 : Option Bool → Config
-by_resp3 heard = record { url = codes "redis://h:6379/?protocol=3"; connect = Some None; response = Some None; limit = None; buffer = None; boundary = None; push = heard; lib = Some false }
-
--- somebody hears them, and nothing is said of that
+-- the third protocol, and somebody hears the pushes that come, or nothing is said of that
 abbrev pub heard : Config
-heard = by_resp3 (Some true)
+heard = record of_third { push = Some true }
 
 abbrev pub unheard : Config
-unheard = by_resp3 None
-
--- the setup, of 22 bytes, and what it is answered with
-abbrev pub hello_line : List ℕ
-hello_line = codes "*2\r\n$5\r\nHELLO\r\n$1\r\n3\r\n"
-
-abbrev pub hello_reply : List ℕ
-hello_reply = codes "%1\r\n$5\r\nproto\r\n:3\r\n"
+unheard = of_third
 
 -- GET of a key of one letter, of 20 bytes, and SUBSCRIBE of the channel c, of 26
 abbrev pub get : ℕ → Submission
@@ -54,9 +44,6 @@ abbrev pub invalidation : PushInfo
 invalidation = record { kind = Invalidate; parts = simple (codes "k") ∷ [] }
 
 -- c is subscribed, the first channel that is: a push with reply
-abbrev pub subscribed_line : List ℕ
-subscribed_line = codes ">3\r\n$9\r\nsubscribe\r\n$1\r\nc\r\n:1\r\n"
-
 abbrev pub subscription_parts : List Data
 subscription_parts = bulk (codes "c") ∷ int (pos 1) ∷ []
 
@@ -73,7 +60,7 @@ disconnection = record { kind = Disconnection; parts = [] }
 
 -- the setup is under way
 abbrev pub greeting : Config → ℕ → List Action
-greeting config word = opening config word ++ turn 1 (event.Connected 0) ∷ action.Start 0 0 owner.Setup 1 22 ∷ action.Write 0 hello_line ∷ []
+greeting config word = setup_sent config word 1 22 hello_line
 
 -- a push comes before it is answered
 abbrev pub pushed_early : Config → ℕ → List Action
@@ -85,7 +72,7 @@ cut_off_early config word = greeting config word ++ turn 2 (event.ReadFault 0 Re
 
 -- it is answered well
 abbrev pub greeted : Config → ℕ → List Action
-greeted config word = greeting config word ++ turn 2 (event.Wrote 0 22) ∷ turn 3 (event.Bytes 0 hello_reply) ∷ action.Created None ∷ []
+greeted config word = greeting config word ++ turn 2 (event.Wrote 0 22) ∷ turn 3 (event.Bytes 0 hello_well) ∷ action.Created None ∷ []
 
 -- a key is asked for
 abbrev pub asked_one : Config → ℕ → List Action
@@ -115,7 +102,7 @@ abbrev pub confirmed : Config → ℕ → List Action
 confirmed config word =
     greeted config word ++
     turn 4 (event.Submit subscribe) ∷ action.Start 0 1 (owner.Try 0 0) 1 26 ∷ action.Write 0 (packed_bytes subscribe) ∷
-    turn 5 (event.Bytes 0 subscribed_line) ∷ []
+    turn 5 (event.Bytes 0 confirmation) ∷ []
 
 -- a key is asked for, a read fails, and the link is closed
 abbrev pub cut_off_asked : Config → ℕ → List Action

@@ -65,9 +65,9 @@ ghost use Rattle.trace_examples.specs.Setups.{all_said, cut_off_during, shut_dur
 ghost use Rattle.trace_examples.specs.Setups.{by_default, of_a_held_user, counted_early};
 ghost use Rattle.trace_examples.specs.Setups.{said_later, named_in_time};
 ghost use Rattle.trace_examples.specs.Setups.{overdue_during, waited_for_both, setup_fronts};
-ghost use Rattle.trace_examples.specs.Pushes.{heard, unheard, hello_reply, get, subscribe};
-ghost use Rattle.trace_examples.specs.Pushes.{invalid_between, invalidation, subscribed_line};
-ghost use Rattle.trace_examples.specs.Pushes.{subscription, subscribed, disconnection};
+ghost use Rattle.trace_examples.specs.Pushes.{heard, unheard, get, subscribe, invalid_between};
+ghost use Rattle.trace_examples.specs.Pushes.{invalidation, subscription, subscribed};
+ghost use Rattle.trace_examples.specs.Pushes.{disconnection};
 ghost use Rattle.trace_examples.specs.Pushes.{pushed_early, cut_off_early, invalid_while_asked};
 ghost use Rattle.trace_examples.specs.Pushes.{first_told, invalid_told, pushed_alone, confirmed};
 ghost use Rattle.trace_examples.specs.Pushes.{cut_off_asked, end_told, push_fronts};
@@ -666,20 +666,20 @@ pub fn nor_is_this_call()
 /// told.
 pub fn these_tell_pushes()
     ensures told_between { IsTraceIn heard
-        (event.Connected 0 ∷ event.Wrote 0 22 ∷ event.Bytes 0 hello_reply ∷ event.Submit (get 97)
+        (event.Connected 0 ∷ event.Wrote 0 22 ∷ event.Bytes 0 hello_well ∷ event.Submit (get 97)
         ∷ event.Submit (get 98) ∷ event.Bytes 0 invalid_between ∷ []) invalid_while_asked
         (action.Outcome 0 (reply 120) ∷ action.Push 0 invalidation
         ∷ action.Outcome 1 (reply 121) ∷ []) }
     ensures told_and_answered { IsTraceIn heard
-        (event.Connected 0 ∷ event.Wrote 0 22 ∷ event.Bytes 0 hello_reply ∷ event.Submit subscribe
-        ∷ event.Bytes 0 subscribed_line ∷ []) confirmed
+        (event.Connected 0 ∷ event.Wrote 0 22 ∷ event.Bytes 0 hello_well ∷ event.Submit subscribe
+        ∷ event.Bytes 0 confirmation ∷ []) confirmed
         (action.Push 0 subscription ∷ action.Outcome 0 subscribed ∷ []) }
     ensures answered_unheard { IsTraceIn unheard
-        (event.Connected 0 ∷ event.Wrote 0 22 ∷ event.Bytes 0 hello_reply ∷ event.Submit subscribe
-        ∷ event.Bytes 0 subscribed_line ∷ []) confirmed
+        (event.Connected 0 ∷ event.Wrote 0 22 ∷ event.Bytes 0 hello_well ∷ event.Submit subscribe
+        ∷ event.Bytes 0 confirmation ∷ []) confirmed
         (action.Outcome 0 subscribed ∷ []) }
     ensures end_is_told { IsTraceIn heard
-        (event.Connected 0 ∷ event.Wrote 0 22 ∷ event.Bytes 0 hello_reply ∷ event.Submit (get 97)
+        (event.Connected 0 ∷ event.Wrote 0 22 ∷ event.Bytes 0 hello_well ∷ event.Submit (get 97)
         ∷ event.ReadFault 0 Reset ∷ []) cut_off_asked
         (action.Push 0 disconnection ∷ action.Outcome 0 (outcome.Fault (error.Io Reset)) ∷ []) }
 {}
