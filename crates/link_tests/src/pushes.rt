@@ -85,7 +85,7 @@ fn refused_fives(alloc: Global, numbers: &[i64]) -> Result<u64, AllocError> {
         }
         Ok(())
     };
-    let mut sender: Box<dyn AsyncPushSender> = Box::new(alloc, PushFn::new(take))?;
+    let mut sender = PushFn::new(Box::new(alloc, take)?);
     deliver(alloc, actions.as_slice(), &mut sender)
 }
 

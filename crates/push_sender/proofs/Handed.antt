@@ -1,28 +1,14 @@
 -- What a sender was handed, put together.
-use Rattle.std.proofs.Common.{◌≡◌, ℕ, ◌+◌, ◌<◌, ◌≤◌, List, [], ◌∷◌, ◌++◌, length, take, drop, get_or, Option, Some, None, refl, sym, ap, subst, ◌∙◌, append_assoc, append-nil}
+use Rattle.std.proofs.Common.{◌≡◌, ℕ, ◌+◌, ◌<◌, List, [], ◌∷◌, ◌++◌, length, take, drop, get_or, Option, Some, refl, sym, ap, subst, ◌∙◌, append_assoc, append-nil}
 use Rattle.std.proofs.lemmas.List.{take-append-drop, take_more}
 use Rattle.driver_model.specs.declared.push_info.PushInfo.{PushInfo}
 use Rattle.driver_model.specs.declared.action.Action.{Action}
 use Rattle.push_sender.specs.Sending.{Gained, GainedPart, push_of, pushes_of}
 
-pub gained_none : (o : Option (List PushInfo)) (xs : List PushInfo) → xs ≡ [] → Gained o o xs
-gained_none o xs none = subst (λ (all : List PushInfo). Gained o o all) (sym none) (record { handed = λ before is. is ∙ ap (λ (all : List PushInfo). Some all) (sym (append-nil before)) })
-
 pub gained_both : (a b c : Option (List PushInfo)) (xs ys : List PushInfo) → Gained a b xs → Gained b c ys → Gained a c (xs ++ ys)
 gained_both a b c xs ys first second = record {
   handed = λ before is. second.handed (before ++ xs) (first.handed before is) ∙ ap (λ (all : List PushInfo). Some all) (append_assoc before xs ys);
 }
-
--- one push, as a copy
-pub gained_one : (a b : Option (List PushInfo)) (x y : PushInfo) (xs : List PushInfo) → xs ≡ y ∷ [] → x ≡ y → Gained a b (x ∷ []) → Gained a b xs
-gained_one a b x y xs one copy g = subst (λ (all : List PushInfo). Gained a b all) (ap (λ (p : PushInfo). p ∷ []) copy ∙ sym one) g
-
--- all is a part, and so is nothing
-pub part_all : (a b : Option (List PushInfo)) (xs : List PushInfo) → Gained a b xs → GainedPart a b xs
-part_all a b xs g = record { front = xs; rest = []; whole = sym (append-nil xs); gained = g }
-
-pub part_none : (o : Option (List PushInfo)) (xs : List PushInfo) → GainedPart o o xs
-part_none o xs = record { front = []; rest = xs; whole = refl; gained = gained_none o [] refl }
 
 pub pushes_append : (xs ys : List Action) → pushes_of (xs ++ ys) ≡ pushes_of xs ++ pushes_of ys
 pushes_append [] ys = refl
@@ -54,7 +40,3 @@ part_more a b c all k x less is first part =
       whole = cut ∙ ap (λ (ps : List PushInfo). ps ++ behind) parted ∙ append_assoc (before ++ part.front) part.rest behind;
       gained = gained_both a b c before part.front first part.gained;
     }
-
--- what tells nothing gains what it likes
-pub gained_untold : (xs : List PushInfo) → Gained None None xs
-gained_untold xs = record { handed = λ before is. cc }

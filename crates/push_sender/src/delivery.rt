@@ -7,14 +7,14 @@ use std::alloc::{AllocError, Global};
 
 /// Hands the pushes of these actions to a sender, in order, each as a copy of its own. The answer is how many of them it
 /// refused, by its own count. Where memory is wanted, for a copy or by the sender, it was handed those before.
-pub fn deliver(
+pub fn deliver<S: AsyncPushSender>(
     alloc: Global,
     actions: &[Action],
-    sender: &mut Box<dyn AsyncPushSender>,
+    sender: &mut S,
 ) -> Result<u64, AllocError>
-    ensures got { OnOk result (Gained (handed sender.old) (handed sender.new) (pushes_of actions.now)) }
-    ensures refused { IfOk result (λ n. n ≡ refusals sender.new - refusals sender.old) }
-    ensures part { GainedPart (handed sender.old) (handed sender.new) (pushes_of actions.now) }
+    ensures got { OnOk result (Gained (S.handed sender.old) (S.handed sender.new) (pushes_of actions.now)) }
+    ensures refused { IfOk result (λ n. n ≡ S.refusals sender.new - S.refusals sender.old) }
+    ensures part { GainedPart (S.handed sender.old) (S.handed sender.new) (pushes_of actions.now) }
 {
     let before = sender.refused();
     for action in actions {
@@ -24,14 +24,14 @@ pub fn deliver(
 }
 
 /// Hands an action on, where it is a push.
-fn hand_on(
+fn hand_on<S: AsyncPushSender>(
     alloc: Global,
     action: &Action,
-    sender: &mut Box<dyn AsyncPushSender>,
+    sender: &mut S,
 ) -> Result<(), AllocError>
-    ensures got { OnOk result (Gained (handed sender.old) (handed sender.new) (push_of action.now)) }
-    ensures part { GainedPart (handed sender.old) (handed sender.new) (push_of action.now) }
-    ensures later { refusals sender.old ≤ refusals sender.new }
+    ensures got { OnOk result (Gained (S.handed sender.old) (S.handed sender.new) (push_of action.now)) }
+    ensures part { GainedPart (S.handed sender.old) (S.handed sender.new) (push_of action.now) }
+    ensures later { S.refusals sender.old ≤ S.refusals sender.new }
 {
     match push_in(action) {
         Some(info) => {
@@ -56,9 +56,9 @@ fn push_in(action: &Action) -> Option<&PushInfo>
 }
 
 /// Hands a push to a sender, which may refuse it.
-fn send_on(info: PushInfo, sender: &mut Box<dyn AsyncPushSender>) -> Result<(), AllocError>
-    ensures got { Gained (handed sender.old) (handed sender.new) (info ∷ []) }
-    ensures later { refusals sender.old ≤ refusals sender.new }
+fn send_on<S: AsyncPushSender>(info: PushInfo, sender: &mut S) -> Result<(), AllocError>
+    ensures got { Gained (S.handed sender.old) (S.handed sender.new) (info ∷ []) }
+    ensures later { S.refusals sender.old ≤ S.refusals sender.new }
 {
     match sender.send(info) {
         Ok(()) => Ok(()),

@@ -6,5 +6,5 @@ mod push_fn;
 mod sender;
 
 pub use delivery::deliver;
-pub use push_fn::PushFn;
+pub use push_fn::{PushFn, Taker};
 pub use sender::{AsyncPushSender, SendError};

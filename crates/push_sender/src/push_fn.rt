@@ -4,25 +4,29 @@ ghost use Rattle.push_sender.specs.Sending.{Gained, Rose};
 use crate::sender::{AsyncPushSender, SendError};
 use driver_model::PushInfo;
 
+/// A closure that takes pushes, or refuses them.
+pub type Taker = Box<dyn FnMut(PushInfo) -> Result<(), SendError>>;
+
 /// A sender that hands each push to a closure, and counts what that refuses.
 #[derive(Drop)]
-pub struct PushFn<F: FnMut(PushInfo) -> Result<(), SendError>> {
-    send: F,
+pub struct PushFn {
+    send: Taker,
     refused: u64,
-    ghost callable: { F.IsAlwaysCallable send },
+    ghost callable: { Taker.IsAlwaysCallable send },
 }
 
-impl<F: FnMut(PushInfo) -> Result<(), SendError>> PushFn<F> {
+impl PushFn {
     /// A sender over this closure, which has refused nothing.
-    pub fn new(send: F) -> PushFn<F>
-        requires { F.IsAlwaysCallable send }
-        ensures { result.refused ≡ 0 }
+    pub fn new(send: Taker) -> PushFn
+        requires { Taker.IsAlwaysCallable send }
+        ensures kept { result.send ≡ send }
+        ensures refused { result.refused ≡ 0 }
     {
         PushFn { send, refused: 0 }
     }
 }
 
-impl<F: FnMut(PushInfo) -> Result<(), SendError> + Drop> AsyncPushSender for PushFn<F> {
+impl AsyncPushSender for PushFn {
     // It tells nothing of what it was handed: its closure has it.
     ghost handed = { λ _. None };
 
@@ -39,7 +43,7 @@ impl<F: FnMut(PushInfo) -> Result<(), SendError> + Drop> AsyncPushSender for Pus
             → Rose self.old.refused self.new.refused }
 
         // The closure was called with this push, and what it answered is the answer.
-        ensures called { F.step self.old.send info result self.new.send }
+        ensures called { Taker.step self.old.send info result self.new.send }
     {
         match (self.send)(info) {
             Ok(()) => Ok(()),

@@ -44,3 +44,18 @@ pub trait AsyncPushSender: Drop {
         ensures refused { IsErrOf result SendError.Refused
             → Rose (refusals self.old) (refusals self.new) };
 }
+
+// What a box tells is what its sender tells.
+impl AsyncPushSender for Box<dyn AsyncPushSender> {
+    ghost handed = { λ it. (AsyncPushSender-box it).handed it.value };
+
+    ghost refusals = { λ it. (AsyncPushSender-box it).refusals it.value };
+
+    fn refused(&self) -> u64 {
+        (**self).refused()
+    }
+
+    fn send(&mut self, info: PushInfo) -> Result<(), SendError> {
+        (**self).send(info)
+    }
+}
