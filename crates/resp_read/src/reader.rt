@@ -47,8 +47,9 @@ impl From<AllocError> for ReadError {
     }
 }
 
-/// How many bytes of room a reader keeps for those to come.
-const KEPT_ROOM: usize = 65_536;
+/// How many bytes of room a reader keeps for those to come: two pieces of 65,536, so that room is not given back and taken
+/// again with each of them.
+const KEPT_ROOM: usize = 131_072;
 
 /// Reads values from bytes that come in pieces. However they are cut, it goes on where it was: of the bytes that it holds it looks
 /// at each once, and copies each once at most.
@@ -56,7 +57,7 @@ const KEPT_ROOM: usize = 65_536;
 /// What it holds of a reply under way: the bytes fed that no value given was made of, and the values that were made of
 /// them and stand in aggregates that are not whole. The bytes go once they are no fewer than half of all that it holds,
 /// so these are at most twice those of the reply, in room that grows by doubling. Where a value was given and no more than
-/// a quarter of that room is in use, what is more than 65,536 bytes of it is given back.
+/// a quarter of that room is in use, what is more than 131,072 bytes of it is given back.
 pub struct Reader {
     course: Course,
     /// The bytes that were there at once at most, since room was last given back.
