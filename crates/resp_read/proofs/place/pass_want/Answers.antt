@@ -9,18 +9,6 @@ use Rattle.resp_read.specs.Places.{is_too_few, Goes}
 use Rattle.resp_read.proofs.PlaceLaws.{body_goes, body_stops, format_goes, format_stops, kind_goes}
 use Rattle.resp_read.proofs.place.pass_want.Goals as goal
 
-pub returns-in-Ok-clause-goes : goal.returns-in-Ok-clause-goes
-returns-in-Ok-clause-goes g c =
-    let d = c.args.limits.depth - c.args.around in
-    let next = c.args.place.now.next in
-    let tape = c.args.tape.now in
-    let size = c.in-Body.size in
-    let enough : nat_le (length tape - next) size ≡ false = sym (ap (λ (w : Want). is_too_few (length tape - next) (stage.Want w)) c.in-Body.is) ∙ c.requires.enough in
-    let more : size < length tape - next = grind (arith, nat_tests) in
-    let end = c.len-end.ensures in
-    subst (λ (w : Want). Goes c.args.limits d tape (stage_as c.args.limits d (stage.Want w)) next (Ok None) c.enter.new.self) (sym c.in-Body.is)
-    (body_goes c.args.limits d tape next size c.enter.new.self c.in-Body.part c.in-Ok.begun (omega (arith, more)) (ap (λ (p : Place). p.next) c.enter.ensures ∙ omega (arith, end, more)) (ap (λ (p : Place). p.stage) c.enter.ensures) c.in-Ok.ensures.body)
-
 pub returns-in-Err-clause-goes : goal.returns-in-Err-clause-goes
 returns-in-Err-clause-goes g c =
     let d = c.args.limits.depth - c.args.around in
