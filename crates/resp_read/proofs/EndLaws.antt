@@ -10,11 +10,14 @@ use Rattle.resp_read.specs.declared.forms.Refusal.TheVariants.{Short, Bad, NoMem
 use Rattle.resp_read.specs.declared.frames.Begun.{Begun}
 use Rattle.resp_read.specs.declared.stages.Head.{Head}
 use Rattle.resp_read.specs.declared.stages.Follow.{Follow}
+use Rattle.resp_read.specs.declared.stages.Follow.TheVariants as follow
+use Rattle.resp_read.specs.declared.stages.Part.{Part}
+use Rattle.resp_read.specs.declared.stages.Want.TheVariants as want
 use Rattle.resp_read.specs.declared.stages.Stage.{Stage}
 use Rattle.resp_read.specs.declared.stages.Stage.TheVariants as stage
 use Rattle.resp_read.specs.declared.place.Taken.{Taken}
 use Rattle.resp_read.specs.declared.place.Place.{Place}
-use Rattle.resp_read.specs.Stages.{stage_as, IsStage}
+use Rattle.resp_read.specs.Stages.{stage_as, IsStage, IsBody}
 use Rattle.resp_read.specs.Places.{IsTaken, IsPlace, PassesLine, Goes, Advances, Costs, seen}
 use Rattle.resp_read.specs.Ends.{Ends}
 
@@ -69,3 +72,10 @@ first_place tape p is fits empty =
       stage = subst IsStage (sym is) tt;
       alone = λ _. none;
     }
+
+-- a body, and LF
+pub body_ends : (limits : Limits) (d : ℕ) (tape : List ℕ) (from next size : ℕ) (p : Part) (b : Begun) (r : Result (Option Begun) Refusal) (new : Place) → next ≡ from + (size + 1) → IsBody p size (drop from tape) (Ok b) → Ends limits d tape (stage_as limits d (stage.End (follow.Begun b))) next r new → Goes limits d tape (stage_as limits d (stage.Want (want.Body p size))) from r new
+body_ends limits d tape from next size p b r new moved h ends =
+    ends_behind limits d tape from next (stage_as limits d (stage.Want (want.Body p size))) (stage_as limits d (stage.End (follow.Begun b))) r new (omega (arith, moved))
+    (λ m. h (bounds limits) (reading limits (d - 1)) m ∙ ap (λ x. stage_as limits d (stage.End (follow.Begun b)) (x ++ m)) (drop-drop (size + 1) from tape ∙ ap (λ k. drop k tape) (sym moved)))
+    ends
