@@ -14,7 +14,7 @@ use Rattle.driver_model.specs.declared.outcome.Verdict.{Verdict}
 use Rattle.driver_model.specs.declared.outcome.Verdict.TheVariants as verdict
 use Rattle.link_core.specs.declared.message.PushAt.{PushAt}
 use Rattle.link_core.specs.declared.message.Settled.{Settled}
-use Rattle.link_core.specs.Link.{LinkState, Settling, settling_with, piece_dealt}
+use Rattle.link_core.specs.Link.{LinkState, settling_with, piece_dealt}
 use Rattle.mux_conn.specs.declared.act.LinkAct.TheVariants as act
 use Rattle.mux_conn.specs.declared.life.Life.{Life}
 use Rattle.mux_conn.specs.declared.life.Life.TheVariants.{SettingUp}

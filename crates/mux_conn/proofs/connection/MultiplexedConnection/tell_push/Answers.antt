@@ -1,9 +1,8 @@
-use Rattle.std.proofs.Common.{arith, ◌≡◌, ◌<◌, ◌≤◌, ◌+◌, List, [], rules, ap, ◌∙◌}
+use Rattle.std.proofs.Common.{arith, ◌<◌, ◌≤◌, rules, ap, ◌∙◌}
 use Rattle.driver_model.specs.declared.outcome.Outcome.{Outcome}
-use Rattle.link_core.specs.declared.message.PushAt.{PushAt}
 use Rattle.mux_conn.specs.Connection.{Work}
 use Rattle.mux_conn.specs.Requests.{answered}
-use Rattle.mux_conn.proofs.Told.{told_answer, told_push, told_last}
+use Rattle.mux_conn.proofs.Told.{told_answer, told_push}
 use Rattle.mux_conn.proofs.connection.MultiplexedConnection.tell_push.Goals as goal
 
 pub behind-preserved : goal.behind-preserved
