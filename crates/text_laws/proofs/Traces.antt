@@ -46,6 +46,7 @@ causes_append (action.Connect link host port ∷ xs) ys = causes_append xs ys
 causes_append (action.Timer timer ms what ∷ xs) ys = causes_append xs ys
 causes_append (action.Took owner link count ∷ xs) ys = causes_append xs ys
 causes_append (action.Push link info ∷ xs) ys = causes_append xs ys
+causes_append (action.NeedCreds source link ∷ xs) ys = causes_append xs ys
 causes_append (action.Close link ∷ xs) ys = causes_append xs ys
 causes_append (action.Write link bytes ∷ xs) ys = causes_append xs ys
 causes_append (action.Wait owner kind ∷ xs) ys = causes_append xs ys
@@ -108,6 +109,9 @@ good_form c (event.Ended l) good = tt
 good_form c (event.ReadFault l kind) good = tt
 good_form c (event.WriteFault l kind) good = tt
 good_form c (event.Fired timer) good = tt
+good_form c (event.Creds source auth) good = tt
+good_form c (event.CredsError source text) good = tt
+good_form c (event.CredsEnd source) good = tt
 good_form c (event.Timeout ms) good = tt
 good_form c event.Shutdown good = tt
 
