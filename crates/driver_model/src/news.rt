@@ -94,7 +94,7 @@ fn sourced<'a>(
     first: LinkNews<'a>,
     later: LinkNews<'a>,
 ) -> LinkNews<'a>
-    ensures { told result ≡ of_source link used (told first) (told later) }
+    ensures { told result ≡ of_source link used (told first.entry) (told later.entry) }
 {
     match used {
         Some(SourceUse::Setup { link: named }) if named == link => first,

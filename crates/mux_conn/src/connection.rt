@@ -5,6 +5,7 @@ ghost use Rattle.mux_conn.specs.Requests.{given_back};
 use crate::act::LinkAct;
 use crate::errors::ConnectionError;
 use crate::life::Life;
+use crate::renewal::Renewal;
 use crate::request::{Pending, Progress, Request, Waiting};
 use connection_info::RedisConnectionInfo;
 use containers::{Bytes, Queue, Seq};
@@ -25,6 +26,8 @@ pub struct MultiplexedConnection {
     pub hears: bool,
     /// What is said to the server before the first request.
     pub info: RedisConnectionInfo,
+    /// The credentials that come of sources.
+    pub renewal: Renewal,
     pub life: Life,
     pub requests: Seq<Request>,
     pub waiting: Queue<Waiting>,
@@ -48,6 +51,7 @@ impl Drop for MultiplexedConnection {
             free: _,
             hears: _,
             info,
+            renewal,
             life,
             requests,
             waiting,
@@ -60,6 +64,7 @@ impl Drop for MultiplexedConnection {
             failure: _,
         } = self;
         drop(info);
+        drop(renewal);
         drop(life);
         drop(requests);
         drop(waiting);
@@ -82,8 +87,8 @@ impl MultiplexedConnection {
     /// A connection whose connect isn't answered. The queue of its link will hold `size` messages, at least one, and no
     /// message will start on it while `boundary` bytes or more, and at least one, are unwritten. Its requests will hold no
     /// more than `limit` permits, at least one, and where there is no limit they need none. Where it `hears`, the pushes that
-    /// come are told, and so is an end by a fault. `info` is what is said to the server before the first of them. Takes no
-    /// memory.
+    /// come are told, and so is an end by a fault. `info` is what is said to the server before the first of them, and `renewal`
+    /// says whether credentials come of sources. Takes no memory.
     pub fn new(
         alloc: Global,
         size: u32,
@@ -91,8 +96,9 @@ impl MultiplexedConnection {
         limit: Option<u32>,
         hears: bool,
         info: RedisConnectionInfo,
+        renewal: Renewal,
     ) -> MultiplexedConnection
-        ensures { result ≡ dialing size boundary limit hears info }
+        ensures { result ≡ dialing size boundary limit hears info renewal }
     {
         MultiplexedConnection {
             size,
@@ -101,6 +107,7 @@ impl MultiplexedConnection {
             free: limit.unwrap_or(0),
             hears,
             info,
+            renewal,
             life: Life::Dialing,
             requests: Seq::new(alloc),
             waiting: Queue::new(alloc),
@@ -131,6 +138,7 @@ impl MultiplexedConnection {
     {
         match &self.life {
             Life::Dialing => 0,
+            Life::Wanting { link } => link.started(),
             Life::SettingUp { link, with_user: _ } => link.started(),
             Life::Ready { link } => link.started(),
             Life::Ended { error: _ } => 0,

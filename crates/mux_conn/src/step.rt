@@ -45,7 +45,8 @@ impl MultiplexedConnection {
         }
     }
 
-    /// Every request is moved as far as it can go. After an error nothing is said of what `out` gained.
+    /// New credentials take their place, and every request is moved as far as it can go. After an error nothing is said of what
+    /// `out` gained.
     pub fn advance_all(
         &mut self,
         alloc: Global,
