@@ -31,11 +31,14 @@ no_causes l t [] = refl
 no_causes l t (act.Created error ∷ more) = no_causes l (t + 0) more
 no_causes l t (act.Took n count ∷ more) = no_causes l (t + 0) more
 no_causes l t (act.Timer n ms ∷ more) = no_causes l (t + 1) more
+no_causes l t (act.NeedCreds ∷ more) = no_causes l (t + 0) more
+no_causes l t (act.RenewalTimer n ms ∷ more) = no_causes l (t + 1) more
 no_causes l t (act.Close ∷ more) = no_causes l (t + 0) more
 no_causes l t (act.Push info ∷ more) = no_causes l (t + 0) more
 no_causes l t (act.Write bytes ∷ more) = no_causes l (t + 0) more
 no_causes l t (act.Wait n kind ∷ more) = no_causes l (t + 0) more
 no_causes l t (act.SetUp message need len ∷ more) = no_causes l (t + 0) more
+no_causes l t (act.Renewed message need len ∷ more) = no_causes l (t + 0) more
 no_causes l t (act.Start message n need len ∷ more) = no_causes l (t + 0) more
 no_causes l t (act.Outcome n o ∷ more) = no_causes l (t + 0) more
 
