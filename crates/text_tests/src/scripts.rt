@@ -265,7 +265,10 @@ const LATER_LINES: [(&[u8], u32); 86] = [
     (b"submit cmd a%-\nend\n", 2),
     (b"submit\nend\n", 2),
     (b"submit other GET a\nend\n", 2),
-    (b"creds 4294967295 u p\ncreds-err 0 gone\ncreds-end 1\nend\n", 0),
+    (
+        b"creds 4294967295 u p\ncreds-err 0 gone\ncreds-end 1\nend\n",
+        0,
+    ),
     (b"@7 creds 0 %- %-\ncreds-err 0 %-\nend\n", 0),
     (b"creds 4294967296 u p\nend\n", 2),
     (b"creds -1 u p\nend\n", 2),
@@ -370,7 +373,7 @@ fn are_credentials(event: &Event) -> bool {
     let EventKind::Creds { source, auth } = &event.kind else {
         return false;
     };
-    *source == 3 && auth.username() == b"" && auth.password() == b" ;"
+    *source == 3 && auth.username().is_empty() && auth.password() == b" ;".as_slice()
 }
 
 fn is_credentials_error(event: &Event) -> bool {

@@ -93,16 +93,7 @@ enum Deed {
 }
 
 /// What is left out of an opening, but not of the library.
-const BARE: Settings = (
-    None,
-    Some(None),
-    None,
-    None,
-    None,
-    None,
-    None,
-    Some(false),
-);
+const BARE: Settings = (None, Some(None), None, None, None, None, None, Some(false));
 
 /// What is given of the first openings below.
 const TIMELESS: Settings = (
@@ -333,10 +324,7 @@ const EVENTS: [(Deed, &str); 21] = [
         Deed::Turn(2, 0, News::CredsError(0, b"no token")),
         "turn 2 creds-err 0 no%20token\n",
     ),
-    (
-        Deed::Turn(3, 0, News::CredsEnd(1)),
-        "turn 3 creds-end 1\n",
-    ),
+    (Deed::Turn(3, 0, News::CredsEnd(1)), "turn 3 creds-end 1\n"),
     (
         Deed::Turn(1, 0, News::Timeout(Some(u64::MAX))),
         "turn 1 timeout 18446744073709551615\n",
@@ -367,19 +355,9 @@ const REQUESTS: [(Deed, &str); 22] = [
     (Deed::Wait(FIRST, WaitKind::Permit), "wait s0.0 permit\n"),
     (Deed::Wait(FIRST, WaitKind::Setup), "wait s0.0 setup\n"),
     (Deed::Wait(FIRST, WaitKind::Creds), "wait s0.0 creds\n"),
+    (Deed::NeedCreds(1, u32::MAX), "need-creds 1 4294967295\n"),
     (
-        Deed::NeedCreds(1, u32::MAX),
-        "need-creds 1 4294967295\n",
-    ),
-    (
-        Deed::Timer(
-            4,
-            500,
-            Purpose::Renewal {
-                link: 7,
-                number: 3,
-            },
-        ),
+        Deed::Timer(4, 500, Purpose::Renewal { link: 7, number: 3 }),
         "timer 4 500 response auth\n",
     ),
     (Deed::Start(7, Owner::Auth, 1, 28), "start 7 0 auth 1 28\n"),
