@@ -172,14 +172,17 @@ unauthorized_at w e (SettingUp link with_user) = w
 unauthorized_at w e (Ready link) = w
 unauthorized_at w e (Ended x) = w
 
--- the time for new credentials of that number is over: where they aren't answered, no others are told, and their message
--- leaves the queue, or is answered to nobody
-abbrev pub late_at : Work → ℕ → Life → Work
-late_at w k (Ready link) = if is_unanswered w.conn.renewal k then renewing (with_link w (cancelled link renewal_id)) (replied w.conn.renewal false) else w
-late_at w k Dialing = w
-late_at w k (Wanting link) = w
-late_at w k (SettingUp link with_user) = w
-late_at w k (Ended e) = w
+-- new credentials aren't answered in time: no others are told, and their message leaves the queue, or is answered to nobody
+abbrev pub renewal_dropped : Work → Life → Work
+renewal_dropped w (Ready link) = renewing (with_link w (cancelled link renewal_id)) (replied w.conn.renewal false)
+renewal_dropped w Dialing = w
+renewal_dropped w (Wanting link) = w
+renewal_dropped w (SettingUp link with_user) = w
+renewal_dropped w (Ended e) = w
+
+-- the time for those of that number is over
+abbrev pub late_for : Work → ℕ → Work
+late_for w k = if is_unanswered w.conn.renewal k then renewal_dropped w w.conn.life else w
 
 -- the first answer to the connect: it failed
 abbrev pub refused_at : Work → FaultKind → Life → Work
@@ -309,7 +312,7 @@ applied w (denied text) = unauthorized_at w (error.Credentials text) w.conn.life
 applied w deserted = unauthorized_at w (error.AuthFailed []) w.conn.life
 applied w (renewed c) = renewed_by w c
 applied w unrenewed = none_follow w
-applied w (late k) = late_at w k w.conn.life
+applied w (late k) = late_for w k
 applied w shut = shut_at w w.conn.life
 
 abbrev pub cancelled_in : Life → ℕ → Life

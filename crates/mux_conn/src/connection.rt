@@ -84,7 +84,7 @@ impl MultiplexedConnection {
     ghost use Rattle.mux_conn.specs.Requests.{is_open_at, is_waiting_at, is_admitted_at};
     ghost use Rattle.mux_conn.specs.Requests.{is_placed_at, name_at, permits_at, closed, answered};
     ghost use Rattle.mux_conn.specs.Requests.{asked, progressed};
-    ghost use Rattle.mux_conn.specs.Connection.{work_with, started_in, is_spent, admits_none};
+    ghost use Rattle.mux_conn.specs.Connection.{work_with, started_in, is_used_up, admits_none};
     ghost use Rattle.mux_conn.specs.Turn.{dialing};
 
     /// A connection whose connect isn't answered. The queue of its link will hold `size` messages, at least one, and no
@@ -149,8 +149,8 @@ impl MultiplexedConnection {
     }
 
     /// Whether the number 2^32 - 1 was given to a message of its link, or to new credentials.
-    pub fn is_spent(&self) -> bool
-        ensures { result ≡ is_spent self.now }
+    pub fn is_used_up(&self) -> bool
+        ensures { result ≡ is_used_up self.now }
     {
         u64::from(self.started()) >= TOO_MANY || u64::from(self.renewal.asked) >= TOO_MANY
     }

@@ -84,7 +84,7 @@ impl Renewal {
 impl MultiplexedConnection {
     ghost use Rattle.mux_conn.specs.Connection.{work_with};
     ghost use Rattle.mux_conn.specs.Renewals.{source_asked, renewed_by, none_follow};
-    ghost use Rattle.mux_conn.specs.Effects.{settled_one, late_at};
+    ghost use Rattle.mux_conn.specs.Effects.{settled_one, renewal_dropped, late_for};
 
     /// A source is asked for the new credentials of a link that is ready, where credentials come of sources.
     pub(crate) fn ask_source(&self, out: &mut Vec<LinkAct>) -> Result<(), AllocError>
@@ -124,14 +124,13 @@ impl MultiplexedConnection {
         self.renewal.over = true;
     }
 
-    /// The time for new credentials is over: where they aren't answered, no others are told, and their message leaves the
-    /// queue, or is answered to nobody.
-    pub(crate) fn renew_late(&mut self, number: u32)
-        ensures { work_with self.new [] ≡ late_at (work_with self.old []) number self.old.life }
+    /// New credentials aren't answered in time: no others are told, and their message leaves the queue, or is answered to nobody.
+    fn drop_renewal(&mut self)
+        ensures conn { work_with self.new []
+            ≡ renewal_dropped (work_with self.old []) self.old.life }
+        ensures count { length self.new.requests ≡ length self.old.requests }
+        ensures failure { self.new.failure ≡ self.old.failure }
     {
-        if !self.renewal.is_unanswered(number) {
-            return;
-        }
         match &mut self.life {
             Life::Ready { link } => {
                 link.cancel(renewal_id());
@@ -144,6 +143,17 @@ impl MultiplexedConnection {
                 with_user: _,
             } => {}
             Life::Ended { error: _ } => {}
+        }
+    }
+
+    /// The time for new credentials of this number is over.
+    pub(crate) fn renew_late(&mut self, number: u32)
+        ensures conn { work_with self.new [] ≡ late_for (work_with self.old []) number }
+        ensures count { length self.new.requests ≡ length self.old.requests }
+        ensures failure { self.new.failure ≡ self.old.failure }
+    {
+        if self.renewal.is_unanswered(number) {
+            self.drop_renewal();
         }
     }
 
@@ -169,7 +179,7 @@ impl MultiplexedConnection {
 }
 
 impl MultiplexedConnection {
-    ghost use Rattle.mux_conn.specs.Connection.{work_with, is_ready, runs_out};
+    ghost use Rattle.mux_conn.specs.Connection.{work_with, is_ready, renewals_run_out};
     ghost use Rattle.mux_conn.specs.Passes.{renewal_timed, renewal_seated, renewal_told, renewed};
 
     /// The timer of new credentials is asked for, where they are to be answered within a time.
@@ -228,7 +238,7 @@ impl MultiplexedConnection {
             ≡ renewal_told (work_with self.old out.old.items) auth.now
             ) }
         ensures spent { IsErrOf result ConnectionError.Spent
-            → runs_out (renewal_told (work_with self.old out.old.items) auth.now) ≡ true }
+            → renewals_run_out (renewal_told (work_with self.old out.old.items) auth.now) ≡ true }
         ensures count { length self.new.requests ≡ length self.old.requests }
         ensures failure { self.new.failure ≡ self.old.failure }
     {
@@ -252,7 +262,7 @@ impl MultiplexedConnection {
             work_with self.new out.new.items ≡ renewed (work_with self.old out.old.items)
             ) }
         ensures spent { IsErrOf result ConnectionError.Spent
-            → runs_out (renewed (work_with self.old out.old.items)) ≡ true }
+            → renewals_run_out (renewed (work_with self.old out.old.items)) ≡ true }
         ensures count { length self.new.requests ≡ length self.old.requests }
         ensures failure { self.new.failure ≡ self.old.failure }
     {

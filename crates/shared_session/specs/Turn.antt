@@ -22,7 +22,7 @@ use Rattle.mux_conn.specs.declared.act.LinkAct.TheVariants as act
 use Rattle.mux_conn.specs.declared.life.Life.{Life}
 use Rattle.mux_conn.specs.declared.life.Life.TheVariants.{Dialing, Wanting, SettingUp, Ready, Ended}
 use Rattle.mux_conn.specs.declared.request.Pending.{Pending}
-use Rattle.mux_conn.specs.Connection.{Work, is_spent}
+use Rattle.mux_conn.specs.Connection.{Work, is_used_up}
 use Rattle.mux_conn.specs.Requests.{asked}
 use Rattle.mux_conn.specs.Effects.{applied, left, timed_out}
 use Rattle.mux_conn.specs.Passes.{passed}
@@ -281,7 +281,7 @@ is_bad c event.Shutdown = false
 
 -- the number 2^32 - 1 was given to a message, to new credentials, a submission, a timer or a source of credentials
 unfoldable pub has_run_out : Core → Bool
-has_run_out c = is_spent c.single.connection || (nat_le (2 ^ 32) (length c.table) || (nat_le (2 ^ 32) (length c.timers) || nat_le (2 ^ 32) (length c.sources)))
+has_run_out c = is_used_up c.single.connection || (nat_le (2 ^ 32) (length c.table) || (nat_le (2 ^ 32) (length c.timers) || nat_le (2 ^ 32) (length c.sources)))
 
 -- the step of an event is spent: the history holds 2^32 - 1 events, or the turn would give out a number too many
 unfoldable pub spends : Core → Event → Bool

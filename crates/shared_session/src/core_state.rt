@@ -333,7 +333,7 @@ impl Core {
     fn is_spent(&self) -> bool
         ensures { result ≡ has_run_out self.now }
     {
-        self.single.connection.is_spent()
+        self.single.connection.is_used_up()
             || self.table.len() as u64 >= TOO_MANY
             || self.timers.len() as u64 >= TOO_MANY
             || self.sources.len() as u64 >= TOO_MANY
