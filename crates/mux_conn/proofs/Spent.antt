@@ -203,10 +203,13 @@ written_count w (Ready link) e = let from : count w ≡ link.started = ap starte
 pub flushed_count : (w : Work) → count (flushed w) ≡ count w
 flushed_count w = fresh_count (moved_shown (written w)) ∙ moved_count (written w) ∙ written_count w w.conn.life refl
 
+-- what a turn ends with leaves numbers that have run out
+pub spent_flushed : (w : Work) → uses_up w ≡ true → uses_up (flushed w) ≡ true
+spent_flushed w h =
+    ap (λ (n : ℕ). nat_le (2 ^ 32) n || renewals_run_out (flushed w)) (flushed_count w)
+    ∙ ap (λ (r : Renewal). runs_out w || nat_le (2 ^ 32) r.asked) (flushed_kept w)
+    ∙ h
+
 -- a number that runs out has run out at the end of the turn
 pub spent_turn : (w : Work) (news : News) → uses_up (passed (applied w news)) ≡ true → uses_up (stepped w news) ≡ true
-spent_turn w news h =
-    let u = passed (applied w news) in
-    ap (λ (n : ℕ). nat_le (2 ^ 32) n || renewals_run_out (flushed u)) (flushed_count u)
-    ∙ ap (λ (r : Renewal). runs_out u || nat_le (2 ^ 32) r.asked) (flushed_kept u)
-    ∙ h
+spent_turn w news h = spent_flushed (passed (applied w news)) h
