@@ -39,6 +39,11 @@ fn show(act: LinkAct, outcomes: &mut Seq<Option<Outcome>>) -> ConnectionAct
             },
             ms,
         },
+        LinkAct::RenewalTimer { number, ms } => ConnectionAct::Timer {
+            timer: ConnectionTimer::Renewal { number },
+            ms,
+        },
+        LinkAct::NeedCreds => ConnectionAct::NeedCreds,
         LinkAct::Push { info } => ConnectionAct::Push { info },
         LinkAct::Close => ConnectionAct::Close,
         LinkAct::Write { bytes } => ConnectionAct::Write { bytes },
@@ -58,6 +63,7 @@ fn show(act: LinkAct, outcomes: &mut Seq<Option<Outcome>>) -> ConnectionAct
             len,
         },
         LinkAct::SetUp { message, need, len } => ConnectionAct::SetUp { message, need, len },
+        LinkAct::Renewed { message, need, len } => ConnectionAct::Renewed { message, need, len },
         LinkAct::Outcome { request, outcome } => {
             keep(outcomes, request, outcome);
             ConnectionAct::Answered {

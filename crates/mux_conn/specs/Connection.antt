@@ -110,9 +110,17 @@ started_in (Ended e) = 0
 abbrev pub is_spent_in : Life → Bool
 is_spent_in life = nat_le (2 ^ 32) (started_in life)
 
--- the number 2^32 - 1 was given to a message of its link, or to new credentials
-abbrev pub is_spent : MultiplexedConnection → Bool
-is_spent c = is_spent_in c.life || nat_le (2 ^ 32) c.renewal.asked
-
+-- a message of its link was given the number 2^32 - 1
 abbrev pub runs_out : Work → Bool
-runs_out w = is_spent w.conn
+runs_out w = is_spent_in w.conn.life
+
+-- new credentials were given it
+abbrev pub renewals_run_out : Work → Bool
+renewals_run_out w = nat_le (2 ^ 32) w.conn.renewal.asked
+
+-- a message of its link was given it, or new credentials were
+abbrev pub is_used_up : MultiplexedConnection → Bool
+is_used_up c = is_spent_in c.life || nat_le (2 ^ 32) c.renewal.asked
+
+abbrev pub uses_up : Work → Bool
+uses_up w = is_used_up w.conn

@@ -31,7 +31,7 @@ use Rattle.mux_conn.specs.declared.life.Life.TheVariants.{Dialing, Wanting, Sett
 use Rattle.mux_conn.specs.declared.request.Waiting.{Waiting}
 use Rattle.mux_conn.specs.Connection.{Work, acted, at_life, with_link, with_setup, with_wanting, is_ready}
 use Rattle.mux_conn.specs.Requests.{is_open_at, closed, answered}
-use Rattle.mux_conn.specs.Renewals.{renewing, source_asked, renewed_by, none_follow, renewal_id, is_done, replied, is_unanswered}
+use Rattle.mux_conn.specs.Renewals.{with_renewal, renewing, source_asked, expecting, none_follow, renewal_id, is_done, replied, is_unanswered}
 use Rattle.credentials.specs.Credentials.{Credentials}
 
 -- a link without messages, with the queue and the boundary of its connection
@@ -172,15 +172,6 @@ unauthorized_at w e (SettingUp link with_user) = w
 unauthorized_at w e (Ready link) = w
 unauthorized_at w e (Ended x) = w
 
--- the time for new credentials of that number is over: where they aren't answered, no others are told, and their message
--- leaves the queue, or is answered to nobody
-abbrev pub late_at : Work → ℕ → Life → Work
-late_at w k (Ready link) = if is_unanswered w.conn.renewal k then renewing (with_link w (cancelled link renewal_id)) (replied w.conn.renewal false) else w
-late_at w k Dialing = w
-late_at w k (Wanting link) = w
-late_at w k (SettingUp link with_user) = w
-late_at w k (Ended e) = w
-
 -- the first answer to the connect: it failed
 abbrev pub refused_at : Work → FaultKind → Life → Work
 refused_at w f Dialing = opening_failed w (error.Io f)
@@ -278,6 +269,19 @@ shut_at w (Wanting link) = ended w []
 shut_at w (SettingUp link with_user) = ended w []
 shut_at w (Ended e) = w
 
+-- that message of a link that is set up leaves its queue, or is answered to nobody
+abbrev pub cancelled_in : Life → ℕ → Life
+cancelled_in (Ready link) p = Ready (cancelled link p)
+cancelled_in Dialing p = Dialing
+cancelled_in (Wanting link) p = Wanting link
+cancelled_in (SettingUp link with_user) p = SettingUp link with_user
+cancelled_in (Ended e) p = Ended e
+
+-- the time for new credentials of that number is over: where they aren't answered, no others are told, and their message leaves
+-- the queue, or is answered to nobody
+abbrev pub late_for : MultiplexedConnection → ℕ → MultiplexedConnection
+late_for c k = if is_unanswered c.renewal k then with_renewal (record c { life = cancelled_in c.life renewal_id }) (replied c.renewal false) else c
+
 -- no more bytes are taken than were offered
 abbrev pub IsWithin : Life → News → Type 0
 IsWithin life (took count) = CanTake life count
@@ -307,17 +311,10 @@ applied w (failed f) = failed_at w f w.conn.life
 applied w (authorized c) = authorized_at w c w.conn.life
 applied w (denied text) = unauthorized_at w (error.Credentials text) w.conn.life
 applied w deserted = unauthorized_at w (error.AuthFailed []) w.conn.life
-applied w (renewed c) = renewed_by w c
-applied w unrenewed = none_follow w
-applied w (late k) = late_at w k w.conn.life
+applied w (renewed c) = record w { conn = expecting w.conn c }
+applied w unrenewed = record w { conn = none_follow w.conn }
+applied w (late k) = record w { conn = late_for w.conn k }
 applied w shut = shut_at w w.conn.life
-
-abbrev pub cancelled_in : Life → ℕ → Life
-cancelled_in (Ready link) p = Ready (cancelled link p)
-cancelled_in Dialing p = Dialing
-cancelled_in (Wanting link) p = Wanting link
-cancelled_in (SettingUp link with_user) p = SettingUp link with_user
-cancelled_in (Ended e) p = Ended e
 
 -- the caller of request p has gone: its message leaves the queue, or is answered to nobody
 abbrev pub left : MultiplexedConnection → ℕ → MultiplexedConnection

@@ -1,5 +1,5 @@
 -- New credentials: they come of a source, and are told to the server of a link that is set up, one after another.
-use Rattle.std.specs.Prelude.{ℕ, ◌+◌, ◌^◌, ◌==◌, Bool, true, false, ◌&&◌, ◌||◌, not, List, [], ◌∷◌, ◌++◌, Option, if◌then◌else◌}
+use Rattle.std.specs.Prelude.{ℕ, ◌+◌, ◌^◌, ◌==◌, Bool, true, false, ◌&&◌, ◌||◌, not, [], ◌∷◌, ◌++◌, Option, if◌then◌else◌}
 use Rattle.credentials.specs.Credentials.{Credentials}
 use Rattle.credentials.specs.Message.{auth_bytes}
 use Rattle.driver_model.specs.declared.outcome.Shape.TheVariants.{Confirmation}
@@ -7,6 +7,7 @@ use Rattle.driver_model.specs.declared.outcome.Verdict.{Verdict}
 use Rattle.driver_model.specs.declared.outcome.Verdict.TheVariants as verdict
 use Rattle.link_core.specs.declared.message.Queued.{Queued}
 use Rattle.mux_conn.specs.declared.act.LinkAct.TheVariants as act
+use Rattle.mux_conn.specs.declared.connection.MultiplexedConnection.{MultiplexedConnection}
 use Rattle.mux_conn.specs.declared.renewal.Renewal.{Renewal}
 use Rattle.mux_conn.specs.Connection.{Work, acted, is_ready}
 
@@ -15,8 +16,11 @@ abbrev pub no_renewal : Bool → Option ℕ → Renewal
 no_renewal wanted within = record { wanted = wanted; within = within; waiting = []; asked = 0; unanswered = false; over = false; lost = false }
 
 -- this is now true of the new credentials
+abbrev pub with_renewal : MultiplexedConnection → Renewal → MultiplexedConnection
+with_renewal c r = record c { renewal = r }
+
 abbrev pub renewing : Work → Renewal → Work
-renewing w r = record w { conn = record w.conn { renewal = r } }
+renewing w r = record w { conn = with_renewal w.conn r }
 
 -- a source is asked for those of a link that is ready, where credentials come of sources
 abbrev pub source_asked : Work → Work
@@ -30,12 +34,12 @@ takes_more r = r.wanted && not (r.over || r.lost)
 abbrev pub expected : Renewal → Credentials → Renewal
 expected r c = record r { waiting = r.waiting ++ c ∷ [] }
 
-abbrev pub renewed_by : Work → Credentials → Work
-renewed_by w c = if is_ready w.conn.life && takes_more w.conn.renewal then renewing w (expected w.conn.renewal c) else w
+abbrev pub expecting : MultiplexedConnection → Credentials → MultiplexedConnection
+expecting c auth = if is_ready c.life && takes_more c.renewal then with_renewal c (expected c.renewal auth) else c
 
 -- no more of them come
-abbrev pub none_follow : Work → Work
-none_follow w = renewing w (record w.conn.renewal { over = true })
+abbrev pub none_follow : MultiplexedConnection → MultiplexedConnection
+none_follow c = with_renewal c (record c.renewal { over = true })
 
 -- the number of the message that tells new credentials: no request has it
 abbrev pub renewal_id : ℕ

@@ -241,7 +241,7 @@ impl MultiplexedConnection {
     ghost use Rattle.mux_conn.specs.Passes.{placed_at, seated, moved_up};
     ghost use Rattle.mux_conn.specs.Passes.{moved_up_all, put_behind, seated_or_behind, admitted};
     ghost use Rattle.mux_conn.specs.Passes.{admitted_all, passed};
-    ghost use Rattle.mux_conn.specs.Connection.{work_with, admits_none, has_room, runs_out};
+    ghost use Rattle.mux_conn.specs.Connection.{work_with, admits_none, has_room, runs_out, uses_up};
 
     /// A request takes its place in the queue.
     fn place(&mut self, alloc: Global, request: Waiting) -> Result<(), AllocError>
@@ -478,7 +478,7 @@ impl MultiplexedConnection {
             work_with self.new out.new.items ≡ passed (work_with self.old out.old.items)
             ) }
         ensures spent { IsErrOf result ConnectionError.Spent
-            → runs_out (passed (work_with self.old out.old.items)) ≡ true }
+            → uses_up (passed (work_with self.old out.old.items)) ≡ true }
         ensures count { length self.new.requests ≡ length self.old.requests }
         ensures failure { self.new.failure ≡ self.old.failure }
     {

@@ -560,8 +560,8 @@ impl MultiplexedConnection {
         }
     }
 
-    /// The message of a request leaves the queue, or is answered to nobody.
-    fn take_back(&mut self, number: u64)
+    /// The message of that number leaves the queue, or is answered to nobody.
+    pub(crate) fn take_back(&mut self, number: u64)
         ensures { self.new ≡ record self.old { life = cancelled_in self.old.life number } }
     {
         match &mut self.life {

@@ -13,6 +13,9 @@ use driver_model::{Outcome, Shape};
 use link_core::{PushAt, Settled, Spare, Started};
 use std::alloc::{AllocError, Global};
 
+/// The numbers of one sort are 0 to 2^32 - 2: so many given out are one too many.
+const TOO_MANY: u64 = 1 << 32;
+
 /// One multiplexed connection: how many messages the queue of its link holds, and at how many unwritten bytes none starts;
 /// its link's life; its requests by their numbers; those that wait for the connection, and those that wait for a place, in
 /// order and some that have gone since; those that came in this turn, and those that were moved in it.
@@ -81,7 +84,7 @@ impl MultiplexedConnection {
     ghost use Rattle.mux_conn.specs.Requests.{is_open_at, is_waiting_at, is_admitted_at};
     ghost use Rattle.mux_conn.specs.Requests.{is_placed_at, name_at, permits_at, closed, answered};
     ghost use Rattle.mux_conn.specs.Requests.{asked, progressed};
-    ghost use Rattle.mux_conn.specs.Connection.{work_with, started_in, admits_none};
+    ghost use Rattle.mux_conn.specs.Connection.{work_with, started_in, is_used_up, admits_none};
     ghost use Rattle.mux_conn.specs.Turn.{dialing};
 
     /// A connection whose connect isn't answered. The queue of its link will hold `size` messages, at least one, and no
@@ -143,6 +146,13 @@ impl MultiplexedConnection {
             Life::Ready { link } => link.started(),
             Life::Ended { error: _ } => 0,
         }
+    }
+
+    /// Whether the number 2^32 - 1 was given to a message of its link, or to new credentials.
+    pub fn is_used_up(&self) -> bool
+        ensures { result ≡ is_used_up self.now }
+    {
+        u64::from(self.started()) >= TOO_MANY || u64::from(self.renewal.asked) >= TOO_MANY
     }
 
     /// Whether a request is neither answered nor left by its caller.

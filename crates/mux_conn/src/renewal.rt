@@ -83,8 +83,8 @@ impl Renewal {
 
 impl MultiplexedConnection {
     ghost use Rattle.mux_conn.specs.Connection.{work_with};
-    ghost use Rattle.mux_conn.specs.Renewals.{source_asked, renewed_by, none_follow};
-    ghost use Rattle.mux_conn.specs.Effects.{settled_one, late_at};
+    ghost use Rattle.mux_conn.specs.Renewals.{source_asked, expecting, none_follow};
+    ghost use Rattle.mux_conn.specs.Effects.{settled_one, late_for};
 
     /// A source is asked for the new credentials of a link that is ready, where credentials come of sources.
     pub(crate) fn ask_source(&self, out: &mut Vec<LinkAct>) -> Result<(), AllocError>
@@ -104,9 +104,7 @@ impl MultiplexedConnection {
         alloc: Global,
         auth: &BasicAuth,
     ) -> Result<(), AllocError>
-        ensures conn { OnOk result (
-            self.new ≡ (renewed_by (work_with self.old []) auth.now).conn
-            ) }
+        ensures conn { OnOk result (self.new ≡ expecting self.old auth.now) }
         ensures count { length self.new.requests ≡ length self.old.requests }
         ensures failure { self.new.failure ≡ self.old.failure }
     {
@@ -119,31 +117,23 @@ impl MultiplexedConnection {
 
     /// No more of them come.
     pub(crate) fn end_renewals(&mut self)
-        ensures { self.new ≡ (none_follow (work_with self.old [])).conn }
+        ensures conn { self.new ≡ none_follow self.old }
+        ensures count { length self.new.requests ≡ length self.old.requests }
+        ensures failure { self.new.failure ≡ self.old.failure }
     {
         self.renewal.over = true;
     }
 
-    /// The time for new credentials is over: where they aren't answered, no others are told, and their message leaves the
-    /// queue, or is answered to nobody.
+    /// The time for new credentials of this number is over: where they aren't answered, no others are told, and their message
+    /// leaves the queue, or is answered to nobody.
     pub(crate) fn renew_late(&mut self, number: u32)
-        ensures { work_with self.new [] ≡ late_at (work_with self.old []) number self.old.life }
+        ensures conn { self.new ≡ late_for self.old number }
+        ensures count { length self.new.requests ≡ length self.old.requests }
+        ensures failure { self.new.failure ≡ self.old.failure }
     {
-        if !self.renewal.is_unanswered(number) {
-            return;
-        }
-        match &mut self.life {
-            Life::Ready { link } => {
-                link.cancel(renewal_id());
-                self.renewal.reply(false);
-            }
-            Life::Dialing => {}
-            Life::Wanting { link: _ } => {}
-            Life::SettingUp {
-                link: _,
-                with_user: _,
-            } => {}
-            Life::Ended { error: _ } => {}
+        if self.renewal.is_unanswered(number) {
+            self.take_back(renewal_id());
+            self.renewal.reply(false);
         }
     }
 
@@ -169,7 +159,7 @@ impl MultiplexedConnection {
 }
 
 impl MultiplexedConnection {
-    ghost use Rattle.mux_conn.specs.Connection.{work_with, is_ready, runs_out};
+    ghost use Rattle.mux_conn.specs.Connection.{work_with, is_ready, renewals_run_out};
     ghost use Rattle.mux_conn.specs.Passes.{renewal_timed, renewal_seated, renewal_told, renewed};
 
     /// The timer of new credentials is asked for, where they are to be answered within a time.
@@ -228,7 +218,7 @@ impl MultiplexedConnection {
             ≡ renewal_told (work_with self.old out.old.items) auth.now
             ) }
         ensures spent { IsErrOf result ConnectionError.Spent
-            → runs_out (renewal_told (work_with self.old out.old.items) auth.now) ≡ true }
+            → renewals_run_out (renewal_told (work_with self.old out.old.items) auth.now) ≡ true }
         ensures count { length self.new.requests ≡ length self.old.requests }
         ensures failure { self.new.failure ≡ self.old.failure }
     {
@@ -252,7 +242,7 @@ impl MultiplexedConnection {
             work_with self.new out.new.items ≡ renewed (work_with self.old out.old.items)
             ) }
         ensures spent { IsErrOf result ConnectionError.Spent
-            → runs_out (renewed (work_with self.old out.old.items)) ≡ true }
+            → renewals_run_out (renewed (work_with self.old out.old.items)) ≡ true }
         ensures count { length self.new.requests ≡ length self.old.requests }
         ensures failure { self.new.failure ≡ self.old.failure }
     {
