@@ -22,6 +22,18 @@ fn keep(outcomes: &mut Seq<Option<Outcome>>, request: u32, outcome: Outcome)
     }
 }
 
+/// A timer of a request is asked for.
+fn response_timer(request: u32, ms: u64) -> ConnectionAct
+    ensures { result ≡ ConnectionAct.Timer (ConnectionTimer.Response (pending request)) ms }
+{
+    ConnectionAct::Timer {
+        timer: ConnectionTimer::Response {
+            request: pending(request),
+        },
+        ms,
+    }
+}
+
 /// What an act of the machine shows; an outcome is kept.
 fn show(act: LinkAct, outcomes: &mut Seq<Option<Outcome>>) -> ConnectionAct
     ensures act { result ≡ shown act }
@@ -33,12 +45,7 @@ fn show(act: LinkAct, outcomes: &mut Seq<Option<Outcome>>) -> ConnectionAct
             request: pending(request),
             count,
         },
-        LinkAct::Timer { request, ms } => ConnectionAct::Timer {
-            timer: ConnectionTimer::Response {
-                request: pending(request),
-            },
-            ms,
-        },
+        LinkAct::Timer { request, ms } => response_timer(request, ms),
         LinkAct::RenewalTimer { number, ms } => ConnectionAct::Timer {
             timer: ConnectionTimer::Renewal { number },
             ms,

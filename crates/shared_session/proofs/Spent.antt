@@ -157,9 +157,9 @@ few_sources_in_turn c d kind acts is free =
     let k : length w.core.sources ≡ s = ap length (effect_sources (counted c) kind) in
     let n : length d.sources ≡ length w.core.sources + length new = ap length all ∙ length-append w.core.sources new in
     let m : length (sources_of l s acts) ≡ length new =
-            ap (λ (xs : List LinkAct). length (sources_of l s xs)) same
-            ∙ ap (λ (x : ℕ). length (sources_of x s w.acts)) (sym link)
-            ∙ ap (λ (x : ℕ). length (sources_of w.core.single.link x w.acts)) (sym k) in
+    ap (λ (xs : List LinkAct). length (sources_of l s xs)) same
+    ∙ ap (λ (x : ℕ). length (sources_of x s w.acts)) (sym link)
+    ∙ ap (λ (x : ℕ). length (sources_of w.core.single.link x w.acts)) (sym k) in
     omega (arith, sources_left d free, n, m, k)
 
 higher : (n m : ℕ) → n ≤ m → nat_le (2 ^ 32) n ≡ true → nat_le (2 ^ 32) m ≡ true

@@ -449,11 +449,7 @@ fn note_timer(link: u32, act: &LinkAct, timers: &mut Seq<Purpose>) -> Result<(),
 }
 
 /// What the sources of acts of the connection of that link are for is kept, in order.
-fn note_sources(
-    link: u32,
-    acts: &[LinkAct],
-    sources: &mut Seq<SourceUse>,
-) -> Result<(), AllocError>
+fn note_sources(link: u32, acts: &[LinkAct], sources: &mut Seq<SourceUse>) -> Result<(), AllocError>
     ensures { OnOk result (
         sources.new ≡ sources.old ++ sources_of link (length sources.old) acts.now
         ) }
@@ -465,11 +461,7 @@ fn note_sources(
 }
 
 /// What the source of an act is for is kept, if it asks for one: the first is for the setup, and any other for renewals.
-fn note_source(
-    link: u32,
-    act: &LinkAct,
-    sources: &mut Seq<SourceUse>,
-) -> Result<(), AllocError>
+fn note_source(link: u32, act: &LinkAct, sources: &mut Seq<SourceUse>) -> Result<(), AllocError>
     ensures { OnOk result (
         sources.new ≡ sources.old ++ source_of link (length sources.old) act.now
         ) }

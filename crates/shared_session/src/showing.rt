@@ -24,6 +24,40 @@ fn try_of(submission: u32) -> Owner
     }
 }
 
+/// A timer for one try of a submission.
+fn response_of(submission: u32) -> Purpose
+    ensures { result ≡ Purpose.Response (Owner.Try submission 0) }
+{
+    Purpose::Response {
+        owner: try_of(submission),
+    }
+}
+
+/// A timer is asked for, of that number.
+fn timer_asked(timer: u64, ms: u64, purpose: Purpose) -> Action
+    requires { timer < 2 ^ 32 }
+    ensures { result ≡ Action.Timer timer ms purpose }
+{
+    Action::Timer {
+        timer: timer as u32,
+        ms,
+        purpose,
+    }
+}
+
+/// A message of the link starts.
+fn started(link: u32, message: u32, owner: Owner, need: u64, len: u64) -> Action
+    ensures { result ≡ Action.Start link message owner need len }
+{
+    Action::Start {
+        link,
+        message,
+        owner,
+        need,
+        len,
+    }
+}
+
 /// What an act of the connection of that link shows, where so many timers, and so many sources of credentials, were asked for
 /// before.
 fn action_of(link: u32, timer: u64, source: u64, act: LinkAct) -> Action
@@ -38,18 +72,10 @@ fn action_of(link: u32, timer: u64, source: u64, act: LinkAct) -> Action
             link,
             count,
         },
-        LinkAct::Timer { request, ms } => Action::Timer {
-            timer: timer as u32,
-            ms,
-            purpose: Purpose::Response {
-                owner: try_of(request),
-            },
-        },
-        LinkAct::RenewalTimer { number, ms } => Action::Timer {
-            timer: timer as u32,
-            ms,
-            purpose: Purpose::Renewal { link, number },
-        },
+        LinkAct::Timer { request, ms } => timer_asked(timer, ms, response_of(request)),
+        LinkAct::RenewalTimer { number, ms } => {
+            timer_asked(timer, ms, Purpose::Renewal { link, number })
+        }
         LinkAct::NeedCreds => Action::NeedCreds {
             source: source as u32,
             link,
@@ -66,27 +92,9 @@ fn action_of(link: u32, timer: u64, source: u64, act: LinkAct) -> Action
             request,
             need,
             len,
-        } => Action::Start {
-            link,
-            message,
-            owner: try_of(request),
-            need,
-            len,
-        },
-        LinkAct::SetUp { message, need, len } => Action::Start {
-            link,
-            message,
-            owner: Owner::Setup,
-            need,
-            len,
-        },
-        LinkAct::Renewed { message, need, len } => Action::Start {
-            link,
-            message,
-            owner: Owner::Auth,
-            need,
-            len,
-        },
+        } => started(link, message, try_of(request), need, len),
+        LinkAct::SetUp { message, need, len } => started(link, message, Owner::Setup, need, len),
+        LinkAct::Renewed { message, need, len } => started(link, message, Owner::Auth, need, len),
         LinkAct::Outcome { request, outcome } => Action::Outcome {
             submission: request,
             outcome,
