@@ -26,9 +26,8 @@ use Rattle.legal_trace.specs.Story.{Story, blank_story, bytes_of, shape, handed_
 
 -- the configuration, once the opening has told it; how many links were asked for, and the ledger of each; how many
 -- submissions were handed in, and the story of each; what each timer, and each source of credentials, was asked for, in order;
--- how often the creation was
--- shown, or its failure; within how many milliseconds a submission that is handed in now is to be answered, if within any;
--- whether everything was shut down; how many turns began, and what the turn that runs is the turn of
+-- how often the creation was shown, or its failure; within how many milliseconds a submission that is handed in now is to be
+-- answered, if within any; whether everything was shut down; how many turns began, and what the turn that runs is the turn of
 pub record Book : Type 0 where
   pub config : Option Config
   pub links : ℕ
