@@ -204,6 +204,11 @@ told_asks false ms e = cc e
 pub both_hold : (p q : Bool) → p ≡ true → q ≡ true → (p && q) ≡ true
 both_hold p q x y = rw (x, y)
 
+-- neither of two holds
+pub neither_holds : (p q : Bool) → p ≡ false → q ≡ false → (p || q) ≡ false
+neither_holds true q e f = absurd (cc e)
+neither_holds false q e f = f
+
 -- where its next step goes past its permits and its timer
 past_timer : (b : Book) (n : ℕ) (s : Step) → (s ≡ starts) ⊎ (s ≡ tells)
     → step_holding (permits_in b.config) (b.story n).permits (λ limit. step_taking (free_permits b (b.story n).link limit) (permits_for (shape (b.story n)) limit)) (step_timed (b.story n).timeout (b.story n).clock (step_placed (is_outside b n) (is_awaited (b.story n)) (is_kept_back b (b.story n)))) ≡ s

@@ -212,7 +212,7 @@ idle_unrenewed l idle = left_if (l.up && not l.creds.lost && is_taken l (last_re
     (and_false l.up (not l.creds.lost && is_taken l (last_renewal l.starts 0 None)) idle.down)
 
 -- nor were any
-idle_unasked : (l : Ledger) → IsIdle l → renewals_asked l ≡ 0
+pub idle_unasked : (l : Ledger) → IsIdle l → renewals_asked l ≡ 0
 idle_unasked l idle =
     ap (λ o. renewal_count l.starts + (if is_some o then 1 else 0)) (idle_unrenewed l idle)
     ∙ ap (λ (ss : List Start). renewal_count ss + 0) idle.quiet
