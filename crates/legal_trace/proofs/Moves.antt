@@ -107,7 +107,7 @@ asker_moves b t ms what may = record { unstarted = may.unstarted; due = ap is_du
 -- who waits, waits for the connect, or on a link that is up
 waits_up : (dialing up set : Bool) (unready : WaitKind) (step : Step) (kind : WaitKind) → (if dialing then waits wait.Connect else if up then (if set then step else waits unready) else nothing) ≡ waits kind → (dialing ≡ true) ⊎ (up ≡ true)
 waits_up true up set unready step kind e = inl refl
-waits_up false true set step kind e = inr refl
+waits_up false true set unready step kind e = inr refl
 waits_up false false set unready step kind e = cc
 
 -- so the link of who waits isn't answered, or is up

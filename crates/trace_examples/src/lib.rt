@@ -2,7 +2,7 @@
 #![tactic(auto)]
 
 ghost use Rattle.std.specs.Prelude.{◌≡◌, ◌≢◌, ◌<◌, ℕ, List, [], ◌∷◌, ◌++◌, Option, Some, None};
-ghost use Rattle.std.specs.Prelude.{drop, pos, true, false};
+ghost use Rattle.std.specs.Prelude.{codes, drop, pos, true, false};
 ghost use Rattle.redis_error.specs.declared.fault_kind.FaultKind.{FaultKind};
 ghost use Rattle.redis_error.specs.declared.fault_kind.FaultKind.TheVariants.{Reset, TimedOut};
 ghost use Rattle.redis_error.specs.declared.redis_error.RedisError.{RedisError};
@@ -71,6 +71,12 @@ ghost use Rattle.trace_examples.specs.Pushes.{disconnection};
 ghost use Rattle.trace_examples.specs.Pushes.{pushed_early, cut_off_early, invalid_while_asked};
 ghost use Rattle.trace_examples.specs.Pushes.{first_told, invalid_told, pushed_alone, confirmed};
 ghost use Rattle.trace_examples.specs.Pushes.{cut_off_asked, end_told, push_fronts};
+ghost use Rattle.trace_examples.specs.Creds.{untimed, timed, held_sourced, of_letter, told_letter};
+ghost use Rattle.trace_examples.specs.Creds.{needed, deserted_first, denied_first};
+ghost use Rattle.trace_examples.specs.Creds.{waits_for_creds, first_taken, needed_again};
+ghost use Rattle.trace_examples.specs.Creds.{renewal_came, renewal_sent, second_came, renewal_taken};
+ghost use Rattle.trace_examples.specs.Creds.{renewal_refused, answered_late, behind_a_place};
+ghost use Rattle.trace_examples.specs.Creds.{before_a_place, creds_fronts};
 ghost use Rattle.driver_model.specs.declared.push_info.PushInfo.{PushInfo};
 ghost use Rattle.trace_examples.specs.Traces.{opening};
 ghost use Rattle.trace_examples.specs.Calls.{of_third, call_of_c, hello_well, confirmation};
@@ -708,4 +714,94 @@ pub fn nor_are_these_pushes()
         → NoneBeginsIn heard cut_off_asked (action.Outcome 0 o) }
     ensures push_left_out { (number : ℕ) (c : Cause)
         → NoneBeginsIn heard pushed_alone (action.Turn number c) }
+{}
+
+/// Does nothing. Its contract: these are legal too. The first credentials of a source are those of
+/// the setup, and later ones are told by AUTH, one after another, each once those before are taken;
+/// after a refusal, or an answer that came too late, none is told. Where the first source ends, or
+/// could give none, the opening fails. A command waits for credentials and then for the setup; one
+/// that has its place starts before credentials that came later, and one that came later behind
+/// them.
+pub fn these_renew_credentials()
+    ensures set_up_and_renewed { IsTraceIn untimed
+        (event.Connected 0 ∷ event.Creds 0 (of_letter 112) ∷ event.Wrote 0 28
+        ∷ event.Bytes 0 okay_line ∷ event.Creds 1 (of_letter 113)
+        ∷ event.CredsEnd 1 ∷ []) renewal_sent (turn 6 (event.CredsEnd 1) ∷ []) }
+    ensures ended_first { IsTraceIn untimed (event.Connected 0 ∷ event.CredsEnd 0 ∷ [])
+        deserted_first (action.Close 0 ∷ action.Created (Some (error.AuthFailed [])) ∷ []) }
+    ensures failed_first { IsTraceIn untimed
+        (event.Connected 0 ∷ event.CredsError 0 (codes "no") ∷ []) denied_first
+        (action.Close 0 ∷ action.Created (Some (error.Credentials (codes "no"))) ∷ []) }
+    ensures waits_for_both { IsTraceIn untimed
+        (event.Connected 0 ∷ event.Submit (command 71) ∷ event.Creds 0 (of_letter 112) ∷ [])
+        waits_for_creds
+        (turn 3 (event.Creds 0 (of_letter 112)) ∷ action.Start 0 0 owner.Setup 1 28
+        ∷ action.Write 0 (told_letter 112) ∷ action.Wait (owner.Try 0 0) wait.Setup ∷ []) }
+    ensures one_after_another { IsTraceIn untimed
+        (event.Connected 0 ∷ event.Creds 0 (of_letter 112) ∷ event.Wrote 0 28
+        ∷ event.Bytes 0 okay_line ∷ event.Creds 1 (of_letter 113)
+        ∷ event.Creds 1 (of_letter 114) ∷ event.Wrote 0 28 ∷ event.Bytes 0 okay_line ∷ [])
+        renewal_taken (action.Start 0 2 owner.Auth 1 28 ∷ action.Write 0 (told_letter 114) ∷ []) }
+    ensures none_after_a_refusal { IsTraceIn untimed
+        (event.Connected 0 ∷ event.Creds 0 (of_letter 112) ∷ event.Wrote 0 28
+        ∷ event.Bytes 0 okay_line ∷ event.Creds 1 (of_letter 113)
+        ∷ event.Creds 1 (of_letter 114) ∷ event.Wrote 0 28 ∷ event.Bytes 0 wrong_password ∷ [])
+        renewal_refused [] }
+    ensures none_after_its_time { IsTraceIn timed
+        (event.Connected 0 ∷ event.Creds 0 (of_letter 112) ∷ event.Wrote 0 28
+        ∷ event.Bytes 0 okay_line ∷ event.Creds 1 (of_letter 113)
+        ∷ event.Wrote 0 28 ∷ event.Fired 0 ∷ event.Bytes 0 okay_line
+        ∷ event.Creds 1 (of_letter 114) ∷ []) answered_late [] }
+    ensures place_before_credentials { IsTraceIn held_sourced
+        (event.Connected 0 ∷ event.Creds 0 (of_letter 112) ∷ event.Wrote 0 28
+        ∷ event.Bytes 0 okay_line ∷ event.Submit (command 71)
+        ∷ event.Submit (command 72) ∷ event.Creds 1 (of_letter 113) ∷ event.Wrote 0 11
+        ∷ event.Wrote 0 11 ∷ []) behind_a_place
+        (action.Start 0 2 (owner.Try 1 0) 1 11 ∷ action.Write 0 (packed_bytes (command 72))
+        ∷ turn 9 (event.Wrote 0 11) ∷ action.Start 0 3 owner.Auth 1 28
+        ∷ action.Write 0 (told_letter 113) ∷ []) }
+    ensures credentials_before_place { IsTraceIn held_sourced
+        (event.Connected 0 ∷ event.Creds 0 (of_letter 112) ∷ event.Wrote 0 28
+        ∷ event.Bytes 0 okay_line ∷ event.Submit (command 71)
+        ∷ event.Creds 1 (of_letter 113) ∷ event.Submit (command 72) ∷ event.Wrote 0 11
+        ∷ event.Wrote 0 28 ∷ []) before_a_place
+        (action.Start 0 2 owner.Auth 1 28 ∷ action.Write 0 (told_letter 113)
+        ∷ turn 9 (event.Wrote 0 28) ∷ action.Start 0 3 (owner.Try 1 0) 1 11
+        ∷ action.Write 0 (packed_bytes (command 72)) ∷ []) }
+{}
+
+/// Does nothing. Its contract: no trace that begins so is legal, whatever its events were and
+/// whatever comes after: AUTH without credentials that came, before the AUTH before it is taken,
+/// after that was refused or answered too late, before its timer, or before a message that had its
+/// place; a message that came later, before them; a source that is asked for twice, three times, or
+/// before the creation is shown; a creation or a setup without credentials; credentials of a source
+/// that was never asked for; and a turn that begins while one is to be. Each action of their fronts
+/// stands where it may.
+pub fn nor_are_these_credentials()
+    ensures fronts { (word : ℕ) → EachStands (creds_fronts word) }
+    ensures told_nothing { (k count len : ℕ)
+        → NoneBeginsIn untimed needed_again (action.Start 0 k owner.Auth count len) }
+    ensures told_two_at_once { (k count len : ℕ)
+        → NoneBeginsIn untimed second_came (action.Start 0 k owner.Auth count len) }
+    ensures told_after_a_refusal { (k count len : ℕ)
+        → NoneBeginsIn untimed renewal_refused (action.Start 0 k owner.Auth count len) }
+    ensures told_after_its_time { (k count len : ℕ)
+        → NoneBeginsIn timed answered_late (action.Start 0 k owner.Auth count len) }
+    ensures told_untimed { (k count len : ℕ)
+        → NoneBeginsIn timed renewal_came (action.Start 0 k owner.Auth count len) }
+    ensures told_before_a_place { (k count len : ℕ)
+        → NoneBeginsIn held_sourced behind_a_place (action.Start 0 k owner.Auth count len) }
+    ensures started_before_credentials { (l k round count len : ℕ)
+        → NoneBeginsIn held_sourced before_a_place (action.Start l k (owner.Try 1 round) count len) }
+    ensures needed_twice { (c : ℕ) → NoneBeginsIn untimed needed (action.NeedCreds c 0) }
+    ensures needed_three_times { (c : ℕ)
+        → NoneBeginsIn untimed needed_again (action.NeedCreds c 0) }
+    ensures needed_too_soon { (c : ℕ) → NoneBeginsIn untimed first_taken (action.NeedCreds c 0) }
+    ensures created_without { NoneBeginsIn untimed needed (action.Created None) }
+    ensures set_up_without { (k count len : ℕ)
+        → NoneBeginsIn untimed needed (action.Start 0 k owner.Setup count len) }
+    ensures given_unasked { NoneBeginsIn untimed needed
+        (turn 2 (event.Creds 1 (of_letter 112))) }
+    ensures source_left_out { (number : ℕ) (c : Cause)
+        → NoneBeginsIn untimed unsaid (action.Turn number c) }
 {}
