@@ -8,7 +8,7 @@ use Rattle.driver_model.specs.declared.action.Owner.TheVariants as owner
 use Rattle.driver_model.specs.declared.action.Purpose.{Purpose}
 use Rattle.driver_model.specs.declared.action.WaitKind.{WaitKind}
 use Rattle.driver_model.specs.declared.outcome.Outcome.{Outcome}
-use Rattle.legal_trace.specs.Ledger.{Ledger, Line, Start, begins, offers, noted_each, is_of_setup, is_set_up, is_ready, is_cut, setup_due, ending, failure_in, next_push}
+use Rattle.legal_trace.specs.Ledger.{Ledger, Line, Start, begins, offers, noted_each, is_of_setup, is_set_up, is_ready, is_cut, setup_due, ending, failure_in, next_push, renewals_asked}
 use Rattle.legal_trace.specs.Story.{Story, Try, is_open, is_unstarted, shape, holds, clocked, tried, waits, answered}
 use Rattle.legal_trace.specs.Steps.{is_due, is_held_back, permits_in, permits_on, permits_held, is_in_line, line_before, next_step}
 use Rattle.legal_trace.specs.Owed.{owed_to_message, owed_to_try}
@@ -115,7 +115,7 @@ not_open s o h = not_empty s.outcomes o (open_has_none (answered s o) h)
 -- so does Nil that is told at its place
 pub tell_applied : (b : Book) (m : ℕ) (o : Outcome) → MayTell b m o → IsApplied (entered b (action.Outcome m o))
 tell_applied b m o may = record {
-  answered = λ n. chosen (λ (s : Story). is_open s ≡ true → owed_story (entered b (action.Outcome m o)) s ≡ None) (m == n) (answered (b.story n) o) (b.story n)
+  answered = λ n. chosen (λ (s : Story). is_open s ≡ true → owed_story (entered b (action.Outcome m o)) s ≡ None) (m == n) (answered (b.story n) o (renewals_asked (b.link (b.story n).link))) (b.story n)
       (λ t open_still. absurd (not_open (b.story n) o open_still))
       (λ f open_still. owed_again b (entered b (action.Outcome m o)) (b.story n) (λ e. e, λ t last e. e) (may.begun.applied.answered n open_still));
   ended = may.begun.applied.ended;
@@ -191,7 +191,7 @@ ask_applied b t ms what done = record {
 -- and a wait leaves all as it was
 wait_applied : (b : Book) (m round : ℕ) (kind : WaitKind) → IsApplied b → IsApplied (entered b (action.Wait (owner.Try m round) kind))
 wait_applied b m round kind done = record {
-  answered = λ n. chosen (λ (s : Story). is_open s ≡ true → owed_story (entered b (action.Wait (owner.Try m round) kind)) s ≡ None) (m == n) (waits (b.story n) kind) (b.story n)
+  answered = λ n. chosen (λ (s : Story). is_open s ≡ true → owed_story (entered b (action.Wait (owner.Try m round) kind)) s ≡ None) (m == n) (waits (b.story n) kind (renewals_asked (b.link (b.story n).link))) (b.story n)
       (λ t o. owed_again b (entered b (action.Wait (owner.Try m round) kind)) (b.story n) (λ e. e, λ u last e. e) (done.answered n o))
       (λ f o. owed_again b (entered b (action.Wait (owner.Try m round) kind)) (b.story n) (λ e. e, λ u last e. e) (done.answered n o));
   ended = done.ended;
@@ -218,11 +218,11 @@ wait_step b m round kind n =
     let e : step_of b.config (b.story n) (line_before (permits_in b.config) c.story (b.story n).link n) (permits_held c.story (b.story n).link b.submissions) (link_of b n) ≡ next_step b n =
     ap (λ x. step_of b.config (b.story n) x (permits_held c.story (b.story n).link b.submissions) (link_of b n)) line
     ∙ ap (λ x. step_of b.config (b.story n) (line_before (permits_in b.config) b.story (b.story n).link n) x (link_of b n)) held in
-    chosen (λ s. step_of b.config s (line_before (permits_in b.config) c.story s.link n) (permits_held c.story s.link b.submissions) (b.link s.link) ≡ next_step b n) (m == n) (waits (b.story n) kind) (b.story n) (λ t. e) (λ f. e)
+    chosen (λ s. step_of b.config s (line_before (permits_in b.config) c.story s.link n) (permits_held c.story s.link b.submissions) (b.link s.link) ≡ next_step b n) (m == n) (waits (b.story n) kind (renewals_asked (b.link (b.story n).link))) (b.story n) (λ t. e) (λ f. e)
 
 -- and leaves unstarted what is
 wait_unstarted : (b : Book) (m round : ℕ) (kind : WaitKind) (n : ℕ) → is_unstarted ((entered b (action.Wait (owner.Try m round) kind)).story n) ≡ is_unstarted (b.story n)
-wait_unstarted b m round kind n = chosen (λ s. is_unstarted s ≡ is_unstarted (b.story n)) (m == n) (waits (b.story n) kind) (b.story n) (λ t. refl) (λ f. refl)
+wait_unstarted b m round kind n = chosen (λ s. is_unstarted s ≡ is_unstarted (b.story n)) (m == n) (waits (b.story n) kind (renewals_asked (b.link (b.story n).link))) (b.story n) (λ t. refl) (λ f. refl)
 
 -- so all stays written behind a wait
 pub wait_written : (b : Book) (m round : ℕ) (kind : WaitKind) → IsWritten b → IsWritten (entered b (action.Wait (owner.Try m round) kind))

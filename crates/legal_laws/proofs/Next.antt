@@ -150,6 +150,10 @@ setup_is b l message count len may =
     ap (λ x. action.Start l x owner.Setup count len) may.next
     ∙ (ap (λ x. action.Start l (length (b.link l).starts) owner.Setup x len) may.needs_its_items
     ∙ ap (λ x. action.Start l (length (b.link l).starts) owner.Setup (need_of (setup_message (b.link l) may.k).shape) x) may.long_as_its_bytes)
+setup_is b l message count len may =
+    ap (λ x. action.Start l x owner.Auth count len) may.next
+    ∙ (ap (λ x. action.Start l (length (b.link l).starts) owner.Auth x len) may.needs_its_items
+    ∙ ap (λ x. action.Start l (length (b.link l).starts) owner.Auth (need_of (setup_message (b.link l) may.k).shape) x) may.long_as_its_bytes) = 
 
 -- a setup is to start on that link, which isn't held back
 abbrev pub IsSettingUp : Book → ℕ → Type 0
@@ -281,15 +285,19 @@ of_rank b (action.Turn k (cause.Opening config word)) may = (k, config, word, re
 of_rank b (action.Connect l host port) may = (l, host, port, refl, may)
 of_rank b (action.Timer t ms what) may = timer_of_rank b t ms what may
 of_rank b (action.Took owner.Setup l count) may = absurd may
+of_rank b (action.Took owner.Auth l count) may = absurd may
 of_rank b (action.Took (owner.Try n round) l count) may = subst (λ r. IsMoving b (action.Took (owner.Try n r) l count)) (sym may.0) (take_moving b n l count may.1)
 of_rank b (action.Outcome n o) may = outcome_of_rank b n o may
 of_rank b (action.Push l info) may = push_of_rank b l info (is_disconnection info.kind) refl may
+of_rank b (action.NeedCreds c l) may = (l, bytes, refl, may)
 of_rank b (action.Close l) may = (l, refl, may)
 of_rank b (action.Created e) may = creation_of_rank b e may
 of_rank b (action.Start l k owner.Setup count len) may = (l, k, count, len, refl, may)
+of_rank b (action.Start l k owner.Auth count len) may = (l, k, count, len, refl, may)
 of_rank b (action.Start l k (owner.Try n round) count len) may = subst (λ r. IsMoving b (action.Start l k (owner.Try n r) count len)) (sym may.0) (start_moving b l k n count len may.1)
 of_rank b (action.Write l bytes) may = (l, bytes, refl, may)
 of_rank b (action.Wait owner.Setup kind) may = absurd may
+of_rank b (action.Wait owner.Auth kind) may = absurd may
 of_rank b (action.Wait (owner.Try n round) kind) may = (n, kind, ap (λ r. action.Wait (owner.Try n r) kind) may.0, may.1)
 of_rank b (action.Turn k (cause.Event e)) may = (k, e, refl, may.next)
 
@@ -364,15 +372,19 @@ beside b (action.Turn j (cause.Opening config word)) y p h q = subst (AreOne (ac
 beside b (action.Connect l host port) y p h q = inl (one_connect b l q.0 host q.1 port q.2 p q.4 ∙ sym q.3)
 beside b (action.Timer t ms what) y p h q = beside_timer b t ms what y p q
 beside b (action.Took owner.Setup l count) y p h q = absurd p
+beside b (action.Took owner.Auth l count) y p h q = absurd p
 beside b (action.Took (owner.Try n round) l count) y p h q = subst (λ r. AreOne (action.Took (owner.Try n r) l count) y) (sym p.0) (inl (one_moving b (action.Took (owner.Try n 0) l count) y (take_moving b n l count p.1) q))
 beside b (action.Outcome n o) y p h q = beside_outcome b n o y p h q
 beside b (action.Push l info) y p h q = beside_push b l info y (is_disconnection info.kind) h refl p q
+beside b (action.NeedCreds c l) y p h q = inl (one_write b l q.0 bytes q.1 p q.3 ∙ sym q.2)
 beside b (action.Close l) y p h q = inl (one_close b l q.0 p q.2 ∙ sym q.1)
 beside b (action.Created e) y p h q = beside_creation b e y p q
 beside b (action.Start l k owner.Setup count len) y p h q = inl (one_setup b l q.0 k q.1 count q.2 len q.3 p q.5 ∙ sym q.4)
+beside b (action.Start l k owner.Auth count len) y p h q = inl (one_setup b l q.0 k q.1 count q.2 len q.3 p q.5 ∙ sym q.4)
 beside b (action.Start l k (owner.Try n round) count len) y p h q = subst (λ r. AreOne (action.Start l k (owner.Try n r) count len) y) (sym p.0) (inl (one_moving b (action.Start l k (owner.Try n 0) count len) y (start_moving b l k n count len p.1) q))
 beside b (action.Write l bytes) y p h q = inl (one_write b l q.0 bytes q.1 p q.3 ∙ sym q.2)
 beside b (action.Wait owner.Setup kind) y p h q = absurd p
+beside b (action.Wait owner.Auth kind) y p h q = absurd p
 beside b (action.Wait (owner.Try n round) kind) y p h q = subst (λ r. AreOne (action.Wait (owner.Try n r) kind) y) (sym p.0) (inl (one_wait b n q.0 kind q.1 p.1 q.3 ∙ sym q.2))
 beside b (action.Turn j (cause.Event e)) y p h q = subst (AreOne (action.Turn j (cause.Event e))) (sym q.2) (inr (p.next ∙ sym q.3, tt))
 

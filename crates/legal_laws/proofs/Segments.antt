@@ -44,15 +44,19 @@ done_behind b (action.Turn k (cause.Event e)) may h = tt
 done_behind b (action.Connect l host port) may h = tt
 done_behind b (action.Timer t ms what) may h = timer_done b t ms what may
 done_behind b (action.Took owner.Setup l count) may h = absurd may
+done_behind b (action.Took owner.Auth l count) may h = absurd may
 done_behind b (action.Took (owner.Try n round) l count) may h = take_applied b n round l count may.1.begun.applied
 done_behind b (action.Push l info) may h = tt
+done_behind b (action.NeedCreds c l) may h = write_moved b l bytes may.moved
 done_behind b (action.Close l) may h = tt
 done_behind b (action.Created e) may h = tt
 done_behind b (action.Outcome n o) may h = outcome_done b n o may
 done_behind b (action.Start l k owner.Setup count len) may h = setup_applied b l k count len may h
+done_behind b (action.Start l k owner.Auth count len) may h = setup_applied b l k count len may h
 done_behind b (action.Start l k (owner.Try n round) count len) may h = start_applied b l k n round count len may.1 h
 done_behind b (action.Write l bytes) may h = write_moved b l bytes may.moved
 done_behind b (action.Wait owner.Setup kind) may h = absurd may
+done_behind b (action.Wait owner.Auth kind) may h = absurd may
 done_behind b (action.Wait (owner.Try n round) kind) may h = wait_written b n round kind may.1.written
 
 -- from the fourth segment on all is written
@@ -119,15 +123,19 @@ comes b (action.Turn j c) may k h done = tt
 comes b (action.Connect l host port) may k h done = effect_early b (action.Connect l host port) may k h done (omega arith)
 comes b (action.Timer t ms what) may k h done = timer_early b t ms what may k h done
 comes b (action.Took owner.Setup l count) may k h done = absurd may
+comes b (action.Took owner.Auth l count) may k h done = absurd may
 comes b (action.Took (owner.Try n round) l count) may k h done = pass_early b (action.Took (owner.Try n round) l count) may k h done (omega arith)
 comes b (action.Push l info) may k h done = effect_early b (action.Push l info) may k h done (push_first (is_disconnection info.kind))
+comes b (action.NeedCreds c l) may k h done = write_early b (action.NeedCreds c l) may k h done (omega arith)
 comes b (action.Close l) may k h done = effect_early b (action.Close l) may k h done (omega arith)
 comes b (action.Created e) may k h done = effect_early b (action.Created e) may k h done (creation_first e)
 comes b (action.Outcome n o) may k h done = outcome_early b n o may k h done
 comes b (action.Start l j owner.Setup count len) may k h done = pass_early b (action.Start l j owner.Setup count len) may k h done (omega arith)
+comes b (action.Start l j owner.Auth count len) may k h done = pass_early b (action.Start l j owner.Auth count len) may k h done (omega arith)
 comes b (action.Start l j (owner.Try n round) count len) may k h done = pass_early b (action.Start l j (owner.Try n round) count len) may k h done (omega arith)
 comes b (action.Write l bytes) may k h done = write_early b (action.Write l bytes) may k h done (omega arith)
 comes b (action.Wait owner.Setup kind) may k h done = absurd may
+comes b (action.Wait owner.Auth kind) may k h done = absurd may
 comes b (action.Wait (owner.Try n round) kind) may k h done = at_most_four b k done
 
 -- and actions behind one another

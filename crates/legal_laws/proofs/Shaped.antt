@@ -7,9 +7,9 @@ use Rattle.driver_model.specs.declared.action.Action.{Action}
 use Rattle.driver_model.specs.declared.action.Action.TheVariants as action
 use Rattle.driver_model.specs.declared.action.Cause.TheVariants as cause
 use Rattle.driver_model.specs.declared.action.Owner.TheVariants as owner
-use Rattle.driver_model.specs.News.{News, silence, connected, refused, overdue, took, came, failed, shut, news_of}
-use Rattle.legal_trace.specs.Ledger.{Ledger, asks, hears, begins, offers, ends, noted, with_news, refused_in, bytes_came, is_over, dials}
-use Rattle.legal_trace.specs.Book.{Book, entered, info_in, message_of}
+use Rattle.driver_model.specs.News.{News, silence, connected, refused, overdue, took, came, failed, shut, news_of, authorized, denied, deserted, renewed, unrenewed, late}
+use Rattle.legal_trace.specs.Ledger.{Ledger, asks, hears, begins, offers, ends, noted, with_news, refused_in, bytes_came, is_over, dials, sources, times, awaits_credentials, authorized_by, may_renew, renewed_by, unrenewed_by, is_renewal_open, lost_by}
+use Rattle.legal_trace.specs.Book.{Book, entered, info_in, message_of, wanted_in, is_renewal_of}
 use Rattle.legal_trace.specs.Legal.{MayStand}
 use Rattle.legal_trace.proofs.Ledgers.{mine_keeps, hears_past}
 use Rattle.legal_trace.proofs.Moves.{mover_is_up, starter_moves}
@@ -31,6 +31,12 @@ hears_info l turn overdue = refl
 hears_info l turn (took count) = chosen (λ (x : Ledger). x.info ≡ l.info) l.up (record l { taken = l.taken ++ take count l.offer; offer = [] }) l (λ t. refl) (λ e. refl)
 hears_info l turn (came piece) = chosen (λ (x : Ledger). x.info ≡ l.info) l.up (bytes_came l piece) l (λ t. refl) (λ e. refl)
 hears_info l turn (failed f) = refl
+hears_info l turn (authorized c) = chosen (λ (x : Ledger). x.info ≡ l.info) (awaits_credentials l) (authorized_by l c) l (λ t. refl) (λ e. refl)
+hears_info l turn (denied text) = refl
+hears_info l turn deserted = refl
+hears_info l turn (renewed c) = chosen (λ (x : Ledger). x.info ≡ l.info) (may_renew l) (renewed_by l c) l (λ t. refl) (λ e. refl)
+hears_info l turn unrenewed = chosen (λ (x : Ledger). x.info ≡ l.info) l.up (unrenewed_by l) l (λ t. refl) (λ e. refl)
+hears_info l turn (late k) = chosen (λ (x : Ledger). x.info ≡ l.info) (l.up && is_renewal_open l k) (lost_by l) l (λ t. refl) (λ e. refl)
 hears_info l turn shut = refl
 
 -- so it stays with a turn
@@ -43,7 +49,7 @@ hears_shaped l turn news h =
     }
 
 -- with the connect of a link that was not asked for
-asks_shaped : (l : Ledger) (info : RedisConnectionInfo) → l.asked ≡ false → IsShaped l → IsShaped (noted l (asks info))
+asks_shaped : (l : Ledger) (info : RedisConnectionInfo) → l.asked ≡ false → IsShaped l → IsShaped (noted l (asks info wanted))
 asks_shaped l info unasked h = record {
   none = λ f. cc f;
   are = subst (SetupsOf info) (sym (h.none unasked)) (λ k s i. absurd (omega (arith, i)));
@@ -52,19 +58,28 @@ asks_shaped l info unasked h = record {
 -- each action that may stand keeps it
 pub shaped_kept : (b : Book) (a : Action) (l : ℕ) → MayStand b a → HasLinks b → IsShaped (b.link l) → IsShaped ((entered b a).link l)
 shaped_kept b (action.Turn k (cause.Opening config word)) l may links h = h
-shaped_kept b (action.Turn k (cause.Event e)) l may links h = hears_shaped (b.link l) k (news_of b.timers l e.kind) h
-shaped_kept b (action.Connect m host port) l may links h = mine_keeps IsShaped (m == l) (b.link l) (asks (info_in b.config))
+shaped_kept b (action.Turn k (cause.Event e)) l may links h = hears_shaped (b.link l) k (news_of b.timers b.sources l e.kind) h
+shaped_kept b (action.Connect m host port) l may links h = mine_keeps IsShaped (m == l) (b.link l) (asks (info_in b.config) (wanted_in b.config))
     (λ t. let same : m ≡ l = eq_from m l t in let next : m ≡ b.links = may.next in asks_shaped (b.link l) (info_in b.config) (links.unasked l (omega (arith, same, next))).0 h) h
-shaped_kept b (action.Timer t ms what) l may links h = h
+shaped_kept b (action.Timer t ms what) l may links h = mine_keeps IsShaped (is_renewal_of l what) (b.link l) times (λ t. record { none = h.none; are = h.are }) h
 shaped_kept b (action.Took owner.Setup m count) l may links h = absurd may
+shaped_kept b (action.Took owner.Auth m count) l may links h = absurd may
 shaped_kept b (action.Took (owner.Try n round) m count) l may links h = h
 shaped_kept b (action.Push m info) l may links h = push_keeps IsShaped (m == l) info.kind (b.link l) (record { none = h.none; are = h.are }) (record { none = h.none; are = h.are }) h
+shaped_kept b (action.NeedCreds c m) l may links h = mine_keeps IsShaped (m == l) (b.link l) sources (λ t. record { none = h.none; are = h.are }) h
 shaped_kept b (action.Close m) l may links h = mine_keeps IsShaped (m == l) (b.link l) (ends (b.turns - 1)) (λ t. record { none = h.none; are = h.are }) h
 shaped_kept b (action.Write m bytes) l may links h = mine_keeps IsShaped (m == l) (b.link l) (offers bytes) (λ t. record { none = h.none; are = h.are }) h
 shaped_kept b (action.Wait owner.Setup kind) l may links h = absurd may
+shaped_kept b (action.Wait owner.Auth kind) l may links h = absurd may
 shaped_kept b (action.Wait (owner.Try n round) kind) l may links h = h
 shaped_kept b (action.Start m k owner.Setup count len) l may links h = mine_keeps IsShaped (m == l) (b.link l) (begins (message_of b m owner.Setup))
     (λ t. subst (λ j. IsShaped (b.link j) → IsShaped (noted (b.link j) (begins (message_of b m owner.Setup)))) (eq_from m l t)
+    (λ g. record {
+      none = λ f. absurd (not_both (b.link m).asked f (up_is_asked b m links (due_is_up (b.link m) may.k may.due)));
+      are = setups_setup (b.link m) g.are;
+    }) h) h
+shaped_kept b (action.Start m k owner.Auth count len) l may links h = mine_keeps IsShaped (m == l) (b.link l) (begins (message_of b m owner.Auth))
+    (λ t. subst (λ j. IsShaped (b.link j) → IsShaped (noted (b.link j) (begins (message_of b m owner.Auth)))) (eq_from m l t)
     (λ g. record {
       none = λ f. absurd (not_both (b.link m).asked f (up_is_asked b m links (due_is_up (b.link m) may.k may.due)));
       are = setups_setup (b.link m) g.are;
