@@ -144,7 +144,7 @@ message_from b (action.Start m j (owner.Try i round) count len) l n k blank = ch
     (λ e o h. let same = same_last (b.story n).tries m j l k h in inr (same.0, same.1, eq_from i n e)) (λ f o h. inl (o, h))
 message_from b (action.Created e) l n k blank = λ o h. inl (o, h)
 message_from b (action.Outcome i o) l n k blank = chosen (IsFrom b (action.Outcome i o) l n k) (i == n) (answered (b.story n) o (renewals_asked (b.link (b.story n).link))) (b.story n)
-    (λ e open_still h. absurd (not_open (b.story n) o open_still)) (λ f u h. inl (u, h))
+    (λ e open_still h. absurd (not_open (b.story n) o (renewals_asked (b.link (b.story n).link)) open_still)) (λ f u h. inl (u, h))
 
 -- behind a push that came when so many items had been dealt: the last message of submission n, where it is open and that is of
 -- the push's link, takes an item behind it

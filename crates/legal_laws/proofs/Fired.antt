@@ -82,7 +82,7 @@ over_kept b (action.Start l k (owner.Try m round) count len) may n i h = chosen 
     (λ e u. absurd (not_empty (b.story n).tries (record { link = l; message = k }) (has_no_tries (tried (b.story n) l k) u))) (λ f. h)
 over_kept b (action.Created e) may n i h = h
 over_kept b (action.Outcome m o) may n i h = chosen IsOver (m == n) (answered (b.story n) o (renewals_asked (b.link (b.story n).link))) (b.story n)
-    (λ t. subst (λ j. IsOver (b.story j) → IsOver (answered (b.story j) o)) (eq_from m n t) (outcome_over b m o may) h) (λ f. h)
+    (λ t. subst (λ j. IsOver (b.story j) → IsOver (answered (b.story j) o (renewals_asked (b.link (b.story j).link)))) (eq_from m n t) (outcome_over b m o may) h) (λ f. h)
 
 -- and behind many
 stays_over : (b : Book) (front : List Action) → AllStand b front → (n : ℕ) → n < b.submissions → IsOver (b.story n) → IsOver ((entered_each b front).story n)

@@ -109,14 +109,14 @@ setup_applied b l k count len may h = record {
 }
 
 -- what is answered is not open
-pub not_open : (s : Story) (o : Outcome) → is_open (answered s o) ≡ true → ⊥
-not_open s o h = not_empty s.outcomes o (open_has_none (answered s o) h)
+pub not_open : (s : Story) (o : Outcome) (behind : ℕ) → is_open (answered s o behind) ≡ true → ⊥
+not_open s o behind h = not_empty s.outcomes o (open_has_none (answered s o behind) h)
 
 -- so does Nil that is told at its place
 pub tell_applied : (b : Book) (m : ℕ) (o : Outcome) → MayTell b m o → IsApplied (entered b (action.Outcome m o))
 tell_applied b m o may = record {
   answered = λ n. chosen (λ (s : Story). is_open s ≡ true → owed_story (entered b (action.Outcome m o)) s ≡ None) (m == n) (answered (b.story n) o (renewals_asked (b.link (b.story n).link))) (b.story n)
-      (λ t open_still. absurd (not_open (b.story n) o open_still))
+      (λ t open_still. absurd (not_open (b.story n) o (renewals_asked (b.link (b.story n).link)) open_still))
       (λ f open_still. owed_again b (entered b (action.Outcome m o)) (b.story n) (λ e. e, λ t last e. e) (may.begun.applied.answered n open_still));
   ended = may.begun.applied.ended;
   created = record { asked = may.begun.applied.created.asked; shown = may.begun.applied.created.shown; failed = may.begun.applied.created.failed };

@@ -184,7 +184,7 @@ follows b (action.Start l k owner.Auth count len) may n i = same_story (permits_
 follows b (action.Start l k (owner.Try m round) count len) may n i = chosen (Follows (permits_in b.config) (b.story n)) (m == n) (tried (b.story n) l k) (b.story n) (λ t. tried_follows (permits_in b.config) (b.story n) l k) (λ f. same_story (permits_in b.config) (b.story n))
 follows b (action.Created e) may n i = same_story (permits_in b.config) (b.story n)
 follows b (action.Outcome m o) may n i = chosen (Follows (permits_in b.config) (b.story n)) (m == n) (answered (b.story n) o (renewals_asked (b.link (b.story n).link))) (b.story n)
-    (λ t. subst (λ j. Follows (permits_in b.config) (b.story j) (answered (b.story j) o)) (eq_from m n t) (answered_follows b m o may)) (λ f. same_story (permits_in b.config) (b.story n))
+    (λ t. subst (λ j. Follows (permits_in b.config) (b.story j) (answered (b.story j) o (renewals_asked (b.link (b.story j).link)))) (eq_from m n t) (answered_follows b m o may)) (λ f. same_story (permits_in b.config) (b.story n))
 
 -- who is to start on a link behind an action was so before it
 pub to_start_before : (b : Book) (a : Action) → MayStand b a → (l n : ℕ) → n < b.submissions → is_to_start l ((entered b a).story n) ≡ true → is_to_start l (b.story n) ≡ true

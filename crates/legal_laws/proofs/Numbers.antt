@@ -11,7 +11,9 @@ use Rattle.driver_model.specs.declared.event.EventKind.TheVariants as event
 use Rattle.driver_model.specs.declared.news.LinkFault.TheVariants as fault
 use Rattle.driver_model.specs.declared.action.Purpose.{Purpose}
 use Rattle.driver_model.specs.declared.action.Purpose.TheVariants as purpose
-use Rattle.driver_model.specs.News.{News, silence, connected, refused, overdue, took, came, failed, news_of, for_link, of_timer}
+use Rattle.driver_model.specs.declared.action.SourceUse.{SourceUse}
+use Rattle.driver_model.specs.declared.action.SourceUse.TheVariants as source
+use Rattle.driver_model.specs.News.{News, silence, connected, refused, overdue, took, came, failed, authorized, denied, deserted, renewed, unrenewed, late, news_of, for_link, of_timer, of_source}
 use Rattle.driver_model.specs.declared.outcome.Outcome.{Outcome}
 use Rattle.legal_trace.specs.Ledger.{Ledger, End, asks, begins, offers, ends, is_over, ending, ending_alive, ending_asked, noted_each, sources, times, renewals_asked}
 use Rattle.legal_trace.specs.Story.{Story, blank_story, is_open, is_told, handed_in, left, holds, clocked, fires, tried, waits, answered}
@@ -42,6 +44,13 @@ not_of_timer : (l : ℕ) (what : Option Purpose) → of_timer l what ≡ connect
 not_of_timer l None e = cc e
 not_of_timer l (Some (purpose.Connect m)) e = not_for_link (m == l) overdue (λ x. cc x) e
 not_of_timer l (Some (purpose.Response who)) e = cc e
+not_of_timer l (Some (purpose.Renewal m k)) e = not_for_link (m == l) (late k) (λ x. cc x) e
+
+-- nor is what comes of a source
+not_of_source : (l : ℕ) (what : Option SourceUse) (first later : News) → (first ≡ connected → ⊥) → (later ≡ connected → ⊥) → of_source l what first later ≡ connected → ⊥
+not_of_source l None first later one two e = cc e
+not_of_source l (Some (source.Setup m)) first later one two e = not_for_link (m == l) first one e
+not_of_source l (Some (source.Renewal m)) first later one two e = not_for_link (m == l) later two e
 
 -- the connect of a link that was not asked for can't succeed
 not_connected : (b : Book) (l : ℕ) (kind : EventKind) → b.links ≤ l → is_bad_event b kind ≡ false → news_of b.timers b.sources l kind ≡ connected → ⊥
@@ -59,9 +68,9 @@ not_connected b l (event.ReadFault m kind) i good e = not_for_link (m == l) (fai
 not_connected b l (event.WriteFault m kind) i good e = not_for_link (m == l) (failed (fault.Io kind)) (λ x. cc x) e
 not_connected b l event.Shutdown i good e = cc e
 not_connected b l (event.Timeout ms) i good e = cc e
-not_connected b l (event.Creds c auth) i good e = cc e
-not_connected b l (event.CredsError c text) i good e = cc e
-not_connected b l (event.CredsEnd c) i good e = cc e
+not_connected b l (event.Creds c auth) i good e = not_of_source l (slice_get b.sources c) (authorized auth) (renewed auth) (λ x. cc x) (λ x. cc x) e
+not_connected b l (event.CredsError c text) i good e = not_of_source l (slice_get b.sources c) (denied text) silence (λ x. cc x) (λ x. cc x) e
+not_connected b l (event.CredsEnd c) i good e = not_of_source l (slice_get b.sources c) deserted unrenewed (λ x. cc x) (λ x. cc x) e
 not_connected b l (event.Submit s) i good e = cc e
 not_connected b l (event.Cancel s) i good e = cc e
 
@@ -194,7 +203,8 @@ fires_blank s e = ap fires e
 -- nor is one that is asked for
 timer_leaves_blank : (b : Book) (t ms : ℕ) (what : Purpose) (n : ℕ) → MayTimer b t ms what → HasStories b → b.submissions ≤ n → (if is_clock_of n (Some what) then clocked (b.story n) t else b.story n) ≡ blank_story
 timer_leaves_blank b t ms what n (inl may) h i = ap (λ x. if is_clock_of n (Some x) then clocked (b.story n) t else b.story n) may.is_for ∙ h n i
-timer_leaves_blank b t ms what n (inr may) h i = ap (λ x. if is_clock_of n (Some x) then clocked (b.story n) t else b.story n) may.is_for ∙ others_blank b may.n n (clocked (b.story n) t) h i (mover_is_numbered b may.n h (asker_moves b t ms what may))
+timer_leaves_blank b t ms what n (inr (inr may)) h i = ap (λ x. if is_clock_of n (Some x) then clocked (b.story n) t else b.story n) may.is_for ∙ h n i
+timer_leaves_blank b t ms what n (inr (inl may)) h i = ap (λ x. if is_clock_of n (Some x) then clocked (b.story n) t else b.story n) may.is_for ∙ others_blank b may.n n (clocked (b.story n) t) h i (mover_is_numbered b may.n h (asker_moves b t ms what may))
 
 -- an event that isn't bad is nothing to a submission that was not handed in
 event_leaves_blank : (b : Book) (n : ℕ) (kind : EventKind) → is_bad_event b kind ≡ false → HasStories b → b.submissions + submitted_by kind ≤ n → after_event b n kind ≡ blank_story

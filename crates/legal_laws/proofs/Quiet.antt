@@ -11,6 +11,7 @@ use Rattle.legal_trace.specs.Ledger.{Ledger, Line, Start, End, Ending, is_of_set
 use Rattle.legal_trace.proofs.Ledgers.{dials_from, UpIsNotOver, up_keeps}
 use Rattle.legal_trace.proofs.Plain.{none_from, not_none}
 use Rattle.legal_trace.proofs.Setups.{AreSetups, set_came, set_begins}
+use Rattle.legal_trace.proofs.Renewals.{awaits_unset, awaits_up}
 
 -- its opening is over: its connect is not open, since it was not asked for, is up, or has ended; and where it is up it is set up
 abbrev pub Quiet : Ledger → Type 0
@@ -26,7 +27,8 @@ quiet_hears l turn overdue asked shaped h = h
 quiet_hears l turn (took count) asked shaped h = chosen Quiet l.up (record l { taken = l.taken ++ take count l.offer; offer = [] }) l (λ t. h) (λ e. h)
 quiet_hears l turn (came piece) asked shaped h = chosen Quiet l.up (bytes_came l piece) l (λ t. (h.0, λ u. set_came l piece shaped (h.1 u))) (λ e. h)
 quiet_hears l turn (failed f) asked shaped h = h
-quiet_hears l turn (authorized c) asked shaped h = chosen Quiet (awaits_credentials l) (authorized_by l c) l (λ t. h) (λ e. h)
+quiet_hears l turn (authorized c) asked shaped h = chosen Quiet (awaits_credentials l) (authorized_by l c) l
+    (λ t. let lacks : is_set_up l ≡ true → ⊥ = awaits_unset l t in absurd (lacks (h.1 (awaits_up l t)))) (λ e. h)
 quiet_hears l turn (denied text) asked shaped h = h
 quiet_hears l turn deserted asked shaped h = h
 quiet_hears l turn (renewed c) asked shaped h = chosen Quiet (may_renew l) (renewed_by l c) l (λ t. h) (λ e. h)

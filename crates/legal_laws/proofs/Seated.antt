@@ -158,7 +158,7 @@ tell_seated b m o sound holders may =
     }
 
 -- an outcome tells in place
-outcome_tells : (b : Book) (m : ℕ) (o : Outcome) → Sound b → HoldersInOrder b → MayAnswer b m o ⊎ MayTell b m o → is_unstarted (answered (b.story m) o) ≡ true → HasItsPlace b m
+outcome_tells : (b : Book) (m : ℕ) (o : Outcome) → Sound b → HoldersInOrder b → MayAnswer b m o ⊎ MayTell b m o → is_unstarted (answered (b.story m) o (renewals_asked (b.link (b.story m).link))) ≡ true → HasItsPlace b m
 outcome_tells b m o sound holders (inl owes) u = absurd (owed_is_done b m o owes u)
 outcome_tells b m o sound holders (inr told) u = tell_seated b m o sound holders told
 
@@ -195,7 +195,7 @@ seated_kept b (action.Created e) may sound holders h = kept_by b (action.Created
 seated_kept b (action.Outcome m o) may sound holders h =
     kept_by b (action.Outcome m o) may refl
     (λ n i. chosen (λ s. is_unstarted s ≡ true → is_told s ≡ true → (is_told (b.story n) ≡ true) ⊎ HasItsPlace b n) (m == n) (answered (b.story n) o (renewals_asked (b.link (b.story n).link))) (b.story n)
-    (λ e u t. inr (subst (λ j. is_unstarted (answered (b.story j) o) ≡ true → HasItsPlace b j) (eq_from m n e) (outcome_tells b m o sound holders may) u))
+    (λ e u t. inr (subst (λ j. is_unstarted (answered (b.story j) o (renewals_asked (b.link (b.story j).link))) ≡ true → HasItsPlace b j) (eq_from m n e) (outcome_tells b m o sound holders may) u))
     (λ f u t. inl t)) h
 
 -- submission n takes permits now
@@ -210,7 +210,7 @@ taker_behind b m n i t untold now =
     let same : (b.story m).link ≡ (b.story n).link = eq_from (b.story m).link (b.story n).link (both_left ((b.story m).link == (b.story n).link) (is_unstarted (b.story m)) t) in
     let unstarted : is_unstarted (b.story m) ≡ true = both_right ((b.story m).link == (b.story n).link) (is_unstarted (b.story m)) t in
     rester_holds b m x.2.0 (ap (λ y. dials (b.link y)) same ∙ x.0) (ap (λ y. is_ready (b.link y)) same ∙ x.1) untold x.2.1 (subst (λ y. 0 < free_permits b y x.2.0) (sym same) x.2.4)
-    (λ due. may.in_order m i (record { unstarted = unstarted; due = due }))
+    (λ due. may.in_order.before m i (record { unstarted = unstarted; due = due }))
 
 -- whoever holds permits behind an action held some, or takes them now
 abbrev pub Gains : Book → ℕ → Story → Type 0

@@ -43,12 +43,12 @@ hears_in_order l turn overdue h = h
 hears_in_order l turn (took count) h = chosen InOrder l.up (record l { taken = l.taken ++ take count l.offer; offer = [] }) l (λ t. prefix_taken l.taken l.offer (joined l.starts) count h) (λ e. h)
 hears_in_order l turn (came piece) h = chosen InOrder l.up (bytes_came l piece) l (λ t. h) (λ e. h)
 hears_in_order l turn (failed f) h = h
-hears_in_order l turn (authorized c) h = chosen InOrder (awaits_credentials l) (authorized_by l c) l (λ t. prefix_taken l.taken l.offer (joined l.starts) count h) (λ e. h)
+hears_in_order l turn (authorized c) h = chosen InOrder (awaits_credentials l) (authorized_by l c) l (λ t. h) (λ e. h)
 hears_in_order l turn (denied text) h = h
 hears_in_order l turn deserted h = h
-hears_in_order l turn (renewed c) h = chosen InOrder (may_renew l) (renewed_by l c) l (λ t. prefix_taken l.taken l.offer (joined l.starts) count h) (λ e. h)
-hears_in_order l turn unrenewed h = chosen InOrder l.up (unrenewed_by l) l (λ t. prefix_taken l.taken l.offer (joined l.starts) count h) (λ e. h)
-hears_in_order l turn (late k) h = chosen InOrder (l.up && is_renewal_open l k) (lost_by l) l (λ t. prefix_taken l.taken l.offer (joined l.starts) count h) (λ e. h)
+hears_in_order l turn (renewed c) h = chosen InOrder (may_renew l) (renewed_by l c) l (λ t. h) (λ e. h)
+hears_in_order l turn unrenewed h = chosen InOrder l.up (unrenewed_by l) l (λ t. h) (λ e. h)
+hears_in_order l turn (late k) h = chosen InOrder (l.up && is_renewal_open l k) (lost_by l) l (λ t. h) (λ e. h)
 hears_in_order l turn shut h = h
 
 -- so does a line that may stand

@@ -127,7 +127,7 @@ once_kept b (action.Start l k (owner.Try m round) count len) may blank n h = cho
 once_kept b (action.Created e) may blank n h = h
 once_kept b (action.Outcome m o) may blank n h =
     chosen AnsweredOnce (m == n) (answered (b.story n) o (renewals_asked (b.link (b.story n).link))) (b.story n)
-    (λ t. subst (λ j. AnsweredOnce (answered (b.story j) o)) (eq_from m n t) (outcome_once b m o may))
+    (λ t. subst (λ j. AnsweredOnce (answered (b.story j) o (renewals_asked (b.link (b.story j).link)))) (eq_from m n t) (outcome_once b m o may))
     (λ f. h)
 
 -- each message that it started last stands among those of its link
