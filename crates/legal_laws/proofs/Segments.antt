@@ -14,7 +14,7 @@ use Rattle.legal_trace.specs.Ledger.{is_over}
 use Rattle.legal_trace.specs.Book.{Book, blank_book, entered}
 use Rattle.legal_trace.specs.Legal.{MayStand, MayTimer, MayAnswer, MayTell, AllStand, link_of, IsApplied, IsMoved, IsWritten, Legal}
 use Rattle.legal_laws.specs.Segments.{answers_in, timer_in, segment, MayCome, AreInOrder}
-use Rattle.legal_laws.proofs.Held.{start_applied, setup_applied, tell_applied, take_applied, ask_applied, write_moved, wait_written}
+use Rattle.legal_laws.proofs.Held.{start_applied, setup_applied, renew_applied, tell_applied, take_applied, ask_applied, write_moved, wait_written}
 use Rattle.legal_laws.proofs.Ranks.{rank, not_done, step_of, applied, moved, written, answer_first, creation_first, push_first}
 use Rattle.legal_laws.proofs.Sound.{Sound, stays_sound, blank_is_sound}
 
@@ -35,7 +35,8 @@ outcome_done b n o (inr told) = tell_applied b n o told
 -- behind a timer
 timer_done : (b : Book) (t ms : ℕ) (what : Purpose) (may : MayTimer b t ms what) → DoneIn (timer_in b t ms what may) (entered b (action.Timer t ms what))
 timer_done b t ms what (inl may) = tt
-timer_done b t ms what (inr may) = ask_applied b t ms what may.begun.applied
+timer_done b t ms what (inr (inl may)) = ask_applied b t ms what may.begun.applied
+timer_done b t ms what (inr (inr may)) = ask_applied b t ms what may.applied
 
 -- behind each action
 done_behind : (b : Book) (a : Action) (may : MayStand b a) → Sound b → DoneIn (segment b a may) (entered b a)
@@ -47,12 +48,12 @@ done_behind b (action.Took owner.Setup l count) may h = absurd may
 done_behind b (action.Took owner.Auth l count) may h = absurd may
 done_behind b (action.Took (owner.Try n round) l count) may h = take_applied b n round l count may.1.begun.applied
 done_behind b (action.Push l info) may h = tt
-done_behind b (action.NeedCreds c l) may h = write_moved b l bytes may.moved
+done_behind b (action.NeedCreds c l) may h = tt
 done_behind b (action.Close l) may h = tt
 done_behind b (action.Created e) may h = tt
 done_behind b (action.Outcome n o) may h = outcome_done b n o may
 done_behind b (action.Start l k owner.Setup count len) may h = setup_applied b l k count len may h
-done_behind b (action.Start l k owner.Auth count len) may h = setup_applied b l k count len may h
+done_behind b (action.Start l k owner.Auth count len) may h = renew_applied b l k count len may h
 done_behind b (action.Start l k (owner.Try n round) count len) may h = start_applied b l k n round count len may.1 h
 done_behind b (action.Write l bytes) may h = write_moved b l bytes may.moved
 done_behind b (action.Wait owner.Setup kind) may h = absurd may
@@ -115,7 +116,8 @@ outcome_early b n o (inr told) k h done = pass_early b (action.Outcome n o) (inr
 -- and a timer
 timer_early : (b : Book) (t ms : ℕ) (what : Purpose) (may : MayTimer b t ms what) (k : ℕ) → Sound b → DoneIn k b → k ≤ timer_in b t ms what may
 timer_early b t ms what (inl may) k h done = effect_early b (action.Timer t ms what) (inl may) k h done (omega arith)
-timer_early b t ms what (inr may) k h done = pass_early b (action.Timer t ms what) (inr may) k h done (omega arith)
+timer_early b t ms what (inr (inl may)) k h done = pass_early b (action.Timer t ms what) (inr (inl may)) k h done (omega arith)
+timer_early b t ms what (inr (inr may)) k h done = pass_early b (action.Timer t ms what) (inr (inr may)) k h done (omega arith)
 
 -- so does each action that may stand
 comes : (b : Book) (a : Action) (may : MayStand b a) (k : ℕ) → Sound b → DoneIn k b → MayCome k b a may

@@ -46,7 +46,7 @@ authorized_shaped l c waits h = record {
 
 -- a link of which new credentials may come is set up
 renewed_set : (l : Ledger) → may_renew l ≡ true → is_set_up l ≡ true
-renewed_set l h = ready_is_set l (both_left (is_ready l) (nat_lt 1 l.creds.asked && not l.creds.over) h)
+renewed_set l h = ready_is_set l (both_left (is_ready l) (nat_lt 1 l.creds.asked) (both_left (is_ready l && nat_lt 1 l.creds.asked) (not l.creds.over) h))
 
 -- it stays so with news
 news_shaped : (l : Ledger) (turn : ℕ) (news : News) → IsShaped l → IsShaped (with_news l turn news)
@@ -90,7 +90,7 @@ some_there : (cs : List Credentials) (k : ℕ) (c : Credentials) → slice_get c
 some_there cs k c e none = let x : None ≡ Some c = ap (λ (ds : List Credentials). slice_get ds k) (sym none) ∙ e in cc x
 
 -- a link on which new credentials are to be told is set up
-renewal_is_set : (l : Ledger) (c : Credentials) → IsShaped l → renewal_due l ≡ Some c → is_set_up l ≡ true
+pub renewal_is_set : (l : Ledger) (c : Credentials) → IsShaped l → renewal_due l ≡ Some c → is_set_up l ≡ true
 renewal_is_set l c h due = h.ready (some_there l.creds.renewals (renewal_count l.starts) c (renewal_came l c due))
 
 -- with a message that starts on a link that is up and set up, and isn't a setup

@@ -11,11 +11,11 @@ use Rattle.legal_trace.proofs.Setups.{set_is_given}
 
 -- a link that waits for credentials is up
 pub awaits_up : (l : Ledger) → awaits_credentials l ≡ true → l.up ≡ true
-awaits_up l h = both_left l.up (nat_lt 0 l.creds.asked && lacks_credentials l) h
+awaits_up l h = both_left l.up (nat_lt 0 l.creds.asked) (both_left (l.up && nat_lt 0 l.creds.asked) (lacks_credentials l) h)
 
 -- it lacks them
 pub awaits_lacks : (l : Ledger) → awaits_credentials l ≡ true → lacks_credentials l ≡ true
-awaits_lacks l h = both_right (nat_lt 0 l.creds.asked) (lacks_credentials l) (both_right l.up (nat_lt 0 l.creds.asked && lacks_credentials l) h)
+awaits_lacks l h = both_right (l.up && nat_lt 0 l.creds.asked) (lacks_credentials l) h
 
 -- and isn't set up
 pub awaits_unset : (l : Ledger) → awaits_credentials l ≡ true → is_set_up l ≡ true → ⊥
@@ -23,7 +23,7 @@ awaits_unset l h set = not_both (lacks_credentials l) (set_is_given l set) (awai
 
 -- a link for which a source is to be asked for is up
 pub source_is_up : (l : Ledger) → source_due l ≡ true → l.up ≡ true
-source_is_up l h = both_left l.up _ h
+source_is_up l h = both_left l.up l.creds.wanted (both_left (l.up && l.creds.wanted) _ h)
 
 -- what allows that new credentials are told
 abbrev pub may_tell : Ledger → Bool
@@ -36,7 +36,7 @@ renewal_may l c due = by_test (may_tell l) (may_tell l ≡ true) (λ t. t)
 
 -- so a link on which some are to be told is up
 pub renewal_is_up : (l : Ledger) (c : Credentials) → renewal_due l ≡ Some c → l.up ≡ true
-renewal_is_up l c due = both_left l.up (not l.creds.lost && is_taken l (last_renewal l.starts 0 None)) (renewal_may l c due)
+renewal_is_up l c due = both_left l.up (not l.creds.lost) (both_left (l.up && not l.creds.lost) (is_taken l (last_renewal l.starts 0 None)) (renewal_may l c due))
 
 -- they are the next that came
 pub renewal_came : (l : Ledger) (c : Credentials) → renewal_due l ≡ Some c → slice_get l.creds.renewals (renewal_count l.starts) ≡ Some c

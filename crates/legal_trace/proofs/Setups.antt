@@ -103,6 +103,10 @@ set_is_undue l k set due = by_test l.up ⊥
     (λ t. undue_after l (setup_count l.starts) k (set_is_said l set) (sym (taken_if l.up (setup_after l (setup_count l.starts)) None t) ∙ due))
     (λ f. let x : None ≡ Some k = sym (left_if l.up (setup_after l (setup_count l.starts)) None f) ∙ due in cc x)
 
+-- so one on which a setup is due isn't set up
+pub due_is_unset : (l : Ledger) (k : ℕ) → setup_due l ≡ Some k → is_set_up l ≡ false
+due_is_unset l k due = by_test (is_set_up l) (is_set_up l ≡ false) (λ t. absurd (set_is_undue l k t due)) (λ f. f)
+
 -- a link on which a setup is due is up
 pub due_is_up : (l : Ledger) (k : ℕ) → setup_due l ≡ Some k → l.up ≡ true
 due_is_up l k due = by_test l.up (l.up ≡ true) (λ t. t)
@@ -349,7 +353,7 @@ unready_same l s shut = refl
 pub setup_stays : (l : Ledger) (s : Start) (k : ℕ) → is_of_setup s.owner ≡ true → setup_due l ≡ Some k → length l.dealt ≤ reach l.starts l.dealt → ending l ≡ None → ending (pushed l s) ≡ None
 setup_stays l s k mine due few none =
     let up : l.up ≡ true = due_is_up l k due in
-    let unset : is_set_up l ≡ false = by_test (is_set_up l) (is_set_up l ≡ false) (λ t. absurd (set_is_undue l k t due)) (λ f. f) in
+    let unset : is_set_up l ≡ false = due_is_unset l k due in
     let before : ending_by (error_in (setup_result l)) (ending_unready l l.heard) ≡ None =
     sym (left_if (is_set_up l) (ending_up l l.heard) (ending_by (error_in (setup_result l)) (ending_unready l l.heard)) unset)
     ∙ (sym (taken_if l.up (ending_alive l) (if l.asked && not (is_over l) then ending_asked l.heard else None) up) ∙ none) in

@@ -55,10 +55,14 @@ abbrev pub wanted_in : Option Config → Bool
 wanted_in None = false
 wanted_in (Some config) = wants_credentials config
 
--- the message that tells these credentials, where there are any
+-- these credentials, where there are any
+abbrev pub credentials_in : Option Credentials → Credentials
+credentials_in None = record { username = []; password = [] }
+credentials_in (Some c) = c
+
+-- and the message that tells them
 abbrev pub renewal_in : Option Credentials → Start
-renewal_in None = renewal_message (record { username = []; password = [] })
-renewal_in (Some c) = renewal_message c
+renewal_in o = renewal_message (credentials_in o)
 
 -- a message that starts on link l as its owner has it: it carries the owner's bytes
 abbrev pub message_of : Book → ℕ → Owner → Start

@@ -22,7 +22,7 @@ use Rattle.legal_trace.specs.Book.{blank_book}
 use Rattle.legal_trace.specs.Legal.{MayTurn}
 use Rattle.trace_examples.specs.Parts.{turn, command, okay_line}
 use Rattle.trace_examples.specs.Setups.{unsaid, wrong_password}
-use Rattle.trace_examples.specs.Creds.{sourced, untimed, timed, held_sourced, of_letter, told_letter, needed, deserted_first, denied_first, waits_for_creds, first_taken, needed_again, renewal_came, renewal_sent, second_came, renewal_taken, renewal_refused, answered_late, behind_a_place, before_a_place, creds_fronts}
+use Rattle.trace_examples.specs.Creds.{sourced, untimed, timed, held_sourced, of_letter, told_letter, needed, deserted_first, denied_first, waits_for_creds, first_taken, needed_again, renewal_came, renewal_sent, second_renewal, renewal_taken, renewal_refused, answered_late, behind_a_place, before_a_place, creds_fronts}
 use Rattle.trace_examples.specs.Claims.{IsTraceIn, NoneBeginsIn}
 use Rattle.trace_examples.specs.Fronts.{EachStands}
 use Rattle.trace_examples.proofs.Bounded.{blank_bounded, bounded_behind}
@@ -129,7 +129,7 @@ creds_fronts_stand word =
     let taken = stands (first_taken untimed word) refl (at, (refl, tt)) in
     let again = stands (needed_again untimed word) refl (at, (refl, tt)) in
     let came = stands (renewal_came timed word) refl (in_time, (refl, tt)) in
-    let second = stands (second_came untimed word) refl (at, (refl, (refl, tt))) in
+    let second = stands (second_renewal untimed word) refl (at, (refl, (refl, tt))) in
     let refused = stands (renewal_refused untimed word) refl (at, (refl, (refl, tt))) in
     let late = stands (answered_late timed word) refl (in_time, (refl, (refl, (refl, tt)))) in
     let behind = stands (behind_a_place held_sourced word) refl (held, (refl, (refl, tt))) in
@@ -144,10 +144,10 @@ told_nothing k count len word events after h =
     cc m.can.due
 
 -- a second one before the first is answered
-pub told_two_at_once : (k count len : ℕ) → NoneBeginsIn untimed second_came (action.Start 0 k owner.Auth count len)
+pub told_two_at_once : (k count len : ℕ) → NoneBeginsIn untimed second_renewal (action.Start 0 k owner.Auth count len)
 unfolding digits items values left_over max_depth url_on_literals utf8_lossy utf8_valid_len
 told_two_at_once k count len word events after h =
-    let m = may_stand untimed word events (second_came untimed word) after (action.Start 0 k owner.Auth count len) h in
+    let m = may_stand untimed word events (second_renewal untimed word) after (action.Start 0 k owner.Auth count len) h in
     cc m.can.due
 
 -- or after that was refused

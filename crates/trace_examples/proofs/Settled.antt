@@ -161,7 +161,7 @@ sources_asked b = not (source_due (b.link 0))
 
 -- for an idle link none is to be
 idle_unsourced : (l : Ledger) → IsIdle l → source_due l ≡ false
-idle_unsourced l idle = and_false l.up (l.creds.wanted && ((l.creds.asked == 0) || (is_set_up l && (l.creds.asked == 1)))) idle.down
+idle_unsourced l idle = and_false (l.up && l.creds.wanted) ((l.creds.asked == 0) || (is_set_up l && (l.creds.asked == 1))) (and_false l.up l.creds.wanted idle.down)
 
 pub sources_are_asked : (b : Book) → IsBounded b → sources_asked b ≡ true → SourcesAreAsked b
 sources_are_asked b bounded t l = first_and_idle b (λ m. source_due (b.link m) ≡ false) l bounded
@@ -209,7 +209,7 @@ is_begun b = are_set_up b && renewals_timed b
 -- no new credentials are to be told on an idle link
 idle_unrenewed : (l : Ledger) → IsIdle l → renewal_due l ≡ None
 idle_unrenewed l idle = left_if (l.up && not l.creds.lost && is_taken l (last_renewal l.starts 0 None)) (slice_get l.creds.renewals (renewal_count l.starts)) None
-    (and_false l.up (not l.creds.lost && is_taken l (last_renewal l.starts 0 None)) idle.down)
+    (and_false (l.up && not l.creds.lost) (is_taken l (last_renewal l.starts 0 None)) (and_false l.up (not l.creds.lost) idle.down))
 
 -- nor were any
 pub idle_unasked : (l : Ledger) → IsIdle l → renewals_asked l ≡ 0

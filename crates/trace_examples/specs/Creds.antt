@@ -74,16 +74,16 @@ abbrev pub renewal_sent : Config → ℕ → List Action
 renewal_sent config word = renewal_came config word ++ action.Start 0 1 owner.Auth 1 28 ∷ action.Write 0 (told_letter 113) ∷ []
 
 -- others came before they are answered
-abbrev pub second_came : Config → ℕ → List Action
-second_came config word = renewal_sent config word ++ turn 6 (event.Creds 1 (of_letter 114)) ∷ []
+abbrev pub second_renewal : Config → ℕ → List Action
+second_renewal config word = renewal_sent config word ++ turn 6 (event.Creds 1 (of_letter 114)) ∷ []
 
 -- the server takes the first of them
 abbrev pub renewal_taken : Config → ℕ → List Action
-renewal_taken config word = second_came config word ++ turn 7 (event.Wrote 0 28) ∷ turn 8 (event.Bytes 0 okay_line) ∷ []
+renewal_taken config word = second_renewal config word ++ turn 7 (event.Wrote 0 28) ∷ turn 8 (event.Bytes 0 okay_line) ∷ []
 
 -- or refuses them
 abbrev pub renewal_refused : Config → ℕ → List Action
-renewal_refused config word = second_came config word ++ turn 7 (event.Wrote 0 28) ∷ turn 8 (event.Bytes 0 wrong_password) ∷ []
+renewal_refused config word = second_renewal config word ++ turn 7 (event.Wrote 0 28) ∷ turn 8 (event.Bytes 0 wrong_password) ∷ []
 
 -- new credentials are told within a time, which is over before they are answered; they are, and others came
 abbrev pub answered_late : Config → ℕ → List Action
@@ -116,5 +116,5 @@ before_a_place config word =
 abbrev pub creds_fronts : ℕ → List (List Action)
 creds_fronts word =
     unsaid untimed word ∷ needed untimed word ∷ first_taken untimed word ∷ needed_again untimed word ∷ renewal_came timed word ∷
-    second_came untimed word ∷ renewal_refused untimed word ∷ answered_late timed word ∷
+    second_renewal untimed word ∷ renewal_refused untimed word ∷ answered_late timed word ∷
     behind_a_place held_sourced word ∷ before_a_place held_sourced word ∷ []

@@ -72,9 +72,9 @@ ghost use Rattle.trace_examples.specs.Pushes.{pushed_early, cut_off_early, inval
 ghost use Rattle.trace_examples.specs.Pushes.{first_told, invalid_told, pushed_alone, confirmed};
 ghost use Rattle.trace_examples.specs.Pushes.{cut_off_asked, end_told, push_fronts};
 ghost use Rattle.trace_examples.specs.Creds.{untimed, timed, held_sourced, of_letter, told_letter};
-ghost use Rattle.trace_examples.specs.Creds.{needed, deserted_first, denied_first};
+ghost use Rattle.trace_examples.specs.Creds.{needed, deserted_first, denied_first, renewal_taken};
 ghost use Rattle.trace_examples.specs.Creds.{waits_for_creds, first_taken, needed_again};
-ghost use Rattle.trace_examples.specs.Creds.{renewal_came, renewal_sent, second_came, renewal_taken};
+ghost use Rattle.trace_examples.specs.Creds.{renewal_came, renewal_sent, second_renewal};
 ghost use Rattle.trace_examples.specs.Creds.{renewal_refused, answered_late, behind_a_place};
 ghost use Rattle.trace_examples.specs.Creds.{before_a_place, creds_fronts};
 ghost use Rattle.driver_model.specs.declared.push_info.PushInfo.{PushInfo};
@@ -782,7 +782,7 @@ pub fn nor_are_these_credentials()
     ensures told_nothing { (k count len : ℕ)
         → NoneBeginsIn untimed needed_again (action.Start 0 k owner.Auth count len) }
     ensures told_two_at_once { (k count len : ℕ)
-        → NoneBeginsIn untimed second_came (action.Start 0 k owner.Auth count len) }
+        → NoneBeginsIn untimed second_renewal (action.Start 0 k owner.Auth count len) }
     ensures told_after_a_refusal { (k count len : ℕ)
         → NoneBeginsIn untimed renewal_refused (action.Start 0 k owner.Auth count len) }
     ensures told_after_its_time { (k count len : ℕ)
