@@ -22,7 +22,7 @@ use Rattle.legal_trace.specs.Book.{blank_book}
 use Rattle.legal_trace.specs.Legal.{MayTurn}
 use Rattle.trace_examples.specs.Parts.{turn, command, okay_line}
 use Rattle.trace_examples.specs.Setups.{unsaid, wrong_password}
-use Rattle.trace_examples.specs.Creds.{sourced, untimed, timed, held_sourced, of_letter, told_letter, needed, deserted_first, denied_first, waits_for_creds, first_taken, needed_again, renewal_came, renewal_sent, second_renewal, renewal_taken, renewal_refused, answered_late, behind_a_place, before_a_place, creds_fronts}
+use Rattle.trace_examples.specs.Creds.{sourced, untimed, timed, held_sourced, of_letter, told_letter, needed, deserted_first, denied_first, waits_for_creds, first_taken, needed_again, renewal_came, renewal_sent, second_renewal, renewal_taken, renewal_refused, answered_late, behind_a_place, before_a_place, once_set_up, creds_fronts}
 use Rattle.trace_examples.specs.Claims.{IsTraceIn, NoneBeginsIn}
 use Rattle.trace_examples.specs.Fronts.{EachStands}
 use Rattle.trace_examples.proofs.Bounded.{blank_bounded, bounded_behind}
@@ -47,7 +47,7 @@ at_sourced within bound = record { sound = ap (λ a. fault_in a false None 50) (
 
 -- the first credentials are those of the setup, and later ones are told by AUTH; the end of their source changes nothing
 pub set_up_and_renewed : IsTraceIn untimed
-    (event.Connected 0 ∷ event.Creds 0 (of_letter 112) ∷ event.Wrote 0 28 ∷ event.Bytes 0 okay_line ∷ event.Creds 1 (of_letter 113) ∷ event.CredsEnd 1 ∷ [])
+    (once_set_up (event.Creds 1 (of_letter 113) ∷ event.CredsEnd 1 ∷ []))
     renewal_sent
     (turn 6 (event.CredsEnd 1) ∷ [])
 unfolding digits is_bad_event items values left_over is_spoiled max_depth url_on_literals utf8_lossy utf8_valid_len
@@ -79,7 +79,7 @@ waits_for_both word = legal untimed word _ _ refl refl (at_sourced None None, (r
 
 -- later credentials wait until those before are taken
 pub one_after_another : IsTraceIn untimed
-    (event.Connected 0 ∷ event.Creds 0 (of_letter 112) ∷ event.Wrote 0 28 ∷ event.Bytes 0 okay_line ∷ event.Creds 1 (of_letter 113) ∷ event.Creds 1 (of_letter 114) ∷ event.Wrote 0 28 ∷ event.Bytes 0 okay_line ∷ [])
+    (once_set_up (event.Creds 1 (of_letter 113) ∷ event.Creds 1 (of_letter 114) ∷ event.Wrote 0 28 ∷ event.Bytes 0 okay_line ∷ []))
     renewal_taken
     (action.Start 0 2 owner.Auth 1 28 ∷ action.Write 0 (told_letter 114) ∷ [])
 unfolding digits is_bad_event items values left_over is_spoiled max_depth url_on_literals utf8_lossy utf8_valid_len
@@ -87,7 +87,7 @@ one_after_another word = legal untimed word _ _ refl refl (at_sourced None None,
 
 -- where those are refused they are told no more
 pub none_after_a_refusal : IsTraceIn untimed
-    (event.Connected 0 ∷ event.Creds 0 (of_letter 112) ∷ event.Wrote 0 28 ∷ event.Bytes 0 okay_line ∷ event.Creds 1 (of_letter 113) ∷ event.Creds 1 (of_letter 114) ∷ event.Wrote 0 28 ∷ event.Bytes 0 wrong_password ∷ [])
+    (once_set_up (event.Creds 1 (of_letter 113) ∷ event.Creds 1 (of_letter 114) ∷ event.Wrote 0 28 ∷ event.Bytes 0 wrong_password ∷ []))
     renewal_refused
     []
 unfolding digits is_bad_event items values left_over is_spoiled max_depth url_on_literals utf8_lossy utf8_valid_len
@@ -95,7 +95,7 @@ none_after_a_refusal word = legal untimed word _ _ refl refl (at_sourced None No
 
 -- nor where they are answered after their time
 pub none_after_its_time : IsTraceIn timed
-    (event.Connected 0 ∷ event.Creds 0 (of_letter 112) ∷ event.Wrote 0 28 ∷ event.Bytes 0 okay_line ∷ event.Creds 1 (of_letter 113) ∷ event.Wrote 0 28 ∷ event.Fired 0 ∷ event.Bytes 0 okay_line ∷ event.Creds 1 (of_letter 114) ∷ [])
+    (once_set_up (event.Creds 1 (of_letter 113) ∷ event.Wrote 0 28 ∷ event.Fired 0 ∷ event.Bytes 0 okay_line ∷ event.Creds 1 (of_letter 114) ∷ []))
     answered_late
     []
 unfolding digits is_bad_event items values left_over is_spoiled max_depth url_on_literals utf8_lossy utf8_valid_len
@@ -103,7 +103,7 @@ none_after_its_time word = legal timed word _ _ refl refl (at_sourced (Some 100)
 
 -- a command that had its place starts before credentials that came later, which hold their place behind it
 pub place_before_credentials : IsTraceIn held_sourced
-    (event.Connected 0 ∷ event.Creds 0 (of_letter 112) ∷ event.Wrote 0 28 ∷ event.Bytes 0 okay_line ∷ event.Submit (command 71) ∷ event.Submit (command 72) ∷ event.Creds 1 (of_letter 113) ∷ event.Wrote 0 11 ∷ event.Wrote 0 11 ∷ [])
+    (once_set_up (event.Submit (command 71) ∷ event.Submit (command 72) ∷ event.Creds 1 (of_letter 113) ∷ event.Wrote 0 11 ∷ event.Wrote 0 11 ∷ []))
     behind_a_place
     (action.Start 0 2 (owner.Try 1 0) 1 11 ∷ action.Write 0 (packed_bytes (command 72)) ∷ turn 9 (event.Wrote 0 11) ∷ action.Start 0 3 owner.Auth 1 28 ∷ action.Write 0 (told_letter 113) ∷ [])
 unfolding digits is_bad_event items values left_over is_spoiled max_depth url_on_literals utf8_lossy utf8_valid_len
@@ -111,7 +111,7 @@ place_before_credentials word = legal held_sourced word _ _ refl refl (at_source
 
 -- and one that came later starts behind them
 pub credentials_before_place : IsTraceIn held_sourced
-    (event.Connected 0 ∷ event.Creds 0 (of_letter 112) ∷ event.Wrote 0 28 ∷ event.Bytes 0 okay_line ∷ event.Submit (command 71) ∷ event.Creds 1 (of_letter 113) ∷ event.Submit (command 72) ∷ event.Wrote 0 11 ∷ event.Wrote 0 28 ∷ [])
+    (once_set_up (event.Submit (command 71) ∷ event.Creds 1 (of_letter 113) ∷ event.Submit (command 72) ∷ event.Wrote 0 11 ∷ event.Wrote 0 28 ∷ []))
     before_a_place
     (action.Start 0 2 owner.Auth 1 28 ∷ action.Write 0 (told_letter 113) ∷ turn 9 (event.Wrote 0 28) ∷ action.Start 0 3 (owner.Try 1 0) 1 11 ∷ action.Write 0 (packed_bytes (command 72)) ∷ [])
 unfolding digits is_bad_event items values left_over is_spoiled max_depth url_on_literals utf8_lossy utf8_valid_len

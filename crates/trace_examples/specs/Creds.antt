@@ -7,6 +7,7 @@ use Rattle.driver_model.specs.declared.action.Owner.TheVariants as owner
 use Rattle.driver_model.specs.declared.action.Purpose.TheVariants as purpose
 use Rattle.driver_model.specs.declared.action.WaitKind.TheVariants as wait
 use Rattle.driver_model.specs.declared.config.Config.{Config}
+use Rattle.driver_model.specs.declared.event.EventKind.{EventKind}
 use Rattle.driver_model.specs.declared.event.EventKind.TheVariants as event
 use Rattle.driver_model.specs.Request.{packed_bytes}
 use Rattle.trace_examples.specs.Parts.{turn, command, okay_line}
@@ -111,6 +112,10 @@ before_a_place config word =
     held_by_one config word ++
     turn 6 (event.Creds 1 (of_letter 113)) ∷ turn 7 (event.Submit (command 72)) ∷ action.Wait (owner.Try 1 0) wait.Room ∷
     turn 8 (event.Wrote 0 11) ∷ []
+
+-- the events by which a link is set up with its first credentials, and then these
+abbrev pub once_set_up : List EventKind → List EventKind
+once_set_up more = event.Connected 0 ∷ event.Creds 0 (of_letter 112) ∷ event.Wrote 0 28 ∷ event.Bytes 0 okay_line ∷ more
 
 -- the fronts of the traces that are refused for what comes next
 abbrev pub creds_fronts : ℕ → List (List Action)
