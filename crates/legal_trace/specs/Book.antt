@@ -26,9 +26,8 @@ use Rattle.legal_trace.specs.Story.{Story, blank_story, bytes_of, shape, handed_
 
 -- the configuration, once the opening has told it; how many links were asked for, and the ledger of each; how many
 -- submissions were handed in, and the story of each; what each timer, and each source of credentials, was asked for, in order;
--- how often the creation was
--- shown, or its failure; within how many milliseconds a submission that is handed in now is to be answered, if within any;
--- whether everything was shut down; how many turns began, and what the turn that runs is the turn of
+-- how often the creation was shown, or its failure; within how many milliseconds a submission that is handed in now is to be
+-- answered, if within any; whether everything was shut down; how many turns began, and what the turn that runs is the turn of
 pub record Book : Type 0 where
   pub config : Option Config
   pub links : ℕ
@@ -56,10 +55,14 @@ abbrev pub wanted_in : Option Config → Bool
 wanted_in None = false
 wanted_in (Some config) = wants_credentials config
 
--- the message that tells these credentials, where there are any
+-- these credentials, where there are any
+abbrev pub credentials_in : Option Credentials → Credentials
+credentials_in None = record { username = []; password = [] }
+credentials_in (Some c) = c
+
+-- and the message that tells them
 abbrev pub renewal_in : Option Credentials → Start
-renewal_in None = renewal_message (record { username = []; password = [] })
-renewal_in (Some c) = renewal_message c
+renewal_in o = renewal_message (credentials_in o)
 
 -- a message that starts on link l as its owner has it: it carries the owner's bytes
 abbrev pub message_of : Book → ℕ → Owner → Start

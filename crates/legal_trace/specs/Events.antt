@@ -10,8 +10,8 @@ use Rattle.legal_trace.specs.Book.{Book}
 abbrev pub is_no_link : Book → ℕ → Bool
 is_no_link b l = nat_le b.links l
 
--- the event hands in a submission without a form, or names a link, a timer, a source of credentials or a submission that was never given out, or
--- more written bytes than were offered to a link that has not ended
+-- the event hands in a submission without a form, or names a link, a timer, a source of credentials or a submission that was
+-- never given out, or more written bytes than were offered to a link that has not ended
 unfoldable pub is_bad_event : Book → EventKind → Bool
 is_bad_event b (event.Submit what) = has_no_form what
 is_bad_event b (event.Cancel n) = nat_le b.submissions n

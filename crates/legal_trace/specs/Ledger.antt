@@ -79,10 +79,10 @@ pub record Sourced : Type 0 where
 abbrev pub unsourced : Bool → Sourced
 unsourced wanted = record { wanted = wanted; asked = 0; given = false; renewals = []; over = false; timed = 0; lost = false }
 
--- whether its connect was asked for, and what is to be said to its server then, and its credentials that come of sources; whether the connect succeeded and it has not ended; how it ended; its starts in order;
--- the bytes that were taken from it; the bytes of its unanswered offer; what came behind the last whole value; the items
--- dealt; the pushes that came once it was set up, how many of them were told, and whether its end was told as one; and what it
--- was told by the turn that runs
+-- whether its connect was asked for, what is to be said to its server then, and its credentials that come of sources; whether
+-- the connect succeeded and it has not ended; how it ended; its starts in order; the bytes that were taken from it; the bytes
+-- of its unanswered offer; what came behind the last whole value; the items dealt; the pushes that came once it was set up,
+-- how many of them were told, and whether its end was told as one; and what it was told by the turn that runs
 pub record Ledger : Type 0 where
   pub asked : Bool
   pub info : RedisConnectionInfo
@@ -217,6 +217,18 @@ awaits_credentials l = l.up && nat_lt 0 l.creds.asked && lacks_credentials l
 abbrev pub may_renew : Ledger → Bool
 may_renew l = is_ready l && nat_lt 1 l.creds.asked && not l.creds.over
 
+-- new credentials come, to be told to its server
+abbrev pub renewed_by : Ledger → Credentials → Ledger
+renewed_by l c = record l { creds = record l.creds { renewals = l.creds.renewals ++ c ∷ [] } }
+
+-- no more of them come
+abbrev pub unrenewed_by : Ledger → Ledger
+unrenewed_by l = record l { creds = record l.creds { over = true } }
+
+-- some were not answered in time
+abbrev pub lost_by : Ledger → Ledger
+lost_by l = record l { creds = record l.creds { lost = true } }
+
 -- a start that tells new credentials
 abbrev pub is_of_renewal : Owner → Bool
 is_of_renewal owner.Auth = true
@@ -281,9 +293,9 @@ with_news l turn (came piece) = if l.up then bytes_came l piece else l
 with_news l turn (authorized c) = if awaits_credentials l then authorized_by l c else l
 with_news l turn (denied text) = l
 with_news l turn deserted = l
-with_news l turn (renewed c) = if may_renew l then record l { creds = record l.creds { renewals = l.creds.renewals ++ c ∷ [] } } else l
-with_news l turn unrenewed = if l.up then record l { creds = record l.creds { over = true } } else l
-with_news l turn (late k) = if l.up && is_renewal_open l k then record l { creds = record l.creds { lost = true } } else l
+with_news l turn (renewed c) = if may_renew l then renewed_by l c else l
+with_news l turn unrenewed = if l.up then unrenewed_by l else l
+with_news l turn (late k) = if l.up && is_renewal_open l k then lost_by l else l
 with_news l turn silence = l
 with_news l turn overdue = l
 with_news l turn (failed f) = l
@@ -391,10 +403,10 @@ full_count (s ∷ ss) dealt = if nat_le (need_in s.shape dealt) (length dealt) t
 abbrev pub ended : Ledger → ℕ → Ledger
 ended l turn = record l { up = false; end = Some (record { turn = turn; why = ending_or_shutdown (ending l); oldest = full_count l.starts l.dealt }) }
 
--- a line of what is told of a link: its connect is asked for, this is to be said to its server then, and whether credentials are
--- to come of a source; the turn of that number, with this news for it; a message
--- begins; its unwritten bytes are offered; the next push is told; a source of credentials is asked for; a timer for new
--- credentials is; it is closed, in that turn; its end is told as a push
+-- a line of what is told of a link: its connect is asked for, this is to be said to its server then, and whether credentials
+-- are to come of sources; the turn of that number, with this news for it; a message begins; its unwritten bytes are offered;
+-- the next push is told; a source of credentials is asked for; a timer for new credentials is; it is closed, in that turn; its
+-- end is told as a push
 pub data Line : Type 0 where
   asks : RedisConnectionInfo → Bool → Line
   hears : ℕ → News → Line
@@ -462,8 +474,9 @@ is_cut None = false
 is_cut (Some end) = is_fault end.why
 
 -- where a line may stand: a link is asked for once; its messages have bytes, and start while it is up; it is offered all
--- its unwritten bytes at once, where no offer is unanswered; a push is told that came; it ends where something must end it;
--- and that a fault ended it is told once
+-- its unwritten bytes at once, where no offer is unanswered; a push is told that came; a source of credentials is asked for
+-- that is to be, and a timer for credentials that were to be told; it ends where something must end it; and that a fault ended
+-- it is told once
 abbrev pub MayNote : Ledger → Line → Type 0
 MayNote l (asks info wanted) = l.asked ≡ false
 MayNote l (hears turn news) = IsWithin l news

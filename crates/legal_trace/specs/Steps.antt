@@ -128,11 +128,18 @@ abbrev pub step_open : Bool → Bool → Step → Step
 step_open true held next = starts_or_waits held
 step_open false held next = next
 
--- the next step of a submission on a link that is up; while credentials are to be told before its message, this waits as where
--- the link is held back
+-- its message is not to start now: its link is held back, or credentials are to be told before
+abbrev pub is_kept_back : Book → Story → Bool
+is_kept_back b s = is_held_back b (b.link s.link) || is_behind_renewal (b.link s.link) s
+
+-- what is waited for on a link that is up and not set up
+abbrev pub unready_wait : Ledger → WaitKind
+unready_wait l = if lacks_credentials l then wait.Creds else wait.Setup
+
+-- the next step of a submission on a link that is set up
 abbrev pub step_ready : Book → ℕ → Story → Step
 step_ready b n s =
-    let held = is_held_back b (b.link s.link) || is_behind_renewal (b.link s.link) s in
+    let held = is_kept_back b s in
     step_open (is_told s) held
     (step_holding (permits_in b.config) s.permits (λ limit. step_taking (free_permits b s.link limit) (permits_for (shape s) limit))
     (step_timed s.timeout s.clock (step_placed (is_outside b n) (is_awaited s) held)))
@@ -143,5 +150,5 @@ next_step b n =
     let s = b.story n in
     let l = b.link s.link in
     if dials l then waits wait.Connect
-    else if l.up then (if is_set_up l then step_ready b n s else if lacks_credentials l then waits wait.Creds else waits wait.Setup)
+    else if l.up then (if is_set_up l then step_ready b n s else waits (unready_wait l))
     else nothing
