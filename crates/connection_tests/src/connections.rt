@@ -5,7 +5,7 @@ ghost use Rattle.mux_conn.specs.Effects.{CanTake, IsWithin};
 use connection_info::{ProtocolVersion, RedisConnectionInfo};
 use containers::Bytes;
 use driver_model::{LinkEvent, LinkFault, LinkNews, Outcome, Shape, WaitKind};
-use mux_conn::{Life, LinkAct, MultiplexedConnection, Pending};
+use mux_conn::{Life, LinkAct, MultiplexedConnection, Pending, Renewal};
 use redis_error::{FaultKind, RedisError};
 use resp_value::Value;
 use std::alloc::{AllocError, Global};
@@ -85,6 +85,7 @@ fn connection(alloc: Global, made: &Made) -> Result<MultiplexedConnection, Alloc
         made.limit,
         made.hears,
         info,
+        Renewal::new(alloc, false, None),
     ))
 }
 
@@ -137,6 +138,7 @@ fn can_take(conn: &MultiplexedConnection, count: u64) -> bool
     match &conn.life {
         Life::Ready { link } => count <= link.offered_len(),
         Life::SettingUp { link, with_user: _ } => count <= link.offered_len(),
+        Life::Wanting { link } => count <= link.offered_len(),
         Life::Dialing => true,
         Life::Ended { error: _ } => true,
     }
@@ -348,6 +350,10 @@ fn describe(alloc: Global, act: &LinkAct, log: &mut Vec<u8>) -> Result<(), Alloc
             )
         }
         LinkAct::Timer { request, ms } => tell(alloc, log, b"timer", &[u64::from(*request), *ms]),
+        LinkAct::NeedCreds => word(log, b"need-creds"),
+        LinkAct::RenewalTimer { number, ms } => {
+            tell(alloc, log, b"renewal timer", &[u64::from(*number), *ms])
+        }
         LinkAct::Push { info } => tell_word(log, b"push", info.kind.name()),
         LinkAct::Close => word(log, b"close"),
         LinkAct::Write { bytes } => tell_word(log, b"write", bytes.as_slice()),
@@ -362,6 +368,9 @@ fn describe(alloc: Global, act: &LinkAct, log: &mut Vec<u8>) -> Result<(), Alloc
         } => tell_start(alloc, log, *message, *request, *len),
         LinkAct::SetUp { message, need, len } => {
             tell(alloc, log, b"setup", &[u64::from(*message), *need, *len])
+        }
+        LinkAct::Renewed { message, need, len } => {
+            tell(alloc, log, b"renewed", &[u64::from(*message), *need, *len])
         }
         LinkAct::Outcome { request, outcome } => {
             tell_of(alloc, log, b"outcome", *request, describe_outcome(outcome))

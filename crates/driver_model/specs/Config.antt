@@ -49,6 +49,10 @@ told_info c = unwrap_or (option_map (told_of c) (address c)) bare_info
 abbrev pub hears_pushes : Config → Bool
 hears_pushes c = unwrap_or c.push false
 
+-- whether credentials come of a source
+abbrev pub wants_credentials : Config → Bool
+wants_credentials c = unwrap_or c.creds false
+
 -- a queue that holds nothing is refused
 abbrev pub buffer_fault : ℕ → Option ConfigName
 buffer_fault size = if size == 0 then Some name.Buffer else None

@@ -3,6 +3,9 @@ use Rattle.std.specs.Prelude.{ℕ, ◌==◌, Bool, List, Option, Some, None, sli
 use Rattle.redis_error.specs.declared.fault_kind.FaultKind.{FaultKind}
 use Rattle.driver_model.specs.declared.action.Purpose.{Purpose}
 use Rattle.driver_model.specs.declared.action.Purpose.TheVariants as purpose
+use Rattle.driver_model.specs.declared.action.SourceUse.{SourceUse}
+use Rattle.driver_model.specs.declared.action.SourceUse.TheVariants as source
+use Rattle.credentials.specs.Credentials.{Credentials}
 use Rattle.driver_model.specs.declared.event.EventKind.{EventKind}
 use Rattle.driver_model.specs.declared.event.EventKind.TheVariants as event
 use Rattle.driver_model.specs.declared.news.LinkFault.{LinkFault}
@@ -11,7 +14,9 @@ use Rattle.driver_model.specs.declared.news.LinkNews.{LinkNews}
 use Rattle.driver_model.specs.declared.news.LinkNews.TheVariants as variant
 
 -- nothing; its connect succeeded; its connect failed; the time in which it was to be connected is over; so many of the
--- offered bytes were taken; bytes came; its peer closed it, or a read or a write failed; everything is shut down
+-- offered bytes were taken; bytes came; its peer closed it, or a read or a write failed; credentials came for its setup, or there
+-- are none, since its source says this, or has ended; new credentials came, to be told to its server, or no more come; the time
+-- for those of this number is over; everything is shut down
 pub data News : Type 0 where
   silence : News
   connected : News
@@ -20,6 +25,12 @@ pub data News : Type 0 where
   took : ℕ → News
   came : List ℕ → News
   failed : LinkFault → News
+  authorized : Credentials → News
+  denied : List ℕ → News
+  deserted : News
+  renewed : Credentials → News
+  unrenewed : News
+  late : ℕ → News
   shut : News
 
 -- news for one link alone
@@ -31,21 +42,32 @@ abbrev pub of_timer : ℕ → Option Purpose → News
 of_timer n None = silence
 of_timer n (Some (purpose.Connect l)) = for_link (l == n) overdue
 of_timer n (Some (purpose.Response who)) = silence
+of_timer n (Some (purpose.Renewal l k)) = for_link (l == n) (late k)
 
--- what the link of number n sees of an event, where these are the purposes of the timers by their numbers
-abbrev pub news_of : List Purpose → ℕ → EventKind → News
-news_of timers n (event.Connected l) = for_link (l == n) connected
-news_of timers n (event.Refused l f) = for_link (l == n) (refused f)
-news_of timers n (event.Wrote l count) = for_link (l == n) (took count)
-news_of timers n (event.Bytes l piece) = for_link (l == n) (came piece)
-news_of timers n (event.Ended l) = for_link (l == n) (failed fault.Ended)
-news_of timers n (event.ReadFault l kind) = for_link (l == n) (failed (fault.Io kind))
-news_of timers n (event.WriteFault l kind) = for_link (l == n) (failed (fault.Io kind))
-news_of timers n (event.Fired t) = of_timer n (slice_get timers t)
-news_of timers n (event.Timeout ms) = silence
-news_of timers n event.Shutdown = shut
-news_of timers n (event.Submit s) = silence
-news_of timers n (event.Cancel s) = silence
+-- what it sees of a source with this use, if it was asked for: this where its setup waits for it, and that where it renews
+abbrev pub of_source : ℕ → Option SourceUse → News → News → News
+of_source n None first later = silence
+of_source n (Some (source.Setup l)) first later = for_link (l == n) first
+of_source n (Some (source.Renewal l)) first later = for_link (l == n) later
+
+-- what the link of number n sees of an event, where these are the purposes of the timers, and the uses of the sources of
+-- credentials, by their numbers
+abbrev pub news_of : List Purpose → List SourceUse → ℕ → EventKind → News
+news_of timers sources n (event.Connected l) = for_link (l == n) connected
+news_of timers sources n (event.Refused l f) = for_link (l == n) (refused f)
+news_of timers sources n (event.Wrote l count) = for_link (l == n) (took count)
+news_of timers sources n (event.Bytes l piece) = for_link (l == n) (came piece)
+news_of timers sources n (event.Ended l) = for_link (l == n) (failed fault.Ended)
+news_of timers sources n (event.ReadFault l kind) = for_link (l == n) (failed (fault.Io kind))
+news_of timers sources n (event.WriteFault l kind) = for_link (l == n) (failed (fault.Io kind))
+news_of timers sources n (event.Fired t) = of_timer n (slice_get timers t)
+news_of timers sources n (event.Timeout ms) = silence
+news_of timers sources n event.Shutdown = shut
+news_of timers sources n (event.Creds c auth) = of_source n (slice_get sources c) (authorized auth) (renewed auth)
+news_of timers sources n (event.CredsError c text) = of_source n (slice_get sources c) (denied text) silence
+news_of timers sources n (event.CredsEnd c) = of_source n (slice_get sources c) deserted unrenewed
+news_of timers sources n (event.Submit s) = silence
+news_of timers sources n (event.Cancel s) = silence
 
 -- the news that a link is handed
 abbrev pub told : LinkNews → News
@@ -56,4 +78,10 @@ told variant.Overdue = overdue
 told (variant.Took count) = took count
 told (variant.Came piece) = came piece.now
 told (variant.Failed f) = failed f
+told (variant.Authorized auth) = authorized auth.now
+told (variant.Denied text) = denied text.now
+told variant.Deserted = deserted
+told (variant.Renewed auth) = renewed auth.now
+told variant.Unrenewed = unrenewed
+told (variant.Late k) = late k
 told variant.Shut = shut

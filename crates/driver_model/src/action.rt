@@ -21,6 +21,8 @@ pub enum Owner {
     Try { submission: u32, round: u32 },
     /// What is said to the server before the first request.
     Setup,
+    /// New credentials, told to the server of a link that is set up.
+    Auth,
 }
 
 /// What a request waits for.
@@ -28,6 +30,8 @@ pub enum Owner {
 pub enum WaitKind {
     /// The connect of its link is not answered yet.
     Connect,
+    /// The credentials for the setup of its link have not come.
+    Creds,
     /// The setup of its link is not answered yet.
     Setup,
     /// All permits of its connection are held.
@@ -45,6 +49,17 @@ pub enum Purpose {
     Connect { link: u32 },
     /// The request is to be answered by then.
     Response { owner: Owner },
+    /// The link's new credentials, the first of which have the number 0, are to be answered by then.
+    Renewal { link: u32, number: u32 },
+}
+
+/// What a source of credentials is asked for.
+#[derive(Clone, Copy, PartialEq, Eq)]
+pub enum SourceUse {
+    /// The setup of the link: it waits for the first credentials.
+    Setup { link: u32 },
+    /// The link's renewals: each of its credentials is told to the server.
+    Renewal { link: u32 },
 }
 
 /// What a turn asks of the outside, or tells it.
@@ -77,6 +92,11 @@ pub enum Action {
     Push {
         link: u32,
         info: PushInfo,
+    },
+    /// A source of credentials is wanted for the link. Sources are numbered from 0.
+    NeedCreds {
+        source: u32,
+        link: u32,
     },
     /// The link ended, or is to be closed.
     Close {
@@ -177,6 +197,10 @@ impl Action {
                 let info = info.clone(alloc)?;
                 Ok(Action::Push { link: *link, info })
             }
+            Action::NeedCreds { source, link } => Ok(Action::NeedCreds {
+                source: *source,
+                link: *link,
+            }),
             Action::Close { link } => Ok(Action::Close { link: *link }),
             Action::Write { link, bytes } => {
                 let bytes = bytes.clone(alloc)?;

@@ -1,6 +1,6 @@
 ghost use Rattle.std.specs.Prelude.{◌≡◌, Some, None, OnOk, IfOk, IfErr};
 ghost use Rattle.driver_model.specs.Config.{address, told_info, connect_timeout, buffer_size};
-ghost use Rattle.driver_model.specs.Config.{response_timeout, hears_pushes};
+ghost use Rattle.driver_model.specs.Config.{response_timeout, hears_pushes, wants_credentials};
 ghost use Rattle.driver_model.specs.Config.{boundary, first_fault, RefusesConfig};
 ghost use Rattle.connection_info.specs.Refusal.{RefusesUrl};
 
@@ -26,6 +26,8 @@ pub struct Config {
     pub boundary: Option<u64>,
     /// Whether somebody hears the pushes that come. Nobody does where nothing is given. It needs RESP3.
     pub push: Option<bool>,
+    /// Whether credentials come of a source, as the connection is set up and later. They don't where nothing is given.
+    pub creds: Option<bool>,
     /// Whether the server is told which library speaks. It is where nothing is given.
     pub lib: Option<bool>,
 }
@@ -42,6 +44,7 @@ impl Config {
               buffer = None;
               boundary = None;
               push = None;
+              creds = None;
               lib = None;
             } }
     {
@@ -53,6 +56,7 @@ impl Config {
             buffer: None,
             boundary: None,
             push: None,
+            creds: None,
             lib: None,
         }
     }
@@ -70,6 +74,7 @@ impl Config {
             buffer: self.buffer,
             boundary: self.boundary,
             push: self.push,
+            creds: self.creds,
             lib: self.lib,
         })
     }
@@ -107,6 +112,13 @@ impl Config {
         ensures { result ≡ hears_pushes self.now }
     {
         self.push.unwrap_or(false)
+    }
+
+    /// Whether credentials come of a source.
+    pub fn wants_credentials(&self) -> bool
+        ensures { result ≡ wants_credentials self.now }
+    {
+        self.creds.unwrap_or(false)
     }
 
     /// What is said to the server before the first request, where this is its address.

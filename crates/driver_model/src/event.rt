@@ -2,6 +2,7 @@ ghost use Rattle.std.specs.Prelude.{◌≡◌, IfOk};
 
 use crate::commands::Commands;
 use containers::{Bytes, Names};
+use credentials::BasicAuth;
 use redis_error::FaultKind;
 use resp_write::SubscriptionAction;
 use std::alloc::{AllocError, Global};
@@ -39,7 +40,7 @@ pub enum Submission {
     },
 }
 
-/// What happened. Links, submissions and timers go by their numbers, counted from 0.
+/// What happened. Links, submissions, timers and sources of credentials go by their numbers, counted from 0.
 #[derive(Drop)]
 pub enum EventKind {
     /// A caller hands in a request.
@@ -62,6 +63,12 @@ pub enum EventKind {
     WriteFault { link: u32, fault: FaultKind },
     /// The time of a timer is over.
     Fired { timer: u32 },
+    /// New credentials came of a source.
+    Creds { source: u32, auth: BasicAuth },
+    /// A source could not give new credentials, and says why.
+    CredsError { source: u32, text: Bytes },
+    /// No more credentials come of a source.
+    CredsEnd { source: u32 },
     /// From now on a request that is handed in is to be answered within so many milliseconds, if within any.
     Timeout { ms: Option<u64> },
     /// Everything is closed.
@@ -156,6 +163,21 @@ impl EventKind {
                 fault: *fault,
             }),
             EventKind::Fired { timer } => Ok(EventKind::Fired { timer: *timer }),
+            EventKind::Creds { source, auth } => {
+                let auth = auth.clone(alloc)?;
+                Ok(EventKind::Creds {
+                    source: *source,
+                    auth,
+                })
+            }
+            EventKind::CredsError { source, text } => {
+                let text = text.clone(alloc)?;
+                Ok(EventKind::CredsError {
+                    source: *source,
+                    text,
+                })
+            }
+            EventKind::CredsEnd { source } => Ok(EventKind::CredsEnd { source: *source }),
             EventKind::Timeout { ms } => Ok(EventKind::Timeout { ms: *ms }),
             EventKind::Shutdown => Ok(EventKind::Shutdown),
         }

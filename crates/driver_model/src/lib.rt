@@ -13,7 +13,7 @@ mod request;
 mod setup;
 mod verdicts;
 
-pub use action::{Action, Cause, Owner, Purpose, WaitKind};
+pub use action::{Action, Cause, Owner, Purpose, SourceUse, WaitKind};
 pub use commands::Commands;
 pub use config::Config;
 pub use event::{Event, EventKind, Submission};

@@ -2,6 +2,7 @@ ghost use Rattle.std.specs.Prelude.{◌≡◌, IfOk, if◌then◌else◌};
 
 use crate::event::{Event, EventKind, Submission};
 use containers::{Bytes, Names};
+use credentials::BasicAuth;
 use redis_error::FaultKind;
 use resp_write::Cmd;
 use std::alloc::{AllocError, Global};
@@ -110,6 +111,27 @@ impl Event {
         ensures { result ≡ record { word = 0; kind = EventKind.Fired timer } }
     {
         Event::of(EventKind::Fired { timer })
+    }
+
+    /// New credentials came of this source.
+    pub fn creds(source: u32, auth: BasicAuth) -> Event
+        ensures { result ≡ record { word = 0; kind = EventKind.Creds source auth } }
+    {
+        Event::of(EventKind::Creds { source, auth })
+    }
+
+    /// This source could not give new credentials, and says why.
+    pub fn creds_error(source: u32, text: Bytes) -> Event
+        ensures { result ≡ record { word = 0; kind = EventKind.CredsError source text } }
+    {
+        Event::of(EventKind::CredsError { source, text })
+    }
+
+    /// No more credentials come of this source.
+    pub fn creds_end(source: u32) -> Event
+        ensures { result ≡ record { word = 0; kind = EventKind.CredsEnd source } }
+    {
+        Event::of(EventKind::CredsEnd { source })
     }
 
     /// From now on a request that is handed in is to be answered within so many milliseconds, if within any.

@@ -1,8 +1,9 @@
 ghost use Rattle.std.specs.Prelude.{◌≡◌, slice_get};
-ghost use Rattle.driver_model.specs.News.{news_of, of_timer, told};
+ghost use Rattle.driver_model.specs.News.{news_of, of_timer, of_source, told};
 
-use crate::action::Purpose;
+use crate::action::{Purpose, SourceUse};
 use crate::event::EventKind;
+use credentials::BasicAuth;
 use redis_error::FaultKind;
 
 /// How a link ended, where it wasn't closed by a shutdown.
@@ -33,6 +34,18 @@ pub enum LinkNews<'a> {
     Came { piece: &'a [u8] },
     /// The peer closed it, or a read or a write failed.
     Failed { fault: LinkFault },
+    /// Credentials came for its setup.
+    Authorized { auth: &'a BasicAuth },
+    /// There are none for its setup: the source says why.
+    Denied { text: &'a [u8] },
+    /// There are none for its setup: the source has ended.
+    Deserted,
+    /// New credentials came, to be told to its server.
+    Renewed { auth: &'a BasicAuth },
+    /// No more of them come.
+    Unrenewed,
+    /// The time in which its credentials of this number were to be answered is over.
+    Late { number: u32 },
     /// Everything is closed.
     Shut,
 }
@@ -54,14 +67,47 @@ fn fired(timers: &[Purpose], timer: u32, link: u32) -> LinkNews<'static>
     }
     match timers[place] {
         Purpose::Connect { link: named } if named == link => LinkNews::Overdue,
+        Purpose::Renewal {
+            link: named,
+            number,
+        } if named == link => LinkNews::Late { number },
+        _ => LinkNews::Silence,
+    }
+}
+
+/// What the source of this number is for, where these are the uses of the sources by their numbers.
+fn use_of(sources: &[SourceUse], source: u32) -> Option<SourceUse>
+    ensures { result ≡ slice_get sources.now source }
+{
+    let place = source as usize;
+    if place >= sources.len() {
+        return None;
+    }
+    Some(sources[place])
+}
+
+/// What the link of this number sees of an event of the source with this use, if it has one: this where the link's setup
+/// waits for it, and that where it renews.
+fn sourced<'a>(
+    used: Option<SourceUse>,
+    link: u32,
+    first: LinkNews<'a>,
+    later: LinkNews<'a>,
+) -> LinkNews<'a>
+    ensures { told result ≡ of_source link used (told first.entry) (told later.entry) }
+{
+    match used {
+        Some(SourceUse::Setup { link: named }) if named == link => first,
+        Some(SourceUse::Renewal { link: named }) if named == link => later,
         _ => LinkNews::Silence,
     }
 }
 
 impl EventKind {
-    /// What the link of this number sees of the event, where these are the purposes of the timers by their numbers.
-    pub fn news(&self, timers: &[Purpose], link: u32) -> LinkNews<'_>
-        ensures { told result ≡ news_of timers.now link self.now }
+    /// What the link of this number sees of the event, where these are the purposes of the timers, and the uses of the sources of
+    /// credentials, by their numbers.
+    pub fn news(&self, timers: &[Purpose], sources: &[SourceUse], link: u32) -> LinkNews<'_>
+        ensures { told result ≡ news_of timers.now sources.now link self.now }
     {
         if let EventKind::Fired { timer } = self {
             return fired(timers, *timer, link);
@@ -86,6 +132,26 @@ impl EventKind {
             EventKind::WriteFault { link: named, fault } if *named == link => LinkNews::Failed {
                 fault: LinkFault::Io { fault: *fault },
             },
+            EventKind::Creds { source, auth } => sourced(
+                use_of(sources, *source),
+                link,
+                LinkNews::Authorized { auth },
+                LinkNews::Renewed { auth },
+            ),
+            EventKind::CredsError { source, text } => sourced(
+                use_of(sources, *source),
+                link,
+                LinkNews::Denied {
+                    text: text.as_slice(),
+                },
+                LinkNews::Silence,
+            ),
+            EventKind::CredsEnd { source } => sourced(
+                use_of(sources, *source),
+                link,
+                LinkNews::Deserted,
+                LinkNews::Unrenewed,
+            ),
             EventKind::Shutdown => LinkNews::Shut,
             _ => LinkNews::Silence,
         }

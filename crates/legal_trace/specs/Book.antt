@@ -7,24 +7,27 @@ use Rattle.driver_model.specs.declared.action.Cause.{Cause}
 use Rattle.driver_model.specs.declared.action.Cause.TheVariants as cause
 use Rattle.driver_model.specs.declared.action.Purpose.{Purpose}
 use Rattle.driver_model.specs.declared.action.Purpose.TheVariants as purpose
+use Rattle.driver_model.specs.declared.action.SourceUse.{SourceUse}
+use Rattle.driver_model.specs.declared.action.SourceUse.TheVariants as source
 use Rattle.driver_model.specs.declared.action.Owner.{Owner}
 use Rattle.driver_model.specs.declared.action.Owner.TheVariants as owner
 use Rattle.driver_model.specs.declared.event.EventKind.{EventKind}
 use Rattle.driver_model.specs.declared.event.EventKind.TheVariants as event
 use Rattle.connection_info.specs.declared.address.RedisConnectionInfo.{RedisConnectionInfo}
-use Rattle.driver_model.specs.Config.{response_timeout, told_info, bare_info}
+use Rattle.driver_model.specs.Config.{response_timeout, told_info, bare_info, wants_credentials}
 use Rattle.driver_model.specs.declared.event.Submission.{Submission}
 use Rattle.driver_model.specs.News.{news_of}
 use Rattle.driver_model.specs.Request.{lacks_resp3}
-use Rattle.legal_trace.specs.Ledger.{Ledger, Start, Line, asks, hears, begins, offers, ends, blank_ledger, setup_count, setup_message, noted_each, tells, parts}
+use Rattle.credentials.specs.Credentials.{Credentials}
+use Rattle.legal_trace.specs.Ledger.{Ledger, Start, Line, asks, hears, begins, offers, ends, blank_ledger, setup_count, setup_message, renewal_due, renewal_message, renewals_asked, noted_each, tells, parts, sources, times}
 use Rattle.resp_value.specs.declared.push_kind.PushKind.{PushKind}
 use Rattle.driver_model.specs.Push.{is_disconnection}
 use Rattle.legal_trace.specs.Story.{Story, blank_story, bytes_of, shape, handed_in, left, holds, clocked, fires, tried, waits, answered}
 
 -- the configuration, once the opening has told it; how many links were asked for, and the ledger of each; how many
--- submissions were handed in, and the story of each; what each timer was asked for, in order; how often the creation was
--- shown, or its failure; within how many milliseconds a submission that is handed in now is to be answered, if within any;
--- whether everything was shut down; how many turns began, and what the turn that runs is the turn of
+-- submissions were handed in, and the story of each; what each timer, and each source of credentials, was asked for, in order;
+-- how often the creation was shown, or its failure; within how many milliseconds a submission that is handed in now is to be
+-- answered, if within any; whether everything was shut down; how many turns began, and what the turn that runs is the turn of
 pub record Book : Type 0 where
   pub config : Option Config
   pub links : ℕ
@@ -32,6 +35,7 @@ pub record Book : Type 0 where
   pub submissions : ℕ
   pub story : ℕ → Story
   pub timers : List Purpose
+  pub sources : List SourceUse
   pub created : ℕ
   pub timeout : Option ℕ
   pub shut : Bool
@@ -39,16 +43,31 @@ pub record Book : Type 0 where
   pub running : Option Cause
 
 abbrev pub blank_book : Book
-blank_book = record { config = None; links = 0; link = λ n. blank_ledger; submissions = 0; story = λ n. blank_story; timers = []; created = 0; timeout = None; shut = false; turns = 0; running = None }
+blank_book = record { config = None; links = 0; link = λ n. blank_ledger; submissions = 0; story = λ n. blank_story; timers = []; sources = []; created = 0; timeout = None; shut = false; turns = 0; running = None }
 
 -- what is said to a server before the first request, where a configuration tells it
 abbrev pub info_in : Option Config → RedisConnectionInfo
 info_in None = bare_info
 info_in (Some config) = told_info config
 
+-- and whether credentials come of sources
+abbrev pub wanted_in : Option Config → Bool
+wanted_in None = false
+wanted_in (Some config) = wants_credentials config
+
+-- these credentials, where there are any
+abbrev pub credentials_in : Option Credentials → Credentials
+credentials_in None = record { username = []; password = [] }
+credentials_in (Some c) = c
+
+-- and the message that tells them
+abbrev pub renewal_in : Option Credentials → Start
+renewal_in o = renewal_message (credentials_in o)
+
 -- a message that starts on link l as its owner has it: it carries the owner's bytes
 abbrev pub message_of : Book → ℕ → Owner → Start
 message_of b l owner.Setup = setup_message (b.link l) (setup_count (b.link l).starts)
+message_of b l owner.Auth = renewal_in (renewal_due (b.link l))
 message_of b l (owner.Try n round) = record { owner = owner.Try n round; shape = shape (b.story n); bytes = bytes_of (b.story n) }
 
 -- a line of one link alone
@@ -59,12 +78,19 @@ if_mine mine line = if mine then line ∷ [] else []
 abbrev pub push_line : PushKind → Line
 push_line kind = if is_disconnection kind then parts else tells
 
+-- a timer is for new credentials of link n
+abbrev pub is_renewal_of : ℕ → Purpose → Bool
+is_renewal_of n (purpose.Renewal l k) = l == n
+is_renewal_of n (purpose.Connect l) = false
+is_renewal_of n (purpose.Response who) = false
+
 -- what an action tells of link n
 abbrev pub lines_of : Book → ℕ → Action → List Line
 lines_of b n (action.Turn number (cause.Opening config word)) = []
-lines_of b n (action.Turn number (cause.Event e)) = hears number (news_of b.timers n e.kind) ∷ []
-lines_of b n (action.Connect l host port) = if_mine (l == n) (asks (info_in b.config))
-lines_of b n (action.Timer t ms what) = []
+lines_of b n (action.Turn number (cause.Event e)) = hears number (news_of b.timers b.sources n e.kind) ∷ []
+lines_of b n (action.Connect l host port) = if_mine (l == n) (asks (info_in b.config) (wanted_in b.config))
+lines_of b n (action.Timer t ms what) = if_mine (is_renewal_of n what) times
+lines_of b n (action.NeedCreds c l) = if_mine (l == n) sources
 lines_of b n (action.Took who l count) = []
 lines_of b n (action.Push l info) = if_mine (l == n) (push_line info.kind)
 lines_of b n (action.Close l) = if_mine (l == n) (ends (b.turns - 1))
@@ -91,6 +117,8 @@ abbrev pub is_clock_of : ℕ → Option Purpose → Bool
 is_clock_of n None = false
 is_clock_of n (Some (purpose.Connect l)) = false
 is_clock_of n (Some (purpose.Response owner.Setup)) = false
+is_clock_of n (Some (purpose.Response owner.Auth)) = false
+is_clock_of n (Some (purpose.Renewal l k)) = false
 is_clock_of n (Some (purpose.Response (owner.Try m round))) = m == n
 
 -- what an event is to submission n
@@ -106,6 +134,9 @@ after_event b n (event.ReadFault l kind) = b.story n
 after_event b n (event.WriteFault l kind) = b.story n
 after_event b n (event.Fired t) = if_own (is_clock_of n (slice_get b.timers t)) (fires (b.story n)) (b.story n)
 after_event b n (event.Timeout ms) = b.story n
+after_event b n (event.Creds c auth) = b.story n
+after_event b n (event.CredsError c text) = b.story n
+after_event b n (event.CredsEnd c) = b.story n
 after_event b n event.Shutdown = b.story n
 
 -- what an action is to submission n
@@ -113,15 +144,19 @@ abbrev pub story_after : Book → ℕ → Action → Story
 story_after b n (action.Turn number (cause.Opening config word)) = b.story n
 story_after b n (action.Turn number (cause.Event e)) = after_event b n e.kind
 story_after b n (action.Start l message (owner.Try m round) count len) = if_own (m == n) (tried (b.story n) l message) (b.story n)
-story_after b n (action.Wait (owner.Try m round) kind) = if_own (m == n) (waits (b.story n) kind) (b.story n)
-story_after b n (action.Outcome m o) = if_own (m == n) (answered (b.story n) o) (b.story n)
+story_after b n (action.Wait (owner.Try m round) kind) = if_own (m == n) (waits (b.story n) kind (renewals_asked (b.link (b.story n).link))) (b.story n)
+story_after b n (action.Outcome m o) = if_own (m == n) (answered (b.story n) o (renewals_asked (b.link (b.story n).link))) (b.story n)
 story_after b n (action.Connect l host port) = b.story n
 story_after b n (action.Timer t ms what) = if_own (is_clock_of n (Some what)) (clocked (b.story n) t) (b.story n)
 story_after b n (action.Took owner.Setup l count) = b.story n
+story_after b n (action.Took owner.Auth l count) = b.story n
 story_after b n (action.Start l message owner.Setup count len) = b.story n
+story_after b n (action.Start l message owner.Auth count len) = b.story n
 story_after b n (action.Wait owner.Setup kind) = b.story n
+story_after b n (action.Wait owner.Auth kind) = b.story n
 story_after b n (action.Took (owner.Try m round) l count) = if_own (m == n) (holds (b.story n) count) (b.story n)
 story_after b n (action.Push l info) = b.story n
+story_after b n (action.NeedCreds c l) = b.story n
 story_after b n (action.Close l) = b.story n
 story_after b n (action.Write l bytes) = b.story n
 story_after b n (action.Created e) = b.story n
@@ -151,6 +186,10 @@ begun b (cause.Event e) = record b {
   shut = b.shut || shuts e.kind;
 }
 
+-- a source that is asked for a link: the first is for its setup, and the second for its renewals
+abbrev pub use_for : Book → ℕ → SourceUse
+use_for b l = if (b.link l).creds.asked == 0 then source.Setup l else source.Renewal l
+
 -- what an action is to the counts of a book
 abbrev pub counted : Book → Action → Book
 counted b (action.Turn number c) = begun b c
@@ -159,6 +198,7 @@ counted b (action.Timer t ms what) = record b { timers = b.timers ++ what ∷ []
 counted b (action.Took who l count) = b
 counted b (action.Created e) = record b { created = b.created + 1 }
 counted b (action.Push l info) = b
+counted b (action.NeedCreds c l) = record b { sources = b.sources ++ use_for b l ∷ [] }
 counted b (action.Close l) = b
 counted b (action.Write l bytes) = b
 counted b (action.Wait who kind) = b

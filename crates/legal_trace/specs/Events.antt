@@ -10,8 +10,8 @@ use Rattle.legal_trace.specs.Book.{Book}
 abbrev pub is_no_link : Book → ℕ → Bool
 is_no_link b l = nat_le b.links l
 
--- the event hands in a submission without a form, or names a link, a timer or a submission that was never given out, or
--- more written bytes than were offered to a link that has not ended
+-- the event hands in a submission without a form, or names a link, a timer, a source of credentials or a submission that was
+-- never given out, or more written bytes than were offered to a link that has not ended
 unfoldable pub is_bad_event : Book → EventKind → Bool
 is_bad_event b (event.Submit what) = has_no_form what
 is_bad_event b (event.Cancel n) = nat_le b.submissions n
@@ -24,9 +24,12 @@ is_bad_event b (event.ReadFault l kind) = is_no_link b l
 is_bad_event b (event.WriteFault l kind) = is_no_link b l
 is_bad_event b (event.Fired t) = nat_le (length b.timers) t
 is_bad_event b (event.Timeout ms) = false
+is_bad_event b (event.Creds c auth) = nat_le (length b.sources) c
+is_bad_event b (event.CredsError c text) = nat_le (length b.sources) c
+is_bad_event b (event.CredsEnd c) = nat_le (length b.sources) c
 is_bad_event b event.Shutdown = false
 
 -- more numbers of a sort were given out than there are: a turn after the number 2^32 - 1, or that number itself to a
--- submission, to a link, to a timer, or to a message of a link that is up
+-- submission, to a link, to a timer, to a source of credentials, or to a message of a link that is up
 abbrev pub HasRunOut : Book → Type 0
-HasRunOut b = (2 ^ 32 < b.turns) ⊎ (2 ^ 32 ≤ b.submissions) ⊎ (2 ^ 32 ≤ b.links) ⊎ (2 ^ 32 ≤ length b.timers) ⊎ ((l : ℕ) × ((b.link l).up ≡ true) × (2 ^ 32 ≤ length (b.link l).starts))
+HasRunOut b = (2 ^ 32 < b.turns) ⊎ (2 ^ 32 ≤ b.submissions) ⊎ (2 ^ 32 ≤ b.links) ⊎ (2 ^ 32 ≤ length b.timers) ⊎ (2 ^ 32 ≤ length b.sources) ⊎ ((l : ℕ) × ((b.link l).up ≡ true) × (2 ^ 32 ≤ length (b.link l).starts))

@@ -1,6 +1,6 @@
 -- What is told of one link, line by line, and what it comes to: the link's ledger. It knows neither its number nor whose
 -- messages it carries.
-use Rattle.std.specs.Prelude.{◌≡◌, ◌≢◌, ◌⊎◌, ◌≤◌, ℕ, zero, suc, ◌+◌, ◌-◌, ◌==◌, nat_le, Bool, true, false, ◌&&◌, not, List, [], ◌∷◌, ◌++◌, length, take, drop, flat_map, Option, Some, None, is_some, slice_get, if◌then◌else◌}
+use Rattle.std.specs.Prelude.{◌≡◌, ◌≢◌, ◌⊎◌, ◌≤◌, ◌<◌, ℕ, zero, suc, ◌+◌, ◌-◌, ◌==◌, nat_le, nat_lt, Bool, true, false, ◌&&◌, ◌||◌, not, List, [], ◌∷◌, ◌++◌, length, take, drop, flat_map, Option, Some, None, is_some, slice_get, if◌then◌else◌}
 use Rattle.resp_value.specs.Data.{Data, push, list_of}
 use Rattle.resp_read.specs.Values.{values, left_over, is_spoiled}
 use Rattle.resp_read.specs.Items.{items, is_item}
@@ -8,6 +8,8 @@ use Rattle.redis_error.specs.declared.fault_kind.FaultKind.TheVariants as kind
 use Rattle.redis_error.specs.declared.redis_error.RedisError.{RedisError}
 use Rattle.redis_error.specs.declared.redis_error.RedisError.TheVariants as error
 use Rattle.connection_info.specs.declared.address.RedisConnectionInfo.{RedisConnectionInfo}
+use Rattle.credentials.specs.Credentials.{Credentials}
+use Rattle.credentials.specs.Message.{auth_bytes}
 use Rattle.connection_setup.specs.declared.judgement.SetupResult.{SetupResult}
 use Rattle.connection_setup.specs.declared.judgement.SetupResult.TheVariants.{Ready, RepeatWithoutUser, Failed}
 use Rattle.connection_setup.specs.Setup.{Step, setup}
@@ -20,8 +22,11 @@ use Rattle.driver_model.specs.declared.action.Owner.TheVariants as owner
 use Rattle.driver_model.specs.declared.news.LinkFault.{LinkFault}
 use Rattle.driver_model.specs.declared.news.LinkFault.TheVariants as fault
 use Rattle.driver_model.specs.declared.outcome.Shape.{Shape}
-use Rattle.driver_model.specs.News.{News, silence, connected, refused, overdue, took, came, failed, shut}
-use Rattle.driver_model.specs.Shape.{need_of}
+use Rattle.driver_model.specs.declared.outcome.Shape.TheVariants.{Confirmation}
+use Rattle.driver_model.specs.declared.outcome.Verdict.{Verdict}
+use Rattle.driver_model.specs.declared.outcome.Verdict.TheVariants as verdict
+use Rattle.driver_model.specs.News.{News, silence, connected, refused, overdue, took, came, failed, authorized, denied, deserted, renewed, unrenewed, late, shut}
+use Rattle.driver_model.specs.Shape.{need_of, verdict_of}
 
 -- a message that started: who owns it, how many items it takes and what they become, and its bytes
 pub record Start : Type 0 where
@@ -59,13 +64,29 @@ pub record Heard : Type 0 where
   pub after : ℕ
   pub info : PushInfo
 
--- whether its connect was asked for, and what is to be said to its server then; whether the connect succeeded and it has not ended; how it ended; its starts in order;
--- the bytes that were taken from it; the bytes of its unanswered offer; what came behind the last whole value; the items
--- dealt; the pushes that came once it was set up, how many of them were told, and whether its end was told as one; and what it
--- was told by the turn that runs
+-- the credentials of a link that come of sources: whether they are to, how often a source was asked for, and whether the first
+-- credentials have come; those that came to be told to its server since, in order, and whether more may come; for how many of
+-- these a timer was asked; and whether one of them was not answered in time
+pub record Sourced : Type 0 where
+  pub wanted : Bool
+  pub asked : ℕ
+  pub given : Bool
+  pub renewals : List Credentials
+  pub over : Bool
+  pub timed : ℕ
+  pub lost : Bool
+
+abbrev pub unsourced : Bool → Sourced
+unsourced wanted = record { wanted = wanted; asked = 0; given = false; renewals = []; over = false; timed = 0; lost = false }
+
+-- whether its connect was asked for, what is to be said to its server then, and its credentials that come of sources; whether
+-- the connect succeeded and it has not ended; how it ended; its starts in order; the bytes that were taken from it; the bytes
+-- of its unanswered offer; what came behind the last whole value; the items dealt; the pushes that came once it was set up,
+-- how many of them were told, and whether its end was told as one; and what it was told by the turn that runs
 pub record Ledger : Type 0 where
   pub asked : Bool
   pub info : RedisConnectionInfo
+  pub creds : Sourced
   pub up : Bool
   pub end : Option End
   pub starts : List Start
@@ -79,7 +100,7 @@ pub record Ledger : Type 0 where
   pub heard : News
 
 abbrev pub blank_ledger : Ledger
-blank_ledger = record { asked = false; info = bare_info; up = false; end = None; starts = []; taken = []; offer = []; rest = []; dealt = []; pushes = []; told = 0; parted = false; heard = silence }
+blank_ledger = record { asked = false; info = bare_info; creds = unsourced false; up = false; end = None; starts = []; taken = []; offer = []; rest = []; dealt = []; pushes = []; told = 0; parted = false; heard = silence }
 
 abbrev pub is_over : Ledger → Bool
 is_over l = is_some l.end
@@ -110,6 +131,7 @@ is_full l k = nat_le (reached l (k + 1)) (length l.dealt)
 abbrev pub is_of_setup : Owner → Bool
 is_of_setup owner.Setup = true
 is_of_setup (owner.Try n round) = false
+is_of_setup owner.Auth = false
 
 -- how many of these starts are of the setup: they are the first ones
 abbrev pub setup_count : List Start → ℕ
@@ -129,9 +151,13 @@ abbrev pub last_result : Ledger → ℕ → Option SetupResult
 last_result l zero = None
 last_result l (suc k) = result_of l k
 
--- what the setup came to: where nothing is to be said the link is ready at once
+-- its setup waits for credentials
+abbrev pub lacks_credentials : Ledger → Bool
+lacks_credentials l = l.creds.wanted && not l.creds.given
+
+-- what the setup came to: where nothing is to be said the link is ready at once, and where credentials are to come, once they have
 abbrev pub setup_result : Ledger → Option SetupResult
-setup_result l = if says_nothing (setup_steps l 0) then Some Ready else last_result l (setup_count l.starts)
+setup_result l = if lacks_credentials l then None else if says_nothing (setup_steps l 0) then Some Ready else last_result l (setup_count l.starts)
 
 abbrev pub is_well : Option SetupResult → Bool
 is_well (Some Ready) = true
@@ -179,12 +205,97 @@ dials l = l.asked && not l.up && not (is_over l)
 abbrev pub refused_in : Ledger → ℕ → RedisError → Ledger
 refused_in l turn e = record l { end = Some (record { turn = turn; why = by_opening e; oldest = 0 }) }
 
+-- the first credentials come, for which its setup waits: they are said to its server
+abbrev pub authorized_by : Ledger → Credentials → Ledger
+authorized_by l c = record l { info = record l.info { username = Some c.username; password = Some c.password }; creds = record l.creds { given = true } }
+
+-- it is up, a source was asked for, and its setup waits for credentials
+abbrev pub awaits_credentials : Ledger → Bool
+awaits_credentials l = l.up && nat_lt 0 l.creds.asked && lacks_credentials l
+
+-- it is ready, and new credentials may come
+abbrev pub may_renew : Ledger → Bool
+may_renew l = is_ready l && nat_lt 1 l.creds.asked && not l.creds.over
+
+-- new credentials come, to be told to its server
+abbrev pub renewed_by : Ledger → Credentials → Ledger
+renewed_by l c = record l { creds = record l.creds { renewals = l.creds.renewals ++ c ∷ [] } }
+
+-- no more of them come
+abbrev pub unrenewed_by : Ledger → Ledger
+unrenewed_by l = record l { creds = record l.creds { over = true } }
+
+-- some were not answered in time
+abbrev pub lost_by : Ledger → Ledger
+lost_by l = record l { creds = record l.creds { lost = true } }
+
+-- a start that tells new credentials
+abbrev pub is_of_renewal : Owner → Bool
+is_of_renewal owner.Auth = true
+is_of_renewal owner.Setup = false
+is_of_renewal (owner.Try n round) = false
+
+-- how many of these starts do
+abbrev pub renewal_count : List Start → ℕ
+renewal_count [] = 0
+renewal_count (s ∷ ss) = if is_of_renewal s.owner then suc (renewal_count ss) else renewal_count ss
+
+-- the number of the last of these starts that does, where the first of them has the number k and old is that of the last before
+abbrev pub last_renewal : List Start → ℕ → Option ℕ → Option ℕ
+last_renewal [] k old = old
+last_renewal (s ∷ ss) k old = last_renewal ss (suc k) (if is_of_renewal s.owner then Some k else old)
+
+-- a server takes credentials where its reply is no error, as it confirms a subscription call
+abbrev pub is_done : Verdict → Bool
+is_done verdict.Done = true
+is_done _ = false
+
+-- its message of that number has its item, and that is no error; true where there is no such message
+abbrev pub is_taken : Ledger → Option ℕ → Bool
+is_taken l None = true
+is_taken l (Some k) = is_full l k && is_done (verdict_of Confirmation (cut l k Confirmation))
+
+-- the credentials that are to be told to its server next: the first that were not, where those before were taken, and in time
+abbrev pub renewal_due : Ledger → Option Credentials
+renewal_due l =
+    if l.up && not l.creds.lost && is_taken l (last_renewal l.starts 0 None)
+    then slice_get l.creds.renewals (renewal_count l.starts) else None
+
+-- how many of its new credentials were to be told so far
+abbrev pub renewals_asked : Ledger → ℕ
+renewals_asked l = renewal_count l.starts + (if is_some (renewal_due l) then 1 else 0)
+
+-- its message of that number has its items; true where there is no such message
+abbrev pub is_full_last : Ledger → Option ℕ → Bool
+is_full_last l None = true
+is_full_last l (Some k) = is_full l k
+
+-- credentials of that number are to be told, or were and are not answered
+abbrev pub is_renewal_open : Ledger → ℕ → Bool
+is_renewal_open l k =
+    if is_some (renewal_due l) then k == renewal_count l.starts
+    else (suc k == renewal_count l.starts) && not (is_full_last l (last_renewal l.starts 0 None))
+
+-- the message that tells new credentials
+abbrev pub renewal_message : Credentials → Start
+renewal_message c = record { owner = owner.Auth; shape = Confirmation; bytes = auth_bytes c.username c.password }
+
+-- a source of credentials is to be asked for: once it is up, and once more when it is set up
+abbrev pub source_due : Ledger → Bool
+source_due l = l.up && l.creds.wanted && ((l.creds.asked == 0) || (is_set_up l && (l.creds.asked == 1)))
+
 -- what news makes of it in this turn: a link is up from its first successful connect until its end
 abbrev pub with_news : Ledger → ℕ → News → Ledger
 with_news l turn connected = if is_over l then l else record l { up = true }
 with_news l turn (refused f) = if dials l then refused_in l turn (error.Io f) else l
 with_news l turn (took count) = if l.up then record l { taken = l.taken ++ take count l.offer; offer = [] } else l
 with_news l turn (came piece) = if l.up then bytes_came l piece else l
+with_news l turn (authorized c) = if awaits_credentials l then authorized_by l c else l
+with_news l turn (denied text) = l
+with_news l turn deserted = l
+with_news l turn (renewed c) = if may_renew l then renewed_by l c else l
+with_news l turn unrenewed = if l.up then unrenewed_by l else l
+with_news l turn (late k) = if l.up && is_renewal_open l k then lost_by l else l
 with_news l turn silence = l
 with_news l turn overdue = l
 with_news l turn (failed f) = l
@@ -203,7 +314,7 @@ repeats _ = false
 -- the number of the setup that is to start next, of so many that started: the first where something is to be said, and a
 -- second one without the user name where the server counts other arguments
 abbrev pub setup_after : Ledger → ℕ → Option ℕ
-setup_after l zero = if says_nothing (setup_steps l 0) then None else Some 0
+setup_after l zero = if lacks_credentials l || says_nothing (setup_steps l 0) then None else Some 0
 setup_after l (suc zero) = if repeats (result_of l 0) then Some 1 else None
 setup_after l (suc (suc k)) = None
 
@@ -225,9 +336,15 @@ ending_up l connected = None
 ending_up l (refused f) = None
 ending_up l overdue = None
 ending_up l (took count) = None
+ending_up l (authorized c) = None
+ending_up l (denied text) = None
+ending_up l deserted = None
+ending_up l (renewed c) = None
+ending_up l unrenewed = None
+ending_up l (late k) = None
 
--- what ends a link that is up and not set up: the setup failed, the time for it is over, everything is shut down, or the link
--- fails, which closes the connection for the setup, as for a pipeline
+-- what ends a link that is up and not set up: the setup failed, or there are no credentials for it, the time for it is over,
+-- everything is shut down, or the link fails, which closes the connection for the setup, as for a pipeline
 abbrev pub ending_unready : Ledger → News → Option Ending
 ending_unready l shut = Some by_shutdown
 ending_unready l overdue = Some (by_opening (error.Io kind.TimedOut))
@@ -237,6 +354,12 @@ ending_unready l silence = None
 ending_unready l connected = None
 ending_unready l (refused f) = None
 ending_unready l (took count) = None
+ending_unready l (denied text) = if lacks_credentials l then Some (by_opening (error.Credentials text)) else None
+ending_unready l deserted = if lacks_credentials l then Some (by_opening (error.AuthFailed [])) else None
+ending_unready l (authorized c) = None
+ending_unready l (renewed c) = None
+ending_unready l unrenewed = None
+ending_unready l (late k) = None
 
 abbrev pub ending_by : Option RedisError → Option Ending → Option Ending
 ending_by None other = other
@@ -256,6 +379,12 @@ ending_asked (refused f) = None
 ending_asked (took count) = None
 ending_asked (came piece) = None
 ending_asked (failed f) = None
+ending_asked (authorized c) = None
+ending_asked (denied text) = None
+ending_asked deserted = None
+ending_asked (renewed c) = None
+ending_asked unrenewed = None
+ending_asked (late k) = None
 
 -- what must end the link in the turn that runs, if anything does
 abbrev pub ending : Ledger → Option Ending
@@ -274,24 +403,30 @@ full_count (s ∷ ss) dealt = if nat_le (need_in s.shape dealt) (length dealt) t
 abbrev pub ended : Ledger → ℕ → Ledger
 ended l turn = record l { up = false; end = Some (record { turn = turn; why = ending_or_shutdown (ending l); oldest = full_count l.starts l.dealt }) }
 
--- a line of what is told of a link: its connect is asked for, and this is to be said to its server then; the turn of that number, with this news for it; a message
--- begins; its unwritten bytes are offered; the next push is told; it is closed, in that turn; its end is told as a push
+-- a line of what is told of a link: its connect is asked for, this is to be said to its server then, and whether credentials
+-- are to come of sources; the turn of that number, with this news for it; a message begins; its unwritten bytes are offered;
+-- the next push is told; a source of credentials is asked for; a timer for new credentials is; it is closed, in that turn; its
+-- end is told as a push
 pub data Line : Type 0 where
-  asks : RedisConnectionInfo → Line
+  asks : RedisConnectionInfo → Bool → Line
   hears : ℕ → News → Line
   begins : Start → Line
   offers : List ℕ → Line
   tells : Line
+  sources : Line
+  times : Line
   ends : ℕ → Line
   parts : Line
 
 -- what one more line makes of it
 abbrev pub noted : Ledger → Line → Ledger
-noted l (asks info) = record l { asked = true; info = info }
+noted l (asks info wanted) = record l { asked = true; info = info; creds = unsourced wanted }
 noted l (hears turn news) = record (with_news l turn news) { heard = news }
 noted l (begins s) = record l { starts = l.starts ++ s ∷ [] }
 noted l (offers bytes) = record l { offer = bytes }
 noted l tells = record l { told = l.told + 1 }
+noted l sources = record l { creds = record l.creds { asked = l.creds.asked + 1 } }
+noted l times = record l { creds = record l.creds { timed = l.creds.timed + 1 } }
 noted l (ends turn) = ended l turn
 noted l parts = record l { parted = true }
 
@@ -339,14 +474,17 @@ is_cut None = false
 is_cut (Some end) = is_fault end.why
 
 -- where a line may stand: a link is asked for once; its messages have bytes, and start while it is up; it is offered all
--- its unwritten bytes at once, where no offer is unanswered; a push is told that came; it ends where something must end it;
--- and that a fault ended it is told once
+-- its unwritten bytes at once, where no offer is unanswered; a push is told that came; a source of credentials is asked for
+-- that is to be, and a timer for credentials that were to be told; it ends where something must end it; and that a fault ended
+-- it is told once
 abbrev pub MayNote : Ledger → Line → Type 0
-MayNote l (asks info) = l.asked ≡ false
+MayNote l (asks info wanted) = l.asked ≡ false
 MayNote l (hears turn news) = IsWithin l news
 MayNote l (begins s) = (l.up ≡ true) × (s.bytes ≢ [])
 MayNote l (offers bytes) = (l.up ≡ true) × (l.offer ≡ []) × (bytes ≡ unwritten l) × (bytes ≢ [])
 MayNote l tells = is_some (next_push l) ≡ true
+MayNote l sources = source_due l ≡ true
+MayNote l times = l.creds.timed < renewals_asked l
 MayNote l (ends turn) = (why : Ending) × (ending l ≡ Some why)
 MayNote l parts = (is_cut l.end ≡ true) × (l.parted ≡ false)
 

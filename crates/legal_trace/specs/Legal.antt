@@ -1,7 +1,7 @@
 -- When a trace can be relied on: said of its book alone, apart from any machine. A turn has five segments: the event's own
 -- effect, the passes, the writes, the waits, and the closes of links that nothing uses any more, of which there are none on
 -- one connection. An action stands where it is the next that is due, once all before it are done.
-use Rattle.std.specs.Prelude.{◌≡◌, ◌≢◌, ◌⊎◌, ℕ, ◌<◌, Bool, true, false, List, [], ◌∷◌, length, Option, Some, None}
+use Rattle.std.specs.Prelude.{◌≡◌, ◌≢◌, ◌⊎◌, ℕ, ◌<◌, ◌≤◌, Bool, true, false, List, [], ◌∷◌, length, Option, Some, None}
 use Rattle.redis_error.specs.declared.redis_error.RedisError.{RedisError}
 use Rattle.resp_value.specs.declared.value.Value.TheVariants.{Nil}
 use Rattle.connection_info.specs.declared.address.ConnectionInfo.{ConnectionInfo}
@@ -19,13 +19,14 @@ use Rattle.driver_model.specs.declared.outcome.Outcome.{Outcome}
 use Rattle.driver_model.specs.declared.outcome.Outcome.TheVariants as outcome
 use Rattle.driver_model.specs.Push.{is_disconnection}
 use Rattle.driver_model.specs.declared.push_info.PushInfo.{PushInfo}
-use Rattle.driver_model.specs.Config.{address, connect_timeout, first_fault, hears_pushes}
+use Rattle.driver_model.specs.Config.{address, connect_timeout, first_fault, hears_pushes, response_timeout}
+use Rattle.credentials.specs.Credentials.{Credentials}
 use Rattle.driver_model.specs.Shape.{need_of}
-use Rattle.legal_trace.specs.Ledger.{Ledger, Heard, Ending, IsOffered, is_full, is_full_by, is_over, is_ready, is_cut, ending, failure_in, next_push, setup_due, setup_message, unwritten}
+use Rattle.legal_trace.specs.Ledger.{Ledger, Heard, Ending, IsOffered, is_full, is_full_by, is_over, is_ready, is_cut, ending, failure_in, next_push, renewal_due, renewal_message, renewals_asked, setup_due, setup_message, source_due, unwritten}
 use Rattle.legal_trace.specs.Story.{Try, last_of, is_open, is_unstarted, bytes_of, shape}
 use Rattle.legal_trace.specs.Book.{Book, blank_book, book, entered, current}
 use Rattle.legal_trace.specs.Owed.{owed}
-use Rattle.legal_trace.specs.Steps.{waits, takes, asks, tells, starts, is_due, is_held_back, next_step}
+use Rattle.legal_trace.specs.Steps.{waits, takes, asks, tells, starts, is_ahead, is_due, is_held_back, next_step}
 use Rattle.legal_trace.specs.Events.{is_bad_event}
 
 -- submission n is handed in, and neither answered nor cancelled
@@ -78,6 +79,10 @@ pub record IsCreated (b : Book) : Type 0 where
   pub shown : ReadyIsShown b
   pub failed : FailuresAreShown b
 
+-- every source of credentials was asked for that is to be
+abbrev pub SourcesAreAsked : Book → Type 0
+SourcesAreAsked b = (l : ℕ) → source_due (b.link l) ≡ false
+
 -- the opening has asked for a timer where the connect is bounded
 abbrev pub IsTimed : Book → Type 0
 IsTimed b = (config : Config) (word : ℕ) → b.running ≡ Some (cause.Opening config word) → connect_timeout config ≢ None → b.timers ≢ []
@@ -89,34 +94,57 @@ pub record IsApplied (b : Book) : Type 0 where
   pub created : IsCreated b
   pub pushed : PushesAreTold b
   pub parted : EndsAreTold b
+  pub sourced : SourcesAreAsked b
   pub timed : IsTimed b
 
 -- the setup of each link has started that is to start, but where the link is held back
 abbrev pub SetupsAreStarted : Book → Type 0
 SetupsAreStarted b = (l k : ℕ) → setup_due (b.link l) ≡ Some k → is_held_back b (b.link l) ≡ true
 
--- the event has had its own effect, and setups have started
+-- within how many milliseconds what the driver says itself is to be answered, if within any
+abbrev pub answer_time : Option Config → Option ℕ
+answer_time None = None
+answer_time (Some config) = response_timeout config
+
+-- where such a time is set, a timer was asked for all new credentials that were to be told so far
+abbrev pub RenewalsAreTimed : Book → Type 0
+RenewalsAreTimed b = (l : ℕ) → answer_time b.config ≢ None → renewals_asked (b.link l) ≤ (b.link l).creds.timed
+
+-- the event has had its own effect, setups have started, and new credentials have their timers
 pub record IsBegun (b : Book) : Type 0 where
   pub applied : IsApplied b
   pub setups : SetupsAreStarted b
+  pub timed : RenewalsAreTimed b
 
 -- a submission whose message has not started, and which makes a step next
 pub record CanMove (b : Book) (n : ℕ) : Type 0 where
   pub unstarted : is_unstarted (b.story n) ≡ true
   pub due : is_due (next_step b n) ≡ true
 
+-- new credentials are to be told on a link that isn't held back
+pub record CanRenew (b : Book) (l : ℕ) : Type 0 where
+  pub credentials : Credentials
+  pub due : renewal_due (b.link l) ≡ Some credentials
+  pub free : is_held_back b (b.link l) ≡ false
+
+-- submission n had its place on that link before the new credentials that are next there
+abbrev pub IsAhead : Book → ℕ → ℕ → Type 0
+IsAhead b l n = ((b.story n).link ≡ l) × (is_ahead (b.link l) (b.story n) ≡ true)
+
 -- every step that may be made was made
 pub record IsMoved (b : Book) : Type 0 where
   pub begun : IsBegun b
   pub moved : (n : ℕ) → CanMove b n → ⊥
+  pub renewed : (l : ℕ) → CanRenew b l → ⊥
 
 -- every link that is up is offered its bytes
 pub record IsWritten (b : Book) : Type 0 where
   pub moved : IsMoved b
   pub offered : (l : ℕ) → (b.link l).up ≡ true → IsOffered (b.link l)
 
--- the wait that is true of a submission without a message: its link's connect isn't answered, or its setup; all permits are
--- held; the queue of its link has no place for it; or it has its place, and its link is held back
+-- the wait that is true of a submission without a message: its link's connect isn't answered, or the credentials for its setup
+-- have not come, or the setup isn't answered; all permits are held; the queue of its link has no place for it; or it has its
+-- place, and its link is held back
 abbrev pub WaitHolds : Book → ℕ → WaitKind → Type 0
 WaitHolds b n kind = next_step b n ≡ waits kind
 
@@ -262,9 +290,41 @@ pub record MaySetUp (b : Book) (l message count len : ℕ) : Type 0 where
   pub needs_its_items : count ≡ need_of (setup_message (b.link l) k).shape
   pub long_as_its_bytes : len ≡ length (setup_message (b.link l) k).bytes
 
--- no submission before n makes a step
-abbrev pub IsFirstToMove : Book → ℕ → Type 0
-IsFirstToMove b n = (m : ℕ) → m < n → CanMove b m → ⊥
+-- no submission before n makes a step, and no new credentials are told that it isn't ahead of
+pub record IsFirstToMove (b : Book) (n : ℕ) : Type 0 where
+  pub before : (m : ℕ) → m < n → CanMove b m → ⊥
+  pub renewals : (l : ℕ) → CanRenew b l → IsAhead b l n
+
+-- a source of credentials is asked for, in the order of the links, once the event's other effects are shown
+pub record MayNeed (b : Book) (c l : ℕ) : Type 0 where
+  pub due : source_due (b.link l) ≡ true
+  pub next : c ≡ length b.sources
+  pub in_order : (m : ℕ) → m < l → source_due (b.link m) ≡ false
+  pub answered : NoneIsOwed b
+  pub ended : NoneEnds b
+  pub created : ReadyIsShown b
+  pub pushed : PushesAreTold b
+
+-- a timer of the configured time is asked for new credentials, as soon as they are to be told
+pub record MayTimeRenewal (b : Book) (t ms : ℕ) (what : Purpose) : Type 0 where
+  pub applied : IsApplied b
+  pub setups : SetupsAreStarted b
+  pub l : ℕ
+  pub within : answer_time b.config ≡ Some ms
+  pub asked : (b.link l).creds.timed < renewals_asked (b.link l)
+  pub in_order : (m : ℕ) → m < l → renewals_asked (b.link m) ≤ (b.link m).creds.timed
+  pub next : t ≡ length b.timers
+  pub is_for : what ≡ purpose.Renewal l (b.link l).creds.timed
+
+-- new credentials are told on a link that isn't held back, once those that are ahead of them were made to go as far as they can
+pub record MayRenew (b : Book) (l message count len : ℕ) : Type 0 where
+  pub begun : IsBegun b
+  pub can : CanRenew b l
+  pub behind : (n : ℕ) → CanMove b n → IsAhead b l n → ⊥
+  pub in_order : (m : ℕ) → m < l → CanRenew b m → ⊥
+  pub next : message ≡ length (b.link l).starts
+  pub needs_its_item : count ≡ 1
+  pub long_as_its_bytes : len ≡ length (renewal_message can.credentials).bytes
 
 -- a command whose reply nobody awaits is answered with Nil at its place
 pub record MayTell (b : Book) (n : ℕ) (o : Outcome) : Type 0 where
@@ -316,7 +376,7 @@ pub record MayTime (b : Book) (t ms : ℕ) (what : Purpose) : Type 0 where
   pub is_for : what ≡ purpose.Response (owner.Try n 0)
 
 abbrev pub MayTimer : Book → ℕ → ℕ → Purpose → Type 0
-MayTimer b t ms what = MayTimeConnect b t ms what ⊎ MayTime b t ms what
+MayTimer b t ms what = MayTimeConnect b t ms what ⊎ (MayTime b t ms what ⊎ MayTimeRenewal b t ms what)
 
 -- a submission takes its permits, in the order of submissions
 pub record MayTake (b : Book) (n l count : ℕ) : Type 0 where
@@ -332,11 +392,15 @@ MayStand b (action.Turn number c) = MayTurn b number c
 MayStand b (action.Connect l host port) = MayConnect b l host port
 MayStand b (action.Timer t ms what) = MayTimer b t ms what
 MayStand b (action.Took owner.Setup l count) = ⊥
+MayStand b (action.Took owner.Auth l count) = ⊥
 MayStand b (action.Took (owner.Try n round) l count) = (round ≡ 0) × MayTake b n l count
 MayStand b (action.Push l info) = MayPush b l info
+MayStand b (action.NeedCreds c l) = MayNeed b c l
 MayStand b (action.Close l) = MayClose b l
 MayStand b (action.Write l bytes) = MayWrite b l bytes
 MayStand b (action.Wait owner.Setup kind) = ⊥
+MayStand b (action.Wait owner.Auth kind) = ⊥
+MayStand b (action.Start l message owner.Auth count len) = MayRenew b l message count len
 MayStand b (action.Start l message owner.Setup count len) = MaySetUp b l message count len
 MayStand b (action.Wait (owner.Try n round) kind) = (round ≡ 0) × MayWait b n kind
 MayStand b (action.Start l message (owner.Try n round) count len) = (round ≡ 0) × MayStart b l message n count len

@@ -47,10 +47,14 @@ fresh size boundary = record {
 abbrev pub is_full : LinkState → Bool
 is_full s = nat_le s.size (length s.queue)
 
--- who is the first of a queue
-abbrev pub first_in : List Queued → Option ℕ
-first_in [] = None
-first_in (q ∷ qs) = Some q.id
+-- its name is less than this
+abbrev pub is_below : ℕ → Queued → Bool
+is_below bound q = nat_lt q.id bound
+
+-- who is the first of a queue of those whose names are less than this
+abbrev pub first_below : ℕ → List Queued → Option ℕ
+first_below bound [] = None
+first_below bound (q ∷ qs) = if is_below bound q then Some q.id else first_below bound qs
 
 -- a message takes the last place of the queue
 abbrev pub enqueued : LinkState → Queued → LinkState

@@ -1,6 +1,6 @@
 ghost use Rattle.std.specs.Prelude.{◌≡◌, ◌≢◌, ◌<◌, ◌≤◌, true, false, [], ◌++◌, length, take};
 ghost use Rattle.std.specs.Prelude.{if◌then◌else◌, OnOk, OnErr, IfOk, IsErr, IsErrOf, ◌↔◌, not};
-ghost use Rattle.link_core.specs.Link.{holds_back};
+ghost use Rattle.link_core.specs.Link.{holds_back, first_below, is_below};
 ghost use Rattle.link_core.specs.Waiting.{without, is_wanted};
 ghost use Rattle.link_core.specs.Ends.{queue_closed};
 ghost use Rattle.link_core.specs.Dealing.{heard_of};
@@ -85,7 +85,7 @@ impl Model for LinkCore {
 }
 
 impl LinkCore {
-    ghost use Rattle.link_core.specs.Link.{fresh, is_full, first_in, enqueued, starting_with};
+    ghost use Rattle.link_core.specs.Link.{fresh, is_full, enqueued, starting_with};
     ghost use Rattle.link_core.specs.Link.{started_all};
     ghost use Rattle.link_core.specs.Link.{started_one, is_spent, offered_of, wrote_of, cancelled};
     ghost use Rattle.link_core.specs.Link.{settling_with, piece_dealt, came_all, pushes_of};
@@ -192,14 +192,11 @@ impl LinkCore {
         self.queue.len() >= self.size as usize
     }
 
-    /// The message that starts next, if one is in the queue.
-    pub fn first_queued(&self) -> Option<u64>
-        ensures { result ≡ first_in self.now.queue }
+    /// The message that starts next of those in the queue whose names are less than `bound`, if there is one.
+    pub fn first_queued(&self, bound: u64) -> Option<u64>
+        ensures { result ≡ first_below bound self.now.queue }
     {
-        if self.queue.is_empty() {
-            return None;
-        }
-        Some(self.queue.at(0).id)
+        first_below(&self.queue, bound)
     }
 
     /// The place is taken first, so that the bytes are left where memory is refused.
@@ -624,6 +621,26 @@ fn close_queue(queue: &mut Queue<Queued>, out: &mut Vec<Settled>) -> Result<(), 
         fail(message.awaited, message.id, RedisError::Closed, out)?;
     }
     Ok(())
+}
+
+/// The first message of a queue whose name is less than `bound`, if there is one.
+fn first_below(queue: &Queue<Queued>, bound: u64) -> Option<u64>
+    ensures { result ≡ first_below bound queue.now }
+{
+    let len = queue.len();
+    for index in 0..len {
+        let message = queue.at(index);
+        if is_below(message, bound) {
+            return Some(message.id);
+        }
+    }
+    None
+}
+
+fn is_below(message: &Queued, bound: u64) -> bool
+    ensures { result ≡ is_below bound message.now }
+{
+    message.id < bound
 }
 
 /// The message of this name, if its verdict is wanted, leaves the queue.

@@ -7,4 +7,3 @@ mod Sources
 mod Submitted
 mod Unbroken
 mod Writing
-pub mod Texts

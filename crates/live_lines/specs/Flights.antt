@@ -3,6 +3,7 @@ use Rattle.std.specs.Prelude.{◌≡◌, ℕ, ◌<◌, false, List, [], length, 
 use Rattle.caller_threads.specs.declared.job.Turn.{Turn}
 use Rattle.caller_threads.specs.Submits.{Line, AreTurnsOf, event_of, places_of, numbers_of}
 use Rattle.driver_model.specs.declared.config.Config.{Config}
+use Rattle.driver_model.specs.Config.{wants_credentials}
 use Rattle.driver_model.specs.declared.event.Event.{Event}
 use Rattle.live_lines.specs.declared.flying.Flight.{Flight}
 use Rattle.live_lines.specs.declared.flying.FlightError.{FlightError}
@@ -51,7 +52,7 @@ pub record AreSubmitted (plan : Plan) (word : ℕ) (lines : List Line) (numbers 
 -- world's first; the lines are submitted, and then the session is driven, by what the trace of their history asks.
 pub record IsFlight (plan : Plan) (lines : List Line) (old new : Option (List Call)) (f : Flight) : Type 0 where
   pub sound : IsSound plan.config
-  pub bare : plan.creds ≡ false
+  pub bare : wants_credentials plan.config ≡ false
   pub word : ℕ
   pub middle : Option (List Call)
   pub asked : Adds old middle (call.Word word)

@@ -1,5 +1,6 @@
 ghost use Rattle.std.specs.Prelude.{◌≡◌, ℕ, ◌≤◌, ◌++◌, [], false, length, max, IfOk, IfErr, IsErrOf};
 ghost use Rattle.caller_threads.specs.Submits.{IsAllowed};
+ghost use Rattle.driver_model.specs.Config.{wants_credentials};
 ghost use Rattle.session_callers.specs.Rule.{Each};
 ghost use Rattle.shared_session.specs.Replay.{IsSound, trace_of};
 ghost use Rattle.live_lines.specs.Flights.{AreSubmitted, IsBare, IsFlight, IsNoFlight, RanOut};
@@ -95,7 +96,7 @@ fn submitted<R: Threads + Wait + Sync>(
     requires none { actions.old.items ≡ [] }
     requires allowed { Each IsAllowed lines.items }
     ensures sound { IfOk result (λ _. IsSound plan.config) }
-    ensures bare { IfOk result (λ _. plan.creds ≡ false) }
+    ensures bare { IfOk result (λ _. wants_credentials plan.config ≡ false) }
     ensures submitted { IfOk result (λ made.
         AreSubmitted plan word lines.items made.1.items made.0
         ) }
@@ -104,17 +105,14 @@ fn submitted<R: Threads + Wait + Sync>(
         ) }
     ensures err { IfErr result (IsNoFlight plan) }
 {
-    let Plan {
-        callers,
-        config,
-        creds,
-    } = plan;
+    let Plan { callers, config } = plan;
+    let wanted = config.wants_credentials();
     let (shared, first) = match SharedSession::new(alloc, config, word, actions) {
         Ok(made) => made,
         Err(MakeError::Config { name }) => return Err(FlightError::Config(name)),
         Err(MakeError::NoMemory) => return Err(FlightError::NoMemory),
     };
-    if creds {
+    if wanted {
         return Err(FlightError::Config(ConfigName::Creds));
     }
     let Ok(mut callers) = join_all(rt, alloc, &shared, first, callers) else {

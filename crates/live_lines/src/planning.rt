@@ -1,7 +1,6 @@
-ghost use Rattle.std.specs.Prelude.{◌≡◌, ◌++◌, IfOk, OnOk};
+ghost use Rattle.std.specs.Prelude.{◌≡◌, IfOk};
 ghost use Rattle.script_text.specs.Lines.{texts};
-ghost use Rattle.live_lines.specs.Plans.{behind_kind, callers_of, creds_of, digit_count, plan_of};
-ghost use Rattle.live_lines.specs.Plans.{without_callers, without_creds};
+ghost use Rattle.live_lines.specs.Plans.{callers_of, digit_count, plan_of, without_callers};
 
 use driver_model::Config;
 use script_text::read_config;
@@ -13,8 +12,6 @@ pub struct Plan {
     /// How many callers submit its lines: 1 to 8.
     pub callers: u32,
     pub config: Config,
-    /// Credentials are to be asked for, which a live run has nobody to ask.
-    pub creds: bool,
 }
 
 /// The number from 1 to 8 that a value is.
@@ -51,80 +48,14 @@ fn without_callers(words: &[String]) -> (u32, &[String])
     }
 }
 
-/// Whether a word says that credentials are asked for, or that they aren't.
-fn creds_of(word: &[u8]) -> Option<bool>
-    ensures { result ≡ creds_of word.now }
-{
-    if word == b"creds=on".as_slice() {
-        return Some(true);
-    }
-    if word == b"creds=off".as_slice() {
-        return Some(false);
-    }
-    None
-}
-
-/// Copies of words behind others.
-#[tactic(auto, using(crate::proofs::Texts::one_more))]
-fn copy_words(alloc: Global, words: &[String], kept: &mut Vec<String>) -> Result<(), AllocError>
-    ensures { OnOk result (texts kept.new.items ≡ texts kept.old.items ++ texts words.now) }
-{
-    for word in words {
-        kept.push(String::from_str(alloc, word.as_str())?)?;
-    }
-    Ok(())
-}
-
-/// Whether settings say that credentials are asked for. Copies of the others are kept.
-#[tactic(auto, using(crate::proofs::Texts::one_more))]
-fn without_creds(
-    alloc: Global,
-    settings: &[String],
-    kept: &mut Vec<String>,
-) -> Result<bool, AllocError>
-    ensures on { IfOk result (λ on. on ≡ (without_creds (texts settings.now)).0) }
-    ensures kept { OnOk result (
-        texts kept.new.items ≡ texts kept.old.items ++ (without_creds (texts settings.now)).1
-        ) }
-{
-    let [word, rest @ ..] = settings else {
-        return Ok(false);
-    };
-    if let Some(on) = creds_of(word.as_bytes()) {
-        copy_words(alloc, rest, kept)?;
-        return Ok(on);
-    }
-    kept.push(String::from_str(alloc, word.as_str())?)?;
-    without_creds(alloc, rest, kept)
-}
-
-/// The words of a configuration line without what they say of credentials, and whether those are asked for.
-fn behind_kind(alloc: Global, words: &[String]) -> Result<(bool, Vec<String>), AllocError>
-    ensures { IfOk result (λ found.
-        (found.0, texts found.1.items) ≡ behind_kind (texts words.now)) }
-{
-    let mut kept = Vec::new(alloc);
-    let [kind, settings @ ..] = words else {
-        return Ok((false, kept));
-    };
-    kept.push(String::from_str(alloc, kind.as_str())?)?;
-    let on = without_creds(alloc, settings, &mut kept)?;
-    Ok((on, kept))
-}
-
-/// What the words behind `live` ask for: `callers=K` or nothing, and the words of a configuration, among which `creds=on` and
-/// `creds=off` are known. `None` where they make no configuration.
+/// What the words behind `live` ask for: `callers=K` or nothing, and the words of a configuration. `None` where they make no
+/// configuration.
 pub fn plan_of(alloc: Global, words: &[String]) -> Result<Option<Plan>, AllocError>
     ensures { IfOk result (λ plan. plan ≡ plan_of (texts words.now)) }
 {
     let (callers, words) = without_callers(words);
-    let (creds, settings) = behind_kind(alloc, words)?;
-    match read_config(alloc, settings.as_slice())? {
-        Some(config) => Ok(Some(Plan {
-            callers,
-            config,
-            creds,
-        })),
+    match read_config(alloc, words)? {
+        Some(config) => Ok(Some(Plan { callers, config })),
         None => Ok(None),
     }
 }

@@ -1,10 +1,10 @@
 -- A connection in the middle of a turn, and its life.
-use Rattle.std.specs.Prelude.{ℕ, ◌^◌, ◌==◌, nat_le, Bool, true, false, not, List, [], ◌∷◌, ◌++◌, Option, None, Some}
-use Rattle.link_core.specs.Link.{LinkState, is_full, first_in}
+use Rattle.std.specs.Prelude.{ℕ, ◌^◌, ◌==◌, nat_le, Bool, true, false, ◌||◌, not, List, [], ◌∷◌, ◌++◌, Option, None, Some}
+use Rattle.link_core.specs.Link.{LinkState, is_full, first_below}
 use Rattle.mux_conn.specs.declared.act.LinkAct.{LinkAct}
 use Rattle.mux_conn.specs.declared.connection.MultiplexedConnection.{MultiplexedConnection}
 use Rattle.mux_conn.specs.declared.life.Life.{Life}
-use Rattle.mux_conn.specs.declared.life.Life.TheVariants.{Dialing, SettingUp, Ready, Ended}
+use Rattle.mux_conn.specs.declared.life.Life.TheVariants.{Dialing, Wanting, SettingUp, Ready, Ended}
 
 -- a connection, and the acts of the turn so far
 pub record Work : Type 0 where
@@ -26,6 +26,10 @@ at_life w life = record w { conn = record w.conn { life = life } }
 abbrev pub with_link : Work → LinkState → Work
 with_link w link = at_life w (Ready link)
 
+-- the link of a connection whose setup waits for credentials
+abbrev pub with_wanting : Work → LinkState → Work
+with_wanting w link = at_life w (Wanting link)
+
 -- the link of a connection that is set up
 abbrev pub with_setup : Work → LinkState → Bool → Work
 with_setup w link with_user = at_life w (SettingUp link with_user)
@@ -33,19 +37,30 @@ with_setup w link with_user = at_life w (SettingUp link with_user)
 -- its connect isn't answered
 abbrev pub awaits_connect : Life → Bool
 awaits_connect Dialing = true
+awaits_connect (Wanting link) = false
 awaits_connect (SettingUp link with_user) = false
 awaits_connect (Ready link) = false
 awaits_connect (Ended e) = false
 
+-- it is up, and its setup waits for credentials
+abbrev pub awaits_credentials : Life → Bool
+awaits_credentials Dialing = false
+awaits_credentials (Wanting link) = true
+awaits_credentials (SettingUp link with_user) = false
+awaits_credentials (Ready link) = false
+awaits_credentials (Ended e) = false
+
 -- it is up, and what is said to the server before the first request isn't answered
 abbrev pub is_setting_up : Life → Bool
 is_setting_up Dialing = false
+is_setting_up (Wanting link) = false
 is_setting_up (SettingUp link with_user) = true
 is_setting_up (Ready link) = false
 is_setting_up (Ended e) = false
 
 abbrev pub is_ready : Life → Bool
 is_ready Dialing = false
+is_ready (Wanting link) = false
 is_ready (SettingUp link with_user) = false
 is_ready (Ready link) = true
 is_ready (Ended e) = false
@@ -58,6 +73,7 @@ has_no_permit (Some limit) free = free == 0
 -- no request that waits for the connection, or for a permit of it, can be moved
 abbrev pub admits_none_at : Life → Bool → Bool
 admits_none_at Dialing empty = true
+admits_none_at (Wanting link) empty = true
 admits_none_at (SettingUp link with_user) empty = true
 admits_none_at (Ready link) empty = empty
 admits_none_at (Ended e) empty = false
@@ -68,20 +84,24 @@ admits_none c = admits_none_at c.life (has_no_permit c.limit c.free)
 -- it is up, and the queue holds less than its size
 abbrev pub has_room : Life → Bool
 has_room Dialing = false
+has_room (Wanting link) = false
 has_room (SettingUp link with_user) = false
 has_room (Ready link) = not (is_full link)
 has_room (Ended e) = false
 
--- the message that starts next, where it is up and one is in the queue
+-- the request whose message starts next, where it is up and one is in the queue: no message but those of requests has so low a
+-- number
 abbrev pub first_queued : Life → Option ℕ
 first_queued Dialing = None
+first_queued (Wanting link) = None
 first_queued (SettingUp link with_user) = None
-first_queued (Ready link) = first_in link.queue
+first_queued (Ready link) = first_below (2 ^ 32) link.queue
 first_queued (Ended e) = None
 
 -- how many messages of a link that is up have started
 abbrev pub started_in : Life → ℕ
 started_in Dialing = 0
+started_in (Wanting link) = link.started
 started_in (SettingUp link with_user) = link.started
 started_in (Ready link) = link.started
 started_in (Ended e) = 0
@@ -93,3 +113,14 @@ is_spent_in life = nat_le (2 ^ 32) (started_in life)
 -- a message of its link was given the number 2^32 - 1
 abbrev pub runs_out : Work → Bool
 runs_out w = is_spent_in w.conn.life
+
+-- new credentials were given it
+abbrev pub renewals_run_out : Work → Bool
+renewals_run_out w = nat_le (2 ^ 32) w.conn.renewal.asked
+
+-- a message of its link was given it, or new credentials were
+abbrev pub is_used_up : MultiplexedConnection → Bool
+is_used_up c = is_spent_in c.life || nat_le (2 ^ 32) c.renewal.asked
+
+abbrev pub uses_up : Work → Bool
+uses_up w = is_used_up w.conn

@@ -9,7 +9,7 @@ use Rattle.driver_model.specs.declared.news.LinkFault.TheVariants as fault
 use Rattle.driver_model.specs.declared.outcome.Outcome.TheVariants as outcome
 use Rattle.resp_value.specs.declared.push_kind.PushKind.TheVariants.{Disconnection}
 use Rattle.driver_model.specs.declared.push_info.PushInfo.{PushInfo}
-use Rattle.driver_model.specs.News.{News, silence, connected, refused, overdue, took, came, failed, shut}
+use Rattle.driver_model.specs.News.{News, silence, connected, refused, overdue, took, came, failed, authorized, denied, deserted, renewed, unrenewed, late, shut}
 use Rattle.connection_setup.specs.declared.judgement.SetupResult.{SetupResult}
 use Rattle.connection_setup.specs.declared.judgement.SetupResult.TheVariants as result
 use Rattle.connection_setup.specs.Setup.{Step, setup}
@@ -27,19 +27,25 @@ use Rattle.link_core.specs.Link.{piece_dealt, pushes_came}
 use Rattle.mux_conn.specs.declared.act.LinkAct.TheVariants as act
 use Rattle.mux_conn.specs.declared.connection.MultiplexedConnection.{MultiplexedConnection}
 use Rattle.mux_conn.specs.declared.life.Life.{Life}
-use Rattle.mux_conn.specs.declared.life.Life.TheVariants.{Dialing, SettingUp, Ready, Ended}
+use Rattle.mux_conn.specs.declared.life.Life.TheVariants.{Dialing, Wanting, SettingUp, Ready, Ended}
 use Rattle.mux_conn.specs.declared.request.Waiting.{Waiting}
-use Rattle.mux_conn.specs.Connection.{Work, acted, at_life, with_link, with_setup, is_ready}
+use Rattle.mux_conn.specs.Connection.{Work, acted, at_life, with_link, with_setup, with_wanting, is_ready}
 use Rattle.mux_conn.specs.Requests.{is_open_at, closed, answered}
+use Rattle.mux_conn.specs.Renewals.{with_renewal, renewing, source_asked, expecting, none_follow, renewal_id, is_done, replied, is_unanswered}
+use Rattle.credentials.specs.Credentials.{Credentials}
 
 -- a link without messages, with the queue and the boundary of its connection
 abbrev pub new_link : MultiplexedConnection → LinkState
 new_link c = fresh c.size c.boundary
 
+-- a message that the link has settled: its request is answered, or new credentials are
+abbrev pub settled_one : Work → Settled → Work
+settled_one w s = if s.id == renewal_id then renewing w (replied w.conn.renewal (is_done s.verdict)) else answered w s.id (outcome_of s.verdict)
+
 -- each message that the link has settled is answered, in order
 abbrev pub settled_each : Work → List Settled → Work
 settled_each w [] = w
-settled_each w (s ∷ ss) = settled_each (answered w s.id (outcome_of s.verdict)) ss
+settled_each w (s ∷ ss) = settled_each (settled_one w s) ss
 
 -- each of these requests is answered with this error
 abbrev pub failed_each : Work → RedisError → List Waiting → Work
@@ -68,7 +74,7 @@ pushed_each w (p ∷ ps) = pushed_each (pushed w p.info) ps
 abbrev pub told_each : Work → ℕ → List PushAt → List Settled → Work
 told_each w n ps [] = pushed_each w ps
 told_each w n [] (s ∷ ss) = settled_each w (s ∷ ss)
-told_each w n (p ∷ ps) (s ∷ ss) = if nat_le p.settled n then told_each (pushed w p.info) n ps (s ∷ ss) else told_each (answered w s.id (outcome_of s.verdict)) (n + 1) (p ∷ ps) ss
+told_each w n (p ∷ ps) (s ∷ ss) = if nat_le p.settled n then told_each (pushed w p.info) n ps (s ∷ ss) else told_each (settled_one w s) (n + 1) (p ∷ ps) ss
 
 -- the pushes behind the first settled message
 abbrev pub behind_first : List PushAt → List PushAt
@@ -130,20 +136,46 @@ setup_queued steps with_user = record { id = setup_id with_user; packed = setup_
 abbrev pub sets_up : Work → LinkState → Bool → Work
 sets_up w link with_user = with_setup w (enqueued link (setup_queued (steps_of w.conn with_user) with_user)) with_user
 
--- the link is up: it is set up, or, where nothing is to be said, ready
-abbrev pub come_up : Work → Work
-come_up w = if says_nothing (steps_of w.conn true) then made_ready w (new_link w.conn) else sets_up (all_fresh w) (new_link w.conn) true
+-- this link is up: it is set up, or, where nothing is to be said, ready
+abbrev pub come_up : Work → LinkState → Work
+come_up w link = if says_nothing (steps_of w.conn true) then made_ready w link else sets_up (all_fresh w) link true
+
+-- this link is up, and its setup waits for credentials, for which a source is asked
+abbrev pub comes_to_want : Work → LinkState → Work
+comes_to_want w link = acted (with_wanting (all_fresh w) link) act.NeedCreds
 
 -- the first answer to the connect: it succeeded
 abbrev pub connected_at : Work → Life → Work
-connected_at w Dialing = come_up w
+connected_at w Dialing = if w.conn.renewal.wanted then comes_to_want w (new_link w.conn) else come_up w (new_link w.conn)
+connected_at w (Wanting link) = w
 connected_at w (SettingUp link with_user) = w
 connected_at w (Ready link) = w
 connected_at w (Ended e) = w
 
+-- these credentials are said to the server
+abbrev pub with_credentials : Work → Credentials → Work
+with_credentials w c = record w { conn = record w.conn { info = record w.conn.info { username = Some c.username; password = Some c.password } } }
+
+-- the first credentials came: the link is set up by them
+abbrev pub authorized_at : Work → Credentials → Life → Work
+authorized_at w c (Wanting link) = source_asked (come_up (with_credentials w c) link)
+authorized_at w c Dialing = w
+authorized_at w c (SettingUp link with_user) = w
+authorized_at w c (Ready link) = w
+authorized_at w c (Ended e) = w
+
+-- there are none: where the setup waits for them, the link is closed, and its opening fails with this error
+abbrev pub unauthorized_at : Work → RedisError → Life → Work
+unauthorized_at w e (Wanting link) = opening_failed (acted w act.Close) e
+unauthorized_at w e Dialing = w
+unauthorized_at w e (SettingUp link with_user) = w
+unauthorized_at w e (Ready link) = w
+unauthorized_at w e (Ended x) = w
+
 -- the first answer to the connect: it failed
 abbrev pub refused_at : Work → FaultKind → Life → Work
 refused_at w f Dialing = opening_failed w (error.Io f)
+refused_at w f (Wanting link) = w
 refused_at w f (SettingUp link with_user) = w
 refused_at w f (Ready link) = w
 refused_at w f (Ended e) = w
@@ -151,6 +183,7 @@ refused_at w f (Ended e) = w
 -- the time in which it was to be connected and set up is over: where it isn't, it is closed
 abbrev pub overdue_at : Work → Life → Work
 overdue_at w Dialing = opening_failed (acted w act.Close) (error.Io kind.TimedOut)
+overdue_at w (Wanting link) = opening_failed (acted w act.Close) (error.Io kind.TimedOut)
 overdue_at w (SettingUp link with_user) = opening_failed (acted w act.Close) (error.Io kind.TimedOut)
 overdue_at w (Ready link) = w
 overdue_at w (Ended e) = w
@@ -159,12 +192,14 @@ overdue_at w (Ended e) = w
 abbrev pub CanTake : Life → ℕ → Type 0
 CanTake (Ready link) count = count ≤ link.outbox.offered
 CanTake Dialing count = Unit {0}
+CanTake (Wanting link) count = count ≤ link.outbox.offered
 CanTake (SettingUp link with_user) count = count ≤ link.outbox.offered
 CanTake (Ended e) count = Unit {0}
 
 abbrev pub taken_at : Work → ℕ → Life → Work
 taken_at w count (Ready link) = with_link w (wrote_of link count)
 taken_at w count Dialing = w
+taken_at w count (Wanting link) = with_wanting w (wrote_of link count)
 taken_at w count (SettingUp link with_user) = with_setup w (wrote_of link count) with_user
 taken_at w count (Ended e) = w
 
@@ -172,6 +207,7 @@ taken_at w count (Ended e) = w
 abbrev pub failed_at : Work → LinkFault → Life → Work
 failed_at w f (Ready link) = ended_by w link f
 failed_at w f Dialing = w
+failed_at w f (Wanting link) = opening_failed (acted w act.Close) error.Closed
 failed_at w f (SettingUp link with_user) = opening_failed (acted w act.Close) error.Closed
 failed_at w f (Ended e) = w
 
@@ -208,22 +244,43 @@ answered_setup w link with_user pushes (s ∷ ss) = heard_on (set_up_by w link (
 abbrev pub read_setup : Work → Bool → List PushAt → Settling → Work
 read_setup w with_user pushes s = broken_at s.link.broken (answered_setup w s.link with_user pushes s.out)
 
+-- bytes come while the setup waits for credentials: they answer nothing, no push in them is told, and bytes that begin no value
+-- end the link
+abbrev pub read_wanting : Work → Settling → Work
+read_wanting w s = broken_at s.link.broken (with_wanting w s.link)
+
 -- the pushes that come with bytes, where somebody hears them
 abbrev pub heard_in : Work → LinkState → List ℕ → List PushAt
 heard_in w link piece = heard_of w.conn.hears (pushes_came link piece)
 
+-- bytes come; where they set the link up, a source is asked for new credentials once all of them had their effect
 abbrev pub read_at : Work → List ℕ → Life → Work
 read_at w piece (Ready link) = read_to w (heard_in w link piece) (piece_dealt (record { link = link; out = [] }) piece)
 read_at w piece Dialing = w
-read_at w piece (SettingUp link with_user) = read_setup w with_user (heard_in w link piece) (piece_dealt (record { link = link; out = [] }) piece)
+read_at w piece (Wanting link) = read_wanting w (piece_dealt (record { link = link; out = [] }) piece)
+read_at w piece (SettingUp link with_user) = source_asked (read_setup w with_user (heard_in w link piece) (piece_dealt (record { link = link; out = [] }) piece))
 read_at w piece (Ended e) = w
 
 -- everything is closed
 abbrev pub shut_at : Work → Life → Work
 shut_at w (Ready link) = ended w (closed_all (record { link = link; out = [] })).out
 shut_at w Dialing = ended w []
+shut_at w (Wanting link) = ended w []
 shut_at w (SettingUp link with_user) = ended w []
 shut_at w (Ended e) = w
+
+-- that message of a link that is set up leaves its queue, or is answered to nobody
+abbrev pub cancelled_in : Life → ℕ → Life
+cancelled_in (Ready link) p = Ready (cancelled link p)
+cancelled_in Dialing p = Dialing
+cancelled_in (Wanting link) p = Wanting link
+cancelled_in (SettingUp link with_user) p = SettingUp link with_user
+cancelled_in (Ended e) p = Ended e
+
+-- the time for new credentials of that number is over: where they aren't answered, no others are told, and their message leaves
+-- the queue, or is answered to nobody
+abbrev pub late_for : MultiplexedConnection → ℕ → MultiplexedConnection
+late_for c k = if is_unanswered c.renewal k then with_renewal (record c { life = cancelled_in c.life renewal_id }) (replied c.renewal false) else c
 
 -- no more bytes are taken than were offered
 abbrev pub IsWithin : Life → News → Type 0
@@ -234,6 +291,12 @@ IsWithin life (refused f) = Unit {0}
 IsWithin life overdue = Unit {0}
 IsWithin life (came piece) = Unit {0}
 IsWithin life (failed f) = Unit {0}
+IsWithin life (authorized c) = Unit {0}
+IsWithin life (denied text) = Unit {0}
+IsWithin life deserted = Unit {0}
+IsWithin life (renewed c) = Unit {0}
+IsWithin life unrenewed = Unit {0}
+IsWithin life (late k) = Unit {0}
 IsWithin life shut = Unit {0}
 
 -- the effect of news
@@ -245,13 +308,13 @@ applied w overdue = overdue_at w w.conn.life
 applied w (took count) = taken_at w count w.conn.life
 applied w (came piece) = read_at w piece w.conn.life
 applied w (failed f) = failed_at w f w.conn.life
+applied w (authorized c) = authorized_at w c w.conn.life
+applied w (denied text) = unauthorized_at w (error.Credentials text) w.conn.life
+applied w deserted = unauthorized_at w (error.AuthFailed []) w.conn.life
+applied w (renewed c) = record w { conn = expecting w.conn c }
+applied w unrenewed = record w { conn = none_follow w.conn }
+applied w (late k) = record w { conn = late_for w.conn k }
 applied w shut = shut_at w w.conn.life
-
-abbrev pub cancelled_in : Life → ℕ → Life
-cancelled_in (Ready link) p = Ready (cancelled link p)
-cancelled_in Dialing p = Dialing
-cancelled_in (SettingUp link with_user) p = SettingUp link with_user
-cancelled_in (Ended e) p = Ended e
 
 -- the caller of request p has gone: its message leaves the queue, or is answered to nobody
 abbrev pub left : MultiplexedConnection → ℕ → MultiplexedConnection

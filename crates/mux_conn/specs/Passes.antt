@@ -11,16 +11,23 @@ use Rattle.link_core.specs.Link.{Starting, enqueued, started_all}
 use Rattle.mux_conn.specs.declared.act.LinkAct.TheVariants as act
 use Rattle.mux_conn.specs.declared.connection.MultiplexedConnection.{MultiplexedConnection}
 use Rattle.mux_conn.specs.declared.life.Life.{Life}
-use Rattle.mux_conn.specs.declared.life.Life.TheVariants.{Dialing, SettingUp, Ready, Ended}
+use Rattle.mux_conn.specs.declared.life.Life.TheVariants.{Dialing, Wanting, SettingUp, Ready, Ended}
 use Rattle.mux_conn.specs.declared.request.Progress.TheVariants as progress
 use Rattle.mux_conn.specs.declared.request.Waiting.{Waiting}
-use Rattle.mux_conn.specs.Connection.{Work, acted, with_link, with_setup, admits_none, has_room}
+use Rattle.mux_conn.specs.Connection.{Work, acted, with_link, with_setup, is_ready, admits_none, has_room}
+use Rattle.credentials.specs.Credentials.{Credentials}
+use Rattle.mux_conn.specs.declared.act.LinkAct.{LinkAct}
+use Rattle.mux_conn.specs.Renewals.{renewing, renewal_id, renewal_queued, has_none_due, told_next}
 use Rattle.mux_conn.specs.Requests.{name_at, is_waiting_at, is_admitted_at, with_permits, progressed, answered}
+
+-- what shows a start: it is that of a request, or of new credentials
+abbrev pub start_act : MultiplexedConnection → Started → LinkAct
+start_act c s = if s.id == renewal_id then act.Renewed s.msg s.need s.len else act.Start s.msg (name_at c.requests s.id) s.need s.len
 
 -- each start is shown
 abbrev pub shown_each : Work → List Started → Work
 shown_each w [] = w
-shown_each w (s ∷ ss) = shown_each (acted w (act.Start s.msg (name_at w.conn.requests s.id) s.need s.len)) ss
+shown_each w (s ∷ ss) = shown_each (acted w (start_act w.conn s)) ss
 
 abbrev pub starts_with : Work → Starting → Work
 starts_with w s = shown_each (with_link w s.link) s.out
@@ -38,6 +45,7 @@ abbrev pub started_at : Work → Life → Work
 started_at w (Ready link) = starts_with w (started_all (record { link = link; out = [] }))
 started_at w (SettingUp link with_user) = sets_up_with w with_user (started_all (record { link = link; out = [] }))
 started_at w Dialing = w
+started_at w (Wanting link) = w
 started_at w (Ended e) = w
 
 abbrev pub started : Work → Work
@@ -54,6 +62,7 @@ noted w p = record w { conn = record w.conn { moved = w.conn.moved ++ p ∷ [] }
 abbrev pub placed_at : Work → Waiting → Life → Work
 placed_at w q (Ready link) = with_link (progressed (noted w q.number) q.number progress.Placed) (enqueued link (message_of q))
 placed_at w q Dialing = w
+placed_at w q (Wanting link) = w
 placed_at w q (SettingUp link with_user) = w
 placed_at w q (Ended e) = w
 
@@ -120,6 +129,7 @@ abbrev pub admitted_at : Work → Waiting → Life → Work
 admitted_at w q (Ready link) = seated_or_behind (let_in w q) q
 admitted_at w q (Ended e) = answered w q.number (outcome.Fault e)
 admitted_at w q Dialing = w
+admitted_at w q (Wanting link) = w
 admitted_at w q (SettingUp link with_user) = w
 
 abbrev pub admitted : Work → Waiting → Work
@@ -137,9 +147,36 @@ admitted_each w (q ∷ qs) = if admits_none w.conn then still_waiting w (q ∷ q
 abbrev pub admitted_all : Work → Work
 admitted_all w = admitted_each (still_waiting w []) w.conn.waiting
 
--- what waits in the queue starts, then those that wait for a place are moved, and then those that wait for the connection
+-- the timer of new credentials of this number is asked for, where they are to be answered within a time
+abbrev pub renewal_timed : Work → ℕ → Option ℕ → Work
+renewal_timed w number None = w
+renewal_timed w number (Some ms) = acted w (act.RenewalTimer number ms)
+
+-- these credentials take a place in the queue, also where it holds its size
+abbrev pub renewal_seated : Work → Credentials → Life → Work
+renewal_seated w c (Ready link) = with_link (renewing w (told_next w.conn.renewal)) (enqueued link (renewal_queued c))
+renewal_seated w c Dialing = w
+renewal_seated w c (Wanting link) = w
+renewal_seated w c (SettingUp link with_user) = w
+renewal_seated w c (Ended e) = w
+
+-- their timer is asked for, and they take their place
+abbrev pub renewal_told : Work → Credentials → Work
+renewal_told w c = renewal_seated (renewal_timed w w.conn.renewal.asked w.conn.renewal.within) c w.conn.life
+
+-- so do the first of these that came, if any did
+abbrev pub renewed_from : Work → List Credentials → Work
+renewed_from w [] = w
+renewed_from w (c ∷ cs) = renewal_told (renewing w (record w.conn.renewal { waiting = cs })) c
+
+-- the new credentials that are next take their place on a link that is ready, once those before them were answered
+abbrev pub renewed : Work → Work
+renewed w = if is_ready w.conn.life && not (has_none_due w.conn.renewal) then renewed_from w w.conn.renewal.waiting else w
+
+-- new credentials take their place, what waits in the queue starts, then those that wait for a place are moved, and then those
+-- that wait for the connection
 abbrev pub passed : Work → Work
-passed w = admitted_all (moved_up_all (started w))
+passed w = admitted_all (moved_up_all (started (renewed w)))
 
 -- it is the entry of request p
 abbrev pub has_number : ℕ → Waiting → Bool

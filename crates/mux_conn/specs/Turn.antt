@@ -8,22 +8,24 @@ use Rattle.link_core.specs.Link.{LinkState, offered_of}
 use Rattle.link_core.specs.Outbox.{can_offer}
 use Rattle.mux_conn.specs.declared.act.LinkAct.TheVariants as act
 use Rattle.mux_conn.specs.declared.connection.MultiplexedConnection.{MultiplexedConnection}
+use Rattle.mux_conn.specs.declared.renewal.Renewal.{Renewal}
 use Rattle.mux_conn.specs.declared.life.Life.{Life}
-use Rattle.mux_conn.specs.declared.life.Life.TheVariants.{Dialing, SettingUp, Ready, Ended}
+use Rattle.mux_conn.specs.declared.life.Life.TheVariants.{Dialing, Wanting, SettingUp, Ready, Ended}
 use Rattle.mux_conn.specs.Connection.{Work, acted, with_link, with_setup, first_queued}
 use Rattle.mux_conn.specs.Requests.{name_at, is_waiting_at, is_admitted_at, is_placed_at}
 use Rattle.mux_conn.specs.Effects.{applied}
 use Rattle.mux_conn.specs.Passes.{passed}
 
 -- a connection whose connect isn't answered, without requests
-abbrev pub dialing : ℕ → ℕ → Option ℕ → Bool → RedisConnectionInfo → MultiplexedConnection
-dialing size boundary limit hears info = record {
+abbrev pub dialing : ℕ → ℕ → Option ℕ → Bool → RedisConnectionInfo → Renewal → MultiplexedConnection
+dialing size boundary limit hears info renewal = record {
   size = size;
   boundary = boundary;
   limit = limit;
   free = unwrap_or limit 0;
   hears = hears;
   info = info;
+  renewal = renewal;
   life = Dialing;
   requests = [];
   waiting = [];
@@ -47,6 +49,7 @@ setup_offered w link with_user = if can_offer link.outbox then acted (with_setup
 abbrev pub written_at : Work → Life → Work
 written_at w (Ready link) = offers w link
 written_at w Dialing = w
+written_at w (Wanting link) = w
 written_at w (SettingUp link with_user) = setup_offered w link with_user
 written_at w (Ended e) = w
 
@@ -64,9 +67,10 @@ moved_wait c p =
     if is_admitted_at c.requests p then Some wait.Place
     else if is_placed_at c.requests p && is_from (first_queued c.life) p then Some wait.Room else None
 
--- what a request waits for that waits for its connection: the connect, the setup, or a permit
+-- what a request waits for that waits for its connection: the connect, the credentials for its setup, the setup, or a permit
 abbrev pub early_wait : Life → WaitKind
 early_wait Dialing = wait.Connect
+early_wait (Wanting link) = wait.Creds
 early_wait (SettingUp link with_user) = wait.Setup
 early_wait (Ready link) = wait.Permit
 early_wait (Ended e) = wait.Permit

@@ -8,6 +8,7 @@ use crate::act::LinkAct;
 use crate::connection::MultiplexedConnection;
 use crate::errors::ConnectionError;
 use crate::life::Life;
+use crate::renewal::renewal_id;
 use crate::request::{Progress, Request, Waiting};
 use containers::Queue;
 use driver_model::{Outcome, Shape};
@@ -17,7 +18,26 @@ use std::alloc::{AllocError, Global};
 
 impl MultiplexedConnection {
     ghost use Rattle.mux_conn.specs.Connection.{work_with, runs_out, is_setting_up};
-    ghost use Rattle.mux_conn.specs.Passes.{shown_each, set_up_each, started};
+    ghost use Rattle.mux_conn.specs.Passes.{start_act, shown_each, set_up_each, started};
+
+    /// What shows a start: it is that of a request, or of new credentials.
+    fn start_act(&self, start: Started) -> LinkAct
+        ensures { result ≡ start_act self.now start }
+    {
+        if start.id == renewal_id() {
+            return LinkAct::Renewed {
+                message: start.msg,
+                need: start.need,
+                len: start.len,
+            };
+        }
+        LinkAct::Start {
+            message: start.msg,
+            request: self.name(start.id),
+            need: start.need,
+            len: start.len,
+        }
+    }
 
     /// Each start is shown, and the room of their list is kept.
     fn show_starts(
@@ -33,13 +53,8 @@ impl MultiplexedConnection {
     {
         let mut rest = Rest::of(starts);
         while let Some(start) = rest.pop_front() {
-            let request = self.name(start.id);
-            out.push(LinkAct::Start {
-                message: start.msg,
-                request,
-                need: start.need,
-                len: start.len,
-            })?;
+            let act = self.start_act(start);
+            out.push(act)?;
         }
         self.starts.give(rest.into_list());
         Ok(())
@@ -79,6 +94,7 @@ impl MultiplexedConnection {
             Life::SettingUp { link, with_user: _ } => start_ready(alloc, link, &mut starts),
             Life::Ready { link: _ } => unreachable!(),
             Life::Dialing => unreachable!(),
+            Life::Wanting { link: _ } => unreachable!(),
             Life::Ended { error: _ } => unreachable!(),
         };
         match ready {
@@ -110,6 +126,7 @@ impl MultiplexedConnection {
                 with_user: _,
             } => unreachable!(),
             Life::Dialing => return Ok(()),
+            Life::Wanting { link: _ } => return Ok(()),
             Life::Ended { error: _ } => return Ok(()),
         };
         match ready {
@@ -224,7 +241,7 @@ impl MultiplexedConnection {
     ghost use Rattle.mux_conn.specs.Passes.{placed_at, seated, moved_up};
     ghost use Rattle.mux_conn.specs.Passes.{moved_up_all, put_behind, seated_or_behind, admitted};
     ghost use Rattle.mux_conn.specs.Passes.{admitted_all, passed};
-    ghost use Rattle.mux_conn.specs.Connection.{work_with, admits_none, has_room, runs_out};
+    ghost use Rattle.mux_conn.specs.Connection.{work_with, admits_none, has_room, runs_out, uses_up};
 
     /// A request takes its place in the queue.
     fn place(&mut self, alloc: Global, request: Waiting) -> Result<(), AllocError>
@@ -243,6 +260,7 @@ impl MultiplexedConnection {
                 with_user: _,
             } => return Ok(()),
             Life::Dialing => return Ok(()),
+            Life::Wanting { link: _ } => return Ok(()),
             Life::Ended { error: _ } => return Ok(()),
         };
         let Waiting {
@@ -450,7 +468,7 @@ impl MultiplexedConnection {
         Ok(())
     }
 
-    /// Every request is moved as far as it can go.
+    /// New credentials take their place, and every request is moved as far as it can go.
     pub(crate) fn pass(
         &mut self,
         alloc: Global,
@@ -460,10 +478,14 @@ impl MultiplexedConnection {
             work_with self.new out.new.items ≡ passed (work_with self.old out.old.items)
             ) }
         ensures spent { IsErrOf result ConnectionError.Spent
-            → runs_out (passed (work_with self.old out.old.items)) ≡ true }
+            → uses_up (passed (work_with self.old out.old.items)) ≡ true }
         ensures count { length self.new.requests ≡ length self.old.requests }
         ensures failure { self.new.failure ≡ self.old.failure }
     {
+        match self.renew(alloc, out) {
+            Ok(()) => {}
+            Err(error) => return Err(error),
+        }
         match self.start(alloc, out) {
             Ok(()) => {}
             Err(error) => return Err(error),

@@ -5,7 +5,8 @@ use crate::act::LinkAct;
 use crate::connection::MultiplexedConnection;
 use crate::life::Life;
 use crate::request::{Pending, Waiting};
-use containers::Queue;
+use containers::{Bytes, Queue};
+use credentials::BasicAuth;
 use driver_model::{
     LinkFault, LinkNews, Outcome, PushInfo, says_nothing, setup_bytes, setup_shape,
 };
@@ -19,7 +20,8 @@ impl MultiplexedConnection {
     ghost use Rattle.mux_conn.specs.Effects.{made_ready, sets_up, come_up, all_fresh};
     ghost use Rattle.mux_conn.specs.Effects.{settled_each, failed_each, waiting_failed, all_answered};
     ghost use Rattle.mux_conn.specs.Effects.{cut_short, parted, ended, opening_failed, refused_at, overdue_at};
-    ghost use Rattle.mux_conn.specs.Effects.{connected_at, taken_at, failed_at, shut_at};
+    ghost use Rattle.mux_conn.specs.Effects.{connected_at, taken_at, failed_at, shut_at, comes_to_want};
+    ghost use Rattle.mux_conn.specs.Effects.{with_credentials, authorized_at, unauthorized_at};
     ghost use Rattle.mux_conn.specs.Effects.{applied, cancelled_in, left, timed_out};
     ghost use Rattle.mux_conn.specs.Effects.{CanTake, IsWithin};
 
@@ -52,7 +54,7 @@ impl MultiplexedConnection {
         ensures failure { self.new.failure ≡ self.old.failure }
     {
         while let Some(message) = rest.pop_front() {
-            self.answer(message.id, message.verdict.into_outcome(), out)?;
+            self.settle_one(message, out)?;
         }
         Ok(())
     }
@@ -253,7 +255,7 @@ impl MultiplexedConnection {
         ensures count { length self.new.requests ≡ length self.old.requests }
         ensures failure { self.new.failure ≡ self.old.failure }
     {
-        if self.life.is_dialing() || self.life.is_setting_up() {
+        if self.life.is_dialing() || self.life.is_wanting() || self.life.is_setting_up() {
             let fault = FaultKind::TimedOut;
             self.close_opening(alloc, RedisError::Io { fault }, out)?;
         }
@@ -311,21 +313,45 @@ impl MultiplexedConnection {
         Ok(())
     }
 
-    /// The link is up: it is set up, or, where nothing is to be said, ready.
-    fn come_up(&mut self, alloc: Global, out: &mut Vec<LinkAct>) -> Result<(), AllocError>
+    /// This link is up: it is set up, or, where nothing is to be said, ready.
+    fn come_up(
+        &mut self,
+        alloc: Global,
+        link: LinkCore,
+        out: &mut Vec<LinkAct>,
+    ) -> Result<(), AllocError>
         ensures work { OnOk result (
-            work_with self.new out.new.items ≡ come_up (work_with self.old out.old.items)
+            work_with self.new out.new.items ≡ come_up (work_with self.old out.old.items) link
             ) }
         ensures count { length self.new.requests ≡ length self.old.requests }
         ensures failure { self.new.failure ≡ self.old.failure }
     {
-        let link = LinkCore::new(alloc, self.size, self.boundary);
         if says_nothing(&self.info, true) {
             self.make_ready(alloc, link, out)?;
         } else {
             self.refresh(alloc)?;
             self.set_up(alloc, link, true)?;
         }
+        Ok(())
+    }
+
+    /// This link is up, and its setup waits for credentials, for which a source is asked.
+    fn come_to_want(
+        &mut self,
+        alloc: Global,
+        link: LinkCore,
+        out: &mut Vec<LinkAct>,
+    ) -> Result<(), AllocError>
+        ensures work { OnOk result (
+            work_with self.new out.new.items
+            ≡ comes_to_want (work_with self.old out.old.items) link
+            ) }
+        ensures count { length self.new.requests ≡ length self.old.requests }
+        ensures failure { self.new.failure ≡ self.old.failure }
+    {
+        self.refresh(alloc)?;
+        self.life = Life::Wanting { link };
+        out.push(LinkAct::NeedCreds)?;
         Ok(())
     }
 
@@ -338,8 +364,82 @@ impl MultiplexedConnection {
         ensures count { length self.new.requests ≡ length self.old.requests }
         ensures failure { self.new.failure ≡ self.old.failure }
     {
-        if self.life.is_dialing() {
-            self.come_up(alloc, out)?;
+        if !self.life.is_dialing() {
+            return Ok(());
+        }
+        let link = LinkCore::new(alloc, self.size, self.boundary);
+        if self.renewal.wanted {
+            return self.come_to_want(alloc, link, out);
+        }
+        self.come_up(alloc, link, out)
+    }
+
+    /// These credentials are said to the server.
+    fn take_credentials(&mut self, alloc: Global, auth: &BasicAuth) -> Result<(), AllocError>
+        ensures conn { OnOk result (
+            self.new ≡ (with_credentials (work_with self.old []) auth.now).conn
+            ) }
+        ensures count { length self.new.requests ≡ length self.old.requests }
+        ensures failure { self.new.failure ≡ self.old.failure }
+    {
+        let username = Bytes::from_slice(alloc, auth.username())?;
+        let password = Bytes::from_slice(alloc, auth.password())?;
+        self.info.username = Some(username);
+        self.info.password = Some(password);
+        Ok(())
+    }
+
+    /// The first credentials came: the link is set up by them.
+    fn authorize(
+        &mut self,
+        alloc: Global,
+        auth: &BasicAuth,
+        out: &mut Vec<LinkAct>,
+    ) -> Result<(), AllocError>
+        ensures work { OnOk result (
+            work_with self.new out.new.items
+            ≡ authorized_at (work_with self.old out.old.items) auth.now self.old.life
+            ) }
+        ensures count { length self.new.requests ≡ length self.old.requests }
+        ensures failure { self.new.failure ≡ self.old.failure }
+    {
+        if !self.life.is_wanting() {
+            return Ok(());
+        }
+        self.take_credentials(alloc, auth)?;
+        let life = std::mem::replace(&mut self.life, Life::Dialing);
+        match life {
+            Life::Wanting { link } => {
+                self.come_up(alloc, link, out)?;
+                self.ask_source(out)?;
+                Ok(())
+            }
+            Life::Dialing => unreachable!(),
+            Life::SettingUp {
+                link: _,
+                with_user: _,
+            } => unreachable!(),
+            Life::Ready { link: _ } => unreachable!(),
+            Life::Ended { error: _ } => unreachable!(),
+        }
+    }
+
+    /// There are no credentials: where the setup waits for them, the link is closed, and its opening fails with this error.
+    fn go_without(
+        &mut self,
+        alloc: Global,
+        error: RedisError,
+        out: &mut Vec<LinkAct>,
+    ) -> Result<(), AllocError>
+        ensures work { OnOk result (
+            work_with self.new out.new.items
+            ≡ unauthorized_at (work_with self.old out.old.items) error self.old.life
+            ) }
+        ensures count { length self.new.requests ≡ length self.old.requests }
+        ensures failure { self.new.failure ≡ self.old.failure }
+    {
+        if self.life.is_wanting() {
+            self.close_opening(alloc, error, out)?;
         }
         Ok(())
     }
@@ -352,6 +452,7 @@ impl MultiplexedConnection {
         match &mut self.life {
             Life::Ready { link } => link.wrote(count),
             Life::SettingUp { link, with_user: _ } => link.wrote(count),
+            Life::Wanting { link } => link.wrote(count),
             Life::Dialing => {}
             Life::Ended { error: _ } => {}
         }
@@ -371,7 +472,7 @@ impl MultiplexedConnection {
         ensures count { length self.new.requests ≡ length self.old.requests }
         ensures failure { self.new.failure ≡ self.old.failure }
     {
-        if self.life.is_setting_up() {
+        if self.life.is_wanting() || self.life.is_setting_up() {
             return self.close_opening(alloc, RedisError::Closed, out);
         }
         let mut settled = Vec::new(alloc);
@@ -381,6 +482,7 @@ impl MultiplexedConnection {
                 link: _,
                 with_user: _,
             } => unreachable!(),
+            Life::Wanting { link: _ } => unreachable!(),
             Life::Dialing => return Ok(()),
             Life::Ended { error: _ } => return Ok(()),
         }
@@ -403,6 +505,7 @@ impl MultiplexedConnection {
                 link: _,
                 with_user: _,
             } => {}
+            Life::Wanting { link: _ } => {}
             Life::Dialing => {}
             Life::Ended { error: _ } => return Ok(()),
         }
@@ -435,12 +538,30 @@ impl MultiplexedConnection {
             }
             LinkNews::Came { piece } => self.read(alloc, piece, out),
             LinkNews::Failed { fault } => self.fail(alloc, fault, out),
+            LinkNews::Authorized { auth } => self.authorize(alloc, auth, out),
+            LinkNews::Denied { text } => {
+                let text = Bytes::from_slice(alloc, text)?;
+                self.go_without(alloc, RedisError::Credentials { text }, out)
+            }
+            LinkNews::Deserted => {
+                let text = Bytes::new(alloc);
+                self.go_without(alloc, RedisError::AuthFailed { text }, out)
+            }
+            LinkNews::Renewed { auth } => self.expect_renewal(alloc, auth),
+            LinkNews::Unrenewed => {
+                self.end_renewals();
+                Ok(())
+            }
+            LinkNews::Late { number } => {
+                self.renew_late(number);
+                Ok(())
+            }
             LinkNews::Shut => self.shut(alloc, out),
         }
     }
 
-    /// The message of a request leaves the queue, or is answered to nobody.
-    fn take_back(&mut self, number: u64)
+    /// The message of that number leaves the queue, or is answered to nobody.
+    pub(crate) fn take_back(&mut self, number: u64)
         ensures { self.new ≡ record self.old { life = cancelled_in self.old.life number } }
     {
         match &mut self.life {
@@ -449,6 +570,7 @@ impl MultiplexedConnection {
                 link: _,
                 with_user: _,
             } => {}
+            Life::Wanting { link: _ } => {}
             Life::Dialing => {}
             Life::Ended { error: _ } => {}
         }

@@ -5,12 +5,16 @@ ghost use Rattle.mux_conn.specs.Requests.{given_back};
 use crate::act::LinkAct;
 use crate::errors::ConnectionError;
 use crate::life::Life;
+use crate::renewal::Renewal;
 use crate::request::{Pending, Progress, Request, Waiting};
 use connection_info::RedisConnectionInfo;
 use containers::{Bytes, Queue, Seq};
 use driver_model::{Outcome, Shape};
 use link_core::{PushAt, Settled, Spare, Started};
 use std::alloc::{AllocError, Global};
+
+/// The numbers of one sort are 0 to 2^32 - 2: so many given out are one too many.
+const TOO_MANY: u64 = 1 << 32;
 
 /// One multiplexed connection: how many messages the queue of its link holds, and at how many unwritten bytes none starts;
 /// its link's life; its requests by their numbers; those that wait for the connection, and those that wait for a place, in
@@ -25,6 +29,8 @@ pub struct MultiplexedConnection {
     pub hears: bool,
     /// What is said to the server before the first request.
     pub info: RedisConnectionInfo,
+    /// The credentials that come of sources.
+    pub renewal: Renewal,
     pub life: Life,
     pub requests: Seq<Request>,
     pub waiting: Queue<Waiting>,
@@ -48,6 +54,7 @@ impl Drop for MultiplexedConnection {
             free: _,
             hears: _,
             info,
+            renewal,
             life,
             requests,
             waiting,
@@ -60,6 +67,7 @@ impl Drop for MultiplexedConnection {
             failure: _,
         } = self;
         drop(info);
+        drop(renewal);
         drop(life);
         drop(requests);
         drop(waiting);
@@ -76,14 +84,14 @@ impl MultiplexedConnection {
     ghost use Rattle.mux_conn.specs.Requests.{is_open_at, is_waiting_at, is_admitted_at};
     ghost use Rattle.mux_conn.specs.Requests.{is_placed_at, name_at, permits_at, closed, answered};
     ghost use Rattle.mux_conn.specs.Requests.{asked, progressed};
-    ghost use Rattle.mux_conn.specs.Connection.{work_with, started_in, admits_none};
+    ghost use Rattle.mux_conn.specs.Connection.{work_with, started_in, is_used_up, admits_none};
     ghost use Rattle.mux_conn.specs.Turn.{dialing};
 
     /// A connection whose connect isn't answered. The queue of its link will hold `size` messages, at least one, and no
     /// message will start on it while `boundary` bytes or more, and at least one, are unwritten. Its requests will hold no
     /// more than `limit` permits, at least one, and where there is no limit they need none. Where it `hears`, the pushes that
-    /// come are told, and so is an end by a fault. `info` is what is said to the server before the first of them. Takes no
-    /// memory.
+    /// come are told, and so is an end by a fault. `info` is what is said to the server before the first of them, and `renewal`
+    /// says whether credentials come of sources. Takes no memory.
     pub fn new(
         alloc: Global,
         size: u32,
@@ -91,8 +99,9 @@ impl MultiplexedConnection {
         limit: Option<u32>,
         hears: bool,
         info: RedisConnectionInfo,
+        renewal: Renewal,
     ) -> MultiplexedConnection
-        ensures { result ≡ dialing size boundary limit hears info }
+        ensures { result ≡ dialing size boundary limit hears info renewal }
     {
         MultiplexedConnection {
             size,
@@ -101,6 +110,7 @@ impl MultiplexedConnection {
             free: limit.unwrap_or(0),
             hears,
             info,
+            renewal,
             life: Life::Dialing,
             requests: Seq::new(alloc),
             waiting: Queue::new(alloc),
@@ -131,10 +141,18 @@ impl MultiplexedConnection {
     {
         match &self.life {
             Life::Dialing => 0,
+            Life::Wanting { link } => link.started(),
             Life::SettingUp { link, with_user: _ } => link.started(),
             Life::Ready { link } => link.started(),
             Life::Ended { error: _ } => 0,
         }
+    }
+
+    /// Whether the number 2^32 - 1 was given to a message of its link, or to new credentials.
+    pub fn is_used_up(&self) -> bool
+        ensures { result ≡ is_used_up self.now }
+    {
+        u64::from(self.started()) >= TOO_MANY || u64::from(self.renewal.asked) >= TOO_MANY
     }
 
     /// Whether a request is neither answered nor left by its caller.

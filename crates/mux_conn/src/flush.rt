@@ -27,6 +27,7 @@ impl MultiplexedConnection {
             Life::SettingUp { link, with_user: _ } => link.offer(&mut bytes)?,
             Life::Ready { link: _ } => unreachable!(),
             Life::Dialing => unreachable!(),
+            Life::Wanting { link: _ } => unreachable!(),
             Life::Ended { error: _ } => unreachable!(),
         };
         if offers {
@@ -56,6 +57,7 @@ impl MultiplexedConnection {
                 with_user: _,
             } => unreachable!(),
             Life::Dialing => return Ok(()),
+            Life::Wanting { link: _ } => return Ok(()),
             Life::Ended { error: _ } => return Ok(()),
         };
         if offers {

@@ -2,11 +2,16 @@ use driver_model::WaitKind;
 use link_core::LinkCore;
 use redis_error::RedisError;
 
+/// Requests have less numbers than this.
+const REQUESTS: u64 = 1 << 32;
+
 /// How far a link has come.
 #[derive(Drop)]
 pub enum Life {
     /// Its connect isn't answered.
     Dialing,
+    /// It is up, and the credentials for its setup have not come.
+    Wanting { link: LinkCore },
     /// It is up, and what is said to the server before the first request isn't answered, with the user name or without it.
     SettingUp { link: LinkCore, with_user: bool },
     /// It is up and set up, and takes messages.
@@ -18,8 +23,8 @@ pub enum Life {
 
 impl Life {
     ghost use Rattle.std.specs.Prelude.{◌≡◌};
-    ghost use Rattle.mux_conn.specs.Connection.{awaits_connect, is_setting_up, is_ready, admits_none_at};
-    ghost use Rattle.mux_conn.specs.Connection.{has_room};
+    ghost use Rattle.mux_conn.specs.Connection.{awaits_connect, awaits_credentials, is_setting_up, is_ready};
+    ghost use Rattle.mux_conn.specs.Connection.{admits_none_at, has_room};
     ghost use Rattle.mux_conn.specs.Connection.{first_queued};
     ghost use Rattle.mux_conn.specs.Turn.{early_wait};
 
@@ -29,6 +34,23 @@ impl Life {
     {
         match self {
             Life::Dialing => true,
+            Life::Wanting { link: _ } => false,
+            Life::SettingUp {
+                link: _,
+                with_user: _,
+            } => false,
+            Life::Ready { link: _ } => false,
+            Life::Ended { error: _ } => false,
+        }
+    }
+
+    /// Whether it is up, and the credentials for its setup have not come.
+    pub fn is_wanting(&self) -> bool
+        ensures { result ≡ awaits_credentials self.now }
+    {
+        match self {
+            Life::Dialing => false,
+            Life::Wanting { link: _ } => true,
             Life::SettingUp {
                 link: _,
                 with_user: _,
@@ -44,6 +66,7 @@ impl Life {
     {
         match self {
             Life::Dialing => false,
+            Life::Wanting { link: _ } => false,
             Life::SettingUp {
                 link: _,
                 with_user: _,
@@ -59,6 +82,7 @@ impl Life {
     {
         match self {
             Life::Dialing => false,
+            Life::Wanting { link: _ } => false,
             Life::SettingUp {
                 link: _,
                 with_user: _,
@@ -75,6 +99,7 @@ impl Life {
     {
         match self {
             Life::Dialing => true,
+            Life::Wanting { link: _ } => true,
             Life::SettingUp {
                 link: _,
                 with_user: _,
@@ -90,6 +115,7 @@ impl Life {
     {
         match self {
             Life::Dialing => false,
+            Life::Wanting { link: _ } => false,
             Life::SettingUp {
                 link: _,
                 with_user: _,
@@ -105,21 +131,24 @@ impl Life {
     {
         match self {
             Life::Dialing => None,
+            Life::Wanting { link: _ } => None,
             Life::SettingUp {
                 link: _,
                 with_user: _,
             } => None,
-            Life::Ready { link } => link.first_queued(),
+            Life::Ready { link } => link.first_queued(REQUESTS),
             Life::Ended { error: _ } => None,
         }
     }
 
-    /// What a request waits for that waits for its connection: the connect, the setup, or a permit.
+    /// What a request waits for that waits for its connection: the connect, the credentials for its setup, the setup, or a
+    /// permit.
     pub fn early_wait(&self) -> WaitKind
         ensures { result ≡ early_wait self.now }
     {
         match self {
             Life::Dialing => WaitKind::Connect,
+            Life::Wanting { link: _ } => WaitKind::Creds,
             Life::SettingUp {
                 link: _,
                 with_user: _,

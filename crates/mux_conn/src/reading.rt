@@ -1,4 +1,4 @@
-ghost use Rattle.std.specs.Prelude.{◌≡◌, ◌∷◌, ◌++◌, [], List, length, false, OnOk};
+ghost use Rattle.std.specs.Prelude.{◌≡◌, ◌∷◌, ◌++◌, [], List, length, true, false, OnOk};
 ghost use Rattle.connection_setup.specs.Setup.{setup};
 ghost use Rattle.connection_setup.specs.Judgement.{Tells};
 ghost use Rattle.link_core.specs.Dealing.{heard_of};
@@ -18,7 +18,7 @@ use resp_read::ReadError;
 use std::alloc::{AllocError, Global};
 
 impl MultiplexedConnection {
-    ghost use Rattle.mux_conn.specs.Connection.{work_with, is_setting_up};
+    ghost use Rattle.mux_conn.specs.Connection.{work_with, awaits_credentials, is_setting_up};
     ghost use Rattle.mux_conn.specs.Effects.{set_up_by, steps_of, answered_setup, read_setup, read_at};
     ghost use Rattle.mux_conn.specs.Effects.{pushed_each, told_each, behind_first, heard_on};
 
@@ -82,7 +82,7 @@ impl MultiplexedConnection {
                 show_push(push, out)?;
                 return Ok(());
             };
-            self.answer(message.id, message.verdict.into_outcome(), out)?;
+            self.settle_one(message, out)?;
             *answered += 1;
         }
         show_push(push, out)?;
@@ -218,6 +218,40 @@ impl MultiplexedConnection {
         Ok(())
     }
 
+    /// Bytes came on a link whose setup waits for credentials: they answer nothing, no push in them is told, and bytes that
+    /// begin no value end the link.
+    fn read_wanting(
+        &mut self,
+        alloc: Global,
+        piece: &[u8],
+        out: &mut Vec<LinkAct>,
+    ) -> Result<(), AllocError>
+        requires { awaits_credentials self.old.life ≡ true }
+        ensures work { OnOk result (
+            work_with self.new out.new.items
+            ≡ read_at (work_with self.old out.old.items) piece.now self.old.life
+            ) }
+        ensures count { length self.new.requests ≡ length self.old.requests }
+        ensures failure { self.new.failure ≡ self.old.failure }
+    {
+        let mut settled = Vec::new(alloc);
+        let read = match &mut self.life {
+            Life::Wanting { link } => link.bytes_unheard(alloc, piece, &mut settled),
+            Life::SettingUp {
+                link: _,
+                with_user: _,
+            } => unreachable!(),
+            Life::Ready { link: _ } => unreachable!(),
+            Life::Dialing => unreachable!(),
+            Life::Ended { error: _ } => unreachable!(),
+        };
+        match read {
+            Ok(()) => Ok(()),
+            Err(ReadError::Parse) => self.fail(alloc, LinkFault::Parse, out),
+            Err(ReadError::NoMemory) => Err(AllocError),
+        }
+    }
+
     /// Bytes came on a link that isn't set up any more.
     fn read_ready(
         &mut self,
@@ -225,7 +259,8 @@ impl MultiplexedConnection {
         piece: &[u8],
         out: &mut Vec<LinkAct>,
     ) -> Result<(), AllocError>
-        requires { is_setting_up self.old.life ≡ false }
+        requires setup { is_setting_up self.old.life ≡ false }
+        requires credentials { awaits_credentials self.old.life ≡ false }
         ensures work { OnOk result (
             work_with self.new out.new.items
             ≡ read_at (work_with self.old out.old.items) piece.now self.old.life
@@ -244,6 +279,7 @@ impl MultiplexedConnection {
                 link: _,
                 with_user: _,
             } => unreachable!(),
+            Life::Wanting { link: _ } => unreachable!(),
             Life::Dialing => return Ok(()),
             Life::Ended { error: _ } => return Ok(()),
         };
@@ -260,7 +296,7 @@ impl MultiplexedConnection {
     }
 
     /// Bytes came: the messages that they fill are answered, the pushes that came are told, and bytes that begin no value end
-    /// the link.
+    /// the link. Where they set it up, a source is asked for new credentials.
     pub(crate) fn read(
         &mut self,
         alloc: Global,
@@ -274,6 +310,9 @@ impl MultiplexedConnection {
         ensures count { length self.new.requests ≡ length self.old.requests }
         ensures failure { self.new.failure ≡ self.old.failure }
     {
+        if self.life.is_wanting() {
+            return self.read_wanting(alloc, piece, out);
+        }
         if !self.life.is_setting_up() {
             return self.read_ready(alloc, piece, out);
         }
@@ -281,9 +320,11 @@ impl MultiplexedConnection {
         match life {
             Life::SettingUp { link, with_user } => {
                 self.read_setup(alloc, link, with_user, piece, out)?;
+                self.ask_source(out)?;
                 Ok(())
             }
             Life::Dialing => unreachable!(),
+            Life::Wanting { link: _ } => unreachable!(),
             Life::Ready { link: _ } => unreachable!(),
             Life::Ended { error: _ } => unreachable!(),
         }

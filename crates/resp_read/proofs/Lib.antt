@@ -6,7 +6,6 @@ pub mod Numbers
 pub mod Counts
 pub mod WordLaws
 pub mod DoubleLaws
-pub mod EndLaws
 pub mod Bodies
 pub mod Repeats
 pub mod ParseLaws

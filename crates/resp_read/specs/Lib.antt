@@ -13,5 +13,4 @@ pub mod Items
 pub mod Frames
 pub mod Stages
 pub mod Places
-pub mod Ends
 pub mod Courses

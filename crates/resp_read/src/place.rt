@@ -1,7 +1,6 @@
-ghost use Rattle.std.specs.Prelude.{◌≡◌, ◌≤◌, ◌<◌, ◌+◌, ◌-◌, List, ℕ, [], length, drop, false, IsTrue, MatchOption};
+ghost use Rattle.std.specs.Prelude.{◌≡◌, ◌≤◌, ◌<◌, ◌+◌, ◌-◌, List, ℕ, [], length, drop, false, MatchOption};
 ghost use Rattle.resp_read.specs.Limits.{AreAllowed};
 ghost use Rattle.resp_read.specs.Places.{is_too_few, is_line, IsTaken, IsPlace, PassesLine, LineCosts, Goes, Advances, StaysPlace, IsAtFirst, Costs};
-ghost use Rattle.resp_read.specs.Ends.{Ends};
 ghost use Rattle.resp_read.specs.Stages.{stage_as, IsFollow, IsWant};
 ghost use Rattle.resp_read.specs.declared.stages.Stage.TheVariants as staged;
 
@@ -54,16 +53,6 @@ impl Stage {
         match self {
             Stage::Line(head) => Some(*head),
             _ => None,
-        }
-    }
-
-    /// Whether the first byte of a value is read.
-    fn is_first(&self) -> bool
-        ensures { IsTrue result → self.now ≡ staged.First }
-    {
-        match self {
-            Stage::First => true,
-            _ => false,
         }
     }
 
@@ -145,7 +134,7 @@ impl Place {
     fn enter(&mut self, stage: Stage)
         ensures { self.new ≡ record self.old { stage = stage } }
     {
-        self.stage = stage;
+        drop(std::mem::replace(&mut self.stage, stage));
     }
 
     /// The stage, which is then the first one.
@@ -221,33 +210,6 @@ fn pass_end<L: Ledger>(
     }
 }
 
-/// LF, and what follows it, where LF is there.
-fn come_to_end<L: Ledger>(
-    limits: Limits,
-    around: usize,
-    follow: Follow,
-    tape: &Tape,
-    place: &mut Place,
-    steps: &mut Steps<L>,
-) -> Result<Option<Begun>, Refusal>
-    requires follow { IsFollow follow }
-    requires fits { place.old.next ≤ length tape.now }
-    requires empty { (rest : List ℕ)
-        → IsTaken place.old.line rest × (place.old.line.text.items ≡ []) }
-    ensures ends { Ends limits (limits.depth - around) tape.now
-        (stage_as limits (limits.depth - around) (staged.End follow)) place.old.next result place.new }
-    ensures place { StaysPlace tape.now result place.new }
-    ensures first { IsAtFirst result place.new }
-    ensures costs { Costs tape.now place.old steps.old result place.new steps.new }
-{
-    if place.next >= tape.len() {
-        place.enter(Stage::End(follow));
-        return Ok(None);
-    }
-    place.enter(Stage::First);
-    pass_end(limits, around, follow, tape, place, steps)
-}
-
 /// What is wanted that is no line.
 fn pass_want<L: Ledger>(
     alloc: Global,
@@ -277,8 +239,8 @@ fn pass_want<L: Ledger>(
             match takes::take_body(alloc, part, n, tape, next, steps) {
                 Ok(begun) => {
                     place.next = end - (there - n - 1);
-                    let follow = Follow::Begun(begun);
-                    come_to_end(limits, around, follow, tape, place, steps)
+                    place.enter(Stage::End(Follow::Begun(begun)));
+                    Ok(None)
                 }
                 Err(refusal) => Err(refusal),
             }
@@ -337,7 +299,8 @@ fn on_line<L: Ledger>(
             let taken = place.line.text.as_slice().len();
             place.next = end - (end - place.next - taken - 1);
             place.line.clear();
-            come_to_end(limits, around, follow, tape, place, steps)
+            place.enter(Stage::End(follow));
+            Ok(None)
         }
         Err(refusal) => Err(refusal),
     }
@@ -364,9 +327,6 @@ pub fn advance<L: Ledger>(
     }
     if place.stage.has_too_few(tape.len() - place.next) {
         return Err(Refusal::Short);
-    }
-    if place.stage.is_first() {
-        return pass_first(limits, around, tape, place, steps);
     }
     match place.take_stage() {
         Stage::First => pass_first(limits, around, tape, place, steps),

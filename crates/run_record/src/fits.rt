@@ -109,6 +109,16 @@ fn kind_fits(kind: &EventKind)
         EventKind::ReadFault { link, fault: _ } => number_fits(*link),
         EventKind::WriteFault { link, fault: _ } => number_fits(*link),
         EventKind::Fired { timer } => number_fits(*timer),
+        EventKind::Creds { source, auth } => {
+            number_fits(*source);
+            a_slice_has_bytes(auth.username());
+            a_slice_has_bytes(auth.password())
+        }
+        EventKind::CredsError { source, text } => {
+            number_fits(*source);
+            a_slice_has_bytes(text.as_slice())
+        }
+        EventKind::CredsEnd { source } => number_fits(*source),
         EventKind::Timeout { ms } => optional_large_number_fits(*ms),
         EventKind::Shutdown => {}
     }
@@ -167,6 +177,9 @@ fn has_form(kind: &EventKind) -> bool
         EventKind::ReadFault { link: _, fault: _ } => true,
         EventKind::WriteFault { link: _, fault: _ } => true,
         EventKind::Fired { timer: _ } => true,
+        EventKind::Creds { source: _, auth: _ } => true,
+        EventKind::CredsError { source: _, text: _ } => true,
+        EventKind::CredsEnd { source: _ } => true,
         EventKind::Timeout { ms: _ } => true,
         EventKind::Shutdown => true,
     }

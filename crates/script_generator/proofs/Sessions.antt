@@ -10,6 +10,7 @@ use Rattle.mux_conn.specs.declared.life.Life.TheVariants.{Ready}
 use Rattle.mux_conn.specs.declared.request.Pending.{Pending}
 use Rattle.mux_conn.specs.declared.request.Request.{Request}
 use Rattle.mux_conn.specs.declared.request.Waiting.{Waiting}
+use Rattle.mux_conn.specs.Renewals.{no_renewal}
 use Rattle.shared_session.specs.declared.core_state.Core.{Core}
 
 -- a link without queue, of these messages that take items, of so many that started, with these bytes to be written
@@ -29,6 +30,7 @@ connection_with info life requests waiting fresh moved = record {
   free = 0;
   hears = false;
   info = info;
+  renewal = no_renewal false None;
   life = life;
   requests = requests;
   waiting = waiting;
@@ -47,7 +49,7 @@ still info life requests = connection_with info life requests [] [] []
 
 -- a session over a connection, before its turn of that number, with these requests of its submissions
 abbrev pub session_with : ℕ → List (Option Pending) → MultiplexedConnection → Core
-session_with turns table connection = record { turns = turns; links = 1; shut = false; timeout = None; timers = []; table = table; single = record { link = 0; connection = connection } }
+session_with turns table connection = record { turns = turns; links = 1; shut = false; timeout = None; timers = []; sources = []; table = table; single = record { link = 0; connection = connection } }
 
 -- a session whose link is up
 abbrev pub up : RedisConnectionInfo → ℕ → List (Option Pending) → List Request → LinkState → Core

@@ -43,7 +43,7 @@ at_server = refl
 
 -- nothing of the configuration is refused
 pub generated_sound : IsSound generated_config
-generated_sound = ap (λ a. fault_in a false None 50) at_server
+generated_sound = ap (λ a. fault_in a None 50) at_server
 
 -- the first event
 abbrev first : Event

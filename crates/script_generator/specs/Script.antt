@@ -9,7 +9,7 @@ use Rattle.driver_model.specs.declared.event.Submission.TheVariants as submissio
 
 -- config single url=redis://h:6379 connect=none response=none lib=off
 abbrev pub generated_config : Config
-generated_config = record { url = codes "redis://h:6379"; connect = Some None; response = Some None; limit = None; buffer = None; boundary = None; push = None; lib = Some false }
+generated_config = record { url = codes "redis://h:6379"; connect = Some None; response = Some None; limit = None; buffer = None; boundary = None; push = None; creds = None; lib = Some false }
 
 -- the word of the opening's draws, and of each event's
 abbrev pub generated_word : ℕ

@@ -19,6 +19,7 @@ pub fn generated_config(alloc: Global) -> Result<Config, AllocError>
         buffer: None,
         boundary: None,
         push: None,
+        creds: None,
         lib: Some(false),
     })
 }

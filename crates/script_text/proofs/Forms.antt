@@ -28,7 +28,7 @@ refused (form ∷ forms) (name ∷ rest) words more each =
 others_refused : (first words : List (List ℕ)) (more : List (List (List ℕ))) → by_first others first (words ∷ more) ≡ None
 unfolding others
 others_refused first words more =
-    refused others first words more (λ _. refl, (λ _. refl, (λ _. refl, (λ _. refl, (λ _. refl, (λ _. refl, (λ _. refl, (λ _. refl, (λ _. refl, (λ _. refl, (λ _. refl, tt)))))))))))
+    refused others first words more (λ _. refl, (λ _. refl, (λ _. refl, (λ _. refl, (λ _. refl, (λ _. refl, (λ _. refl, (λ _. refl, (λ _. refl, (λ _. refl, (λ _. refl, (λ _. refl, (λ _. refl, (λ _. refl, tt))))))))))))))
 
 -- an event that is no submission has no separator
 pub event_refused : (name : List ℕ) (rest : List (List ℕ)) (more : List (List (List ℕ))) → bytes_eq name (codes "submit") ≡ false → 1 ≤ length more → by_first events (name ∷ rest) more ≡ None

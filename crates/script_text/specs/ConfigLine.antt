@@ -33,7 +33,7 @@ only _ = None
 
 -- the keys of one connection
 abbrev pub keys : List (List ℕ)
-keys = codes "url" ∷ codes "connect" ∷ codes "response" ∷ codes "buffer" ∷ codes "limit" ∷ codes "boundary" ∷ codes "push" ∷ codes "lib" ∷ []
+keys = codes "url" ∷ codes "connect" ∷ codes "response" ∷ codes "buffer" ∷ codes "limit" ∷ codes "boundary" ∷ codes "push" ∷ codes "creds" ∷ codes "lib" ∷ []
 
 -- these values of a key are none, or one alone that can be read
 abbrev pub allows : {A : Type 0} → (List ℕ → Option A) → List (List ℕ) → Bool
@@ -61,9 +61,13 @@ allows_numbers words = allows (number max_u32) (values (codes "limit") words) &&
 abbrev pub allows_optional : List (List ℕ) → Bool
 allows_optional words = allows_times words && allows_numbers words
 
+-- what is given of the credentials and of the library can be read
+abbrev pub allows_setup : List (List ℕ) → Bool
+allows_setup words = allows switch (values (codes "creds") words) && allows switch (values (codes "lib") words)
+
 -- what is given of what is on or off can be read
 abbrev pub allows_switches : List (List ℕ) → Bool
-allows_switches words = allows switch (values (codes "push") words) && allows switch (values (codes "lib") words)
+allows_switches words = allows switch (values (codes "push") words) && allows_setup words
 
 -- all settings but the URL, each of which may be left out, are, or can be read
 abbrev pub are_allowed : List (List ℕ) → Bool
@@ -79,6 +83,7 @@ config_with words url = record {
   buffer = given (number max_u32) (values (codes "buffer") words);
   boundary = given (number max_u64) (values (codes "boundary") words);
   push = given switch (values (codes "push") words);
+  creds = given switch (values (codes "creds") words);
   lib = given switch (values (codes "lib") words);
 }
 

@@ -2,7 +2,7 @@
 use Rattle.std.specs.Prelude.{ℕ, List, [], ◌∷◌, Option, Some, None, option_map, option_and_then, bytes_eq, codes, if◌then◌else◌}
 use Rattle.driver_model.specs.declared.event.Event.{Event}
 use Rattle.driver_model.specs.declared.event.EventKind.{EventKind}
-use Rattle.driver_model.specs.declared.event.EventKind.TheVariants.{Submit, Cancel, Connected, Refused, Wrote, Bytes, Ended, ReadFault, WriteFault, Fired, Timeout, Shutdown}
+use Rattle.driver_model.specs.declared.event.EventKind.TheVariants.{Submit, Cancel, Connected, Refused, Wrote, Bytes, Ended, ReadFault, WriteFault, Fired, Creds, CredsError, CredsEnd, Timeout, Shutdown}
 use Rattle.driver_model.specs.declared.event.Submission.{Submission}
 use Rattle.driver_model.specs.declared.event.Submission.TheVariants.{Cmd, NoReply, Pipe, Multi, Packed, Subscription}
 use Rattle.resp_write.specs.declared.subscription.SubscriptionAction.{SubscriptionAction}
@@ -43,6 +43,16 @@ wrote _ = None
 abbrev pub came : List (List ℕ) → Option EventKind
 came (link ∷ piece ∷ []) = option_map (λ l. Bytes l piece) (number max_u32 link)
 came _ = None
+
+-- a source, and the user name and the password that came of it
+abbrev pub authorized : List (List ℕ) → Option EventKind
+authorized (source ∷ user ∷ password ∷ []) = option_map (λ c. Creds c (record { username = user; password = password })) (number max_u32 source)
+authorized _ = None
+
+-- a source, and why it could not give credentials
+abbrev pub denied : List (List ℕ) → Option EventKind
+denied (source ∷ text ∷ []) = option_map (λ c. CredsError c text) (number max_u32 source)
+denied _ = None
 
 -- a time
 abbrev pub timed : List (List ℕ) → Option EventKind
@@ -113,6 +123,9 @@ others =
     ∷ (codes "read-fault", whole (failed ReadFault))
     ∷ (codes "write-fault", whole (failed WriteFault))
     ∷ (codes "fired", whole (numbered Fired))
+    ∷ (codes "creds", whole authorized)
+    ∷ (codes "creds-err", whole denied)
+    ∷ (codes "creds-end", whole (numbered CredsEnd))
     ∷ (codes "timeout", whole timed)
     ∷ (codes "shutdown", whole (alone Shutdown))
     ∷ []

@@ -3,7 +3,7 @@ ghost use Rattle.std.specs.List.{list_all};
 ghost use Rattle.script_text.specs.ConfigLine.{keys, is_setting, values, only};
 ghost use Rattle.script_text.specs.ConfigLine.{allows, allows_times, allows_queue};
 ghost use Rattle.script_text.specs.ConfigLine.{allows_numbers, allows_optional, allows_switches, are_allowed};
-ghost use Rattle.script_text.specs.ConfigLine.{single, config_of, opening_of};
+ghost use Rattle.script_text.specs.ConfigLine.{allows_setup, single, config_of, opening_of};
 ghost use Rattle.script_text.specs.Faults.{FindsFault, values_reason};
 ghost use Rattle.script_text.specs.Numbers.{number, max_u32, max_u64, time_limit, switch};
 
@@ -158,6 +158,16 @@ fn optional_fault(words: &[Word<'_>]) -> Option<Fault>
     numbers_fault(words)
 }
 
+/// What is wrong with what is given of the credentials and of the library.
+fn setup_fault(words: &[Word<'_>]) -> Option<Fault>
+    ensures { is_some result ≡ not (allows_setup words.now) }
+{
+    if let Some(fault) = switch_fault(words, b"creds", ConfigReason::Credentials) {
+        return Some(fault);
+    }
+    switch_fault(words, b"lib", ConfigReason::Library)
+}
+
 /// What is wrong with what is given of what is on or off.
 fn switches_fault(words: &[Word<'_>]) -> Option<Fault>
     ensures { is_some result ≡ not (allows_switches words.now) }
@@ -165,7 +175,7 @@ fn switches_fault(words: &[Word<'_>]) -> Option<Fault>
     if let Some(fault) = switch_fault(words, b"push", ConfigReason::Push) {
         return Some(fault);
     }
-    switch_fault(words, b"lib", ConfigReason::Library)
+    setup_fault(words)
 }
 
 /// What is wrong with a setting other than the URL.

@@ -3,7 +3,7 @@ ghost use Rattle.std.specs.List.{list_all};
 ghost use Rattle.script_text.specs.ConfigLine.{keys, is_setting, value_of, values, only};
 ghost use Rattle.script_text.specs.ConfigLine.{allows, given, allows_times, allows_queue};
 ghost use Rattle.script_text.specs.ConfigLine.{allows_numbers, allows_optional, allows_switches, are_allowed};
-ghost use Rattle.script_text.specs.ConfigLine.{config_with, single, config_of, opening_of};
+ghost use Rattle.script_text.specs.ConfigLine.{allows_setup, config_with, single, config_of, opening_of};
 ghost use Rattle.script_text.specs.Numbers.{number, max_u32, max_u64, time_limit, switch};
 
 use crate::draw::drawn;
@@ -28,6 +28,7 @@ pub fn is_known_setting(word: &[u8]) -> bool
             || key == b"limit".as_slice()
             || key == b"boundary".as_slice()
             || key == b"push".as_slice()
+            || key == b"creds".as_slice()
             || key == b"lib".as_slice(),
     }
 }
@@ -183,11 +184,18 @@ fn allows_optional(words: &[Word<'_>]) -> bool
     allows_times(words) && allows_numbers(words)
 }
 
+/// Whether words leave the credentials and the library open, or say of each once whether it is on.
+fn allows_setup(words: &[Word<'_>]) -> bool
+    ensures { result ≡ allows_setup words.now }
+{
+    allows_switch(words, b"creds") && allows_switch(words, b"lib")
+}
+
 /// Whether words leave open what is on, or say it of each once.
 fn allows_switches(words: &[Word<'_>]) -> bool
     ensures { result ≡ allows_switches words.now }
 {
-    allows_switch(words, b"push") && allows_switch(words, b"lib")
+    allows_switch(words, b"push") && allows_setup(words)
 }
 
 /// Whether all settings but the URL are allowed.
@@ -209,6 +217,7 @@ fn config_with(words: &[Word<'_>], url: Bytes) -> Config
         buffer: number_of(words, b"buffer"),
         boundary: large_number_of(words, b"boundary"),
         push: switch_of(words, b"push"),
+        creds: switch_of(words, b"creds"),
         lib: switch_of(words, b"lib"),
     }
 }

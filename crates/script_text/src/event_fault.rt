@@ -4,7 +4,7 @@ ghost use Rattle.driver_model.specs.declared.event.EventKind.{EventKind};
 ghost use Rattle.redis_error.specs.declared.fault_kind.FaultKind.{FaultKind};
 ghost use Rattle.script_text.specs.EventLine.{by_first, numbered, wrote, came, failed, timed, alone};
 ghost use Rattle.script_text.specs.EventLine.{faults, fault_among, packed, calls, submissions, others};
-ghost use Rattle.script_text.specs.EventLine.{events, event_of};
+ghost use Rattle.script_text.specs.EventLine.{authorized, denied, events, event_of};
 ghost use Rattle.script_text.specs.Faults.{FindsFault, at};
 
 use crate::draw::{draw_fault, drawn, fault_behind};
@@ -83,6 +83,26 @@ fn failed_fault(words: &[Word<'_>], form: Form) -> Option<Fault>
     match number_at(link.as_slice(), 1) {
         Ok(_) => kind_at(kind.as_slice(), 2).err(),
         Err(fault) => Some(fault),
+    }
+}
+
+/// What is wrong with a source and the credentials that came of it.
+fn authorized_fault(words: &[Word<'_>]) -> Option<Fault>
+    ensures { FindsFault result (authorized words.now) }
+{
+    match words {
+        [source, _, _] => number_at(source.as_slice(), 1).err(),
+        _ => form_fault(Form::Creds, 4),
+    }
+}
+
+/// What is wrong with a source and why it could not give credentials.
+fn denied_fault(words: &[Word<'_>]) -> Option<Fault>
+    ensures { FindsFault result (denied words.now) }
+{
+    match words {
+        [source, _] => number_at(source.as_slice(), 1).err(),
+        _ => form_fault(Form::CredsError, 3),
     }
 }
 
@@ -208,6 +228,15 @@ fn other_fault(name: &[u8], words: &[Word<'_>]) -> Option<Fault>
     }
     if name == b"fired".as_slice() {
         return numbered_fault(words, Form::Fired);
+    }
+    if name == b"creds".as_slice() {
+        return authorized_fault(words);
+    }
+    if name == b"creds-err".as_slice() {
+        return denied_fault(words);
+    }
+    if name == b"creds-end".as_slice() {
+        return numbered_fault(words, Form::CredsEnd);
     }
     if name == b"timeout".as_slice() {
         return timeout_fault(words);

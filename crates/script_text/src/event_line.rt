@@ -1,12 +1,12 @@
 ghost use Rattle.std.specs.Prelude.{◌≡◌, ◌≤◌, ◌∷◌, [], ℕ, List, drop, length, option_map, MatchOption, IfOk, IfSome, Some, None};
 ghost use Rattle.driver_model.specs.declared.event.EventKind.TheVariants.{Submit, Cancel, Connected};
-ghost use Rattle.driver_model.specs.declared.event.EventKind.TheVariants.{Ended, Shutdown};
+ghost use Rattle.driver_model.specs.declared.event.EventKind.TheVariants.{Ended, CredsEnd, Shutdown};
 ghost use Rattle.driver_model.specs.declared.event.EventKind.TheVariants.{Refused, ReadFault, WriteFault, Fired};
 ghost use Rattle.driver_model.specs.declared.event.EventKind.{EventKind};
 ghost use Rattle.redis_error.specs.declared.fault_kind.FaultKind.{FaultKind};
 ghost use Rattle.driver_model.specs.declared.event.Submission.TheVariants.{Cmd, NoReply, Packed};
 ghost use Rattle.script_text.specs.EventLine.{by_first, whole, numbered, wrote, came, alone, faults};
-ghost use Rattle.script_text.specs.EventLine.{timed, call, calls};
+ghost use Rattle.script_text.specs.EventLine.{authorized, denied, timed, call, calls};
 ghost use Rattle.script_text.specs.EventLine.{fault_among, failed, commands, packed, submissions};
 ghost use Rattle.script_text.specs.EventLine.{others, events, event_of};
 
@@ -15,6 +15,7 @@ use crate::line::Line;
 use crate::number::{number_u32, number_u64, time_limit};
 use crate::word::{Word, take_all};
 use containers::{Names, Seq};
+use credentials::BasicAuth;
 use driver_model::{Commands, Event, EventKind, Submission};
 use redis_error::FaultKind;
 use resp_write::SubscriptionAction;
@@ -66,6 +67,36 @@ fn read_came(alloc: Global, words: &mut [Word<'_>]) -> Result<Option<EventKind>,
     };
     let piece = words[1].take(alloc)?;
     Ok(Some(EventKind::Bytes { link, piece }))
+}
+
+/// A source, and the credentials that came of it.
+fn read_creds(alloc: Global, words: &mut [Word<'_>]) -> Result<Option<EventKind>, AllocError>
+    ensures { IfOk result (λ k. k ≡ authorized words.old) }
+{
+    let [source, _, _] = &*words else {
+        return Ok(None);
+    };
+    let Some(source) = number_u32(source.as_slice()) else {
+        return Ok(None);
+    };
+    let username = words[1].take(alloc)?;
+    let password = words[2].take(alloc)?;
+    let auth = BasicAuth::new(username, password);
+    Ok(Some(EventKind::Creds { source, auth }))
+}
+
+/// A source, and why it could not give credentials.
+fn read_creds_error(alloc: Global, words: &mut [Word<'_>]) -> Result<Option<EventKind>, AllocError>
+    ensures { IfOk result (λ k. k ≡ denied words.old) }
+{
+    let [source, _] = &*words else {
+        return Ok(None);
+    };
+    let Some(source) = number_u32(source.as_slice()) else {
+        return Ok(None);
+    };
+    let text = words[1].take(alloc)?;
+    Ok(Some(EventKind::CredsError { source, text }))
 }
 
 /// The first of these faults with that name.
@@ -332,6 +363,14 @@ fn fired(words: &[Word<'_>]) -> Option<EventKind>
     })
 }
 
+fn creds_end(words: &[Word<'_>]) -> Option<EventKind>
+    ensures { result ≡ numbered CredsEnd words.now }
+{
+    Some(EventKind::CredsEnd {
+        source: only_number(words)?,
+    })
+}
+
 fn timeout(words: &[Word<'_>]) -> Option<EventKind>
     ensures { result ≡ timed words.now }
 {
@@ -386,6 +425,15 @@ fn other(
     }
     if name == b"fired".as_slice() {
         return Ok(fired(words));
+    }
+    if name == b"creds".as_slice() {
+        return read_creds(alloc, words);
+    }
+    if name == b"creds-err".as_slice() {
+        return read_creds_error(alloc, words);
+    }
+    if name == b"creds-end".as_slice() {
+        return Ok(creds_end(words));
     }
     if name == b"timeout".as_slice() {
         return Ok(timeout(words));

@@ -64,6 +64,8 @@ pub enum ConfigReason {
     Boundary,
     /// Whether somebody hears pushes: neither `on` nor `off`.
     Push,
+    /// Whether credentials come of a source: neither `on` nor `off`.
+    Credentials,
     /// Whether the library is named: neither `on` nor `off`.
     Library,
 }
@@ -97,6 +99,9 @@ pub enum Form {
     ReadFault,
     WriteFault,
     Fired,
+    Creds,
+    CredsError,
+    CredsEnd,
     Timeout,
     Shutdown,
     Packed,
@@ -152,14 +157,14 @@ impl ConfigReason {
     fn sentence(self) -> &'static [u8] {
         match self {
             ConfigReason::Name => {
-                b"the first line is config single url=URL, with connect=MS, response=MS (MS or none), buffer=COUNT, limit=COUNT, boundary=BYTES, push=on or push=off, and lib=on or lib=off where wanted"
+                b"the first line is config single url=URL, with connect=MS, response=MS (MS or none), buffer=COUNT, limit=COUNT, boundary=BYTES, push=on or push=off, creds=on or creds=off, and lib=on or lib=off where wanted"
             }
             ConfigReason::Kind => b"only single is supported yet",
             ConfigReason::Setting => {
-                b"a setting is KEY=VALUE, with url, connect, response, buffer, limit, boundary, push or lib"
+                b"a setting is KEY=VALUE, with url, connect, response, buffer, limit, boundary, push, creds or lib"
             }
             ConfigReason::UnknownKey => {
-                b"the keys are url, connect, response, buffer, limit, boundary, push and lib"
+                b"the keys are url, connect, response, buffer, limit, boundary, push, creds and lib"
             }
             ConfigReason::KeyTwice => b"each key stands once",
             ConfigReason::NoKey => b"url stands once",
@@ -179,6 +184,7 @@ impl ConfigReason {
                 b"boundary is a number of bytes, digits alone without a leading zero, at most 18446744073709551615"
             }
             ConfigReason::Push => b"push is on or off",
+            ConfigReason::Credentials => b"creds is on or off",
             ConfigReason::Library => b"lib is on or off",
         }
     }
@@ -188,7 +194,7 @@ impl EventReason {
     fn sentence(self) -> &'static [u8] {
         match self {
             EventReason::Name => {
-                b"an event is submit, cancel, connected, refused, wrote, bytes, ended, read-fault, write-fault, fired, timeout or shutdown, and the last line is end"
+                b"an event is submit, cancel, connected, refused, wrote, bytes, ended, read-fault, write-fault, fired, creds, creds-err, creds-end, timeout or shutdown, and the last line is end"
             }
             EventReason::Submission => {
                 b"submit takes cmd, noreply, pipe, multi, packed, subscribe, unsubscribe, psubscribe or punsubscribe"
@@ -221,6 +227,9 @@ impl Form {
             Form::ReadFault => b"this event is read-fault LINK KIND",
             Form::WriteFault => b"this event is write-fault LINK KIND",
             Form::Fired => b"this event is fired TIMER",
+            Form::Creds => b"this event is creds SOURCE USER PASSWORD",
+            Form::CredsError => b"this event is creds-err SOURCE TEXT",
+            Form::CredsEnd => b"this event is creds-end SOURCE",
             Form::Timeout => b"this event is timeout MS or timeout none",
             Form::Shutdown => b"this event is shutdown alone",
             Form::Packed => b"this event is submit packed OFFSET COUNT ARG..",

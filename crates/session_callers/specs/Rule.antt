@@ -208,7 +208,7 @@ abbrev pub newcomer : Config → ℕ → ℕ → List Event → ℕ → View
 newcomer config word number seen dial = record { stage = Idle; drawn = 0; number = number ∷ []; made = 0; config = config; word = word; seen = seen; failure = Sound; mine = []; dial = dial; claims = []; ended = []; fronts = [] }
 
 abbrev pub no_config : Config
-no_config = record { url = []; connect = None; response = None; limit = None; buffer = None; boundary = None; push = None; lib = None }
+no_config = record { url = []; connect = None; response = None; limit = None; buffer = None; boundary = None; push = None; creds = None; lib = None }
 
 -- what a seat that was joined is left with
 abbrev pub nobody : View

@@ -16,7 +16,7 @@ use Rattle.script_text.specs.Script.{script_of}
 use Rattle.script_text.specs.declared.script.Script.{Script}
 use Rattle.shared_session.specs.Replay.{trace_of, outcomes_in, outcome_at}
 use Rattle.session_tool.specs.declared.bad.BadReason.{BadReason}
-use Rattle.session_tool.specs.declared.bad.BadReason.TheVariants.{NoName, NoSubmission, NoLink, NoTimer, OnlyOffered}
+use Rattle.session_tool.specs.declared.bad.BadReason.TheVariants.{NoName, NoSubmission, NoLink, NoTimer, NoSource, OnlyOffered}
 use Rattle.program_ends.specs.declared.status.Status.{Status}
 use Rattle.program_ends.specs.declared.status.Status.TheVariants as status
 use Rattle.session_tool.specs.Runs.{HasRefusedConfig}
@@ -64,6 +64,9 @@ event_words (event.Ended l) = codes "ended " ++ decimal l
 event_words (event.ReadFault l kind) = codes "read-fault " ++ decimal l
 event_words (event.WriteFault l kind) = codes "write-fault " ++ decimal l
 event_words (event.Fired t) = codes "fired " ++ decimal t
+event_words (event.Creds c auth) = codes "creds " ++ decimal c
+event_words (event.CredsError c text) = codes "creds-err " ++ decimal c
+event_words (event.CredsEnd c) = codes "creds-end " ++ decimal c
 event_words (event.Timeout ms) = codes "timeout"
 event_words event.Shutdown = codes "shutdown"
 
@@ -73,6 +76,7 @@ bad_words NoName = codes ": the one command of a list needs a name"
 bad_words NoSubmission = codes ": no submission has this number yet"
 bad_words NoLink = codes ": no link has this number"
 bad_words NoTimer = codes ": no timer has this number"
+bad_words NoSource = codes ": no source has this number"
 bad_words (OnlyOffered count) = codes ": only " ++ decimal count ++ codes " bytes were offered"
 
 -- why bytes that a link took are too many
@@ -91,6 +95,9 @@ bad_reason b (event.Ended l) = NoLink
 bad_reason b (event.ReadFault l kind) = NoLink
 bad_reason b (event.WriteFault l kind) = NoLink
 bad_reason b (event.Fired t) = NoTimer
+bad_reason b (event.Creds c auth) = NoSource
+bad_reason b (event.CredsError c text) = NoSource
+bad_reason b (event.CredsEnd c) = NoSource
 bad_reason b (event.Timeout ms) = NoLink
 bad_reason b event.Shutdown = NoLink
 
@@ -122,6 +129,9 @@ kept_by kept (event.Ended l) = kept
 kept_by kept (event.ReadFault l kind) = kept
 kept_by kept (event.WriteFault l kind) = kept
 kept_by kept (event.Fired t) = kept
+kept_by kept (event.Creds c auth) = kept
+kept_by kept (event.CredsError c text) = kept
+kept_by kept (event.CredsEnd c) = kept
 kept_by kept (event.Timeout ms) = kept
 kept_by kept event.Shutdown = kept
 

@@ -27,6 +27,8 @@ pub enum BadReason {
     NoLink,
     /// It names a timer that was never asked for.
     NoTimer,
+    /// It names a source of credentials that was never asked for.
+    NoSource,
     /// It says that more bytes were taken than were offered.
     OnlyOffered { count: u64 },
 }
@@ -61,6 +63,11 @@ fn push_event(text: &mut Bytes, kind: &EventKind) -> Result<(), AllocError>
             push_words(text, b"write-fault ", u64::from(*link))
         }
         EventKind::Fired { timer } => push_words(text, b"fired ", u64::from(*timer)),
+        EventKind::Creds { source, auth: _ } => push_words(text, b"creds ", u64::from(*source)),
+        EventKind::CredsError { source, text: _ } => {
+            push_words(text, b"creds-err ", u64::from(*source))
+        }
+        EventKind::CredsEnd { source } => push_words(text, b"creds-end ", u64::from(*source)),
         EventKind::Timeout { ms: _ } => text.extend_from_slice(b"timeout"),
         EventKind::Shutdown => text.extend_from_slice(b"shutdown"),
     }
@@ -77,6 +84,7 @@ fn push_reason(text: &mut Bytes, reason: BadReason) -> Result<(), AllocError>
         }
         BadReason::NoLink => text.extend_from_slice(b": no link has this number"),
         BadReason::NoTimer => text.extend_from_slice(b": no timer has this number"),
+        BadReason::NoSource => text.extend_from_slice(b": no source has this number"),
         BadReason::OnlyOffered { count } => {
             push_words(text, b": only ", count)?;
             text.extend_from_slice(b" bytes were offered")

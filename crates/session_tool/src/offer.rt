@@ -1,6 +1,7 @@
-ghost use Rattle.std.specs.Prelude.{◌≡◌, ◌==◌, ◌+◌, ℕ, List, IfSome};
+ghost use Rattle.std.specs.Prelude.{◌≡◌, ◌==◌, ◌+◌, ℕ, Bool, List, IfSome};
 ghost use Rattle.connection_info.specs.declared.address.RedisConnectionInfo.{RedisConnectionInfo};
 ghost use Rattle.driver_model.specs.declared.action.Purpose.{Purpose};
+ghost use Rattle.driver_model.specs.declared.action.SourceUse.{SourceUse};
 ghost use Rattle.driver_model.specs.News.{news_of, told};
 ghost use Rattle.legal_trace.specs.Book.{Book, blank_book, book, entered, entered_each, if_mine};
 ghost use Rattle.legal_trace.specs.Ledger.{Ledger, asks, dials, noted_each, with_news};
@@ -77,6 +78,12 @@ impl Offer {
             LinkNews::Overdue => self,
             LinkNews::Came { piece: _ } => self,
             LinkNews::Failed { fault: _ } => self,
+            LinkNews::Authorized { auth: _ } => self,
+            LinkNews::Denied { text: _ } => self,
+            LinkNews::Deserted => self,
+            LinkNews::Renewed { auth: _ } => self,
+            LinkNews::Unrenewed => self,
+            LinkNews::Late { number: _ } => self,
             LinkNews::Shut => self,
         }
     }
@@ -99,8 +106,8 @@ impl Offer {
     /// After the connect of this link was asked for, whatever is said to its server then.
     fn asking(self, link: u32) -> Offer
         ensures links { result.links ≡ self.links }
-        ensures first { (l : Ledger) (info : RedisConnectionInfo) → IsOfferIn self l
-            → IsOfferIn result (noted_each l (if_mine (link == 0) (asks info))) }
+        ensures first { (l : Ledger) (info : RedisConnectionInfo) (wanted : Bool) → IsOfferIn self l
+            → IsOfferIn result (noted_each l (if_mine (link == 0) (asks info wanted))) }
     {
         if link == FIRST_LINK {
             Offer {
@@ -112,17 +119,18 @@ impl Offer {
         }
     }
 
-    /// After an event: whatever timers there are, that one fires changes nothing here.
+    /// After an event: whatever timers and sources of credentials there are, what comes of one changes nothing here.
     fn after_event(self, kind: &EventKind) -> Offer
         ensures links { result.links ≡ self.links }
-        ensures first { (l : Ledger) (turn : ℕ) (timers : List Purpose) → IsOfferIn self l
-            → IsOfferIn result (with_news l turn (news_of timers 0 kind.now)) }
+        ensures first { (l : Ledger) (turn : ℕ) (timers : List Purpose) (uses : List SourceUse)
+            → IsOfferIn self l
+            → IsOfferIn result (with_news l turn (news_of timers uses 0 kind.now)) }
     {
-        self.after_news(kind.news(&[], FIRST_LINK))
+        self.after_news(kind.news(&[], &[], FIRST_LINK))
     }
 
     /// After one more action.
-    #[tactic(auto, using(crate::proofs::Offers::push_offer))]
+    #[tactic(auto, using(crate::proofs::Offers::push_offer, crate::proofs::Offers::timed_offer, crate::proofs::Offers::sourced_offer))]
     fn after(self, action: &Action) -> Offer
         ensures { (b : Book) → IsOfferOf self b → IsOfferOf result (entered b action.now) }
     {
@@ -147,6 +155,12 @@ impl Offer {
                 }
             }
             Action::Push { link: _, info: _ } => self,
+            Action::Timer {
+                timer: _,
+                ms: _,
+                purpose: _,
+            } => self,
+            Action::NeedCreds { source: _, link: _ } => self,
             Action::Close { link } => {
                 if *link == FIRST_LINK {
                     Offer {
@@ -190,6 +204,9 @@ impl Offer {
             EventKind::Cancel { submission: _ } => Some(BadReason::NoSubmission),
             EventKind::Wrote { link, count: _ } => self.reason_of_wrote(*link),
             EventKind::Fired { timer: _ } => Some(BadReason::NoTimer),
+            EventKind::Creds { source: _, auth: _ } => Some(BadReason::NoSource),
+            EventKind::CredsError { source: _, text: _ } => Some(BadReason::NoSource),
+            EventKind::CredsEnd { source: _ } => Some(BadReason::NoSource),
             _ => Some(BadReason::NoLink),
         }
     }

@@ -40,6 +40,9 @@ ended 0                                  the peer closed the link
 read-fault 0 reset                       a read failed
 write-fault 0 broken-pipe                a write failed
 fired 0                                  the time of timer 0 is over
+creds 0 USER PASSWORD                    source 0 gave these credentials
+creds-err 0 TEXT                         it could not give any, and says why
+creds-end 0                              no more come of it
 timeout 250                              each later submission is to be answered within 250 ms
 timeout none                             or within any time
 shutdown                                 everything is closed
@@ -51,6 +54,7 @@ The time of the connect is 1000 ms, or what connect=MS or connect=none says in t
 The time of a request is 500 ms, or what response=MS or response=none says there; limit=COUNT sets how many permits there are.
 The queue of a link holds 50 messages, or what buffer=COUNT says there, and none starts while 8192 bytes or more, or what boundary=BYTES says, are unwritten.
 Pushes are heard where push=on stands there, on a URL with ?protocol=3: each is an action, and so is the end of a link.
+Credentials come of sources where creds=on stands there: need-creds asks for a first source when the link is up, and for a second when it is set up.
 A fault is refused, reset, aborted, not-connected, broken-pipe, eof, timed-out, interrupted, denied or other.
 Status: 0 done, 1 no command, 2 no script, 3 refused configuration, 4 bad event, 5 no memory, 6 no input, 7 no output, 8 no more numbers.
 ";

@@ -62,18 +62,21 @@ told_append os [] t = refl
 told_append os (a ∷ s) t = told_append _ s t
 
 -- the acts of a turn tell the outcomes that were kept
-told_shown : (link : ℕ) (acts : List LinkAct) (os : List (Option Outcome)) (timers : ℕ) → told_each os (shown_each link timers acts) ≡ put_each os (done_each acts)
-told_shown link [] os t = refl
-told_shown link (act.Outcome n o ∷ more) os t = told_shown link more _ _
-told_shown link (act.Created e ∷ more) os t = told_shown link more os _
-told_shown link (act.Took n count ∷ more) os t = told_shown link more os _
-told_shown link (act.Timer n ms ∷ more) os t = told_shown link more os _
-told_shown link (act.Push info ∷ more) os t = told_shown link more os _
-told_shown link (act.Close ∷ more) os t = told_shown link more os _
-told_shown link (act.Write bytes ∷ more) os t = told_shown link more os _
-told_shown link (act.Wait n kind ∷ more) os t = told_shown link more os _
-told_shown link (act.Start message n need len ∷ more) os t = told_shown link more os _
-told_shown link (act.SetUp message need len ∷ more) os t = told_shown link more os _
+told_shown : (link : ℕ) (acts : List LinkAct) (os : List (Option Outcome)) (timers sources : ℕ) → told_each os (shown_each link timers sources acts) ≡ put_each os (done_each acts)
+told_shown link [] os t c = refl
+told_shown link (act.Outcome n o ∷ more) os t c = told_shown link more _ _ _
+told_shown link (act.Created e ∷ more) os t c = told_shown link more os _ _
+told_shown link (act.Took n count ∷ more) os t c = told_shown link more os _ _
+told_shown link (act.Timer n ms ∷ more) os t c = told_shown link more os _ _
+told_shown link (act.RenewalTimer k ms ∷ more) os t c = told_shown link more os _ _
+told_shown link (act.NeedCreds ∷ more) os t c = told_shown link more os _ _
+told_shown link (act.Renewed message need len ∷ more) os t c = told_shown link more os _ _
+told_shown link (act.Push info ∷ more) os t c = told_shown link more os _ _
+told_shown link (act.Close ∷ more) os t c = told_shown link more os _ _
+told_shown link (act.Write bytes ∷ more) os t c = told_shown link more os _ _
+told_shown link (act.Wait n kind ∷ more) os t c = told_shown link more os _ _
+told_shown link (act.Start message n need len ∷ more) os t c = told_shown link more os _ _
+told_shown link (act.SetUp message need len ∷ more) os t c = told_shown link more os _ _
 
 -- the connect and its timer tell no outcome
 told_asked : (info : Option ConnectionInfo) (timeout : Option ℕ) → told_each [] (connect_asked info timeout) ≡ []
@@ -92,7 +95,7 @@ unfolding outcomes_in
 outcomes-more config word es e =
     let c = state_after config word es in
     ap (λ (t : List Action). told_each [] t) (trace_of-more config word es e) ∙ told_append [] (trace_of config word es) (actions_of c e)
-    ∙ told_shown c.single.link (next_turn c e.kind).acts (with_room (told_each [] (trace_of config word es)) e.kind) (length c.timers)
+    ∙ told_shown c.single.link (next_turn c e.kind).acts (with_room (told_each [] (trace_of config word es)) e.kind) (length c.timers) (length c.sources)
 
 -- what an event is to the submissions leaves the number of turns
 submitted_turns : (t : Turning) (what : Submission) → (submitted t what).core.turns ≡ t.core.turns
@@ -115,6 +118,8 @@ fired_turns : (t : Turning) (slot : Option Purpose) → (fired_by t slot).core.t
 fired_turns t None = refl
 fired_turns t (Some (purpose.Connect l)) = refl
 fired_turns t (Some (purpose.Response owner.Setup)) = refl
+fired_turns t (Some (purpose.Response owner.Auth)) = refl
+fired_turns t (Some (purpose.Renewal l k)) = refl
 fired_turns t (Some (purpose.Response (owner.Try n round))) = late_turns t (slice_get t.core.table n)
 
 requested_turns : (t : Turning) (kind : EventKind) → (requested t kind).core.turns ≡ t.core.turns
@@ -124,6 +129,9 @@ requested_turns t (event.Connected l) = refl
 requested_turns t (event.Refused l f) = refl
 requested_turns t (event.Fired n) = fired_turns t (slice_get t.core.timers n)
 requested_turns t (event.Timeout ms) = refl
+requested_turns t (event.Creds c auth) = refl
+requested_turns t (event.CredsError c text) = refl
+requested_turns t (event.CredsEnd c) = refl
 requested_turns t (event.Wrote l count) = refl
 requested_turns t (event.Bytes l piece) = refl
 requested_turns t (event.Ended l) = refl
@@ -197,12 +205,13 @@ unfolding AreUnspent state_after
 unspent-more config word es e all free = unspent_on-more (opening_core config word) es e all free
 
 -- what is shown of a turn is the effects of the history's next turn
-pub shown_kept : (before after : Core) (config : Config) (word : ℕ) (es : List Event) (e : Event) (link timers : ℕ) (acts : List LinkAct) (old new : List Action) →
-    before ≡ state_after config word es → ◌≡◌ {A = Turning} (record { core = after; acts = acts }) (next_turn before e.kind) → link ≡ before.single.link → timers ≡ length before.timers
-    → new ≡ old ++ shown_each link timers acts → new ≡ old ++ effects_of (state_after config word es) e
-shown_kept before after config word es e link timers acts old new b a l t s =
-    rw (← b) (s ∙ ap (λ (k : ℕ). old ++ shown_each k timers acts) l ∙ ap (λ (k : ℕ). old ++ shown_each before.single.link k acts) t
-    ∙ ap (λ (x : Turning). old ++ shown_each before.single.link (length before.timers) x.acts) a)
+pub shown_kept : (before after : Core) (config : Config) (word : ℕ) (es : List Event) (e : Event) (link timers sources : ℕ) (acts : List LinkAct) (old new : List Action) →
+    before ≡ state_after config word es → ◌≡◌ {A = Turning} (record { core = after; acts = acts }) (next_turn before e.kind) → link ≡ before.single.link → timers ≡ length before.timers → sources ≡ length before.sources
+    → new ≡ old ++ shown_each link timers sources acts → new ≡ old ++ effects_of (state_after config word es) e
+shown_kept before after config word es e link timers sources acts old new b a l t c s =
+    rw (← b) (s ∙ ap (λ (k : ℕ). old ++ shown_each k timers sources acts) l ∙ ap (λ (k : ℕ). old ++ shown_each before.single.link k sources acts) t
+    ∙ ap (λ (k : ℕ). old ++ shown_each before.single.link (length before.timers) k acts) c
+    ∙ ap (λ (x : Turning). old ++ shown_each before.single.link (length before.timers) (length before.sources) x.acts) a)
 
 -- the number of a turn is the number of the events that were then taken
 pub turn_numbered : (config : Config) (word : ℕ) (es fs : List Event) (e : Event) → fs ≡ es ++ e ∷ []

@@ -12,7 +12,8 @@ use Rattle.driver_model.specs.declared.event.Event.{Event}
 use Rattle.driver_model.specs.declared.event.EventKind.{EventKind}
 use Rattle.driver_model.specs.declared.event.EventKind.TheVariants as event
 use Rattle.driver_model.specs.declared.outcome.Outcome.{Outcome}
-use Rattle.driver_model.specs.Config.{address, connect_timeout, response_timeout, buffer_size, boundary, hears_pushes, told_info, first_fault}
+use Rattle.driver_model.specs.Config.{address, connect_timeout, response_timeout, buffer_size, boundary, hears_pushes, wants_credentials, told_info, first_fault}
+use Rattle.mux_conn.specs.Renewals.{no_renewal}
 use Rattle.mux_conn.specs.Turn.{dialing}
 use Rattle.shared_session.specs.declared.core_state.Core.{Core}
 use Rattle.shared_session.specs.Turn.{next_turn, actions_of, is_bad, spends}
@@ -34,8 +35,9 @@ opening_core config word = record {
   shut = false;
   timeout = response_timeout config;
   timers = connect_timers (connect_timeout config);
+  sources = [];
   table = [];
-  single = record { link = first_link; connection = dialing (buffer_size config) (boundary config) config.limit (hears_pushes config) (told_info config) };
+  single = record { link = first_link; connection = dialing (buffer_size config) (boundary config) config.limit (hears_pushes config) (told_info config) (no_renewal (wants_credentials config) (response_timeout config)) };
 }
 
 -- the timer of the opening is asked for
@@ -79,6 +81,9 @@ with_room os (event.Cancel n) = os
 with_room os (event.Connected l) = os
 with_room os (event.Refused l f) = os
 with_room os (event.Fired t) = os
+with_room os (event.Creds c auth) = os
+with_room os (event.CredsError c text) = os
+with_room os (event.CredsEnd c) = os
 with_room os (event.Timeout ms) = os
 with_room os (event.Wrote l count) = os
 with_room os (event.Bytes l piece) = os
@@ -96,6 +101,7 @@ told os (action.Connect l host port) = os
 told os (action.Timer t ms what) = os
 told os (action.Took who l count) = os
 told os (action.Push l info) = os
+told os (action.NeedCreds c l) = os
 told os (action.Close l) = os
 told os (action.Write l bytes) = os
 told os (action.Wait who kind) = os

@@ -1,5 +1,5 @@
 -- One turn of a session: what the outside sees by number, over a connection that knows no numbers.
-use Rattle.std.specs.Prelude.{◌<◌, ◌≤◌, ℕ, ◌+◌, ◌^◌, ◌==◌, nat_lt, nat_le, Bool, true, false, ◌&&◌, ◌||◌, List, [], ◌∷◌, ◌++◌, length, Option, Some, None, slice_get, if◌then◌else◌}
+use Rattle.std.specs.Prelude.{◌<◌, ◌≤◌, ℕ, zero, suc, ◌+◌, ◌^◌, ◌==◌, nat_lt, nat_le, Bool, true, false, ◌&&◌, ◌||◌, List, [], ◌∷◌, ◌++◌, length, Option, Some, None, slice_get, if◌then◌else◌}
 use Rattle.redis_error.specs.declared.redis_error.RedisError.{RedisError}
 use Rattle.redis_error.specs.declared.redis_error.RedisError.TheVariants as error
 use Rattle.driver_model.specs.declared.action.Action.{Action}
@@ -8,6 +8,8 @@ use Rattle.driver_model.specs.declared.action.Cause.TheVariants as cause
 use Rattle.driver_model.specs.declared.action.Owner.TheVariants as owner
 use Rattle.driver_model.specs.declared.action.Purpose.{Purpose}
 use Rattle.driver_model.specs.declared.action.Purpose.TheVariants as purpose
+use Rattle.driver_model.specs.declared.action.SourceUse.{SourceUse}
+use Rattle.driver_model.specs.declared.action.SourceUse.TheVariants as source
 use Rattle.driver_model.specs.declared.event.Event.{Event}
 use Rattle.driver_model.specs.declared.event.EventKind.{EventKind}
 use Rattle.driver_model.specs.declared.event.EventKind.TheVariants as event
@@ -18,9 +20,9 @@ use Rattle.driver_model.specs.Request.{packed_bytes, shape_of, is_reply_awaited,
 use Rattle.mux_conn.specs.declared.act.LinkAct.{LinkAct}
 use Rattle.mux_conn.specs.declared.act.LinkAct.TheVariants as act
 use Rattle.mux_conn.specs.declared.life.Life.{Life}
-use Rattle.mux_conn.specs.declared.life.Life.TheVariants.{Dialing, SettingUp, Ready, Ended}
+use Rattle.mux_conn.specs.declared.life.Life.TheVariants.{Dialing, Wanting, SettingUp, Ready, Ended}
 use Rattle.mux_conn.specs.declared.request.Pending.{Pending}
-use Rattle.mux_conn.specs.Connection.{Work, is_spent_in}
+use Rattle.mux_conn.specs.Connection.{Work, is_used_up}
 use Rattle.mux_conn.specs.Requests.{asked}
 use Rattle.mux_conn.specs.Effects.{applied, left, timed_out}
 use Rattle.mux_conn.specs.Passes.{passed}
@@ -50,6 +52,9 @@ is_shutdown (event.Cancel n) = false
 is_shutdown (event.Connected l) = false
 is_shutdown (event.Refused l f) = false
 is_shutdown (event.Fired t) = false
+is_shutdown (event.Creds c auth) = false
+is_shutdown (event.CredsError c text) = false
+is_shutdown (event.CredsEnd c) = false
 is_shutdown (event.Timeout ms) = false
 is_shutdown (event.Wrote l count) = false
 is_shutdown (event.Bytes l piece) = false
@@ -62,7 +67,7 @@ shut_by c kind = record c { shut = c.shut || is_shutdown kind }
 
 -- the connection hears its link's news
 abbrev pub heard : Turning → EventKind → Turning
-heard t kind = with_work (record t { core = shut_by t.core kind }) (applied (work_of t) (news_of t.core.timers t.core.single.link kind))
+heard t kind = with_work (record t { core = shut_by t.core kind }) (applied (work_of t) (news_of t.core.timers t.core.sources t.core.single.link kind))
 
 -- the next submission has no request: it is answered at once
 abbrev pub refused_with : Turning → RedisError → Turning
@@ -102,11 +107,13 @@ late_by t None = t
 late_by t (Some None) = t
 late_by t (Some (Some p)) = with_work t (timed_out (work_of t) p.number)
 
--- a timer fires that was asked for this, if it was asked
+-- a timer fires that was asked for this, if it was asked: what it is to the connection alone was heard
 abbrev pub fired_by : Turning → Option Purpose → Turning
 fired_by t None = t
 fired_by t (Some (purpose.Connect l)) = t
 fired_by t (Some (purpose.Response owner.Setup)) = t
+fired_by t (Some (purpose.Response owner.Auth)) = t
+fired_by t (Some (purpose.Renewal l k)) = t
 fired_by t (Some (purpose.Response (owner.Try n round))) = late_by t (slice_get t.core.table n)
 
 -- what an event is to the submissions
@@ -117,6 +124,9 @@ requested t (event.Connected l) = t
 requested t (event.Refused l f) = t
 requested t (event.Fired n) = fired_by t (slice_get t.core.timers n)
 requested t (event.Timeout ms) = record t { core = record t.core { timeout = ms } }
+requested t (event.Creds c auth) = t
+requested t (event.CredsError c text) = t
+requested t (event.CredsEnd c) = t
 requested t (event.Wrote l count) = t
 requested t (event.Bytes l piece) = t
 requested t (event.Ended l) = t
@@ -140,52 +150,90 @@ moved_on t = with_work t (flushed (passed (work_of t)))
 abbrev pub whole_effect : Turning → EventKind → Turning
 whole_effect t kind = moved_on (effect t kind)
 
--- what the timer of an act is for, if it asks for one
-abbrev pub timer_of : LinkAct → List Purpose
-timer_of (act.Timer n ms) = purpose.Response (owner.Try n 0) ∷ []
-timer_of (act.Took n count) = []
-timer_of (act.Created e) = []
-timer_of (act.SetUp message need len) = []
-timer_of (act.Push info) = []
-timer_of act.Close = []
-timer_of (act.Write bytes) = []
-timer_of (act.Wait n kind) = []
-timer_of (act.Start message n need len) = []
-timer_of (act.Outcome n o) = []
+-- what the timer of an act of the connection of link l is for, if it asks for one
+abbrev pub timer_of : ℕ → LinkAct → List Purpose
+timer_of l (act.Timer n ms) = purpose.Response (owner.Try n 0) ∷ []
+timer_of l (act.RenewalTimer k ms) = purpose.Renewal l k ∷ []
+timer_of l (act.Took n count) = []
+timer_of l (act.Created e) = []
+timer_of l act.NeedCreds = []
+timer_of l (act.SetUp message need len) = []
+timer_of l (act.Renewed message need len) = []
+timer_of l (act.Push info) = []
+timer_of l act.Close = []
+timer_of l (act.Write bytes) = []
+timer_of l (act.Wait n kind) = []
+timer_of l (act.Start message n need len) = []
+timer_of l (act.Outcome n o) = []
 
 -- what the timers of acts are for, in order
-abbrev pub timers_of : List LinkAct → List Purpose
-timers_of [] = []
-timers_of (a ∷ more) = timer_of a ++ timers_of more
+abbrev pub timers_of : ℕ → List LinkAct → List Purpose
+timers_of l [] = []
+timers_of l (a ∷ more) = timer_of l a ++ timers_of l more
 
--- the timers of the turn have got their numbers
-abbrev pub timed : Turning → Turning
-timed t = record t { core = record t.core { timers = t.core.timers ++ timers_of t.acts } }
+-- what the next source of credentials is for, behind so many: the first is for the setup of link l, and any other for its
+-- renewals
+abbrev pub use_after : ℕ → ℕ → SourceUse
+use_after l zero = source.Setup l
+use_after l (suc n) = source.Renewal l
+
+-- what the source of an act is for, behind so many, if it asks for one
+abbrev pub source_of : ℕ → ℕ → LinkAct → List SourceUse
+source_of l n act.NeedCreds = use_after l n ∷ []
+source_of l n (act.Created e) = []
+source_of l n (act.Took m count) = []
+source_of l n (act.Timer m ms) = []
+source_of l n (act.RenewalTimer k ms) = []
+source_of l n (act.SetUp message need len) = []
+source_of l n (act.Renewed message need len) = []
+source_of l n (act.Push info) = []
+source_of l n act.Close = []
+source_of l n (act.Write bytes) = []
+source_of l n (act.Wait m kind) = []
+source_of l n (act.Start message m need len) = []
+source_of l n (act.Outcome m o) = []
+
+-- what the sources of acts are for, in order
+abbrev pub sources_of : ℕ → ℕ → List LinkAct → List SourceUse
+sources_of l n [] = []
+sources_of l n (a ∷ more) = source_of l n a ++ sources_of l (n + length (source_of l n a)) more
+
+-- the timers and the sources of the turn have got their numbers
+abbrev pub numbered : Turning → Turning
+numbered t = record t {
+  core = record t.core {
+    timers = t.core.timers ++ timers_of t.core.single.link t.acts;
+    sources = t.core.sources ++ sources_of t.core.single.link (length t.core.sources) t.acts;
+  };
+}
 
 -- a turn
 unfoldable pub next_turn : Core → EventKind → Turning
-next_turn c kind = timed (whole_effect (counted c) kind)
+next_turn c kind = numbered (whole_effect (counted c) kind)
 
--- what an act of the connection of link l shows, where so many timers were asked for before
-abbrev pub shown : ℕ → ℕ → LinkAct → Action
-shown l t (act.Created e) = action.Created e
-shown l t (act.Took n count) = action.Took (owner.Try n 0) l count
-shown l t (act.Timer n ms) = action.Timer t ms (purpose.Response (owner.Try n 0))
-shown l t (act.SetUp message need len) = action.Start l message owner.Setup need len
-shown l t (act.Push info) = action.Push l info
-shown l t act.Close = action.Close l
-shown l t (act.Write bytes) = action.Write l bytes
-shown l t (act.Wait n kind) = action.Wait (owner.Try n 0) kind
-shown l t (act.Start message n need len) = action.Start l message (owner.Try n 0) need len
-shown l t (act.Outcome n o) = action.Outcome n o
+-- what an act of the connection of link l shows, where so many timers, and so many sources, were asked for before
+abbrev pub shown : ℕ → ℕ → ℕ → LinkAct → Action
+shown l t c (act.Created e) = action.Created e
+shown l t c (act.Took n count) = action.Took (owner.Try n 0) l count
+shown l t c (act.Timer n ms) = action.Timer t ms (purpose.Response (owner.Try n 0))
+shown l t c (act.RenewalTimer k ms) = action.Timer t ms (purpose.Renewal l k)
+shown l t c act.NeedCreds = action.NeedCreds c l
+shown l t c (act.SetUp message need len) = action.Start l message owner.Setup need len
+shown l t c (act.Renewed message need len) = action.Start l message owner.Auth need len
+shown l t c (act.Push info) = action.Push l info
+shown l t c act.Close = action.Close l
+shown l t c (act.Write bytes) = action.Write l bytes
+shown l t c (act.Wait n kind) = action.Wait (owner.Try n 0) kind
+shown l t c (act.Start message n need len) = action.Start l message (owner.Try n 0) need len
+shown l t c (act.Outcome n o) = action.Outcome n o
 
-abbrev pub shown_each : ℕ → ℕ → List LinkAct → List Action
-shown_each l t [] = []
-shown_each l t (a ∷ more) = shown l t a ∷ shown_each l (t + length (timer_of a)) more
+abbrev pub shown_each : ℕ → ℕ → ℕ → List LinkAct → List Action
+shown_each l t c [] = []
+shown_each l t c (a ∷ more) = shown l t c a ∷ shown_each l (t + length (timer_of l a)) (c + length (source_of l c a)) more
 
 -- what one turn shows behind its first action
 abbrev pub effects_of : Core → Event → List Action
-effects_of c e = shown_each c.single.link (length c.timers) (next_turn c e.kind).acts
+effects_of c e = shown_each c.single.link (length c.timers) (length c.sources) (next_turn c e.kind).acts
 
 -- the actions of one turn: which turn it is, with its event, and its effects
 abbrev pub actions_of : Core → Event → List Action
@@ -203,6 +251,7 @@ IsFewer c = length c.single.connection.requests ≤ length c.table
 -- more bytes were taken than are offered
 abbrev pub exceeds_offer : Life → ℕ → Bool
 exceeds_offer Dialing count = nat_lt 0 count
+exceeds_offer (Wanting link) count = nat_lt link.outbox.offered count
 exceeds_offer (SettingUp link with_user) count = nat_lt link.outbox.offered count
 exceeds_offer (Ready link) count = nat_lt link.outbox.offered count
 exceeds_offer (Ended e) count = false
@@ -211,14 +260,17 @@ exceeds_offer (Ended e) count = false
 abbrev pub is_no_link : Core → ℕ → Bool
 is_no_link c l = nat_le c.links l
 
--- the event hands in a submission without a form, or names a link, a timer or a submission that was never given out, or
--- more written bytes than were offered
+-- the event hands in a submission without a form, or names a link, a timer, a source of credentials or a submission that was
+-- never given out, or more written bytes than were offered
 unfoldable pub is_bad : Core → EventKind → Bool
 is_bad c (event.Submit what) = has_no_form what
 is_bad c (event.Cancel n) = nat_le (length c.table) n
 is_bad c (event.Connected l) = is_no_link c l
 is_bad c (event.Refused l f) = is_no_link c l
 is_bad c (event.Fired t) = nat_le (length c.timers) t
+is_bad c (event.Creds n auth) = nat_le (length c.sources) n
+is_bad c (event.CredsError n text) = nat_le (length c.sources) n
+is_bad c (event.CredsEnd n) = nat_le (length c.sources) n
 is_bad c (event.Timeout ms) = false
 is_bad c (event.Wrote l count) = is_no_link c l || ((l == c.single.link) && exceeds_offer c.single.connection.life count)
 is_bad c (event.Bytes l piece) = is_no_link c l
@@ -227,9 +279,9 @@ is_bad c (event.ReadFault l kind) = is_no_link c l
 is_bad c (event.WriteFault l kind) = is_no_link c l
 is_bad c event.Shutdown = false
 
--- the number 2^32 - 1 was given to a message, a submission or a timer
+-- the number 2^32 - 1 was given to a message, to new credentials, a submission, a timer or a source of credentials
 unfoldable pub has_run_out : Core → Bool
-has_run_out c = is_spent_in c.single.connection.life || (nat_le (2 ^ 32) (length c.table) || nat_le (2 ^ 32) (length c.timers))
+has_run_out c = is_used_up c.single.connection || (nat_le (2 ^ 32) (length c.table) || (nat_le (2 ^ 32) (length c.timers) || nat_le (2 ^ 32) (length c.sources)))
 
 -- the step of an event is spent: the history holds 2^32 - 1 events, or the turn would give out a number too many
 unfoldable pub spends : Core → Event → Bool

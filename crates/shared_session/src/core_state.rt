@@ -1,9 +1,10 @@
 ghost use Rattle.std.specs.Prelude.{◌≡◌, ◌<◌, ◌≤◌, ◌+◌, ◌++◌, ◌∷◌, ◌^◌, [], length, slice_get};
 ghost use Rattle.std.specs.Prelude.{true, false, None, Some, OnOk, OnErr, IfErr, IsErrOf};
-ghost use Rattle.shared_session.specs.Turn.{timer_of, timers_of};
+ghost use Rattle.std.specs.Prelude.{nat_le};
+ghost use Rattle.shared_session.specs.Turn.{timer_of, timers_of, source_of, sources_of, use_after};
 
 use containers::{Bytes, Seq};
-use driver_model::{EventKind, Outcome, Owner, Purpose, Submission};
+use driver_model::{EventKind, Outcome, Owner, Purpose, SourceUse, Submission};
 use mux_conn::{ConnectionError, Life, LinkAct, MultiplexedConnection, Pending};
 use redis_error::RedisError;
 use std::alloc::{AllocError, Global};
@@ -28,8 +29,8 @@ impl Drop for Single {
 }
 
 /// The state of a session: how many turns it has made, the opening among them, how many links were asked for, whether
-/// everything was shut down, what each timer was asked for, the request of each submission, where it has one, and its
-/// connection.
+/// everything was shut down, what each timer and each source of credentials was asked for, the request of each submission,
+/// where it has one, and its connection.
 pub struct Core {
     pub turns: u64,
     pub links: u32,
@@ -37,6 +38,7 @@ pub struct Core {
     /// Within how many milliseconds a request that is handed in now is to be answered, if within any.
     pub timeout: Option<u64>,
     pub timers: Seq<Purpose>,
+    pub sources: Seq<SourceUse>,
     pub table: Seq<Option<Pending>>,
     pub single: Single,
 }
@@ -49,10 +51,12 @@ impl Drop for Core {
             shut: _,
             timeout: _,
             timers,
+            sources,
             table,
             single,
         } = self;
         drop(timers);
+        drop(sources);
         drop(table);
         drop(single);
     }
@@ -64,7 +68,7 @@ impl Core {
     ghost use Rattle.mux_conn.specs.Effects.{IsWithin};
     ghost use Rattle.shared_session.specs.Turn.{turning_with, heard, refused_with, asked_for};
     ghost use Rattle.shared_session.specs.Turn.{submitted, left_by, late_by, fired_by, requested};
-    ghost use Rattle.shared_session.specs.Turn.{effect, timers_of};
+    ghost use Rattle.shared_session.specs.Turn.{effect, timers_of, sources_of};
     ghost use Rattle.shared_session.specs.Turn.{whole_effect, next_turn, is_bad, has_run_out};
     ghost use Rattle.shared_session.specs.Turn.{exceeds_offer, IsFewer, IsKnown};
 
@@ -76,7 +80,7 @@ impl Core {
         acts: &mut Vec<LinkAct>,
     ) -> Result<(), ConnectionError>
         requires { IsWithin self.old.single.connection.life
-            (news_of self.old.timers self.old.single.link event.now) }
+            (news_of self.old.timers self.old.sources self.old.single.link event.now) }
         ensures turning { OnOk result (
             turning_with self.new acts.new.items
             ≡ heard (turning_with self.old acts.old.items) event.now
@@ -93,7 +97,8 @@ impl Core {
             _ => false,
         };
         self.shut = self.shut || shutdown;
-        let news = event.news(self.timers.as_slice(), self.single.link);
+        let timers = self.timers.as_slice();
+        let news = event.news(timers, self.sources.as_slice(), self.single.link);
         self.single.connection.apply(alloc, news, acts)
     }
 
@@ -212,7 +217,7 @@ impl Core {
         }
     }
 
-    /// A timer fires: the time of a request is over, where it was asked for that.
+    /// A timer fires: the time of a request is over, where it was asked for that. What it is to the connection alone was heard.
     fn fire(&mut self, timer: u32, acts: &mut Vec<LinkAct>) -> Result<(), AllocError>
         ensures turning { OnOk result (
             turning_with self.new acts.new.items
@@ -231,6 +236,8 @@ impl Core {
             Purpose::Response {
                 owner: Owner::Setup,
             } => Ok(()),
+            Purpose::Response { owner: Owner::Auth } => Ok(()),
+            Purpose::Renewal { link: _, number: _ } => Ok(()),
             Purpose::Response {
                 owner: Owner::Try {
                     submission,
@@ -293,9 +300,19 @@ impl Core {
             EventKind::Ended { link } => *link >= self.links,
             EventKind::ReadFault { link, fault: _ } => *link >= self.links,
             EventKind::WriteFault { link, fault: _ } => *link >= self.links,
+            EventKind::Creds { source, auth: _ } => self.is_no_source(*source),
+            EventKind::CredsError { source, text: _ } => self.is_no_source(*source),
+            EventKind::CredsEnd { source } => self.is_no_source(*source),
             EventKind::Timeout { ms: _ } => false,
             EventKind::Shutdown => false,
         }
+    }
+
+    /// Whether no source of credentials of this number was asked for.
+    fn is_no_source(&self, source: u32) -> bool
+        ensures { result ≡ nat_le (length self.now.sources) source }
+    {
+        source as usize >= self.sources.len()
     }
 
     /// Whether more bytes were taken than are offered.
@@ -304,21 +321,22 @@ impl Core {
     {
         match &self.single.connection.life {
             Life::Dialing => count > 0,
+            Life::Wanting { link } => count > link.offered_len(),
             Life::SettingUp { link, with_user: _ } => count > link.offered_len(),
             Life::Ready { link } => count > link.offered_len(),
             Life::Ended { error: _ } => false,
         }
     }
 
-    /// Whether the number 2^32 - 1 was given to a message, a submission or a timer.
+    /// Whether the number 2^32 - 1 was given to a message, to new credentials, a submission, a timer or a source of credentials.
     #[tactic(auto, unfolding(crate::specs::Turn::has_run_out))]
     fn is_spent(&self) -> bool
         ensures { result ≡ has_run_out self.now }
     {
-        let started = u64::from(self.single.connection.started());
-        started >= TOO_MANY
+        self.single.connection.is_used_up()
             || self.table.len() as u64 >= TOO_MANY
             || self.timers.len() as u64 >= TOO_MANY
+            || self.sources.len() as u64 >= TOO_MANY
     }
 
     /// The event's own effect, and then requests are moved, and bytes and waits are shown.
@@ -354,7 +372,7 @@ impl Core {
         self.single.connection.flush(alloc, acts)
     }
 
-    /// One turn, whose acts `acts` gains. Its timers get their numbers.
+    /// One turn, whose acts `acts` gains. Its timers and its sources of credentials get their numbers.
     #[tactic(auto, unfolding(crate::specs::Turn::next_turn))]
     pub fn turn(
         &mut self,
@@ -373,7 +391,13 @@ impl Core {
             ) }
         ensures unspent { OnOk result (has_run_out self.new ≡ false) }
         ensures timers { OnOk result (
-            length self.old.timers + length (timers_of acts.new.items) < 2 ^ 32
+            length self.old.timers + length (timers_of self.old.single.link acts.new.items)
+            < 2 ^ 32
+            ) }
+        ensures sources { OnOk result (
+            length self.old.sources
+            + length (sources_of self.old.single.link (length self.old.sources) acts.new.items)
+            < 2 ^ 32
             ) }
         ensures spent { IsErrOf result ConnectionError.Spent
             → has_run_out (next_turn self.old event.now).core ≡ true }
@@ -385,7 +409,9 @@ impl Core {
             Ok(()) => {}
             Err(error) => return Err(error),
         }
-        note_timers(acts.as_slice(), &mut self.timers)?;
+        let link = self.single.link;
+        note_timers(link, acts.as_slice(), &mut self.timers)?;
+        note_sources(link, acts.as_slice(), &mut self.sources)?;
         if self.is_spent() {
             return Err(ConnectionError::Spent);
         }
@@ -393,19 +419,19 @@ impl Core {
     }
 }
 
-/// What the timers of acts are for is kept, in order.
-fn note_timers(acts: &[LinkAct], timers: &mut Seq<Purpose>) -> Result<(), AllocError>
-    ensures { OnOk result (timers.new ≡ timers.old ++ timers_of acts.now) }
+/// What the timers of acts of the connection of that link are for is kept, in order.
+fn note_timers(link: u32, acts: &[LinkAct], timers: &mut Seq<Purpose>) -> Result<(), AllocError>
+    ensures { OnOk result (timers.new ≡ timers.old ++ timers_of link acts.now) }
 {
     for act in acts {
-        note_timer(act, timers)?;
+        note_timer(link, act, timers)?;
     }
     Ok(())
 }
 
 /// What the timer of an act is for is kept, if it asks for one.
-fn note_timer(act: &LinkAct, timers: &mut Seq<Purpose>) -> Result<(), AllocError>
-    ensures { OnOk result (timers.new ≡ timers.old ++ timer_of act.now) }
+fn note_timer(link: u32, act: &LinkAct, timers: &mut Seq<Purpose>) -> Result<(), AllocError>
+    ensures { OnOk result (timers.new ≡ timers.old ++ timer_of link act.now) }
 {
     match act {
         LinkAct::Timer { request, ms: _ } => timers.push(Purpose::Response {
@@ -414,6 +440,45 @@ fn note_timer(act: &LinkAct, timers: &mut Seq<Purpose>) -> Result<(), AllocError
                 round: 0,
             },
         }),
+        LinkAct::RenewalTimer { number, ms: _ } => timers.push(Purpose::Renewal {
+            link,
+            number: *number,
+        }),
         _ => Ok(()),
+    }
+}
+
+/// What the sources of acts of the connection of that link are for is kept, in order.
+fn note_sources(link: u32, acts: &[LinkAct], sources: &mut Seq<SourceUse>) -> Result<(), AllocError>
+    ensures { OnOk result (
+        sources.new ≡ sources.old ++ sources_of link (length sources.old) acts.now
+        ) }
+{
+    for act in acts {
+        note_source(link, act, sources)?;
+    }
+    Ok(())
+}
+
+/// What the source of an act is for is kept, if it asks for one: the first is for the setup, and any other for renewals.
+fn note_source(link: u32, act: &LinkAct, sources: &mut Seq<SourceUse>) -> Result<(), AllocError>
+    ensures { OnOk result (
+        sources.new ≡ sources.old ++ source_of link (length sources.old) act.now
+        ) }
+{
+    match act {
+        LinkAct::NeedCreds => sources.push(use_after(link, sources.len())),
+        _ => Ok(()),
+    }
+}
+
+/// What the next source of the connection of that link is for, behind so many.
+fn use_after(link: u32, count: usize) -> SourceUse
+    ensures { result ≡ use_after link count }
+{
+    if count == 0 {
+        SourceUse::Setup { link }
+    } else {
+        SourceUse::Renewal { link }
     }
 }

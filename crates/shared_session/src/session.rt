@@ -1,6 +1,6 @@
 ghost use Rattle.std.specs.Prelude.{◌≡◌, ◌⊎◌, ℕ, ◌<◌, ◌+◌, ◌^◌, ◌↔◌, [], ◌∷◌, ◌++◌, length, take, true};
 ghost use Rattle.std.specs.Prelude.{false, Some, OnOk, OnErr, IfOk, IsErrOf, option_copied};
-ghost use Rattle.shared_session.specs.Turn.{shown_each, timers_of};
+ghost use Rattle.shared_session.specs.Turn.{shown_each, timers_of, sources_of};
 ghost use Rattle.shared_session.specs.Done.{done_each, put_each};
 ghost use Rattle.driver_model.specs.Config.{address, told_info, first_fault};
 ghost use Rattle.shared_session.specs.Replay.{first_link, opening_core, opening_actions, with_room};
@@ -12,7 +12,7 @@ use crate::showing::{Done, show_each};
 use connection_info::{ConnectionInfo, OpenError, RedisConnectionInfo};
 use containers::Seq;
 use driver_model::{Action, Cause, Config, Event, EventKind, Outcome, Purpose};
-use mux_conn::{ConnectionError, LinkAct, MultiplexedConnection, Rest, Spare};
+use mux_conn::{ConnectionError, LinkAct, MultiplexedConnection, Renewal, Rest, Spare};
 use redis_error::ConfigName;
 use std::alloc::{AllocError, Global};
 use std::marker::Model;
@@ -99,12 +99,14 @@ fn opened(alloc: Global, config: &Config, info: RedisConnectionInfo) -> Result<C
     ensures { IfOk result (λ core. (word : ℕ) → core ≡ opening_core config.now word) }
 {
     let timers = opening_timers(alloc, config.connect_timeout())?;
+    let renewal = Renewal::new(alloc, config.wants_credentials(), config.response_timeout());
     Ok(Core {
         turns: 1,
         links: FIRST_LINK + 1,
         shut: false,
         timeout: config.response_timeout(),
         timers,
+        sources: Seq::new(alloc),
         table: Seq::new(alloc),
         single: Single {
             link: FIRST_LINK,
@@ -115,6 +117,7 @@ fn opened(alloc: Global, config: &Config, info: RedisConnectionInfo) -> Result<C
                 config.limit,
                 config.hears_pushes(),
                 info,
+                renewal,
             ),
         },
     })
@@ -423,6 +426,7 @@ impl Session {
         self.failure = Failure::NoMemory;
         let link = self.core.single.link;
         let timers = self.core.timers.len() as u64;
+        let sources = self.core.sources.len() as u64;
         let mut acts = self.acts.take(alloc);
         match self.core.turn(alloc, &event.kind, &mut acts) {
             Ok(()) => {}
@@ -433,7 +437,7 @@ impl Session {
             Err(ConnectionError::NoMemory) => return Err(StepError::NoMemory),
         }
         let mut done = self.done.take(alloc);
-        match show_turn(alloc, link, timers, acts, &mut done, out) {
+        match show_turn(alloc, link, timers, sources, acts, &mut done, out) {
             Ok(acts) => self.acts.give(acts),
             Err(_) => return Err(StepError::NoMemory),
         }
@@ -472,26 +476,28 @@ fn show_line(
     Ok(())
 }
 
-/// The effects of a turn are shown, where so many timers were asked for before it, and its outcomes kept. The answer is the
-/// list of its acts, emptied. After an error `out` is as it was.
+/// The effects of a turn are shown, where so many timers, and so many sources of credentials, were asked for before it, and its
+/// outcomes kept. The answer is the list of its acts, emptied. After an error `out` is as it was.
 fn show_turn(
     alloc: Global,
     link: u32,
     timers: u64,
+    sources: u64,
     acts: Vec<LinkAct>,
     done: &mut Vec<Done>,
     out: &mut Vec<Action>,
 ) -> Result<Vec<LinkAct>, AllocError>
-    requires { timers + length (timers_of acts.items) < 2 ^ 32 }
+    requires timers { timers + length (timers_of link acts.items) < 2 ^ 32 }
+    requires sources { sources + length (sources_of link sources acts.items) < 2 ^ 32 }
     ensures actions { OnOk result (
-        out.new.items ≡ out.old.items ++ shown_each link timers acts.items
+        out.new.items ≡ out.old.items ++ shown_each link timers sources acts.items
         ) }
     ensures done { OnOk result (done.new.items ≡ done.old.items ++ done_each acts.items) }
     ensures emptied { IfOk result (λ list. list.items ≡ []) }
     ensures err { OnErr result (out.new.items ≡ out.old.items) }
 {
     let before = out.len();
-    match show_each(alloc, link, timers, acts, done, out) {
+    match show_each(alloc, link, timers, sources, acts, done, out) {
         Ok(list) => Ok(list),
         Err(error) => {
             out.truncate(before);

@@ -1,5 +1,6 @@
-ghost use Rattle.std.specs.Prelude.{◌≡◌, ◌<◌, ◌≤◌, ◌+◌, ◌^◌, ◌++◌, ◌∷◌, [], length, take, IfOk, OnOk, OnErr};
+ghost use Rattle.std.specs.Prelude.{ℕ, ◌≡◌, ◌<◌, ◌≤◌, ◌+◌, ◌^◌, ◌++◌, ◌∷◌, [], length, take, IfOk, OnOk, OnErr};
 ghost use Rattle.shared_session.specs.Turn.{shown, shown_each, timer_of, timers_of};
+ghost use Rattle.shared_session.specs.Turn.{source_of, sources_of};
 ghost use Rattle.shared_session.specs.Done.{done_by, done_each};
 
 use driver_model::{Action, Outcome, Owner, Purpose};
@@ -23,10 +24,46 @@ fn try_of(submission: u32) -> Owner
     }
 }
 
-/// What an act of the connection of that link shows, where so many timers were asked for before.
-fn action_of(link: u32, timer: u64, act: LinkAct) -> Action
-    requires { timer + length (timer_of act) < 2 ^ 32 }
-    ensures { result ≡ shown link timer act }
+/// A timer for one try of a submission.
+fn response_of(submission: u32) -> Purpose
+    ensures { result ≡ Purpose.Response (Owner.Try submission 0) }
+{
+    Purpose::Response {
+        owner: try_of(submission),
+    }
+}
+
+/// A timer is asked for, of that number.
+fn timer_asked(timer: u64, ms: u64, purpose: Purpose) -> Action
+    requires { timer < 2 ^ 32 }
+    ensures { result ≡ Action.Timer timer ms purpose }
+{
+    Action::Timer {
+        timer: timer as u32,
+        ms,
+        purpose,
+    }
+}
+
+/// A message of the link starts.
+fn started(link: u32, message: u32, owner: Owner, need: u64, len: u64) -> Action
+    ensures { result ≡ Action.Start link message owner need len }
+{
+    Action::Start {
+        link,
+        message,
+        owner,
+        need,
+        len,
+    }
+}
+
+/// What an act of the connection of that link shows, where so many timers, and so many sources of credentials, were asked for
+/// before.
+fn action_of(link: u32, timer: u64, source: u64, act: LinkAct) -> Action
+    requires timer { timer + length (timer_of link act) < 2 ^ 32 }
+    requires source { source + length (source_of link source act) < 2 ^ 32 }
+    ensures { result ≡ shown link timer source act }
 {
     match act {
         LinkAct::Created { error } => Action::Created { error },
@@ -35,12 +72,13 @@ fn action_of(link: u32, timer: u64, act: LinkAct) -> Action
             link,
             count,
         },
-        LinkAct::Timer { request, ms } => Action::Timer {
-            timer: timer as u32,
-            ms,
-            purpose: Purpose::Response {
-                owner: try_of(request),
-            },
+        LinkAct::Timer { request, ms } => timer_asked(timer, ms, response_of(request)),
+        LinkAct::RenewalTimer { number, ms } => {
+            timer_asked(timer, ms, Purpose::Renewal { link, number })
+        }
+        LinkAct::NeedCreds => Action::NeedCreds {
+            source: source as u32,
+            link,
         },
         LinkAct::Push { info } => Action::Push { link, info },
         LinkAct::Close => Action::Close { link },
@@ -54,20 +92,9 @@ fn action_of(link: u32, timer: u64, act: LinkAct) -> Action
             request,
             need,
             len,
-        } => Action::Start {
-            link,
-            message,
-            owner: try_of(request),
-            need,
-            len,
-        },
-        LinkAct::SetUp { message, need, len } => Action::Start {
-            link,
-            message,
-            owner: Owner::Setup,
-            need,
-            len,
-        },
+        } => started(link, message, try_of(request), need, len),
+        LinkAct::SetUp { message, need, len } => started(link, message, Owner::Setup, need, len),
+        LinkAct::Renewed { message, need, len } => started(link, message, Owner::Auth, need, len),
         LinkAct::Outcome { request, outcome } => Action::Outcome {
             submission: request,
             outcome,
@@ -77,10 +104,21 @@ fn action_of(link: u32, timer: u64, act: LinkAct) -> Action
 
 /// How many timers an act asks for.
 fn timers_in(act: &LinkAct) -> u64
-    ensures { result ≡ length (timer_of act.now) }
+    ensures { (link : ℕ) → result ≡ length (timer_of link act.now) }
 {
     match act {
         LinkAct::Timer { request: _, ms: _ } => 1,
+        LinkAct::RenewalTimer { number: _, ms: _ } => 1,
+        _ => 0,
+    }
+}
+
+/// How many sources of credentials an act asks for.
+fn sources_in(act: &LinkAct) -> u64
+    ensures { (link n : ℕ) → result ≡ length (source_of link n act.now) }
+{
+    match act {
+        LinkAct::NeedCreds => 1,
         _ => 0,
     }
 }
@@ -102,31 +140,36 @@ fn note_done(alloc: Global, act: &LinkAct, done: &mut Vec<Done>) -> Result<(), A
     }
 }
 
-/// The acts of a turn are shown, where so many timers were asked for before it, and their outcomes kept. The answer is the
-/// list of the acts, emptied. After an error `out` begins with what it held.
+/// The acts of a turn are shown, where so many timers, and so many sources of credentials, were asked for before it, and their
+/// outcomes kept. The answer is the list of the acts, emptied. After an error `out` begins with what it held.
 pub fn show_each(
     alloc: Global,
     link: u32,
     timers: u64,
+    sources: u64,
     acts: Vec<LinkAct>,
     done: &mut Vec<Done>,
     out: &mut Vec<Action>,
 ) -> Result<Vec<LinkAct>, AllocError>
-    requires { timers + length (timers_of acts.items) < 2 ^ 32 }
+    requires timers { timers + length (timers_of link acts.items) < 2 ^ 32 }
+    requires sources { sources + length (sources_of link sources acts.items) < 2 ^ 32 }
     ensures actions { OnOk result (
-        out.new.items ≡ out.old.items ++ shown_each link timers acts.items
+        out.new.items ≡ out.old.items ++ shown_each link timers sources acts.items
         ) }
     ensures done { OnOk result (done.new.items ≡ done.old.items ++ done_each acts.items) }
     ensures emptied { IfOk result (λ list. list.items ≡ []) }
     ensures err { OnErr result (take (length out.old.items) out.new.items ≡ out.old.items) }
 {
     let mut timer = timers;
+    let mut source = sources;
     let mut rest = Rest::of(acts);
     while let Some(act) = rest.pop_front() {
         note_done(alloc, &act, done)?;
-        let more = timers_in(&act);
-        out.push(action_of(link, timer, act))?;
-        timer += more;
+        let more_timers = timers_in(&act);
+        let more_sources = sources_in(&act);
+        out.push(action_of(link, timer, source, act))?;
+        timer += more_timers;
+        source += more_sources;
     }
     Ok(rest.into_list())
 }

@@ -21,7 +21,7 @@ use Rattle.script_text.specs.Draws.{drawn}
 use Rattle.script_text.specs.EventLine.{by_first, commands, calls, submissions, faults, fault_among, failed, others, events, drawing, event_of}
 use Rattle.script_text.specs.Words.{LineWords, all_of}
 use Rattle.legal_trace.specs.Legal.{event_causes}
-use Rattle.trace_text.specs.Show.{url, draw_words, connect_words, response_words, buffer_words, limit_words, boundary_words, push_words, lib_words, switch_words, times_words, numbers_words, later_words, config_words, time_word, first_of, behind_first, submission_words, submission_more, event_words, event_more}
+use Rattle.trace_text.specs.Show.{url, draw_words, connect_words, response_words, buffer_words, limit_words, boundary_words, push_words, creds_words, lib_words, switch_words, times_words, numbers_words, later_words, config_words, time_word, first_of, behind_first, submission_words, submission_more, event_words, event_more}
 use Rattle.containers.proofs.Choices.{chosen, eq_from}
 use Rattle.text_laws.specs.Fits.{FitsSubmission, FitsKind, FitsEvent, FitsLimit, FitsNumber, FitsConfig, FitsHistory, HasForm, HaveForms}
 use Rattle.text_laws.specs.History.{script_with, history_in}
@@ -98,6 +98,9 @@ kind_back (event.Ended link) fits form = ap (option_map event.Ended) (small_numb
 kind_back (event.ReadFault link kind) fits form = failed_back event.ReadFault link kind fits
 kind_back (event.WriteFault link kind) fits form = failed_back event.WriteFault link kind fits
 kind_back (event.Fired timer) fits form = ap (option_map event.Fired) (small_number timer fits)
+kind_back (event.Creds source auth) fits form = ap (option_map (λ c. event.Creds c auth)) (small_number source fits.0)
+kind_back (event.CredsError source text) fits form = ap (option_map (λ c. event.CredsError c text)) (small_number source fits.0)
+kind_back (event.CredsEnd source) fits form = ap (option_map event.CredsEnd) (small_number source fits)
 kind_back (event.Timeout ms) fits form = ap (option_map event.Timeout) (time_word_back ms fits)
 kind_back event.Shutdown fits form = refl
 
@@ -116,6 +119,9 @@ kind_undrawn (event.Ended link) = refl
 kind_undrawn (event.ReadFault link kind) = refl
 kind_undrawn (event.WriteFault link kind) = refl
 kind_undrawn (event.Fired timer) = refl
+kind_undrawn (event.Creds source auth) = refl
+kind_undrawn (event.CredsError source text) = refl
+kind_undrawn (event.CredsEnd source) = refl
 kind_undrawn (event.Timeout ms) = refl
 kind_undrawn event.Shutdown = refl
 
@@ -207,6 +213,7 @@ record Found : Type 0 where
   buffer : List (List ℕ)
   boundary : List (List ℕ)
   push : List (List ℕ)
+  creds : List (List ℕ)
   lib : List (List ℕ)
 
 abbrev found_in : List (List ℕ) → Found
@@ -219,6 +226,7 @@ found_in words = record {
   buffer = values (codes "buffer") words;
   boundary = values (codes "boundary") words;
   push = values (codes "push") words;
+  creds = values (codes "creds") words;
   lib = values (codes "lib") words;
 }
 
@@ -240,6 +248,9 @@ with_boundary boundary f = record f { boundary = numbers_in boundary ++ f.bounda
 
 abbrev with_push : Option Bool → Found → Found
 with_push push f = record f { push = switches_in push ++ f.push }
+
+abbrev with_creds : Option Bool → Found → Found
+with_creds creds f = record f { creds = switches_in creds ++ f.creds }
 
 abbrev with_lib : Option Bool → Found → Found
 with_lib lib f = record f { lib = switches_in lib ++ f.lib }
@@ -271,15 +282,30 @@ push_found None words = refl
 push_found (Some true) words = refl
 push_found (Some false) words = refl
 
+creds_found : (creds : Option Bool) (words : List (List ℕ)) → found_in (creds_words creds ++ words) ≡ with_creds creds (found_in words)
+creds_found None words = refl
+creds_found (Some true) words = refl
+creds_found (Some false) words = refl
+
 -- nothing is behind it
 lib_found : (lib : Option Bool) → found_in (lib_words lib) ≡ with_lib lib (found_in [])
 lib_found None = refl
 lib_found (Some true) = refl
 lib_found (Some false) = refl
 
+-- what is found in the words of what is on or off
+abbrev switches_of : Config → Found
+switches_of c = with_push c.push (with_creds c.creds (with_lib c.lib (found_in [])))
+
+switches_found : (c : Config) → found_in (switch_words c) ≡ switches_of c
+switches_found c =
+    ap found_in (append_assoc (push_words c.push) (creds_words c.creds) (lib_words c.lib))
+    ∙ push_found c.push (creds_words c.creds ++ lib_words c.lib)
+    ∙ ap (with_push c.push) (creds_found c.creds (lib_words c.lib) ∙ ap (with_creds c.creds) (lib_found c.lib))
+
 -- what is found in the words behind the address
 abbrev found_of : Config → Found
-found_of c = with_connect c.connect (with_response c.response (with_buffer c.buffer (with_limit c.limit (with_boundary c.boundary (with_push c.push (with_lib c.lib (found_in [])))))))
+found_of c = with_connect c.connect (with_response c.response (with_buffer c.buffer (with_limit c.limit (with_boundary c.boundary (switches_of c)))))
 
 -- the words behind the address, in a row
 abbrev in_a_row : Config → List (List ℕ)
@@ -299,7 +325,7 @@ row_found c =
     (limit_found c.limit bound
     ∙ ap (with_limit c.limit)
     (boundary_found c.boundary (switch_words c)
-    ∙ ap (with_boundary c.boundary) (push_found c.push (lib_words c.lib) ∙ ap (with_push c.push) (lib_found c.lib))))))
+    ∙ ap (with_boundary c.boundary) (switches_found c)))))
 
 later_row : (c : Config) → later_words c ≡ in_a_row c
 later_row c =
@@ -310,15 +336,15 @@ later_row c =
     ∙ append_assoc (buffer_words c.buffer) (limit_words c.limit) (boundary_words c.boundary ++ switch_words c))
 
 -- a configuration by what is read of its settings
-abbrev config_by : List ℕ → Setting (Option ℕ) → Setting (Option ℕ) → Setting ℕ → Setting ℕ → Setting ℕ → Setting Bool → Setting Bool → Option Config
-config_by address connect response limit buffer boundary push lib =
-    if ((connect.allowed && response.allowed) && (limit.allowed && (buffer.allowed && boundary.allowed))) && (push.allowed && lib.allowed)
-    then Some (record { url = address; connect = connect.read; response = response.read; limit = limit.read; buffer = buffer.read; boundary = boundary.read; push = push.read; lib = lib.read }) else None
+abbrev config_by : List ℕ → Setting (Option ℕ) → Setting (Option ℕ) → Setting ℕ → Setting ℕ → Setting ℕ → Setting Bool → Setting Bool → Setting Bool → Option Config
+config_by address connect response limit buffer boundary push creds lib =
+    if ((connect.allowed && response.allowed) && (limit.allowed && (buffer.allowed && boundary.allowed))) && (push.allowed && (creds.allowed && lib.allowed))
+    then Some (record { url = address; connect = connect.read; response = response.read; limit = limit.read; buffer = buffer.read; boundary = boundary.read; push = push.read; creds = creds.read; lib = lib.read }) else None
 
 -- a configuration by what is found in the words behind its address
 abbrev config_found : List ℕ → Found → Option Config
 config_found address f =
-    if f.are && (((allows time_limit f.connect && allows time_limit f.response) && (allows (number max_u32) f.limit && (allows (number max_u32) f.buffer && allows (number max_u64) f.boundary))) && (allows switch f.push && allows switch f.lib))
+    if f.are && (((allows time_limit f.connect && allows time_limit f.response) && (allows (number max_u32) f.limit && (allows (number max_u32) f.buffer && allows (number max_u64) f.boundary))) && (allows switch f.push && (allows switch f.creds && allows switch f.lib)))
     then option_map (λ text. record {
       url = text;
       connect = given time_limit f.connect;
@@ -327,6 +353,7 @@ config_found address f =
       buffer = given (number max_u32) f.buffer;
       boundary = given (number max_u64) f.boundary;
       push = given switch f.push;
+      creds = given switch f.creds;
       lib = given switch f.lib;
     }) (only (address ∷ f.url)) else None
 
@@ -334,13 +361,14 @@ config_back : (c : Config) → FitsConfig c → config_of (record { words = conf
 unfolding url config_of
 config_back c fits =
     ap (config_found c.url) (ap found_in (later_row c) ∙ row_found c)
-    ∙ ap (λ s. config_by c.url s (time_given c.response) (small_given c.limit) (small_given c.buffer) (long_given c.boundary) (switch_given c.push) (switch_given c.lib)) (limit_back c.connect fits.connect)
-    ∙ ap (λ s. config_by c.url (as_given c.connect) s (small_given c.limit) (small_given c.buffer) (long_given c.boundary) (switch_given c.push) (switch_given c.lib)) (limit_back c.response fits.response)
-    ∙ ap (λ s. config_by c.url (as_given c.connect) (as_given c.response) s (small_given c.buffer) (long_given c.boundary) (switch_given c.push) (switch_given c.lib)) (small_back c.limit fits.limit)
-    ∙ ap (λ s. config_by c.url (as_given c.connect) (as_given c.response) (as_given c.limit) s (long_given c.boundary) (switch_given c.push) (switch_given c.lib)) (small_back c.buffer fits.buffer)
-    ∙ ap (λ s. config_by c.url (as_given c.connect) (as_given c.response) (as_given c.limit) (as_given c.buffer) s (switch_given c.push) (switch_given c.lib)) (long_back c.boundary fits.boundary)
-    ∙ ap (λ s. config_by c.url (as_given c.connect) (as_given c.response) (as_given c.limit) (as_given c.buffer) (as_given c.boundary) s (switch_given c.lib)) (switch_back c.push)
-    ∙ ap (λ s. config_by c.url (as_given c.connect) (as_given c.response) (as_given c.limit) (as_given c.buffer) (as_given c.boundary) (as_given c.push) s) (switch_back c.lib)
+    ∙ ap (λ s. config_by c.url s (time_given c.response) (small_given c.limit) (small_given c.buffer) (long_given c.boundary) (switch_given c.push) (switch_given c.creds) (switch_given c.lib)) (limit_back c.connect fits.connect)
+    ∙ ap (λ s. config_by c.url (as_given c.connect) s (small_given c.limit) (small_given c.buffer) (long_given c.boundary) (switch_given c.push) (switch_given c.creds) (switch_given c.lib)) (limit_back c.response fits.response)
+    ∙ ap (λ s. config_by c.url (as_given c.connect) (as_given c.response) s (small_given c.buffer) (long_given c.boundary) (switch_given c.push) (switch_given c.creds) (switch_given c.lib)) (small_back c.limit fits.limit)
+    ∙ ap (λ s. config_by c.url (as_given c.connect) (as_given c.response) (as_given c.limit) s (long_given c.boundary) (switch_given c.push) (switch_given c.creds) (switch_given c.lib)) (small_back c.buffer fits.buffer)
+    ∙ ap (λ s. config_by c.url (as_given c.connect) (as_given c.response) (as_given c.limit) (as_given c.buffer) s (switch_given c.push) (switch_given c.creds) (switch_given c.lib)) (long_back c.boundary fits.boundary)
+    ∙ ap (λ s. config_by c.url (as_given c.connect) (as_given c.response) (as_given c.limit) (as_given c.buffer) (as_given c.boundary) s (switch_given c.creds) (switch_given c.lib)) (switch_back c.push)
+    ∙ ap (λ s. config_by c.url (as_given c.connect) (as_given c.response) (as_given c.limit) (as_given c.buffer) (as_given c.boundary) (as_given c.push) s (switch_given c.lib)) (switch_back c.creds)
+    ∙ ap (λ s. config_by c.url (as_given c.connect) (as_given c.response) (as_given c.limit) (as_given c.buffer) (as_given c.boundary) (as_given c.push) (as_given c.creds) s) (switch_back c.lib)
 
 config_undrawn : (config : Config) → IsUndrawn (config_words config)
 config_undrawn config = refl

@@ -22,7 +22,7 @@ use Rattle.redis_error.specs.declared.fault_kind.FaultKind.{FaultKind}
 use Rattle.redis_error.specs.declared.fault_kind.FaultKind.TheVariants as fault
 use Rattle.redis_error.specs.Names.{fault_name}
 use Rattle.script_text.specs.Numbers.{is_decimal, number}
-use Rattle.trace_text.specs.Show.{url, connect_words, response_words, buffer_words, limit_words, boundary_words, lib_words, times_words, numbers_words, later_words, time_word, draw_words, config_words, first_of, behind_first, call_word, submission_words, submission_more, event_words, event_more, cause_words, cause_more, push_words, switch_words}
+use Rattle.trace_text.specs.Show.{url, connect_words, response_words, buffer_words, limit_words, boundary_words, lib_words, times_words, numbers_words, later_words, time_word, draw_words, config_words, first_of, behind_first, call_word, submission_words, submission_more, event_words, event_more, cause_words, cause_more, push_words, creds_words, switch_words}
 use Rattle.containers.proofs.Choices.{chosen, lt_from, not_lt_from, le_test, ne_test}
 use Rattle.text_laws.specs.Fits.{IsByte, AreBytes, FitsSubmission, FitsKind, FitsEvent, FitsConfig}
 
@@ -163,6 +163,12 @@ kind_bytes (event.Ended link) fits = one_number (codes "ended") link (looked (co
 kind_bytes (event.ReadFault link kind) fits = failed_bytes (codes "read-fault") link kind (looked (codes "read-fault") refl)
 kind_bytes (event.WriteFault link kind) fits = failed_bytes (codes "write-fault") link kind (looked (codes "write-fault") refl)
 kind_bytes (event.Fired timer) fits = one_number (codes "fired") timer (looked (codes "fired") refl)
+kind_bytes (event.Creds source auth) fits =
+    word_and (codes "creds") (decimal source ∷ auth.username ∷ auth.password ∷ []) (looked (codes "creds") refl)
+    (word_and (decimal source) (auth.username ∷ auth.password ∷ []) (decimal_bytes source) (word_and auth.username (auth.password ∷ []) fits.1 (word_and auth.password [] fits.2 no_words)))
+kind_bytes (event.CredsError source text) fits =
+    word_and (codes "creds-err") (decimal source ∷ text ∷ []) (looked (codes "creds-err") refl) (word_and (decimal source) (text ∷ []) (decimal_bytes source) (word_and text [] fits.1 no_words))
+kind_bytes (event.CredsEnd source) fits = one_number (codes "creds-end") source (looked (codes "creds-end") refl)
 kind_bytes (event.Timeout ms) fits = word_and (codes "timeout") (time_word ms ∷ []) (looked (codes "timeout") refl) (word_and (time_word ms) [] (time_bytes ms) no_words)
 kind_bytes event.Shutdown fits = word_and (codes "shutdown") [] (looked (codes "shutdown") refl) no_words
 
@@ -177,6 +183,9 @@ kind_more_bytes (event.Ended link) fits = All-nil (All AreBytes)
 kind_more_bytes (event.ReadFault link kind) fits = All-nil (All AreBytes)
 kind_more_bytes (event.WriteFault link kind) fits = All-nil (All AreBytes)
 kind_more_bytes (event.Fired timer) fits = All-nil (All AreBytes)
+kind_more_bytes (event.Creds source auth) fits = All-nil (All AreBytes)
+kind_more_bytes (event.CredsError source text) fits = All-nil (All AreBytes)
+kind_more_bytes (event.CredsEnd source) fits = All-nil (All AreBytes)
 kind_more_bytes (event.Timeout ms) fits = All-nil (All AreBytes)
 kind_more_bytes event.Shutdown fits = All-nil (All AreBytes)
 
@@ -218,6 +227,11 @@ push_bytes None = no_words
 push_bytes (Some true) = word_and (codes "push=on") [] (looked (codes "push=on") refl) no_words
 push_bytes (Some false) = word_and (codes "push=off") [] (looked (codes "push=off") refl) no_words
 
+creds_bytes : (creds : Option Bool) → All AreBytes (creds_words creds)
+creds_bytes None = no_words
+creds_bytes (Some true) = word_and (codes "creds=on") [] (looked (codes "creds=on") refl) no_words
+creds_bytes (Some false) = word_and (codes "creds=off") [] (looked (codes "creds=off") refl) no_words
+
 lib_bytes : (lib : Option Bool) → All AreBytes (lib_words lib)
 lib_bytes None = no_words
 lib_bytes (Some true) = word_and (codes "lib=on") [] (looked (codes "lib=on") refl) no_words
@@ -232,7 +246,9 @@ numbers_bytes config =
     (All-append AreBytes (buffer_words config.buffer) (limit_words config.limit) (buffer_bytes config.buffer) (limit_bytes config.limit)) (boundary_bytes config.boundary)
 
 switch_bytes : (config : Config) → All AreBytes (switch_words config)
-switch_bytes config = All-append AreBytes (push_words config.push) (lib_words config.lib) (push_bytes config.push) (lib_bytes config.lib)
+switch_bytes config =
+    All-append AreBytes (push_words config.push ++ creds_words config.creds) (lib_words config.lib)
+    (All-append AreBytes (push_words config.push) (creds_words config.creds) (push_bytes config.push) (creds_bytes config.creds)) (lib_bytes config.lib)
 
 later_bytes : (config : Config) → All AreBytes (later_words config)
 later_bytes config =

@@ -52,6 +52,9 @@ goes_on_alone (event.Ended link) = refl
 goes_on_alone (event.ReadFault link kind) = refl
 goes_on_alone (event.WriteFault link kind) = refl
 goes_on_alone (event.Fired timer) = refl
+goes_on_alone (event.Creds source auth) = refl
+goes_on_alone (event.CredsError source text) = refl
+goes_on_alone (event.CredsEnd source) = refl
 goes_on_alone (event.Timeout ms) = refl
 goes_on_alone event.Shutdown = refl
 
@@ -67,6 +70,9 @@ goes_on_behind word (event.Ended link) = refl
 goes_on_behind word (event.ReadFault link kind) = refl
 goes_on_behind word (event.WriteFault link kind) = refl
 goes_on_behind word (event.Fired timer) = refl
+goes_on_behind word (event.Creds source auth) = refl
+goes_on_behind word (event.CredsError source text) = refl
+goes_on_behind word (event.CredsEnd source) = refl
 goes_on_behind word (event.Timeout ms) = refl
 goes_on_behind word event.Shutdown = refl
 

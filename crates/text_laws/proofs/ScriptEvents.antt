@@ -3,7 +3,7 @@ use Rattle.std.proofs.Common.{◌≡◌, ℕ, ◌<◌, ◌≤◌, ◌^◌, false
 use Rattle.std.proofs.lemmas.List.Elements.{All-cons, All-head, All-tail}
 use Rattle.driver_model.specs.declared.event.Event.{Event}
 use Rattle.driver_model.specs.declared.event.EventKind.{EventKind}
-use Rattle.driver_model.specs.declared.event.EventKind.TheVariants.{Submit, Cancel, Connected, Refused, Wrote, Bytes, Ended, ReadFault, WriteFault, Fired, Timeout, Shutdown}
+use Rattle.driver_model.specs.declared.event.EventKind.TheVariants.{Submit, Cancel, Connected, Refused, Wrote, Bytes, Ended, ReadFault, WriteFault, Fired, Creds, CredsError, CredsEnd, Timeout, Shutdown}
 use Rattle.driver_model.specs.declared.event.Submission.{Submission}
 use Rattle.driver_model.specs.declared.event.Submission.TheVariants.{Packed}
 use Rattle.driver_model.specs.Request.{is_single_nameless, has_no_form}
@@ -11,7 +11,7 @@ use Rattle.redis_error.specs.declared.fault_kind.FaultKind.{FaultKind}
 use Rattle.script_text.specs.Numbers.{number, max_u32, max_u64, time_limit}
 use Rattle.script_text.specs.Words.{LineWords}
 use Rattle.script_text.specs.Draws.{is_draw, drawn}
-use Rattle.script_text.specs.EventLine.{Forms, by_first, whole, numbered, wrote, came, timed, alone, faults, fault_among, failed, commands, packed, calls, submissions, others, events, drawing, event_of}
+use Rattle.script_text.specs.EventLine.{Forms, by_first, whole, numbered, wrote, came, authorized, denied, timed, alone, faults, fault_among, failed, commands, packed, calls, submissions, others, events, drawing, event_of}
 use Rattle.containers.proofs.Choices.{chosen}
 use Rattle.text_laws.specs.Fits.{AreBytes, FitsCommands, FitsSubmission, FitsNumber, FitsLimit, FitsKind, FitsEvent, HasForm}
 use Rattle.text_laws.proofs.Held.{mapped, then_read, any_read, number_within}
@@ -93,6 +93,23 @@ came_fits (link ∷ piece ∷ []) small =
     mapped (λ l. l ≤ max_u32) SaidKind (λ l. Bytes l piece) (λ l within. ((omega arith, All-head AreBytes piece [] (All-tail AreBytes link (piece ∷ []) small)), tt)) (number max_u32 link) (small_number link)
 came_fits (link ∷ piece ∷ next ∷ rest) small = tt
 
+authorized_fits : Reads SaidKind authorized
+authorized_fits [] small = tt
+authorized_fits (source ∷ []) small = tt
+authorized_fits (source ∷ user ∷ []) small = tt
+authorized_fits (source ∷ user ∷ password ∷ []) small =
+    let texts = All-tail AreBytes source (user ∷ password ∷ []) small in
+    mapped (λ c. c ≤ max_u32) SaidKind (λ c. Creds c (record { username = user; password = password }))
+    (λ c within. ((omega arith, All-head AreBytes user (password ∷ []) texts, All-head AreBytes password [] (All-tail AreBytes user (password ∷ []) texts)), tt)) (number max_u32 source) (small_number source)
+authorized_fits (source ∷ user ∷ password ∷ next ∷ rest) small = tt
+
+denied_fits : Reads SaidKind denied
+denied_fits [] small = tt
+denied_fits (source ∷ []) small = tt
+denied_fits (source ∷ text ∷ []) small =
+    mapped (λ c. c ≤ max_u32) SaidKind (λ c. CredsError c text) (λ c within. ((omega arith, All-head AreBytes text [] (All-tail AreBytes source (text ∷ []) small)), tt)) (number max_u32 source) (small_number source)
+denied_fits (source ∷ text ∷ next ∷ rest) small = tt
+
 timed_fits : Reads SaidKind timed
 timed_fits [] small = tt
 timed_fits (value ∷ []) small = mapped (FitsNumber (2 ^ 64)) SaidKind Timeout (λ ms fits. (fits, tt)) (time_limit value) (time_fits value)
@@ -163,7 +180,7 @@ others_fit = (
             plain _ (one_number Ended (λ n l. (l, tt))),
             (
               plain _ (failed_fits ReadFault (λ l kind small. (small, tt))),
-              (plain _ (failed_fits WriteFault (λ l kind small. (small, tt))), (plain _ (one_number Fired (λ n l. (l, tt))), (plain _ timed_fits, (plain _ alone_fits, tt)))),
+              (plain _ (failed_fits WriteFault (λ l kind small. (small, tt))), (plain _ (one_number Fired (λ n l. (l, tt))), (plain _ authorized_fits, (plain _ denied_fits, (plain _ (one_number CredsEnd (λ n l. (l, tt))), (plain _ timed_fits, (plain _ alone_fits, tt))))))),
             ),
           ),
         ),

@@ -26,18 +26,21 @@ use Rattle.text_laws.proofs.Bytes.{FitsCause}
 use Rattle.text_laws.proofs.Turns.{cause_line, turns_told}
 
 -- what a connection shows begins no turn
-no_causes : (l t : ℕ) (acts : List LinkAct) → causes (shown_each l t acts) ≡ []
-no_causes l t [] = refl
-no_causes l t (act.Created error ∷ more) = no_causes l (t + 0) more
-no_causes l t (act.Took n count ∷ more) = no_causes l (t + 0) more
-no_causes l t (act.Timer n ms ∷ more) = no_causes l (t + 1) more
-no_causes l t (act.Close ∷ more) = no_causes l (t + 0) more
-no_causes l t (act.Push info ∷ more) = no_causes l (t + 0) more
-no_causes l t (act.Write bytes ∷ more) = no_causes l (t + 0) more
-no_causes l t (act.Wait n kind ∷ more) = no_causes l (t + 0) more
-no_causes l t (act.SetUp message need len ∷ more) = no_causes l (t + 0) more
-no_causes l t (act.Start message n need len ∷ more) = no_causes l (t + 0) more
-no_causes l t (act.Outcome n o ∷ more) = no_causes l (t + 0) more
+no_causes : (l t c : ℕ) (acts : List LinkAct) → causes (shown_each l t c acts) ≡ []
+no_causes l t c [] = refl
+no_causes l t c (act.Created error ∷ more) = no_causes l (t + 0) (c + 0) more
+no_causes l t c (act.Took n count ∷ more) = no_causes l (t + 0) (c + 0) more
+no_causes l t c (act.Timer n ms ∷ more) = no_causes l (t + 1) (c + 0) more
+no_causes l t c (act.RenewalTimer k ms ∷ more) = no_causes l (t + 1) (c + 0) more
+no_causes l t c (act.NeedCreds ∷ more) = no_causes l (t + 0) (c + 1) more
+no_causes l t c (act.Close ∷ more) = no_causes l (t + 0) (c + 0) more
+no_causes l t c (act.Push info ∷ more) = no_causes l (t + 0) (c + 0) more
+no_causes l t c (act.Write bytes ∷ more) = no_causes l (t + 0) (c + 0) more
+no_causes l t c (act.Wait n kind ∷ more) = no_causes l (t + 0) (c + 0) more
+no_causes l t c (act.SetUp message need len ∷ more) = no_causes l (t + 0) (c + 0) more
+no_causes l t c (act.Renewed message need len ∷ more) = no_causes l (t + 0) (c + 0) more
+no_causes l t c (act.Start message n need len ∷ more) = no_causes l (t + 0) (c + 0) more
+no_causes l t c (act.Outcome n o ∷ more) = no_causes l (t + 0) (c + 0) more
 
 causes_append : (xs ys : List Action) → causes (xs ++ ys) ≡ causes xs ++ causes ys
 causes_append [] ys = refl
@@ -46,6 +49,7 @@ causes_append (action.Connect link host port ∷ xs) ys = causes_append xs ys
 causes_append (action.Timer timer ms what ∷ xs) ys = causes_append xs ys
 causes_append (action.Took owner link count ∷ xs) ys = causes_append xs ys
 causes_append (action.Push link info ∷ xs) ys = causes_append xs ys
+causes_append (action.NeedCreds source link ∷ xs) ys = causes_append xs ys
 causes_append (action.Close link ∷ xs) ys = causes_append xs ys
 causes_append (action.Write link bytes ∷ xs) ys = causes_append xs ys
 causes_append (action.Wait owner kind ∷ xs) ys = causes_append xs ys
@@ -55,7 +59,7 @@ causes_append (action.Outcome s outcome ∷ xs) ys = causes_append xs ys
 
 -- a turn has its own cause alone
 one_cause : (c : Core) (e : Event) → causes (actions_of c e) ≡ cause.Event e ∷ []
-one_cause c e = ap (λ (cs : List Cause). cause.Event e ∷ cs) (no_causes c.single.link (length c.timers) (next_turn c e.kind).acts)
+one_cause c e = ap (λ (cs : List Cause). cause.Event e ∷ cs) (no_causes c.single.link (length c.timers) (length c.sources) (next_turn c e.kind).acts)
 
 causes_on : (c : Core) (es : List Event) → causes (turns_on c es) ≡ event_causes es
 causes_on c [] = refl
@@ -108,6 +112,9 @@ good_form c (event.Ended l) good = tt
 good_form c (event.ReadFault l kind) good = tt
 good_form c (event.WriteFault l kind) good = tt
 good_form c (event.Fired timer) good = tt
+good_form c (event.Creds source auth) good = tt
+good_form c (event.CredsError source text) good = tt
+good_form c (event.CredsEnd source) good = tt
 good_form c (event.Timeout ms) good = tt
 good_form c event.Shutdown good = tt
 

@@ -54,6 +54,7 @@ turns_told (action.Connect link host port ∷ more) fits = untold (codes "connec
 turns_told (action.Timer timer ms what ∷ more) fits = untold (codes "timer") (decimal timer ∷ decimal ms ∷ purpose_words what) (show more) refl ∙ turns_told more fits
 turns_told (action.Took owner link count ∷ more) fits = untold (codes "took") (owner_word owner ∷ decimal link ∷ decimal count ∷ []) (show more) refl ∙ turns_told more fits
 turns_told (action.Push link info ∷ more) fits = untold (codes "push") (decimal link ∷ push_word info ∷ []) (show more) refl ∙ turns_told more fits
+turns_told (action.NeedCreds source link ∷ more) fits = untold (codes "need-creds") (decimal source ∷ decimal link ∷ []) (show more) refl ∙ turns_told more fits
 turns_told (action.Close link ∷ more) fits = untold (codes "close") (decimal link ∷ []) (show more) refl ∙ turns_told more fits
 turns_told (action.Write link bytes ∷ more) fits = untold (codes "write") (decimal link ∷ bytes ∷ []) (show more) refl ∙ turns_told more fits
 turns_told (action.Wait owner kind ∷ more) fits = untold (codes "wait") (owner_word owner ∷ wait_word kind ∷ []) (show more) refl ∙ turns_told more fits

@@ -47,6 +47,9 @@ FitsKind (event.Ended link) = link < 2 ^ 32
 FitsKind (event.ReadFault link kind) = link < 2 ^ 32
 FitsKind (event.WriteFault link kind) = link < 2 ^ 32
 FitsKind (event.Fired timer) = timer < 2 ^ 32
+FitsKind (event.Creds source auth) = (source < 2 ^ 32) × AreBytes auth.username × AreBytes auth.password
+FitsKind (event.CredsError source text) = (source < 2 ^ 32) × AreBytes text
+FitsKind (event.CredsEnd source) = source < 2 ^ 32
 FitsKind (event.Timeout ms) = FitsNumber (2 ^ 64) ms
 FitsKind event.Shutdown = Unit {0}
 
@@ -86,6 +89,9 @@ HasForm (event.Ended link) = Unit {0}
 HasForm (event.ReadFault link kind) = Unit {0}
 HasForm (event.WriteFault link kind) = Unit {0}
 HasForm (event.Fired timer) = Unit {0}
+HasForm (event.Creds source auth) = Unit {0}
+HasForm (event.CredsError source text) = Unit {0}
+HasForm (event.CredsEnd source) = Unit {0}
 HasForm (event.Timeout ms) = Unit {0}
 HasForm event.Shutdown = Unit {0}
 

@@ -125,7 +125,7 @@ const FIRST_LINES: [(&[u8], u32); 29] = [
 ];
 
 /// Settings, each line with the line at fault, or 0.
-const QUEUE_LINES: [(&[u8], u32); 32] = [
+const QUEUE_LINES: [(&[u8], u32); 36] = [
     (b"url=a response=none lib=off buffer=1 boundary=0", 0),
     (
         b"buffer=0 boundary=18446744073709551615 url=a response=none lib=off",
@@ -164,6 +164,10 @@ const QUEUE_LINES: [(&[u8], u32); 32] = [
     (b"url=a lib=On", 1),
     (b"url=a lib=on lib=on", 1),
     (b"lib=on", 1),
+    (b"creds=on lib=off url=a", 0),
+    (b"url=a creds=", 1),
+    (b"url=a creds=yes", 1),
+    (b"url=a creds=on creds=off", 1),
 ];
 
 /// A script of these settings alone.
@@ -199,7 +203,7 @@ fn first_lines(rt: HostRuntime) -> Result<(), Fail> {
 }
 
 /// Texts behind a configuration, each with its line at fault, or 0.
-const LATER_LINES: [(&[u8], u32); 71] = [
+const LATER_LINES: [(&[u8], u32); 86] = [
     (
         b"connected 0\nsubmit cmd GET a\nwrote 0 20\nbytes 0 +x%0D%0A\nend\n",
         0,
@@ -261,6 +265,24 @@ const LATER_LINES: [(&[u8], u32); 71] = [
     (b"submit cmd a%-\nend\n", 2),
     (b"submit\nend\n", 2),
     (b"submit other GET a\nend\n", 2),
+    (
+        b"creds 4294967295 u p\ncreds-err 0 gone\ncreds-end 1\nend\n",
+        0,
+    ),
+    (b"@7 creds 0 %- %-\ncreds-err 0 %-\nend\n", 0),
+    (b"creds 4294967296 u p\nend\n", 2),
+    (b"creds -1 u p\nend\n", 2),
+    (b"creds 0 u\nend\n", 2),
+    (b"creds 0 u p q\nend\n", 2),
+    (b"creds\nend\n", 2),
+    (b"creds 0 u p ; q\nend\n", 2),
+    (b"creds-err 4294967296 gone\nend\n", 2),
+    (b"creds-err 0\nend\n", 2),
+    (b"creds-err 0 it is gone\nend\n", 2),
+    (b"creds-end 01\nend\n", 2),
+    (b"creds-end\nend\n", 2),
+    (b"creds-end 0 gone\nend\n", 2),
+    (b"creds-error 0 gone\nend\n", 2),
     (b"timeout 18446744073709551615\ntimeout none\nend\n", 0),
     (b"timeout 0\nend\n", 0),
     (b"timeout 18446744073709551616\nend\n", 2),
@@ -347,8 +369,47 @@ fn events_as_given(rt: HostRuntime) -> Result<(), Fail> {
     Ok(())
 }
 
+fn are_credentials(event: &Event) -> bool {
+    let EventKind::Creds { source, auth } = &event.kind else {
+        return false;
+    };
+    *source == 3 && auth.username().is_empty() && auth.password() == b" ;".as_slice()
+}
+
+fn is_credentials_error(event: &Event) -> bool {
+    let EventKind::CredsError { source, text } = &event.kind else {
+        return false;
+    };
+    *source == 4 && text.as_slice() == b"no token".as_slice()
+}
+
+fn are_of_sources(events: &[Event]) -> bool {
+    let [creds, error, end] = events else {
+        return false;
+    };
+    are_credentials(creds)
+        && is_credentials_error(error)
+        && matches!(end.kind, EventKind::CredsEnd { source: 5 })
+}
+
+/// Whether what comes of sources is read as it is given.
+fn reads_sources(alloc: Global) -> Result<bool, ScriptError> {
+    let text = behind(
+        alloc,
+        b"creds 3 %- %20%3B\ncreds-err 4 no%20token\ncreds-end 5\nend\n",
+    )?;
+    let script = read_script(alloc, text.as_slice())?;
+    Ok(are_of_sources(script.events.as_slice()))
+}
+
+#[test]
+fn credentials_as_given(rt: HostRuntime) -> Result<(), Fail> {
+    assert!(rt; reads_sources(rt.alloc())?);
+    Ok(())
+}
+
 /// What is configured: the times of a connect and of a reply, the permits, the queue, the boundary, whether somebody hears
-/// pushes, and the library.
+/// pushes, whether credentials come of a source, and the library.
 #[derive(Clone, Copy)]
 struct Given {
     connect: Option<Option<u64>>,
@@ -357,6 +418,7 @@ struct Given {
     buffer: Option<u32>,
     boundary: Option<u64>,
     push: Option<bool>,
+    creds: Option<bool>,
     lib: Option<bool>,
 }
 
@@ -368,6 +430,7 @@ fn settings_of(config: &Config) -> Given {
         buffer: config.buffer,
         boundary: config.boundary,
         push: config.push,
+        creds: config.creds,
         lib: config.lib,
     }
 }
@@ -449,19 +512,31 @@ fn permits_as_given(rt: HostRuntime) -> Result<(), Fail> {
     Ok(())
 }
 
-/// Settings, each line with whether somebody hears pushes, and with whether the server is told which library speaks.
-const SWITCHES: [(&[u8], Option<bool>, Option<bool>); 4] = [
-    (b"url=a", None, None),
-    (b"lib=on url=a limit=1", None, Some(true)),
-    (b"url=a push=on lib=off connect=1", Some(true), Some(false)),
-    (b"push=off url=a", Some(false), None),
+/// A switch, where it is given.
+type Switch = Option<bool>;
+
+/// Settings, each line with whether somebody hears pushes, with whether credentials come of a source, and with whether the
+/// server is told which library speaks.
+const SWITCHES: [(&[u8], Switch, Switch, Switch); 6] = [
+    (b"url=a", None, None, None),
+    (b"lib=on url=a limit=1", None, None, Some(true)),
+    (
+        b"url=a push=on lib=off connect=1",
+        Some(true),
+        None,
+        Some(false),
+    ),
+    (b"push=off url=a", Some(false), None, None),
+    (b"creds=on url=a lib=off", None, Some(true), Some(false)),
+    (b"url=a push=on creds=off", Some(true), Some(false), None),
 ];
 
 #[test]
 fn switches_as_given(rt: HostRuntime) -> Result<(), Fail> {
-    for (settings, push, lib) in SWITCHES {
+    for (settings, push, creds, lib) in SWITCHES {
         let config = read(rt.alloc(), settings)?;
         assert!(rt; config.push == push);
+        assert!(rt; config.creds == creds);
         assert!(rt; config.lib == lib);
     }
     Ok(())

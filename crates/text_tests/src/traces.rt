@@ -1,5 +1,6 @@
 use crate::errors::{Fault, Plain, bytes, error, server};
 use containers::{Bytes, Names, Seq};
+use credentials::BasicAuth;
 use driver_model::{
     Action, Cause, Commands, Config, Event, EventKind, Outcome, Owner, Purpose, PushInfo,
     Submission, WaitKind,
@@ -37,18 +38,22 @@ enum News {
     ReadFault(u32, FaultKind),
     WriteFault(u32, FaultKind),
     Fired(u32),
+    Creds(u32, &'static [u8], &'static [u8]),
+    CredsError(u32, &'static [u8]),
+    CredsEnd(u32),
     Timeout(Option<u64>),
     Shutdown,
 }
 
 /// What is configured: the times of a connect and of a reply, the queue, the permits, the boundary, whether somebody hears
-/// pushes, and the library.
+/// pushes, whether credentials come of a source, and the library.
 type Settings = (
     Option<Option<u64>>,
     Option<Option<u64>>,
     Option<u32>,
     Option<u32>,
     Option<u64>,
+    Option<bool>,
     Option<bool>,
     Option<bool>,
 );
@@ -80,6 +85,7 @@ enum Deed {
     Write(u32, &'static [u8]),
     Push(u32, &'static [u8]),
     Parted(u32),
+    NeedCreds(u32, u32),
     Close(u32),
     Timer(u32, u64, Purpose),
     Wait(Owner, WaitKind),
@@ -87,10 +93,19 @@ enum Deed {
 }
 
 /// What is left out of an opening, but not of the library.
-const BARE: Settings = (None, Some(None), None, None, None, None, Some(false));
+const BARE: Settings = (None, Some(None), None, None, None, None, None, Some(false));
 
 /// What is given of the first openings below.
-const TIMELESS: Settings = (Some(None), Some(None), None, None, None, None, Some(false));
+const TIMELESS: Settings = (
+    Some(None),
+    Some(None),
+    None,
+    None,
+    None,
+    None,
+    None,
+    Some(false),
+);
 
 /// Tries of submissions.
 const FIRST: Owner = Owner::Try {
@@ -132,7 +147,7 @@ const ANSWERED: [(Deed, &str); 10] = [
     ),
 ];
 
-/// Openings: what is given of the times, of the queue of a link, of its permits and of the library; and how they end.
+/// Openings: what is given of the times, of the queue of a link, of its permits, and of what is on or off; and how they end.
 const OPENINGS: [(Deed, &str); 10] = [
     (
         Deed::Opening(u64::MAX, b"redis://%-:0", BARE),
@@ -142,7 +157,7 @@ const OPENINGS: [(Deed, &str); 10] = [
         Deed::Opening(
             0,
             b" ;",
-            (Some(Some(0)), None, None, None, None, None, None),
+            (Some(Some(0)), None, None, None, None, None, None, None),
         ),
         "turn 0 config single url=%20; connect=0\n",
     ),
@@ -158,6 +173,7 @@ const OPENINGS: [(Deed, &str); 10] = [
                 None,
                 Some(false),
                 None,
+                None,
             ),
         ),
         "turn 0 config single url= connect=18446744073709551615 push=off\n",
@@ -166,9 +182,18 @@ const OPENINGS: [(Deed, &str); 10] = [
         Deed::Opening(
             0,
             b"a",
-            (None, None, Some(u32::MAX), Some(u32::MAX), None, None, None),
+            (
+                None,
+                None,
+                Some(u32::MAX),
+                Some(u32::MAX),
+                None,
+                None,
+                Some(false),
+                None,
+            ),
         ),
-        "turn 0 config single url=a buffer=4294967295 limit=4294967295\n",
+        "turn 0 config single url=a buffer=4294967295 limit=4294967295 creds=off\n",
     ),
     (
         Deed::Opening(
@@ -182,9 +207,10 @@ const OPENINGS: [(Deed, &str); 10] = [
                 Some(u64::MAX),
                 Some(true),
                 Some(true),
+                Some(true),
             ),
         ),
-        "turn 0 config single url=a connect=none response=none boundary=18446744073709551615 push=on lib=on\n",
+        "turn 0 config single url=a connect=none response=none boundary=18446744073709551615 push=on creds=on lib=on\n",
     ),
     (
         Deed::Opening(
@@ -196,6 +222,7 @@ const OPENINGS: [(Deed, &str); 10] = [
                 Some(0),
                 Some(1),
                 Some(0),
+                None,
                 None,
                 Some(false),
             ),
@@ -221,7 +248,7 @@ const OPENINGS: [(Deed, &str); 10] = [
 ];
 
 /// Events.
-const EVENTS: [(Deed, &str); 18] = [
+const EVENTS: [(Deed, &str); 21] = [
     (
         Deed::Turn(
             5,
@@ -290,6 +317,15 @@ const EVENTS: [(Deed, &str); 18] = [
         "turn 2 @3 fired 4294967295\n",
     ),
     (
+        Deed::Turn(1, 9, News::Creds(u32::MAX, b"", b"a b")),
+        "turn 1 @9 creds 4294967295 %- a%20b\n",
+    ),
+    (
+        Deed::Turn(2, 0, News::CredsError(0, b"no token")),
+        "turn 2 creds-err 0 no%20token\n",
+    ),
+    (Deed::Turn(3, 0, News::CredsEnd(1)), "turn 3 creds-end 1\n"),
+    (
         Deed::Turn(1, 0, News::Timeout(Some(u64::MAX))),
         "turn 1 timeout 18446744073709551615\n",
     ),
@@ -299,8 +335,8 @@ const EVENTS: [(Deed, &str); 18] = [
     ),
 ];
 
-/// Starts, permits, times, waits, pushes, and how requests end.
-const REQUESTS: [(Deed, &str); 18] = [
+/// Starts, permits, times, waits, pushes, sources, and how requests end.
+const REQUESTS: [(Deed, &str); 22] = [
     (
         Deed::Start(7, Owner::Setup, 3, 4_294_967_296),
         "start 7 0 setup 3 4294967296\n",
@@ -318,6 +354,13 @@ const REQUESTS: [(Deed, &str); 18] = [
     (Deed::Wait(FIRST, WaitKind::Room), "wait s0.0 room\n"),
     (Deed::Wait(FIRST, WaitKind::Permit), "wait s0.0 permit\n"),
     (Deed::Wait(FIRST, WaitKind::Setup), "wait s0.0 setup\n"),
+    (Deed::Wait(FIRST, WaitKind::Creds), "wait s0.0 creds\n"),
+    (Deed::NeedCreds(1, u32::MAX), "need-creds 1 4294967295\n"),
+    (
+        Deed::Timer(4, 500, Purpose::Renewal { link: 7, number: 3 }),
+        "timer 4 500 response auth\n",
+    ),
+    (Deed::Start(7, Owner::Auth, 1, 28), "start 7 0 auth 1 28\n"),
     (
         Deed::Push(u32::MAX, b"a b"),
         "push 4294967295 >3%0D%0A$7%0D%0Amessage%0D%0A$3%0D%0Aa%20b%0D%0A:7%0D%0A\n",
@@ -419,6 +462,23 @@ fn received(alloc: Global, link: u32, piece: &[u8]) -> Result<EventKind, AllocEr
     Ok(EventKind::Bytes { link, piece })
 }
 
+fn creds(
+    alloc: Global,
+    source: u32,
+    username: &[u8],
+    password: &[u8],
+) -> Result<EventKind, AllocError> {
+    let username = bytes(alloc, username)?;
+    let password = bytes(alloc, password)?;
+    let auth = BasicAuth::new(username, password);
+    Ok(EventKind::Creds { source, auth })
+}
+
+fn creds_error(alloc: Global, source: u32, text: &[u8]) -> Result<EventKind, AllocError> {
+    let text = bytes(alloc, text)?;
+    Ok(EventKind::CredsError { source, text })
+}
+
 fn kind(alloc: Global, news: News) -> Result<EventKind, AllocError> {
     match news {
         News::Submit(sent) => submit(alloc, sent),
@@ -431,6 +491,9 @@ fn kind(alloc: Global, news: News) -> Result<EventKind, AllocError> {
         News::ReadFault(link, fault) => Ok(EventKind::ReadFault { link, fault }),
         News::WriteFault(link, fault) => Ok(EventKind::WriteFault { link, fault }),
         News::Fired(timer) => Ok(EventKind::Fired { timer }),
+        News::Creds(source, username, password) => creds(alloc, source, username, password),
+        News::CredsError(source, text) => creds_error(alloc, source, text),
+        News::CredsEnd(source) => Ok(EventKind::CredsEnd { source }),
         News::Timeout(ms) => Ok(EventKind::Timeout { ms }),
         News::Shutdown => Ok(EventKind::Shutdown),
     }
@@ -445,7 +508,7 @@ fn turn(alloc: Global, number: u32, word: u64, news: News) -> Result<Action, All
 
 fn opening(alloc: Global, word: u64, url: &[u8], given: Settings) -> Result<Action, AllocError> {
     let url = bytes(alloc, url)?;
-    let (connect, response, buffer, limit, boundary, push, lib) = given;
+    let (connect, response, buffer, limit, boundary, push, creds, lib) = given;
     let config = Config {
         url,
         connect,
@@ -454,6 +517,7 @@ fn opening(alloc: Global, word: u64, url: &[u8], given: Settings) -> Result<Acti
         buffer,
         boundary,
         push,
+        creds,
         lib,
     };
     let cause = Cause::Opening { config, word };
@@ -537,6 +601,7 @@ fn action(alloc: Global, deed: Deed) -> Result<Action, AllocError> {
         Deed::Write(link, piece) => write(alloc, link, piece),
         Deed::Push(link, text) => push(alloc, link, text),
         Deed::Parted(link) => Ok(parted(alloc, link)),
+        Deed::NeedCreds(source, link) => Ok(Action::NeedCreds { source, link }),
         Deed::Close(link) => Ok(Action::Close { link }),
         Deed::Timer(timer, ms, purpose) => Ok(Action::Timer { timer, ms, purpose }),
         Deed::Wait(owner, wait) => Ok(Action::Wait { owner, wait }),

@@ -51,6 +51,7 @@ below test (suc k) n e l =
 -- two waits of one kind
 abbrev pub same_wait : WaitKind → WaitKind → Bool
 same_wait wait.Connect wait.Connect = true
+same_wait wait.Creds wait.Creds = true
 same_wait wait.Setup wait.Setup = true
 same_wait wait.Permit wait.Permit = true
 same_wait wait.Place wait.Place = true
@@ -60,6 +61,7 @@ same_wait _ _ = false
 -- what this says
 wait_from : (k j : WaitKind) → same_wait k j ≡ true → k ≡ j
 wait_from wait.Connect wait.Connect e = refl
+wait_from wait.Creds wait.Creds e = refl
 wait_from wait.Setup wait.Setup e = refl
 wait_from wait.Permit wait.Permit e = refl
 wait_from wait.Place wait.Place e = refl
@@ -69,6 +71,7 @@ wait_from _ _ e = cc
 -- each is of its own kind
 wait_is_one : (k : WaitKind) → same_wait k k ≡ true
 wait_is_one wait.Connect = refl
+wait_is_one wait.Creds = refl
 wait_is_one wait.Setup = refl
 wait_is_one wait.Permit = refl
 wait_is_one wait.Place = refl

@@ -17,3 +17,4 @@ pub mod Setups
 pub mod Unready
 pub mod Called
 pub mod Pushes
+pub mod Creds

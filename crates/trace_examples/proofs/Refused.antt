@@ -27,7 +27,7 @@ use Rattle.legal_trace.specs.Legal.{Legal}
 use Rattle.legal_trace.proofs.Setups.{silent_is_set, ends_where_set}
 use Rattle.trace_examples.specs.Parts.{turn, command, two_together, reply}
 use Rattle.trace_examples.specs.Traces.{sent, cut_off_alone, started_one, shut_down, answered_both, answered_alike, pushed, cut_off, told_first, half_filled, refused, left_alone, shut_in_wait}
-use Rattle.trace_examples.proofs.Stood.{book_of, answer, still_open, other_letter, came_up_silent}
+use Rattle.trace_examples.proofs.Stood.{book_of, answer, still_open, other_letter, came_up_silent, came_up_given}
 
 -- two replies swapped
 pub swapped : (config : Config) (word : ℕ) (events : List Event) (after : List Action)
@@ -95,8 +95,9 @@ pub closed_to_the_oldest : (config : Config) (word : ℕ) (events : List Event) 
 unfolding digits
 closed_to_the_oldest config word events after h =
     let silent = came_up_silent config word events _ h in
+    let given = came_up_given config word events _ h in
     let l = (book_of (cut_off_by config word (command 71) 1 11)).link 0 in
-    let ends : ending l ≡ Some (by_fault (fault.Io Reset)) = ends_where_set l refl (silent_is_set l silent) in
+    let ends : ending l ≡ Some (by_fault (fault.Io Reset)) = ends_where_set l refl (silent_is_set l given silent) in
     other_fault error.Closed (error.Io Reset) (oldest_error (why_of config word (command 71) 1 11) Single) (λ e. cc e) (ap (λ x. oldest_error (ending_or_shutdown x) Single) ends) (answer config word events (cut_off config word (command 71) 1 11) after 0 (outcome.Fault error.Closed) refl h).owes
 
 -- the item of a command whose reply nobody awaits, given to the next message

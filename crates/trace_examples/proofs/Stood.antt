@@ -1,5 +1,5 @@
 -- What the parts of a legal trace say of one action in it.
-use Rattle.std.proofs.Common.{◌≡◌, ℕ, ◌==◌, Bool, true, false, List, [], ◌∷◌, ◌++◌, if◌then◌else◌, Some, None, inl, inr, refl}
+use Rattle.std.proofs.Common.{◌≡◌, ℕ, ◌==◌, Bool, true, false, List, [], ◌∷◌, ◌++◌, ◌&&◌, if◌then◌else◌, Some, None, inl, inr, refl}
 use Rattle.containers.proofs.Choices.{ne_from, not_both}
 use Rattle.connection_setup.specs.Setup.{setup}
 use Rattle.connection_setup.specs.declared.judgement.SetupResult.TheVariants as result
@@ -8,7 +8,7 @@ use Rattle.driver_model.specs.declared.action.Action.TheVariants as action
 use Rattle.driver_model.specs.declared.action.Owner.TheVariants as owner
 use Rattle.driver_model.specs.declared.action.WaitKind.TheVariants as wait
 use Rattle.driver_model.specs.declared.config.Config.{Config}
-use Rattle.driver_model.specs.Config.{told_info}
+use Rattle.driver_model.specs.Config.{told_info, wants_credentials}
 use Rattle.driver_model.specs.Setup.{says_nothing}
 use Rattle.driver_model.specs.declared.event.Event.{Event}
 use Rattle.driver_model.specs.declared.event.EventKind.TheVariants as event
@@ -20,6 +20,7 @@ use Rattle.legal_trace.specs.Book.{Book, blank_book, entered_each}
 use Rattle.legal_trace.specs.Legal.{IsOpen, MayAnswer, MayStand, Legal}
 use Rattle.legal_trace.proofs.Books.{stand_behind}
 use Rattle.legal_trace.proofs.Moves.{tells_mean, ready_is_up, ready_is_set}
+use Rattle.legal_trace.proofs.Setups.{set_is_given, set_is_said}
 use Rattle.trace_examples.specs.Parts.{turn, command, reply}
 use Rattle.trace_examples.specs.Traces.{opening, came_up, in_wait, both_in_wait}
 use Rattle.trace_examples.proofs.Bounded.{IsBounded, blank_bounded, bounded_behind}
@@ -80,16 +81,44 @@ silent_from false e = cc e
 abbrev pub IsSilent : Config → Type 0
 IsSilent config = says_nothing (setup (told_info config) (0 == 0)) ≡ true
 
--- where the link is created once it is up, it is so
+-- and no credentials are to come
+abbrev pub IsGiven : Config → Type 0
+IsGiven config = (wants_credentials config && true) ≡ false
+
+-- a link that came up, and of which nothing else was told
+abbrev unsaid : Config → ℕ → List Action
+unsaid config word = opening config word ++ turn 1 (event.Connected 0) ∷ []
+
+-- where the link is created once it is up, its link is set up
+created_set : (config : Config) (word : ℕ) (events : List Event) (after : List Action) → Legal config word events (came_up config word ++ after) → is_set_up ((book_of (unsaid config word)).link 0) ≡ true
+created_set config word events after h =
+    let front = unsaid config word in
+    ready_is_set ((book_of front).link 0) (created_ready config word events front after (bounded_behind blank_book front refl blank_bounded) h)
+
+-- so nothing is to be said
 pub came_up_silent : (config : Config) (word : ℕ) (events : List Event) (after : List Action) → Legal config word events (came_up config word ++ after) → IsSilent config
 came_up_silent config word events after h =
-    let front = opening config word ++ turn 1 (event.Connected 0) ∷ [] in
-    let ready = created_ready config word events front after (bounded_behind blank_book front refl blank_bounded) h in
-    silent_from (says_nothing (setup (told_info config) (0 == 0))) (ready_is_set ((book_of front).link 0) ready)
+    silent_from (says_nothing (setup (told_info config) (0 == 0))) (set_is_said ((book_of (unsaid config word)).link 0) (created_set config word events after h))
 
--- also where two requests wait
+-- and no credentials are to come
+pub came_up_given : (config : Config) (word : ℕ) (events : List Event) (after : List Action) → Legal config word events (came_up config word ++ after) → IsGiven config
+came_up_given config word events after h = set_is_given ((book_of (unsaid config word)).link 0) (created_set config word events after h)
+
+-- the front of the creation where two requests wait
+abbrev both_unsaid : Config → ℕ → Submission → List Action
+both_unsaid config word s = in_wait config word (command 71) ++ turn 2 (event.Submit s) ∷ action.Wait (owner.Try 1 0) wait.Connect ∷ turn 3 (event.Connected 0) ∷ []
+
+-- there it is set up, too
+both_set : (config : Config) (word : ℕ) (events : List Event) (s : Submission) (after : List Action) → Legal config word events (both_in_wait config word s ++ after) → is_set_up ((book_of (both_unsaid config word s)).link 0) ≡ true
+both_set config word events s after h =
+    let front = both_unsaid config word s in
+    ready_is_set ((book_of front).link 0) (created_ready config word events front after (bounded_behind blank_book front refl blank_bounded) h)
+
+-- so nothing is to be said
 pub both_up_silent : (config : Config) (word : ℕ) (events : List Event) (s : Submission) (after : List Action) → Legal config word events (both_in_wait config word s ++ after) → IsSilent config
 both_up_silent config word events s after h =
-    let front = in_wait config word (command 71) ++ turn 2 (event.Submit s) ∷ action.Wait (owner.Try 1 0) wait.Connect ∷ turn 3 (event.Connected 0) ∷ [] in
-    let ready = created_ready config word events front after (bounded_behind blank_book front refl blank_bounded) h in
-    silent_from (says_nothing (setup (told_info config) (0 == 0))) (ready_is_set ((book_of front).link 0) ready)
+    silent_from (says_nothing (setup (told_info config) (0 == 0))) (set_is_said ((book_of (both_unsaid config word s)).link 0) (both_set config word events s after h))
+
+-- and no credentials are to come
+pub both_up_given : (config : Config) (word : ℕ) (events : List Event) (s : Submission) (after : List Action) → Legal config word events (both_in_wait config word s ++ after) → IsGiven config
+both_up_given config word events s after h = set_is_given ((book_of (both_unsaid config word s)).link 0) (both_set config word events s after h)

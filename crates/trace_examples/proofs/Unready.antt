@@ -26,7 +26,7 @@ use Rattle.driver_model.specs.Shape.{need_of}
 use Rattle.legal_trace.specs.Ledger.{failure_in, setup_message}
 use Rattle.legal_trace.specs.Legal.{MayTurn}
 use Rattle.legal_trace.specs.Steps.{waits}
-use Rattle.legal_trace.proofs.Setups.{due_count, set_is_undue, silent_is_set}
+use Rattle.legal_trace.proofs.Setups.{due_count, says_something}
 use Rattle.trace_examples.specs.Fronts.{EachStands}
 use Rattle.trace_examples.specs.Setups.{secured, of_a_user, of_a_held_user, counted_early, password_line, refusal, unsaid, setup_begun, secret_sent, came_during, answered_well, set_up, password_refused, closed_by_refusal, refusal_told, counted_otherwise, said_again, waited_for_both, setup_fronts}
 use Rattle.trace_examples.specs.Claims.{NoneBeginsIn}
@@ -84,8 +84,7 @@ created_unsaid config says word events after h = not_both (says_nothing (setup (
 pub said_where_nothing_is : (config : Config) (k count len : ℕ) → says_nothing (setup (told_info config) true) ≡ true → NoneBeginsIn config unsaid (action.Start 0 k owner.Setup count len)
 said_where_nothing_is config k count len silent word events after h =
     let m = may_stand config word events (unsaid config word) after (action.Start 0 k owner.Setup count len) h in
-    let l = (book_of (unsaid config word)).link 0 in
-    set_is_undue l m.k (silent_is_set l silent) m.due
+    not_both (says_nothing (setup (told_info config) true)) (says_something ((book_of (unsaid config word)).link 0) m.k m.due) silent
 
 -- a creation although the password is refused
 pub created_though_refused : NoneBeginsIn secured password_refused (action.Created None)

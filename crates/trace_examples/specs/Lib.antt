@@ -8,3 +8,4 @@ pub mod Permits
 pub mod Setups
 pub mod Calls
 pub mod Pushes
+pub mod Creds

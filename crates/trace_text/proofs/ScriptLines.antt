@@ -25,6 +25,9 @@ some_words (event.Ended link) = omega arith
 some_words (event.ReadFault link kind) = omega arith
 some_words (event.WriteFault link kind) = omega arith
 some_words (event.Fired timer) = omega arith
+some_words (event.Creds source auth) = omega arith
+some_words (event.CredsError source text) = omega arith
+some_words (event.CredsEnd source) = omega arith
 some_words (event.Timeout ms) = omega arith
 some_words event.Shutdown = omega arith
 

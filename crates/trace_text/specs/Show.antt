@@ -13,7 +13,7 @@ use Rattle.driver_model.specs.declared.event.Submission.TheVariants as submissio
 use Rattle.driver_model.specs.declared.event.EventKind.{EventKind}
 use Rattle.driver_model.specs.declared.event.EventKind.TheVariants as event
 use Rattle.driver_model.specs.declared.action.Owner.{Owner}
-use Rattle.driver_model.specs.declared.action.Owner.TheVariants.{Try, Setup}
+use Rattle.driver_model.specs.declared.action.Owner.TheVariants.{Try, Setup, Auth}
 use Rattle.driver_model.specs.declared.action.WaitKind.{WaitKind}
 use Rattle.driver_model.specs.declared.action.WaitKind.TheVariants as wait
 use Rattle.driver_model.specs.declared.action.Purpose.{Purpose}
@@ -38,13 +38,15 @@ address host port = host ++ byte ":" ∷ decimal port
 abbrev pub submission_word : ℕ → List ℕ
 submission_word s = byte "s" ∷ decimal s
 
--- a try of a submission, its number and its round, or what is said to the server before the first request
+-- a try of a submission, its number and its round; what is said to the server before the first request; or new credentials
 abbrev pub owner_word : Owner → List ℕ
 owner_word (Try s round) = submission_word s ++ byte "." ∷ decimal round
 owner_word Setup = codes "setup"
+owner_word Auth = codes "auth"
 
 abbrev pub wait_word : WaitKind → List ℕ
 wait_word wait.Connect = codes "connect"
+wait_word wait.Creds = codes "creds"
 wait_word wait.Setup = codes "setup"
 wait_word wait.Permit = codes "permit"
 wait_word wait.Place = codes "place"
@@ -91,6 +93,12 @@ push_words None = []
 push_words (Some true) = codes "push=on" ∷ []
 push_words (Some false) = codes "push=off" ∷ []
 
+-- whether credentials come of a source, where it is given
+abbrev pub creds_words : Option Bool → List (List ℕ)
+creds_words None = []
+creds_words (Some true) = codes "creds=on" ∷ []
+creds_words (Some false) = codes "creds=off" ∷ []
+
 -- whether the server is told which library speaks, where it is given
 abbrev pub lib_words : Option Bool → List (List ℕ)
 lib_words None = []
@@ -107,7 +115,7 @@ numbers_words c = buffer_words c.buffer ++ limit_words c.limit ++ boundary_words
 
 -- what is given of what is on or off
 abbrev pub switch_words : Config → List (List ℕ)
-switch_words c = push_words c.push ++ lib_words c.lib
+switch_words c = push_words c.push ++ creds_words c.creds ++ lib_words c.lib
 
 -- the settings behind the address: what is given of the times, of the numbers, and of what is on or off
 abbrev pub later_words : Config → List (List ℕ)
@@ -169,6 +177,9 @@ event_words (event.Ended link) = codes "ended" ∷ decimal link ∷ []
 event_words (event.ReadFault link kind) = codes "read-fault" ∷ decimal link ∷ fault_name kind ∷ []
 event_words (event.WriteFault link kind) = codes "write-fault" ∷ decimal link ∷ fault_name kind ∷ []
 event_words (event.Fired timer) = codes "fired" ∷ decimal timer ∷ []
+event_words (event.Creds source auth) = codes "creds" ∷ decimal source ∷ auth.username ∷ auth.password ∷ []
+event_words (event.CredsError source text) = codes "creds-err" ∷ decimal source ∷ text ∷ []
+event_words (event.CredsEnd source) = codes "creds-end" ∷ decimal source ∷ []
 event_words (event.Timeout ms) = codes "timeout" ∷ time_word ms ∷ []
 event_words event.Shutdown = codes "shutdown" ∷ []
 
@@ -199,6 +210,7 @@ outcome_words (Fault error) = codes "err" ∷ error_words error
 abbrev pub purpose_words : Purpose → List (List ℕ)
 purpose_words (purpose.Connect link) = codes "connect" ∷ decimal link ∷ []
 purpose_words (purpose.Response owner) = codes "response" ∷ owner_word owner ∷ []
+purpose_words (purpose.Renewal link number) = codes "response" ∷ owner_word Auth ∷ []
 
 -- how an opening went: its error, where it failed
 abbrev pub created_words : Option RedisError → List (List ℕ)
@@ -216,6 +228,7 @@ words_of (action.Connect link host port) = codes "connect" ∷ decimal link ∷ 
 words_of (action.Timer timer ms what) = codes "timer" ∷ decimal timer ∷ decimal ms ∷ purpose_words what
 words_of (action.Took owner link count) = codes "took" ∷ owner_word owner ∷ decimal link ∷ decimal count ∷ []
 words_of (action.Push link info) = codes "push" ∷ decimal link ∷ push_word info ∷ []
+words_of (action.NeedCreds source link) = codes "need-creds" ∷ decimal source ∷ decimal link ∷ []
 words_of (action.Close link) = codes "close" ∷ decimal link ∷ []
 words_of (action.Write link bytes) = codes "write" ∷ decimal link ∷ bytes ∷ []
 words_of (action.Wait owner kind) = codes "wait" ∷ owner_word owner ∷ wait_word kind ∷ []

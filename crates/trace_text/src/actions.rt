@@ -59,6 +59,10 @@ impl Writer {
                 self.literal(b"response")?;
                 self.owner(owner)
             }
+            Purpose::Renewal { link: _, number: _ } => {
+                self.literal(b"response")?;
+                self.owner(Owner::Auth)
+            }
         }
     }
 
@@ -104,6 +108,17 @@ impl Writer {
         self.first(b"push")?;
         self.number(u64::from(link))?;
         self.push_word(info)?;
+        self.end_line()
+    }
+
+    fn need_creds(&mut self, source: u32, link: u32) -> Result<(), AllocError>
+        ensures before { self.new.before ≡ self.old.before }
+        ensures ok { OnOk result
+            (Added self.old self.new (action_line (Action.NeedCreds source link))) }
+    {
+        self.first(b"need-creds")?;
+        self.number(u64::from(source))?;
+        self.number(u64::from(link))?;
         self.end_line()
     }
 
@@ -204,6 +219,7 @@ impl Writer {
             Action::Timer { timer, ms, purpose } => self.timer(*timer, *ms, *purpose),
             Action::Took { owner, link, count } => self.took(*owner, *link, *count),
             Action::Push { link, info } => self.pushed(*link, info),
+            Action::NeedCreds { source, link } => self.need_creds(*source, *link),
             Action::Close { link } => self.close(*link),
             Action::Write { link, bytes } => self.write(*link, bytes),
             Action::Wait { owner, wait } => self.wait(*owner, *wait),

@@ -1,9 +1,9 @@
-ghost use Rattle.std.specs.Prelude.{◌≡◌, ◌++◌, ◌∷◌, [], OnOk, decimal};
+ghost use Rattle.std.specs.Prelude.{◌≡◌, ◌++◌, ◌∷◌, [], OnOk, codes, decimal};
 ghost use Rattle.redis_error.specs.Names.{fault_name};
 ghost use Rattle.trace_text.specs.Words.{following, separated};
 ghost use Rattle.trace_text.specs.Show.{behind_first, config_words, connect_words, first_of, url};
 ghost use Rattle.trace_text.specs.Show.{boundary_words, buffer_words, limit_words, response_words};
-ghost use Rattle.trace_text.specs.Show.{push_words, lib_words, switch_words};
+ghost use Rattle.trace_text.specs.Show.{push_words, creds_words, lib_words, switch_words};
 ghost use Rattle.trace_text.specs.Show.{later_words, numbers_words, times_words, time_word};
 ghost use Rattle.trace_text.specs.Show.{cause_more, cause_words, event_more, event_words};
 ghost use Rattle.trace_text.specs.Show.{submission_more, submission_words, call_word};
@@ -11,6 +11,7 @@ ghost use Rattle.trace_text.specs.Writer.{Added, AddedWords, AddedParts};
 
 use crate::writer::Writer;
 use containers::{Bytes, Names};
+use credentials::BasicAuth;
 use driver_model::{Cause, Config, Event, EventKind, Submission};
 use redis_error::FaultKind;
 use resp_write::SubscriptionAction;
@@ -95,6 +96,18 @@ impl Writer {
         }
     }
 
+    /// Whether credentials come of a source, where it is given.
+    fn credentials(&mut self, creds: Option<bool>) -> Result<(), AllocError>
+        ensures before { self.new.before ≡ self.old.before }
+        ensures ok { OnOk result (AddedWords self.old self.new (creds_words creds)) }
+    {
+        match creds {
+            None => Ok(()),
+            Some(true) => self.literal(b"creds=on"),
+            Some(false) => self.literal(b"creds=off"),
+        }
+    }
+
     /// Whether the server is told which library speaks, where it is given.
     fn lib(&mut self, lib: Option<bool>) -> Result<(), AllocError>
         ensures before { self.new.before ≡ self.old.before }
@@ -132,6 +145,7 @@ impl Writer {
         ensures ok { OnOk result (AddedWords self.old self.new (switch_words config.now)) }
     {
         self.pushes(config.push)?;
+        self.credentials(config.creds)?;
         self.lib(config.lib)
     }
 
@@ -255,6 +269,18 @@ impl Writer {
         self.word(fault.name().as_bytes())
     }
 
+    /// The words of credentials: the source that they came of, who authenticates and by what.
+    fn creds(&mut self, source: u32, auth: &BasicAuth) -> Result<(), AllocError>
+        ensures before { self.new.before ≡ self.old.before }
+        ensures ok { OnOk result (AddedWords self.old self.new
+            (codes "creds" ∷ decimal source ∷ auth.now.username ∷ auth.now.password ∷ [])) }
+    {
+        self.literal(b"creds")?;
+        self.number(u64::from(source))?;
+        self.word(auth.username())?;
+        self.word(auth.password())
+    }
+
     /// The words of an event.
     fn event(&mut self, kind: &EventKind) -> Result<(), AllocError>
         ensures before { self.new.before ≡ self.old.before }
@@ -294,6 +320,16 @@ impl Writer {
             EventKind::Fired { timer } => {
                 self.literal(b"fired")?;
                 self.number(u64::from(*timer))
+            }
+            EventKind::Creds { source, auth } => self.creds(*source, auth),
+            EventKind::CredsError { source, text } => {
+                self.literal(b"creds-err")?;
+                self.number(u64::from(*source))?;
+                self.word(text.as_slice())
+            }
+            EventKind::CredsEnd { source } => {
+                self.literal(b"creds-end")?;
+                self.number(u64::from(*source))
             }
             EventKind::Timeout { ms } => {
                 self.literal(b"timeout")?;

@@ -6,22 +6,20 @@ use Rattle.resp_read.specs.declared.stages.Stage.TheVariants as stage
 use Rattle.resp_read.specs.declared.place.Place.{Place}
 use Rattle.resp_read.specs.Stages.{stage_as}
 use Rattle.resp_read.specs.Places.{is_too_few, Goes}
-use Rattle.resp_read.proofs.PlaceLaws.{body_stops, format_goes, format_stops, kind_goes}
-use Rattle.resp_read.proofs.EndLaws.{body_ends}
+use Rattle.resp_read.proofs.PlaceLaws.{body_goes, body_stops, format_goes, format_stops, kind_goes}
 use Rattle.resp_read.proofs.place.pass_want.Goals as goal
 
 pub returns-in-Ok-clause-goes : goal.returns-in-Ok-clause-goes
 returns-in-Ok-clause-goes g c =
     let d = c.args.limits.depth - c.args.around in
-    let from = c.args.place.now.next in
+    let next = c.args.place.now.next in
     let tape = c.args.tape.now in
     let size = c.in-Body.size in
-    let enough : nat_le (length tape - from) size ≡ false = sym (ap (λ (w : Want). is_too_few (length tape - from) (stage.Want w)) c.in-Body.is) ∙ c.requires.enough in
-    let more : size < length tape - from = grind (arith, nat_tests) in
+    let enough : nat_le (length tape - next) size ≡ false = sym (ap (λ (w : Want). is_too_few (length tape - next) (stage.Want w)) c.in-Body.is) ∙ c.requires.enough in
+    let more : size < length tape - next = grind (arith, nat_tests) in
     let end = c.len-end.ensures in
-    let next = c.len-end.result - (c.len-end.result - from - size - 1) in
-    subst (λ (w : Want). Goes c.args.limits d tape (stage_as c.args.limits d (stage.Want w)) from c.come_to_end.result c.come_to_end.new.place) (sym c.in-Body.is)
-    (body_ends c.args.limits d tape from next size c.in-Body.part c.in-Ok.begun c.come_to_end.result c.come_to_end.new.place (omega (arith, end, more)) c.in-Ok.ensures.body c.come_to_end.ensures.ends)
+    subst (λ (w : Want). Goes c.args.limits d tape (stage_as c.args.limits d (stage.Want w)) next (Ok None) c.enter.new.self) (sym c.in-Body.is)
+    (body_goes c.args.limits d tape next size c.enter.new.self c.in-Body.part c.in-Ok.begun (omega (arith, more)) (ap (λ (p : Place). p.next) c.enter.ensures ∙ omega (arith, end, more)) (ap (λ (p : Place). p.stage) c.enter.ensures) c.in-Ok.ensures.body)
 
 pub returns-in-Err-clause-goes : goal.returns-in-Err-clause-goes
 returns-in-Err-clause-goes g c =
@@ -37,8 +35,8 @@ returns-in-Ok-take_format-clause-goes g c =
     let enough : nat_le (length tape - next) 3 ≡ false = sym (ap (λ (w : Want). is_too_few (length tape - next) (stage.Want w)) c.in-Format.is) ∙ c.requires.enough in
     let more : 3 < length tape - next = grind (arith, nat_tests) in
     let end = c.len-end.ensures in
-    subst (λ (w : Want). Goes c.args.limits d tape (stage_as c.args.limits d (stage.Want w)) next (Ok None) c.enter.new.self) (sym c.in-Format.is)
-    (format_goes c.args.limits d tape next c.in-Format.size c.enter.new.self c.in-Ok-take_format.format (omega (arith, more)) (ap (λ (p : Place). p.next) c.enter.ensures ∙ omega (arith, end, more)) (ap (λ (p : Place). p.stage) c.enter.ensures) c.in-Ok-take_format.ensures.format)
+    subst (λ (w : Want). Goes c.args.limits d tape (stage_as c.args.limits d (stage.Want w)) next (Ok None) c.enter-in-Ok-take_format.new.self) (sym c.in-Format.is)
+    (format_goes c.args.limits d tape next c.in-Format.size c.enter-in-Ok-take_format.new.self c.in-Ok-take_format.format (omega (arith, more)) (ap (λ (p : Place). p.next) c.enter-in-Ok-take_format.ensures ∙ omega (arith, end, more)) (ap (λ (p : Place). p.stage) c.enter-in-Ok-take_format.ensures) c.in-Ok-take_format.ensures.format)
 
 pub returns-in-Err-take_format-clause-goes : goal.returns-in-Err-take_format-clause-goes
 returns-in-Err-take_format-clause-goes g c =

@@ -13,8 +13,8 @@ use Rattle.shared_session.proofs.session.Session.take.Goals as goal
 pub returns-clause-actions : goal.returns-clause-actions
 returns-clause-actions c =
     subst (λ (h : History). c.show_turn.new.out.items ≡ c.args.out.now.items ++ effects_of (state_after h.config h.word h.events) c.args.event) c.self.view_is
-    (shown_kept c.self.inside.core c.turn.new.self c.self.inside.config c.self.inside.word c.self.inside.events c.args.event c.self.inside.core.single.link c.len-timers.result c.turn.new.acts.items c.args.out.now.items c.show_turn.new.out.items
-    (c.self.invariant.core c.in-Sound.is) c.in-Ok.ensures.turning refl c.len-timers.ensures c.in-Ok-show_turn.ensures.actions)
+    (shown_kept c.self.inside.core c.turn.new.self c.self.inside.config c.self.inside.word c.self.inside.events c.args.event c.self.inside.core.single.link c.len-timers.result c.len-sources.result c.turn.new.acts.items c.args.out.now.items c.show_turn.new.out.items
+    (c.self.invariant.core c.in-Sound.is) c.in-Ok.ensures.turning refl c.len-timers.ensures c.len-sources.ensures c.in-Ok-show_turn.ensures.actions)
 
 pub returns-clause-turn : goal.returns-clause-turn
 returns-clause-turn c =
