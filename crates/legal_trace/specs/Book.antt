@@ -19,7 +19,7 @@ use Rattle.driver_model.specs.declared.event.Submission.{Submission}
 use Rattle.driver_model.specs.News.{news_of}
 use Rattle.driver_model.specs.Request.{lacks_resp3}
 use Rattle.credentials.specs.Credentials.{Credentials}
-use Rattle.legal_trace.specs.Ledger.{Ledger, Start, Line, asks, hears, begins, offers, ends, blank_ledger, setup_count, setup_message, renewal_due, renewal_message, renewals_asked, noted_each, tells, parts, sources, times}
+use Rattle.legal_trace.specs.Ledger.{Ledger, Start, Line, asks, hears, begins, offers, ends, blank_ledger, setup_count, setup_message, renewal_due, renewal_message, noted_each, tells, parts, sources, times}
 use Rattle.resp_value.specs.declared.push_kind.PushKind.{PushKind}
 use Rattle.driver_model.specs.Push.{is_disconnection}
 use Rattle.legal_trace.specs.Story.{Story, blank_story, bytes_of, shape, handed_in, left, holds, clocked, fires, tried, waits, answered}
@@ -144,8 +144,8 @@ abbrev pub story_after : Book → ℕ → Action → Story
 story_after b n (action.Turn number (cause.Opening config word)) = b.story n
 story_after b n (action.Turn number (cause.Event e)) = after_event b n e.kind
 story_after b n (action.Start l message (owner.Try m round) count len) = if_own (m == n) (tried (b.story n) l message) (b.story n)
-story_after b n (action.Wait (owner.Try m round) kind) = if_own (m == n) (waits (b.story n) kind (renewals_asked (b.link (b.story n).link))) (b.story n)
-story_after b n (action.Outcome m o) = if_own (m == n) (answered (b.story n) o (renewals_asked (b.link (b.story n).link))) (b.story n)
+story_after b n (action.Wait (owner.Try m round) kind) = if_own (m == n) (waits (b.story n) kind) (b.story n)
+story_after b n (action.Outcome m o) = if_own (m == n) (answered (b.story n) o) (b.story n)
 story_after b n (action.Connect l host port) = b.story n
 story_after b n (action.Timer t ms what) = if_own (is_clock_of n (Some what)) (clocked (b.story n) t) (b.story n)
 story_after b n (action.Took owner.Setup l count) = b.story n

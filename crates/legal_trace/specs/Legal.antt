@@ -26,7 +26,7 @@ use Rattle.legal_trace.specs.Ledger.{Ledger, Heard, Ending, IsOffered, is_full, 
 use Rattle.legal_trace.specs.Story.{Try, last_of, is_open, is_unstarted, bytes_of, shape}
 use Rattle.legal_trace.specs.Book.{Book, blank_book, book, entered, current}
 use Rattle.legal_trace.specs.Owed.{owed}
-use Rattle.legal_trace.specs.Steps.{waits, takes, asks, tells, starts, is_ahead, is_due, is_held_back, next_step}
+use Rattle.legal_trace.specs.Steps.{waits, takes, asks, tells, starts, is_due, is_held_back, next_step}
 use Rattle.legal_trace.specs.Events.{is_bad_event}
 
 -- submission n is handed in, and neither answered nor cancelled
@@ -110,32 +110,26 @@ answer_time (Some config) = response_timeout config
 abbrev pub RenewalsAreTimed : Book → Type 0
 RenewalsAreTimed b = (l : ℕ) → answer_time b.config ≢ None → renewals_asked (b.link l) ≤ (b.link l).creds.timed
 
--- the event has had its own effect, setups have started, and new credentials have their timers
+-- new credentials that are to be told have started, but where the link is held back
+abbrev pub RenewalsAreStarted : Book → Type 0
+RenewalsAreStarted b = (l : ℕ) (c : Credentials) → renewal_due (b.link l) ≡ Some c → is_held_back b (b.link l) ≡ true
+
+-- the event has had its own effect, setups have started, and so have new credentials, which have their timers
 pub record IsBegun (b : Book) : Type 0 where
   pub applied : IsApplied b
   pub setups : SetupsAreStarted b
   pub timed : RenewalsAreTimed b
+  pub renewed : RenewalsAreStarted b
 
 -- a submission whose message has not started, and which makes a step next
 pub record CanMove (b : Book) (n : ℕ) : Type 0 where
   pub unstarted : is_unstarted (b.story n) ≡ true
   pub due : is_due (next_step b n) ≡ true
 
--- new credentials are to be told on a link that isn't held back
-pub record CanRenew (b : Book) (l : ℕ) : Type 0 where
-  pub credentials : Credentials
-  pub due : renewal_due (b.link l) ≡ Some credentials
-  pub free : is_held_back b (b.link l) ≡ false
-
--- submission n had its place on that link before the new credentials that are next there
-abbrev pub IsAhead : Book → ℕ → ℕ → Type 0
-IsAhead b l n = ((b.story n).link ≡ l) × (is_ahead (b.link l) (b.story n) ≡ true)
-
 -- every step that may be made was made
 pub record IsMoved (b : Book) : Type 0 where
   pub begun : IsBegun b
   pub moved : (n : ℕ) → CanMove b n → ⊥
-  pub renewed : (l : ℕ) → CanRenew b l → ⊥
 
 -- every link that is up is offered its bytes
 pub record IsWritten (b : Book) : Type 0 where
@@ -208,7 +202,7 @@ pub record IsBefore (b : Book) (n : ℕ) (p : Heard) : Type 0 where
   pub full : is_full_by (b.link try.link) p.after try.message ≡ true
 
 -- the next push of a link is told, where somebody hears it, in the order of the links, once the creation is shown of those that
--- are ready, and the outcomes of messages that were full before it came
+-- are ready, all sources were asked for, and the outcomes of messages are shown that were full before it came
 pub record MayTellPush (b : Book) (l : ℕ) (info : PushInfo) : Type 0 where
   pub heard : is_heard b ≡ true
   pub push : Heard
@@ -216,6 +210,7 @@ pub record MayTellPush (b : Book) (l : ℕ) (info : PushInfo) : Type 0 where
   pub says : info ≡ push.info
   pub in_order : (m : ℕ) → m < l → next_push (b.link m) ≡ None
   pub created : ReadyIsShown b
+  pub sourced : SourcesAreAsked b
   pub answered : (n : ℕ) → IsOpen b n → (b.story n).link ≡ l → IsBefore b n push → ⊥
 
 -- that a fault ended a link, once it was set up, is told once as a push without parts, where somebody hears it, in the order of
@@ -228,6 +223,7 @@ pub record MayPart (b : Book) (l : ℕ) (info : PushInfo) : Type 0 where
   pub in_order : (m : ℕ) → m < l → is_cut (b.link m).end ≡ true → (b.link m).parted ≡ true
   pub closed : NoneEnds b
   pub answered : VerdictsAreShown b
+  pub sourced : SourcesAreAsked b
 
 abbrev pub MayPushBy : Bool → Book → ℕ → PushInfo → Type 0
 MayPushBy true b l info = MayPart b l info
@@ -244,6 +240,7 @@ pub record MayClose (b : Book) (l : ℕ) : Type 0 where
   pub in_order : (m : ℕ) → m < l → ending (b.link m) ≡ None
   pub answered : VerdictsAreShown b
   pub created : ReadyIsShown b
+  pub sourced : SourcesAreAsked b
   pub pushed : PushesAreTold b
 
 -- the creation is shown once, when a link is ready: once the outcomes that values gave are shown, and before a link ends
@@ -262,6 +259,7 @@ pub record MayFail (b : Book) (e : RedisError) : Type 0 where
   pub once : b.created ≡ 0
   pub ended : NoneEnds b
   pub answered : VerdictsAreShown b
+  pub sourced : SourcesAreAsked b
 
 -- the creation: it came to be, or it failed with that error
 abbrev pub MayShowCreation : Book → Option RedisError → Type 0
@@ -277,6 +275,7 @@ pub record MayAnswer (b : Book) (n : ℕ) (o : Outcome) : Type 0 where
   pub in_order : (m : ℕ) → m < n → IsOpen b m → is_over (link_of b m) ≡ is_over (link_of b n) → owed b m ≡ None
   pub after_pushes : is_heard b ≡ true → (push : Heard) → next_push (link_of b n) ≡ Some push → IsBefore b n push
   pub after_closes : is_over (link_of b n) ≡ true → NoneEnds b × VerdictsAreShown b × FailuresAreShown b × EndsAreTold b
+  pub after_sources : is_over (link_of b n) ≡ true → SourcesAreAsked b
 
 -- the setup of a link starts once its cause is there, and once more where the server counts other arguments, while the link
 -- isn't held back
@@ -290,20 +289,17 @@ pub record MaySetUp (b : Book) (l message count len : ℕ) : Type 0 where
   pub needs_its_items : count ≡ need_of (setup_message (b.link l) k).shape
   pub long_as_its_bytes : len ≡ length (setup_message (b.link l) k).bytes
 
--- no submission before n makes a step, and no new credentials are told that it isn't ahead of
-pub record IsFirstToMove (b : Book) (n : ℕ) : Type 0 where
-  pub before : (m : ℕ) → m < n → CanMove b m → ⊥
-  pub renewals : (l : ℕ) → CanRenew b l → IsAhead b l n
+-- no submission before n makes a step
+abbrev pub IsFirstToMove : Book → ℕ → Type 0
+IsFirstToMove b n = (m : ℕ) → m < n → CanMove b m → ⊥
 
--- a source of credentials is asked for, in the order of the links, once the event's other effects are shown
+-- a source of credentials is asked for, in the order of the links, once the creation is shown of those that are ready
 pub record MayNeed (b : Book) (c l : ℕ) : Type 0 where
   pub due : source_due (b.link l) ≡ true
   pub next : c ≡ length b.sources
   pub in_order : (m : ℕ) → m < l → source_due (b.link m) ≡ false
-  pub answered : NoneIsOwed b
-  pub ended : NoneEnds b
+  pub answered : VerdictsAreShown b
   pub created : ReadyIsShown b
-  pub pushed : PushesAreTold b
 
 -- a timer of the configured time is asked for new credentials, as soon as they are to be told
 pub record MayTimeRenewal (b : Book) (t ms : ℕ) (what : Purpose) : Type 0 where
@@ -316,15 +312,18 @@ pub record MayTimeRenewal (b : Book) (t ms : ℕ) (what : Purpose) : Type 0 wher
   pub next : t ≡ length b.timers
   pub is_for : what ≡ purpose.Renewal l (b.link l).creds.timed
 
--- new credentials are told on a link that isn't held back, once those that are ahead of them were made to go as far as they can
+-- new credentials are told to the server of a link that isn't held back, before the messages of all submissions
 pub record MayRenew (b : Book) (l message count len : ℕ) : Type 0 where
-  pub begun : IsBegun b
-  pub can : CanRenew b l
-  pub behind : (n : ℕ) → CanMove b n → IsAhead b l n → ⊥
-  pub in_order : (m : ℕ) → m < l → CanRenew b m → ⊥
+  pub applied : IsApplied b
+  pub setups : SetupsAreStarted b
+  pub timed : RenewalsAreTimed b
+  pub credentials : Credentials
+  pub due : renewal_due (b.link l) ≡ Some credentials
+  pub free : is_held_back b (b.link l) ≡ false
+  pub in_order : (m : ℕ) (c : Credentials) → m < l → renewal_due (b.link m) ≡ Some c → is_held_back b (b.link m) ≡ true
   pub next : message ≡ length (b.link l).starts
-  pub needs_its_item : count ≡ 1
-  pub long_as_its_bytes : len ≡ length (renewal_message can.credentials).bytes
+  pub needs_its_items : count ≡ need_of (renewal_message credentials).shape
+  pub long_as_its_bytes : len ≡ length (renewal_message credentials).bytes
 
 -- a command whose reply nobody awaits is answered with Nil at its place
 pub record MayTell (b : Book) (n : ℕ) (o : Outcome) : Type 0 where

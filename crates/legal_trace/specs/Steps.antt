@@ -5,7 +5,7 @@ use Rattle.driver_model.specs.declared.action.WaitKind.TheVariants as wait
 use Rattle.driver_model.specs.declared.config.Config.{Config}
 use Rattle.driver_model.specs.Config.{buffer_size, boundary}
 use Rattle.driver_model.specs.Shape.{permits_for}
-use Rattle.legal_trace.specs.Ledger.{Ledger, dials, is_set_up, lacks_credentials, renewal_count, renewal_due, unwritten}
+use Rattle.legal_trace.specs.Ledger.{Ledger, dials, is_set_up, lacks_credentials, renewal_due, unwritten}
 use Rattle.legal_trace.specs.Story.{Story, has_place, is_awaited, is_told, is_unstarted, shape}
 use Rattle.legal_trace.specs.Book.{Book}
 
@@ -76,24 +76,16 @@ abbrev pub line_before : Option ℕ → (ℕ → Story) → ℕ → ℕ → ℕ
 line_before limit story l zero = 0
 line_before limit story l (suc n) = line_before limit story l n + (if is_in_line limit l (story n) then 1 else 0)
 
--- how many new credentials stand in line on a link
+-- new credentials that are to be told and have not started stand in line on their link, before all submissions
 abbrev pub renewals_in_line : Ledger → ℕ
 renewals_in_line l = if is_some (renewal_due l) then 1 else 0
 
--- as many stand in line before submission n as the queue of its link holds, new credentials among them, so that it has no place;
--- it keeps its place where it had one before the credentials came
+-- as many stand in line before submission n as the queue of its link holds, so that it has no place; one that has its place keeps
+-- it, also where new credentials come then
 abbrev pub is_outside : Book → ℕ → Bool
 is_outside b n =
     not (has_place (b.story n))
     && nat_le (queue_size b) (renewals_in_line (b.link (b.story n).link) + line_before (permits_in b.config) b.story (b.story n).link n)
-
--- its message starts before the new credentials that are next on this link: it had its place before they were to be told
-abbrev pub is_ahead : Ledger → Story → Bool
-is_ahead l s = has_place s && nat_le s.behind (renewal_count l.starts)
-
--- new credentials are to be told on this link before its message starts
-abbrev pub is_behind_renewal : Ledger → Story → Bool
-is_behind_renewal l s = is_some (renewal_due l) && not (is_ahead l s)
 
 -- a message that has its place starts, or waits while its link is held back
 abbrev pub starts_or_waits : Bool → Step
@@ -128,10 +120,6 @@ abbrev pub step_open : Bool → Bool → Step → Step
 step_open true held next = starts_or_waits held
 step_open false held next = next
 
--- its message is not to start now: its link is held back, or credentials are to be told before
-abbrev pub is_kept_back : Book → Story → Bool
-is_kept_back b s = is_held_back b (b.link s.link) || is_behind_renewal (b.link s.link) s
-
 -- what is waited for on a link that is up and not set up
 abbrev pub unready_wait : Ledger → WaitKind
 unready_wait l = if lacks_credentials l then wait.Creds else wait.Setup
@@ -139,7 +127,7 @@ unready_wait l = if lacks_credentials l then wait.Creds else wait.Setup
 -- the next step of a submission on a link that is set up
 abbrev pub step_ready : Book → ℕ → Story → Step
 step_ready b n s =
-    let held = is_kept_back b s in
+    let held = is_held_back b (b.link s.link) in
     step_open (is_told s) held
     (step_holding (permits_in b.config) s.permits (λ limit. step_taking (free_permits b s.link limit) (permits_for (shape s) limit))
     (step_timed s.timeout s.clock (step_placed (is_outside b n) (is_awaited s) held)))

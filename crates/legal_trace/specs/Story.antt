@@ -17,8 +17,7 @@ pub record Try : Type 0 where
 -- the submission itself, whether it came after everything was shut down, and whether it needs RESP3 and its link's server is
 -- told another protocol; the link that it goes to; within how many milliseconds it is to be answered, if within any; the
 -- permits that it holds; the timer that was asked for it, and whether that fired while it was open; its messages that
--- started, in order; the wait that was shown and stands; how many new credentials were to be told on its link when that was shown,
--- or it was answered; its outcomes; and whether its caller has gone
+-- started, in order; the wait that was shown and stands; its outcomes; and whether its caller has gone
 pub record Story : Type 0 where
   pub submission : Option Submission
   pub late : Bool
@@ -30,12 +29,11 @@ pub record Story : Type 0 where
   pub overdue : Bool
   pub tries : List Try
   pub waiting : Option WaitKind
-  pub behind : ℕ
   pub outcomes : List Outcome
   pub cancelled : Bool
 
 abbrev pub blank_story : Story
-blank_story = record { submission = None; late = false; unspoken = false; link = 0; timeout = None; permits = 0; clock = None; overdue = false; tries = []; waiting = None; behind = 0; outcomes = []; cancelled = false }
+blank_story = record { submission = None; late = false; unspoken = false; link = 0; timeout = None; permits = 0; clock = None; overdue = false; tries = []; waiting = None; outcomes = []; cancelled = false }
 
 -- handed in, and neither answered nor cancelled
 abbrev pub is_open : Story → Bool
@@ -119,10 +117,10 @@ last_of (t ∷ u ∷ ts) = last_of (u ∷ ts)
 abbrev pub tried : Story → ℕ → ℕ → Story
 tried s link message = record s { tries = s.tries ++ record { link = link; message = message } ∷ []; waiting = None }
 
--- it waits, and so many new credentials were to be told on its link by then
-abbrev pub waits : Story → WaitKind → ℕ → Story
-waits s kind behind = record s { waiting = Some kind; behind = behind }
+-- it waits
+abbrev pub waits : Story → WaitKind → Story
+waits s kind = record s { waiting = Some kind }
 
--- it is answered, its permits are free, and so many new credentials were to be told on its link by then
-abbrev pub answered : Story → Outcome → ℕ → Story
-answered s o behind = record s { outcomes = s.outcomes ++ o ∷ []; permits = 0; waiting = None; behind = behind }
+-- it is answered, and its permits are free
+abbrev pub answered : Story → Outcome → Story
+answered s o = record s { outcomes = s.outcomes ++ o ∷ []; permits = 0; waiting = None }

@@ -4,4 +4,3 @@ pub mod StartLemmas
 pub mod RingLemmas
 pub mod DealLemmas
 pub mod CameLemmas
-pub mod BelowLemmas

@@ -31,7 +31,7 @@ use Rattle.mux_conn.specs.declared.life.Life.TheVariants.{Dialing, Wanting, Sett
 use Rattle.mux_conn.specs.declared.request.Waiting.{Waiting}
 use Rattle.mux_conn.specs.Connection.{Work, acted, at_life, with_link, with_setup, with_wanting, is_ready}
 use Rattle.mux_conn.specs.Requests.{is_open_at, closed, answered}
-use Rattle.mux_conn.specs.Renewals.{with_renewal, renewing, source_asked, expecting, none_follow, renewal_id, is_done, replied, is_unanswered}
+use Rattle.mux_conn.specs.Renewals.{renewing, source_asked, expecting, none_follow, late_for, renewal_id, is_done, replied}
 use Rattle.credentials.specs.Credentials.{Credentials}
 
 -- a link without messages, with the queue and the boundary of its connection
@@ -115,9 +115,9 @@ numbers_of (q ∷ qs) = q.number ∷ numbers_of qs
 abbrev pub all_fresh : Work → Work
 all_fresh w = record w { conn = record w.conn { fresh = numbers_of w.conn.waiting } }
 
--- the link is set up, which is shown
+-- the link is set up, which is shown, and a source is asked for new credentials, where they come of sources
 abbrev pub made_ready : Work → LinkState → Work
-made_ready w link = acted (with_link (all_fresh w) link) (act.Created None)
+made_ready w link = source_asked (acted (with_link (all_fresh w) link) (act.Created None))
 
 -- the number of the message that sets a link up: no request has it
 abbrev pub setup_id : Bool → ℕ
@@ -158,7 +158,7 @@ with_credentials w c = record w { conn = record w.conn { info = record w.conn.in
 
 -- the first credentials came: the link is set up by them
 abbrev pub authorized_at : Work → Credentials → Life → Work
-authorized_at w c (Wanting link) = source_asked (come_up (with_credentials w c) link)
+authorized_at w c (Wanting link) = come_up (with_credentials w c) link
 authorized_at w c Dialing = w
 authorized_at w c (SettingUp link with_user) = w
 authorized_at w c (Ready link) = w
@@ -253,12 +253,12 @@ read_wanting w s = broken_at s.link.broken (with_wanting w s.link)
 abbrev pub heard_in : Work → LinkState → List ℕ → List PushAt
 heard_in w link piece = heard_of w.conn.hears (pushes_came link piece)
 
--- bytes come; where they set the link up, a source is asked for new credentials once all of them had their effect
+-- bytes come
 abbrev pub read_at : Work → List ℕ → Life → Work
 read_at w piece (Ready link) = read_to w (heard_in w link piece) (piece_dealt (record { link = link; out = [] }) piece)
 read_at w piece Dialing = w
 read_at w piece (Wanting link) = read_wanting w (piece_dealt (record { link = link; out = [] }) piece)
-read_at w piece (SettingUp link with_user) = source_asked (read_setup w with_user (heard_in w link piece) (piece_dealt (record { link = link; out = [] }) piece))
+read_at w piece (SettingUp link with_user) = read_setup w with_user (heard_in w link piece) (piece_dealt (record { link = link; out = [] }) piece)
 read_at w piece (Ended e) = w
 
 -- everything is closed
@@ -276,11 +276,6 @@ cancelled_in Dialing p = Dialing
 cancelled_in (Wanting link) p = Wanting link
 cancelled_in (SettingUp link with_user) p = SettingUp link with_user
 cancelled_in (Ended e) p = Ended e
-
--- the time for new credentials of that number is over: where they aren't answered, no others are told, and their message leaves
--- the queue, or is answered to nobody
-abbrev pub late_for : MultiplexedConnection → ℕ → MultiplexedConnection
-late_for c k = if is_unanswered c.renewal k then with_renewal (record c { life = cancelled_in c.life renewal_id }) (replied c.renewal false) else c
 
 -- no more bytes are taken than were offered
 abbrev pub IsWithin : Life → News → Type 0

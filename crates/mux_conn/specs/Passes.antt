@@ -14,20 +14,14 @@ use Rattle.mux_conn.specs.declared.life.Life.{Life}
 use Rattle.mux_conn.specs.declared.life.Life.TheVariants.{Dialing, Wanting, SettingUp, Ready, Ended}
 use Rattle.mux_conn.specs.declared.request.Progress.TheVariants as progress
 use Rattle.mux_conn.specs.declared.request.Waiting.{Waiting}
-use Rattle.mux_conn.specs.Connection.{Work, acted, with_link, with_setup, is_ready, admits_none, has_room}
-use Rattle.credentials.specs.Credentials.{Credentials}
-use Rattle.mux_conn.specs.declared.act.LinkAct.{LinkAct}
-use Rattle.mux_conn.specs.Renewals.{renewing, renewal_id, renewal_queued, has_none_due, told_next}
+use Rattle.mux_conn.specs.Connection.{Work, acted, with_link, with_setup, admits_none, has_room}
+use Rattle.mux_conn.specs.Renewals.{renewed}
 use Rattle.mux_conn.specs.Requests.{name_at, is_waiting_at, is_admitted_at, with_permits, progressed, answered}
-
--- what shows a start: it is that of a request, or of new credentials
-abbrev pub start_act : MultiplexedConnection → Started → LinkAct
-start_act c s = if s.id == renewal_id then act.Renewed s.msg s.need s.len else act.Start s.msg (name_at c.requests s.id) s.need s.len
 
 -- each start is shown
 abbrev pub shown_each : Work → List Started → Work
 shown_each w [] = w
-shown_each w (s ∷ ss) = shown_each (acted w (start_act w.conn s)) ss
+shown_each w (s ∷ ss) = shown_each (acted w (act.Start s.msg (name_at w.conn.requests s.id) s.need s.len)) ss
 
 abbrev pub starts_with : Work → Starting → Work
 starts_with w s = shown_each (with_link w s.link) s.out
@@ -85,7 +79,7 @@ moved_up w q = if is_admitted_at w.conn.requests q.number then seated w q else w
 -- those that wait for a place take theirs in order, as long as the queue has room
 abbrev pub moved_up_each : Work → List Waiting → Work
 moved_up_each w [] = still_admitted w []
-moved_up_each w (q ∷ qs) = if has_room w.conn.life then moved_up_each (moved_up w q) qs else still_admitted w (q ∷ qs)
+moved_up_each w (q ∷ qs) = if has_room w.conn then moved_up_each (moved_up w q) qs else still_admitted w (q ∷ qs)
 
 abbrev pub moved_up_all : Work → Work
 moved_up_all w = moved_up_each (still_admitted w []) w.conn.admitted
@@ -96,7 +90,7 @@ put_behind w q = still_admitted (noted w q.number) (w.conn.admitted ++ q ∷ [])
 
 -- a request takes its place at once where the queue has room, and else it waits for one
 abbrev pub seated_or_behind : Work → Waiting → Work
-seated_or_behind w q = if has_room w.conn.life then seated w q else put_behind w q
+seated_or_behind w q = if has_room w.conn then seated w q else put_behind w q
 
 -- how many permits a message takes, where they are counted: as many as are free, and no more than it may
 abbrev pub permits_taken : Option ℕ → ℕ → Shape → ℕ
@@ -147,34 +141,8 @@ admitted_each w (q ∷ qs) = if admits_none w.conn then still_waiting w (q ∷ q
 abbrev pub admitted_all : Work → Work
 admitted_all w = admitted_each (still_waiting w []) w.conn.waiting
 
--- the timer of new credentials of this number is asked for, where they are to be answered within a time
-abbrev pub renewal_timed : Work → ℕ → Option ℕ → Work
-renewal_timed w number None = w
-renewal_timed w number (Some ms) = acted w (act.RenewalTimer number ms)
-
--- these credentials take a place in the queue, also where it holds its size
-abbrev pub renewal_seated : Work → Credentials → Life → Work
-renewal_seated w c (Ready link) = with_link (renewing w (told_next w.conn.renewal)) (enqueued link (renewal_queued c))
-renewal_seated w c Dialing = w
-renewal_seated w c (Wanting link) = w
-renewal_seated w c (SettingUp link with_user) = w
-renewal_seated w c (Ended e) = w
-
--- their timer is asked for, and they take their place
-abbrev pub renewal_told : Work → Credentials → Work
-renewal_told w c = renewal_seated (renewal_timed w w.conn.renewal.asked w.conn.renewal.within) c w.conn.life
-
--- so do the first of these that came, if any did
-abbrev pub renewed_from : Work → List Credentials → Work
-renewed_from w [] = w
-renewed_from w (c ∷ cs) = renewal_told (renewing w (record w.conn.renewal { waiting = cs })) c
-
--- the new credentials that are next take their place on a link that is ready, once those before them were answered
-abbrev pub renewed : Work → Work
-renewed w = if is_ready w.conn.life && not (has_none_due w.conn.renewal) then renewed_from w w.conn.renewal.waiting else w
-
--- new credentials take their place, what waits in the queue starts, then those that wait for a place are moved, and then those
--- that wait for the connection
+-- new credentials are told, what waits in the queue starts, then those that wait for a place are moved, and then those that
+-- wait for the connection
 abbrev pub passed : Work → Work
 passed w = admitted_all (moved_up_all (started (renewed w)))
 
@@ -193,7 +161,7 @@ without p qs = first_replaced (has_number p) (λ _. []) qs
 -- request p alone is moved as far as it can go, where it waits for a place
 abbrev pub seated_alone : Work → ℕ → Option Waiting → Work
 seated_alone w p None = w
-seated_alone w p (Some q) = if has_room w.conn.life then moved_up (still_admitted w (without p w.conn.admitted)) q else w
+seated_alone w p (Some q) = if has_room w.conn then moved_up (still_admitted w (without p w.conn.admitted)) q else w
 
 -- and where it waits for the connection
 abbrev pub admitted_alone : Work → ℕ → Option Waiting → Work
@@ -213,5 +181,5 @@ is_there (Some q) = true
 -- whether it moves
 abbrev pub can_advance : MultiplexedConnection → ℕ → Bool
 can_advance c p =
-    if is_admitted_at c.requests p then is_there (entry_of p c.admitted) && has_room c.life
+    if is_admitted_at c.requests p then is_there (entry_of p c.admitted) && has_room c
     else is_waiting_at c.requests p && (is_there (entry_of p c.waiting) && not (admits_none c))

@@ -8,7 +8,6 @@ use crate::act::LinkAct;
 use crate::connection::MultiplexedConnection;
 use crate::errors::ConnectionError;
 use crate::life::Life;
-use crate::renewal::renewal_id;
 use crate::request::{Progress, Request, Waiting};
 use containers::Queue;
 use driver_model::{Outcome, Shape};
@@ -18,26 +17,7 @@ use std::alloc::{AllocError, Global};
 
 impl MultiplexedConnection {
     ghost use Rattle.mux_conn.specs.Connection.{work_with, runs_out, is_setting_up};
-    ghost use Rattle.mux_conn.specs.Passes.{start_act, shown_each, set_up_each, started};
-
-    /// What shows a start: it is that of a request, or of new credentials.
-    fn start_act(&self, start: Started) -> LinkAct
-        ensures { result ≡ start_act self.now start }
-    {
-        if start.id == renewal_id() {
-            return LinkAct::Renewed {
-                message: start.msg,
-                need: start.need,
-                len: start.len,
-            };
-        }
-        LinkAct::Start {
-            message: start.msg,
-            request: self.name(start.id),
-            need: start.need,
-            len: start.len,
-        }
-    }
+    ghost use Rattle.mux_conn.specs.Passes.{shown_each, set_up_each, started};
 
     /// Each start is shown, and the room of their list is kept.
     fn show_starts(
@@ -53,8 +33,13 @@ impl MultiplexedConnection {
     {
         let mut rest = Rest::of(starts);
         while let Some(start) = rest.pop_front() {
-            let act = self.start_act(start);
-            out.push(act)?;
+            let request = self.name(start.id);
+            out.push(LinkAct::Start {
+                message: start.msg,
+                request,
+                need: start.need,
+                len: start.len,
+            })?;
         }
         self.starts.give(rest.into_list());
         Ok(())
@@ -245,7 +230,7 @@ impl MultiplexedConnection {
 
     /// A request takes its place in the queue.
     fn place(&mut self, alloc: Global, request: Waiting) -> Result<(), AllocError>
-        requires free { has_room self.old.life ≡ true }
+        requires free { has_room self.old ≡ true }
         requires there { request.number < length self.old.requests }
         ensures work { OnOk result (
             work_with self.new [] ≡ placed_at (work_with self.old []) request self.old.life
@@ -308,7 +293,7 @@ impl MultiplexedConnection {
         request: Waiting,
         out: &mut Vec<LinkAct>,
     ) -> Result<(), ConnectionError>
-        requires free { has_room self.old.life ≡ true }
+        requires free { has_room self.old ≡ true }
         requires there { request.number < length self.old.requests }
         ensures work { OnOk result (
             work_with self.new out.new.items
@@ -333,7 +318,7 @@ impl MultiplexedConnection {
         request: Waiting,
         out: &mut Vec<LinkAct>,
     ) -> Result<(), ConnectionError>
-        requires { has_room self.old.life ≡ true }
+        requires { has_room self.old ≡ true }
         ensures work { OnOk result (
             work_with self.new out.new.items
             ≡ moved_up (work_with self.old out.old.items) request
@@ -360,7 +345,7 @@ impl MultiplexedConnection {
         ensures failure { self.new.failure ≡ self.old.failure }
     {
         let mut rest = std::mem::replace(&mut self.admitted, Queue::new(alloc));
-        'requests: while self.life.has_room() {
+        'requests: while self.has_room() {
             match rest.pop_front() {
                 Some(request) => match self.move_up(alloc, request, out) {
                     Ok(()) => {}
@@ -405,7 +390,7 @@ impl MultiplexedConnection {
         ensures count { length self.new.requests ≡ length self.old.requests }
         ensures failure { self.new.failure ≡ self.old.failure }
     {
-        if self.life.has_room() {
+        if self.has_room() {
             return self.seat(alloc, request, out);
         }
         self.put_behind(request)?;
@@ -468,7 +453,7 @@ impl MultiplexedConnection {
         Ok(())
     }
 
-    /// New credentials take their place, and every request is moved as far as it can go.
+    /// New credentials are told, and every request is moved as far as it can go.
     pub(crate) fn pass(
         &mut self,
         alloc: Global,
@@ -513,7 +498,7 @@ impl MultiplexedConnection {
         out: &mut Vec<LinkAct>,
     ) -> Result<bool, ConnectionError>
         ensures answer { IfOk result (λ moves.
-            moves ≡ (is_there (entry_of number self.old.admitted) && has_room self.old.life)
+            moves ≡ (is_there (entry_of number self.old.admitted) && has_room self.old)
             ) }
         ensures work { OnOk result (
             work_with self.new out.new.items
@@ -526,7 +511,7 @@ impl MultiplexedConnection {
         ensures count { length self.new.requests ≡ length self.old.requests }
         ensures failure { self.new.failure ≡ self.old.failure }
     {
-        if !self.life.has_room() {
+        if !self.has_room() {
             return Ok(false);
         }
         let found = take_entry(alloc, &mut self.admitted, number)?;

@@ -272,7 +272,8 @@ impl MultiplexedConnection {
         Ok(())
     }
 
-    /// This link is set up, which is shown: the waits of all that waited for it are to be shown anew.
+    /// This link is set up, which is shown, and a source is asked for new credentials, where they come of sources. The waits of
+    /// all that waited for it are to be shown anew.
     pub(crate) fn make_ready(
         &mut self,
         alloc: Global,
@@ -289,7 +290,7 @@ impl MultiplexedConnection {
         self.refresh(alloc)?;
         self.life = Life::Ready { link };
         out.push(LinkAct::Created { error: None })?;
-        Ok(())
+        self.ask_source(out)
     }
 
     /// The setup takes its place on this link, with the user name or without it.
@@ -411,7 +412,6 @@ impl MultiplexedConnection {
         match life {
             Life::Wanting { link } => {
                 self.come_up(alloc, link, out)?;
-                self.ask_source(out)?;
                 Ok(())
             }
             Life::Dialing => unreachable!(),

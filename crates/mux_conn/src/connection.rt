@@ -85,6 +85,7 @@ impl MultiplexedConnection {
     ghost use Rattle.mux_conn.specs.Requests.{is_placed_at, name_at, permits_at, closed, answered};
     ghost use Rattle.mux_conn.specs.Requests.{asked, progressed};
     ghost use Rattle.mux_conn.specs.Connection.{work_with, started_in, is_used_up, admits_none};
+    ghost use Rattle.mux_conn.specs.Connection.{has_room};
     ghost use Rattle.mux_conn.specs.Turn.{dialing};
 
     /// A connection whose connect isn't answered. The queue of its link will hold `size` messages, at least one, and no
@@ -133,6 +134,13 @@ impl MultiplexedConnection {
             None => false,
         };
         self.life.admits_none(empty)
+    }
+
+    /// Whether it is up, and the queue holds less than its size, new credentials counted that are to be told.
+    pub fn has_room(&self) -> bool
+        ensures { result ≡ has_room self.now }
+    {
+        self.life.has_room(self.renewal.in_front())
     }
 
     /// How many messages of its link have started, where it is up.

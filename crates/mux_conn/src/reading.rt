@@ -296,7 +296,7 @@ impl MultiplexedConnection {
     }
 
     /// Bytes came: the messages that they fill are answered, the pushes that came are told, and bytes that begin no value end
-    /// the link. Where they set it up, a source is asked for new credentials.
+    /// the link.
     pub(crate) fn read(
         &mut self,
         alloc: Global,
@@ -320,7 +320,6 @@ impl MultiplexedConnection {
         match life {
             Life::SettingUp { link, with_user } => {
                 self.read_setup(alloc, link, with_user, piece, out)?;
-                self.ask_source(out)?;
                 Ok(())
             }
             Life::Dialing => unreachable!(),
