@@ -1,5 +1,5 @@
 ghost use Rattle.std.specs.Prelude.{◌≡◌, slice_get};
-ghost use Rattle.driver_model.specs.News.{news_of, of_timer, of_source, told};
+ghost use Rattle.driver_model.specs.News.{news_of, of_timer, is_source_of, told};
 
 use crate::action::{Purpose, SourceUse};
 use crate::event::EventKind;
@@ -40,12 +40,6 @@ pub enum LinkNews<'a> {
     Denied { text: &'a [u8] },
     /// There are none for its setup: the source has ended.
     Deserted,
-    /// New credentials came, to be told to its server.
-    Renewed { auth: &'a BasicAuth },
-    /// No more of them come.
-    Unrenewed,
-    /// The time in which its credentials of this number were to be answered is over.
-    Late { number: u32 },
     /// Everything is closed.
     Shut,
 }
@@ -67,39 +61,20 @@ fn fired(timers: &[Purpose], timer: u32, link: u32) -> LinkNews<'static>
     }
     match timers[place] {
         Purpose::Connect { link: named } if named == link => LinkNews::Overdue,
-        Purpose::Renewal {
-            link: named,
-            number,
-        } if named == link => LinkNews::Late { number },
         _ => LinkNews::Silence,
     }
 }
 
-/// What the source of this number is for, where these are the uses of the sources by their numbers.
-fn use_of(sources: &[SourceUse], source: u32) -> Option<SourceUse>
-    ensures { result ≡ slice_get sources.now source }
+/// Whether the source of this number was asked for, for that link, where these are the uses of the sources by their numbers.
+fn is_source_of(sources: &[SourceUse], source: u32, link: u32) -> bool
+    ensures { result ≡ is_source_of link (slice_get sources.now source) }
 {
     let place = source as usize;
     if place >= sources.len() {
-        return None;
+        return false;
     }
-    Some(sources[place])
-}
-
-/// What the link of this number sees of an event of the source with this use, if it has one: this where the link's setup
-/// waits for it, and that where it renews.
-fn sourced<'a>(
-    used: Option<SourceUse>,
-    link: u32,
-    first: LinkNews<'a>,
-    later: LinkNews<'a>,
-) -> LinkNews<'a>
-    ensures { told result ≡ of_source link used (told first.entry) (told later.entry) }
-{
-    match used {
-        Some(SourceUse::Setup { link: named }) if named == link => first,
-        Some(SourceUse::Renewal { link: named }) if named == link => later,
-        _ => LinkNews::Silence,
+    match sources[place] {
+        SourceUse::Setup { link: named } => named == link,
     }
 }
 
@@ -132,26 +107,17 @@ impl EventKind {
             EventKind::WriteFault { link: named, fault } if *named == link => LinkNews::Failed {
                 fault: LinkFault::Io { fault: *fault },
             },
-            EventKind::Creds { source, auth } => sourced(
-                use_of(sources, *source),
-                link,
-                LinkNews::Authorized { auth },
-                LinkNews::Renewed { auth },
-            ),
-            EventKind::CredsError { source, text } => sourced(
-                use_of(sources, *source),
-                link,
+            EventKind::Creds { source, auth } if is_source_of(sources, *source, link) => {
+                LinkNews::Authorized { auth }
+            }
+            EventKind::CredsError { source, text } if is_source_of(sources, *source, link) => {
                 LinkNews::Denied {
                     text: text.as_slice(),
-                },
-                LinkNews::Silence,
-            ),
-            EventKind::CredsEnd { source } => sourced(
-                use_of(sources, *source),
-                link,
-                LinkNews::Deserted,
-                LinkNews::Unrenewed,
-            ),
+                }
+            }
+            EventKind::CredsEnd { source } if is_source_of(sources, *source, link) => {
+                LinkNews::Deserted
+            }
             EventKind::Shutdown => LinkNews::Shut,
             _ => LinkNews::Silence,
         }

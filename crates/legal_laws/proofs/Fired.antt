@@ -14,7 +14,6 @@ use Rattle.driver_model.specs.declared.outcome.Outcome.{Outcome}
 use Rattle.legal_trace.specs.Story.{Story, is_open, is_unstarted, handed_in, left, holds, clocked, fires, tried, waits, answered}
 use Rattle.legal_trace.specs.Book.{Book, blank_book, book, entered, entered_each, current, is_clock_of, after_event, is_unspoken}
 use Rattle.legal_trace.specs.Legal.{MayStand, MayAnswer, MayTell, AllStand, IsOpen, IsApplied, Legal}
-use Rattle.legal_trace.specs.Ledger.{renewals_asked}
 use Rattle.legal_trace.proofs.Books.{stand_front, stand_behind}
 use Rattle.legal_trace.proofs.Plain.{not_empty}
 use Rattle.legal_trace.proofs.Moves.{has_no_tries}
@@ -50,13 +49,10 @@ event_over b n (event.Ended l) i h = h
 event_over b n (event.ReadFault l kind) i h = h
 event_over b n (event.WriteFault l kind) i h = h
 event_over b n (event.Timeout ms) i h = h
-event_over b n (event.Creds c auth) i h = h
-event_over b n (event.CredsError c text) i h = h
-event_over b n (event.CredsEnd c) i h = h
 event_over b n event.Shutdown i h = h
 
 -- an outcome of it leaves it done
-outcome_over : (b : Book) (n : ℕ) (o : Outcome) → MayAnswer b n o ⊎ MayTell b n o → IsOver (b.story n) → IsOver (answered (b.story n) o (renewals_asked (b.link (b.story n).link)))
+outcome_over : (b : Book) (n : ℕ) (o : Outcome) → MayAnswer b n o ⊎ MayTell b n o → IsOver (b.story n) → IsOver (answered (b.story n) o)
 outcome_over b n o (inl owes) h u = absurd (owed_is_done b n o owes u)
 outcome_over b n o (inr told) h u = absurd (not_over b n told.begun.applied told.unstarted h)
 
@@ -67,22 +63,18 @@ over_kept b (action.Turn k (cause.Event e)) may n i h = event_over b n e.kind i 
 over_kept b (action.Connect m host port) may n i h = h
 over_kept b (action.Timer t ms what) may n i h = chosen IsOver (is_clock_of n (Some what)) (clocked (b.story n) t) (b.story n) (λ e. h) (λ f. h)
 over_kept b (action.Took owner.Setup l count) may n i h = absurd may
-over_kept b (action.Took owner.Auth l count) may n i h = absurd may
 over_kept b (action.Took (owner.Try m round) l count) may n i h = chosen IsOver (m == n) (holds (b.story n) count) (b.story n) (λ e. h) (λ f. h)
 over_kept b (action.Push m info) may n i h = h
-over_kept b (action.NeedCreds c m) may n i h = h
 over_kept b (action.Close m) may n i h = h
 over_kept b (action.Write m bytes) may n i h = h
 over_kept b (action.Wait owner.Setup kind) may n i h = absurd may
-over_kept b (action.Wait owner.Auth kind) may n i h = absurd may
-over_kept b (action.Wait (owner.Try m round) kind) may n i h = chosen IsOver (m == n) (waits (b.story n) kind (renewals_asked (b.link (b.story n).link))) (b.story n) (λ e. h) (λ f. h)
+over_kept b (action.Wait (owner.Try m round) kind) may n i h = chosen IsOver (m == n) (waits (b.story n) kind) (b.story n) (λ e. h) (λ f. h)
 over_kept b (action.Start l k owner.Setup count len) may n i h = h
-over_kept b (action.Start l k owner.Auth count len) may n i h = h
 over_kept b (action.Start l k (owner.Try m round) count len) may n i h = chosen IsOver (m == n) (tried (b.story n) l k) (b.story n)
     (λ e u. absurd (not_empty (b.story n).tries (record { link = l; message = k }) (has_no_tries (tried (b.story n) l k) u))) (λ f. h)
 over_kept b (action.Created e) may n i h = h
-over_kept b (action.Outcome m o) may n i h = chosen IsOver (m == n) (answered (b.story n) o (renewals_asked (b.link (b.story n).link))) (b.story n)
-    (λ t. subst (λ j. IsOver (b.story j) → IsOver (answered (b.story j) o (renewals_asked (b.link (b.story j).link)))) (eq_from m n t) (outcome_over b m o may) h) (λ f. h)
+over_kept b (action.Outcome m o) may n i h = chosen IsOver (m == n) (answered (b.story n) o) (b.story n)
+    (λ t. subst (λ j. IsOver (b.story j) → IsOver (answered (b.story j) o)) (eq_from m n t) (outcome_over b m o may) h) (λ f. h)
 
 -- and behind many
 stays_over : (b : Book) (front : List Action) → AllStand b front → (n : ℕ) → n < b.submissions → IsOver (b.story n) → IsOver ((entered_each b front).story n)

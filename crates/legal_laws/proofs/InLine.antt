@@ -13,7 +13,6 @@ use Rattle.legal_trace.specs.Story.{Story, is_open, is_told, is_awaited, is_no_e
 use Rattle.legal_trace.specs.Book.{Book, entered, entered_each, current, is_clock_of, after_event, is_unspoken}
 use Rattle.legal_trace.specs.Steps.{permits_in, is_let_in, is_in_line, line_before}
 use Rattle.legal_trace.specs.Legal.{MayStand, MayAnswer, MayTell, MayTake, MayStart, AllStand}
-use Rattle.legal_trace.specs.Ledger.{renewals_asked}
 use Rattle.legal_trace.proofs.Plain.{not_empty}
 use Rattle.legal_laws.proofs.Held.{not_open}
 use Rattle.legal_trace.proofs.Moves.{has_no_tries, open_or_told, both_hold, holds_some, is_timed, takes_mean}
@@ -121,26 +120,26 @@ holds_follows b n l count may =
     }
 
 -- a submission that was owed an outcome is not unstarted behind it
-pub owed_is_done : (b : Book) (n : ℕ) (o : Outcome) → MayAnswer b n o → is_unstarted (answered (b.story n) o (renewals_asked (b.link (b.story n).link))) ≡ true → ⊥
-owed_is_done b n o may u = elim (open_or_told (answered (b.story n) o (renewals_asked (b.link (b.story n).link))) u) [
+pub owed_is_done : (b : Book) (n : ℕ) (o : Outcome) → MayAnswer b n o → is_unstarted (answered (b.story n) o) ≡ true → ⊥
+owed_is_done b n o may u = elim (open_or_told (answered (b.story n) o) u) [
   | inl still ↦ not_open (b.story n) o still
-  | inr told ↦ unstarted_gets_a_fault b n o (has_no_tries (answered (b.story n) o (renewals_asked (b.link (b.story n).link))) u) may.owes
+  | inr told ↦ unstarted_gets_a_fault b n o (has_no_tries (answered (b.story n) o) u) may.owes
       (sym (ap (λ (os : List Outcome). is_no_error (os ++ o ∷ [])) (open_has_none (b.story n) may.asked))
       ∙ both_right (not (is_awaited (b.story n))) (is_no_error ((b.story n).outcomes ++ o ∷ [])) told)
 ]
 
 -- where it is answered
-answered_follows : (b : Book) (n : ℕ) (o : Outcome) → MayAnswer b n o ⊎ MayTell b n o → Follows (permits_in b.config) (b.story n) (answered (b.story n) o (renewals_asked (b.link (b.story n).link)))
-answered_follows b n o (inl owes) = done_follows (permits_in b.config) (b.story n) (answered (b.story n) o (renewals_asked (b.link (b.story n).link))) refl (owed_is_done b n o owes)
+answered_follows : (b : Book) (n : ℕ) (o : Outcome) → MayAnswer b n o ⊎ MayTell b n o → Follows (permits_in b.config) (b.story n) (answered (b.story n) o)
+answered_follows b n o (inl owes) = done_follows (permits_in b.config) (b.story n) (answered (b.story n) o) refl (owed_is_done b n o owes)
 answered_follows b n o (inr may) =
-    let told : is_unstarted (answered (b.story n) o (renewals_asked (b.link (b.story n).link))) ≡ true → is_told (answered (b.story n) o (renewals_asked (b.link (b.story n).link))) ≡ true =
-    λ u. elim (open_or_told (answered (b.story n) o (renewals_asked (b.link (b.story n).link))) u) [ inl still ↦ absurd (not_open (b.story n) o still) | inr t ↦ t ] in
+    let told : is_unstarted (answered (b.story n) o) ≡ true → is_told (answered (b.story n) o) ≡ true =
+    λ u. elim (open_or_told (answered (b.story n) o) u) [ inl still ↦ absurd (not_open (b.story n) o still) | inr t ↦ t ] in
     record {
       link = refl;
       unstarted = λ u. may.unstarted;
       told = λ u t. told u;
-      stays = λ u e. first_holds (is_told (answered (b.story n) o (renewals_asked (b.link (b.story n).link)))) (is_let_in (permits_in b.config) (answered (b.story n) o (renewals_asked (b.link (b.story n).link)))) (told u);
-      holds = λ u e i. absurd (not_both (is_told (answered (b.story n) o (renewals_asked (b.link (b.story n).link)))) e (told u));
+      stays = λ u e. first_holds (is_told (answered (b.story n) o)) (is_let_in (permits_in b.config) (answered (b.story n) o)) (told u);
+      holds = λ u e i. absurd (not_both (is_told (answered (b.story n) o)) e (told u));
     }
 
 -- behind an event
@@ -156,9 +155,6 @@ event_follows b n (event.Ended l) i = same_story (permits_in b.config) (b.story 
 event_follows b n (event.ReadFault l kind) i = same_story (permits_in b.config) (b.story n)
 event_follows b n (event.WriteFault l kind) i = same_story (permits_in b.config) (b.story n)
 event_follows b n (event.Timeout ms) i = same_story (permits_in b.config) (b.story n)
-event_follows b n (event.Creds c auth) i = same_story (permits_in b.config) (b.story n)
-event_follows b n (event.CredsError c text) i = same_story (permits_in b.config) (b.story n)
-event_follows b n (event.CredsEnd c) i = same_story (permits_in b.config) (b.story n)
 event_follows b n event.Shutdown i = same_story (permits_in b.config) (b.story n)
 
 -- and behind each action
@@ -168,23 +164,19 @@ follows b (action.Turn k (cause.Event e)) may n i = event_follows b n e.kind i
 follows b (action.Connect l host port) may n i = same_story (permits_in b.config) (b.story n)
 follows b (action.Timer t ms what) may n i = chosen (Follows (permits_in b.config) (b.story n)) (is_clock_of n (Some what)) (clocked (b.story n) t) (b.story n) (λ e. clocked_follows (permits_in b.config) (b.story n) t) (λ f. same_story (permits_in b.config) (b.story n))
 follows b (action.Took owner.Setup l count) may n i = absurd may
-follows b (action.Took owner.Auth l count) may n i = absurd may
 follows b (action.Took (owner.Try m round) l count) may n i = chosen (Follows (permits_in b.config) (b.story n)) (m == n) (holds (b.story n) count) (b.story n)
     (λ t. subst (λ j. Follows (permits_in b.config) (b.story j) (holds (b.story j) count)) (eq_from m n t) (holds_follows b m l count may.1)) (λ f. same_story (permits_in b.config) (b.story n))
 follows b (action.Push l info) may n i = same_story (permits_in b.config) (b.story n)
-follows b (action.NeedCreds c l) may n i = same_story (permits_in b.config) (b.story n)
 follows b (action.Close l) may n i = same_story (permits_in b.config) (b.story n)
 follows b (action.Write l bytes) may n i = same_story (permits_in b.config) (b.story n)
 follows b (action.Wait owner.Setup kind) may n i = absurd may
-follows b (action.Wait owner.Auth kind) may n i = absurd may
-follows b (action.Wait (owner.Try m round) kind) may n i = chosen (Follows (permits_in b.config) (b.story n)) (m == n) (waits (b.story n) kind (renewals_asked (b.link (b.story n).link))) (b.story n)
+follows b (action.Wait (owner.Try m round) kind) may n i = chosen (Follows (permits_in b.config) (b.story n)) (m == n) (waits (b.story n) kind) (b.story n)
     (λ t. record { link = refl; unstarted = λ u. u; told = λ u e. e; stays = λ u e. e; holds = λ u e j. j }) (λ f. same_story (permits_in b.config) (b.story n))
 follows b (action.Start l k owner.Setup count len) may n i = same_story (permits_in b.config) (b.story n)
-follows b (action.Start l k owner.Auth count len) may n i = same_story (permits_in b.config) (b.story n)
 follows b (action.Start l k (owner.Try m round) count len) may n i = chosen (Follows (permits_in b.config) (b.story n)) (m == n) (tried (b.story n) l k) (b.story n) (λ t. tried_follows (permits_in b.config) (b.story n) l k) (λ f. same_story (permits_in b.config) (b.story n))
 follows b (action.Created e) may n i = same_story (permits_in b.config) (b.story n)
-follows b (action.Outcome m o) may n i = chosen (Follows (permits_in b.config) (b.story n)) (m == n) (answered (b.story n) o (renewals_asked (b.link (b.story n).link))) (b.story n)
-    (λ t. subst (λ j. Follows (permits_in b.config) (b.story j) (answered (b.story j) o (renewals_asked (b.link (b.story j).link)))) (eq_from m n t) (answered_follows b m o may)) (λ f. same_story (permits_in b.config) (b.story n))
+follows b (action.Outcome m o) may n i = chosen (Follows (permits_in b.config) (b.story n)) (m == n) (answered (b.story n) o) (b.story n)
+    (λ t. subst (λ j. Follows (permits_in b.config) (b.story j) (answered (b.story j) o)) (eq_from m n t) (answered_follows b m o may)) (λ f. same_story (permits_in b.config) (b.story n))
 
 -- who is to start on a link behind an action was so before it
 pub to_start_before : (b : Book) (a : Action) → MayStand b a → (l n : ℕ) → n < b.submissions → is_to_start l ((entered b a).story n) ≡ true → is_to_start l (b.story n) ≡ true
@@ -202,7 +194,6 @@ submissions_grow b (action.Connect m host port) = omega arith
 submissions_grow b (action.Timer t ms what) = omega arith
 submissions_grow b (action.Took who m count) = omega arith
 submissions_grow b (action.Push m info) = omega arith
-submissions_grow b (action.NeedCreds c m) = omega arith
 submissions_grow b (action.Close m) = omega arith
 submissions_grow b (action.Write m bytes) = omega arith
 submissions_grow b (action.Wait who kind) = omega arith

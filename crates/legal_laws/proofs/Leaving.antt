@@ -11,7 +11,6 @@ use Rattle.driver_model.specs.declared.config.Config.{Config}
 use Rattle.driver_model.specs.declared.event.Event.{Event}
 use Rattle.driver_model.specs.declared.outcome.Outcome.{Outcome}
 use Rattle.driver_model.specs.declared.outcome.Outcome.TheVariants as outcome
-use Rattle.legal_trace.specs.Ledger.{renewals_asked}
 use Rattle.legal_trace.specs.Story.{Story, is_open, is_awaited, is_no_error, is_unstarted, left, answered}
 use Rattle.legal_trace.specs.Book.{Book, blank_book, book, entered, entered_each, after_event}
 use Rattle.legal_trace.specs.Legal.{MayStand, MayAnswer, MayTell, AllStand, IsOpen, Legal}
@@ -32,9 +31,9 @@ outcome_is_open b n o (inl owes) = owes.asked
 outcome_is_open b n o (inr told) = told.asked
 
 -- an open submission that gets an error is done
-error_is_done : (s : Story) (e : RedisError) (behind : ℕ) → is_open s ≡ true → is_unstarted (answered s (outcome.Fault e) behind) ≡ true → ⊥
-error_is_done s e behind o u = elim (open_or_told (answered s (outcome.Fault e) behind) u) [
-  | inl still ↦ not_open s (outcome.Fault e) behind still
+error_is_done : (s : Story) (e : RedisError) → is_open s ≡ true → is_unstarted (answered s (outcome.Fault e)) ≡ true → ⊥
+error_is_done s e o u = elim (open_or_told (answered s (outcome.Fault e)) u) [
+  | inl still ↦ not_open s (outcome.Fault e) still
   | inr told ↦
       let good : is_no_error (s.outcomes ++ outcome.Fault e ∷ []) ≡ true = both_right (not (is_awaited s)) (is_no_error (s.outcomes ++ outcome.Fault e ∷ [])) told in
       let x : false ≡ true = sym (ap (λ (os : List Outcome). is_no_error (os ++ outcome.Fault e ∷ [])) (open_has_none s o)) ∙ good in cc x
@@ -44,7 +43,7 @@ error_is_done s e behind o u = elim (open_or_told (answered s (outcome.Fault e) 
 done_behind : (b : Book) (a : Action) (n : ℕ) → MayStand b a → Leaves b n a → is_unstarted ((entered b a).story n) ≡ true → ⊥
 done_behind b (action.Outcome m (outcome.Fault e)) n may is =
     let o : is_open (b.story n) ≡ true = subst (IsOpen b) is (outcome_is_open b m (outcome.Fault e) may) in
-    chosen (λ s. is_unstarted s ≡ true → ⊥) (m == n) (answered (b.story n) (outcome.Fault e) (renewals_asked (b.link (b.story n).link))) (b.story n) (λ t. error_is_done (b.story n) e (renewals_asked (b.link (b.story n).link)) o) (λ f u. ne_from m n f is)
+    chosen (λ s. is_unstarted s ≡ true → ⊥) (m == n) (answered (b.story n) (outcome.Fault e)) (b.story n) (λ t. error_is_done (b.story n) e o) (λ f u. ne_from m n f is)
 done_behind b (action.Turn k (cause.Event e)) n may is =
     subst (λ kind. is_unstarted (after_event b n kind) ≡ true → ⊥) (sym is.0)
     (chosen (λ s. is_unstarted s ≡ true → ⊥) (n == n) (left (b.story n)) (b.story n) (λ t. leaver_is_done (b.story n) is.1) (λ f u. ne_from n n f refl))

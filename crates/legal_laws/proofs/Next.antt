@@ -19,15 +19,14 @@ use Rattle.driver_model.specs.declared.outcome.Outcome.TheVariants as outcome
 use Rattle.resp_value.specs.declared.value.Value.TheVariants.{Nil}
 use Rattle.resp_value.specs.declared.push_kind.PushKind.{PushKind}
 use Rattle.resp_value.specs.declared.push_kind.PushKind.TheVariants.{Disconnection}
-use Rattle.credentials.specs.Credentials.{Credentials}
 use Rattle.driver_model.specs.Push.{is_disconnection}
 use Rattle.driver_model.specs.declared.push_info.PushInfo.{PushInfo}
-use Rattle.legal_trace.specs.Ledger.{Heard, IsOffered, is_over, is_cut, unwritten, ending, failure_in, next_push, renewal_due, renewal_message, renewals_asked, setup_due, setup_message, source_due}
+use Rattle.legal_trace.specs.Ledger.{Heard, IsOffered, is_over, is_cut, unwritten, ending, failure_in, next_push, setup_due, setup_message}
 use Rattle.legal_trace.specs.Story.{shape, bytes_of}
 use Rattle.legal_trace.specs.Owed.{owed}
 use Rattle.legal_trace.specs.Book.{Book, book}
 use Rattle.legal_trace.specs.Steps.{Step, waits, takes, asks, tells, starts, nothing, is_held_back, next_step}
-use Rattle.legal_trace.specs.Legal.{MayStand, MayConnect, MayTimeConnect, MayTime, MayTimeRenewal, MayNeed, MayRenew, CanRenew, IsFirstToMove, MayTake, MayTimer, MayTellPush, MayPart, MayPushBy, MayClose, MayBeCreated, MayFail, MayShowCreation, MayAnswer, MayTell, MayStart, MaySetUp, MayWrite, MayWait, IsOpen, IsWaiting, link_of, CanMove}
+use Rattle.legal_trace.specs.Legal.{MayStand, MayConnect, MayTimeConnect, MayTime, MayTake, MayTimer, MayTellPush, MayPart, MayPushBy, MayClose, MayBeCreated, MayFail, MayShowCreation, MayAnswer, MayTell, MayStart, MaySetUp, MayWrite, MayWait, IsOpen, IsWaiting, link_of, CanMove}
 use Rattle.legal_laws.specs.Next.{BothAnnounce, OneIsNext, OneIsNextBehind}
 use Rattle.legal_trace.proofs.Moves.{teller_moves, starter_moves, taker_moves, asker_moves, same_kind}
 use Rattle.legal_laws.proofs.Ranks.{answer_rank, creation_rank, push_rank, rank, same_rank, outcome_rank, timer_rank, not_offered, not_shown}
@@ -78,55 +77,11 @@ move_of b n nothing = action.Close 0
 
 -- it is the step of the first submission that makes one
 abbrev pub IsMoving : Book → Action → Type 0
-IsMoving b y = (n : ℕ) × CanMove b n × IsFirstToMove b n × (y ≡ move_of b n (next_step b n))
+IsMoving b y = (n : ℕ) × CanMove b n × ((k : ℕ) → k < n → CanMove b k → ⊥) × (y ≡ move_of b n (next_step b n))
 
 -- two of these are one
 one_moving : (b : Book) (x y : Action) → IsMoving b x → IsMoving b y → x ≡ y
-one_moving b x y p q = let e : p.0 ≡ q.0 = one_move b p.0 q.0 p.1 q.1 p.2.before q.2.before in p.3 ∙ (ap (λ n. move_of b n (next_step b n)) e ∙ sym q.3)
-
--- it tells new credentials
-abbrev pub IsRenewing : Book → Action → Type 0
-IsRenewing b y = (l : ℕ) × (k : ℕ) × (count : ℕ) × (len : ℕ) × (y ≡ action.Start l k owner.Auth count len) × MayRenew b l k count len
-
--- no submission makes a step where new credentials are told
-move_or_renew : (b : Book) (y z : Action) → IsMoving b y → IsRenewing b z → ⊥
-move_or_renew b y z p q = q.5.behind p.0 p.1 (p.2.renewals q.0 q.5.can)
-
--- new credentials are known by their link
-abbrev pub renewal_on : Book → ℕ → Credentials → Action
-renewal_on b l c = action.Start l (length (b.link l).starts) owner.Auth 1 (length (renewal_message c).bytes)
-
-renewal_is : (b : Book) (l k count len : ℕ) (may : MayRenew b l k count len) → action.Start l k owner.Auth count len ≡ renewal_on b l may.can.credentials
-renewal_is b l k count len may =
-    ap (λ x. action.Start l x owner.Auth count len) may.next
-    ∙ (ap (λ x. action.Start l (length (b.link l).starts) owner.Auth x len) may.needs_its_item
-    ∙ ap (λ x. action.Start l (length (b.link l).starts) owner.Auth 1 x) may.long_as_its_bytes)
-
--- two that are told are one
-one_renewal : (b : Book) (l m k j count need len size : ℕ) → MayRenew b l k count len → MayRenew b m j need size → action.Start l k owner.Auth count len ≡ action.Start m j owner.Auth need size
-one_renewal b l m k j count need len size h g =
-    let e : l ≡ m = least_is_one (CanRenew b) l m h.can g.can h.in_order g.in_order in
-    let same : h.can.credentials ≡ g.can.credentials = same_some h.can.credentials g.can.credentials (sym h.can.due ∙ (ap (λ i. renewal_due (b.link i)) e ∙ g.can.due)) in
-    renewal_is b l k count len h ∙ (ap (λ i. renewal_on b i h.can.credentials) e ∙ (ap (renewal_on b m) same ∙ sym (renewal_is b m j need size g)))
-
--- two sources are one
-one_need : (b : Book) (c d l m : ℕ) → MayNeed b c l → MayNeed b d m → action.NeedCreds c l ≡ action.NeedCreds d m
-one_need b c d l m h g =
-    let e : l ≡ m = least_is_one (λ j. source_due (b.link j) ≡ true) l m h.due g.due
-    (λ j i w. not_both (source_due (b.link j)) (h.in_order j i) w) (λ j i w. not_both (source_due (b.link j)) (g.in_order j i) w) in
-    let same : c ≡ d = h.next ∙ sym g.next in
-    cc (e, same)
-
--- two timers of new credentials are one
-one_renewal_timer : (b : Book) (t u ms time : ℕ) (what other : Purpose) → MayTimeRenewal b t ms what → MayTimeRenewal b u time other → action.Timer t ms what ≡ action.Timer u time other
-one_renewal_timer b t u ms time what other h g =
-    let e : h.l ≡ g.l = least_is_one (λ j. (b.link j).creds.timed < renewals_asked (b.link j)) h.l g.l h.asked g.asked
-    (λ j i w. let all : renewals_asked (b.link j) ≤ (b.link j).creds.timed = h.in_order j i in omega (arith, all, w))
-    (λ j i w. let all : renewals_asked (b.link j) ≤ (b.link j).creds.timed = g.in_order j i in omega (arith, all, w)) in
-    let i : t ≡ u = h.next ∙ sym g.next in
-    let m : ms ≡ time = same_some ms time (sym h.within ∙ g.within) in
-    let w : what ≡ other = h.is_for ∙ (ap (λ j. purpose.Renewal j (b.link j).creds.timed) e ∙ sym g.is_for) in
-    cc (i, m, w)
+one_moving b x y p q = let e : p.0 ≡ q.0 = one_move b p.0 q.0 p.1 q.1 p.2 q.2 in p.3 ∙ (ap (λ n. move_of b n (next_step b n)) e ∙ sym q.3)
 
 -- so is Nil that is told at its place
 tell_moving : (b : Book) (n : ℕ) (o : Outcome) → MayTell b n o → IsMoving b (action.Outcome n o)
@@ -195,10 +150,6 @@ setup_is b l message count len may =
     ap (λ x. action.Start l x owner.Setup count len) may.next
     ∙ (ap (λ x. action.Start l (length (b.link l).starts) owner.Setup x len) may.needs_its_items
     ∙ ap (λ x. action.Start l (length (b.link l).starts) owner.Setup (need_of (setup_message (b.link l) may.k).shape) x) may.long_as_its_bytes)
-setup_is b l message count len may =
-    ap (λ x. action.Start l x owner.Auth count len) may.next
-    ∙ (ap (λ x. action.Start l (length (b.link l).starts) owner.Auth x len) may.needs_its_items
-    ∙ ap (λ x. action.Start l (length (b.link l).starts) owner.Auth (need_of (setup_message (b.link l) may.k).shape) x) may.long_as_its_bytes) = 
 
 -- a setup is to start on that link, which isn't held back
 abbrev pub IsSettingUp : Book → ℕ → Type 0
@@ -293,13 +244,11 @@ OfRank (suc (suc (suc (suc zero)))) b y = (l : ℕ) × (y ≡ action.Close l) ×
 OfRank (suc (suc (suc (suc (suc zero))))) b y = (e : RedisError) × (y ≡ action.Created (Some e)) × MayFail b e
 OfRank (suc (suc (suc (suc (suc (suc zero)))))) b y = (l : ℕ) × (info : PushInfo) × (y ≡ action.Push l info) × (is_disconnection info.kind ≡ true) × MayPart b l info
 OfRank (suc (suc (suc (suc (suc (suc (suc zero))))))) b y = IsAnswering b true y
-OfRank (suc (suc (suc (suc (suc (suc (suc (suc zero)))))))) b y = (c : ℕ) × (l : ℕ) × (y ≡ action.NeedCreds c l) × MayNeed b c l
-OfRank (suc (suc (suc (suc (suc (suc (suc (suc (suc zero))))))))) b y = (l : ℕ) × (k : ℕ) × (count : ℕ) × (len : ℕ) × (y ≡ action.Start l k owner.Setup count len) × MaySetUp b l k count len
-OfRank (suc (suc (suc (suc (suc (suc (suc (suc (suc (suc zero)))))))))) b y = (t : ℕ) × (ms : ℕ) × (what : Purpose) × (y ≡ action.Timer t ms what) × MayTimeRenewal b t ms what
-OfRank (suc (suc (suc (suc (suc (suc (suc (suc (suc (suc (suc zero))))))))))) b y = IsMoving b y ⊎ IsRenewing b y
-OfRank (suc (suc (suc (suc (suc (suc (suc (suc (suc (suc (suc (suc zero)))))))))))) b y = (l : ℕ) × (bytes : List ℕ) × (y ≡ action.Write l bytes) × MayWrite b l bytes
-OfRank (suc (suc (suc (suc (suc (suc (suc (suc (suc (suc (suc (suc (suc zero))))))))))))) b y = (n : ℕ) × (kind : WaitKind) × (y ≡ action.Wait (owner.Try n 0) kind) × MayWait b n kind
-OfRank (suc (suc (suc (suc (suc (suc (suc (suc (suc (suc (suc (suc (suc (suc more)))))))))))))) b y = (k : ℕ) × (e : Event) × (y ≡ action.Turn k (cause.Event e)) × (k ≡ b.turns)
+OfRank (suc (suc (suc (suc (suc (suc (suc (suc zero)))))))) b y = (l : ℕ) × (k : ℕ) × (count : ℕ) × (len : ℕ) × (y ≡ action.Start l k owner.Setup count len) × MaySetUp b l k count len
+OfRank (suc (suc (suc (suc (suc (suc (suc (suc (suc zero))))))))) b y = IsMoving b y
+OfRank (suc (suc (suc (suc (suc (suc (suc (suc (suc (suc zero)))))))))) b y = (l : ℕ) × (bytes : List ℕ) × (y ≡ action.Write l bytes) × MayWrite b l bytes
+OfRank (suc (suc (suc (suc (suc (suc (suc (suc (suc (suc (suc zero))))))))))) b y = (n : ℕ) × (kind : WaitKind) × (y ≡ action.Wait (owner.Try n 0) kind) × MayWait b n kind
+OfRank (suc (suc (suc (suc (suc (suc (suc (suc (suc (suc (suc (suc more)))))))))))) b y = (k : ℕ) × (e : Event) × (y ≡ action.Turn k (cause.Event e)) × (k ≡ b.turns)
 
 -- an outcome that is owed is of its rank
 answer_of_rank : (b : Book) (n : ℕ) (o : Outcome) (over : Bool) → is_over (link_of b n) ≡ over → MayAnswer b n o → OfRank (answer_rank over) b (action.Outcome n o)
@@ -309,7 +258,7 @@ answer_of_rank b n o true e may = (n, o, refl, e, may)
 -- so is any outcome
 outcome_of_rank : (b : Book) (n : ℕ) (o : Outcome) (may : MayAnswer b n o ⊎ MayTell b n o) → OfRank (outcome_rank b n o may) b (action.Outcome n o)
 outcome_of_rank b n o (inl owes) = answer_of_rank b n o (is_over (link_of b n)) refl owes
-outcome_of_rank b n o (inr told) = inl (tell_moving b n o told)
+outcome_of_rank b n o (inr told) = tell_moving b n o told
 
 -- so is the creation
 creation_of_rank : (b : Book) (e : Option RedisError) → MayShowCreation b e → OfRank (creation_rank e) b (action.Created e)
@@ -324,8 +273,7 @@ push_of_rank b l info true e may = (l, info, refl, e, may)
 -- and a timer
 timer_of_rank : (b : Book) (t ms : ℕ) (what : Purpose) (may : MayTimer b t ms what) → OfRank (timer_rank b t ms what may) b (action.Timer t ms what)
 timer_of_rank b t ms what (inl may) = (t, ms, what, refl, may)
-timer_of_rank b t ms what (inr (inl may)) = inl (ask_moving b t ms what may)
-timer_of_rank b t ms what (inr (inr may)) = (t, ms, what, refl, may)
+timer_of_rank b t ms what (inr may) = ask_moving b t ms what may
 
 -- each action that may stand is of its rank
 pub of_rank : (b : Book) (y : Action) (may : MayStand b y) → OfRank (rank b y may) b y
@@ -333,19 +281,15 @@ of_rank b (action.Turn k (cause.Opening config word)) may = (k, config, word, re
 of_rank b (action.Connect l host port) may = (l, host, port, refl, may)
 of_rank b (action.Timer t ms what) may = timer_of_rank b t ms what may
 of_rank b (action.Took owner.Setup l count) may = absurd may
-of_rank b (action.Took owner.Auth l count) may = absurd may
-of_rank b (action.Took (owner.Try n round) l count) may = subst (λ r. OfRank 11 b (action.Took (owner.Try n r) l count)) (sym may.0) (inl (take_moving b n l count may.1))
+of_rank b (action.Took (owner.Try n round) l count) may = subst (λ r. IsMoving b (action.Took (owner.Try n r) l count)) (sym may.0) (take_moving b n l count may.1)
 of_rank b (action.Outcome n o) may = outcome_of_rank b n o may
 of_rank b (action.Push l info) may = push_of_rank b l info (is_disconnection info.kind) refl may
-of_rank b (action.NeedCreds c l) may = (c, l, refl, may)
 of_rank b (action.Close l) may = (l, refl, may)
 of_rank b (action.Created e) may = creation_of_rank b e may
 of_rank b (action.Start l k owner.Setup count len) may = (l, k, count, len, refl, may)
-of_rank b (action.Start l k owner.Auth count len) may = inr (l, k, count, len, refl, may)
-of_rank b (action.Start l k (owner.Try n round) count len) may = subst (λ r. OfRank 11 b (action.Start l k (owner.Try n r) count len)) (sym may.0) (inl (start_moving b l k n count len may.1))
+of_rank b (action.Start l k (owner.Try n round) count len) may = subst (λ r. IsMoving b (action.Start l k (owner.Try n r) count len)) (sym may.0) (start_moving b l k n count len may.1)
 of_rank b (action.Write l bytes) may = (l, bytes, refl, may)
 of_rank b (action.Wait owner.Setup kind) may = absurd may
-of_rank b (action.Wait owner.Auth kind) may = absurd may
 of_rank b (action.Wait (owner.Try n round) kind) may = (n, kind, ap (λ r. action.Wait (owner.Try n r) kind) may.0, may.1)
 of_rank b (action.Turn k (cause.Event e)) may = (k, e, refl, may.next)
 
@@ -382,20 +326,10 @@ beside_answer : (b : Book) (n : ℕ) (o : Outcome) (y : Action) (over : Bool) �
 beside_answer b n o y false h e p q = beside_verdict b n o y h e p q
 beside_answer b n o y true h e p q = inl (one_answer b n q.0 o q.1 true e q.3 p q.4 ∙ sym q.2)
 
--- beside a step of a submission
-beside_moving : (b : Book) (x y : Action) → IsMoving b x → OfRank 11 b y → AreOne x y
-beside_moving b x y p (inl q) = inl (one_moving b x y p q)
-beside_moving b x y p (inr q) = absurd (move_or_renew b x y p q)
-
--- beside new credentials
-beside_renewal : (b : Book) (l k count len : ℕ) (y : Action) → MayRenew b l k count len → OfRank 11 b y → AreOne (action.Start l k owner.Auth count len) y
-beside_renewal b l k count len y p (inl q) = absurd (move_or_renew b y (action.Start l k owner.Auth count len) q (l, k, count, len, refl, p))
-beside_renewal b l k count len y p (inr q) = inl (one_renewal b l q.0 k q.1 count q.2 len q.3 p q.5 ∙ sym q.4)
-
 -- beside any outcome
 beside_outcome : (b : Book) (n : ℕ) (o : Outcome) (y : Action) (p : MayAnswer b n o ⊎ MayTell b n o) → Sound b → OfRank (outcome_rank b n o p) b y → AreOne (action.Outcome n o) y
 beside_outcome b n o y (inl p) h q = beside_answer b n o y (is_over (link_of b n)) h refl p q
-beside_outcome b n o y (inr p) h q = beside_moving b (action.Outcome n o) y (tell_moving b n o p) q
+beside_outcome b n o y (inr p) h q = inl (one_moving b (action.Outcome n o) y (tell_moving b n o p) q)
 
 -- beside that a link is ready
 beside_ready : (b : Book) (y : Action) → MayBeCreated b → IsOfValues b y → AreOne (action.Created None) y
@@ -422,8 +356,7 @@ beside_creation b (Some e) y p q = inl (ap (λ x. action.Created (Some x)) (one_
 -- beside a timer
 beside_timer : (b : Book) (t ms : ℕ) (what : Purpose) (y : Action) (p : MayTimer b t ms what) → OfRank (timer_rank b t ms what p) b y → AreOne (action.Timer t ms what) y
 beside_timer b t ms what y (inl p) q = inl (one_timer b t q.0 ms q.1 what q.2 p q.4 ∙ sym q.3)
-beside_timer b t ms what y (inr (inl p)) q = beside_moving b (action.Timer t ms what) y (ask_moving b t ms what p) q
-beside_timer b t ms what y (inr (inr p)) q = inl (one_renewal_timer b t q.0 ms q.1 what q.2 p q.4 ∙ sym q.3)
+beside_timer b t ms what y (inr p) q = inl (one_moving b (action.Timer t ms what) y (ask_moving b t ms what p) q)
 
 -- beside each
 pub beside : (b : Book) (x y : Action) (p : MayStand b x) → Sound b → OfRank (rank b x p) b y → AreOne x y
@@ -431,19 +364,15 @@ beside b (action.Turn j (cause.Opening config word)) y p h q = subst (AreOne (ac
 beside b (action.Connect l host port) y p h q = inl (one_connect b l q.0 host q.1 port q.2 p q.4 ∙ sym q.3)
 beside b (action.Timer t ms what) y p h q = beside_timer b t ms what y p q
 beside b (action.Took owner.Setup l count) y p h q = absurd p
-beside b (action.Took owner.Auth l count) y p h q = absurd p
-beside b (action.Took (owner.Try n round) l count) y p h q = subst (λ r. AreOne (action.Took (owner.Try n r) l count) y) (sym p.0) (beside_moving b (action.Took (owner.Try n 0) l count) y (take_moving b n l count p.1) q)
+beside b (action.Took (owner.Try n round) l count) y p h q = subst (λ r. AreOne (action.Took (owner.Try n r) l count) y) (sym p.0) (inl (one_moving b (action.Took (owner.Try n 0) l count) y (take_moving b n l count p.1) q))
 beside b (action.Outcome n o) y p h q = beside_outcome b n o y p h q
 beside b (action.Push l info) y p h q = beside_push b l info y (is_disconnection info.kind) h refl p q
-beside b (action.NeedCreds c l) y p h q = inl (one_need b c q.0 l q.1 p q.3 ∙ sym q.2)
 beside b (action.Close l) y p h q = inl (one_close b l q.0 p q.2 ∙ sym q.1)
 beside b (action.Created e) y p h q = beside_creation b e y p q
 beside b (action.Start l k owner.Setup count len) y p h q = inl (one_setup b l q.0 k q.1 count q.2 len q.3 p q.5 ∙ sym q.4)
-beside b (action.Start l k owner.Auth count len) y p h q = beside_renewal b l k count len y p q
-beside b (action.Start l k (owner.Try n round) count len) y p h q = subst (λ r. AreOne (action.Start l k (owner.Try n r) count len) y) (sym p.0) (beside_moving b (action.Start l k (owner.Try n 0) count len) y (start_moving b l k n count len p.1) q)
+beside b (action.Start l k (owner.Try n round) count len) y p h q = subst (λ r. AreOne (action.Start l k (owner.Try n r) count len) y) (sym p.0) (inl (one_moving b (action.Start l k (owner.Try n 0) count len) y (start_moving b l k n count len p.1) q))
 beside b (action.Write l bytes) y p h q = inl (one_write b l q.0 bytes q.1 p q.3 ∙ sym q.2)
 beside b (action.Wait owner.Setup kind) y p h q = absurd p
-beside b (action.Wait owner.Auth kind) y p h q = absurd p
 beside b (action.Wait (owner.Try n round) kind) y p h q = subst (λ r. AreOne (action.Wait (owner.Try n r) kind) y) (sym p.0) (inl (one_wait b n q.0 kind q.1 p.1 q.3 ∙ sym q.2))
 beside b (action.Turn j (cause.Event e)) y p h q = subst (AreOne (action.Turn j (cause.Event e))) (sym q.2) (inr (p.next ∙ sym q.3, tt))
 

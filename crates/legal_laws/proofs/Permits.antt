@@ -15,7 +15,6 @@ use Rattle.legal_trace.specs.Story.{Story, is_open, handed_in, left, holds, cloc
 use Rattle.legal_trace.specs.Book.{Book, blank_book, book, entered, entered_each, current, is_clock_of, after_event, is_unspoken}
 use Rattle.legal_trace.specs.Steps.{permits_in, permits_on, permits_held}
 use Rattle.legal_trace.specs.Legal.{MayTake, MayStand, AllStand, Legal}
-use Rattle.legal_trace.specs.Ledger.{renewals_asked}
 use Rattle.legal_trace.proofs.Books.{stand_front}
 use Rattle.legal_laws.specs.Permits.{KeepsPermits}
 use Rattle.legal_laws.proofs.Bounds.{IsReady, ready_behind, next_may, applied_began}
@@ -104,9 +103,6 @@ event_less b n (event.Ended l) = omega arith
 event_less b n (event.ReadFault l kind) = omega arith
 event_less b n (event.WriteFault l kind) = omega arith
 event_less b n (event.Timeout ms) = omega arith
-event_less b n (event.Creds c auth) = omega arith
-event_less b n (event.CredsError c text) = omega arith
-event_less b n (event.CredsEnd c) = omega arith
 event_less b n event.Shutdown = omega arith
 
 -- where permits are taken, no more are held than there are
@@ -147,23 +143,19 @@ within_kept b (action.Connect m host port) may sound h = kept_by b (action.Conne
 within_kept b (action.Timer t ms what) may sound h = kept_by b (action.Timer t ms what) may sound refl
     (λ n i. chosen (λ (s : Story). s.permits ≤ (b.story n).permits) (is_clock_of n (Some what)) (clocked (b.story n) t) (b.story n) (λ e. omega arith) (λ f. omega arith)) h
 within_kept b (action.Took owner.Setup l count) may sound h = absurd may
-within_kept b (action.Took owner.Auth l count) may sound h = absurd may
 within_kept b (action.Took (owner.Try m round) l count) may sound h = taken_within b m round l count may.1 may sound h
 within_kept b (action.Push m info) may sound h = kept_by b (action.Push m info) may sound refl (λ n i. omega arith) h
-within_kept b (action.NeedCreds c m) may sound h = kept_by b (action.NeedCreds c m) may sound refl (λ n i. omega arith) h
 within_kept b (action.Close m) may sound h = kept_by b (action.Close m) may sound refl (λ n i. omega arith) h
 within_kept b (action.Write m bytes) may sound h = kept_by b (action.Write m bytes) may sound refl (λ n i. omega arith) h
 within_kept b (action.Wait owner.Setup kind) may sound h = absurd may
-within_kept b (action.Wait owner.Auth kind) may sound h = absurd may
 within_kept b (action.Wait (owner.Try m round) kind) may sound h = kept_by b (action.Wait (owner.Try m round) kind) may sound refl
-    (λ n i. chosen (λ (s : Story). s.permits ≤ (b.story n).permits) (m == n) (waits (b.story n) kind (renewals_asked (b.link (b.story n).link))) (b.story n) (λ e. omega arith) (λ f. omega arith)) h
+    (λ n i. chosen (λ (s : Story). s.permits ≤ (b.story n).permits) (m == n) (waits (b.story n) kind) (b.story n) (λ e. omega arith) (λ f. omega arith)) h
 within_kept b (action.Start l k owner.Setup count len) may sound h = kept_by b (action.Start l k owner.Setup count len) may sound refl (λ n i. omega arith) h
-within_kept b (action.Start l k owner.Auth count len) may sound h = kept_by b (action.Start l k owner.Auth count len) may sound refl (λ n i. omega arith) h
 within_kept b (action.Start l k (owner.Try m round) count len) may sound h = kept_by b (action.Start l k (owner.Try m round) count len) may sound refl
     (λ n i. chosen (λ (s : Story). s.permits ≤ (b.story n).permits) (m == n) (tried (b.story n) l k) (b.story n) (λ e. omega arith) (λ f. omega arith)) h
 within_kept b (action.Created e) may sound h = kept_by b (action.Created e) may sound refl (λ n i. omega arith) h
 within_kept b (action.Outcome m o) may sound h = kept_by b (action.Outcome m o) may sound refl
-    (λ n i. chosen (λ (s : Story). s.permits ≤ (b.story n).permits) (m == n) (answered (b.story n) o (renewals_asked (b.link (b.story n).link))) (b.story n) (λ e. omega arith) (λ f. omega arith)) h
+    (λ n i. chosen (λ (s : Story). s.permits ≤ (b.story n).permits) (m == n) (answered (b.story n) o) (b.story n) (λ e. omega arith) (λ f. omega arith)) h
 
 -- and so do many
 each_within : (b : Book) (front : List Action) → AllStand b front → Sound b → IsWithinLimit b → IsWithinLimit (entered_each b front)

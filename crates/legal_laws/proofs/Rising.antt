@@ -59,7 +59,7 @@ first_to_start b l k m count len sound seated may n i e =
     let free : is_held_back b (link_of b n) ≡ false = ap (λ x. is_held_back b (b.link x)) same ∙ s.2 in
     let due : is_due (next_step b n) ≡ true = by_test (is_told (b.story n)) (is_due (next_step b n) ≡ true) (told_is_due b n dialing up free)
     (λ untold. free_is_due b n dialing up free untold (holds_before b l k m count len sound seated may n i (subst (λ x. is_to_start x (b.story n) ≡ true) may.on_its_link e) untold) inside) in
-    may.in_order.before n i (record { unstarted = both_right ((b.story n).link == l) (is_unstarted (b.story n)) e; due = due })
+    may.in_order n i (record { unstarted = both_right ((b.story n).link == l) (is_unstarted (b.story n)) e; due = due })
 
 -- behind a start neither whoever started nor anyone before it does
 out_behind : (b : Book) (a : Action) (l m : ℕ) → Sound b → IsSeated b → MayStand b a → IsStart l m a → (n : ℕ) → n ≤ m → is_to_start l ((entered b a).story n) ≡ true → ⊥

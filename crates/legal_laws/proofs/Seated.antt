@@ -10,7 +10,7 @@ use Rattle.driver_model.specs.declared.event.EventKind.{EventKind}
 use Rattle.driver_model.specs.declared.event.EventKind.TheVariants as event
 use Rattle.driver_model.specs.declared.outcome.Outcome.{Outcome}
 use Rattle.driver_model.specs.Config.{buffer_size}
-use Rattle.legal_trace.specs.Ledger.{dials, is_ready, renewals_asked}
+use Rattle.legal_trace.specs.Ledger.{dials, is_ready}
 use Rattle.legal_trace.specs.Story.{Story, is_open, is_told, is_awaited, is_no_error, is_unstarted, handed_in, left, holds, clocked, fires, tried, waits, answered}
 use Rattle.legal_trace.specs.Book.{Book, blank_book, book, entered, entered_each, current, is_clock_of, after_event, is_unspoken}
 use Rattle.legal_trace.specs.Steps.{configured, queue_size, permits_in, free_permits, is_let_in, is_in_line, line_before, is_outside}
@@ -91,9 +91,6 @@ event_outcomes b n (event.Refused l f) = refl
 event_outcomes b n (event.Fired t) = chosen (λ (s : Story). s.outcomes ≡ (b.story n).outcomes) (is_clock_of n (slice_get b.timers t)) (fires (b.story n)) (b.story n)
     (λ e. chosen (λ (s : Story). s.outcomes ≡ (b.story n).outcomes) (is_open (b.story n)) (record (b.story n) { overdue = true }) (b.story n) (λ o. refl) (λ o. refl)) (λ f. refl)
 event_outcomes b n (event.Timeout ms) = refl
-event_outcomes b n (event.Creds c auth) = refl
-event_outcomes b n (event.CredsError c text) = refl
-event_outcomes b n (event.CredsEnd c) = refl
 event_outcomes b n (event.Wrote l count) = refl
 event_outcomes b n (event.Bytes l piece) = refl
 event_outcomes b n (event.Ended l) = refl
@@ -111,9 +108,6 @@ event_told b n (event.Refused l f) i t = t
 event_told b n (event.Fired w) i t = chosen (λ s. is_told s ≡ true → is_told (b.story n) ≡ true) (is_clock_of n (slice_get b.timers w)) (fires (b.story n)) (b.story n)
     (λ e. chosen (λ s. is_told s ≡ true → is_told (b.story n) ≡ true) (is_open (b.story n)) (record (b.story n) { overdue = true }) (b.story n) (λ o u. u) (λ o u. u)) (λ f u. u) t
 event_told b n (event.Timeout ms) i t = t
-event_told b n (event.Creds c auth) i t = t
-event_told b n (event.CredsError c text) i t = t
-event_told b n (event.CredsEnd c) i t = t
 event_told b n (event.Wrote l count) i t = t
 event_told b n (event.Bytes l piece) i t = t
 event_told b n (event.Ended l) i t = t
@@ -158,7 +152,7 @@ tell_seated b m o sound holders may =
     }
 
 -- an outcome tells in place
-outcome_tells : (b : Book) (m : ℕ) (o : Outcome) → Sound b → HoldersInOrder b → MayAnswer b m o ⊎ MayTell b m o → is_unstarted (answered (b.story m) o (renewals_asked (b.link (b.story m).link))) ≡ true → HasItsPlace b m
+outcome_tells : (b : Book) (m : ℕ) (o : Outcome) → Sound b → HoldersInOrder b → MayAnswer b m o ⊎ MayTell b m o → is_unstarted (answered (b.story m) o) ≡ true → HasItsPlace b m
 outcome_tells b m o sound holders (inl owes) u = absurd (owed_is_done b m o owes u)
 outcome_tells b m o sound holders (inr told) u = tell_seated b m o sound holders told
 
@@ -176,26 +170,22 @@ seated_kept b (action.Connect l host port) may sound holders h = kept_by b (acti
 seated_kept b (action.Timer w ms what) may sound holders h =
     kept_by b (action.Timer w ms what) may refl (unchanged b (action.Timer w ms what) (λ n. chosen (λ s. is_told s ≡ true → is_told (b.story n) ≡ true) (is_clock_of n (Some what)) (clocked (b.story n) w) (b.story n) (λ e t. t) (λ f t. t))) h
 seated_kept b (action.Took owner.Setup l count) may sound holders h = absurd may
-seated_kept b (action.Took owner.Auth l count) may sound holders h = absurd may
 seated_kept b (action.Took (owner.Try m round) l count) may sound holders h =
     kept_by b (action.Took (owner.Try m round) l count) may refl (unchanged b (action.Took (owner.Try m round) l count) (λ n. chosen (λ s. is_told s ≡ true → is_told (b.story n) ≡ true) (m == n) (holds (b.story n) count) (b.story n) (λ e t. t) (λ f t. t))) h
 seated_kept b (action.Push l info) may sound holders h = kept_by b (action.Push l info) may refl (unchanged b (action.Push l info) (λ n t. t)) h
-seated_kept b (action.NeedCreds c l) may sound holders h = kept_by b (action.NeedCreds c l) may refl (unchanged b (action.NeedCreds c l) (λ n t. t)) h
 seated_kept b (action.Close l) may sound holders h = kept_by b (action.Close l) may refl (unchanged b (action.Close l) (λ n t. t)) h
 seated_kept b (action.Write l bytes) may sound holders h = kept_by b (action.Write l bytes) may refl (unchanged b (action.Write l bytes) (λ n t. t)) h
 seated_kept b (action.Wait owner.Setup kind) may sound holders h = absurd may
-seated_kept b (action.Wait owner.Auth kind) may sound holders h = absurd may
 seated_kept b (action.Wait (owner.Try m round) kind) may sound holders h =
-    kept_by b (action.Wait (owner.Try m round) kind) may refl (unchanged b (action.Wait (owner.Try m round) kind) (λ n. chosen (λ s. is_told s ≡ true → is_told (b.story n) ≡ true) (m == n) (waits (b.story n) kind (renewals_asked (b.link (b.story n).link))) (b.story n) (λ e t. t) (λ f t. t))) h
+    kept_by b (action.Wait (owner.Try m round) kind) may refl (unchanged b (action.Wait (owner.Try m round) kind) (λ n. chosen (λ s. is_told s ≡ true → is_told (b.story n) ≡ true) (m == n) (waits (b.story n) kind) (b.story n) (λ e t. t) (λ f t. t))) h
 seated_kept b (action.Start l k owner.Setup count len) may sound holders h = kept_by b (action.Start l k owner.Setup count len) may refl (unchanged b (action.Start l k owner.Setup count len) (λ n t. t)) h
-seated_kept b (action.Start l k owner.Auth count len) may sound holders h = kept_by b (action.Start l k owner.Auth count len) may refl (unchanged b (action.Start l k owner.Auth count len) (λ n t. t)) h
 seated_kept b (action.Start l k (owner.Try m round) count len) may sound holders h =
     kept_by b (action.Start l k (owner.Try m round) count len) may refl (unchanged b (action.Start l k (owner.Try m round) count len) (λ n. chosen (λ s. is_told s ≡ true → is_told (b.story n) ≡ true) (m == n) (tried (b.story n) l k) (b.story n) (λ e t. t) (λ f t. t))) h
 seated_kept b (action.Created e) may sound holders h = kept_by b (action.Created e) may refl (unchanged b (action.Created e) (λ n t. t)) h
 seated_kept b (action.Outcome m o) may sound holders h =
     kept_by b (action.Outcome m o) may refl
-    (λ n i. chosen (λ s. is_unstarted s ≡ true → is_told s ≡ true → (is_told (b.story n) ≡ true) ⊎ HasItsPlace b n) (m == n) (answered (b.story n) o (renewals_asked (b.link (b.story n).link))) (b.story n)
-    (λ e u t. inr (subst (λ j. is_unstarted (answered (b.story j) o (renewals_asked (b.link (b.story j).link))) ≡ true → HasItsPlace b j) (eq_from m n e) (outcome_tells b m o sound holders may) u))
+    (λ n i. chosen (λ s. is_unstarted s ≡ true → is_told s ≡ true → (is_told (b.story n) ≡ true) ⊎ HasItsPlace b n) (m == n) (answered (b.story n) o) (b.story n)
+    (λ e u t. inr (subst (λ j. is_unstarted (answered (b.story j) o) ≡ true → HasItsPlace b j) (eq_from m n e) (outcome_tells b m o sound holders may) u))
     (λ f u t. inl t)) h
 
 -- submission n takes permits now
@@ -210,7 +200,7 @@ taker_behind b m n i t untold now =
     let same : (b.story m).link ≡ (b.story n).link = eq_from (b.story m).link (b.story n).link (both_left ((b.story m).link == (b.story n).link) (is_unstarted (b.story m)) t) in
     let unstarted : is_unstarted (b.story m) ≡ true = both_right ((b.story m).link == (b.story n).link) (is_unstarted (b.story m)) t in
     rester_holds b m x.2.0 (ap (λ y. dials (b.link y)) same ∙ x.0) (ap (λ y. is_ready (b.link y)) same ∙ x.1) untold x.2.1 (subst (λ y. 0 < free_permits b y x.2.0) (sym same) x.2.4)
-    (λ due. may.in_order.before m i (record { unstarted = unstarted; due = due }))
+    (λ due. may.in_order m i (record { unstarted = unstarted; due = due }))
 
 -- whoever holds permits behind an action held some, or takes them now
 abbrev pub Gains : Book → ℕ → Story → Type 0
@@ -231,9 +221,6 @@ event_gains b n (event.Ended l) = λ i. inl i
 event_gains b n (event.ReadFault l kind) = λ i. inl i
 event_gains b n (event.WriteFault l kind) = λ i. inl i
 event_gains b n (event.Timeout ms) = λ i. inl i
-event_gains b n (event.Creds c auth) = λ i. inl i
-event_gains b n (event.CredsError c text) = λ i. inl i
-event_gains b n (event.CredsEnd c) = λ i. inl i
 event_gains b n event.Shutdown = λ i. inl i
 
 -- nor does another action than the taking
@@ -243,21 +230,17 @@ gains b (action.Turn k (cause.Event e)) may n = event_gains b n e.kind
 gains b (action.Connect l host port) may n = λ i. inl i
 gains b (action.Timer t ms what) may n = chosen (Gains b n) (is_clock_of n (Some what)) (clocked (b.story n) t) (b.story n) (λ e i. inl i) (λ f i. inl i)
 gains b (action.Took owner.Setup l count) may n = absurd may
-gains b (action.Took owner.Auth l count) may n = absurd may
 gains b (action.Took (owner.Try m round) l count) may n = chosen (Gains b n) (m == n) (holds (b.story n) count) (b.story n)
     (λ t i. inr (subst (TakesNow b) (eq_from m n t) (l, count, may.1))) (λ f i. inl i)
 gains b (action.Push l info) may n = λ i. inl i
-gains b (action.NeedCreds c l) may n = λ i. inl i
 gains b (action.Close l) may n = λ i. inl i
 gains b (action.Write l bytes) may n = λ i. inl i
 gains b (action.Wait owner.Setup kind) may n = absurd may
-gains b (action.Wait owner.Auth kind) may n = absurd may
-gains b (action.Wait (owner.Try m round) kind) may n = chosen (Gains b n) (m == n) (waits (b.story n) kind (renewals_asked (b.link (b.story n).link))) (b.story n) (λ t i. inl i) (λ f i. inl i)
+gains b (action.Wait (owner.Try m round) kind) may n = chosen (Gains b n) (m == n) (waits (b.story n) kind) (b.story n) (λ t i. inl i) (λ f i. inl i)
 gains b (action.Start l k owner.Setup count len) may n = λ i. inl i
-gains b (action.Start l k owner.Auth count len) may n = λ i. inl i
 gains b (action.Start l k (owner.Try m round) count len) may n = chosen (Gains b n) (m == n) (tried (b.story n) l k) (b.story n) (λ t i. inl i) (λ f i. inl i)
 gains b (action.Created e) may n = λ i. inl i
-gains b (action.Outcome m o) may n = chosen (Gains b n) (m == n) (answered (b.story n) o (renewals_asked (b.link (b.story n).link))) (b.story n) (λ t i. absurd (omega (arith, i))) (λ f i. inl i)
+gains b (action.Outcome m o) may n = chosen (Gains b n) (m == n) (answered (b.story n) o) (b.story n) (λ t i. absurd (omega (arith, i))) (λ f i. inl i)
 
 -- what isn't told behind an action wasn't before
 untold_before : (limit : Option ℕ) (before after : Story) → Follows limit before after → is_unstarted after ≡ true → is_told after ≡ false → is_told before ≡ false

@@ -16,7 +16,7 @@ use Rattle.driver_model.specs.declared.event.EventKind.{EventKind}
 use Rattle.driver_model.specs.declared.event.EventKind.TheVariants as event
 use Rattle.driver_model.specs.declared.outcome.Outcome.{Outcome}
 use Rattle.driver_model.specs.declared.outcome.Outcome.TheVariants as outcome
-use Rattle.legal_trace.specs.Ledger.{Ledger, Line, End, begins, noted_each, renewals_asked}
+use Rattle.legal_trace.specs.Ledger.{Ledger, Line, End, begins, noted_each}
 use Rattle.legal_trace.specs.Story.{Story, Try, is_open, is_no_error, handed_in, left, holds, clocked, fires, tried, waits, answered, last_of, bytes_of}
 use Rattle.legal_trace.specs.Owed.{owed, owed_to_try, owed_unstarted, unstarted_error}
 use Rattle.legal_trace.specs.Book.{Book, entered, lines_of, message_of, current, is_clock_of, after_event, is_unspoken}
@@ -69,14 +69,14 @@ unanswered : (os : List Outcome) (tries : List Try) (bytes : List ℕ) → os �
 unanswered os tries bytes none = record { once = omega (arith, ap length none); told = λ e t. absurd (let x : false ≡ true = sym (ap is_no_error none) ∙ e in cc x) }
 
 -- with the first
-first_outcome : (b : Book) (n : ℕ) (o : Outcome) → IsOpen b n → ((b.story n).tries ≡ [] → is_no_error (o ∷ []) ≡ true → bytes_of (b.story n) ≢ []) → AnsweredOnce (answered (b.story n) o (renewals_asked (b.link (b.story n).link)))
+first_outcome : (b : Book) (n : ℕ) (o : Outcome) → IsOpen b n → ((b.story n).tries ≡ [] → is_no_error (o ∷ []) ≡ true → bytes_of (b.story n) ≢ []) → AnsweredOnce (answered (b.story n) o)
 first_outcome b n o asked bytes =
     let none : (b.story n).outcomes ≡ [] = open_has_none (b.story n) asked in
     let one : (b.story n).outcomes ++ o ∷ [] ≡ o ∷ [] = ap (λ (os : List Outcome). os ++ o ∷ []) none in
     record { once = omega (arith, ap length one); told = λ e t. bytes t (sym (ap is_no_error one) ∙ e) }
 
 -- so with each outcome that may stand
-outcome_once : (b : Book) (n : ℕ) (o : Outcome) → MayAnswer b n o ⊎ MayTell b n o → AnsweredOnce (answered (b.story n) o (renewals_asked (b.link (b.story n).link)))
+outcome_once : (b : Book) (n : ℕ) (o : Outcome) → MayAnswer b n o ⊎ MayTell b n o → AnsweredOnce (answered (b.story n) o)
 outcome_once b n o (inl owes) = first_outcome b n o owes.asked (λ t e. absurd (unstarted_gets_a_fault b n o t owes.owes e))
 outcome_once b n o (inr told) = first_outcome b n o told.asked (λ t e. has_bytes b (b.story n) (told.begun.applied.answered n told.asked))
 
@@ -91,9 +91,6 @@ event_once b n (event.Connected l) blank h = h
 event_once b n (event.Refused l f) blank h = h
 event_once b n (event.Fired t) blank h = chosen AnsweredOnce (is_clock_of n (slice_get b.timers t)) (fires (b.story n)) (b.story n) (λ e. chosen AnsweredOnce (is_open (b.story n)) (record (b.story n) { overdue = true }) (b.story n) (λ o. h) (λ o. h)) (λ f. h)
 event_once b n (event.Timeout ms) blank h = h
-event_once b n (event.Creds c auth) blank h = h
-event_once b n (event.CredsError c text) blank h = h
-event_once b n (event.CredsEnd c) blank h = h
 event_once b n (event.Wrote l count) blank h = h
 event_once b n (event.Bytes l piece) blank h = h
 event_once b n (event.Ended l) blank h = h
@@ -112,22 +109,18 @@ once_kept b (action.Turn k (cause.Event e)) may blank n h = event_once b n e.kin
 once_kept b (action.Connect l host port) may blank n h = h
 once_kept b (action.Timer t ms what) may blank n h = chosen AnsweredOnce (is_clock_of n (Some what)) (clocked (b.story n) t) (b.story n) (λ e. h) (λ f. h)
 once_kept b (action.Took owner.Setup l count) may blank n h = absurd may
-once_kept b (action.Took owner.Auth l count) may blank n h = absurd may
 once_kept b (action.Took (owner.Try m round) l count) may blank n h = chosen AnsweredOnce (m == n) (holds (b.story n) count) (b.story n) (λ t. h) (λ f. h)
 once_kept b (action.Push l info) may blank n h = h
-once_kept b (action.NeedCreds c l) may blank n h = h
 once_kept b (action.Close l) may blank n h = h
 once_kept b (action.Write l bytes) may blank n h = h
 once_kept b (action.Wait owner.Setup kind) may blank n h = absurd may
-once_kept b (action.Wait owner.Auth kind) may blank n h = absurd may
-once_kept b (action.Wait (owner.Try m round) kind) may blank n h = chosen AnsweredOnce (m == n) (waits (b.story n) kind (renewals_asked (b.link (b.story n).link))) (b.story n) (λ t. h) (λ f. h)
+once_kept b (action.Wait (owner.Try m round) kind) may blank n h = chosen AnsweredOnce (m == n) (waits (b.story n) kind) (b.story n) (λ t. h) (λ f. h)
 once_kept b (action.Start l k owner.Setup count len) may blank n h = h
-once_kept b (action.Start l k owner.Auth count len) may blank n h = h
 once_kept b (action.Start l k (owner.Try m round) count len) may blank n h = chosen AnsweredOnce (m == n) (tried (b.story n) l k) (b.story n) (λ t. started_once (b.story n) l k h) (λ f. h)
 once_kept b (action.Created e) may blank n h = h
 once_kept b (action.Outcome m o) may blank n h =
-    chosen AnsweredOnce (m == n) (answered (b.story n) o (renewals_asked (b.link (b.story n).link))) (b.story n)
-    (λ t. subst (λ j. AnsweredOnce (answered (b.story j) o (renewals_asked (b.link (b.story j).link)))) (eq_from m n t) (outcome_once b m o may))
+    chosen AnsweredOnce (m == n) (answered (b.story n) o) (b.story n)
+    (λ t. subst (λ j. AnsweredOnce (answered (b.story j) o)) (eq_from m n t) (outcome_once b m o may))
     (λ f. h)
 
 -- each message that it started last stands among those of its link
@@ -160,9 +153,6 @@ event_tries b n (event.Connected l) link h = h
 event_tries b n (event.Refused l f) link h = h
 event_tries b n (event.Fired t) link h = chosen (TriesAreStarted link) (is_clock_of n (slice_get b.timers t)) (fires (b.story n)) (b.story n) (λ e. chosen (TriesAreStarted link) (is_open (b.story n)) (record (b.story n) { overdue = true }) (b.story n) (λ o. h) (λ o. h)) (λ f. h)
 event_tries b n (event.Timeout ms) link h = h
-event_tries b n (event.Creds c auth) link h = h
-event_tries b n (event.CredsError c text) link h = h
-event_tries b n (event.CredsEnd c) link h = h
 event_tries b n (event.Wrote l count) link h = h
 event_tries b n (event.Bytes l piece) link h = h
 event_tries b n (event.Ended l) link h = h
@@ -177,23 +167,19 @@ tries_kept b (action.Turn k (cause.Event e)) may n h = event_tries b n e.kind (e
 tries_kept b (action.Connect l host port) may n h = h
 tries_kept b (action.Timer t ms what) may n h = chosen (TriesAreStarted (entered b (action.Timer t ms what)).link) (is_clock_of n (Some what)) (clocked (b.story n) t) (b.story n) (λ e. h) (λ f. h)
 tries_kept b (action.Took owner.Setup l count) may n h = absurd may
-tries_kept b (action.Took owner.Auth l count) may n h = absurd may
 tries_kept b (action.Took (owner.Try m round) l count) may n h = chosen (TriesAreStarted (entered b (action.Took (owner.Try m round) l count)).link) (m == n) (holds (b.story n) count) (b.story n) (λ t. h) (λ f. h)
 tries_kept b (action.Push l info) may n h = h
-tries_kept b (action.NeedCreds c l) may n h = h
 tries_kept b (action.Close l) may n h = h
 tries_kept b (action.Write l bytes) may n h = h
 tries_kept b (action.Wait owner.Setup kind) may n h = absurd may
-tries_kept b (action.Wait owner.Auth kind) may n h = absurd may
-tries_kept b (action.Wait (owner.Try m round) kind) may n h = chosen (TriesAreStarted (entered b (action.Wait (owner.Try m round) kind)).link) (m == n) (waits (b.story n) kind (renewals_asked (b.link (b.story n).link))) (b.story n) (λ t. h) (λ f. h)
+tries_kept b (action.Wait (owner.Try m round) kind) may n h = chosen (TriesAreStarted (entered b (action.Wait (owner.Try m round) kind)).link) (m == n) (waits (b.story n) kind) (b.story n) (λ t. h) (λ f. h)
 tries_kept b (action.Start l k owner.Setup count len) may n h = h
-tries_kept b (action.Start l k owner.Auth count len) may n h = h
 tries_kept b (action.Start l k (owner.Try m round) count len) may n h =
     chosen (TriesAreStarted (entered b (action.Start l k (owner.Try m round) count len)).link) (m == n) (tried (b.story n) l k) (b.story n)
     (λ t. subst (λ j. TriesAreStarted (entered b (action.Start l k (owner.Try m round) count len)).link (tried (b.story j) l k)) (eq_from m n t) (starts_next b l k m count len round may.1.next))
     (λ f. h)
 tries_kept b (action.Created e) may n h = h
-tries_kept b (action.Outcome m o) may n h = chosen (TriesAreStarted (entered b (action.Outcome m o)).link) (m == n) (answered (b.story n) o (renewals_asked (b.link (b.story n).link))) (b.story n) (λ t. h) (λ f. h)
+tries_kept b (action.Outcome m o) may n h = chosen (TriesAreStarted (entered b (action.Outcome m o)).link) (m == n) (answered (b.story n) o) (b.story n) (λ t. h) (λ f. h)
 
 -- each stays so
 pub starts_kept : (b : Book) (a : Action) → MayStand b a → (n : ℕ) → TriesAreStarted b.link (b.story n) → TriesAreStarted (entered b a).link ((entered b a).story n)

@@ -17,7 +17,6 @@ use Rattle.legal_trace.specs.Story.{Story, is_open, handed_in, left, holds, cloc
 use Rattle.legal_trace.specs.Book.{Book, blank_book, book, entered, entered_each, current, is_clock_of, after_event, is_unspoken}
 use Rattle.legal_trace.specs.Steps.{permits_in}
 use Rattle.legal_trace.specs.Legal.{MayTimer, MayTime, MayStand, AllStand, Legal}
-use Rattle.legal_trace.specs.Ledger.{renewals_asked}
 use Rattle.legal_trace.proofs.Books.{stand_behind}
 use Rattle.legal_laws.specs.Permits.{IsAsking, AsksTimers}
 use Rattle.legal_laws.proofs.Bounds.{ready_behind, next_may, applied_began}
@@ -59,9 +58,6 @@ event_clocked b n (event.Ended l) h = h
 event_clocked b n (event.ReadFault l kind) h = h
 event_clocked b n (event.WriteFault l kind) h = h
 event_clocked b n (event.Timeout ms) h = h
-event_clocked b n (event.Creds c auth) h = h
-event_clocked b n (event.CredsError c text) h = h
-event_clocked b n (event.CredsEnd c) h = h
 event_clocked b n event.Shutdown h = h
 
 -- with each action
@@ -71,20 +67,16 @@ clock_stays b (action.Turn k (cause.Event e)) n h = event_clocked b n e.kind h
 clock_stays b (action.Connect m host port) n h = h
 clock_stays b (action.Timer t ms what) n h = chosen Clocked (is_clock_of n (Some what)) (clocked (b.story n) t) (b.story n) (λ e. refl) (λ f. h)
 clock_stays b (action.Took owner.Setup l count) n h = h
-clock_stays b (action.Took owner.Auth l count) n h = h
 clock_stays b (action.Took (owner.Try m round) l count) n h = chosen Clocked (m == n) (holds (b.story n) count) (b.story n) (λ e. h) (λ f. h)
 clock_stays b (action.Push m info) n h = h
-clock_stays b (action.NeedCreds c m) n h = h
 clock_stays b (action.Close m) n h = h
 clock_stays b (action.Write m bytes) n h = h
 clock_stays b (action.Wait owner.Setup kind) n h = h
-clock_stays b (action.Wait owner.Auth kind) n h = h
-clock_stays b (action.Wait (owner.Try m round) kind) n h = chosen Clocked (m == n) (waits (b.story n) kind (renewals_asked (b.link (b.story n).link))) (b.story n) (λ e. h) (λ f. h)
+clock_stays b (action.Wait (owner.Try m round) kind) n h = chosen Clocked (m == n) (waits (b.story n) kind) (b.story n) (λ e. h) (λ f. h)
 clock_stays b (action.Start l k owner.Setup count len) n h = h
-clock_stays b (action.Start l k owner.Auth count len) n h = h
 clock_stays b (action.Start l k (owner.Try m round) count len) n h = chosen Clocked (m == n) (tried (b.story n) l k) (b.story n) (λ e. h) (λ f. h)
 clock_stays b (action.Created e) n h = h
-clock_stays b (action.Outcome m o) n h = chosen Clocked (m == n) (answered (b.story n) o (renewals_asked (b.link (b.story n).link))) (b.story n) (λ e. h) (λ f. h)
+clock_stays b (action.Outcome m o) n h = chosen Clocked (m == n) (answered (b.story n) o) (b.story n) (λ e. h) (λ f. h)
 
 -- and with many
 each_clocked : (b : Book) (front : List Action) (n : ℕ) → Clocked (b.story n) → Clocked ((entered_each b front).story n)
@@ -125,9 +117,6 @@ event_timeout b n (event.Ended l) i = refl
 event_timeout b n (event.ReadFault l kind) i = refl
 event_timeout b n (event.WriteFault l kind) i = refl
 event_timeout b n (event.Timeout ms) i = refl
-event_timeout b n (event.Creds c auth) i = refl
-event_timeout b n (event.CredsError c text) i = refl
-event_timeout b n (event.CredsEnd c) i = refl
 event_timeout b n event.Shutdown i = refl
 
 -- so it does with each action
@@ -137,20 +126,16 @@ timeout_stays b (action.Turn k (cause.Event e)) n i = event_timeout b n e.kind i
 timeout_stays b (action.Connect m host port) n i = refl
 timeout_stays b (action.Timer t ms what) n i = chosen (λ (s : Story). s.timeout ≡ (b.story n).timeout) (is_clock_of n (Some what)) (clocked (b.story n) t) (b.story n) (λ e. refl) (λ f. refl)
 timeout_stays b (action.Took owner.Setup l count) n i = refl
-timeout_stays b (action.Took owner.Auth l count) n i = refl
 timeout_stays b (action.Took (owner.Try m round) l count) n i = chosen (λ (s : Story). s.timeout ≡ (b.story n).timeout) (m == n) (holds (b.story n) count) (b.story n) (λ e. refl) (λ f. refl)
 timeout_stays b (action.Push m info) n i = refl
-timeout_stays b (action.NeedCreds c m) n i = refl
 timeout_stays b (action.Close m) n i = refl
 timeout_stays b (action.Write m bytes) n i = refl
 timeout_stays b (action.Wait owner.Setup kind) n i = refl
-timeout_stays b (action.Wait owner.Auth kind) n i = refl
-timeout_stays b (action.Wait (owner.Try m round) kind) n i = chosen (λ (s : Story). s.timeout ≡ (b.story n).timeout) (m == n) (waits (b.story n) kind (renewals_asked (b.link (b.story n).link))) (b.story n) (λ e. refl) (λ f. refl)
+timeout_stays b (action.Wait (owner.Try m round) kind) n i = chosen (λ (s : Story). s.timeout ≡ (b.story n).timeout) (m == n) (waits (b.story n) kind) (b.story n) (λ e. refl) (λ f. refl)
 timeout_stays b (action.Start l k owner.Setup count len) n i = refl
-timeout_stays b (action.Start l k owner.Auth count len) n i = refl
 timeout_stays b (action.Start l k (owner.Try m round) count len) n i = chosen (λ (s : Story). s.timeout ≡ (b.story n).timeout) (m == n) (tried (b.story n) l k) (b.story n) (λ e. refl) (λ f. refl)
 timeout_stays b (action.Created e) n i = refl
-timeout_stays b (action.Outcome m o) n i = chosen (λ (s : Story). s.timeout ≡ (b.story n).timeout) (m == n) (answered (b.story n) o (renewals_asked (b.link (b.story n).link))) (b.story n) (λ e. refl) (λ f. refl)
+timeout_stays b (action.Outcome m o) n i = chosen (λ (s : Story). s.timeout ≡ (b.story n).timeout) (m == n) (answered (b.story n) o) (b.story n) (λ e. refl) (λ f. refl)
 
 -- and with many
 each_timeout : (b : Book) (front : List Action) (n : ℕ) → n < b.submissions → ((entered_each b front).story n).timeout ≡ (b.story n).timeout

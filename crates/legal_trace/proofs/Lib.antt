@@ -3,4 +3,3 @@ pub mod Ledgers
 pub mod Books
 pub mod Moves
 pub mod Setups
-pub mod Renewals

@@ -1,7 +1,7 @@
 -- Submissions whose messages haven't started: what they have, and what it tells that they make a step next, or wait.
-use Rattle.std.proofs.Common.{◌≡◌, ◌⊎◌, inl, inr, ℕ, zero, suc, ◌+◌, ◌-◌, ◌<◌, ◌≤◌, ◌==◌, nat_lt, nat_le, min, Bool, true, false, ◌&&◌, ◌||◌, not, length, Option, None, Some, is_none, is_some, if◌then◌else◌, [], refl, sym, ◌∙◌, ap, subst, arith}
+use Rattle.std.proofs.Common.{◌≡◌, ◌⊎◌, inl, inr, ℕ, zero, suc, ◌+◌, ◌-◌, ◌<◌, ◌≤◌, ◌==◌, nat_lt, nat_le, min, Bool, true, false, ◌&&◌, ◌||◌, length, Option, None, Some, is_none, is_some, if◌then◌else◌, [], refl, sym, ◌∙◌, ap, subst, arith}
 use Rattle.std.proofs.lemmas.List.{nil_from_length}
-use Rattle.containers.proofs.Choices.{by_test, both_left, both_right, eq_from, not_both, not_lt_from, or_left, or_right}
+use Rattle.containers.proofs.Choices.{by_test, both_left, both_right, eq_from, not_both, not_lt_from}
 use Rattle.driver_model.specs.declared.action.Purpose.{Purpose}
 use Rattle.driver_model.specs.declared.action.WaitKind.{WaitKind}
 use Rattle.driver_model.specs.declared.action.WaitKind.TheVariants as wait
@@ -10,9 +10,9 @@ use Rattle.driver_model.specs.Config.{buffer_size, boundary}
 use Rattle.driver_model.specs.Shape.{permits_for}
 use Rattle.driver_model.specs.declared.outcome.Outcome.{Outcome}
 use Rattle.legal_trace.specs.Ledger.{Ledger, dials, is_ready, is_set_up}
-use Rattle.legal_trace.specs.Story.{Story, has_place, is_open, is_told, is_awaited, is_unstarted, shape}
+use Rattle.legal_trace.specs.Story.{Story, is_open, is_told, is_awaited, is_unstarted, shape}
 use Rattle.legal_trace.specs.Book.{Book}
-use Rattle.legal_trace.specs.Steps.{Step, waits, takes, asks, tells, starts, nothing, is_due, configured, is_held, is_held_back, renewals_in_line, is_behind_renewal, is_kept_back, unready_wait, permits_in, permits_on, permits_held, free_permits, is_let_in, is_in_line, line_before, is_outside, starts_or_waits, step_placed, step_timed, step_taking, step_holding, step_open, step_ready, next_step}
+use Rattle.legal_trace.specs.Steps.{Step, waits, takes, asks, tells, starts, nothing, is_due, configured, is_held, is_held_back, permits_in, permits_on, permits_held, free_permits, is_let_in, is_in_line, line_before, is_outside, starts_or_waits, step_placed, step_timed, step_taking, step_holding, step_open, step_ready, next_step}
 use Rattle.legal_trace.specs.Legal.{MayTell, MayStart, MayTime, MayTake, CanMove, link_of}
 
 -- one of two holds
@@ -28,22 +28,14 @@ has_no_tries s h = nil_from_length s.tries (eq_from (length s.tries) 0 (both_lef
 pub open_or_told : (s : Story) → is_unstarted s ≡ true → (is_open s ≡ true) ⊎ (is_told s ≡ true)
 open_or_told s h = one_holds (is_open s) (is_told s) (both_right (length s.tries == 0) (is_open s || is_told s) h)
 
--- its message is not to start now, where this is the configuration
-abbrev pub is_kept_in : Option Config → Story → Ledger → Bool
-is_kept_in config s l = is_held (configured boundary config) l || is_behind_renewal l s
-
--- it has no place, where so many stand in line before it
-abbrev pub is_outside_of : Option Config → Story → ℕ → Ledger → Bool
-is_outside_of config s line l = not (has_place s) && nat_le (configured buffer_size config) (renewals_in_line l + line)
-
 -- the next step of such a submission: what the configuration is, its story, how many stand in line before it, how many permits
 -- are held, and its link
 abbrev pub step_of : Option Config → Story → ℕ → ℕ → Ledger → Step
 step_of config s line held l =
     if dials l then waits wait.Connect
-    else if l.up then (if is_set_up l then step_open (is_told s) (is_kept_in config s l)
+    else if l.up then (if is_set_up l then step_open (is_told s) (is_held (configured boundary config) l)
     (step_holding (permits_in config) s.permits (λ limit. step_taking (limit - held) (permits_for (shape s) limit))
-    (step_timed s.timeout s.clock (step_placed (is_outside_of config s line l) (is_awaited s) (is_kept_in config s l)))) else waits (unready_wait l))
+    (step_timed s.timeout s.clock (step_placed (nat_le (configured buffer_size config) line) (is_awaited s) (is_held (configured boundary config) l)))) else waits wait.Setup)
     else nothing
 
 -- where the same stand in line, as many do
@@ -62,15 +54,15 @@ abbrev pub up_step : Book → ℕ → Step
 up_step b n = step_ready b n (b.story n)
 
 -- a step that is due is made on a link that is up, and set up
-due_ready : (dialing up set : Bool) (unready : WaitKind) (step : Step) → is_due (if dialing then waits wait.Connect else if up then (if set then step else waits unready) else nothing) ≡ true → (up && set) ≡ true
-due_ready true up set unready step e = cc
-due_ready false true true unready step e = refl
-due_ready false true false unready step e = cc
-due_ready false false set unready step e = cc
+due_ready : (dialing up set : Bool) (step : Step) → is_due (if dialing then waits wait.Connect else if up then (if set then step else waits wait.Setup) else nothing) ≡ true → (up && set) ≡ true
+due_ready true up set step e = cc
+due_ready false true true step e = refl
+due_ready false true false step e = cc
+due_ready false false set step e = cc
 
 -- so the link of who makes a step is ready
 pub mover_is_ready : (b : Book) (n : ℕ) → CanMove b n → is_ready (link_of b n) ≡ true
-mover_is_ready b n moves = due_ready (dials (link_of b n)) (link_of b n).up (is_set_up (link_of b n)) (unready_wait (link_of b n)) (up_step b n) moves.due
+mover_is_ready b n moves = due_ready (dials (link_of b n)) (link_of b n).up (is_set_up (link_of b n)) (up_step b n) moves.due
 
 -- a link that is ready is up
 pub ready_is_up : (l : Ledger) → is_ready l ≡ true → l.up ≡ true
@@ -105,25 +97,25 @@ pub asker_moves : (b : Book) (t ms : ℕ) (what : Purpose) (may : MayTime b t ms
 asker_moves b t ms what may = record { unstarted = may.unstarted; due = ap is_due may.asks }
 
 -- who waits, waits for the connect, or on a link that is up
-waits_up : (dialing up set : Bool) (unready : WaitKind) (step : Step) (kind : WaitKind) → (if dialing then waits wait.Connect else if up then (if set then step else waits unready) else nothing) ≡ waits kind → (dialing ≡ true) ⊎ (up ≡ true)
-waits_up true up set unready step kind e = inl refl
-waits_up false true set unready step kind e = inr refl
-waits_up false false set unready step kind e = cc
+waits_up : (dialing up set : Bool) (step : Step) (kind : WaitKind) → (if dialing then waits wait.Connect else if up then (if set then step else waits wait.Setup) else nothing) ≡ waits kind → (dialing ≡ true) ⊎ (up ≡ true)
+waits_up true up set step kind e = inl refl
+waits_up false true set step kind e = inr refl
+waits_up false false set step kind e = cc
 
 -- so the link of who waits isn't answered, or is up
 pub waits_on_a_link : (b : Book) (n : ℕ) (kind : WaitKind) → next_step b n ≡ waits kind → (dials (link_of b n) ≡ true) ⊎ ((link_of b n).up ≡ true)
-waits_on_a_link b n kind e = waits_up (dials (link_of b n)) (link_of b n).up (is_set_up (link_of b n)) (unready_wait (link_of b n)) (up_step b n) kind e
+waits_on_a_link b n kind e = waits_up (dials (link_of b n)) (link_of b n).up (is_set_up (link_of b n)) (up_step b n) kind e
 
 -- one kind of wait is true at a time
 pub same_kind : (s : Step) (kind other : WaitKind) → s ≡ waits kind → s ≡ waits other → kind ≡ other
 same_kind s kind other e f = cc
 
 -- a step that is no wait is made on a link that is ready
-ready_of : (dialing up set : Bool) (unready : WaitKind) (step s : Step) → is_due s ≡ true → (if dialing then waits wait.Connect else if up then (if set then step else waits unready) else nothing) ≡ s → (dialing ≡ false) × ((up && set) ≡ true) × (step ≡ s)
-ready_of true up set unready step s due e = absurd (let x : false ≡ true = ap is_due e ∙ due in cc x)
-ready_of false true true unready step s due e = (refl, refl, e)
-ready_of false true false unready step s due e = absurd (let x : false ≡ true = ap is_due e ∙ due in cc x)
-ready_of false false set unready step s due e = absurd (let x : false ≡ true = ap is_due e ∙ due in cc x)
+ready_of : (dialing up set : Bool) (step s : Step) → is_due s ≡ true → (if dialing then waits wait.Connect else if up then (if set then step else waits wait.Setup) else nothing) ≡ s → (dialing ≡ false) × ((up && set) ≡ true) × (step ≡ s)
+ready_of true up set step s due e = absurd (let x : false ≡ true = ap is_due e ∙ due in cc x)
+ready_of false true true step s due e = (refl, refl, e)
+ready_of false true false step s due e = absurd (let x : false ≡ true = ap is_due e ∙ due in cc x)
+ready_of false false set step s due e = absurd (let x : false ≡ true = ap is_due e ∙ due in cc x)
 
 -- what is less is tested so
 pub lt_test : (a b : ℕ) → a < b → nat_lt a b ≡ true
@@ -204,66 +196,44 @@ told_asks false ms e = cc e
 pub both_hold : (p q : Bool) → p ≡ true → q ≡ true → (p && q) ≡ true
 both_hold p q x y = rw (x, y)
 
--- neither of two holds
-pub neither_holds : (p q : Bool) → p ≡ false → q ≡ false → (p || q) ≡ false
-neither_holds true q e f = absurd (cc e)
-neither_holds false q e f = f
-
 -- where its next step goes past its permits and its timer
 past_timer : (b : Book) (n : ℕ) (s : Step) → (s ≡ starts) ⊎ (s ≡ tells)
-    → step_holding (permits_in b.config) (b.story n).permits (λ limit. step_taking (free_permits b (b.story n).link limit) (permits_for (shape (b.story n)) limit)) (step_timed (b.story n).timeout (b.story n).clock (step_placed (is_outside b n) (is_awaited (b.story n)) (is_kept_back b (b.story n)))) ≡ s
-    → (is_let_in (permits_in b.config) (b.story n) ≡ true) × (step_placed (is_outside b n) (is_awaited (b.story n)) (is_kept_back b (b.story n)) ≡ s)
+    → step_holding (permits_in b.config) (b.story n).permits (λ limit. step_taking (free_permits b (b.story n).link limit) (permits_for (shape (b.story n)) limit)) (step_timed (b.story n).timeout (b.story n).clock (step_placed (is_outside b n) (is_awaited (b.story n)) (is_held_back b (link_of b n)))) ≡ s
+    → (is_let_in (permits_in b.config) (b.story n) ≡ true) × (step_placed (is_outside b n) (is_awaited (b.story n)) (is_held_back b (link_of b n)) ≡ s)
 past_timer b n s is e =
-    let h = holding_next (permits_in b.config) (b.story n).permits (λ limit. step_taking (free_permits b (b.story n).link limit) (permits_for (shape (b.story n)) limit)) (step_timed (b.story n).timeout (b.story n).clock (step_placed (is_outside b n) (is_awaited (b.story n)) (is_kept_back b (b.story n)))) s
+    let h = holding_next (permits_in b.config) (b.story n).permits (λ limit. step_taking (free_permits b (b.story n).link limit) (permits_for (shape (b.story n)) limit)) (step_timed (b.story n).timeout (b.story n).clock (step_placed (is_outside b n) (is_awaited (b.story n)) (is_held_back b (link_of b n)))) s
     (λ most. taking_is (free_permits b (b.story n).link most) (permits_for (shape (b.story n)) most) s is) e in
-    let t = timed_next (b.story n).timeout (b.story n).clock (step_placed (is_outside b n) (is_awaited (b.story n)) (is_kept_back b (b.story n))) s (λ ms. asking_is ms s is) h.1 in
+    let t = timed_next (b.story n).timeout (b.story n).clock (step_placed (is_outside b n) (is_awaited (b.story n)) (is_held_back b (link_of b n))) s (λ ms. asking_is ms s is) h.1 in
     (both_hold (holds_some (permits_in b.config) (b.story n).permits) (is_timed (b.story n).timeout (b.story n).clock) h.0 t.0, t.1)
 
 -- what it does next on a link that is ready, past whether it was told
 abbrev pub untold_step : Book → ℕ → Step
-untold_step b n = step_holding (permits_in b.config) (b.story n).permits (λ limit. step_taking (free_permits b (b.story n).link limit) (permits_for (shape (b.story n)) limit)) (step_timed (b.story n).timeout (b.story n).clock (step_placed (is_outside b n) (is_awaited (b.story n)) (is_kept_back b (b.story n))))
-
--- a submission that isn't kept back is on a link that isn't held back
-not_held : (b : Book) (n : ℕ) → is_kept_back b (b.story n) ≡ false → is_held_back b (link_of b n) ≡ false
-not_held b n free = or_left (is_held_back b (link_of b n)) (is_behind_renewal (link_of b n) (b.story n)) free
-
--- where its next step is a start, it isn't kept back
-pub starts_free : (b : Book) (n : ℕ) → next_step b n ≡ starts → is_kept_back b (b.story n) ≡ false
-starts_free b n e =
-    let r = ready_of (dials (link_of b n)) (link_of b n).up (is_set_up (link_of b n)) (unready_wait (link_of b n)) (up_step b n) starts refl e in
-    elim (open_next (is_told (b.story n)) (is_kept_back b (b.story n)) (untold_step b n) starts r.2) [
-      | inl told ↦ told_starts (is_kept_back b (b.story n)) told.1
-      | inr not_told ↦ (placed_starts (is_outside b n) (is_awaited (b.story n)) (is_kept_back b (b.story n)) (past_timer b n starts (inl refl) not_told.1).1).1
-    ]
-
--- so no credentials are to be told on its link that it isn't ahead of
-pub starts_unbehind : (b : Book) (n : ℕ) → next_step b n ≡ starts → is_behind_renewal (link_of b n) (b.story n) ≡ false
-starts_unbehind b n e = or_right (is_held_back b (link_of b n)) (is_behind_renewal (link_of b n) (b.story n)) (starts_free b n e)
+untold_step b n = step_holding (permits_in b.config) (b.story n).permits (λ limit. step_taking (free_permits b (b.story n).link limit) (permits_for (shape (b.story n)) limit)) (step_timed (b.story n).timeout (b.story n).clock (step_placed (is_outside b n) (is_awaited (b.story n)) (is_held_back b (link_of b n))))
 
 -- where the next step is a start, the link is up and isn't held back, and the submission was told, or was let in and has a place
 pub starts_mean : (b : Book) (n : ℕ) → next_step b n ≡ starts
     → (dials (link_of b n) ≡ false) × (is_ready (link_of b n) ≡ true) × (is_held_back b (link_of b n) ≡ false)
     × ((is_told (b.story n) ≡ true) ⊎ ((is_let_in (permits_in b.config) (b.story n) ≡ true) × (is_outside b n ≡ false)))
 starts_mean b n e =
-    let r = ready_of (dials (link_of b n)) (link_of b n).up (is_set_up (link_of b n)) (unready_wait (link_of b n)) (up_step b n) starts refl e in
-    elim (open_next (is_told (b.story n)) (is_kept_back b (b.story n)) (untold_step b n) starts r.2) [
-      | inl told ↦ (r.0, r.1, not_held b n (told_starts (is_kept_back b (b.story n)) told.1), inl told.0)
+    let r = ready_of (dials (link_of b n)) (link_of b n).up (is_set_up (link_of b n)) (up_step b n) starts refl e in
+    elim (open_next (is_told (b.story n)) (is_held_back b (link_of b n)) (untold_step b n) starts r.2) [
+      | inl told ↦ (r.0, r.1, told_starts (is_held_back b (link_of b n)) told.1, inl told.0)
       | inr not_told ↦
           let p = past_timer b n starts (inl refl) not_told.1 in
-          let q = placed_starts (is_outside b n) (is_awaited (b.story n)) (is_kept_back b (b.story n)) p.1 in
-          (r.0, r.1, not_held b n q.1, inr (p.0, q.0))
+          let q = placed_starts (is_outside b n) (is_awaited (b.story n)) (is_held_back b (link_of b n)) p.1 in
+          (r.0, r.1, q.1, inr (p.0, q.0))
     ]
 
 -- where it is to be told, its link is ready, it was let in and has a place, and its reply isn't awaited
 pub tells_mean : (b : Book) (n : ℕ) → next_step b n ≡ tells
     → (dials (link_of b n) ≡ false) × (is_ready (link_of b n) ≡ true) × (is_let_in (permits_in b.config) (b.story n) ≡ true) × (is_outside b n ≡ false) × (is_awaited (b.story n) ≡ false)
 tells_mean b n e =
-    let r = ready_of (dials (link_of b n)) (link_of b n).up (is_set_up (link_of b n)) (unready_wait (link_of b n)) (up_step b n) tells refl e in
-    elim (open_next (is_told (b.story n)) (is_kept_back b (b.story n)) (untold_step b n) tells r.2) [
-      | inl told ↦ absurd (told_tells (is_kept_back b (b.story n)) told.1)
+    let r = ready_of (dials (link_of b n)) (link_of b n).up (is_set_up (link_of b n)) (up_step b n) tells refl e in
+    elim (open_next (is_told (b.story n)) (is_held_back b (link_of b n)) (untold_step b n) tells r.2) [
+      | inl told ↦ absurd (told_tells (is_held_back b (link_of b n)) told.1)
       | inr not_told ↦
           let p = past_timer b n tells (inr refl) not_told.1 in
-          let q = placed_tells (is_outside b n) (is_awaited (b.story n)) (is_kept_back b (b.story n)) p.1 in
+          let q = placed_tells (is_outside b n) (is_awaited (b.story n)) (is_held_back b (link_of b n)) p.1 in
           (r.0, r.1, p.0, q.0, q.1)
     ]
 
@@ -305,10 +275,10 @@ pub takes_mean : (b : Book) (n count : ℕ) → next_step b n ≡ takes count
     → (dials (link_of b n) ≡ false) × (is_ready (link_of b n) ≡ true)
     × ((limit : ℕ) × (permits_in b.config ≡ Some limit) × ((b.story n).permits ≡ 0) × (count ≤ free_permits b (b.story n).link limit) × (0 < free_permits b (b.story n).link limit))
 takes_mean b n count e =
-    let r = ready_of (dials (link_of b n)) (link_of b n).up (is_set_up (link_of b n)) (unready_wait (link_of b n)) (up_step b n) (takes count) refl e in
-    elim (open_next (is_told (b.story n)) (is_kept_back b (b.story n)) (untold_step b n) (takes count) r.2) [
-      | inl told ↦ absurd (told_takes (is_kept_back b (b.story n)) count told.1)
-      | inr not_told ↦ (r.0, r.1, holding_takes (permits_in b.config) (b.story n).permits (free_permits b (b.story n).link) (permits_for (shape (b.story n))) (b.story n).timeout (b.story n).clock (is_outside b n) (is_awaited (b.story n)) (is_kept_back b (b.story n)) count not_told.1)
+    let r = ready_of (dials (link_of b n)) (link_of b n).up (is_set_up (link_of b n)) (up_step b n) (takes count) refl e in
+    elim (open_next (is_told (b.story n)) (is_held_back b (link_of b n)) (untold_step b n) (takes count) r.2) [
+      | inl told ↦ absurd (told_takes (is_held_back b (link_of b n)) count told.1)
+      | inr not_told ↦ (r.0, r.1, holding_takes (permits_in b.config) (b.story n).permits (free_permits b (b.story n).link) (permits_for (shape (b.story n))) (b.story n).timeout (b.story n).clock (is_outside b n) (is_awaited (b.story n)) (is_held_back b (link_of b n)) count not_told.1)
     ]
 
 -- whoever takes permits, or waits for one, has no timer asked for
@@ -326,13 +296,13 @@ timed_asks (Some time) (Some t) outside awaited held ms e = absurd (placed_asks 
 pub asks_mean : (b : Book) (n ms : ℕ) → next_step b n ≡ asks ms
     → (holds_some (permits_in b.config) (b.story n).permits ≡ true) × ((b.story n).timeout ≡ Some ms) × ((b.story n).clock ≡ None)
 asks_mean b n ms e =
-    let r = ready_of (dials (link_of b n)) (link_of b n).up (is_set_up (link_of b n)) (unready_wait (link_of b n)) (up_step b n) (asks ms) refl e in
-    elim (open_next (is_told (b.story n)) (is_kept_back b (b.story n)) (untold_step b n) (asks ms) r.2) [
-      | inl told ↦ absurd (told_asks (is_kept_back b (b.story n)) ms told.1)
+    let r = ready_of (dials (link_of b n)) (link_of b n).up (is_set_up (link_of b n)) (up_step b n) (asks ms) refl e in
+    elim (open_next (is_told (b.story n)) (is_held_back b (link_of b n)) (untold_step b n) (asks ms) r.2) [
+      | inl told ↦ absurd (told_asks (is_held_back b (link_of b n)) ms told.1)
       | inr not_told ↦
-          let h = holding_next (permits_in b.config) (b.story n).permits (λ limit. step_taking (free_permits b (b.story n).link limit) (permits_for (shape (b.story n)) limit)) (step_timed (b.story n).timeout (b.story n).clock (step_placed (is_outside b n) (is_awaited (b.story n)) (is_kept_back b (b.story n)))) (asks ms)
+          let h = holding_next (permits_in b.config) (b.story n).permits (λ limit. step_taking (free_permits b (b.story n).link limit) (permits_for (shape (b.story n)) limit)) (step_timed (b.story n).timeout (b.story n).clock (step_placed (is_outside b n) (is_awaited (b.story n)) (is_held_back b (link_of b n)))) (asks ms)
           (λ most. taking_asks (free_permits b (b.story n).link most) (permits_for (shape (b.story n)) most) ms) not_told.1 in
-          let t = timed_asks (b.story n).timeout (b.story n).clock (is_outside b n) (is_awaited (b.story n)) (is_kept_back b (b.story n)) ms h.1 in (h.0, t.0, t.1)
+          let t = timed_asks (b.story n).timeout (b.story n).clock (is_outside b n) (is_awaited (b.story n)) (is_held_back b (link_of b n)) ms h.1 in (h.0, t.0, t.1)
     ]
 
 -- what an open submission that holds its permits does with a place on a link that isn't held back is due
@@ -355,11 +325,11 @@ holding_due (Some limit) zero taking next h = absurd (cc h)
 holding_due (Some limit) (suc held) taking next h = refl
 
 -- so is what is done on a link that is ready
-ready_due : (dialing up set : Bool) (unready : WaitKind) (step : Step) → dialing ≡ false → (up && set) ≡ true → is_due (if dialing then waits wait.Connect else if up then (if set then step else waits unready) else nothing) ≡ is_due step
-ready_due true up set unready step d u = absurd (cc d)
-ready_due false true true unready step d u = refl
-ready_due false true false unready step d u = absurd (cc u)
-ready_due false false set unready step d u = absurd (cc u)
+ready_due : (dialing up set : Bool) (step : Step) → dialing ≡ false → (up && set) ≡ true → is_due (if dialing then waits wait.Connect else if up then (if set then step else waits wait.Setup) else nothing) ≡ is_due step
+ready_due true up set step d u = absurd (cc d)
+ready_due false true true step d u = refl
+ready_due false true false step d u = absurd (cc u)
+ready_due false false set step d u = absurd (cc u)
 
 -- whoever was told does so where the link isn't held back
 told_due : (told held : Bool) (next : Step) → told ≡ true → held ≡ false → is_due (step_open told held next) ≡ true
@@ -373,19 +343,19 @@ untold_due true held next t = absurd (cc t)
 untold_due false held next t = refl
 
 -- whoever was told makes a step on a link that is ready and isn't held back
-pub told_is_due : (b : Book) (n : ℕ) → dials (link_of b n) ≡ false → is_ready (link_of b n) ≡ true → is_kept_back b (b.story n) ≡ false → is_told (b.story n) ≡ true → is_due (next_step b n) ≡ true
-told_is_due b n d u h t = ready_due (dials (link_of b n)) (link_of b n).up (is_set_up (link_of b n)) (unready_wait (link_of b n)) (up_step b n) d u ∙ told_due (is_told (b.story n)) (is_kept_back b (b.story n)) (untold_step b n) t h
+pub told_is_due : (b : Book) (n : ℕ) → dials (link_of b n) ≡ false → is_ready (link_of b n) ≡ true → is_held_back b (link_of b n) ≡ false → is_told (b.story n) ≡ true → is_due (next_step b n) ≡ true
+told_is_due b n d u h t = ready_due (dials (link_of b n)) (link_of b n).up (is_set_up (link_of b n)) (up_step b n) d u ∙ told_due (is_told (b.story n)) (is_held_back b (link_of b n)) (untold_step b n) t h
 
 -- what is due of who wasn't told
 untold_is_due : (b : Book) (n : ℕ) → dials (link_of b n) ≡ false → is_ready (link_of b n) ≡ true → is_told (b.story n) ≡ false → is_due (untold_step b n) ≡ true → is_due (next_step b n) ≡ true
-untold_is_due b n d u t due = ready_due (dials (link_of b n)) (link_of b n).up (is_set_up (link_of b n)) (unready_wait (link_of b n)) (up_step b n) d u ∙ (untold_due (is_told (b.story n)) (is_kept_back b (b.story n)) (untold_step b n) t ∙ due)
+untold_is_due b n d u t due = ready_due (dials (link_of b n)) (link_of b n).up (is_set_up (link_of b n)) (up_step b n) d u ∙ (untold_due (is_told (b.story n)) (is_held_back b (link_of b n)) (untold_step b n) t ∙ due)
 
 -- and so does who holds its permits and has a place
-pub free_is_due : (b : Book) (n : ℕ) → dials (link_of b n) ≡ false → is_ready (link_of b n) ≡ true → is_kept_back b (b.story n) ≡ false → is_told (b.story n) ≡ false
+pub free_is_due : (b : Book) (n : ℕ) → dials (link_of b n) ≡ false → is_ready (link_of b n) ≡ true → is_held_back b (link_of b n) ≡ false → is_told (b.story n) ≡ false
     → holds_some (permits_in b.config) (b.story n).permits ≡ true → is_outside b n ≡ false → is_due (next_step b n) ≡ true
 free_is_due b n d u h t p o = untold_is_due b n d u t
-    (holding_due (permits_in b.config) (b.story n).permits (λ limit. step_taking (free_permits b (b.story n).link limit) (permits_for (shape (b.story n)) limit)) (step_timed (b.story n).timeout (b.story n).clock (step_placed (is_outside b n) (is_awaited (b.story n)) (is_kept_back b (b.story n)))) p
-    ∙ timed_due (b.story n).timeout (b.story n).clock (step_placed (is_outside b n) (is_awaited (b.story n)) (is_kept_back b (b.story n))) (placed_due (is_outside b n) (is_awaited (b.story n)) (is_kept_back b (b.story n)) h o))
+    (holding_due (permits_in b.config) (b.story n).permits (λ limit. step_taking (free_permits b (b.story n).link limit) (permits_for (shape (b.story n)) limit)) (step_timed (b.story n).timeout (b.story n).clock (step_placed (is_outside b n) (is_awaited (b.story n)) (is_held_back b (link_of b n)))) p
+    ∙ timed_due (b.story n).timeout (b.story n).clock (step_placed (is_outside b n) (is_awaited (b.story n)) (is_held_back b (link_of b n))) (placed_due (is_outside b n) (is_awaited (b.story n)) (is_held_back b (link_of b n)) h o))
 
 -- who makes no step though it holds its permits has its timer
 timed_from : (timeout clock : Option ℕ) (next : Step) → (is_due (step_timed timeout clock next) ≡ true → ⊥) → is_timed timeout clock ≡ true
@@ -396,8 +366,8 @@ timed_from (Some ms) (Some t) next none = refl
 -- so it is in a book
 pub holder_is_timed : (b : Book) (n : ℕ) → dials (link_of b n) ≡ false → is_ready (link_of b n) ≡ true → is_told (b.story n) ≡ false → holds_some (permits_in b.config) (b.story n).permits ≡ true
     → (is_due (next_step b n) ≡ true → ⊥) → is_timed (b.story n).timeout (b.story n).clock ≡ true
-holder_is_timed b n d u t p none = timed_from (b.story n).timeout (b.story n).clock (step_placed (is_outside b n) (is_awaited (b.story n)) (is_kept_back b (b.story n)))
-    (λ due. none (untold_is_due b n d u t (holding_due (permits_in b.config) (b.story n).permits (λ limit. step_taking (free_permits b (b.story n).link limit) (permits_for (shape (b.story n)) limit)) (step_timed (b.story n).timeout (b.story n).clock (step_placed (is_outside b n) (is_awaited (b.story n)) (is_kept_back b (b.story n)))) p ∙ due)))
+holder_is_timed b n d u t p none = timed_from (b.story n).timeout (b.story n).clock (step_placed (is_outside b n) (is_awaited (b.story n)) (is_held_back b (link_of b n)))
+    (λ due. none (untold_is_due b n d u t (holding_due (permits_in b.config) (b.story n).permits (λ limit. step_taking (free_permits b (b.story n).link limit) (permits_for (shape (b.story n)) limit)) (step_timed (b.story n).timeout (b.story n).clock (step_placed (is_outside b n) (is_awaited (b.story n)) (is_held_back b (link_of b n)))) p ∙ due)))
 
 -- whoever takes permits makes a step
 takes_due : (free most : ℕ) → 0 < free → is_due (step_taking free most) ≡ true
@@ -413,10 +383,10 @@ holds_from limit (suc held) taking next due none = omega arith
 pub rester_holds : (b : Book) (n limit : ℕ) → dials (link_of b n) ≡ false → is_ready (link_of b n) ≡ true → is_told (b.story n) ≡ false → permits_in b.config ≡ Some limit → 0 < free_permits b (b.story n).link limit
     → (is_due (next_step b n) ≡ true → ⊥) → 0 < (b.story n).permits
 rester_holds b n limit d u t p free none =
-    holds_from limit (b.story n).permits (λ k. step_taking (free_permits b (b.story n).link k) (permits_for (shape (b.story n)) k)) (step_timed (b.story n).timeout (b.story n).clock (step_placed (is_outside b n) (is_awaited (b.story n)) (is_kept_back b (b.story n))))
+    holds_from limit (b.story n).permits (λ k. step_taking (free_permits b (b.story n).link k) (permits_for (shape (b.story n)) k)) (step_timed (b.story n).timeout (b.story n).clock (step_placed (is_outside b n) (is_awaited (b.story n)) (is_held_back b (link_of b n))))
     (takes_due (free_permits b (b.story n).link limit) (permits_for (shape (b.story n)) limit) free)
     (λ due. none (untold_is_due b n d u t
-    (subst (λ o. is_due (step_holding o (b.story n).permits (λ k. step_taking (free_permits b (b.story n).link k) (permits_for (shape (b.story n)) k)) (step_timed (b.story n).timeout (b.story n).clock (step_placed (is_outside b n) (is_awaited (b.story n)) (is_kept_back b (b.story n))))) ≡ true) (sym p) due)))
+    (subst (λ o. is_due (step_holding o (b.story n).permits (λ k. step_taking (free_permits b (b.story n).link k) (permits_for (shape (b.story n)) k)) (step_timed (b.story n).timeout (b.story n).clock (step_placed (is_outside b n) (is_awaited (b.story n)) (is_held_back b (link_of b n))))) ≡ true) (sym p) due)))
 
 -- whoever starts at its place without being told is awaited
 awaited_at_its_place : (outside awaited held : Bool) → step_placed outside awaited held ≡ starts → awaited ≡ true
@@ -427,8 +397,8 @@ awaited_at_its_place false false held e = absurd (cc e)
 -- so it is in a book, too
 pub placed_is_awaited : (b : Book) (n : ℕ) → is_told (b.story n) ≡ false → next_step b n ≡ starts → is_awaited (b.story n) ≡ true
 placed_is_awaited b n untold e =
-    let r = ready_of (dials (link_of b n)) (link_of b n).up (is_set_up (link_of b n)) (unready_wait (link_of b n)) (up_step b n) starts refl e in
-    elim (open_next (is_told (b.story n)) (is_kept_back b (b.story n)) (untold_step b n) starts r.2) [
+    let r = ready_of (dials (link_of b n)) (link_of b n).up (is_set_up (link_of b n)) (up_step b n) starts refl e in
+    elim (open_next (is_told (b.story n)) (is_held_back b (link_of b n)) (untold_step b n) starts r.2) [
       | inl told ↦ absurd (not_both (is_told (b.story n)) untold told.0)
-      | inr not_told ↦ awaited_at_its_place (is_outside b n) (is_awaited (b.story n)) (is_kept_back b (b.story n)) (past_timer b n starts (inl refl) not_told.1).1
+      | inr not_told ↦ awaited_at_its_place (is_outside b n) (is_awaited (b.story n)) (is_held_back b (link_of b n)) (past_timer b n starts (inl refl) not_told.1).1
     ]

@@ -17,11 +17,9 @@ use Rattle.link_core.specs.declared.message.Settled.{Settled}
 use Rattle.link_core.specs.Link.{LinkState, settling_with, piece_dealt}
 use Rattle.mux_conn.specs.declared.act.LinkAct.TheVariants as act
 use Rattle.mux_conn.specs.declared.life.Life.{Life}
-use Rattle.mux_conn.specs.declared.life.Life.TheVariants.{Wanting, SettingUp}
-use Rattle.credentials.specs.Credentials.{Credentials}
+use Rattle.mux_conn.specs.declared.life.Life.TheVariants.{SettingUp}
 use Rattle.mux_conn.specs.Connection.{Work, acted, at_life}
-use Rattle.mux_conn.specs.Renewals.{source_asked}
-use Rattle.mux_conn.specs.Effects.{judged_by, steps_of, made_ready, sets_up, opening_failed, set_up_by, behind_first, heard_on, heard_in, answered_setup, broken_at, read_setup, read_at, come_up, with_credentials, authorized_at}
+use Rattle.mux_conn.specs.Effects.{judged_by, steps_of, made_ready, sets_up, opening_failed, set_up_by, behind_first, heard_on, heard_in, answered_setup, broken_at, read_setup, read_at}
 
 -- memory isn't wanted to tell it
 abbrev pub IsTold : SetupResult → Type 0
@@ -77,14 +75,10 @@ answered_anew w life link with_user pushes (s ∷ ss) =
     ap (λ (v : Work). heard_on v (behind_first pushes)) (set_up_anew w life link (judged_by steps s.verdict) (verdict_told steps s.verdict))
 
 -- bytes that are read while the link is out of its connection are read as if it were there
-pub read_back : (w v : Work) (life : Life) (link : LinkState) (with_user : Bool) (piece : List ℕ) → w.conn.life ≡ SettingUp link with_user → v ≡ source_asked (read_setup (at_life w life) with_user (heard_in w link piece) (piece_dealt (settling_with link []) piece)) → v ≡ read_at w piece w.conn.life
+pub read_back : (w v : Work) (life : Life) (link : LinkState) (with_user : Bool) (piece : List ℕ) → w.conn.life ≡ SettingUp link with_user → v ≡ read_setup (at_life w life) with_user (heard_in w link piece) (piece_dealt (settling_with link []) piece) → v ≡ read_at w piece w.conn.life
 read_back w v life link with_user piece is h =
     let s = piece_dealt (settling_with link []) piece in
-    h ∙ ap (λ (x : Work). source_asked (broken_at s.link.broken x)) (answered_anew w life s.link with_user (heard_in w link piece) s.out) ∙ ap (read_at w piece) (sym is)
-
--- a link that is out of its connection comes up as if it were there
-pub authorized_back : (w v : Work) (life : Life) (link : LinkState) (c : Credentials) → w.conn.life ≡ Wanting link → v ≡ source_asked (come_up (at_life (with_credentials w c) life) link) → v ≡ authorized_at w c w.conn.life
-authorized_back w v life link c is h = h ∙ ap (authorized_at w c) (sym is)
+    h ∙ ap (broken_at s.link.broken) (answered_anew w life s.link with_user (heard_in w link piece) s.out) ∙ ap (read_at w piece) (sym is)
 
 -- a setup that is well makes the link ready
 pub ready_by : (w v : Work) (link : LinkState) (expected found : SetupResult) → Tells expected found → found ≡ result.Ready → v ≡ made_ready w link → v ≡ set_up_by w link expected

@@ -1,4 +1,3 @@
-pub mod Kept
 pub mod Spent
 pub mod Entries
 pub mod Threads

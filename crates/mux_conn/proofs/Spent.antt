@@ -1,5 +1,5 @@
 -- A number that has run out has run out for the rest of the turn.
-use Rattle.std.proofs.Common.{◌≡◌, ℕ, ◌^◌, ◌≤◌, nat_le, List, [], ◌∷◌, Bool, true, false, ◌||◌, Option, None, Some, refl, sym, ap, subst, ◌∙◌, arith, if◌then◌else◌}
+use Rattle.std.proofs.Common.{◌≡◌, ℕ, ◌^◌, ◌≤◌, nat_le, List, [], ◌∷◌, Bool, true, false, Option, None, Some, refl, sym, ap, subst, ◌∙◌, arith, if◌then◌else◌}
 use Rattle.std.proofs.Math.Nat.{le_refl}
 use Rattle.std.proofs.lemmas.Bool.Decides.{nat_tests}
 use Rattle.containers.proofs.Choices.{taken_if, left_if}
@@ -12,27 +12,34 @@ use Rattle.link_core.specs.Outbox.{can_offer}
 use Rattle.link_core.proofs.StartLemmas.{numbers_rise}
 use Rattle.mux_conn.specs.declared.connection.MultiplexedConnection.{MultiplexedConnection}
 use Rattle.mux_conn.specs.declared.life.Life.{Life}
-use Rattle.mux_conn.specs.declared.life.Life.TheVariants.{Dialing, Wanting, SettingUp, Ready, Ended}
-use Rattle.mux_conn.specs.declared.renewal.Renewal.{Renewal}
+use Rattle.mux_conn.specs.declared.life.Life.TheVariants.{Dialing, SettingUp, Ready, Ended}
 use Rattle.mux_conn.specs.declared.request.Waiting.{Waiting}
-use Rattle.mux_conn.specs.Connection.{Work, with_link, with_setup, admits_none, has_room, started_in, is_spent_in, runs_out, renewals_run_out, uses_up}
+use Rattle.mux_conn.specs.Connection.{Work, with_link, with_setup, admits_none, has_room, started_in, is_spent_in}
 use Rattle.mux_conn.specs.Requests.{is_open_at, is_waiting_at, is_admitted_at, answered}
 use Rattle.driver_model.specs.declared.action.WaitKind.{WaitKind}
 use Rattle.driver_model.specs.News.{News}
 use Rattle.mux_conn.specs.Effects.{applied}
-use Rattle.mux_conn.specs.Passes.{shown_each, set_up_each, renewed, started, started_at, placed_at, told_at_place, seated, moved_up, moved_up_each, moved_up_all, still_admitted}
+use Rattle.mux_conn.specs.Passes.{shown_each, set_up_each, started, started_at, placed_at, told_at_place, seated, moved_up, moved_up_each, moved_up_all, still_admitted}
 use Rattle.mux_conn.specs.Passes.{permits_taken, took, took_shown, timer_asked, let_in, holding, put_behind, seated_or_behind, admitted_at, admitted, admitted_each, admitted_all, still_waiting, passed}
-use Rattle.mux_conn.proofs.Kept.{shown_same, set_up_same, passed_kept, flushed_kept}
 use Rattle.mux_conn.specs.Turn.{written, written_at, moved_wait, fresh_wait, wait_shown, moved_each_shown, fresh_each_shown, moved_shown, fresh_shown, flushed, stepped}
 
 -- how many messages have started
 abbrev pub count : Work → ℕ
 count w = started_in w.conn.life
 
+-- to show starts leaves the connection
+pub shown_same : (w : Work) (ss : List Started) → (shown_each w ss).conn ≡ w.conn
+shown_same w [] = refl
+shown_same w (s ∷ ss) = shown_same _ ss
+
+-- and so it is of a setup
+pub set_up_same : (w : Work) (ss : List Started) → (set_up_each w ss).conn ≡ w.conn
+set_up_same w [] = refl
+set_up_same w (s ∷ ss) = set_up_same _ ss
+
 -- starts give no smaller numbers
 started_rises_at : (w : Work) (life : Life) → w.conn.life ≡ life → count w ≤ count (started_at w life)
 started_rises_at w Dialing e = le_refl (count w)
-started_rises_at w (Wanting link) e = le_refl (count w)
 started_rises_at w (Ended x) e = le_refl (count w)
 started_rises_at w (SettingUp link with_user) e =
     let all = started_all (record { link = link; out = [] }) in
@@ -79,7 +86,6 @@ told_count w q = count_either q.awaited (count w) w (answered w q.number (outcom
 
 placed_count : (w : Work) (q : Waiting) (life : Life) → w.conn.life ≡ life → count (placed_at w q life) ≡ count w
 placed_count w q Dialing e = refl
-placed_count w q (Wanting link) e = refl
 placed_count w q (Ended x) e = refl
 placed_count w q (SettingUp link with_user) e = refl
 placed_count w q (Ready link) e = let from : count w ≡ link.started = ap started_in e in sym from
@@ -119,7 +125,6 @@ let_in_count w q =
 
 admitted_at_rises : (w : Work) (q : Waiting) (life : Life) → count w ≤ count (admitted_at w q life)
 admitted_at_rises w q Dialing = le_refl (count w)
-admitted_at_rises w q (Wanting link) = le_refl (count w)
 admitted_at_rises w q (SettingUp link with_user) = le_refl (count w)
 admitted_at_rises w q (Ended x) = let same = answered_count w q.number (outcome.Fault x) in omega (arith, same)
 admitted_at_rises w q (Ready link) = let same = let_in_count w q in omega (arith, same, behind_rises (let_in w q) q)
@@ -149,30 +154,17 @@ spent_in_admitted w v q qs free is h =
     subst (λ (x : Work). is_spent_in x.conn.life ≡ true) (sym (left_if (admits_none w.conn) (still_waiting w (q ∷ qs)) (admitted_each (admitted w q) qs) free) ∙ is)
     (past (count (admitted w q)) (count (admitted_each (admitted w q) qs)) (admitted_each_rises (admitted w q) qs) h)
 
-either_left : (a b : Bool) → a ≡ true → (a || b) ≡ true
-either_left true b h = refl
-either_left false b h = cc
-
-either_right : (a b : Bool) → b ≡ true → (a || b) ≡ true
-either_right true b h = refl
-either_right false b h = h
-
 -- those that take a place run out before the others are admitted
-pub spent_second : (w : Work) → is_spent_in (moved_up_all (started (renewed w))).conn.life ≡ true → uses_up (passed w) ≡ true
+pub spent_second : (w : Work) → is_spent_in (moved_up_all (started w)).conn.life ≡ true → is_spent_in (passed w).conn.life ≡ true
 spent_second w h =
-    let v = moved_up_all (started (renewed w)) in
-    either_left (runs_out (passed w)) (renewals_run_out (passed w)) (past (count v) (count (admitted_all v)) (admitted_each_rises (still_waiting v []) v.conn.waiting) h)
+    let v = moved_up_all (started w) in
+    past (count v) (count (admitted_all v)) (admitted_each_rises (still_waiting v []) v.conn.waiting) h
 
 -- starts run out before requests are moved
-pub spent_first : (w : Work) → is_spent_in (started (renewed w)).conn.life ≡ true → uses_up (passed w) ≡ true
+pub spent_first : (w : Work) → is_spent_in (started w).conn.life ≡ true → is_spent_in (passed w).conn.life ≡ true
 spent_first w h =
-    let v = started (renewed w) in
+    let v = started w in
     spent_second w (past (count v) (count (moved_up_all v)) (moved_up_each_rises (still_admitted v []) v.conn.admitted) h)
-
--- new credentials run out before anything starts
-pub spent_renewed : (w : Work) → renewals_run_out (renewed w) ≡ true → uses_up (passed w) ≡ true
-spent_renewed w h =
-    either_right (runs_out (passed w)) (renewals_run_out (passed w)) (ap (λ (r : Renewal). nat_le (2 ^ 32) r.asked) (passed_kept w) ∙ h)
 
 wait_count : (w : Work) (p : ℕ) (kind : Option WaitKind) → count (wait_shown w p kind) ≡ count w
 wait_count w p None = refl
@@ -194,7 +186,6 @@ fresh_count w = fresh_each_count (record w { conn = record w.conn { fresh = [] }
 
 written_count : (w : Work) (life : Life) → w.conn.life ≡ life → count (written_at w life) ≡ count w
 written_count w Dialing e = refl
-written_count w (Wanting link) e = refl
 written_count w (Ended x) e = refl
 written_count w (SettingUp link with_user) e = let from : count w ≡ link.started = ap started_in e in count_either (can_offer link.outbox) (count w) _ w (sym from) refl
 written_count w (Ready link) e = let from : count w ≡ link.started = ap started_in e in count_either (can_offer link.outbox) (count w) _ w (sym from) refl
@@ -203,13 +194,6 @@ written_count w (Ready link) e = let from : count w ≡ link.started = ap starte
 pub flushed_count : (w : Work) → count (flushed w) ≡ count w
 flushed_count w = fresh_count (moved_shown (written w)) ∙ moved_count (written w) ∙ written_count w w.conn.life refl
 
--- what a turn ends with leaves numbers that have run out
-pub spent_flushed : (w : Work) → uses_up w ≡ true → uses_up (flushed w) ≡ true
-spent_flushed w h =
-    ap (λ (n : ℕ). nat_le (2 ^ 32) n || renewals_run_out (flushed w)) (flushed_count w)
-    ∙ ap (λ (r : Renewal). runs_out w || nat_le (2 ^ 32) r.asked) (flushed_kept w)
-    ∙ h
-
 -- a number that runs out has run out at the end of the turn
-pub spent_turn : (w : Work) (news : News) → uses_up (passed (applied w news)) ≡ true → uses_up (stepped w news) ≡ true
-spent_turn w news h = spent_flushed (passed (applied w news)) h
+pub spent_turn : (w : Work) (news : News) → is_spent_in (passed (applied w news)).conn.life ≡ true → is_spent_in (stepped w news).conn.life ≡ true
+spent_turn w news h = ap (λ n. nat_le (2 ^ 32) n) (flushed_count (passed (applied w news))) ∙ h

@@ -1,6 +1,5 @@
 pub mod Connection
 pub mod Requests
-pub mod Renewals
 pub mod Internal
 pub mod Effects
 pub mod Passes

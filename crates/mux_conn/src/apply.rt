@@ -54,7 +54,7 @@ impl MultiplexedConnection {
         ensures failure { self.new.failure ≡ self.old.failure }
     {
         while let Some(message) = rest.pop_front() {
-            self.settle_one(message, out)?;
+            self.answer(message.id, message.verdict.into_outcome(), out)?;
         }
         Ok(())
     }
@@ -272,8 +272,7 @@ impl MultiplexedConnection {
         Ok(())
     }
 
-    /// This link is set up, which is shown, and a source is asked for new credentials, where they come of sources. The waits of
-    /// all that waited for it are to be shown anew.
+    /// This link is set up, which is shown: the waits of all that waited for it are to be shown anew.
     pub(crate) fn make_ready(
         &mut self,
         alloc: Global,
@@ -290,7 +289,7 @@ impl MultiplexedConnection {
         self.refresh(alloc)?;
         self.life = Life::Ready { link };
         out.push(LinkAct::Created { error: None })?;
-        self.ask_source(out)
+        Ok(())
     }
 
     /// The setup takes its place on this link, with the user name or without it.
@@ -369,7 +368,7 @@ impl MultiplexedConnection {
             return Ok(());
         }
         let link = LinkCore::new(alloc, self.size, self.boundary);
-        if self.renewal.wanted {
+        if self.wants {
             return self.come_to_want(alloc, link, out);
         }
         self.come_up(alloc, link, out)
@@ -547,21 +546,12 @@ impl MultiplexedConnection {
                 let text = Bytes::new(alloc);
                 self.go_without(alloc, RedisError::AuthFailed { text }, out)
             }
-            LinkNews::Renewed { auth } => self.expect_renewal(alloc, auth),
-            LinkNews::Unrenewed => {
-                self.end_renewals();
-                Ok(())
-            }
-            LinkNews::Late { number } => {
-                self.renew_late(number);
-                Ok(())
-            }
             LinkNews::Shut => self.shut(alloc, out),
         }
     }
 
-    /// The message of that number leaves the queue, or is answered to nobody.
-    pub(crate) fn take_back(&mut self, number: u64)
+    /// The message of a request leaves the queue, or is answered to nobody.
+    fn take_back(&mut self, number: u64)
         ensures { self.new ≡ record self.old { life = cancelled_in self.old.life number } }
     {
         match &mut self.life {

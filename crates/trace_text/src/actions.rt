@@ -59,10 +59,6 @@ impl Writer {
                 self.literal(b"response")?;
                 self.owner(owner)
             }
-            Purpose::Renewal { link: _, number: _ } => {
-                self.literal(b"response")?;
-                self.owner(Owner::Auth)
-            }
         }
     }
 
