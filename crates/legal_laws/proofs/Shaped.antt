@@ -67,7 +67,7 @@ asks_shaped l info wanted unasked h = record {
 }
 
 -- where a setup is due no credentials lack
-due_is_given : (l : Ledger) (k : ℕ) → IsShaped l → setup_due l ≡ Some k → lacks_credentials l ≡ true → ⊥
+pub due_is_given : (l : Ledger) (k : ℕ) → IsShaped l → setup_due l ≡ Some k → lacks_credentials l ≡ true → ⊥
 due_is_given l k h due lacks =
     let first : setup_after l 0 ≡ Some k = ap (λ (ss : List Start). setup_after l (setup_count ss)) (sym (h.bare lacks)) ∙ (sym (taken_if l.up (setup_after l (setup_count l.starts)) None (due_is_up l k due)) ∙ due) in
     let nothing : setup_after l 0 ≡ None = ap (λ x. if x || says_nothing (setup_steps l 0) then None else Some 0) lacks in

@@ -21,7 +21,7 @@ use Rattle.driver_model.specs.News.{News, silence, connected, refused, overdue, 
 use Rattle.driver_model.specs.Shape.{need_of}
 use Rattle.legal_trace.specs.Ledger.{Ledger, Start, Ending, is_over, reach, reached, cut, bytes_came, is_full, is_of_setup, setup_count, setup_steps, result_of, last_result, lacks_credentials, setup_result, is_well, is_set_up, error_in, repeats, setup_after, setup_due, setup_message, ending, ending_up, ending_by, ending_unready, ending_alive, ending_asked}
 use Rattle.legal_trace.proofs.Ledgers.{reach_alike, reach_more, takes_one}
-use Rattle.legal_trace.proofs.Plain.{same_some}
+use Rattle.legal_trace.proofs.Plain.{item_behind, same_some}
 
 -- what so many setups came to, where no credentials are waited for
 abbrev pub said_result : Ledger → ℕ → Option SetupResult
@@ -425,13 +425,6 @@ set_more l rest more shaped set =
 pub set_came : (l : Ledger) (piece : List ℕ) → AreSetups l → is_set_up l ≡ true → is_set_up (bytes_came l piece) ≡ true
 set_came l piece shaped set = set_more l (left_over (l.rest ++ piece)) (take (reach l.starts l.dealt - length l.dealt) (items (l.rest ++ piece))) shaped set
 
--- a start behind others is one of these, or that
-start_behind : (ss : List Start) (s x : Start) (k : ℕ) → slice_get (ss ++ s ∷ []) k ≡ Some x → (slice_get ss k ≡ Some x) ⊎ ((k ≡ length ss) × (s ≡ x))
-start_behind [] s x zero e = inr (refl, same_some s x e)
-start_behind [] s x (suc k) e = cc
-start_behind (y ∷ ss) s x zero e = inl e
-start_behind (y ∷ ss) s x (suc k) e = elim (start_behind ss s x k e) [ inl old ↦ inl old | inr new ↦ inr (ap suc new.0, new.1) ]
-
 -- a start that stands is within
 start_within : (ss : List Start) (k : ℕ) (s : Start) → slice_get ss k ≡ Some s → k < length ss
 start_within [] k s e = cc
@@ -440,7 +433,7 @@ start_within (x ∷ ss) (suc k) s e = omega (arith, start_within ss k s e)
 
 -- setups stay so where a request's message starts
 pub setups_request : (l : Ledger) (s : Start) → is_of_setup s.owner ≡ false → AreSetups l → SetupsOf l.info (l.starts ++ s ∷ [])
-setups_request l s request h k x i stands = elim (start_behind l.starts s x k stands) [
+setups_request l s request h k x i stands = elim (item_behind l.starts s x k stands) [
   | inl old ↦ h k x (omega (arith, i, count_more l.starts s request)) old
   | inr new ↦ absurd (omega (arith, i, count_more l.starts s request, count_within l.starts, new.0))
 ]
@@ -449,7 +442,7 @@ setups_request l s request h k x i stands = elim (start_behind l.starts s x k st
 pub setups_setup : (l : Ledger) → AreSetups l → SetupsOf l.info (l.starts ++ setup_message l (setup_count l.starts) ∷ [])
 setups_setup l h k x i stands =
     let s : Start = setup_message l (setup_count l.starts) in
-    elim (start_behind l.starts s x k stands) [
+    elim (item_behind l.starts s x k stands) [
       | inl old ↦ h k x (elim (count_push l.starts s refl) [
         | inl same ↦ omega (arith, i, same)
         | inr more ↦ omega (arith, more.1, start_within l.starts k x old)

@@ -1,5 +1,5 @@
 -- Credentials of a link that come of a source: what they say of it.
-use Rattle.std.proofs.Common.{◌≡◌, Bool, true, ◌&&◌, not}
+use Rattle.std.proofs.Common.{◌≡◌, true, ◌&&◌, not}
 use Rattle.containers.proofs.Choices.{both_left, both_right, not_both}
 use Rattle.legal_trace.specs.Ledger.{Ledger, awaits_credentials, lacks_credentials, is_set_up, source_due}
 use Rattle.legal_trace.proofs.Setups.{set_is_given}
