@@ -1,5 +1,5 @@
 -- What one link sees of an event: the one place where an event is taken to a link.
-use Rattle.std.specs.Prelude.{ℕ, ◌==◌, Bool, false, List, Option, Some, None, slice_get, if◌then◌else◌}
+use Rattle.std.specs.Prelude.{ℕ, ◌==◌, Bool, List, Option, Some, None, slice_get, if◌then◌else◌}
 use Rattle.redis_error.specs.declared.fault_kind.FaultKind.{FaultKind}
 use Rattle.driver_model.specs.declared.action.Purpose.{Purpose}
 use Rattle.driver_model.specs.declared.action.Purpose.TheVariants as purpose
@@ -15,7 +15,8 @@ use Rattle.driver_model.specs.declared.news.LinkNews.TheVariants as variant
 
 -- nothing; its connect succeeded; its connect failed; the time in which it was to be connected is over; so many of the
 -- offered bytes were taken; bytes came; its peer closed it, or a read or a write failed; credentials came for its setup, or there
--- are none, since its source says this, or has ended; everything is shut down
+-- are none, since its source says this, or has ended; new credentials came, to be told to its server, or no more come; the time
+-- for those of this number is over; everything is shut down
 pub data News : Type 0 where
   silence : News
   connected : News
@@ -27,6 +28,9 @@ pub data News : Type 0 where
   authorized : Credentials → News
   denied : List ℕ → News
   deserted : News
+  renewed : Credentials → News
+  unrenewed : News
+  late : ℕ → News
   shut : News
 
 -- news for one link alone
@@ -38,11 +42,23 @@ abbrev pub of_timer : ℕ → Option Purpose → News
 of_timer n None = silence
 of_timer n (Some (purpose.Connect l)) = for_link (l == n) overdue
 of_timer n (Some (purpose.Response who)) = silence
+of_timer n (Some (purpose.Renewal l k)) = for_link (l == n) (late k)
 
--- a source with this use was asked for, for link n
+-- a source with this use was asked for, for the setup of link n
 abbrev pub is_source_of : ℕ → Option SourceUse → Bool
 is_source_of n None = false
 is_source_of n (Some (source.Setup l)) = l == n
+is_source_of n (Some (source.Renewal l)) = false
+
+-- or for its renewals
+abbrev pub renews : ℕ → Option SourceUse → Bool
+renews n None = false
+renews n (Some (source.Setup l)) = false
+renews n (Some (source.Renewal l)) = l == n
+
+-- what it sees of such a source: this where its setup waits for it, and that where it renews
+abbrev pub of_source : ℕ → Option SourceUse → News → News → News
+of_source n use first later = if is_source_of n use then first else for_link (renews n use) later
 
 -- what the link of number n sees of an event, where these are the purposes of the timers, and the uses of the sources of
 -- credentials, by their numbers
@@ -57,9 +73,9 @@ news_of timers sources n (event.WriteFault l kind) = for_link (l == n) (failed (
 news_of timers sources n (event.Fired t) = of_timer n (slice_get timers t)
 news_of timers sources n (event.Timeout ms) = silence
 news_of timers sources n event.Shutdown = shut
-news_of timers sources n (event.Creds c auth) = for_link (is_source_of n (slice_get sources c)) (authorized auth)
-news_of timers sources n (event.CredsError c text) = for_link (is_source_of n (slice_get sources c)) (denied text)
-news_of timers sources n (event.CredsEnd c) = for_link (is_source_of n (slice_get sources c)) deserted
+news_of timers sources n (event.Creds c auth) = of_source n (slice_get sources c) (authorized auth) (renewed auth)
+news_of timers sources n (event.CredsError c text) = of_source n (slice_get sources c) (denied text) silence
+news_of timers sources n (event.CredsEnd c) = of_source n (slice_get sources c) deserted unrenewed
 news_of timers sources n (event.Submit s) = silence
 news_of timers sources n (event.Cancel s) = silence
 
@@ -75,4 +91,7 @@ told (variant.Failed f) = failed f
 told (variant.Authorized auth) = authorized auth.now
 told (variant.Denied text) = denied text.now
 told variant.Deserted = deserted
+told (variant.Renewed auth) = renewed auth.now
+told variant.Unrenewed = unrenewed
+told (variant.Late k) = late k
 told variant.Shut = shut

@@ -21,6 +21,8 @@ pub enum Owner {
     Try { submission: u32, round: u32 },
     /// What is said to the server before the first request.
     Setup,
+    /// New credentials, told to the server of a link that is set up.
+    Auth,
 }
 
 /// What a request waits for.
@@ -47,6 +49,8 @@ pub enum Purpose {
     Connect { link: u32 },
     /// The request is to be answered by then.
     Response { owner: Owner },
+    /// The link's new credentials, the first of which have the number 0, are to be answered by then.
+    Renewal { link: u32, number: u32 },
 }
 
 /// What a source of credentials is asked for.
@@ -54,6 +58,8 @@ pub enum Purpose {
 pub enum SourceUse {
     /// The setup of the link: it waits for the first credentials.
     Setup { link: u32 },
+    /// The link's renewals: each of its credentials is told to the server.
+    Renewal { link: u32 },
 }
 
 /// What a turn asks of the outside, or tells it.

@@ -1,5 +1,5 @@
 ghost use Rattle.std.specs.Prelude.{◌≡◌, slice_get};
-ghost use Rattle.driver_model.specs.News.{news_of, of_timer, is_source_of, told};
+ghost use Rattle.driver_model.specs.News.{news_of, of_timer, is_source_of, renews, told};
 
 use crate::action::{Purpose, SourceUse};
 use crate::event::EventKind;
@@ -40,6 +40,12 @@ pub enum LinkNews<'a> {
     Denied { text: &'a [u8] },
     /// There are none for its setup: the source has ended.
     Deserted,
+    /// New credentials came, to be told to its server.
+    Renewed { auth: &'a BasicAuth },
+    /// No more of them come.
+    Unrenewed,
+    /// The time in which its credentials of this number were to be answered is over.
+    Late { number: u32 },
     /// Everything is closed.
     Shut,
 }
@@ -61,11 +67,16 @@ fn fired(timers: &[Purpose], timer: u32, link: u32) -> LinkNews<'static>
     }
     match timers[place] {
         Purpose::Connect { link: named } if named == link => LinkNews::Overdue,
+        Purpose::Renewal {
+            link: named,
+            number,
+        } if named == link => LinkNews::Late { number },
         _ => LinkNews::Silence,
     }
 }
 
-/// Whether the source of this number was asked for, for that link, where these are the uses of the sources by their numbers.
+/// Whether the source of this number was asked for, for the setup of that link, where these are the uses of the sources by
+/// their numbers.
 fn is_source_of(sources: &[SourceUse], source: u32, link: u32) -> bool
     ensures { result ≡ is_source_of link (slice_get sources.now source) }
 {
@@ -75,6 +86,21 @@ fn is_source_of(sources: &[SourceUse], source: u32, link: u32) -> bool
     }
     match sources[place] {
         SourceUse::Setup { link: named } => named == link,
+        SourceUse::Renewal { link: _ } => false,
+    }
+}
+
+/// Or for its renewals.
+fn renews(sources: &[SourceUse], source: u32, link: u32) -> bool
+    ensures { result ≡ renews link (slice_get sources.now source) }
+{
+    let place = source as usize;
+    if place >= sources.len() {
+        return false;
+    }
+    match sources[place] {
+        SourceUse::Setup { link: _ } => false,
+        SourceUse::Renewal { link: named } => named == link,
     }
 }
 
@@ -110,6 +136,9 @@ impl EventKind {
             EventKind::Creds { source, auth } if is_source_of(sources, *source, link) => {
                 LinkNews::Authorized { auth }
             }
+            EventKind::Creds { source, auth } if renews(sources, *source, link) => {
+                LinkNews::Renewed { auth }
+            }
             EventKind::CredsError { source, text } if is_source_of(sources, *source, link) => {
                 LinkNews::Denied {
                     text: text.as_slice(),
@@ -117,6 +146,9 @@ impl EventKind {
             }
             EventKind::CredsEnd { source } if is_source_of(sources, *source, link) => {
                 LinkNews::Deserted
+            }
+            EventKind::CredsEnd { source } if renews(sources, *source, link) => {
+                LinkNews::Unrenewed
             }
             EventKind::Shutdown => LinkNews::Shut,
             _ => LinkNews::Silence,

@@ -18,7 +18,8 @@ use Rattle.driver_model.specs.Config.{response_timeout, told_info, bare_info, wa
 use Rattle.driver_model.specs.declared.event.Submission.{Submission}
 use Rattle.driver_model.specs.News.{news_of}
 use Rattle.driver_model.specs.Request.{lacks_resp3}
-use Rattle.legal_trace.specs.Ledger.{Ledger, Start, Line, asks, hears, begins, offers, ends, blank_ledger, setup_count, setup_message, noted_each, tells, parts, sources}
+use Rattle.credentials.specs.Credentials.{Credentials}
+use Rattle.legal_trace.specs.Ledger.{Ledger, Start, Line, asks, hears, begins, offers, ends, blank_ledger, setup_count, setup_message, renewal_due, renewal_message, noted_each, tells, parts, sources, times}
 use Rattle.resp_value.specs.declared.push_kind.PushKind.{PushKind}
 use Rattle.driver_model.specs.Push.{is_disconnection}
 use Rattle.legal_trace.specs.Story.{Story, blank_story, bytes_of, shape, handed_in, left, holds, clocked, fires, tried, waits, answered}
@@ -49,14 +50,24 @@ abbrev pub info_in : Option Config → RedisConnectionInfo
 info_in None = bare_info
 info_in (Some config) = told_info config
 
--- and whether its credentials come of a source
+-- and whether credentials come of sources
 abbrev pub wanted_in : Option Config → Bool
 wanted_in None = false
 wanted_in (Some config) = wants_credentials config
 
+-- these credentials, where there are any
+abbrev pub credentials_in : Option Credentials → Credentials
+credentials_in None = record { username = []; password = [] }
+credentials_in (Some c) = c
+
+-- and the message that tells them
+abbrev pub renewal_in : Option Credentials → Start
+renewal_in o = renewal_message (credentials_in o)
+
 -- a message that starts on link l as its owner has it: it carries the owner's bytes
 abbrev pub message_of : Book → ℕ → Owner → Start
 message_of b l owner.Setup = setup_message (b.link l) (setup_count (b.link l).starts)
+message_of b l owner.Auth = renewal_in (renewal_due (b.link l))
 message_of b l (owner.Try n round) = record { owner = owner.Try n round; shape = shape (b.story n); bytes = bytes_of (b.story n) }
 
 -- a line of one link alone
@@ -67,12 +78,18 @@ if_mine mine line = if mine then line ∷ [] else []
 abbrev pub push_line : PushKind → Line
 push_line kind = if is_disconnection kind then parts else tells
 
+-- a timer is for new credentials of link n
+abbrev pub is_renewal_of : ℕ → Purpose → Bool
+is_renewal_of n (purpose.Renewal l k) = l == n
+is_renewal_of n (purpose.Connect l) = false
+is_renewal_of n (purpose.Response who) = false
+
 -- what an action tells of link n
 abbrev pub lines_of : Book → ℕ → Action → List Line
 lines_of b n (action.Turn number (cause.Opening config word)) = []
 lines_of b n (action.Turn number (cause.Event e)) = hears number (news_of b.timers b.sources n e.kind) ∷ []
 lines_of b n (action.Connect l host port) = if_mine (l == n) (asks (info_in b.config) (wanted_in b.config))
-lines_of b n (action.Timer t ms what) = []
+lines_of b n (action.Timer t ms what) = if_mine (is_renewal_of n what) times
 lines_of b n (action.NeedCreds c l) = if_mine (l == n) sources
 lines_of b n (action.Took who l count) = []
 lines_of b n (action.Push l info) = if_mine (l == n) (push_line info.kind)
@@ -100,6 +117,8 @@ abbrev pub is_clock_of : ℕ → Option Purpose → Bool
 is_clock_of n None = false
 is_clock_of n (Some (purpose.Connect l)) = false
 is_clock_of n (Some (purpose.Response owner.Setup)) = false
+is_clock_of n (Some (purpose.Response owner.Auth)) = false
+is_clock_of n (Some (purpose.Renewal l k)) = false
 is_clock_of n (Some (purpose.Response (owner.Try m round))) = m == n
 
 -- what an event is to submission n
@@ -130,8 +149,11 @@ story_after b n (action.Outcome m o) = if_own (m == n) (answered (b.story n) o) 
 story_after b n (action.Connect l host port) = b.story n
 story_after b n (action.Timer t ms what) = if_own (is_clock_of n (Some what)) (clocked (b.story n) t) (b.story n)
 story_after b n (action.Took owner.Setup l count) = b.story n
+story_after b n (action.Took owner.Auth l count) = b.story n
 story_after b n (action.Start l message owner.Setup count len) = b.story n
+story_after b n (action.Start l message owner.Auth count len) = b.story n
 story_after b n (action.Wait owner.Setup kind) = b.story n
+story_after b n (action.Wait owner.Auth kind) = b.story n
 story_after b n (action.Took (owner.Try m round) l count) = if_own (m == n) (holds (b.story n) count) (b.story n)
 story_after b n (action.Push l info) = b.story n
 story_after b n (action.NeedCreds c l) = b.story n
@@ -164,6 +186,10 @@ begun b (cause.Event e) = record b {
   shut = b.shut || shuts e.kind;
 }
 
+-- a source that is asked for a link: the first is for its setup, and the second for its renewals
+abbrev pub use_for : Book → ℕ → SourceUse
+use_for b l = if (b.link l).creds.asked then source.Renewal l else source.Setup l
+
 -- what an action is to the counts of a book
 abbrev pub counted : Book → Action → Book
 counted b (action.Turn number c) = begun b c
@@ -172,7 +198,7 @@ counted b (action.Timer t ms what) = record b { timers = b.timers ++ what ∷ []
 counted b (action.Took who l count) = b
 counted b (action.Created e) = record b { created = b.created + 1 }
 counted b (action.Push l info) = b
-counted b (action.NeedCreds c l) = record b { sources = b.sources ++ source.Setup l ∷ [] }
+counted b (action.NeedCreds c l) = record b { sources = b.sources ++ use_for b l ∷ [] }
 counted b (action.Close l) = b
 counted b (action.Write l bytes) = b
 counted b (action.Wait who kind) = b

@@ -3,7 +3,7 @@ use Rattle.std.specs.Prelude.{◌≡◌, ◌⊎◌, ◌<◌, ◌≤◌, ℕ, ◌
 use Rattle.driver_model.specs.declared.event.EventKind.{EventKind}
 use Rattle.driver_model.specs.declared.event.EventKind.TheVariants as event
 use Rattle.driver_model.specs.Request.{has_no_form}
-use Rattle.legal_trace.specs.Ledger.{is_over}
+use Rattle.legal_trace.specs.Ledger.{is_over, renewals_asked}
 use Rattle.legal_trace.specs.Book.{Book}
 
 -- no link of that number was asked for
@@ -30,6 +30,7 @@ is_bad_event b (event.CredsEnd c) = nat_le (length b.sources) c
 is_bad_event b event.Shutdown = false
 
 -- more numbers of a sort were given out than there are: a turn after the number 2^32 - 1, or that number itself to a
--- submission, to a link, to a timer, to a source of credentials, or to a message of a link that is up
+-- submission, to a link, to a timer, to a source of credentials, to a message of a link that is up, or to new credentials of a
+-- link
 abbrev pub HasRunOut : Book → Type 0
-HasRunOut b = (2 ^ 32 < b.turns) ⊎ (2 ^ 32 ≤ b.submissions) ⊎ (2 ^ 32 ≤ b.links) ⊎ (2 ^ 32 ≤ length b.timers) ⊎ (2 ^ 32 ≤ length b.sources) ⊎ ((l : ℕ) × ((b.link l).up ≡ true) × (2 ^ 32 ≤ length (b.link l).starts))
+HasRunOut b = (2 ^ 32 < b.turns) ⊎ (2 ^ 32 ≤ b.submissions) ⊎ (2 ^ 32 ≤ b.links) ⊎ (2 ^ 32 ≤ length b.timers) ⊎ (2 ^ 32 ≤ length b.sources) ⊎ ((l : ℕ) × ((b.link l).up ≡ true) × (2 ^ 32 ≤ length (b.link l).starts)) ⊎ ((l : ℕ) × (2 ^ 32 ≤ renewals_asked (b.link l)))

@@ -1,6 +1,6 @@
 -- What is told of one link, line by line, and what it comes to: the link's ledger. It knows neither its number nor whose
 -- messages it carries.
-use Rattle.std.specs.Prelude.{◌≡◌, ◌≢◌, ◌⊎◌, ◌≤◌, ℕ, zero, suc, ◌+◌, ◌-◌, ◌==◌, nat_le, Bool, true, false, ◌&&◌, ◌||◌, not, List, [], ◌∷◌, ◌++◌, length, take, drop, flat_map, Option, Some, None, is_some, slice_get, if◌then◌else◌}
+use Rattle.std.specs.Prelude.{◌≡◌, ◌≢◌, ◌⊎◌, ◌≤◌, ◌<◌, ℕ, zero, suc, ◌+◌, ◌-◌, ◌==◌, nat_le, nat_lt, Bool, true, false, ◌&&◌, ◌||◌, not, List, [], ◌∷◌, ◌++◌, length, take, drop, flat_map, Option, Some, None, is_some, slice_get, if◌then◌else◌}
 use Rattle.resp_value.specs.Data.{Data, push, list_of}
 use Rattle.resp_read.specs.Values.{values, left_over, is_spoiled}
 use Rattle.resp_read.specs.Items.{items, is_item}
@@ -9,6 +9,7 @@ use Rattle.redis_error.specs.declared.redis_error.RedisError.{RedisError}
 use Rattle.redis_error.specs.declared.redis_error.RedisError.TheVariants as error
 use Rattle.connection_info.specs.declared.address.RedisConnectionInfo.{RedisConnectionInfo}
 use Rattle.credentials.specs.Credentials.{Credentials}
+use Rattle.credentials.specs.Message.{auth_bytes}
 use Rattle.connection_setup.specs.declared.judgement.SetupResult.{SetupResult}
 use Rattle.connection_setup.specs.declared.judgement.SetupResult.TheVariants.{Ready, RepeatWithoutUser, Failed}
 use Rattle.connection_setup.specs.Setup.{Step, setup}
@@ -21,8 +22,11 @@ use Rattle.driver_model.specs.declared.action.Owner.TheVariants as owner
 use Rattle.driver_model.specs.declared.news.LinkFault.{LinkFault}
 use Rattle.driver_model.specs.declared.news.LinkFault.TheVariants as fault
 use Rattle.driver_model.specs.declared.outcome.Shape.{Shape}
-use Rattle.driver_model.specs.News.{News, silence, connected, refused, overdue, took, came, failed, authorized, denied, deserted, shut}
-use Rattle.driver_model.specs.Shape.{need_of}
+use Rattle.driver_model.specs.declared.outcome.Shape.TheVariants.{Confirmation}
+use Rattle.driver_model.specs.declared.outcome.Verdict.{Verdict}
+use Rattle.driver_model.specs.declared.outcome.Verdict.TheVariants as verdict
+use Rattle.driver_model.specs.News.{News, silence, connected, refused, overdue, took, came, failed, authorized, denied, deserted, renewed, unrenewed, late, shut}
+use Rattle.driver_model.specs.Shape.{need_of, verdict_of}
 
 -- a message that started: who owns it, how many items it takes and what they become, and its bytes
 pub record Start : Type 0 where
@@ -60,17 +64,23 @@ pub record Heard : Type 0 where
   pub after : ℕ
   pub info : PushInfo
 
--- the credentials of a link that come of a source: whether they are to, whether a source was asked for, and whether the first
--- credentials have come
+-- the credentials of a link that come of sources: whether they are to, whether a source was asked for, and whether the first
+-- credentials have come; whether another source was asked for, for new ones; those that came to be told to its server since, in
+-- order, and whether more may come; for how many of these a timer was asked; and whether one of them was not answered in time
 pub record Sourced : Type 0 where
   pub wanted : Bool
   pub asked : Bool
   pub given : Bool
+  pub renews : Bool
+  pub renewals : List Credentials
+  pub over : Bool
+  pub timed : ℕ
+  pub lost : Bool
 
 abbrev pub unsourced : Bool → Sourced
-unsourced wanted = record { wanted = wanted; asked = false; given = false }
+unsourced wanted = record { wanted = wanted; asked = false; given = false; renews = false; renewals = []; over = false; timed = 0; lost = false }
 
--- whether its connect was asked for, what is to be said to its server then, and its credentials that come of a source; whether
+-- whether its connect was asked for, what is to be said to its server then, and its credentials that come of sources; whether
 -- the connect succeeded and it has not ended; how it ended; its starts in order; the bytes that were taken from it; the bytes
 -- of its unanswered offer; what came behind the last whole value; the items dealt; the pushes that came once it was set up,
 -- how many of them were told, and whether its end was told as one; and what it was told by the turn that runs
@@ -122,6 +132,7 @@ is_full l k = nat_le (reached l (k + 1)) (length l.dealt)
 abbrev pub is_of_setup : Owner → Bool
 is_of_setup owner.Setup = true
 is_of_setup (owner.Try n round) = false
+is_of_setup owner.Auth = false
 
 -- how many of these starts are of the setup: they are the first ones
 abbrev pub setup_count : List Start → ℕ
@@ -203,9 +214,76 @@ authorized_by l c = record l { info = record l.info { username = Some c.username
 abbrev pub awaits_credentials : Ledger → Bool
 awaits_credentials l = l.up && l.creds.asked && lacks_credentials l
 
--- a source of credentials is to be asked for, once it is up
+-- it is ready, and new credentials may come
+abbrev pub may_renew : Ledger → Bool
+may_renew l = is_ready l && l.creds.renews && not l.creds.over
+
+-- new credentials come, to be told to its server
+abbrev pub renewed_by : Ledger → Credentials → Ledger
+renewed_by l c = record l { creds = record l.creds { renewals = l.creds.renewals ++ c ∷ [] } }
+
+-- no more of them come
+abbrev pub unrenewed_by : Ledger → Ledger
+unrenewed_by l = record l { creds = record l.creds { over = true } }
+
+-- some were not answered in time
+abbrev pub lost_by : Ledger → Ledger
+lost_by l = record l { creds = record l.creds { lost = true } }
+
+-- a start that tells new credentials
+abbrev pub is_of_renewal : Owner → Bool
+is_of_renewal owner.Auth = true
+is_of_renewal owner.Setup = false
+is_of_renewal (owner.Try n round) = false
+
+-- how many of these starts do
+abbrev pub renewal_count : List Start → ℕ
+renewal_count [] = 0
+renewal_count (s ∷ ss) = if is_of_renewal s.owner then suc (renewal_count ss) else renewal_count ss
+
+-- the number of the last of these starts that does, where the first of them has the number k and old is that of the last before
+abbrev pub last_renewal : List Start → ℕ → Option ℕ → Option ℕ
+last_renewal [] k old = old
+last_renewal (s ∷ ss) k old = last_renewal ss (suc k) (if is_of_renewal s.owner then Some k else old)
+
+-- a server takes credentials where its reply is no error, as it confirms a subscription call
+abbrev pub is_done : Verdict → Bool
+is_done verdict.Done = true
+is_done _ = false
+
+-- its message of that number has its item, and that is no error; true where there is no such message
+abbrev pub is_taken : Ledger → Option ℕ → Bool
+is_taken l None = true
+is_taken l (Some k) = is_full l k && is_done (verdict_of Confirmation (cut l k Confirmation))
+
+-- the credentials that are to be told to its server next: the first that were not, where those before were taken, and in time
+abbrev pub renewal_due : Ledger → Option Credentials
+renewal_due l =
+    if l.up && not l.creds.lost && is_taken l (last_renewal l.starts 0 None)
+    then slice_get l.creds.renewals (renewal_count l.starts) else None
+
+-- how many of its new credentials were to be told so far
+abbrev pub renewals_asked : Ledger → ℕ
+renewals_asked l = renewal_count l.starts + (if is_some (renewal_due l) then 1 else 0)
+
+-- its message of that number has its items; true where there is no such message
+abbrev pub is_full_last : Ledger → Option ℕ → Bool
+is_full_last l None = true
+is_full_last l (Some k) = is_full l k
+
+-- credentials of that number are to be told, or were and are not answered
+abbrev pub is_renewal_open : Ledger → ℕ → Bool
+is_renewal_open l k =
+    if is_some (renewal_due l) then k == renewal_count l.starts
+    else (suc k == renewal_count l.starts) && not (is_full_last l (last_renewal l.starts 0 None))
+
+-- the message that tells new credentials
+abbrev pub renewal_message : Credentials → Start
+renewal_message c = record { owner = owner.Auth; shape = Confirmation; bytes = auth_bytes c.username c.password }
+
+-- a source of credentials is to be asked for: once it is up, and once more when it is set up
 abbrev pub source_due : Ledger → Bool
-source_due l = l.up && l.creds.wanted && not l.creds.asked
+source_due l = l.up && l.creds.wanted && (not l.creds.asked || (is_set_up l && not l.creds.renews))
 
 -- what news makes of it in this turn: a link is up from its first successful connect until its end
 abbrev pub with_news : Ledger → ℕ → News → Ledger
@@ -216,6 +294,9 @@ with_news l turn (came piece) = if l.up then bytes_came l piece else l
 with_news l turn (authorized c) = if awaits_credentials l then authorized_by l c else l
 with_news l turn (denied text) = l
 with_news l turn deserted = l
+with_news l turn (renewed c) = if may_renew l then renewed_by l c else l
+with_news l turn unrenewed = if l.up then unrenewed_by l else l
+with_news l turn (late k) = if l.up && is_renewal_open l k then lost_by l else l
 with_news l turn silence = l
 with_news l turn overdue = l
 with_news l turn (failed f) = l
@@ -259,6 +340,9 @@ ending_up l (took count) = None
 ending_up l (authorized c) = None
 ending_up l (denied text) = None
 ending_up l deserted = None
+ending_up l (renewed c) = None
+ending_up l unrenewed = None
+ending_up l (late k) = None
 
 -- what ends a link that is up and not set up: the setup failed, or there are no credentials for it, the time for it is over,
 -- everything is shut down, or the link fails, which closes the connection for the setup, as for a pipeline
@@ -274,6 +358,9 @@ ending_unready l (took count) = None
 ending_unready l (denied text) = if lacks_credentials l then Some (by_opening (error.Credentials text)) else None
 ending_unready l deserted = if lacks_credentials l then Some (by_opening (error.AuthFailed [])) else None
 ending_unready l (authorized c) = None
+ending_unready l (renewed c) = None
+ending_unready l unrenewed = None
+ending_unready l (late k) = None
 
 abbrev pub ending_by : Option RedisError → Option Ending → Option Ending
 ending_by None other = other
@@ -296,6 +383,9 @@ ending_asked (failed f) = None
 ending_asked (authorized c) = None
 ending_asked (denied text) = None
 ending_asked deserted = None
+ending_asked (renewed c) = None
+ending_asked unrenewed = None
+ending_asked (late k) = None
 
 -- what must end the link in the turn that runs, if anything does
 abbrev pub ending : Ledger → Option Ending
@@ -315,8 +405,9 @@ abbrev pub ended : Ledger → ℕ → Ledger
 ended l turn = record l { up = false; end = Some (record { turn = turn; why = ending_or_shutdown (ending l); oldest = full_count l.starts l.dealt }) }
 
 -- a line of what is told of a link: its connect is asked for, this is to be said to its server then, and whether credentials
--- are to come of a source; the turn of that number, with this news for it; a message begins; its unwritten bytes are offered;
--- the next push is told; a source of credentials is asked for; it is closed, in that turn; its end is told as a push
+-- are to come of sources; the turn of that number, with this news for it; a message begins; its unwritten bytes are offered;
+-- the next push is told; a source of credentials is asked for; a timer for new credentials is; it is closed, in that turn; its
+-- end is told as a push
 pub data Line : Type 0 where
   asks : RedisConnectionInfo → Bool → Line
   hears : ℕ → News → Line
@@ -324,6 +415,7 @@ pub data Line : Type 0 where
   offers : List ℕ → Line
   tells : Line
   sources : Line
+  times : Line
   ends : ℕ → Line
   parts : Line
 
@@ -334,7 +426,8 @@ noted l (hears turn news) = record (with_news l turn news) { heard = news }
 noted l (begins s) = record l { starts = l.starts ++ s ∷ [] }
 noted l (offers bytes) = record l { offer = bytes }
 noted l tells = record l { told = l.told + 1 }
-noted l sources = record l { creds = record l.creds { asked = true } }
+noted l sources = record l { creds = record l.creds { asked = true; renews = l.creds.asked } }
+noted l times = record l { creds = record l.creds { timed = l.creds.timed + 1 } }
 noted l (ends turn) = ended l turn
 noted l parts = record l { parted = true }
 
@@ -383,7 +476,8 @@ is_cut (Some end) = is_fault end.why
 
 -- where a line may stand: a link is asked for once; its messages have bytes, and start while it is up; it is offered all
 -- its unwritten bytes at once, where no offer is unanswered; a push is told that came; a source of credentials is asked for
--- that is to be; it ends where something must end it; and that a fault ended it is told once
+-- that is to be, and a timer for credentials that were to be told; it ends where something must end it; and that a fault ended
+-- it is told once
 abbrev pub MayNote : Ledger → Line → Type 0
 MayNote l (asks info wanted) = l.asked ≡ false
 MayNote l (hears turn news) = IsWithin l news
@@ -391,6 +485,7 @@ MayNote l (begins s) = (l.up ≡ true) × (s.bytes ≢ [])
 MayNote l (offers bytes) = (l.up ≡ true) × (l.offer ≡ []) × (bytes ≡ unwritten l) × (bytes ≢ [])
 MayNote l tells = is_some (next_push l) ≡ true
 MayNote l sources = source_due l ≡ true
+MayNote l times = l.creds.timed < renewals_asked l
 MayNote l (ends turn) = (why : Ending) × (ending l ≡ Some why)
 MayNote l parts = (is_cut l.end ≡ true) × (l.parted ≡ false)
 

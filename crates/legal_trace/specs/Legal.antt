@@ -1,7 +1,7 @@
 -- When a trace can be relied on: said of its book alone, apart from any machine. A turn has five segments: the event's own
 -- effect, the passes, the writes, the waits, and the closes of links that nothing uses any more, of which there are none on
 -- one connection. An action stands where it is the next that is due, once all before it are done.
-use Rattle.std.specs.Prelude.{◌≡◌, ◌≢◌, ◌⊎◌, ℕ, ◌<◌, Bool, true, false, List, [], ◌∷◌, length, Option, Some, None}
+use Rattle.std.specs.Prelude.{◌≡◌, ◌≢◌, ◌⊎◌, ℕ, ◌<◌, ◌≤◌, Bool, true, false, List, [], ◌∷◌, length, Option, Some, None}
 use Rattle.redis_error.specs.declared.redis_error.RedisError.{RedisError}
 use Rattle.resp_value.specs.declared.value.Value.TheVariants.{Nil}
 use Rattle.connection_info.specs.declared.address.ConnectionInfo.{ConnectionInfo}
@@ -19,9 +19,10 @@ use Rattle.driver_model.specs.declared.outcome.Outcome.{Outcome}
 use Rattle.driver_model.specs.declared.outcome.Outcome.TheVariants as outcome
 use Rattle.driver_model.specs.Push.{is_disconnection}
 use Rattle.driver_model.specs.declared.push_info.PushInfo.{PushInfo}
-use Rattle.driver_model.specs.Config.{address, connect_timeout, first_fault, hears_pushes}
+use Rattle.driver_model.specs.Config.{address, connect_timeout, first_fault, hears_pushes, response_timeout}
+use Rattle.credentials.specs.Credentials.{Credentials}
 use Rattle.driver_model.specs.Shape.{need_of}
-use Rattle.legal_trace.specs.Ledger.{Ledger, Heard, Ending, IsOffered, is_full, is_full_by, is_over, is_ready, is_cut, ending, failure_in, next_push, setup_due, setup_message, source_due, unwritten}
+use Rattle.legal_trace.specs.Ledger.{Ledger, Heard, Ending, IsOffered, is_full, is_full_by, is_over, is_ready, is_cut, ending, failure_in, next_push, renewal_due, renewal_message, renewals_asked, setup_due, setup_message, source_due, unwritten}
 use Rattle.legal_trace.specs.Story.{Try, last_of, is_open, is_unstarted, bytes_of, shape}
 use Rattle.legal_trace.specs.Book.{Book, blank_book, book, entered, current}
 use Rattle.legal_trace.specs.Owed.{owed}
@@ -100,10 +101,25 @@ pub record IsApplied (b : Book) : Type 0 where
 abbrev pub SetupsAreStarted : Book → Type 0
 SetupsAreStarted b = (l k : ℕ) → setup_due (b.link l) ≡ Some k → is_held_back b (b.link l) ≡ true
 
--- the event has had its own effect, and setups have started
+-- within how many milliseconds what the driver says itself is to be answered, if within any
+abbrev pub answer_time : Option Config → Option ℕ
+answer_time None = None
+answer_time (Some config) = response_timeout config
+
+-- where such a time is set, a timer was asked for all new credentials that were to be told so far
+abbrev pub RenewalsAreTimed : Book → Type 0
+RenewalsAreTimed b = (l : ℕ) → answer_time b.config ≢ None → renewals_asked (b.link l) ≤ (b.link l).creds.timed
+
+-- new credentials that are to be told have started, but where the link is held back
+abbrev pub RenewalsAreStarted : Book → Type 0
+RenewalsAreStarted b = (l : ℕ) (c : Credentials) → renewal_due (b.link l) ≡ Some c → is_held_back b (b.link l) ≡ true
+
+-- the event has had its own effect, setups have started, and so have new credentials, which have their timers
 pub record IsBegun (b : Book) : Type 0 where
   pub applied : IsApplied b
   pub setups : SetupsAreStarted b
+  pub timed : RenewalsAreTimed b
+  pub renewed : RenewalsAreStarted b
 
 -- a submission whose message has not started, and which makes a step next
 pub record CanMove (b : Book) (n : ℕ) : Type 0 where
@@ -285,6 +301,30 @@ pub record MayNeed (b : Book) (c l : ℕ) : Type 0 where
   pub answered : VerdictsAreShown b
   pub created : ReadyIsShown b
 
+-- a timer of the configured time is asked for new credentials, as soon as they are to be told
+pub record MayTimeRenewal (b : Book) (t ms : ℕ) (what : Purpose) : Type 0 where
+  pub applied : IsApplied b
+  pub setups : SetupsAreStarted b
+  pub l : ℕ
+  pub within : answer_time b.config ≡ Some ms
+  pub asked : (b.link l).creds.timed < renewals_asked (b.link l)
+  pub in_order : (m : ℕ) → m < l → renewals_asked (b.link m) ≤ (b.link m).creds.timed
+  pub next : t ≡ length b.timers
+  pub is_for : what ≡ purpose.Renewal l (b.link l).creds.timed
+
+-- new credentials are told to the server of a link that isn't held back, before the messages of all submissions
+pub record MayRenew (b : Book) (l message count len : ℕ) : Type 0 where
+  pub applied : IsApplied b
+  pub setups : SetupsAreStarted b
+  pub timed : RenewalsAreTimed b
+  pub credentials : Credentials
+  pub due : renewal_due (b.link l) ≡ Some credentials
+  pub free : is_held_back b (b.link l) ≡ false
+  pub in_order : (m : ℕ) (c : Credentials) → m < l → renewal_due (b.link m) ≡ Some c → is_held_back b (b.link m) ≡ true
+  pub next : message ≡ length (b.link l).starts
+  pub needs_its_items : count ≡ need_of (renewal_message credentials).shape
+  pub long_as_its_bytes : len ≡ length (renewal_message credentials).bytes
+
 -- a command whose reply nobody awaits is answered with Nil at its place
 pub record MayTell (b : Book) (n : ℕ) (o : Outcome) : Type 0 where
   pub begun : IsBegun b
@@ -335,7 +375,7 @@ pub record MayTime (b : Book) (t ms : ℕ) (what : Purpose) : Type 0 where
   pub is_for : what ≡ purpose.Response (owner.Try n 0)
 
 abbrev pub MayTimer : Book → ℕ → ℕ → Purpose → Type 0
-MayTimer b t ms what = MayTimeConnect b t ms what ⊎ MayTime b t ms what
+MayTimer b t ms what = MayTimeConnect b t ms what ⊎ (MayTime b t ms what ⊎ MayTimeRenewal b t ms what)
 
 -- a submission takes its permits, in the order of submissions
 pub record MayTake (b : Book) (n l count : ℕ) : Type 0 where
@@ -351,12 +391,15 @@ MayStand b (action.Turn number c) = MayTurn b number c
 MayStand b (action.Connect l host port) = MayConnect b l host port
 MayStand b (action.Timer t ms what) = MayTimer b t ms what
 MayStand b (action.Took owner.Setup l count) = ⊥
+MayStand b (action.Took owner.Auth l count) = ⊥
 MayStand b (action.Took (owner.Try n round) l count) = (round ≡ 0) × MayTake b n l count
 MayStand b (action.Push l info) = MayPush b l info
 MayStand b (action.NeedCreds c l) = MayNeed b c l
 MayStand b (action.Close l) = MayClose b l
 MayStand b (action.Write l bytes) = MayWrite b l bytes
 MayStand b (action.Wait owner.Setup kind) = ⊥
+MayStand b (action.Wait owner.Auth kind) = ⊥
+MayStand b (action.Start l message owner.Auth count len) = MayRenew b l message count len
 MayStand b (action.Start l message owner.Setup count len) = MaySetUp b l message count len
 MayStand b (action.Wait (owner.Try n round) kind) = (round ≡ 0) × MayWait b n kind
 MayStand b (action.Start l message (owner.Try n round) count len) = (round ≡ 0) × MayStart b l message n count len

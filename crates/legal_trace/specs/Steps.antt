@@ -1,12 +1,12 @@
 -- What a submission does next whose message hasn't started: the wait that is true of it, or its next step.
-use Rattle.std.specs.Prelude.{ℕ, zero, suc, ◌+◌, ◌-◌, ◌==◌, nat_lt, nat_le, min, Bool, true, false, ◌&&◌, ◌||◌, Option, None, Some, is_none, is_some, length, if◌then◌else◌}
+use Rattle.std.specs.Prelude.{ℕ, zero, suc, ◌+◌, ◌-◌, ◌==◌, nat_lt, nat_le, min, Bool, true, false, ◌&&◌, ◌||◌, not, Option, None, Some, is_none, is_some, length, if◌then◌else◌}
 use Rattle.driver_model.specs.declared.action.WaitKind.{WaitKind}
 use Rattle.driver_model.specs.declared.action.WaitKind.TheVariants as wait
 use Rattle.driver_model.specs.declared.config.Config.{Config}
 use Rattle.driver_model.specs.Config.{buffer_size, boundary}
 use Rattle.driver_model.specs.Shape.{permits_for}
-use Rattle.legal_trace.specs.Ledger.{Ledger, dials, is_set_up, lacks_credentials, unwritten}
-use Rattle.legal_trace.specs.Story.{Story, is_awaited, is_told, is_unstarted, shape}
+use Rattle.legal_trace.specs.Ledger.{Ledger, dials, is_set_up, lacks_credentials, renewal_due, unwritten}
+use Rattle.legal_trace.specs.Story.{Story, has_place, is_awaited, is_told, is_unstarted, shape}
 use Rattle.legal_trace.specs.Book.{Book}
 
 -- it waits; it takes so many permits; a timer of so many milliseconds is asked for it; it is answered with Nil at its place;
@@ -76,9 +76,16 @@ abbrev pub line_before : Option ℕ → (ℕ → Story) → ℕ → ℕ → ℕ
 line_before limit story l zero = 0
 line_before limit story l (suc n) = line_before limit story l n + (if is_in_line limit l (story n) then 1 else 0)
 
--- as many stand in line before submission n as the queue of its link holds, so that it has no place
+-- new credentials that are to be told and have not started stand in line on their link, before all submissions
+abbrev pub renewals_in_line : Ledger → ℕ
+renewals_in_line l = if is_some (renewal_due l) then 1 else 0
+
+-- as many stand in line before submission n as the queue of its link holds, so that it has no place; one that has its place keeps
+-- it, also where new credentials come then
 abbrev pub is_outside : Book → ℕ → Bool
-is_outside b n = nat_le (queue_size b) (line_before (permits_in b.config) b.story (b.story n).link n)
+is_outside b n =
+    not (has_place (b.story n))
+    && nat_le (queue_size b) (renewals_in_line (b.link (b.story n).link) + line_before (permits_in b.config) b.story (b.story n).link n)
 
 -- a message that has its place starts, or waits while its link is held back
 abbrev pub starts_or_waits : Bool → Step

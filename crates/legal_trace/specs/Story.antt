@@ -1,6 +1,7 @@
 -- What a trace says of one submission.
 use Rattle.std.specs.Prelude.{ℕ, ◌==◌, Bool, true, false, ◌&&◌, ◌||◌, not, List, [], ◌∷◌, ◌++◌, length, Option, Some, None, is_some, if◌then◌else◌}
 use Rattle.driver_model.specs.declared.action.WaitKind.{WaitKind}
+use Rattle.driver_model.specs.declared.action.WaitKind.TheVariants as wait
 use Rattle.driver_model.specs.declared.event.Submission.{Submission}
 use Rattle.driver_model.specs.declared.outcome.Outcome.{Outcome}
 use Rattle.driver_model.specs.declared.outcome.Outcome.TheVariants as outcome
@@ -72,6 +73,15 @@ is_no_error (o ∷ p ∷ more) = false
 -- it was answered at its place, since nobody awaits its reply
 abbrev pub is_told : Story → Bool
 is_told s = not (is_awaited s) && is_no_error s.outcomes
+
+-- it was shown that it waits for room
+abbrev pub is_room : Option WaitKind → Bool
+is_room (Some wait.Room) = true
+is_room _ = false
+
+-- it has its place: it was shown that it waits for room, or it was answered there
+abbrev pub has_place : Story → Bool
+has_place s = is_room s.waiting || is_told s
 
 -- its message has not started and is to: it is open, or was told at its place
 abbrev pub is_unstarted : Story → Bool

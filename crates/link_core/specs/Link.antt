@@ -47,6 +47,10 @@ fresh size boundary = record {
 abbrev pub is_full : LinkState → Bool
 is_full s = nat_le s.size (length s.queue)
 
+-- it holds its size, where so many messages that are not in it are counted too
+abbrev pub is_full_beside : LinkState → ℕ → Bool
+is_full_beside s n = nat_le s.size (n + length s.queue)
+
 -- who is the first of a queue
 abbrev pub first_in : List Queued → Option ℕ
 first_in [] = None
@@ -75,16 +79,17 @@ entry_of q = record { id = q.id; shape = q.shape; awaited = q.awaited; got = [] 
 abbrev pub start_of : ℕ → Queued → Started
 start_of number q = record { msg = number; id = q.id; need = need_of q.shape; len = length q.packed }
 
--- a message starts: it takes the next number, its bytes are to be written, and it takes items behind the others
-abbrev pub started_one : Starting → Queued → Starting
-started_one s q = record {
-  link = record s.link {
-    row = s.link.row ++ entry_of q ∷ [];
-    started = s.link.started + 1;
-    outbox = added s.link.outbox q.packed;
-  };
-  out = s.out ++ start_of s.link.started q ∷ [];
+-- a message takes the next number, its bytes are to be written, and it takes items behind the others
+abbrev pub begun : LinkState → Queued → LinkState
+begun s q = record s {
+  row = s.row ++ entry_of q ∷ [];
+  started = s.started + 1;
+  outbox = added s.outbox q.packed;
 }
+
+-- a message starts
+abbrev pub started_one : Starting → Queued → Starting
+started_one s q = record { link = begun s.link q; out = s.out ++ start_of s.link.started q ∷ [] }
 
 -- messages start in the order of the queue, as long as nothing holds them back
 abbrev pub started_each : Starting → List Queued → Starting

@@ -85,9 +85,10 @@ impl Model for LinkCore {
 }
 
 impl LinkCore {
-    ghost use Rattle.link_core.specs.Link.{fresh, is_full, first_in, enqueued, starting_with};
+    ghost use Rattle.link_core.specs.Link.{fresh, is_full, is_full_beside, first_in, enqueued};
+    ghost use Rattle.link_core.specs.Link.{starting_with};
     ghost use Rattle.link_core.specs.Link.{started_all};
-    ghost use Rattle.link_core.specs.Link.{started_one, is_spent, offered_of, wrote_of, cancelled};
+    ghost use Rattle.link_core.specs.Link.{begun, start_of, started_one, is_spent, offered_of, wrote_of, cancelled};
     ghost use Rattle.link_core.specs.Link.{settling_with, piece_dealt, came_all, pushes_of};
     ghost use Rattle.link_core.specs.Link.{pushes_came, closed_all, faulted};
     ghost use Rattle.link_core.specs.Outbox.{can_offer};
@@ -192,6 +193,13 @@ impl LinkCore {
         self.queue.len() >= self.size as usize
     }
 
+    /// Whether the queue holds its size, where so many messages that are not in it are counted too.
+    pub fn is_full_beside(&self, others: u32) -> bool
+        ensures { result ≡ is_full_beside self.now others }
+    {
+        u128::from(others) + self.queue.len() as u128 >= u128::from(self.size)
+    }
+
     /// The message that starts next, if one is in the queue.
     pub fn first_queued(&self) -> Option<u64>
         ensures { result ≡ first_in self.now.queue }
@@ -270,7 +278,50 @@ impl LinkCore {
         }
     }
 
-    fn is_held_back(&self) -> bool
+    /// A message starts at once, before all that wait in the queue. `id` names it: no other message of this link that takes
+    /// items has it. Its verdict is wanted. After an error the link has failed.
+    pub fn start_first(
+        &mut self,
+        alloc: Global,
+        id: u64,
+        packed: Bytes,
+        shape: Shape,
+    ) -> Result<Started, StartError>
+        ensures ok { OnOk result (
+            self.new ≡ begun self.old
+            (record { id = id; packed = packed; shape = shape; awaited = true })
+            ) }
+        ensures start { IfOk result (λ start.
+            start ≡ start_of self.old.started
+            (record { id = id; packed = packed; shape = shape; awaited = true })
+            ) }
+        ensures spent { IsErrOf result StartError.Spent
+            → is_spent (begun self.old
+            (record { id = id; packed = packed; shape = shape; awaited = true })) ≡ true }
+        ensures unspent { OnOk result (is_spent self.new ≡ false) }
+        ensures no_memory { OnErr result (self.new.failed ≡ true) }
+        ensures failed { self.old.failed ≡ true → IsErrOf result StartError.NoMemory }
+    {
+        if self.failed {
+            return Err(StartError::NoMemory);
+        }
+        let message = Queued {
+            id,
+            packed,
+            shape,
+            awaited: true,
+        };
+        match self.begin(alloc, message) {
+            Ok(start) => Ok(start),
+            Err(error) => {
+                self.failed = true;
+                Err(error)
+            }
+        }
+    }
+
+    /// Whether no message starts: bytes are unwritten, and as many as the boundary.
+    pub fn is_held_back(&self) -> bool
         ensures { result ≡ holds_back self.now }
     {
         let unwritten = self.outbox.unwritten.len() as u64;
@@ -313,6 +364,20 @@ impl LinkCore {
             → is_spent (started_one (starting_with self.old out.old.items) message).link
             ≡ true }
     {
+        let start = match self.begin(alloc, message) {
+            Ok(start) => start,
+            Err(error) => return Err(error),
+        };
+        out.push(start).map_err(AllocError::from)?;
+        Ok(())
+    }
+
+    /// A message takes the next number, and takes items behind the others.
+    fn begin(&mut self, alloc: Global, message: Queued) -> Result<Started, StartError>
+        ensures ok { OnOk result (self.new ≡ begun self.old message) }
+        ensures start { IfOk result (λ start. start ≡ start_of self.old.started message) }
+        ensures spent { IsErrOf result StartError.Spent → is_spent (begun self.old message) ≡ true }
+    {
         if self.started == u32::MAX {
             return Err(StartError::Spent);
         }
@@ -325,9 +390,8 @@ impl LinkCore {
             need: message.shape.need(),
             len,
         };
-        out.push(start).map_err(AllocError::from)?;
         self.started += 1;
-        Ok(())
+        Ok(start)
     }
 
     /// Whether there were unwritten bytes and no unanswered offer. Then all of them are appended to `out`, and offered.

@@ -1,10 +1,12 @@
 -- A connection in the middle of a turn, and its life.
-use Rattle.std.specs.Prelude.{ℕ, ◌^◌, ◌==◌, nat_le, Bool, true, false, not, List, [], ◌∷◌, ◌++◌, Option, None, Some}
-use Rattle.link_core.specs.Link.{LinkState, is_full, first_in}
+use Rattle.std.specs.Prelude.{ℕ, ◌^◌, ◌==◌, nat_le, Bool, true, false, ◌&&◌, ◌||◌, not, List, [], ◌∷◌, ◌++◌, Option, None, Some, if◌then◌else◌}
+use Rattle.credentials.specs.Credentials.{Credentials}
+use Rattle.link_core.specs.Link.{LinkState, first_in, holds_back, is_full_beside}
 use Rattle.mux_conn.specs.declared.act.LinkAct.{LinkAct}
 use Rattle.mux_conn.specs.declared.connection.MultiplexedConnection.{MultiplexedConnection}
 use Rattle.mux_conn.specs.declared.life.Life.{Life}
 use Rattle.mux_conn.specs.declared.life.Life.TheVariants.{Dialing, Wanting, SettingUp, Ready, Ended}
+use Rattle.mux_conn.specs.declared.renewal.Renewal.{Renewal}
 
 -- a connection, and the acts of the turn so far
 pub record Work : Type 0 where
@@ -81,15 +83,39 @@ admits_none_at (Ended e) empty = false
 abbrev pub admits_none : MultiplexedConnection → Bool
 admits_none c = admits_none_at c.life (has_no_permit c.limit c.free)
 
--- it is up, and the queue holds less than its size
-abbrev pub has_room : Life → Bool
-has_room Dialing = false
-has_room (Wanting link) = false
-has_room (SettingUp link with_user) = false
-has_room (Ready link) = not (is_full link)
-has_room (Ended e) = false
+-- some credentials wait to be told
+abbrev pub are_some : List Credentials → Bool
+are_some [] = false
+are_some (c ∷ cs) = true
 
--- the message that starts next, where it is up and one is in the queue
+-- new credentials are to be told next: they came, and those before them were answered, well and in time
+abbrev pub is_due : Renewal → Bool
+is_due r = not (r.unanswered || r.lost) && are_some r.waiting
+
+-- how many messages stand before the queue: new credentials do that are to be told
+abbrev pub in_front : Renewal → ℕ
+in_front r = if is_due r then 1 else 0
+
+-- it is up, and the queue holds less than its size, where so many messages are counted that stand before it
+abbrev pub has_room_at : Life → ℕ → Bool
+has_room_at Dialing n = false
+has_room_at (Wanting link) n = false
+has_room_at (SettingUp link with_user) n = false
+has_room_at (Ready link) n = not (is_full_beside link n)
+has_room_at (Ended e) n = false
+
+abbrev pub has_room : MultiplexedConnection → Bool
+has_room c = has_room_at c.life (in_front c.renewal)
+
+-- no message starts on it, if it is set up
+abbrev pub is_held_back : Life → Bool
+is_held_back Dialing = false
+is_held_back (Wanting link) = false
+is_held_back (SettingUp link with_user) = false
+is_held_back (Ready link) = holds_back link
+is_held_back (Ended e) = false
+
+-- the request whose message starts next, where it is up and one is in the queue
 abbrev pub first_queued : Life → Option ℕ
 first_queued Dialing = None
 first_queued (Wanting link) = None
@@ -112,3 +138,14 @@ is_spent_in life = nat_le (2 ^ 32) (started_in life)
 -- a message of its link was given the number 2^32 - 1
 abbrev pub runs_out : Work → Bool
 runs_out w = is_spent_in w.conn.life
+
+-- new credentials were given it
+abbrev pub renewals_run_out : Work → Bool
+renewals_run_out w = nat_le (2 ^ 32) w.conn.renewal.asked
+
+-- a message of its link was given it, or new credentials were
+abbrev pub is_used_up : MultiplexedConnection → Bool
+is_used_up c = is_spent_in c.life || nat_le (2 ^ 32) c.renewal.asked
+
+abbrev pub uses_up : Work → Bool
+uses_up w = is_used_up w.conn

@@ -9,7 +9,7 @@ use Rattle.driver_model.specs.declared.news.LinkFault.TheVariants as fault
 use Rattle.driver_model.specs.declared.outcome.Outcome.TheVariants as outcome
 use Rattle.resp_value.specs.declared.push_kind.PushKind.TheVariants.{Disconnection}
 use Rattle.driver_model.specs.declared.push_info.PushInfo.{PushInfo}
-use Rattle.driver_model.specs.News.{News, silence, connected, refused, overdue, took, came, failed, authorized, denied, deserted, shut}
+use Rattle.driver_model.specs.News.{News, silence, connected, refused, overdue, took, came, failed, authorized, denied, deserted, renewed, unrenewed, late, shut}
 use Rattle.connection_setup.specs.declared.judgement.SetupResult.{SetupResult}
 use Rattle.connection_setup.specs.declared.judgement.SetupResult.TheVariants as result
 use Rattle.connection_setup.specs.Setup.{Step, setup}
@@ -31,16 +31,21 @@ use Rattle.mux_conn.specs.declared.life.Life.TheVariants.{Dialing, Wanting, Sett
 use Rattle.mux_conn.specs.declared.request.Waiting.{Waiting}
 use Rattle.mux_conn.specs.Connection.{Work, acted, at_life, with_link, with_setup, with_wanting, is_ready}
 use Rattle.mux_conn.specs.Requests.{is_open_at, closed, answered}
+use Rattle.mux_conn.specs.Renewals.{renewing, source_asked, expecting, none_follow, late_for, renewal_id, is_done, replied}
 use Rattle.credentials.specs.Credentials.{Credentials}
 
 -- a link without messages, with the queue and the boundary of its connection
 abbrev pub new_link : MultiplexedConnection → LinkState
 new_link c = fresh c.size c.boundary
 
+-- a message that the link has settled: its request is answered, or new credentials are
+abbrev pub settled_one : Work → Settled → Work
+settled_one w s = if s.id == renewal_id then renewing w (replied w.conn.renewal (is_done s.verdict)) else answered w s.id (outcome_of s.verdict)
+
 -- each message that the link has settled is answered, in order
 abbrev pub settled_each : Work → List Settled → Work
 settled_each w [] = w
-settled_each w (s ∷ ss) = settled_each (answered w s.id (outcome_of s.verdict)) ss
+settled_each w (s ∷ ss) = settled_each (settled_one w s) ss
 
 -- each of these requests is answered with this error
 abbrev pub failed_each : Work → RedisError → List Waiting → Work
@@ -69,7 +74,7 @@ pushed_each w (p ∷ ps) = pushed_each (pushed w p.info) ps
 abbrev pub told_each : Work → ℕ → List PushAt → List Settled → Work
 told_each w n ps [] = pushed_each w ps
 told_each w n [] (s ∷ ss) = settled_each w (s ∷ ss)
-told_each w n (p ∷ ps) (s ∷ ss) = if nat_le p.settled n then told_each (pushed w p.info) n ps (s ∷ ss) else told_each (answered w s.id (outcome_of s.verdict)) (n + 1) (p ∷ ps) ss
+told_each w n (p ∷ ps) (s ∷ ss) = if nat_le p.settled n then told_each (pushed w p.info) n ps (s ∷ ss) else told_each (settled_one w s) (n + 1) (p ∷ ps) ss
 
 -- the pushes behind the first settled message
 abbrev pub behind_first : List PushAt → List PushAt
@@ -110,9 +115,9 @@ numbers_of (q ∷ qs) = q.number ∷ numbers_of qs
 abbrev pub all_fresh : Work → Work
 all_fresh w = record w { conn = record w.conn { fresh = numbers_of w.conn.waiting } }
 
--- the link is set up, which is shown
+-- the link is set up, which is shown, and a source is asked for new credentials, where they come of sources
 abbrev pub made_ready : Work → LinkState → Work
-made_ready w link = acted (with_link (all_fresh w) link) (act.Created None)
+made_ready w link = source_asked (acted (with_link (all_fresh w) link) (act.Created None))
 
 -- the number of the message that sets a link up: no request has it
 abbrev pub setup_id : Bool → ℕ
@@ -141,7 +146,7 @@ comes_to_want w link = acted (with_wanting (all_fresh w) link) act.NeedCreds
 
 -- the first answer to the connect: it succeeded
 abbrev pub connected_at : Work → Life → Work
-connected_at w Dialing = if w.conn.wants then comes_to_want w (new_link w.conn) else come_up w (new_link w.conn)
+connected_at w Dialing = if w.conn.renewal.wanted then comes_to_want w (new_link w.conn) else come_up w (new_link w.conn)
 connected_at w (Wanting link) = w
 connected_at w (SettingUp link with_user) = w
 connected_at w (Ready link) = w
@@ -264,6 +269,14 @@ shut_at w (Wanting link) = ended w []
 shut_at w (SettingUp link with_user) = ended w []
 shut_at w (Ended e) = w
 
+-- that message of a link that is set up leaves its queue, or is answered to nobody
+abbrev pub cancelled_in : Life → ℕ → Life
+cancelled_in (Ready link) p = Ready (cancelled link p)
+cancelled_in Dialing p = Dialing
+cancelled_in (Wanting link) p = Wanting link
+cancelled_in (SettingUp link with_user) p = SettingUp link with_user
+cancelled_in (Ended e) p = Ended e
+
 -- no more bytes are taken than were offered
 abbrev pub IsWithin : Life → News → Type 0
 IsWithin life (took count) = CanTake life count
@@ -276,6 +289,9 @@ IsWithin life (failed f) = Unit {0}
 IsWithin life (authorized c) = Unit {0}
 IsWithin life (denied text) = Unit {0}
 IsWithin life deserted = Unit {0}
+IsWithin life (renewed c) = Unit {0}
+IsWithin life unrenewed = Unit {0}
+IsWithin life (late k) = Unit {0}
 IsWithin life shut = Unit {0}
 
 -- the effect of news
@@ -290,14 +306,10 @@ applied w (failed f) = failed_at w f w.conn.life
 applied w (authorized c) = authorized_at w c w.conn.life
 applied w (denied text) = unauthorized_at w (error.Credentials text) w.conn.life
 applied w deserted = unauthorized_at w (error.AuthFailed []) w.conn.life
+applied w (renewed c) = record w { conn = expecting w.conn c }
+applied w unrenewed = record w { conn = none_follow w.conn }
+applied w (late k) = record w { conn = late_for w.conn k }
 applied w shut = shut_at w w.conn.life
-
-abbrev pub cancelled_in : Life → ℕ → Life
-cancelled_in (Ready link) p = Ready (cancelled link p)
-cancelled_in Dialing p = Dialing
-cancelled_in (Wanting link) p = Wanting link
-cancelled_in (SettingUp link with_user) p = SettingUp link with_user
-cancelled_in (Ended e) p = Ended e
 
 -- the caller of request p has gone: its message leaves the queue, or is answered to nobody
 abbrev pub left : MultiplexedConnection → ℕ → MultiplexedConnection

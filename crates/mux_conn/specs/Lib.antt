@@ -1,5 +1,6 @@
 pub mod Connection
 pub mod Requests
+pub mod Renewals
 pub mod Internal
 pub mod Effects
 pub mod Passes

@@ -15,6 +15,7 @@ use Rattle.mux_conn.specs.declared.life.Life.TheVariants.{Dialing, Wanting, Sett
 use Rattle.mux_conn.specs.declared.request.Progress.TheVariants as progress
 use Rattle.mux_conn.specs.declared.request.Waiting.{Waiting}
 use Rattle.mux_conn.specs.Connection.{Work, acted, with_link, with_setup, admits_none, has_room}
+use Rattle.mux_conn.specs.Renewals.{renewed}
 use Rattle.mux_conn.specs.Requests.{name_at, is_waiting_at, is_admitted_at, with_permits, progressed, answered}
 
 -- each start is shown
@@ -78,7 +79,7 @@ moved_up w q = if is_admitted_at w.conn.requests q.number then seated w q else w
 -- those that wait for a place take theirs in order, as long as the queue has room
 abbrev pub moved_up_each : Work → List Waiting → Work
 moved_up_each w [] = still_admitted w []
-moved_up_each w (q ∷ qs) = if has_room w.conn.life then moved_up_each (moved_up w q) qs else still_admitted w (q ∷ qs)
+moved_up_each w (q ∷ qs) = if has_room w.conn then moved_up_each (moved_up w q) qs else still_admitted w (q ∷ qs)
 
 abbrev pub moved_up_all : Work → Work
 moved_up_all w = moved_up_each (still_admitted w []) w.conn.admitted
@@ -89,7 +90,7 @@ put_behind w q = still_admitted (noted w q.number) (w.conn.admitted ++ q ∷ [])
 
 -- a request takes its place at once where the queue has room, and else it waits for one
 abbrev pub seated_or_behind : Work → Waiting → Work
-seated_or_behind w q = if has_room w.conn.life then seated w q else put_behind w q
+seated_or_behind w q = if has_room w.conn then seated w q else put_behind w q
 
 -- how many permits a message takes, where they are counted: as many as are free, and no more than it may
 abbrev pub permits_taken : Option ℕ → ℕ → Shape → ℕ
@@ -140,9 +141,10 @@ admitted_each w (q ∷ qs) = if admits_none w.conn then still_waiting w (q ∷ q
 abbrev pub admitted_all : Work → Work
 admitted_all w = admitted_each (still_waiting w []) w.conn.waiting
 
--- what waits in the queue starts, then those that wait for a place are moved, and then those that wait for the connection
+-- new credentials are told, what waits in the queue starts, then those that wait for a place are moved, and then those that
+-- wait for the connection
 abbrev pub passed : Work → Work
-passed w = admitted_all (moved_up_all (started w))
+passed w = admitted_all (moved_up_all (started (renewed w)))
 
 -- it is the entry of request p
 abbrev pub has_number : ℕ → Waiting → Bool
@@ -159,7 +161,7 @@ without p qs = first_replaced (has_number p) (λ _. []) qs
 -- request p alone is moved as far as it can go, where it waits for a place
 abbrev pub seated_alone : Work → ℕ → Option Waiting → Work
 seated_alone w p None = w
-seated_alone w p (Some q) = if has_room w.conn.life then moved_up (still_admitted w (without p w.conn.admitted)) q else w
+seated_alone w p (Some q) = if has_room w.conn then moved_up (still_admitted w (without p w.conn.admitted)) q else w
 
 -- and where it waits for the connection
 abbrev pub admitted_alone : Work → ℕ → Option Waiting → Work
@@ -179,5 +181,5 @@ is_there (Some q) = true
 -- whether it moves
 abbrev pub can_advance : MultiplexedConnection → ℕ → Bool
 can_advance c p =
-    if is_admitted_at c.requests p then is_there (entry_of p c.admitted) && has_room c.life
+    if is_admitted_at c.requests p then is_there (entry_of p c.admitted) && has_room c
     else is_waiting_at c.requests p && (is_there (entry_of p c.waiting) && not (admits_none c))

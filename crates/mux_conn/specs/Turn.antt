@@ -8,6 +8,7 @@ use Rattle.link_core.specs.Link.{LinkState, offered_of}
 use Rattle.link_core.specs.Outbox.{can_offer}
 use Rattle.mux_conn.specs.declared.act.LinkAct.TheVariants as act
 use Rattle.mux_conn.specs.declared.connection.MultiplexedConnection.{MultiplexedConnection}
+use Rattle.mux_conn.specs.declared.renewal.Renewal.{Renewal}
 use Rattle.mux_conn.specs.declared.life.Life.{Life}
 use Rattle.mux_conn.specs.declared.life.Life.TheVariants.{Dialing, Wanting, SettingUp, Ready, Ended}
 use Rattle.mux_conn.specs.Connection.{Work, acted, with_link, with_setup, first_queued}
@@ -16,15 +17,15 @@ use Rattle.mux_conn.specs.Effects.{applied}
 use Rattle.mux_conn.specs.Passes.{passed}
 
 -- a connection whose connect isn't answered, without requests
-abbrev pub dialing : ℕ → ℕ → Option ℕ → Bool → RedisConnectionInfo → Bool → MultiplexedConnection
-dialing size boundary limit hears info wants = record {
+abbrev pub dialing : ℕ → ℕ → Option ℕ → Bool → RedisConnectionInfo → Renewal → MultiplexedConnection
+dialing size boundary limit hears info renewal = record {
   size = size;
   boundary = boundary;
   limit = limit;
   free = unwrap_or limit 0;
   hears = hears;
   info = info;
-  wants = wants;
+  renewal = renewal;
   life = Dialing;
   requests = [];
   waiting = [];

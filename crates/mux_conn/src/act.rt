@@ -19,8 +19,14 @@ pub enum LinkAct {
         request: u32,
         ms: u64,
     },
-    /// A source of credentials is wanted, for the setup.
+    /// A source of credentials is wanted: the first for the setup, and another for the renewals, once the link is set up.
     NeedCreds,
+    /// A timer is to fire after so many milliseconds: by then new credentials are to be answered, the first of which have the
+    /// number 0.
+    RenewalTimer {
+        number: u32,
+        ms: u64,
+    },
     /// A push came, or tells that the link has ended.
     Push {
         info: PushInfo,
@@ -46,6 +52,13 @@ pub enum LinkAct {
     },
     /// The setup starts: which message of the link it is, how many items it takes, and how many bytes it has.
     SetUp {
+        message: u32,
+        need: u64,
+        len: u64,
+    },
+    /// New credentials are told to the server: which message of the link it is, how many items it takes, and how many bytes
+    /// it has.
+    Renewed {
         message: u32,
         need: u64,
         len: u64,

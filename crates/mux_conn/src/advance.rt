@@ -226,11 +226,11 @@ impl MultiplexedConnection {
     ghost use Rattle.mux_conn.specs.Passes.{placed_at, seated, moved_up};
     ghost use Rattle.mux_conn.specs.Passes.{moved_up_all, put_behind, seated_or_behind, admitted};
     ghost use Rattle.mux_conn.specs.Passes.{admitted_all, passed};
-    ghost use Rattle.mux_conn.specs.Connection.{work_with, admits_none, has_room, runs_out};
+    ghost use Rattle.mux_conn.specs.Connection.{work_with, admits_none, has_room, runs_out, uses_up};
 
     /// A request takes its place in the queue.
     fn place(&mut self, alloc: Global, request: Waiting) -> Result<(), AllocError>
-        requires free { has_room self.old.life ≡ true }
+        requires free { has_room self.old ≡ true }
         requires there { request.number < length self.old.requests }
         ensures work { OnOk result (
             work_with self.new [] ≡ placed_at (work_with self.old []) request self.old.life
@@ -293,7 +293,7 @@ impl MultiplexedConnection {
         request: Waiting,
         out: &mut Vec<LinkAct>,
     ) -> Result<(), ConnectionError>
-        requires free { has_room self.old.life ≡ true }
+        requires free { has_room self.old ≡ true }
         requires there { request.number < length self.old.requests }
         ensures work { OnOk result (
             work_with self.new out.new.items
@@ -318,7 +318,7 @@ impl MultiplexedConnection {
         request: Waiting,
         out: &mut Vec<LinkAct>,
     ) -> Result<(), ConnectionError>
-        requires { has_room self.old.life ≡ true }
+        requires { has_room self.old ≡ true }
         ensures work { OnOk result (
             work_with self.new out.new.items
             ≡ moved_up (work_with self.old out.old.items) request
@@ -345,7 +345,7 @@ impl MultiplexedConnection {
         ensures failure { self.new.failure ≡ self.old.failure }
     {
         let mut rest = std::mem::replace(&mut self.admitted, Queue::new(alloc));
-        'requests: while self.life.has_room() {
+        'requests: while self.has_room() {
             match rest.pop_front() {
                 Some(request) => match self.move_up(alloc, request, out) {
                     Ok(()) => {}
@@ -390,7 +390,7 @@ impl MultiplexedConnection {
         ensures count { length self.new.requests ≡ length self.old.requests }
         ensures failure { self.new.failure ≡ self.old.failure }
     {
-        if self.life.has_room() {
+        if self.has_room() {
             return self.seat(alloc, request, out);
         }
         self.put_behind(request)?;
@@ -453,7 +453,7 @@ impl MultiplexedConnection {
         Ok(())
     }
 
-    /// Every request is moved as far as it can go.
+    /// New credentials are told, and every request is moved as far as it can go.
     pub(crate) fn pass(
         &mut self,
         alloc: Global,
@@ -463,10 +463,14 @@ impl MultiplexedConnection {
             work_with self.new out.new.items ≡ passed (work_with self.old out.old.items)
             ) }
         ensures spent { IsErrOf result ConnectionError.Spent
-            → runs_out (passed (work_with self.old out.old.items)) ≡ true }
+            → uses_up (passed (work_with self.old out.old.items)) ≡ true }
         ensures count { length self.new.requests ≡ length self.old.requests }
         ensures failure { self.new.failure ≡ self.old.failure }
     {
+        match self.renew(alloc, out) {
+            Ok(()) => {}
+            Err(error) => return Err(error),
+        }
         match self.start(alloc, out) {
             Ok(()) => {}
             Err(error) => return Err(error),
@@ -494,7 +498,7 @@ impl MultiplexedConnection {
         out: &mut Vec<LinkAct>,
     ) -> Result<bool, ConnectionError>
         ensures answer { IfOk result (λ moves.
-            moves ≡ (is_there (entry_of number self.old.admitted) && has_room self.old.life)
+            moves ≡ (is_there (entry_of number self.old.admitted) && has_room self.old)
             ) }
         ensures work { OnOk result (
             work_with self.new out.new.items
@@ -507,7 +511,7 @@ impl MultiplexedConnection {
         ensures count { length self.new.requests ≡ length self.old.requests }
         ensures failure { self.new.failure ≡ self.old.failure }
     {
-        if !self.life.has_room() {
+        if !self.has_room() {
             return Ok(false);
         }
         let found = take_entry(alloc, &mut self.admitted, number)?;

@@ -54,7 +54,7 @@ impl MultiplexedConnection {
         ensures failure { self.new.failure ≡ self.old.failure }
     {
         while let Some(message) = rest.pop_front() {
-            self.answer(message.id, message.verdict.into_outcome(), out)?;
+            self.settle_one(message, out)?;
         }
         Ok(())
     }
@@ -272,7 +272,8 @@ impl MultiplexedConnection {
         Ok(())
     }
 
-    /// This link is set up, which is shown: the waits of all that waited for it are to be shown anew.
+    /// This link is set up, which is shown, and a source is asked for new credentials, where they come of sources. The waits of
+    /// all that waited for it are to be shown anew.
     pub(crate) fn make_ready(
         &mut self,
         alloc: Global,
@@ -289,7 +290,7 @@ impl MultiplexedConnection {
         self.refresh(alloc)?;
         self.life = Life::Ready { link };
         out.push(LinkAct::Created { error: None })?;
-        Ok(())
+        self.ask_source(out)
     }
 
     /// The setup takes its place on this link, with the user name or without it.
@@ -368,7 +369,7 @@ impl MultiplexedConnection {
             return Ok(());
         }
         let link = LinkCore::new(alloc, self.size, self.boundary);
-        if self.wants {
+        if self.renewal.wanted {
             return self.come_to_want(alloc, link, out);
         }
         self.come_up(alloc, link, out)
@@ -546,12 +547,21 @@ impl MultiplexedConnection {
                 let text = Bytes::new(alloc);
                 self.go_without(alloc, RedisError::AuthFailed { text }, out)
             }
+            LinkNews::Renewed { auth } => self.expect_renewal(alloc, auth),
+            LinkNews::Unrenewed => {
+                self.end_renewals();
+                Ok(())
+            }
+            LinkNews::Late { number } => {
+                self.renew_late(number);
+                Ok(())
+            }
             LinkNews::Shut => self.shut(alloc, out),
         }
     }
 
-    /// The message of a request leaves the queue, or is answered to nobody.
-    fn take_back(&mut self, number: u64)
+    /// The message of that number leaves the queue, or is answered to nobody.
+    pub(crate) fn take_back(&mut self, number: u64)
         ensures { self.new ≡ record self.old { life = cancelled_in self.old.life number } }
     {
         match &mut self.life {

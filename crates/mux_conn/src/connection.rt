@@ -5,12 +5,16 @@ ghost use Rattle.mux_conn.specs.Requests.{given_back};
 use crate::act::LinkAct;
 use crate::errors::ConnectionError;
 use crate::life::Life;
+use crate::renewal::Renewal;
 use crate::request::{Pending, Progress, Request, Waiting};
 use connection_info::RedisConnectionInfo;
 use containers::{Bytes, Queue, Seq};
 use driver_model::{Outcome, Shape};
 use link_core::{PushAt, Settled, Spare, Started};
 use std::alloc::{AllocError, Global};
+
+/// The numbers of one sort are 0 to 2^32 - 2: so many given out are one too many.
+const TOO_MANY: u64 = 1 << 32;
 
 /// One multiplexed connection: how many messages the queue of its link holds, and at how many unwritten bytes none starts;
 /// its link's life; its requests by their numbers; those that wait for the connection, and those that wait for a place, in
@@ -25,8 +29,8 @@ pub struct MultiplexedConnection {
     pub hears: bool,
     /// What is said to the server before the first request.
     pub info: RedisConnectionInfo,
-    /// Whether the credentials in it come of a source.
-    pub wants: bool,
+    /// The credentials that come of sources.
+    pub renewal: Renewal,
     pub life: Life,
     pub requests: Seq<Request>,
     pub waiting: Queue<Waiting>,
@@ -50,7 +54,7 @@ impl Drop for MultiplexedConnection {
             free: _,
             hears: _,
             info,
-            wants: _,
+            renewal,
             life,
             requests,
             waiting,
@@ -63,6 +67,7 @@ impl Drop for MultiplexedConnection {
             failure: _,
         } = self;
         drop(info);
+        drop(renewal);
         drop(life);
         drop(requests);
         drop(waiting);
@@ -79,14 +84,15 @@ impl MultiplexedConnection {
     ghost use Rattle.mux_conn.specs.Requests.{is_open_at, is_waiting_at, is_admitted_at};
     ghost use Rattle.mux_conn.specs.Requests.{is_placed_at, name_at, permits_at, closed, answered};
     ghost use Rattle.mux_conn.specs.Requests.{asked, progressed};
-    ghost use Rattle.mux_conn.specs.Connection.{work_with, started_in, admits_none};
+    ghost use Rattle.mux_conn.specs.Connection.{work_with, started_in, is_used_up, admits_none};
+    ghost use Rattle.mux_conn.specs.Connection.{has_room};
     ghost use Rattle.mux_conn.specs.Turn.{dialing};
 
     /// A connection whose connect isn't answered. The queue of its link will hold `size` messages, at least one, and no
     /// message will start on it while `boundary` bytes or more, and at least one, are unwritten. Its requests will hold no
     /// more than `limit` permits, at least one, and where there is no limit they need none. Where it `hears`, the pushes that
-    /// come are told, and so is an end by a fault. `info` is what is said to the server before the first of them. Where it
-    /// `wants` credentials, those in it come of a source. Takes no memory.
+    /// come are told, and so is an end by a fault. `info` is what is said to the server before the first of them, and `renewal`
+    /// says whether credentials come of sources. Takes no memory.
     pub fn new(
         alloc: Global,
         size: u32,
@@ -94,9 +100,9 @@ impl MultiplexedConnection {
         limit: Option<u32>,
         hears: bool,
         info: RedisConnectionInfo,
-        wants: bool,
+        renewal: Renewal,
     ) -> MultiplexedConnection
-        ensures { result ≡ dialing size boundary limit hears info wants }
+        ensures { result ≡ dialing size boundary limit hears info renewal }
     {
         MultiplexedConnection {
             size,
@@ -105,7 +111,7 @@ impl MultiplexedConnection {
             free: limit.unwrap_or(0),
             hears,
             info,
-            wants,
+            renewal,
             life: Life::Dialing,
             requests: Seq::new(alloc),
             waiting: Queue::new(alloc),
@@ -130,6 +136,13 @@ impl MultiplexedConnection {
         self.life.admits_none(empty)
     }
 
+    /// Whether it is up, and the queue holds less than its size, new credentials counted that are to be told.
+    pub fn has_room(&self) -> bool
+        ensures { result ≡ has_room self.now }
+    {
+        self.life.has_room(self.renewal.in_front())
+    }
+
     /// How many messages of its link have started, where it is up.
     pub fn started(&self) -> u32
         ensures { result ≡ started_in self.now.life }
@@ -141,6 +154,13 @@ impl MultiplexedConnection {
             Life::Ready { link } => link.started(),
             Life::Ended { error: _ } => 0,
         }
+    }
+
+    /// Whether the number 2^32 - 1 was given to a message of its link, or to new credentials.
+    pub fn is_used_up(&self) -> bool
+        ensures { result ≡ is_used_up self.now }
+    {
+        u64::from(self.started()) >= TOO_MANY || u64::from(self.renewal.asked) >= TOO_MANY
     }
 
     /// Whether a request is neither answered nor left by its caller.

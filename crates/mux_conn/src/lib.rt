@@ -1,4 +1,4 @@
-//! One multiplexed connection: a link's life, and the requests that it carries. It knows neither the number of its link nor
+//! One multiplexed connection: a link's life, the requests that it carries, and the credentials that come of sources. It knows neither the number of its link nor
 //! whose requests they are: whoever made it names each request, and it speaks of them by these names.
 #![tactic(auto)]
 
@@ -11,6 +11,7 @@ mod flush;
 mod internal;
 mod life;
 mod reading;
+mod renewal;
 mod request;
 mod step;
 
@@ -19,4 +20,5 @@ pub use connection::MultiplexedConnection;
 pub use errors::ConnectionError;
 pub use life::Life;
 pub use link_core::{Rest, Spare};
+pub use renewal::Renewal;
 pub use request::{Pending, Progress, Request, Waiting};

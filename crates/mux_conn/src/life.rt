@@ -21,7 +21,7 @@ pub enum Life {
 impl Life {
     ghost use Rattle.std.specs.Prelude.{◌≡◌};
     ghost use Rattle.mux_conn.specs.Connection.{awaits_connect, awaits_credentials, is_setting_up, is_ready};
-    ghost use Rattle.mux_conn.specs.Connection.{admits_none_at, has_room};
+    ghost use Rattle.mux_conn.specs.Connection.{admits_none_at, has_room_at, is_held_back};
     ghost use Rattle.mux_conn.specs.Connection.{first_queued};
     ghost use Rattle.mux_conn.specs.Turn.{early_wait};
 
@@ -106,9 +106,9 @@ impl Life {
         }
     }
 
-    /// Whether it is up, and the queue holds less than its size.
-    pub fn has_room(&self) -> bool
-        ensures { result ≡ has_room self.now }
+    /// Whether it is up, and the queue holds less than its size, where so many messages are counted that stand before it.
+    pub fn has_room(&self, in_front: u32) -> bool
+        ensures { result ≡ has_room_at self.now in_front }
     {
         match self {
             Life::Dialing => false,
@@ -117,7 +117,23 @@ impl Life {
                 link: _,
                 with_user: _,
             } => false,
-            Life::Ready { link } => !link.is_full(),
+            Life::Ready { link } => !link.is_full_beside(in_front),
+            Life::Ended { error: _ } => false,
+        }
+    }
+
+    /// Whether it is set up, and no message starts on it.
+    pub fn is_held_back(&self) -> bool
+        ensures { result ≡ is_held_back self.now }
+    {
+        match self {
+            Life::Dialing => false,
+            Life::Wanting { link: _ } => false,
+            Life::SettingUp {
+                link: _,
+                with_user: _,
+            } => false,
+            Life::Ready { link } => link.is_held_back(),
             Life::Ended { error: _ } => false,
         }
     }

@@ -82,7 +82,7 @@ impl MultiplexedConnection {
                 show_push(push, out)?;
                 return Ok(());
             };
-            self.answer(message.id, message.verdict.into_outcome(), out)?;
+            self.settle_one(message, out)?;
             *answered += 1;
         }
         show_push(push, out)?;

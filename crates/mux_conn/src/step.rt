@@ -10,7 +10,7 @@ use std::alloc::{AllocError, Global};
 
 impl MultiplexedConnection {
     ghost use Rattle.driver_model.specs.News.{told};
-    ghost use Rattle.mux_conn.specs.Connection.{work_with, runs_out};
+    ghost use Rattle.mux_conn.specs.Connection.{work_with, runs_out, uses_up};
     ghost use Rattle.mux_conn.specs.Effects.{applied, IsWithin};
     ghost use Rattle.mux_conn.specs.Passes.{passed, advanced, can_advance};
     ghost use Rattle.mux_conn.specs.Turn.{flushed, stepped};
@@ -45,7 +45,8 @@ impl MultiplexedConnection {
         }
     }
 
-    /// Every request is moved as far as it can go. After an error nothing is said of what `out` gained.
+    /// New credentials take their place, and every request is moved as far as it can go. After an error nothing is said of what
+    /// `out` gained.
     pub fn advance_all(
         &mut self,
         alloc: Global,
@@ -58,7 +59,7 @@ impl MultiplexedConnection {
         ensures sound { OnOk result (self.new.failure ≡ None) }
         ensures spent { IsErrOf result ConnectionError.Spent
             → (self.old.failure ≡ Some ConnectionError.Spent)
-            ⊎ (runs_out (passed (work_with self.old out.old.items)) ≡ true) }
+            ⊎ (uses_up (passed (work_with self.old out.old.items)) ≡ true) }
         ensures fails { (e : ConnectionError) → IsErrOf result e → self.new.failure ≡ Some e }
         ensures failed { (e : ConnectionError) → self.old.failure ≡ Some e
             → IsErrOf result e }
@@ -146,7 +147,7 @@ impl MultiplexedConnection {
         ensures sound { OnOk result (self.new.failure ≡ None) }
         ensures spent { IsErrOf result ConnectionError.Spent
             → (self.old.failure ≡ Some ConnectionError.Spent)
-            ⊎ (runs_out (stepped (work_with self.old []) (told event.entry.news)) ≡ true) }
+            ⊎ (uses_up (stepped (work_with self.old []) (told event.entry.news)) ≡ true) }
         ensures fails { (e : ConnectionError) → IsErrOf result e → self.new.failure ≡ Some e }
         ensures failed { (e : ConnectionError) → self.old.failure ≡ Some e
             → IsErrOf result e }
@@ -178,7 +179,7 @@ impl MultiplexedConnection {
         ensures sound { OnOk result (self.new.failure ≡ None) }
         ensures spent { IsErrOf result ConnectionError.Spent
             → (self.old.failure ≡ Some ConnectionError.Spent)
-            ⊎ (runs_out (stepped (work_with self.old out.old.items) (told news.entry)) ≡ true) }
+            ⊎ (uses_up (stepped (work_with self.old out.old.items) (told news.entry)) ≡ true) }
         ensures fails { (e : ConnectionError) → IsErrOf result e → self.new.failure ≡ Some e }
         ensures failed { (e : ConnectionError) → self.old.failure ≡ Some e
             → IsErrOf result e }

@@ -13,6 +13,7 @@ use Rattle.driver_model.specs.declared.event.EventKind.{EventKind}
 use Rattle.driver_model.specs.declared.event.EventKind.TheVariants as event
 use Rattle.driver_model.specs.declared.outcome.Outcome.{Outcome}
 use Rattle.driver_model.specs.Config.{address, connect_timeout, response_timeout, buffer_size, boundary, hears_pushes, wants_credentials, told_info, first_fault}
+use Rattle.mux_conn.specs.Renewals.{no_renewal}
 use Rattle.mux_conn.specs.Turn.{dialing}
 use Rattle.shared_session.specs.declared.core_state.Core.{Core}
 use Rattle.shared_session.specs.Turn.{next_turn, actions_of, is_bad, spends}
@@ -36,7 +37,7 @@ opening_core config word = record {
   timers = connect_timers (connect_timeout config);
   sources = [];
   table = [];
-  single = record { link = first_link; connection = dialing (buffer_size config) (boundary config) config.limit (hears_pushes config) (told_info config) (wants_credentials config) };
+  single = record { link = first_link; connection = dialing (buffer_size config) (boundary config) config.limit (hears_pushes config) (told_info config) (no_renewal (wants_credentials config) (response_timeout config)) };
 }
 
 -- the timer of the opening is asked for

@@ -1,5 +1,5 @@
 -- One turn of a session: what the outside sees by number, over a connection that knows no numbers.
-use Rattle.std.specs.Prelude.{◌<◌, ◌≤◌, ℕ, ◌+◌, ◌^◌, ◌==◌, nat_lt, nat_le, Bool, true, false, ◌&&◌, ◌||◌, List, [], ◌∷◌, ◌++◌, length, Option, Some, None, slice_get, if◌then◌else◌}
+use Rattle.std.specs.Prelude.{◌<◌, ◌≤◌, ℕ, zero, suc, ◌+◌, ◌^◌, ◌==◌, nat_lt, nat_le, Bool, true, false, ◌&&◌, ◌||◌, List, [], ◌∷◌, ◌++◌, length, Option, Some, None, slice_get, if◌then◌else◌}
 use Rattle.redis_error.specs.declared.redis_error.RedisError.{RedisError}
 use Rattle.redis_error.specs.declared.redis_error.RedisError.TheVariants as error
 use Rattle.driver_model.specs.declared.action.Action.{Action}
@@ -22,7 +22,7 @@ use Rattle.mux_conn.specs.declared.act.LinkAct.TheVariants as act
 use Rattle.mux_conn.specs.declared.life.Life.{Life}
 use Rattle.mux_conn.specs.declared.life.Life.TheVariants.{Dialing, Wanting, SettingUp, Ready, Ended}
 use Rattle.mux_conn.specs.declared.request.Pending.{Pending}
-use Rattle.mux_conn.specs.Connection.{Work, is_spent_in}
+use Rattle.mux_conn.specs.Connection.{Work, is_used_up}
 use Rattle.mux_conn.specs.Requests.{asked}
 use Rattle.mux_conn.specs.Effects.{applied, left, timed_out}
 use Rattle.mux_conn.specs.Passes.{passed}
@@ -107,11 +107,13 @@ late_by t None = t
 late_by t (Some None) = t
 late_by t (Some (Some p)) = with_work t (timed_out (work_of t) p.number)
 
--- a timer fires that was asked for this, if it was asked
+-- a timer fires that was asked for this, if it was asked: what it is to the connection alone was heard
 abbrev pub fired_by : Turning → Option Purpose → Turning
 fired_by t None = t
 fired_by t (Some (purpose.Connect l)) = t
 fired_by t (Some (purpose.Response owner.Setup)) = t
+fired_by t (Some (purpose.Response owner.Auth)) = t
+fired_by t (Some (purpose.Renewal l k)) = t
 fired_by t (Some (purpose.Response (owner.Try n round))) = late_by t (slice_get t.core.table n)
 
 -- what an event is to the submissions
@@ -148,50 +150,60 @@ moved_on t = with_work t (flushed (passed (work_of t)))
 abbrev pub whole_effect : Turning → EventKind → Turning
 whole_effect t kind = moved_on (effect t kind)
 
--- what the timer of an act is for, if it asks for one
-abbrev pub timer_of : LinkAct → List Purpose
-timer_of (act.Timer n ms) = purpose.Response (owner.Try n 0) ∷ []
-timer_of (act.Took n count) = []
-timer_of (act.Created e) = []
-timer_of act.NeedCreds = []
-timer_of (act.SetUp message need len) = []
-timer_of (act.Push info) = []
-timer_of act.Close = []
-timer_of (act.Write bytes) = []
-timer_of (act.Wait n kind) = []
-timer_of (act.Start message n need len) = []
-timer_of (act.Outcome n o) = []
+-- what the timer of an act of the connection of link l is for, if it asks for one
+abbrev pub timer_of : ℕ → LinkAct → List Purpose
+timer_of l (act.Timer n ms) = purpose.Response (owner.Try n 0) ∷ []
+timer_of l (act.RenewalTimer k ms) = purpose.Renewal l k ∷ []
+timer_of l (act.Took n count) = []
+timer_of l (act.Created e) = []
+timer_of l act.NeedCreds = []
+timer_of l (act.SetUp message need len) = []
+timer_of l (act.Renewed message need len) = []
+timer_of l (act.Push info) = []
+timer_of l act.Close = []
+timer_of l (act.Write bytes) = []
+timer_of l (act.Wait n kind) = []
+timer_of l (act.Start message n need len) = []
+timer_of l (act.Outcome n o) = []
 
 -- what the timers of acts are for, in order
-abbrev pub timers_of : List LinkAct → List Purpose
-timers_of [] = []
-timers_of (a ∷ more) = timer_of a ++ timers_of more
+abbrev pub timers_of : ℕ → List LinkAct → List Purpose
+timers_of l [] = []
+timers_of l (a ∷ more) = timer_of l a ++ timers_of l more
 
--- what the source of an act of the connection of link l is for, if it asks for one
-abbrev pub source_of : ℕ → LinkAct → List SourceUse
-source_of l act.NeedCreds = source.Setup l ∷ []
-source_of l (act.Created e) = []
-source_of l (act.Took m count) = []
-source_of l (act.Timer m ms) = []
-source_of l (act.SetUp message need len) = []
-source_of l (act.Push info) = []
-source_of l act.Close = []
-source_of l (act.Write bytes) = []
-source_of l (act.Wait m kind) = []
-source_of l (act.Start message m need len) = []
-source_of l (act.Outcome m o) = []
+-- what the next source of credentials is for, behind so many: the first is for the setup of link l, and any other for its
+-- renewals
+abbrev pub use_after : ℕ → ℕ → SourceUse
+use_after l zero = source.Setup l
+use_after l (suc n) = source.Renewal l
+
+-- what the source of an act is for, behind so many, if it asks for one
+abbrev pub source_of : ℕ → ℕ → LinkAct → List SourceUse
+source_of l n act.NeedCreds = use_after l n ∷ []
+source_of l n (act.Created e) = []
+source_of l n (act.Took m count) = []
+source_of l n (act.Timer m ms) = []
+source_of l n (act.RenewalTimer k ms) = []
+source_of l n (act.SetUp message need len) = []
+source_of l n (act.Renewed message need len) = []
+source_of l n (act.Push info) = []
+source_of l n act.Close = []
+source_of l n (act.Write bytes) = []
+source_of l n (act.Wait m kind) = []
+source_of l n (act.Start message m need len) = []
+source_of l n (act.Outcome m o) = []
 
 -- what the sources of acts are for, in order
-abbrev pub sources_of : ℕ → List LinkAct → List SourceUse
-sources_of l [] = []
-sources_of l (a ∷ more) = source_of l a ++ sources_of l more
+abbrev pub sources_of : ℕ → ℕ → List LinkAct → List SourceUse
+sources_of l n [] = []
+sources_of l n (a ∷ more) = source_of l n a ++ sources_of l (n + length (source_of l n a)) more
 
 -- the timers and the sources of the turn have got their numbers
 abbrev pub numbered : Turning → Turning
 numbered t = record t {
   core = record t.core {
-    timers = t.core.timers ++ timers_of t.acts;
-    sources = t.core.sources ++ sources_of t.core.single.link t.acts;
+    timers = t.core.timers ++ timers_of t.core.single.link t.acts;
+    sources = t.core.sources ++ sources_of t.core.single.link (length t.core.sources) t.acts;
   };
 }
 
@@ -204,8 +216,10 @@ abbrev pub shown : ℕ → ℕ → ℕ → LinkAct → Action
 shown l t c (act.Created e) = action.Created e
 shown l t c (act.Took n count) = action.Took (owner.Try n 0) l count
 shown l t c (act.Timer n ms) = action.Timer t ms (purpose.Response (owner.Try n 0))
+shown l t c (act.RenewalTimer k ms) = action.Timer t ms (purpose.Renewal l k)
 shown l t c act.NeedCreds = action.NeedCreds c l
 shown l t c (act.SetUp message need len) = action.Start l message owner.Setup need len
+shown l t c (act.Renewed message need len) = action.Start l message owner.Auth need len
 shown l t c (act.Push info) = action.Push l info
 shown l t c act.Close = action.Close l
 shown l t c (act.Write bytes) = action.Write l bytes
@@ -215,7 +229,7 @@ shown l t c (act.Outcome n o) = action.Outcome n o
 
 abbrev pub shown_each : ℕ → ℕ → ℕ → List LinkAct → List Action
 shown_each l t c [] = []
-shown_each l t c (a ∷ more) = shown l t c a ∷ shown_each l (t + length (timer_of a)) (c + length (source_of l a)) more
+shown_each l t c (a ∷ more) = shown l t c a ∷ shown_each l (t + length (timer_of l a)) (c + length (source_of l c a)) more
 
 -- what one turn shows behind its first action
 abbrev pub effects_of : Core → Event → List Action
@@ -265,9 +279,9 @@ is_bad c (event.ReadFault l kind) = is_no_link c l
 is_bad c (event.WriteFault l kind) = is_no_link c l
 is_bad c event.Shutdown = false
 
--- the number 2^32 - 1 was given to a message, a submission, a timer or a source of credentials
+-- the number 2^32 - 1 was given to a message, to new credentials, a submission, a timer or a source of credentials
 unfoldable pub has_run_out : Core → Bool
-has_run_out c = is_spent_in c.single.connection.life || (nat_le (2 ^ 32) (length c.table) || (nat_le (2 ^ 32) (length c.timers) || nat_le (2 ^ 32) (length c.sources)))
+has_run_out c = is_used_up c.single.connection || (nat_le (2 ^ 32) (length c.table) || (nat_le (2 ^ 32) (length c.timers) || nat_le (2 ^ 32) (length c.sources)))
 
 -- the step of an event is spent: the history holds 2^32 - 1 events, or the turn would give out a number too many
 unfoldable pub spends : Core → Event → Bool

@@ -1,7 +1,7 @@
 ghost use Rattle.std.specs.Prelude.{◌≡◌, ◌<◌, ◌≤◌, ◌+◌, ◌++◌, ◌∷◌, ◌^◌, [], length, slice_get};
 ghost use Rattle.std.specs.Prelude.{true, false, None, Some, OnOk, OnErr, IfErr, IsErrOf};
 ghost use Rattle.std.specs.Prelude.{nat_le};
-ghost use Rattle.shared_session.specs.Turn.{timer_of, timers_of, source_of, sources_of};
+ghost use Rattle.shared_session.specs.Turn.{timer_of, timers_of, source_of, sources_of, use_after};
 
 use containers::{Bytes, Seq};
 use driver_model::{EventKind, Outcome, Owner, Purpose, SourceUse, Submission};
@@ -217,7 +217,7 @@ impl Core {
         }
     }
 
-    /// A timer fires: the time of a request is over, where it was asked for that.
+    /// A timer fires: the time of a request is over, where it was asked for that. What it is to the connection alone was heard.
     fn fire(&mut self, timer: u32, acts: &mut Vec<LinkAct>) -> Result<(), AllocError>
         ensures turning { OnOk result (
             turning_with self.new acts.new.items
@@ -236,6 +236,8 @@ impl Core {
             Purpose::Response {
                 owner: Owner::Setup,
             } => Ok(()),
+            Purpose::Response { owner: Owner::Auth } => Ok(()),
+            Purpose::Renewal { link: _, number: _ } => Ok(()),
             Purpose::Response {
                 owner: Owner::Try {
                     submission,
@@ -326,13 +328,12 @@ impl Core {
         }
     }
 
-    /// Whether the number 2^32 - 1 was given to a message, a submission, a timer or a source of credentials.
+    /// Whether the number 2^32 - 1 was given to a message, to new credentials, a submission, a timer or a source of credentials.
     #[tactic(auto, unfolding(crate::specs::Turn::has_run_out))]
     fn is_spent(&self) -> bool
         ensures { result ≡ has_run_out self.now }
     {
-        let started = u64::from(self.single.connection.started());
-        started >= TOO_MANY
+        self.single.connection.is_used_up()
             || self.table.len() as u64 >= TOO_MANY
             || self.timers.len() as u64 >= TOO_MANY
             || self.sources.len() as u64 >= TOO_MANY
@@ -390,10 +391,12 @@ impl Core {
             ) }
         ensures unspent { OnOk result (has_run_out self.new ≡ false) }
         ensures timers { OnOk result (
-            length self.old.timers + length (timers_of acts.new.items) < 2 ^ 32
+            length self.old.timers + length (timers_of self.old.single.link acts.new.items)
+            < 2 ^ 32
             ) }
         ensures sources { OnOk result (
-            length self.old.sources + length (sources_of self.old.single.link acts.new.items)
+            length self.old.sources
+            + length (sources_of self.old.single.link (length self.old.sources) acts.new.items)
             < 2 ^ 32
             ) }
         ensures spent { IsErrOf result ConnectionError.Spent
@@ -407,7 +410,7 @@ impl Core {
             Err(error) => return Err(error),
         }
         let link = self.single.link;
-        note_timers(acts.as_slice(), &mut self.timers)?;
+        note_timers(link, acts.as_slice(), &mut self.timers)?;
         note_sources(link, acts.as_slice(), &mut self.sources)?;
         if self.is_spent() {
             return Err(ConnectionError::Spent);
@@ -416,19 +419,19 @@ impl Core {
     }
 }
 
-/// What the timers of acts are for is kept, in order.
-fn note_timers(acts: &[LinkAct], timers: &mut Seq<Purpose>) -> Result<(), AllocError>
-    ensures { OnOk result (timers.new ≡ timers.old ++ timers_of acts.now) }
+/// What the timers of acts of the connection of that link are for is kept, in order.
+fn note_timers(link: u32, acts: &[LinkAct], timers: &mut Seq<Purpose>) -> Result<(), AllocError>
+    ensures { OnOk result (timers.new ≡ timers.old ++ timers_of link acts.now) }
 {
     for act in acts {
-        note_timer(act, timers)?;
+        note_timer(link, act, timers)?;
     }
     Ok(())
 }
 
 /// What the timer of an act is for is kept, if it asks for one.
-fn note_timer(act: &LinkAct, timers: &mut Seq<Purpose>) -> Result<(), AllocError>
-    ensures { OnOk result (timers.new ≡ timers.old ++ timer_of act.now) }
+fn note_timer(link: u32, act: &LinkAct, timers: &mut Seq<Purpose>) -> Result<(), AllocError>
+    ensures { OnOk result (timers.new ≡ timers.old ++ timer_of link act.now) }
 {
     match act {
         LinkAct::Timer { request, ms: _ } => timers.push(Purpose::Response {
@@ -437,13 +440,19 @@ fn note_timer(act: &LinkAct, timers: &mut Seq<Purpose>) -> Result<(), AllocError
                 round: 0,
             },
         }),
+        LinkAct::RenewalTimer { number, ms: _ } => timers.push(Purpose::Renewal {
+            link,
+            number: *number,
+        }),
         _ => Ok(()),
     }
 }
 
 /// What the sources of acts of the connection of that link are for is kept, in order.
 fn note_sources(link: u32, acts: &[LinkAct], sources: &mut Seq<SourceUse>) -> Result<(), AllocError>
-    ensures { OnOk result (sources.new ≡ sources.old ++ sources_of link acts.now) }
+    ensures { OnOk result (
+        sources.new ≡ sources.old ++ sources_of link (length sources.old) acts.now
+        ) }
 {
     for act in acts {
         note_source(link, act, sources)?;
@@ -451,12 +460,25 @@ fn note_sources(link: u32, acts: &[LinkAct], sources: &mut Seq<SourceUse>) -> Re
     Ok(())
 }
 
-/// What the source of an act is for is kept, if it asks for one.
+/// What the source of an act is for is kept, if it asks for one: the first is for the setup, and any other for renewals.
 fn note_source(link: u32, act: &LinkAct, sources: &mut Seq<SourceUse>) -> Result<(), AllocError>
-    ensures { OnOk result (sources.new ≡ sources.old ++ source_of link act.now) }
+    ensures { OnOk result (
+        sources.new ≡ sources.old ++ source_of link (length sources.old) act.now
+        ) }
 {
     match act {
-        LinkAct::NeedCreds => sources.push(SourceUse::Setup { link }),
+        LinkAct::NeedCreds => sources.push(use_after(link, sources.len())),
         _ => Ok(()),
+    }
+}
+
+/// What the next source of the connection of that link is for, behind so many.
+fn use_after(link: u32, count: usize) -> SourceUse
+    ensures { result ≡ use_after link count }
+{
+    if count == 0 {
+        SourceUse::Setup { link }
+    } else {
+        SourceUse::Renewal { link }
     }
 }

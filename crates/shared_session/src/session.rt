@@ -12,7 +12,7 @@ use crate::showing::{Done, show_each};
 use connection_info::{ConnectionInfo, OpenError, RedisConnectionInfo};
 use containers::Seq;
 use driver_model::{Action, Cause, Config, Event, EventKind, Outcome, Purpose};
-use mux_conn::{ConnectionError, LinkAct, MultiplexedConnection, Rest, Spare};
+use mux_conn::{ConnectionError, LinkAct, MultiplexedConnection, Renewal, Rest, Spare};
 use redis_error::ConfigName;
 use std::alloc::{AllocError, Global};
 use std::marker::Model;
@@ -99,6 +99,7 @@ fn opened(alloc: Global, config: &Config, info: RedisConnectionInfo) -> Result<C
     ensures { IfOk result (λ core. (word : ℕ) → core ≡ opening_core config.now word) }
 {
     let timers = opening_timers(alloc, config.connect_timeout())?;
+    let renewal = Renewal::new(alloc, config.wants_credentials(), config.response_timeout());
     Ok(Core {
         turns: 1,
         links: FIRST_LINK + 1,
@@ -116,7 +117,7 @@ fn opened(alloc: Global, config: &Config, info: RedisConnectionInfo) -> Result<C
                 config.limit,
                 config.hears_pushes(),
                 info,
-                config.wants_credentials(),
+                renewal,
             ),
         },
     })
@@ -486,8 +487,8 @@ fn show_turn(
     done: &mut Vec<Done>,
     out: &mut Vec<Action>,
 ) -> Result<Vec<LinkAct>, AllocError>
-    requires timers { timers + length (timers_of acts.items) < 2 ^ 32 }
-    requires sources { sources + length (sources_of link acts.items) < 2 ^ 32 }
+    requires timers { timers + length (timers_of link acts.items) < 2 ^ 32 }
+    requires sources { sources + length (sources_of link sources acts.items) < 2 ^ 32 }
     ensures actions { OnOk result (
         out.new.items ≡ out.old.items ++ shown_each link timers sources acts.items
         ) }

@@ -61,8 +61,8 @@ fn started(link: u32, message: u32, owner: Owner, need: u64, len: u64) -> Action
 /// What an act of the connection of that link shows, where so many timers, and so many sources of credentials, were asked for
 /// before.
 fn action_of(link: u32, timer: u64, source: u64, act: LinkAct) -> Action
-    requires timer { timer + length (timer_of act) < 2 ^ 32 }
-    requires source { source + length (source_of link act) < 2 ^ 32 }
+    requires timer { timer + length (timer_of link act) < 2 ^ 32 }
+    requires source { source + length (source_of link source act) < 2 ^ 32 }
     ensures { result ≡ shown link timer source act }
 {
     match act {
@@ -73,6 +73,9 @@ fn action_of(link: u32, timer: u64, source: u64, act: LinkAct) -> Action
             count,
         },
         LinkAct::Timer { request, ms } => timer_asked(timer, ms, response_of(request)),
+        LinkAct::RenewalTimer { number, ms } => {
+            timer_asked(timer, ms, Purpose::Renewal { link, number })
+        }
         LinkAct::NeedCreds => Action::NeedCreds {
             source: source as u32,
             link,
@@ -91,6 +94,7 @@ fn action_of(link: u32, timer: u64, source: u64, act: LinkAct) -> Action
             len,
         } => started(link, message, try_of(request), need, len),
         LinkAct::SetUp { message, need, len } => started(link, message, Owner::Setup, need, len),
+        LinkAct::Renewed { message, need, len } => started(link, message, Owner::Auth, need, len),
         LinkAct::Outcome { request, outcome } => Action::Outcome {
             submission: request,
             outcome,
@@ -100,17 +104,18 @@ fn action_of(link: u32, timer: u64, source: u64, act: LinkAct) -> Action
 
 /// How many timers an act asks for.
 fn timers_in(act: &LinkAct) -> u64
-    ensures { result ≡ length (timer_of act.now) }
+    ensures { (link : ℕ) → result ≡ length (timer_of link act.now) }
 {
     match act {
         LinkAct::Timer { request: _, ms: _ } => 1,
+        LinkAct::RenewalTimer { number: _, ms: _ } => 1,
         _ => 0,
     }
 }
 
 /// How many sources of credentials an act asks for.
 fn sources_in(act: &LinkAct) -> u64
-    ensures { (link : ℕ) → result ≡ length (source_of link act.now) }
+    ensures { (link n : ℕ) → result ≡ length (source_of link n act.now) }
 {
     match act {
         LinkAct::NeedCreds => 1,
@@ -146,8 +151,8 @@ pub fn show_each(
     done: &mut Vec<Done>,
     out: &mut Vec<Action>,
 ) -> Result<Vec<LinkAct>, AllocError>
-    requires timers { timers + length (timers_of acts.items) < 2 ^ 32 }
-    requires sources { sources + length (sources_of link acts.items) < 2 ^ 32 }
+    requires timers { timers + length (timers_of link acts.items) < 2 ^ 32 }
+    requires sources { sources + length (sources_of link sources acts.items) < 2 ^ 32 }
     ensures actions { OnOk result (
         out.new.items ≡ out.old.items ++ shown_each link timers sources acts.items
         ) }

@@ -13,7 +13,7 @@ use Rattle.driver_model.specs.declared.event.Submission.TheVariants as submissio
 use Rattle.driver_model.specs.declared.event.EventKind.{EventKind}
 use Rattle.driver_model.specs.declared.event.EventKind.TheVariants as event
 use Rattle.driver_model.specs.declared.action.Owner.{Owner}
-use Rattle.driver_model.specs.declared.action.Owner.TheVariants.{Try, Setup}
+use Rattle.driver_model.specs.declared.action.Owner.TheVariants.{Try, Setup, Auth}
 use Rattle.driver_model.specs.declared.action.WaitKind.{WaitKind}
 use Rattle.driver_model.specs.declared.action.WaitKind.TheVariants as wait
 use Rattle.driver_model.specs.declared.action.Purpose.{Purpose}
@@ -38,10 +38,11 @@ address host port = host ++ byte ":" ∷ decimal port
 abbrev pub submission_word : ℕ → List ℕ
 submission_word s = byte "s" ∷ decimal s
 
--- a try of a submission, its number and its round, or what is said to the server before the first request
+-- a try of a submission, its number and its round; what is said to the server before the first request; or new credentials
 abbrev pub owner_word : Owner → List ℕ
 owner_word (Try s round) = submission_word s ++ byte "." ∷ decimal round
 owner_word Setup = codes "setup"
+owner_word Auth = codes "auth"
 
 abbrev pub wait_word : WaitKind → List ℕ
 wait_word wait.Connect = codes "connect"
@@ -209,6 +210,7 @@ outcome_words (Fault error) = codes "err" ∷ error_words error
 abbrev pub purpose_words : Purpose → List (List ℕ)
 purpose_words (purpose.Connect link) = codes "connect" ∷ decimal link ∷ []
 purpose_words (purpose.Response owner) = codes "response" ∷ owner_word owner ∷ []
+purpose_words (purpose.Renewal link number) = codes "response" ∷ owner_word Auth ∷ []
 
 -- how an opening went: its error, where it failed
 abbrev pub created_words : Option RedisError → List (List ℕ)

@@ -59,6 +59,10 @@ impl Writer {
                 self.literal(b"response")?;
                 self.owner(owner)
             }
+            Purpose::Renewal { link: _, number: _ } => {
+                self.literal(b"response")?;
+                self.owner(Owner::Auth)
+            }
         }
     }
 

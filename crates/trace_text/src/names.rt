@@ -43,7 +43,7 @@ impl Writer {
         self.digits(u64::from(round))
     }
 
-    /// One more word: a try of a submission, or what is said to the server before the first request.
+    /// One more word: a try of a submission, what is said to the server before the first request, or new credentials.
     pub fn owner(&mut self, owner: Owner) -> Result<(), AllocError>
         ensures before { self.new.before ≡ self.old.before }
         ensures ok { OnOk result (AddedWords self.old self.new (owner_word owner ∷ [])) }
@@ -51,6 +51,7 @@ impl Writer {
         match owner {
             Owner::Try { submission, round } => self.try_word(submission, round),
             Owner::Setup => self.literal(b"setup"),
+            Owner::Auth => self.literal(b"auth"),
         }
     }
 
