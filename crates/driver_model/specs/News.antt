@@ -58,7 +58,7 @@ renews n (Some (source.Renewal l)) = l == n
 
 -- what it sees of such a source: this where its setup waits for it, and that where it renews
 abbrev pub of_source : ℕ → Option SourceUse → News → News → News
-of_source n use first later = if is_source_of n use then first else for_link (renews n use) later
+of_source n what first later = if is_source_of n what then first else for_link (renews n what) later
 
 -- what the link of number n sees of an event, where these are the purposes of the timers, and the uses of the sources of
 -- credentials, by their numbers
