@@ -120,6 +120,7 @@ may_refuse b c started word what e h none no_end shown why =
         shown,
         ends_told b (inner c started) h refl,
       );
+      after_sources = λ over. sources_asked b (inner c started) h;
     }
 
 -- the stories once it is answered
@@ -172,6 +173,7 @@ refused_tied b c started word what e h no_fresh =
         turns = ap (λ m. m + 1) h.numbers.turns;
         links = h.numbers.links;
         timers = h.numbers.timers ∙ sym (append-nil c.timers);
+        sources = h.numbers.sources ∙ sym (append-nil c.sources);
         aims = aims_on c.timers c.single.link (length (c.table ++ None ∷ [])) (aims_longer c.timers c.single.link (length c.table) (length (c.table ++ None ∷ [])) (omega (arith, length-append c.table (None ∷ []))) h.numbers.aims);
         timed = λ config other opens bounded none. no_opening _ config other opens;
         submissions = (let k = h.numbers.submissions in omega (arith, length-append c.table (None ∷ [])));
@@ -184,6 +186,7 @@ refused_tied b c started word what e h no_fresh =
       others = λ m other. let u = h.others m other in record { asked = u.asked; up = u.up; end = u.end; starts = u.starts; pushes = u.pushes };
       pushes = h.pushes;
       life = told_life ledger b.created conn.life silence h.life;
+      creds = h.creds;
       setup = setup_on ledger ledger.asked ledger.up ledger.end ledger.taken ledger.offer ledger.rest silence conn.info started conn.life h.setup;
       link = λ alive. told_tied (carried conn.life conn.requests) ledger (whole_link conn.life) ledger.asked ledger.up silence (h.link alive);
       names = names_refused c.table conn.requests h.names;

@@ -9,7 +9,7 @@ use Rattle.link_core.specs.Link.{LinkState, wrote_of}
 use Rattle.link_laws.proofs.TiedLink.{TiedLink, wrote_tied}
 use Rattle.link_laws.specs.Settles.{awaited_ids}
 use Rattle.mux_conn.specs.declared.life.Life.{Life}
-use Rattle.mux_conn.specs.declared.life.Life.TheVariants.{Dialing, SettingUp, Ready, Ended}
+use Rattle.mux_conn.specs.declared.life.Life.TheVariants.{Dialing, Wanting, SettingUp, Ready, Ended}
 use Rattle.mux_conn.specs.declared.request.Request.{Request}
 use Rattle.mux_conn.specs.declared.request.Waiting.{Waiting}
 use Rattle.mux_conn.specs.Effects.{taken_at, CanTake}
@@ -80,6 +80,29 @@ took_applied before c started word count kind h good k is can = by_life c.single
     by_life : (x : Life) → c.single.connection.life ≡ x → HasApplied (before ++ turn_of c word kind ∷ []) (with_work (record { core = turned c kind; acts = [] }) (taken_at (record { conn = c.single.connection; acts = [] }) count x)) started
     by_life Dialing e = dialing_quiet before c started word kind (took count) tt h good k is e
     by_life (Ended x) e = ended_quiet before c started word kind (took count) x h good k is e
+    by_life (Wanting link) e =
+        let b = book before in
+        let l = b.link c.single.link in
+        let conn = c.single.connection in
+        let life = subst (TiedLife l b.created) e h.sound.tied.life in
+        let tied : TiedLink (λ (p : ℕ). owner.Setup) l link = subst (λ (x : Life). TiedLink (carried x conn.requests) l (whole_link x)) e (h.sound.tied.link (ap has_ended e)) in
+        let few : count ≤ link.outbox.offered = subst (λ (x : Life). CanTake x count) e can in
+        let said = setup_hears l c.turns (took count) conn.info started (Wanting link) tt (subst (TiedSetup l conn.info started) e h.sound.tied.setup) in
+        quiet_applied before c started word kind (took count) (SettingUp (wrote_of link count) with_user) h good k is
+        (record {
+          lived = took_setting l b.created c.turns count link (wrote_of link count) with_user life;
+          said = setup_link (noted l (hears c.turns (took count))) conn.info started link (wrote_of link count) with_user refl refl said;
+          linked = λ n. wrote_tied (λ (p : ℕ). owner.Setup) l link c.turns count life.1 few tied;
+          lines = subst (λ (x : Life). TiedLines b.story conn.requests (link_in x) conn.waiting conn.admitted [] started) e h.sound.tied.lines;
+          told = λ n. subst (λ (x : Life). AreQueued b.story conn.requests (link_in x)) e (h.sound.tied.told (ap has_ended e));
+          waits = setting_waits b.story conn.requests link (wrote_of link count) with_user with_user conn.fresh conn.moved (subst (λ (x : Life). TiedWaits b.story conn.requests x conn.fresh conn.moved) e h.sound.tied.waits);
+          pushes = pushes_still before c started (took count) h (inl tt);
+        })
+        (took_no_end l c.turns count (still_none before c started h c.single.link)) (record {
+          setup = wrote_fit_set conn.size conn.boundary link count with_user (h.fit.setup link with_user e);
+          link = λ x r. cc;
+          none = λ none. h.fit.none (λ x r. (let no : Wanting link ≡ Ready x = sym e ∙ r in cc));
+        })
     by_life (SettingUp link with_user) e =
         let b = book before in
         let l = b.link c.single.link in
