@@ -19,7 +19,7 @@ use Rattle.link_core.specs.Outbox.{can_offer}
 use Rattle.link_core.specs.Waiting.{without}
 use Rattle.mux_conn.specs.declared.connection.MultiplexedConnection.{MultiplexedConnection}
 use Rattle.mux_conn.specs.declared.life.Life.{Life}
-use Rattle.mux_conn.specs.declared.life.Life.TheVariants.{Dialing, SettingUp, Ready, Ended}
+use Rattle.mux_conn.specs.declared.life.Life.TheVariants.{Dialing, Wanting, SettingUp, Ready, Ended}
 use Rattle.mux_conn.specs.declared.request.Pending.{Pending}
 use Rattle.mux_conn.specs.declared.request.Progress.TheVariants as progress
 use Rattle.mux_conn.specs.declared.request.Request.{Request}
@@ -69,6 +69,7 @@ written_from p w (Ready l) e h =
     })
     (λ f. h)
 written_from p w Dialing e h = h
+written_from p w (Wanting l) e h = absurd (not_set_up h.link l with_user (sym h.up ∙ e))
 written_from p w (SettingUp l with_user) e h = absurd (not_set_up h.link l with_user (sym h.up ∙ e))
 written_from p w (Ended x) e h = h
 

@@ -4,7 +4,7 @@ use Rattle.containers.proofs.Choices.{ne_test}
 use Rattle.link_core.specs.declared.message.Entry.{Entry}
 use Rattle.mux_conn.specs.declared.act.LinkAct.{LinkAct}
 use Rattle.mux_conn.specs.declared.life.Life.{Life}
-use Rattle.mux_conn.specs.declared.life.Life.TheVariants.{Dialing, SettingUp, Ready, Ended}
+use Rattle.mux_conn.specs.declared.life.Life.TheVariants.{Dialing, Wanting, SettingUp, Ready, Ended}
 use Rattle.mux_conn.specs.declared.request.Progress.{Progress}
 use Rattle.mux_conn.specs.declared.request.Progress.TheVariants as progress
 use Rattle.mux_conn.specs.declared.request.Request.{Request}
@@ -20,6 +20,7 @@ use Rattle.cancel_laws.proofs.Kept.{IsKept, IsKeptThere, There, kept_there, CanA
 -- the link has been set up, and nobody awaits message p in its queue
 abbrev pub NoneQueued : ℕ → Life → Type 0
 NoneQueued p Dialing = ⊥
+NoneQueued p (Wanting l) = ⊥
 NoneQueued p (SettingUp l with_user) = ⊥
 NoneQueued p (Ready l) = NoneOf p l.queue
 NoneQueued p (Ended e) = Unit {0}
@@ -27,6 +28,7 @@ NoneQueued p (Ended e) = Unit {0}
 -- nor in its row
 abbrev pub NoneInRow : ℕ → Life → Type 0
 NoneInRow p Dialing = Unit {0}
+NoneInRow p (Wanting l) = Unit {0}
 NoneInRow p (SettingUp l with_user) = Unit {0}
 NoneInRow p (Ready l) = NoneWanted p l.row
 NoneInRow p (Ended e) = Unit {0}
@@ -53,6 +55,7 @@ within_kept r p q now count l = omega (arith, progress_count r q now count)
 -- a cancel puts nothing into the queue
 none_cancelled : (p q : ℕ) (life : Life) → NoneQueued p life → NoneQueued p (cancelled_in life q)
 none_cancelled p q Dialing h = h
+none_cancelled p q (Wanting l) h = h
 none_cancelled p q (SettingUp l with_user) h = h
 none_cancelled p q (Ready l) h = none_without p q l.queue h
 none_cancelled p q (Ended e) h = h
@@ -171,6 +174,7 @@ pub record IsHushed (n p : ℕ) (r : List Request) (life : Life) : Type 0 where
 -- a cancel makes nobody await a message
 quiet_cancelled : (p q : ℕ) (life : Life) → NoneInRow p life → NoneInRow p (cancelled_in life q)
 quiet_cancelled p q Dialing h = h
+quiet_cancelled p q (Wanting l) h = h
 quiet_cancelled p q (SettingUp l with_user) h = h
 quiet_cancelled p q (Ready l) h = quiet_silenced p q l.row h
 quiet_cancelled p q (Ended e) h = h
@@ -205,6 +209,7 @@ hushed_asks n p m o = record { ask = λ lim r life ms xs h. record { gone = gone
 -- where nobody awaits it, its verdict is not wanted
 pub quiet_life : (p : ℕ) (life : Life) → NoneInRow p life → hushed_life p life ≡ life
 quiet_life p Dialing h = refl
+quiet_life p (Wanting l) h = refl
 quiet_life p (SettingUp l with_user) h = refl
 quiet_life p (Ready l) h = ap (λ (row : List Entry). Ready (record l { row = row })) (quiet_stays p l.row h)
 quiet_life p (Ended e) h = refl

@@ -12,7 +12,7 @@ use Rattle.link_core.specs.Link.{LinkState, Starting, Settling, entry_of, holds_
 use Rattle.link_core.specs.Row.{silenced}
 use Rattle.link_core.specs.Waiting.{is_wanted, without}
 use Rattle.mux_conn.specs.declared.life.Life.{Life}
-use Rattle.mux_conn.specs.declared.life.Life.TheVariants.{Dialing, SettingUp, Ready, Ended}
+use Rattle.mux_conn.specs.declared.life.Life.TheVariants.{Dialing, Wanting, SettingUp, Ready, Ended}
 use Rattle.mux_conn.specs.declared.request.Progress.{Progress}
 use Rattle.mux_conn.specs.declared.request.Progress.TheVariants as progress
 use Rattle.mux_conn.specs.declared.request.Request.{Request}
@@ -44,6 +44,7 @@ places p (q ∷ qs) = one p q.id + places p qs
 -- and on a link
 abbrev pub all_of : ℕ → Life → ℕ
 all_of p Dialing = 0
+all_of p (Wanting l) = 0
 all_of p (SettingUp l with_user) = 0
 all_of p (Ready l) = times p l.row + places p l.queue
 all_of p (Ended e) = 0
@@ -67,6 +68,7 @@ share r p = share_of (slice_get r p)
 -- a link that is set up has one message at most, that of the setup
 abbrev pub HasOne : Life → Type 0
 HasOne Dialing = Unit {0}
+HasOne (Wanting l) = count_on l ≤ 1
 HasOne (SettingUp l with_user) = count_on l ≤ 1
 HasOne (Ready l) = Unit {0}
 HasOne (Ended e) = Unit {0}
@@ -170,6 +172,7 @@ starts_same p s (q ∷ qs) =
 -- a cancel brings no message
 cancelled_once : (p q : ℕ) (life : Life) → all_of p (cancelled_in life q) ≤ all_of p life
 cancelled_once p q Dialing = omega arith
+cancelled_once p q (Wanting l) = omega arith
 cancelled_once p q (SettingUp l with_user) = omega arith
 cancelled_once p q (Ready l) = omega (arith, times_silenced p q l.row, places_without p q l.queue)
 cancelled_once p q (Ended e) = omega arith
@@ -177,6 +180,7 @@ cancelled_once p q (Ended e) = omega arith
 -- it changes nothing of a setup
 cancelled_alone : (q : ℕ) (life : Life) → HasOne life → HasOne (cancelled_in life q)
 cancelled_alone q Dialing h = h
+cancelled_alone q (Wanting l) h = h
 cancelled_alone q (SettingUp l with_user) h = h
 cancelled_alone q (Ready l) h = tt
 cancelled_alone q (Ended e) h = h

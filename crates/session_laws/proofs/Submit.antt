@@ -27,6 +27,7 @@ use Rattle.session_laws.proofs.Tied.{carried, inner, link_in, queue_ids, waiting
 use Rattle.session_laws.proofs.Names.{there_within, names_refused}
 use Rattle.session_laws.proofs.Owes.{started_within, ends_told, pushes_told}
 use Rattle.session_laws.proofs.Answer.{owed_in, no_push}
+use Rattle.session_laws.proofs.Creds.{sources_asked}
 use Rattle.session_laws.proofs.Settle.{seen}
 use Rattle.session_laws.proofs.Announce.{aims_longer, aims_on, turn_of, turned}
 use Rattle.session_laws.proofs.Heard.{told_life, silent_no_end}
