@@ -19,12 +19,11 @@ use Rattle.mux_conn.specs.declared.request.Progress.{Progress}
 use Rattle.mux_conn.specs.declared.request.Progress.TheVariants as progress
 use Rattle.mux_conn.specs.declared.request.Request.{Request}
 use Rattle.legal_trace.specs.Book.{Book}
-use Rattle.legal_trace.proofs.Setups.{setup_unsaid}
-use Rattle.legal_trace.specs.Ledger.{Ledger, dials, is_over, is_set_up, is_well, lacks_credentials}
+use Rattle.legal_trace.specs.Ledger.{Ledger, dials, is_over, is_set_up, lacks_credentials}
 use Rattle.legal_trace.specs.Steps.{Step, asks, free_permits, is_held, is_held_back, is_in_line, is_let_in, is_outside, line_before, next_step, nothing, starts_or_waits, step_holding, step_open, step_placed, step_ready, step_taking, step_timed, takes, tells, unready_wait, waits}
 use Rattle.legal_trace.specs.Story.{Story, is_awaited, is_told, is_unstarted, shape}
 use Rattle.session_laws.proofs.Behind.{nil_told, open_untold}
-use Rattle.session_laws.proofs.Creds.{has_credentials, wanting_lacks}
+use Rattle.session_laws.proofs.Creds.{has_credentials, lacking_undecided, wanting_lacks}
 use Rattle.session_laws.proofs.InLine.{first_is_least, kept_ids, kept_in}
 use Rattle.session_laws.proofs.Moves.{IsLater, later_of, open_unstarted, told_unstarted, or_true}
 use Rattle.session_laws.proofs.Names.{earlier_name, get_some, name_of_some, names_rise, open_within}
@@ -570,11 +569,11 @@ setup_step b t p link with_user h setting within =
     ∙ ap (λ (kind : WaitKind). waits kind) (ap (λ m. unready_wait (b.link m)) q.on ∙ left_if (lacks_credentials l) wait.Creds wait.Setup has)
 
 -- and credentials, while they are to come
-pub wanting_step : (b : Book) (t : Inner) (p : ℕ) (link : LinkState) → Tied b t → t.life ≡ Wanting link → p < length t.requests → next_step b (name_at t.requests p) ≡ waits wait.Creds
-wanting_step b t p link h wanting within =
+pub creds_step : (b : Book) (t : Inner) (p : ℕ) (link : LinkState) → Tied b t → t.life ≡ Wanting link → p < length t.requests → next_step b (name_at t.requests p) ≡ waits wait.Creds
+creds_step b t p link h wanting within =
     let q = request_story b t p h within in
     let l = b.link t.link in
     let life = subst (TiedLife l b.created) wanting h.life in
-    let lacks = wanting_lacks l.creds (subst (AreSought l.creds) wanting h.creds.sought) in
-    unready_step b (name_at t.requests p) (ap (λ m. (b.link m).up) q.on ∙ life.1) (ap (λ m. is_set_up (b.link m)) q.on ∙ ap is_well (setup_unsaid l lacks))
+    let lacks = wanting_lacks l.creds link (subst (AreSought l.creds) wanting h.creds.sought) in
+    unready_step b (name_at t.requests p) (ap (λ m. (b.link m).up) q.on ∙ life.1) (ap (λ m. is_set_up (b.link m)) q.on ∙ (lacking_undecided l lacks).unwell)
     ∙ ap (λ (kind : WaitKind). waits kind) (ap (λ m. unready_wait (b.link m)) q.on ∙ taken_if (lacks_credentials l) wait.Creds wait.Setup lacks)

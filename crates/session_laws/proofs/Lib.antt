@@ -1,6 +1,7 @@
 pub mod Numbers
 pub mod Tied
 pub mod States
+pub mod Creds
 pub mod SetUp
 pub mod Said
 pub mod Entered

@@ -25,7 +25,7 @@ use Rattle.legal_trace.specs.Book.{Book, book}
 use Rattle.legal_trace.specs.Ledger.{setup_count}
 use Rattle.legal_trace.specs.Legal.{IsMoved, IsSettled, IsStarted, IsWaiting, IsWritten, NoneEnds, WaitHolds}
 use Rattle.legal_trace.specs.Story.{last_of}
-use Rattle.session_laws.proofs.Ahead.{dialing_step, placed_open, setup_step, waiting_open, admitted_open, wanting_step}
+use Rattle.session_laws.proofs.Ahead.{dialing_step, placed_open, setup_step, waiting_open, admitted_open, creds_step}
 use Rattle.session_laws.proofs.Going.{is_moved}
 use Rattle.session_laws.proofs.InLine.{awaited_in, first_is_least, kept_ids, wanted_in}
 use Rattle.session_laws.proofs.Moved.{IsReady, passed_moved}
@@ -300,7 +300,7 @@ early_holds b t p ps h q is up w = by_life t.life refl
     by_life Dialing e = subst (λ (x : Life). EarlyHolds b t p (early_wait x)) (sym e)
         (record { new = h.waits.no_connect p first w e; holds = dialing_step b t p h e (there_within is_waiting t.requests p w) })
     by_life (Wanting link) e = subst (λ (x : Life). EarlyHolds b t p (early_wait x)) (sym e)
-        (record { new = h.waits.no_creds p link first w e; holds = wanting_step b t p link h e (there_within is_waiting t.requests p w) })
+        (record { new = h.waits.no_creds p link first w e; holds = creds_step b t p link h e (there_within is_waiting t.requests p w) })
     by_life (SettingUp link with_user) e = subst (λ (x : Life). EarlyHolds b t p (early_wait x)) (sym e)
         (record { new = h.waits.no_setup p link with_user first w e; holds = setup_step b t p link with_user h e (there_within is_waiting t.requests p w) })
     by_life (Ready link) e = subst (λ (x : Life). EarlyHolds b t p (early_wait x)) (sym e)

@@ -24,7 +24,7 @@ use Rattle.legal_trace.specs.Book.{Book, entered, if_own}
 use Rattle.legal_trace.specs.Legal.{IsWaiting, IsWritten, MayWait, WaitHolds}
 use Rattle.legal_trace.specs.Steps.{starts_or_waits}
 use Rattle.legal_trace.specs.Story.{Story, awaited_in, is_no_error, is_told, waits as waits_now}
-use Rattle.session_laws.proofs.Ahead.{IsRunning, dialing_step, full_step, permit_step, queue_step, queue_within, running_of, setup_step, waiting_open, admitted_open, wanting_step}
+use Rattle.session_laws.proofs.Ahead.{IsRunning, dialing_step, full_step, permit_step, queue_step, queue_within, running_of, setup_step, waiting_open, admitted_open, creds_step}
 use Rattle.session_laws.proofs.Closing.{one_of}
 use Rattle.session_laws.proofs.InLine.{awaited_in as in_queue, chosen_in, kept_ids, kept_in, row_ids, wanted_in}
 use Rattle.session_laws.proofs.Kept.{SameOutcomes, SameSubmissions, SameTimes, one_changed, packed_same, queued_same, tries_same}
@@ -338,7 +338,7 @@ waiting_is b t p h q o at unmoved old = by_life t.life refl
       | inl i ↦ absurd (subst (λ (x : Life). IsIn p (awaited_ids (link_in x).queue)) e i)
       | inr k ↦ elim k [
         | inl a ↦ absurd (subst (λ ws. IsIn p (waiting_ids ws)) (q.none (λ other r. not_ready t.life (Wanting link) other refl e r)) a.1)
-        | inr w ↦ as_shown wait.Creds (elim (h.waits.creds p link w.0 e) [ inl new ↦ absurd (old w.0 new) | inr s ↦ s ]) (wanting_step b t p link h e within)
+        | inr w ↦ as_shown wait.Creds (elim (h.waits.creds p link w.0 e) [ inl new ↦ absurd (old w.0 new) | inr s ↦ s ]) (creds_step b t p link h e within)
       ]
     ]
     by_life (SettingUp link with_user) e = elim at [
