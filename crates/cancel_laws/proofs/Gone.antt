@@ -75,8 +75,10 @@ gone_there n p = record {
     none = h.none;
   };
   hush = λ r life q h. record { there = h.there; own = h.own; past = h.past; seated = h.seated; none = none_cancelled p q life h.none };
-  connect = λ r size bound h. absurd h.none;
-  set_up = λ r size bound q with_user h. absurd h.none;
+  want = λ r size bound h. absurd h.none;
+  wait_on = λ r l k few h. absurd h.none;
+  connect = λ r l h. absurd h.none;
+  set_up = λ r l q with_user h. absurd h.none;
   go_on = λ r l k with_user few h. absurd h.none;
   repeat = λ r l k q with_user few h. absurd h.none;
   ready = λ r l k with_user few h. absurd h.none;
@@ -140,8 +142,10 @@ away_kept n p = record {
   answer = λ lim r life ms xs q o t h. record { gone = (gone_there n p).answer r life q h.gone; unmoved = h.unmoved };
   cancel = λ lim r life ms xs q t h. record { gone = (gone_kept n p).cancel lim r life ms xs q t h.gone; unmoved = h.unmoved };
   hush = λ lim r life ms xs q h. record { gone = (gone_there n p).hush r life q h.gone; unmoved = h.unmoved };
-  connect = λ lim r size bound ms xs h. absurd h.gone.none;
-  set_up = λ lim r size bound ms xs q with_user h. absurd h.gone.none;
+  want = λ lim r size bound ms xs h. absurd h.gone.none;
+  wait_on = λ lim r l k ms xs few h. absurd h.gone.none;
+  connect = λ lim r l ms xs h. absurd h.gone.none;
+  set_up = λ lim r l ms xs q with_user h. absurd h.gone.none;
   go_on = λ lim r l k with_user ms xs few h. absurd h.gone.none;
   repeat = λ lim r l k q with_user ms xs few h. absurd h.gone.none;
   ready = λ lim r l k with_user ms xs few h. absurd h.gone.none;
@@ -184,8 +188,10 @@ hushed_there : (n p : ℕ) → IsKeptThere (IsHushed n p)
 hushed_there n p = record {
   answer = λ r life q h. record { gone = (gone_there n p).answer r life q h.gone; quiet = h.quiet };
   hush = λ r life q h. record { gone = (gone_there n p).hush r life q h.gone; quiet = quiet_cancelled p q life h.quiet };
-  connect = λ r size bound h. absurd h.gone.none;
-  set_up = λ r size bound q with_user h. absurd h.gone.none;
+  want = λ r size bound h. absurd h.gone.none;
+  wait_on = λ r l k few h. absurd h.gone.none;
+  connect = λ r l h. absurd h.gone.none;
+  set_up = λ r l q with_user h. absurd h.gone.none;
   go_on = λ r l k with_user few h. absurd h.gone.none;
   repeat = λ r l k q with_user few h. absurd h.gone.none;
   ready = λ r l k with_user few h. absurd h.gone.none;

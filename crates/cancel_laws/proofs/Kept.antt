@@ -394,9 +394,7 @@ started_at_kept : {P : Option ℕ → List Request → Life → List ℕ → Lis
 started_at_kept k w (Ready l) g h =
     let s = started_all (record { link = l; out = [] }) in
     shown_kept k (with_link w s.link) s.out (k.start w.conn.limit w.conn.requests l w.conn.moved w.acts g)
-started_at_kept k w (Wanting l) g h =
-    let s = started_all (record { link = l; out = [] }) in
-    set_up_each_kept k (with_setup w s.link with_user) s.out (k.go_on w.conn.limit w.conn.requests l s.link with_user w.conn.moved w.acts (count_started l) g)
+started_at_kept k w (Wanting l) g h = h
 started_at_kept k w (SettingUp l with_user) g h =
     let s = started_all (record { link = l; out = [] }) in
     set_up_each_kept k (with_setup w s.link with_user) s.out (k.go_on w.conn.limit w.conn.requests l s.link with_user w.conn.moved w.acts (count_started l) g)

@@ -65,10 +65,10 @@ share_of (Some r) = share_by r.progress
 abbrev pub share : List Request → ℕ → ℕ
 share r p = share_of (slice_get r p)
 
--- a link that is set up has one message at most, that of the setup
+-- a link that waits for credentials has no message, and one that is set up has one at most, that of the setup
 abbrev pub HasOne : Life → Type 0
 HasOne Dialing = Unit {0}
-HasOne (Wanting l) = count_on l ≤ 1
+HasOne (Wanting l) = count_on l ≤ 0
 HasOne (SettingUp l with_user) = count_on l ≤ 1
 HasOne (Ready l) = Unit {0}
 HasOne (Ended e) = Unit {0}
@@ -210,8 +210,10 @@ once_there : (p : ℕ) → IsKeptThere (IsOnce p)
 once_there p = record {
   answer = λ r life q h. record { within = omega (arith, h.within, share_set r p q progress.Closed 0 refl); alone = h.alone };
   hush = λ r life q h. record { within = omega (arith, h.within, cancelled_once p q life); alone = cancelled_alone q life h.alone };
-  connect = λ r size bound h. record { within = omega arith; alone = tt };
-  set_up = λ r size bound q with_user h. record { within = omega arith; alone = omega arith };
+  want = λ r size bound h. record { within = omega arith; alone = omega arith };
+  wait_on = λ r l k few h. record { within = omega arith; alone = omega (arith, few, h.alone) };
+  connect = λ r l h. record { within = omega (arith, h.alone, times_count p l.row, places_count p l.queue); alone = tt };
+  set_up = λ r l q with_user h. record { within = omega arith; alone = omega (arith, h.alone, count_push l q) };
   go_on = λ r l k with_user few h. record { within = omega arith; alone = omega (arith, few, h.alone) };
   repeat = λ r l k q with_user few h. record { within = omega arith; alone = omega (arith, few, h.alone, count_push k q) };
   ready = λ r l k with_user few h. record { within = omega (arith, few, h.alone, times_count p k.row, places_count p k.queue); alone = tt };

@@ -36,8 +36,10 @@ names_there : (ns : List ℕ) → IsKeptThere (HasNames ns)
 names_there ns = record {
   answer = λ r life q h. names_stay r q progress.Closed 0 ∙ h;
   hush = λ r life q h. h;
-  connect = λ r size bound h. h;
-  set_up = λ r size bound q with_user h. h;
+  want = λ r size bound h. h;
+  wait_on = λ r l k few h. h;
+  connect = λ r l h. h;
+  set_up = λ r l q with_user h. h;
   go_on = λ r l k with_user few h. h;
   repeat = λ r l k q with_user few h. h;
   ready = λ r l k with_user few h. h;
