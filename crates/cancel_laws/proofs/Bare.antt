@@ -6,6 +6,7 @@ use Rattle.redis_error.specs.declared.fault_kind.FaultKind.TheVariants as kinds
 use Rattle.redis_error.specs.declared.fault_kind.FaultKind.{FaultKind}
 use Rattle.redis_error.specs.declared.redis_error.RedisError.TheVariants as error
 use Rattle.redis_error.specs.declared.redis_error.RedisError.{RedisError}
+use Rattle.credentials.specs.Credentials.{Credentials}
 use Rattle.resp_value.specs.Data.{Data, push, list_of}
 use Rattle.resp_value.specs.declared.push_kind.PushKind.TheVariants.{Disconnection}
 use Rattle.resp_value.specs.declared.value.Value.TheVariants.{Nil}
@@ -18,7 +19,7 @@ use Rattle.driver_model.specs.declared.outcome.Outcome.{Outcome}
 use Rattle.driver_model.specs.declared.outcome.Outcome.TheVariants as outcome
 use Rattle.driver_model.specs.declared.outcome.Shape.{Shape}
 use Rattle.driver_model.specs.declared.push_info.PushInfo.{PushInfo}
-use Rattle.driver_model.specs.News.{News, silence, connected, took, failed, shut, refused, overdue}
+use Rattle.driver_model.specs.News.{News, silence, connected, took, failed, shut, refused, overdue, authorized, denied, deserted}
 use Rattle.driver_model.specs.News.{came}
 use Rattle.driver_model.specs.Shape.{outcome_of}
 use Rattle.link_core.specs.declared.message.Entry.{Entry}
@@ -40,7 +41,7 @@ use Rattle.mux_conn.specs.declared.request.Request.{Request}
 use Rattle.mux_conn.specs.declared.request.Waiting.{Waiting}
 use Rattle.mux_conn.specs.Connection.{Work, acted, at_life, with_link, with_setup, has_no_permit, admits_none_at, admits_none, has_room, first_queued}
 use Rattle.mux_conn.specs.Requests.{is_open, is_waiting, is_admitted, is_placed, is_open_at, is_waiting_at, is_admitted_at, is_placed_at, name_at, permits_at, with_permits, given_back, closed, answered, waiting_of, asked}
-use Rattle.mux_conn.specs.Effects.{settled_each, failed_each, nobody_waits, waiting_failed, pushed, told_each, cut_short, all_answered, ended, parted, heard_in, opening_failed, connected_at, refused_at, overdue_at, taken_at, failed_at, broken_at, read_to, read_at, shut_at, applied, cancelled_in, left, timed_out}
+use Rattle.mux_conn.specs.Effects.{settled_each, failed_each, nobody_waits, waiting_failed, pushed, told_each, cut_short, all_answered, ended, parted, heard_in, opening_failed, authorized_at, connected_at, unauthorized_at, refused_at, overdue_at, taken_at, failed_at, broken_at, read_to, read_at, shut_at, applied, cancelled_in, left, timed_out}
 use Rattle.mux_conn.specs.Passes.{shown_each, starts_with, started_at, started, message_of, placed_at, told_at_place, seated, still_admitted, moved_up, moved_up_each, moved_up_all, put_behind, seated_or_behind, permits_taken, holding, took_shown, took as holds, timer_asked, let_in, admitted_at, admitted, still_waiting, admitted_each, admitted_all, passed}
 use Rattle.mux_conn.specs.Turn.{written_at, written, is_from, moved_wait, early_wait, fresh_wait, wait_shown, moved_each_shown, moved_shown, fresh_each_shown, fresh_shown, waits_shown, flushed}
 use Rattle.cancel_laws.specs.ButFor.{hushed_each, hushed_link, hushed_life}
@@ -271,6 +272,22 @@ bare_connected n p w (SettingUp l with_user) none = absurd none
 bare_connected n p w (Ready l) none = refl
 bare_connected n p w (Ended e) none = refl
 
+-- credentials for the setup
+bare_authorized : (n p : ℕ) (w : Work) (c : Credentials) (life : Life) → NoneQueued p life → bare n p (authorized_at w c life) ≡ authorized_at (bare n p w) c (hushed_life p life)
+bare_authorized n p w c Dialing none = refl
+bare_authorized n p w c (Wanting l) none = absurd none
+bare_authorized n p w c (SettingUp l with_user) none = refl
+bare_authorized n p w c (Ready l) none = refl
+bare_authorized n p w c (Ended e) none = refl
+
+-- that there are none
+bare_unauthorized : (n p : ℕ) (w : Work) (e : RedisError) (life : Life) → NoneQueued p life → bare n p (unauthorized_at w e life) ≡ unauthorized_at (bare n p w) e (hushed_life p life)
+bare_unauthorized n p w e Dialing none = refl
+bare_unauthorized n p w e (Wanting l) none = absurd none
+bare_unauthorized n p w e (SettingUp l with_user) none = refl
+bare_unauthorized n p w e (Ready l) none = refl
+bare_unauthorized n p w e (Ended x) none = refl
+
 -- the connect is refused
 bare_refused : (n p : ℕ) (w : Work) (f : FaultKind) (life : Life) → At (There (IsGone n p)) w → bare n p (refused_at w f life) ≡ refused_at (bare n p w) f (hushed_life p life)
 bare_refused n p w f Dialing h = bare_opening n p w (error.Io f) h
@@ -375,6 +392,9 @@ bare_applied n p w overdue h = bare_overdue n p w w.conn.life h
 bare_applied n p w (took count) h = bare_taken n p w count w.conn.life
 bare_applied n p w (came piece) h = bare_came n p w piece w.conn.life h
 bare_applied n p w (failed f) h = bare_failed n p w f w.conn.life h
+bare_applied n p w (authorized c) h = bare_authorized n p w c w.conn.life h.none
+bare_applied n p w (denied text) h = bare_unauthorized n p w (error.Credentials text) w.conn.life h.none
+bare_applied n p w deserted h = bare_unauthorized n p w (error.AuthFailed []) w.conn.life h.none
 bare_applied n p w shut h = bare_shut n p w w.conn.life h
 
 -- requests
@@ -667,8 +687,7 @@ bare_passed n p w none h =
 bare_written_at : (n p : ℕ) (w : Work) (life : Life) → bare n p (written_at w life) ≡ written_at (bare n p w) (hushed_life p life)
 bare_written_at n p w (Ready l) =
     either (bare n p) (can_offer l.outbox) _ w _ (bare n p w) (λ t. bare_acted n p (with_link w (offered_of l)) (act.Write l.outbox.unwritten) (λ m. refl)) (λ f. refl)
-bare_written_at n p w (Wanting l) =
-    either (bare n p) (can_offer l.outbox) _ w _ (bare n p w) (λ t. bare_acted n p (with_setup w (offered_of l) with_user) (act.Write l.outbox.unwritten) (λ m. refl)) (λ f. refl)
+bare_written_at n p w (Wanting l) = refl
 bare_written_at n p w (SettingUp l with_user) =
     either (bare n p) (can_offer l.outbox) _ w _ (bare n p w) (λ t. bare_acted n p (with_setup w (offered_of l) with_user) (act.Write l.outbox.unwritten) (λ m. refl)) (λ f. refl)
 bare_written_at n p w Dialing = refl

@@ -21,7 +21,7 @@ use Rattle.mux_conn.specs.Connection.{Work}
 use Rattle.mux_conn.specs.Effects.{cancelled_in, left}
 use Rattle.mux_conn.specs.Passes.{passed}
 use Rattle.shared_session.specs.declared.core_state.Core.{Core}
-use Rattle.shared_session.specs.Turn.{Turning, work_of, with_work, heard, left_by, counted, moved_on, timed, exceeds_offer, is_bad, shown_each, actions_of, next_turn}
+use Rattle.shared_session.specs.Turn.{Turning, work_of, with_work, heard, left_by, counted, moved_on, numbered, exceeds_offer, is_bad, shown_each, actions_of, next_turn}
 use Rattle.shared_session.specs.Replay.{opening_core, opening_actions, run_on, state_after, turns_on, trace_of, told_each, outcomes_in, outcome_at, is_bad_after}
 use Rattle.shared_session.proofs.Replays.{turns_after}
 use Rattle.cancel_laws.specs.ButFor.{all_unnumbered, but_for, hushed_life}
@@ -52,9 +52,10 @@ cancel_turn c n p unlimited r there none =
     let d = left_by t (Some (Some p)) in
     let shut = or-false c.shut in
     let timers = append-nil c.timers in
-    ap (λ (who : Option (Option Pending)). timed (moved_on (left_by t who))) there
-    ∙ ap (λ (w : Work). timed (with_work d w)) (nothing_moves (work_of d) (left_idle c.single.connection p.number unlimited none r.idle))
-    ∙ (λ i. record { core = record c { turns = c.turns + 1; shut = shut i; timers = timers i; single = record c.single { connection = left c.single.connection p.number } }; acts = [] })
+    let sources = append-nil c.sources in
+    ap (λ (who : Option (Option Pending)). numbered (moved_on (left_by t who))) there
+    ∙ ap (λ (w : Work). numbered (with_work d w)) (nothing_moves (work_of d) (left_idle c.single.connection p.number unlimited none r.idle))
+    ∙ (λ i. record { core = record c { turns = c.turns + 1; shut = shut i; timers = timers i; sources = sources i; single = record c.single { connection = left c.single.connection p.number } }; acts = [] })
 
 -- a started request is gone from the queue
 started_none : (n : ℕ) (c : Core) (h : HasStarted n c) → NoneQueued h.pending.number c.single.connection.life
@@ -307,6 +308,9 @@ bare_bad p c (event.Connected l) = refl
 bare_bad p c (event.Refused l f) = refl
 bare_bad p c (event.Fired n) = refl
 bare_bad p c (event.Timeout ms) = refl
+bare_bad p c (event.Creds n auth) = refl
+bare_bad p c (event.CredsError n text) = refl
+bare_bad p c (event.CredsEnd n) = refl
 bare_bad p c (event.Wrote l count) = ap (λ (b : Bool). nat_le c.links l || ((l == c.single.link) && b)) (too_much_same p count c.single.connection.life)
 bare_bad p c (event.Bytes l piece) = refl
 bare_bad p c (event.Ended l) = refl

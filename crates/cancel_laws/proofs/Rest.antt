@@ -31,7 +31,7 @@ IsThrough l = (l.queue ≡ []) ⊎ (holds_back l ≡ true)
 -- so is a link that is up
 abbrev pub HasStartedAll : Life → Type 0
 HasStartedAll Dialing = Unit {0}
-HasStartedAll (Wanting l) = IsThrough l
+HasStartedAll (Wanting l) = Unit {0}
 HasStartedAll (SettingUp l with_user) = IsThrough l
 HasStartedAll (Ready l) = IsThrough l
 HasStartedAll (Ended e) = Unit {0}
@@ -39,7 +39,7 @@ HasStartedAll (Ended e) = Unit {0}
 -- all its bytes are offered, or an offer is unanswered
 abbrev pub HasOffered : Life → Type 0
 HasOffered Dialing = Unit {0}
-HasOffered (Wanting l) = can_offer l.outbox ≡ false
+HasOffered (Wanting l) = Unit {0}
 HasOffered (SettingUp l with_user) = can_offer l.outbox ≡ false
 HasOffered (Ready l) = can_offer l.outbox ≡ false
 HasOffered (Ended e) = Unit {0}
@@ -87,9 +87,7 @@ started_from : (w : Work) (life : Life) → w.conn.life ≡ life → HasStartedA
 started_from w (Ready l) e =
     let s = started_all (record { link = l; out = [] }) in
     subst (λ (c : MultiplexedConnection). HasStartedAll c.life) (sym (conn_shown (with_link w s.link) s.out)) (queue_starts (record { link = l; out = [] }) l.queue)
-started_from w (Wanting l) e =
-    let s = started_all (record { link = l; out = [] }) in
-    subst (λ (c : MultiplexedConnection). HasStartedAll c.life) (sym (setup_shown (with_setup w s.link with_user) s.out)) (queue_starts (record { link = l; out = [] }) l.queue)
+started_from w (Wanting l) e = subst HasStartedAll (sym e) tt
 started_from w (SettingUp l with_user) e =
     let s = started_all (record { link = l; out = [] }) in
     subst (λ (c : MultiplexedConnection). HasStartedAll c.life) (sym (setup_shown (with_setup w s.link with_user) s.out)) (queue_starts (record { link = l; out = [] }) l.queue)
@@ -105,9 +103,7 @@ admitted_started : (w : Work) (life : Life) → (started_at w life).conn.admitte
 admitted_started w (Ready l) =
     let s = started_all (record { link = l; out = [] }) in
     ap (λ (c : MultiplexedConnection). c.admitted) (conn_shown (with_link w s.link) s.out)
-admitted_started w (Wanting l) =
-    let s = started_all (record { link = l; out = [] }) in
-    ap (λ (c : MultiplexedConnection). c.admitted) (setup_shown (with_setup w s.link with_user) s.out)
+admitted_started w (Wanting l) = refl
 admitted_started w (SettingUp l with_user) =
     let s = started_all (record { link = l; out = [] }) in
     ap (λ (c : MultiplexedConnection). c.admitted) (setup_shown (with_setup w s.link with_user) s.out)
@@ -209,16 +205,7 @@ written_from w (Ready l) e h =
       offered = offered_none (length l.outbox.unwritten == 0);
     })
     (λ f. record { moved = h; offered = subst HasOffered (sym e) f })
-written_from w (Wanting l) e h =
-    chosen (λ (x : Work). IsWritten x.conn) (can_offer l.outbox) _ w
-    (λ t. record {
-      moved = record {
-        seated = record { queue = queue_offered l (subst HasStartedAll e h.seated.queue); admitted = λ u. h.seated.admitted (ap has_room e ∙ u) };
-        waiting = λ f. h.waiting (ap (λ (x : Life). admits_none_at x (has_no_permit w.conn.limit w.conn.free)) e ∙ f);
-      };
-      offered = offered_none (length l.outbox.unwritten == 0);
-    })
-    (λ f. record { moved = h; offered = subst HasOffered (sym e) f })
+written_from w (Wanting l) e h = record { moved = h; offered = subst HasOffered (sym e) tt }
 written_from w (SettingUp l with_user) e h =
     chosen (λ (x : Work). IsWritten x.conn) (can_offer l.outbox) _ w
     (λ t. record {
@@ -286,7 +273,7 @@ none_starts l (q ∷ qs) e (inr held) =
 -- on any link
 pub started_stays : (w : Work) (life : Life) → w.conn.life ≡ life → HasStartedAll life → started_at w life ≡ w
 started_stays w (Ready l) e h = ap (starts_with w) (none_starts l l.queue refl h) ∙ ap (at_life w) (sym e)
-started_stays w (Wanting l) e h = ap (sets_up_with w with_user) (none_starts l l.queue refl h) ∙ ap (at_life w) (sym e)
+started_stays w (Wanting l) e h = refl
 started_stays w (SettingUp l with_user) e h = ap (sets_up_with w with_user) (none_starts l l.queue refl h) ∙ ap (at_life w) (sym e)
 started_stays w Dialing e h = refl
 started_stays w (Ended x) e h = refl
@@ -318,7 +305,7 @@ passed_stays w h =
 -- no bytes are offered
 written_stays : (w : Work) (life : Life) → HasOffered life → written_at w life ≡ w
 written_stays w (Ready l) h = left_if (can_offer l.outbox) _ w h
-written_stays w (Wanting l) h = left_if (can_offer l.outbox) _ w h
+written_stays w (Wanting l) h = refl
 written_stays w (SettingUp l with_user) h = left_if (can_offer l.outbox) _ w h
 written_stays w Dialing h = refl
 written_stays w (Ended e) h = refl
