@@ -159,7 +159,7 @@ hushed_on n p c (e ∷ es) l h =
 
 -- the turn of the cancel shows nothing, where permits aren't counted
 cancel_shows : (c : Core) (draw n : ℕ) (h : HasStarted n c) → AtCore Unlimited c → IsReady c → actions_of c (cancel_of draw n) ≡ action.Turn c.turns (cause.Event (cancel_of draw n)) ∷ []
-cancel_shows c draw n h u r = ap (λ (x : Turning). action.Turn c.turns (cause.Event (cancel_of draw n)) ∷ shown_each c.single.link (length c.timers) x.acts) (started_cancel n c h u r)
+cancel_shows c draw n h u r = ap (λ (x : Turning). action.Turn c.turns (cause.Event (cancel_of draw n)) ∷ shown_each c.single.link (length c.timers) (length c.sources) x.acts) (started_cancel n c h u r)
 
 -- histories
 --

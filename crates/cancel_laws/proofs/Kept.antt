@@ -523,6 +523,7 @@ written_at_kept {P = P} k w (SettingUp l with_user) g h =
     (λ t. k.show w.conn.limit w.conn.requests (SettingUp (offered_of l) with_user) w.conn.moved w.acts (act.Write l.outbox.unwritten) (λ n. refl) (k.go_on w.conn.limit w.conn.requests l (offered_of l) with_user w.conn.moved w.acts (omega arith) g))
     (λ f. h)
 written_at_kept k w Dialing g h = h
+written_at_kept k w (Wanting l) g h = h
 written_at_kept k w (Ended e) g h = h
 
 -- on the link that the connection has
