@@ -67,6 +67,14 @@ sources_of-append l (x ∷ xs) ys = ap (λ ss. source_of l x ++ ss) (sources_of-
 pub sources_more : (l : ℕ) (acts : List LinkAct) (a : LinkAct) → sources_of l (acts ++ a ∷ []) ≡ sources_of l acts ++ source_of l a
 sources_more l acts a = sources_of-append l acts (a ∷ []) ∙ ap (λ ss. sources_of l acts ++ ss) (append-nil (source_of l a))
 
+-- an act that asks for none
+pub quiet_timers : (acts : List LinkAct) (a : LinkAct) → timer_of a ≡ [] → timers_of (acts ++ a ∷ []) ≡ timers_of acts
+quiet_timers acts a e = timers_more acts a ∙ ap (λ ts. timers_of acts ++ ts) e ∙ append-nil (timers_of acts)
+
+-- nor for a source
+pub quiet_sources : (l : ℕ) (acts : List LinkAct) (a : LinkAct) → source_of l a ≡ [] → sources_of l (acts ++ a ∷ []) ≡ sources_of l acts
+quiet_sources l acts a e = sources_more l acts a ∙ ap (λ ss. sources_of l acts ++ ss) e ∙ append-nil (sources_of l acts)
+
 -- the actions that acts show, and then others
 pub shown_each-append : (l t c : ℕ) (xs ys : List LinkAct) → shown_each l t c (xs ++ ys) ≡ shown_each l t c xs ++ shown_each l (t + length (timers_of xs)) (c + length (sources_of l xs)) ys
 shown_each-append l t c [] ys = let same : t ≡ t + 0 = omega arith in let still : c ≡ c + 0 = omega arith in λ i. shown_each l (same i) (still i) ys

@@ -30,7 +30,7 @@ use Rattle.legal_trace.specs.Owed.{owed}
 use Rattle.legal_trace.specs.Legal.{AllStand, MayStand, MayAnswer, IsBefore, is_heard}
 use Rattle.session_laws.proofs.Numbers.{Rising, rising_from}
 use Rattle.session_laws.proofs.Tied.{Inner, link_in, TiedLife, Tied, Sound, waiting_ids, has_ended}
-use Rattle.session_laws.proofs.Entered.{book_more, sound_more, shown_more, sources_more, timers_more}
+use Rattle.session_laws.proofs.Entered.{book_more, quiet_sources, quiet_timers, sound_more, shown_more, sources_more, timers_more}
 use Rattle.session_laws.proofs.Names.{open_within, name_with, length_with, with_then}
 use Rattle.session_laws.proofs.InLine.{line_of, IsInLine, open_in_line, first_is_least}
 use Rattle.session_laws.proofs.Answer.{may_answer, after_closes, none_before, owed_still, answer_tied, skip_tied}
@@ -110,6 +110,17 @@ seen_is f acts a conn pending started =
     let ts = add_is (f.timers ++ timers_of acts) (timer_of a) ∙ append_assoc f.timers (timers_of acts) (timer_of a) ∙ ap (λ ts. f.timers ++ ts) (sym (timers_more acts a)) in
     let ss = add_is (f.sources ++ sources_of l acts) (source_of l a) ∙ append_assoc f.sources (sources_of l acts) (source_of l a) ∙ ap (λ ss. f.sources ++ ss) (sym (sources_more l acts a)) in
     λ i. record (seen f acts conn pending started) { timers = ts i; sources = ss i }
+
+-- a session with what acts have asked for
+abbrev pub asked_by : Core → Inner → List LinkAct → Inner
+asked_by f t acts = record t { timers = f.timers ++ timers_of acts; sources = f.sources ++ sources_of f.single.link acts }
+
+-- an act that asks for no timer and for no source leaves it
+pub quiet_asks : (f : Core) (t : Inner) (acts : List LinkAct) (a : LinkAct) → timer_of a ≡ [] → source_of f.single.link a ≡ [] → asked_by f t acts ≡ asked_by f t (acts ++ a ∷ [])
+quiet_asks f t acts a timers sources =
+    let ts = quiet_timers acts a timers in
+    let ss = quiet_sources f.single.link acts a sources in
+    sym (λ i. record t { timers = f.timers ++ ts i; sources = f.sources ++ ss i })
 
 -- also where these pushes are still to be told, and the end of the link is
 pub sound_told : (before : List Action) (f : Core) (acts : List LinkAct) (a : LinkAct) (conn : MultiplexedConnection) (untold : List Heard) (parting : Bool) (pending started : List ℕ) → AllStand blank_book (trace_of_acts before f acts) → MayStand (book (trace_of_acts before f acts)) (shown_now f acts a)

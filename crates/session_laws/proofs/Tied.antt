@@ -9,6 +9,7 @@ use Rattle.driver_model.specs.declared.action.Owner.{Owner}
 use Rattle.driver_model.specs.declared.action.Cause.{Cause}
 use Rattle.driver_model.specs.declared.action.Purpose.{Purpose}
 use Rattle.driver_model.specs.declared.action.SourceUse.{SourceUse}
+use Rattle.driver_model.specs.declared.action.SourceUse.TheVariants as source
 use Rattle.driver_model.specs.declared.action.Owner.TheVariants as owner
 use Rattle.driver_model.specs.Config.{boundary}
 use Rattle.driver_model.specs.Setup.{says_nothing, setup_shape}
@@ -151,6 +152,10 @@ IsAim (purpose.Response (owner.Try n round)) link count = (n < count) × (round 
 abbrev pub AreAimed : List Purpose → ℕ → ℕ → Type 0
 AreAimed timers link count = (k : ℕ) (what : Purpose) → slice_get timers k ≡ Some what → IsAim what link count
 
+-- all sources of credentials are for the setup of this link
+abbrev pub AreUses : List SourceUse → ℕ → Type 0
+AreUses sources link = (k : ℕ) (use : SourceUse) → slice_get sources k ≡ Some use → use ≡ source.Setup link
+
 -- the configuration that the book tells has a queue of this size, which is not none, this boundary, and so many permits,
 -- which are not none, if they are counted
 pub record IsConfigured (b : Book) (size bound : ℕ) (limit : Option ℕ) : Type 0 where
@@ -161,13 +166,14 @@ pub record IsConfigured (b : Book) (size bound : ℕ) (limit : Option ℕ) : Typ
   pub limited : limit ≢ Some 0
 
 -- the numbers that the session gives are those of the book; its connection's link is the only one; all timers are for it or
--- for a submission, and the opening has asked for its timer
+-- for a submission, all sources of credentials are for it, and the opening has asked for its timer
 pub record TiedNumbers (b : Book) (t : Inner) : Type 0 where
   pub turns : b.turns ≡ t.turns
   pub links : b.links ≡ t.links
   pub submissions : b.submissions ≡ length t.table
   pub timers : b.timers ≡ t.timers
   pub sources : b.sources ≡ t.sources
+  pub uses : AreUses t.sources t.link
   pub aims : AreAimed t.timers t.link (length t.table)
   pub timed : IsTimed b
   pub timeout : b.timeout ≡ t.timeout
@@ -453,6 +459,7 @@ numbers_kept b link story t life free requests waiting admitted fresh moved lett
   links = h.links;
   timers = h.timers;
   sources = h.sources;
+  uses = h.uses;
   aims = h.aims;
   timed = h.timed;
   submissions = h.submissions;

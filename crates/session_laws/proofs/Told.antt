@@ -89,7 +89,7 @@ push_tied b t info told parted untold parting is pushed h =
     let l = b.link t.link in
     let line = push_line info.kind in
     tied_by (entered b (action.Push t.link info)) (record t { untold = untold; parting = parting }) (retells l told parted) (mine_noted l t.link line ∙ is) (record {
-      numbers = record { turns = h.numbers.turns; links = h.numbers.links; submissions = h.numbers.submissions; timers = h.numbers.timers; sources = h.numbers.sources; aims = h.numbers.aims; timed = h.numbers.timed; timeout = h.numbers.timeout; shut = h.numbers.shut; settings = record { size_is = h.numbers.settings.size_is; bound_is = h.numbers.settings.bound_is; limit_is = h.numbers.settings.limit_is; some = h.numbers.settings.some; limited = h.numbers.settings.limited }; one = h.numbers.one; only = h.numbers.only };
+      numbers = record { turns = h.numbers.turns; links = h.numbers.links; submissions = h.numbers.submissions; timers = h.numbers.timers; sources = h.numbers.sources; uses = h.numbers.uses; aims = h.numbers.aims; timed = h.numbers.timed; timeout = h.numbers.timeout; shut = h.numbers.shut; settings = record { size_is = h.numbers.settings.size_is; bound_is = h.numbers.settings.bound_is; limit_is = h.numbers.settings.limit_is; some = h.numbers.settings.some; limited = h.numbers.settings.limited }; one = h.numbers.one; only = h.numbers.only };
       others = others_kept b t.link line h.others;
       pushes = pushed;
       life = life_told l told parted b.created t.life h.life;
