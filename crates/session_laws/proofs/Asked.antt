@@ -32,7 +32,7 @@ use Rattle.session_laws.proofs.Entered.{all_stand-append, book_more, sound_more}
 use Rattle.session_laws.proofs.Names.{there_within, names_asked}
 use Rattle.session_laws.proofs.Owes.{started_within}
 use Rattle.session_laws.proofs.Settle.{seen}
-use Rattle.session_laws.proofs.Announce.{aims_longer, aims_on, turn_of, turned, may_turn}
+use Rattle.session_laws.proofs.Announce.{aims_longer, aims_on, turn_of, turned, may_turn, uses_on}
 use Rattle.session_laws.proofs.Heard.{told_life, silent_no_end, silent_applied, still_none}
 use Rattle.session_laws.proofs.Said.{setup_on}
 use Rattle.session_laws.proofs.Further.{one_longer, there_longer, before_or_new, further_story, tries_longer, queue_longer, packs_longer, entries_longer, link_longer, told_longer, IsNext, waits_longer, permits_longer, late_longer}
@@ -232,6 +232,7 @@ asked_tied b c started word what h no_fresh up speaks some =
         links = h.numbers.links;
         timers = h.numbers.timers ∙ sym (append-nil c.timers);
         sources = h.numbers.sources ∙ sym (append-nil c.sources);
+        uses = uses_on c.sources c.single.link h.numbers.uses;
         aims = aims_on c.timers c.single.link (length (c.table ++ next ∷ [])) (aims_longer c.timers c.single.link (length c.table) (length (c.table ++ next ∷ [])) (omega (arith, length-append c.table (next ∷ []))) h.numbers.aims);
         timed = λ config other opens bounded none. no_opening _ config other opens;
         submissions = (let k = h.numbers.submissions in omega (arith, length-append c.table (next ∷ [])));

@@ -43,7 +43,7 @@ use Rattle.legal_trace.specs.Legal.{NoneEnds}
 use Rattle.session_laws.proofs.Closing.{Closes, WasReady, WasSettingUp, WasWanting, closed_other, late_closed, with_closed, story_closed, tries_closed, packs_closed, queued_other, queue_closed, AreOthers, waits_closed, kept_other, IsUntried, told_closed}
 use Rattle.session_laws.proofs.Answer.{entries_answered}
 use Rattle.session_laws.proofs.Settle.{seen}
-use Rattle.session_laws.proofs.Announce.{aims_on, turn_of, turned}
+use Rattle.session_laws.proofs.Announce.{aims_on, turn_of, turned, uses_on}
 use Rattle.session_laws.proofs.Kept.{tied_by}
 use Rattle.session_laws.proofs.Permits.{permits_closed}
 use Rattle.session_laws.proofs.Heard.{silent_applied, still_none, told_life, silent_no_end}
@@ -386,6 +386,7 @@ silent_numbers b c started word kind timeout story free life requests pending q 
   links = h.numbers.links;
   timers = h.numbers.timers ∙ sym (append-nil c.timers);
   sources = h.numbers.sources ∙ sym (append-nil c.sources);
+  uses = uses_on c.sources c.single.link h.numbers.uses;
   aims = aims_on c.timers c.single.link (length c.table) h.numbers.aims;
   timed = λ config other opens bounded none. no_opening _ config other opens;
   submissions = (let e = h.numbers.submissions in let none = q.none in omega arith);

@@ -22,8 +22,8 @@ use Rattle.mux_conn.specs.declared.act.LinkAct.{LinkAct}
 use Rattle.mux_conn.specs.declared.act.LinkAct.TheVariants as act
 use Rattle.mux_conn.specs.declared.connection.MultiplexedConnection.{MultiplexedConnection}
 use Rattle.shared_session.specs.declared.core_state.Core.{Core}
-use Rattle.shared_session.specs.Turn.{source_of, sources_of, timer_of, timers_of}
-use Rattle.session_laws.proofs.Entered.{shown_more, sources_more, timers_more}
+use Rattle.shared_session.specs.Turn.{sources_of, timers_of}
+use Rattle.session_laws.proofs.Entered.{quiet_sources, quiet_timers, shown_more, timers_more}
 use Rattle.session_laws.proofs.Settle.{book_of_more, seen, trace_of_acts}
 use Rattle.mux_conn.specs.Requests.{if_there, is_admitted, is_admitted_at, is_open as is_open_progress, is_placed, is_waiting, is_waiting_at, name_at, permits_at, with_permits}
 use Rattle.mux_conn.specs.declared.life.Life.{Life}
@@ -477,6 +477,7 @@ ask_tied b t p number ms w alone h =
       links = k.links;
       timers = ap (λ ts. ts ++ what ∷ []) h.numbers.timers;
       sources = k.sources;
+      uses = k.uses;
       aims = aims_more t.timers t.link (length t.table) n known h.numbers.aims;
       timed = λ config word opens bounded none. some_more b.timers what none;
       submissions = k.submissions;
@@ -499,14 +500,6 @@ permits_twice requests p one two a c =
     set_twice [] n x y = refl
     set_twice (z ∷ xs) zero x y = refl
     set_twice (z ∷ xs) (suc n) x y = ap (λ ys. z ∷ ys) (set_twice xs n x y)
-
--- an act that asks for no timer
-pub quiet_timers : (acts : List LinkAct) (a : LinkAct) → timer_of a ≡ [] → timers_of (acts ++ a ∷ []) ≡ timers_of acts
-quiet_timers acts a e = timers_more acts a ∙ ap (λ ts. timers_of acts ++ ts) e ∙ append-nil (timers_of acts)
-
--- and one that asks for no source of credentials
-pub quiet_sources : (l : ℕ) (acts : List LinkAct) (a : LinkAct) → source_of l a ≡ [] → sources_of l (acts ++ a ∷ []) ≡ sources_of l acts
-quiet_sources l acts a e = sources_more l acts a ∙ ap (λ ss. sources_of l acts ++ ss) e ∙ append-nil (sources_of l acts)
 
 -- one that waits holds its permits, where they are counted, and has no timer
 pub record HasTaken (before : List Action) (f : Core) (t : Inner) (p count : ℕ) (acts : List LinkAct) : Type 0 where

@@ -31,13 +31,13 @@ use Rattle.session_laws.proofs.Ahead.{IsRunning, first_step, kept_unstarted, wai
 use Rattle.session_laws.proofs.Entered.{shown_more}
 use Rattle.session_laws.proofs.Going.{IsGoing, begun_up, first_behind, going_more}
 use Rattle.session_laws.proofs.InLine.{kept_ids}
-use Rattle.session_laws.proofs.LetIn.{IsOpening, let_in_conn, let_in_going, lets, permits_twice, quiet_sources, quiet_timers}
+use Rattle.session_laws.proofs.LetIn.{IsOpening, let_in_conn, let_in_going, lets, permits_twice}
 use Rattle.session_laws.proofs.Names.{length_still, length_with, name_still, name_with, open_within, permits_still, permits_with, there_same, with_same}
 use Rattle.session_laws.proofs.Numbers.{IsIn, Rising, rising_left, rising_right, rising_tail, rising_without}
 use Rattle.session_laws.proofs.Owes.{request_story}
 use Rattle.session_laws.proofs.Place.{IsNext, admit_tied, next_admitted, next_waiting, passed_admitted, passed_waiting, place_tied, tell_tied, with_place, with_told}
 use Rattle.session_laws.proofs.SetsUp.{set_up_conn}
-use Rattle.session_laws.proofs.Settle.{answered_leaves, seen, trace_of_acts}
+use Rattle.session_laws.proofs.Settle.{answered_leaves, quiet_asks, seen, trace_of_acts}
 use Rattle.session_laws.proofs.Start.{on_link}
 use Rattle.session_laws.proofs.Starts.{each_fit, each_going, each_held, shown_is, shows, shows_sources, shows_timers}
 use Rattle.session_laws.proofs.States.{IsFit}
@@ -223,9 +223,8 @@ told_up before f w q was_admitted was_waiting admitted waiting letting next h no
     let back : given_back w.conn.limit w.conn.free (permits_at w.conn.requests p) ≡ given_back w.conn.limit w.conn.free (permits_at placed p) = ap (given_back w.conn.limit w.conn.free) (sym (permits_still w.conn.requests p p progress.Placed within)) in
     let acts = w.acts ++ a ∷ [] in
     let closed_one : Inner = record after { requests = with_permits placed p progress.Closed 0; free = given_back w.conn.limit w.conn.free (permits_at placed p) } in
-    let here = subst (λ ss. IsGoing (trace_of_acts before f acts) (record closed_one { timers = f.timers ++ timers_of acts; sources = f.sources ++ ss })) (sym (quiet_sources f.single.link w.acts a refl))
-    (subst (λ ts. IsGoing (trace_of_acts before f acts) (record closed_one { timers = f.timers ++ ts })) (sym (quiet_timers w.acts a refl))
-    (subst (λ n. IsGoing (trace_of_acts before f acts) (record after { requests = with_permits placed p progress.Closed 0; free = n })) back (subst (λ (x : List Request). IsGoing (trace_of_acts before f acts) (record after { requests = x })) twice there))) in
+    let here = subst (IsGoing (trace_of_acts before f acts)) (quiet_asks f closed_one w.acts a refl refl)
+    (subst (λ n. IsGoing (trace_of_acts before f acts) (record after { requests = with_permits placed p progress.Closed 0; free = n })) back (subst (λ (x : List Request). IsGoing (trace_of_acts before f acts) (record after { requests = x })) twice there)) in
     let order = subst (λ (x : List Request). Rising 0 ((w.conn.moved ++ p ∷ []) ++ next) (length x)) twice (subst (λ n. Rising 0 ((w.conn.moved ++ p ∷ []) ++ next) n) (length_still w.conn.requests p progress.Placed ∙ sym (length_with w.conn.requests p progress.Closed 0)) (order_next w.conn.moved p next w.conn.requests progress.Placed h.order)) in
     if_true (λ (x : Work). IsUp before f (started x) admitted waiting [] next) (is_open_at placed p) _ (with_link at link) is_open
     (started_up before f (acted (record at { conn = closed at.conn p }) a) link admitted waiting next h.started (fit_enqueued w.conn.size w.conn.boundary h.link (message_of q) room h.fit) here order)
