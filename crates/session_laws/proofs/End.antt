@@ -144,6 +144,8 @@ bare_ends before f w started h alive bare must =
 -- news that are no bytes leave the ledger of a link
 abbrev pub IsPlain : News → Type 0
 IsPlain (failed f) = Unit {0}
+IsPlain (denied text) = Unit {0}
+IsPlain deserted = Unit {0}
 IsPlain shut = Unit {0}
 IsPlain overdue = Unit {0}
 IsPlain (refused f) = ⊥
@@ -162,6 +164,7 @@ plain_leads before c started n k h = by_news n k
     by_news (took count) j = absurd j
     by_news (came piece) j = absurd j
     by_news (refused f) j = absurd j
+    by_news (authorized who) j = absurd j
     by_news overdue j = leads_on before c started overdue h (inl tt) (told_life l (book before).created c.single.connection.life overdue h.sound.tied.life, setup_hears l c.turns overdue c.single.connection.info started c.single.connection.life tt h.sound.tied.setup, λ alive. told_tied (carried c.single.connection.life c.single.connection.requests) l (whole_link c.single.connection.life) l.asked l.up overdue (h.sound.tied.link alive))
     by_news (failed f) j = leads_on before c started (failed f) h (inl tt) (told_life l (book before).created c.single.connection.life (failed f) h.sound.tied.life, setup_hears l c.turns (failed f) c.single.connection.info started c.single.connection.life tt h.sound.tied.setup, λ alive. told_tied (carried c.single.connection.life c.single.connection.requests) l (whole_link c.single.connection.life) l.asked l.up (failed f) (h.sound.tied.link alive))
     by_news shut j = leads_on before c started shut h (inl tt) (told_life l (book before).created c.single.connection.life shut h.sound.tied.life, setup_hears l c.turns shut c.single.connection.info started c.single.connection.life tt h.sound.tied.setup, λ alive. told_tied (carried c.single.connection.life c.single.connection.requests) l (whole_link c.single.connection.life) l.asked l.up shut (h.sound.tied.link alive))
