@@ -154,7 +154,7 @@ AreAimed timers link count = (k : ℕ) (what : Purpose) → slice_get timers k �
 
 -- all sources of credentials are for the setup of this link
 abbrev pub AreUses : List SourceUse → ℕ → Type 0
-AreUses sources link = (k : ℕ) (use : SourceUse) → slice_get sources k ≡ Some use → use ≡ source.Setup link
+AreUses sources link = (k : ℕ) (what : SourceUse) → slice_get sources k ≡ Some what → what ≡ source.Setup link
 
 -- the configuration that the book tells has a queue of this size, which is not none, this boundary, and so many permits,
 -- which are not none, if they are counted
