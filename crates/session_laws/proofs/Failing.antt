@@ -36,7 +36,7 @@ use Rattle.session_laws.proofs.Kept.{mine_noted, others_kept}
 use Rattle.session_laws.proofs.Answer.{after_end, unknown_ends}
 use Rattle.session_laws.proofs.Settle.{seen, sound_act, trace_of_acts, Holds, book_of_more}
 use Rattle.session_laws.proofs.Close.{ended_applied, ended_waits, waiting_ends, waiting_leaves}
-use Rattle.session_laws.proofs.Announce.{turn_of, turned, IsNewsKind, first_book, heard_book, heard_is, heard_starts, heard_tied_by, may_turn, others_heard}
+use Rattle.session_laws.proofs.Announce.{turn_of, turned, IsNewsKind, first_book, heard_book, heard_is, heard_starts, heard_tied_by, may_turn, others_heard, uses_on}
 use Rattle.session_laws.proofs.Heard.{heard_by, book_kind, book_news}
 use Rattle.session_laws.proofs.Said.{PushesOf}
 
@@ -129,26 +129,30 @@ setup_fails before c started word kind n x h good k is unset fails =
     let now = heard_book b c.turns word kind in
     let line = ends (now.turns - 1) in
     let close = action.Close c.single.link in
-    let own : now.link c.single.link ≡ l = ap (heard_by b c) (book_news b c kind n h0.numbers.timers is) in
+    let own : now.link c.single.link ≡ l = ap (heard_by b c) (book_news b c started kind n h0 is) in
     let others = others_heard b c started kind h0 good in
     let links : ℕ → Ledger = λ m. noted_each (now.link m) (if_mine (c.single.link == m) line) in
     let closed : links c.single.link ≡ noted l line = mine_noted (now.link c.single.link) c.single.link line ∙ ap (λ (y : Ledger). noted y line) own in
     let t = seen f (act.Close ∷ []) (record conn { life = Ended x }) [] started in
-    let tied : Tied (entered (entered now close) (action.Created (Some x))) t = heard_tied_by b c started word (b.created + 1) kind (Ended x) conn.fresh [] [] links (noted l line) h0
-    (others_kept now c.single.link line others) closed (heard_starts l0 c.turns n)
-    (refl, ap (λ w. Some (outcome.Fault (unstarted_error (ending_or_shutdown w)))) fails.must, λ y shown z. absurd (omega arith))
-    (record { info_is = fails.info_is; sent = fails.sent; said = tt })
-    (λ z. cc)
-    (subst (λ (y : LinkState). TiedLines b.story conn.requests y conn.waiting conn.admitted [] started) unset.bare h0.lines)
-    (λ z. cc)
-    (ended_waits b.story conn.requests conn.life x conn.fresh conn.moved h0.waits)
+    let tied : Tied (entered (entered now close) (action.Created (Some x))) t = heard_tied_by b c started word (b.created + 1) kind conn.info (Ended x) conn.fresh [] [] links (noted l line) b.sources (c.sources ++ []) h0
+    (others_kept now c.single.link line others) closed (h0.numbers.sources ∙ sym (append-nil c.sources)) (uses_on c.sources c.single.link h0.numbers.uses)
     (record {
-      heard_is = fails.pushes.heard_is;
-      within = fails.pushes.within;
-      untold_is = fails.pushes.untold_is;
-      parts = λ heard done cut. absurd (not_both (is_fault (by_opening x)) refl (sym (ap (λ w. is_fault (ending_or_shutdown w)) fails.must) ∙ cut));
-      alive = λ none. cc;
-      due = fails.pushes.due;
+      starts = heard_starts l0 c.turns n;
+      lived = (refl, ap (λ w. Some (outcome.Fault (unstarted_error (ending_or_shutdown w)))) fails.must, λ y shown z. absurd (omega arith));
+      creds = record { wanted_is = fails.wanted_is; sought = tt };
+      said = record { info_is = fails.info_is; sent = fails.sent; said = tt };
+      linked = λ z. cc;
+      lines = subst (λ (y : LinkState). TiedLines b.story conn.requests y conn.waiting conn.admitted [] started) unset.bare h0.lines;
+      told = λ z. cc;
+      waits = ended_waits b.story conn.requests conn.life x conn.fresh conn.moved h0.waits;
+      pushes = record {
+        heard_is = fails.pushes.heard_is;
+        within = fails.pushes.within;
+        untold_is = fails.pushes.untold_is;
+        parts = λ heard done cut. absurd (not_both (is_fault (by_opening x)) refl (sym (ap (λ w. is_fault (ending_or_shutdown w)) fails.must) ∙ cut));
+        alive = λ none. cc;
+        due = fails.pushes.due;
+      };
     }) in
     let first : book (trace_of_acts front f []) ≡ now = first_book before (turn_of c word kind) f ∙ heard_is b c.turns word kind (book_kind b c kind h0.numbers.timers k) in
     let trace = trace_of_acts front f (act.Close ∷ []) in
