@@ -70,7 +70,7 @@ unwanted_sourced l unwanted = ap (λ w. l.up && w && not l.creds.asked) unwanted
     none_of false b = refl
 
 -- and where it was asked for
-asked_sourced : (l : Ledger) → l.creds.asked ≡ true → source_due l ≡ false
+pub asked_sourced : (l : Ledger) → l.creds.asked ≡ true → source_due l ≡ false
 asked_sourced l asked = ap (λ a. l.up && l.creds.wanted && not a) asked ∙ none_of l.up l.creds.wanted
   where
     none_of : (a b : Bool) → (a && b && false) ≡ false

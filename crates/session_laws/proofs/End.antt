@@ -1,5 +1,5 @@
 -- A fault ends the connection's link, or the shutdown does.
-use Rattle.std.proofs.Common.{inl, inr, ◌≡◌, ◌≢◌, ℕ, ◌-◌, Bool, true, false, List, [], ◌∷◌, ◌++◌, Some, None, refl, sym, ap, ◌∙◌, subst, ◌&&◌, not, is_some, if◌then◌else◌, arith}
+use Rattle.std.proofs.Common.{inl, inr, ◌≡◌, ◌≢◌, ℕ, ◌-◌, Bool, true, false, List, [], ◌∷◌, ◌++◌, Some, None, refl, sym, ap, ◌∙◌, subst, ◌&&◌, not, is_some, arith}
 use Rattle.std.specs.List.{AllByRecursion}
 use Rattle.containers.proofs.Choices.{chosen, taken_if, left_if}
 use Rattle.redis_error.specs.declared.fault_kind.FaultKind.TheVariants as kinds
@@ -11,7 +11,7 @@ use Rattle.driver_model.specs.declared.action.Owner.TheVariants as owner
 use Rattle.driver_model.specs.declared.event.EventKind.{EventKind}
 use Rattle.driver_model.specs.declared.news.LinkFault.{LinkFault}
 use Rattle.driver_model.specs.declared.outcome.Verdict.TheVariants as verdict
-use Rattle.driver_model.specs.News.{News, silence, connected, took, came, failed, authorized, denied, deserted, shut, news_of, refused, overdue}
+use Rattle.driver_model.specs.News.{News, silence, connected, took, came, failed, denied, deserted, shut, news_of, refused, overdue}
 use Rattle.link_core.specs.declared.message.Queued.{Queued}
 use Rattle.link_core.specs.declared.message.Settled.{Settled}
 use Rattle.link_core.specs.Ends.{failed_by, row_closed, row_hit, queue_closed}
@@ -27,19 +27,19 @@ use Rattle.mux_conn.specs.Connection.{Work}
 use Rattle.mux_conn.specs.Effects.{ended, ended_by, failed_at, overdue_at, shut_at, unauthorized_at}
 use Rattle.shared_session.specs.declared.core_state.Core.{Core}
 use Rattle.shared_session.specs.Turn.{with_work, is_bad}
-use Rattle.legal_trace.specs.Ledger.{Ledger, by_fault, by_opening, by_shutdown, ends, noted, ending, ending_alive, ending_unready, ending_up, is_over, is_set_up, lacks_credentials}
+use Rattle.legal_trace.specs.Ledger.{Ledger, by_fault, by_opening, by_shutdown, ends, noted, ending, ending_alive, ending_unready, is_over, is_set_up, lacks_credentials}
 use Rattle.legal_trace.specs.Book.{Book, book}
 use Rattle.session_laws.proofs.Numbers.{IsIn}
-use Rattle.session_laws.proofs.Tied.{Inner, inner, link_in, no_link, carried, whole_link, owner_of, queue_ids, AreSought, HasCredentials, HasSaid, IsSettingUp, Tied, TiedLife, has_ended}
-use Rattle.session_laws.proofs.Creds.{has_credentials, lacking_undecided, sources_asked, wanting_lacks}
+use Rattle.session_laws.proofs.Tied.{AreSought, HasCredentials, Inner, inner, link_in, no_link, carried, whole_link, owner_of, queue_ids, HasSaid, IsSettingUp, Tied, TiedLife, has_ended}
+use Rattle.session_laws.proofs.Creds.{asked_sourced, has_sourced, lacking_undecided, wanting_lacks}
 use Rattle.session_laws.proofs.SetUp.{not_set_up}
-use Rattle.session_laws.proofs.Said.{ending_wanting, mild_up, ready_heard, setting_heard, setting_told}
-use Rattle.session_laws.proofs.Failing.{Fails, IsUnset, setup_failed}
+use Rattle.session_laws.proofs.Said.{ending_wanting, ready_heard, setting_heard, setting_told}
+use Rattle.session_laws.proofs.Failing.{Fails, IsUnready, setup_failed}
 use Rattle.session_laws.proofs.States.{Between, HasApplied}
 use Rattle.session_laws.proofs.Settle.{seen, trace_of_acts, Holds}
 use Rattle.session_laws.proofs.Close.{HasEnded, IsClosedOf, SettlesAll, ended_holds, ended_moved, ended_applied, faulted_holds, parted_moved}
 use Rattle.session_laws.proofs.Announce.{turn_of, turned, IsNewsKind}
-use Rattle.session_laws.proofs.Heard.{Begins, IsOfAnother, dialing_quiet, ended_quiet, heard_begins, heard_by, leads_still, quiet_applied, still_none}
+use Rattle.session_laws.proofs.Heard.{heard_by, Begins, Leads, heard_begins, leads_still, ended_quiet, dialing_quiet}
 use Rattle.legal_trace.specs.Legal.{is_heard}
 
 -- what waits in the queue gets the closed connection
@@ -62,6 +62,7 @@ pub record IsUp (name : ℕ → Owner) (l : Ledger) (created : ℕ) (link : Link
   pub up : l.up ≡ true
   pub alive : l.end ≡ None
   pub shown : created ≢ 0
+  pub has : HasCredentials l.creds
   pub well : is_set_up l ≡ true
   pub tied : TiedLink name l link
 
@@ -76,7 +77,43 @@ up_tied b t link is h =
       up = lived.1;
       alive = lived.2;
       shown = lived.3;
+      has = subst (λ (x : Life). AreSought l.creds x) is h.creds.sought;
       well = said.well;
+      tied = subst (λ (x : Life). TiedLink (carried x t.requests) l (whole_link x)) is (h.link (ap has_ended is));
+    }
+
+-- a link that waits for credentials, with its ledger
+pub record IsWanting (l : Ledger) (created : ℕ) (started : List ℕ) (link : LinkState) : Type 0 where
+  pub asked : l.asked ≡ true
+  pub up : l.up ≡ true
+  pub alive : l.end ≡ None
+  pub unshown : created ≡ 0
+  pub sought : AreSought l.creds (Wanting link)
+  pub lacks : lacks_credentials l ≡ true
+  pub starts : l.starts ≡ []
+  pub none : started ≡ []
+  pub queue : link.queue ≡ []
+  pub row : link.row ≡ []
+  pub tied : TiedLink (λ p. owner.Setup) l link
+
+-- so it is while the connection says so
+pub wanting_tied : (b : Book) (t : Inner) (link : LinkState) → t.life ≡ Wanting link → Tied b t → IsWanting (b.link t.link) b.created t.started link
+wanting_tied b t link is h =
+    let l = b.link t.link in
+    let lived = subst (λ (x : Life). TiedLife l b.created x) is h.life in
+    let said = subst (λ (x : Life). HasSaid l t.started x) is h.setup.said in
+    let sought : AreSought l.creds (Wanting link) = subst (λ (x : Life). AreSought l.creds x) is h.creds.sought in
+    record {
+      asked = lived.0;
+      up = lived.1;
+      alive = lived.2;
+      unshown = lived.3;
+      sought = sought;
+      lacks = wanting_lacks l.creds link sought;
+      starts = said.0;
+      none = said.1;
+      queue = said.2;
+      row = said.3;
       tied = subst (λ (x : Life). TiedLink (carried x t.requests) l (whole_link x)) is (h.link (ap has_ended is));
     }
 
@@ -86,6 +123,7 @@ pub record IsSetting (l : Ledger) (created : ℕ) (started : List ℕ) (link : L
   pub up : l.up ≡ true
   pub alive : l.end ≡ None
   pub unshown : created ≡ 0
+  pub has : HasCredentials l.creds
   pub none : started ≡ []
   pub said : IsSettingUp l link with_user
   pub tied : TiedLink (λ p. owner.Setup) l link
@@ -101,37 +139,9 @@ setting_tied b t link with_user is h =
       up = lived.1;
       alive = lived.2;
       unshown = lived.3;
+      has = subst (λ (x : Life). AreSought l.creds x) is h.creds.sought;
       none = said.0;
       said = said.1;
-      tied = subst (λ (x : Life). TiedLink (carried x t.requests) l (whole_link x)) is (h.link (ap has_ended is));
-    }
-
--- a link that waits for credentials, with its ledger
-pub record IsWanting (l : Ledger) (created : ℕ) (started : List ℕ) (link : LinkState) : Type 0 where
-  pub asked : l.asked ≡ true
-  pub up : l.up ≡ true
-  pub alive : l.end ≡ None
-  pub unshown : created ≡ 0
-  pub none : started ≡ []
-  pub sought : AreSought l.creds (Wanting link)
-  pub lacks : lacks_credentials l ≡ true
-  pub tied : TiedLink (λ p. owner.Setup) l link
-
--- so it is while the connection says so
-pub wanting_tied : (b : Book) (t : Inner) (link : LinkState) → t.life ≡ Wanting link → Tied b t → IsWanting (b.link t.link) b.created t.started link
-wanting_tied b t link is h =
-    let l = b.link t.link in
-    let lived = subst (λ (x : Life). TiedLife l b.created x) is h.life in
-    let said = subst (λ (x : Life). HasSaid l t.started x) is h.setup.said in
-    let sought = subst (λ (x : Life). AreSought l.creds x) is h.creds.sought in
-    record {
-      asked = lived.0;
-      up = lived.1;
-      alive = lived.2;
-      unshown = lived.3;
-      none = said.1;
-      sought = sought;
-      lacks = wanting_lacks l.creds link sought;
       tied = subst (λ (x : Life). TiedLink (carried x t.requests) l (whole_link x)) is (h.link (ap has_ended is));
     }
 
@@ -171,77 +181,72 @@ bare_ends before f w started h alive bare must =
 
 -- the turns of these events
 --
--- news that are no bytes leave the ledger of a link
+-- news that leave what is told of a link
 abbrev pub IsPlain : News → Type 0
 IsPlain (failed f) = Unit {0}
-IsPlain (denied text) = Unit {0}
-IsPlain deserted = Unit {0}
 IsPlain shut = Unit {0}
 IsPlain overdue = Unit {0}
+IsPlain (denied text) = Unit {0}
+IsPlain deserted = Unit {0}
 IsPlain _ = ⊥
 
--- so they do
-plain_stays : (b : Book) (c : Core) (n : News) → IsPlain n → heard_by b c n ≡ record (b.link c.single.link) { heard = n }
-plain_stays b c silence k = absurd k
-plain_stays b c connected k = absurd k
-plain_stays b c (took count) k = absurd k
-plain_stays b c (came piece) k = absurd k
-plain_stays b c (refused f) k = absurd k
-plain_stays b c (authorized who) k = absurd k
-plain_stays b c overdue k = refl
-plain_stays b c (failed f) k = refl
-plain_stays b c (denied text) k = refl
-plain_stays b c deserted k = refl
-plain_stays b c shut k = refl
+-- the link stays as it is
+plain_leads : (before : List Action) (c : Core) (started : List ℕ) (n : News) → IsPlain n → Between before c started → Leads (book before) c n c.single.connection.life [] started
+plain_leads before c started (failed f) k h = leads_still before c started (failed f) h refl
+plain_leads before c started shut k h = leads_still before c started shut h refl
+plain_leads before c started overdue k h = leads_still before c started overdue h refl
+plain_leads before c started (denied text) k h = leads_still before c started (denied text) h refl
+plain_leads before c started deserted k h = leads_still before c started deserted h refl
+plain_leads before c started _ k h = absurd k
 
 -- the turn of such an event begins with its link as it was
 pub plain_begins : (before : List Action) (c : Core) (started : List ℕ) (word : ℕ) (kind : EventKind) (n : News) → IsPlain n → Between before c started → is_bad c kind ≡ false → IsNewsKind c.timers kind → news_of c.timers c.sources c.single.link kind ≡ n
     → Begins (before ++ turn_of c word kind ∷ []) (turned c kind) c.single.connection (heard_by (book before) c n) (book before).story [] started
-plain_begins before c started word kind n p h good k is = heard_begins before c started word kind n c.single.connection.life [] h good k is (leads_still before c started n h (plain_stays (book before) c n p))
+plain_begins before c started word kind n p h good k is = heard_begins before c started word kind n c.single.connection.life [] h good k is (plain_leads before c started n p h)
 
--- a link that isn't set up fails by news that leave its ledger
-plain_fails : (before : List Action) (c : Core) (started : List ℕ) (n : News) (x : RedisError) → Between before c started → ((book before).link c.single.link).end ≡ None
-    → (let l = record ((book before).link c.single.link) { heard = n } in is_set_up l ≡ false → ending l ≡ Some (by_opening x) → Fails l c.single.connection.info c.single.connection.wants (is_heard (book before)) c.single.connection.hears x)
-plain_fails before c started n x h alive unready must =
-    let t = h.sound.tied in
+-- a link that is set up still isn't ready
+pub setting_unready : (b : Book) (t : Inner) (link : LinkState) (with_user : Bool) → t.life ≡ SettingUp link with_user → Tied b t → IsUnready b.created t.life t.started
+setting_unready b t link with_user e h = let s = setting_tied b t link with_user e h in record { bare = ap link_in e; none = s.none; unshown = s.unshown }
+
+-- nor is one that waits for credentials
+pub wanting_unready : (b : Book) (t : Inner) (link : LinkState) → t.life ≡ Wanting link → Tied b t → IsUnready b.created t.life t.started
+wanting_unready b t link e h = let s = wanting_tied b t link e h in record { bare = ap link_in e; none = s.none; unshown = s.unshown }
+
+-- a link that is set up fails by news that leave its ledger
+plain_fails : (before : List Action) (c : Core) (started : List ℕ) (n : News) (x : RedisError) (link : LinkState) (with_user : Bool) → Between before c started → c.single.connection.life ≡ SettingUp link with_user
+    → (let l = record ((book before).link c.single.link) { heard = n } in ending_unready l n ≡ Some (by_opening x)) → Fails (record ((book before).link c.single.link) { heard = n }) c.single.connection.info c.single.connection.wants (is_heard (book before)) c.single.connection.hears x
+plain_fails before c started n x link with_user h e is =
+    let b = book before in
+    let l = b.link c.single.link in
+    let s = setting_tied b (inner c started) link with_user e h.sound.tied in
     record {
-      alive = alive;
-      unready = unready;
-      must = must;
-      wanted_is = t.creds.wanted_is;
-      sourced = sources_asked (book before) (inner c started) t c.single.link;
-      info_is = t.setup.info_is;
-      sent = t.setup.sent;
-      pushes = t.pushes;
+      alive = s.alive;
+      unready = (not_set_up (record l { heard = n }) link with_user (setting_told l n link with_user s.said)).unwell;
+      must = setting_heard l n link with_user s.up s.said ∙ is;
+      info_is = h.sound.tied.setup.info_is;
+      wanted_is = h.sound.tied.creds.wanted_is;
+      sourced = has_sourced l s.has;
+      sent = h.sound.tied.setup.sent;
+      pushes = h.sound.tied.pushes;
     }
 
--- one that is set up
-setting_fails : (before : List Action) (c : Core) (started : List ℕ) (n : News) (x : RedisError) (link : LinkState) (with_user : Bool) → Between before c started → c.single.connection.life ≡ SettingUp link with_user
-    → (let l = record ((book before).link c.single.link) { heard = n } in ending_unready l n ≡ Some (by_opening x) → Fails l c.single.connection.info c.single.connection.wants (is_heard (book before)) c.single.connection.hears x)
-setting_fails before c started n x link with_user h e is =
-    let l = (book before).link c.single.link in
-    let s = setting_tied (book before) (inner c started) link with_user e h.sound.tied in
-    plain_fails before c started n x h s.alive (not_set_up (record l { heard = n }) link with_user (setting_told l n link with_user s.said)).unwell (setting_heard l n link with_user s.up s.said ∙ is)
-
--- and one that waits for credentials
+-- and so does one that waits for credentials
 wanting_fails : (before : List Action) (c : Core) (started : List ℕ) (n : News) (x : RedisError) (link : LinkState) → Between before c started → c.single.connection.life ≡ Wanting link
-    → (let l = record ((book before).link c.single.link) { heard = n } in ending_unready l n ≡ Some (by_opening x) → Fails l c.single.connection.info c.single.connection.wants (is_heard (book before)) c.single.connection.hears x)
+    → (let l = record ((book before).link c.single.link) { heard = n } in ending_unready l n ≡ Some (by_opening x)) → Fails (record ((book before).link c.single.link) { heard = n }) c.single.connection.info c.single.connection.wants (is_heard (book before)) c.single.connection.hears x
 wanting_fails before c started n x link h e is =
-    let l = record ((book before).link c.single.link) { heard = n } in
-    let s = wanting_tied (book before) (inner c started) link e h.sound.tied in
-    plain_fails before c started n x h s.alive (lacking_undecided l s.lacks).unwell (ending_wanting l s.up s.lacks ∙ is)
-
--- such a link has nothing of requests
-setting_unset : (before : List Action) (c : Core) (started : List ℕ) (link : LinkState) (with_user : Bool) → Between before c started → c.single.connection.life ≡ SettingUp link with_user → IsUnset (book before) c started
-setting_unset before c started link with_user h e =
-    let s = setting_tied (book before) (inner c started) link with_user e h.sound.tied in
-    record { bare = ap link_in e; none = s.none; unshown = s.unshown }
-
--- nor has the other
-pub wanting_unset : (before : List Action) (c : Core) (started : List ℕ) (link : LinkState) → Between before c started → c.single.connection.life ≡ Wanting link → IsUnset (book before) c started
-wanting_unset before c started link h e =
-    let s = wanting_tied (book before) (inner c started) link e h.sound.tied in
-    record { bare = ap link_in e; none = s.none; unshown = s.unshown }
+    let b = book before in
+    let l = b.link c.single.link in
+    let s = wanting_tied b (inner c started) link e h.sound.tied in
+    record {
+      alive = s.alive;
+      unready = (lacking_undecided (record l { heard = n }) s.lacks).unwell;
+      must = ending_wanting (record l { heard = n }) s.up s.lacks ∙ is;
+      info_is = h.sound.tied.setup.info_is;
+      wanted_is = h.sound.tied.creds.wanted_is;
+      sourced = asked_sourced l s.sought.1;
+      sent = h.sound.tied.setup.sent;
+      pushes = h.sound.tied.pushes;
+    }
 
 -- a fault, or the peer's end
 pub failed_applied : (before : List Action) (c : Core) (started : List ℕ) (word : ℕ) (kind : EventKind) (f : LinkFault) → Between before c started → is_bad c kind ≡ false → IsNewsKind c.timers kind → news_of c.timers c.sources c.single.link kind ≡ failed f
@@ -251,10 +256,12 @@ failed_applied before c started word kind f h good k is = by_life c.single.conne
     by_life : (x : Life) → c.single.connection.life ≡ x → HasApplied (before ++ turn_of c word kind ∷ []) (with_work (record { core = turned c kind; acts = [] }) (failed_at (record { conn = c.single.connection; acts = [] }) f x)) started
     by_life Dialing e = dialing_quiet before c started word kind (failed f) tt h good k is e
     by_life (Ended x) e = ended_quiet before c started word kind (failed f) x h good k is e
-    by_life (Wanting link) e =
-        setup_failed before c started word kind (failed f) error.Closed h good k is (wanting_unset before c started link h e) (wanting_fails before c started (failed f) error.Closed link h e refl)
     by_life (SettingUp link with_user) e =
-        setup_failed before c started word kind (failed f) error.Closed h good k is (setting_unset before c started link with_user h e) (setting_fails before c started (failed f) error.Closed link with_user h e refl)
+        setup_failed before c started word kind (failed f) error.Closed h good k is (setting_unready (book before) (inner c started) link with_user e h.sound.tied)
+        (plain_fails before c started (failed f) error.Closed link with_user h e refl)
+    by_life (Wanting link) e =
+        setup_failed before c started word kind (failed f) error.Closed h good k is (wanting_unready (book before) (inner c started) link e h.sound.tied)
+        (wanting_fails before c started (failed f) error.Closed link h e refl)
     by_life (Ready link) e =
         let begins = plain_begins before c started word kind (failed f) tt h good k is in
         let l = (book before).link c.single.link in
@@ -270,7 +277,7 @@ pub setting_overdue : (before : List Action) (c : Core) (started : List ℕ) (wo
     → HasApplied (before ++ turn_of c word kind ∷ []) (with_work (record { core = turned c kind; acts = [] }) (overdue_at (record { conn = c.single.connection; acts = [] }) (SettingUp link with_user))) started
 setting_overdue before c started word kind link with_user h good k is e =
     let x = error.Io kinds.TimedOut in
-    setup_failed before c started word kind overdue x h good k is (setting_unset before c started link with_user h e) (setting_fails before c started overdue x link with_user h e refl)
+    setup_failed before c started word kind overdue x h good k is (setting_unready (book before) (inner c started) link with_user e h.sound.tied) (plain_fails before c started overdue x link with_user h e refl)
 
 -- or while it waits for credentials
 pub wanting_overdue : (before : List Action) (c : Core) (started : List ℕ) (word : ℕ) (kind : EventKind) (link : LinkState) → Between before c started → is_bad c kind ≡ false → IsNewsKind c.timers kind → news_of c.timers c.sources c.single.link kind ≡ overdue
@@ -278,55 +285,27 @@ pub wanting_overdue : (before : List Action) (c : Core) (started : List ℕ) (wo
     → HasApplied (before ++ turn_of c word kind ∷ []) (with_work (record { core = turned c kind; acts = [] }) (overdue_at (record { conn = c.single.connection; acts = [] }) (Wanting link))) started
 wanting_overdue before c started word kind link h good k is e =
     let x = error.Io kinds.TimedOut in
-    setup_failed before c started word kind overdue x h good k is (wanting_unset before c started link h e) (wanting_fails before c started overdue x link h e refl)
+    setup_failed before c started word kind overdue x h good k is (wanting_unready (book before) (inner c started) link e h.sound.tied) (wanting_fails before c started overdue x link h e refl)
 
--- news that there are no credentials, and the error by which an opening that waits for them fails then
-pub record IsDenial (n : News) (x : RedisError) : Type 0 where
-  pub plain : IsPlain n
-  pub of_another : IsOfAnother n
-  pub ready : (l : Ledger) → ending_up l n ≡ None
-  pub unready : (l : Ledger) → ending_unready l n ≡ (if lacks_credentials l then Some (by_opening x) else None)
+-- there are none, as its source says
+pub denied_fails : (before : List Action) (c : Core) (started : List ℕ) (word : ℕ) (kind : EventKind) (text : List ℕ) (link : LinkState) → Between before c started → is_bad c kind ≡ false → IsNewsKind c.timers kind
+    → news_of c.timers c.sources c.single.link kind ≡ denied text → c.single.connection.life ≡ Wanting link
+    → HasApplied (before ++ turn_of c word kind ∷ []) (with_work (record { core = turned c kind; acts = [] }) (unauthorized_at (record { conn = c.single.connection; acts = [] }) (error.Credentials text) (Wanting link))) started
+denied_fails before c started word kind text link h good k is e =
+    let l = (book before).link c.single.link in
+    let s = wanting_tied (book before) (inner c started) link e h.sound.tied in
+    setup_failed before c started word kind (denied text) (error.Credentials text) h good k is (wanting_unready (book before) (inner c started) link e h.sound.tied)
+    (wanting_fails before c started (denied text) (error.Credentials text) link h e (taken_if (lacks_credentials l) (Some (by_opening (error.Credentials text))) None s.lacks))
 
--- so it is where their source says it
-pub denied_is : (text : List ℕ) → IsDenial (denied text) (error.Credentials text)
-denied_is text = record { plain = tt; of_another = tt; ready = λ l. refl; unready = λ l. refl }
-
--- and where it has ended
-pub deserted_is : IsDenial deserted (error.AuthFailed [])
-deserted_is = record { plain = tt; of_another = tt; ready = λ l. refl; unready = λ l. refl }
-
--- there are no credentials
-pub unauthorized_applied : (before : List Action) (c : Core) (started : List ℕ) (word : ℕ) (kind : EventKind) (n : News) (x : RedisError) → IsDenial n x → Between before c started → is_bad c kind ≡ false → IsNewsKind c.timers kind → news_of c.timers c.sources c.single.link kind ≡ n
-    → HasApplied (before ++ turn_of c word kind ∷ []) (with_work (record { core = turned c kind; acts = [] }) (unauthorized_at (record { conn = c.single.connection; acts = [] }) x c.single.connection.life)) started
-unauthorized_applied before c started word kind n x d h good k is = by_life c.single.connection.life refl
-  where
-    b : Book
-    b = book before
-
-    l : Ledger
-    l = b.link c.single.link
-
-    -- once they have come, or where none are wanted
-    quiet : l.up ≡ true → HasCredentials l.creds → HasApplied (before ++ turn_of c word kind ∷ []) (with_work (record { core = turned c kind; acts = [] }) (record { conn = c.single.connection; acts = [] })) started
-    quiet up has =
-        let stays = plain_stays b c n d.plain in
-        let after = record l { heard = n } in
-        quiet_applied before c started word kind n c.single.connection.life h good k is (leads_still before c started n h stays)
-        (ap ending stays ∙ mild_up l l.taken l.offer n (d.ready after, d.unready after ∙ left_if (lacks_credentials l) (Some (by_opening x)) None (has_credentials l.creds has)) (still_none before c started h c.single.link) up) h.fit
-
-    sought : (y : Life) → c.single.connection.life ≡ y → AreSought l.creds y
-    sought y e = subst (λ (z : Life). AreSought l.creds z) e h.sound.tied.creds.sought
-
-    by_life : (y : Life) → c.single.connection.life ≡ y → HasApplied (before ++ turn_of c word kind ∷ []) (with_work (record { core = turned c kind; acts = [] }) (unauthorized_at (record { conn = c.single.connection; acts = [] }) x y)) started
-    by_life Dialing e = dialing_quiet before c started word kind n d.of_another h good k is e
-    by_life (Ended z) e = ended_quiet before c started word kind n z h good k is e
-    by_life (Wanting link) e =
-        let s = wanting_tied b (inner c started) link e h.sound.tied in
-        setup_failed before c started word kind n x h good k is (wanting_unset before c started link h e)
-        (subst (λ (y : Ledger). Fails y c.single.connection.info c.single.connection.wants (is_heard b) c.single.connection.hears x) (sym (plain_stays b c n d.plain))
-        (wanting_fails before c started n x link h e (d.unready (record l { heard = n }) ∙ taken_if (lacks_credentials l) (Some (by_opening x)) None s.lacks)))
-    by_life (SettingUp link with_user) e = quiet (setting_tied b (inner c started) link with_user e h.sound.tied).up (sought (SettingUp link with_user) e)
-    by_life (Ready link) e = quiet (up_tied b (inner c started) link e h.sound.tied).up (sought (Ready link) e)
+-- or since it has ended
+pub deserted_fails : (before : List Action) (c : Core) (started : List ℕ) (word : ℕ) (kind : EventKind) (link : LinkState) → Between before c started → is_bad c kind ≡ false → IsNewsKind c.timers kind → news_of c.timers c.sources c.single.link kind ≡ deserted
+    → c.single.connection.life ≡ Wanting link
+    → HasApplied (before ++ turn_of c word kind ∷ []) (with_work (record { core = turned c kind; acts = [] }) (unauthorized_at (record { conn = c.single.connection; acts = [] }) (error.AuthFailed []) (Wanting link))) started
+deserted_fails before c started word kind link h good k is e =
+    let l = (book before).link c.single.link in
+    let s = wanting_tied (book before) (inner c started) link e h.sound.tied in
+    setup_failed before c started word kind deserted (error.AuthFailed []) h good k is (wanting_unready (book before) (inner c started) link e h.sound.tied)
+    (wanting_fails before c started deserted (error.AuthFailed []) link h e (taken_if (lacks_credentials l) (Some (by_opening (error.AuthFailed []))) None s.lacks))
 
 -- everything is shut down
 pub shut_applied : (before : List Action) (c : Core) (started : List ℕ) (word : ℕ) (kind : EventKind) → Between before c started → is_bad c kind ≡ false → IsNewsKind c.timers kind → news_of c.timers c.sources c.single.link kind ≡ shut

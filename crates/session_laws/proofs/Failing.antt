@@ -24,12 +24,12 @@ use Rattle.legal_trace.specs.Ledger.{Ledger, by_opening, ends, noted, noted_each
 use Rattle.legal_trace.specs.Story.{Story, bytes_of, is_open, last_of}
 use Rattle.legal_trace.specs.Book.{Book, blank_book, book, entered, if_mine}
 use Rattle.legal_trace.specs.Owed.{owed_to_try, owed_unstarted, unstarted_error}
-use Rattle.legal_trace.specs.Legal.{AllStand, FailuresAreShown, MayClose, MayFail, NoneEnds, VerdictsAreShown, is_heard}
+use Rattle.legal_trace.specs.Legal.{AllStand, FailuresAreShown, MayClose, MayFail, NoneEnds, ReadyIsShown, VerdictsAreShown, is_heard}
 use Rattle.session_laws.proofs.Numbers.{IsIn}
-use Rattle.session_laws.proofs.Creds.{down_sourced, sources_asked}
-use Rattle.session_laws.proofs.Tied.{AreSetups, inner, link_in, no_link, TiedLines, Tied}
+use Rattle.session_laws.proofs.Tied.{AreSetups, IsUnknown, inner, link_in, no_link, TiedLines, Tied}
 use Rattle.session_laws.proofs.States.{Between, HasApplied}
 use Rattle.session_laws.proofs.Entered.{all_stand-append, shown_more}
+use Rattle.session_laws.proofs.Creds.{down_sourced, sources_asked}
 use Rattle.session_laws.proofs.Names.{get_some, name_of_some, open_within}
 use Rattle.session_laws.proofs.Owes.{in_time, not_empty, open_request, request_story, get_behind}
 use Rattle.session_laws.proofs.Kept.{mine_noted, others_kept}
@@ -80,7 +80,7 @@ failing_applied before f w e started began none_moved h =
 -- a link that is closed before it is set up
 --
 -- no message of a request has started, so none is owed anything
-unstarted_owed : (b now : Book) (c : Core) (started : List ℕ) → Tied b (inner c started) → started ≡ [] → ((n : ℕ) → now.story n ≡ b.story n) → (now.link c.single.link).end ≡ None → VerdictsAreShown now
+pub unstarted_owed : (b now : Book) (c : Core) (started : List ℕ) → Tied b (inner c started) → started ≡ [] → ((n : ℕ) → now.story n ≡ b.story n) → (now.link c.single.link).end ≡ None → VerdictsAreShown now
 unstarted_owed b now c started h none same alive n asked on =
     let t = inner c started in
     let r = open_request b t n h (ap is_open (sym (same n)) ∙ asked) in
@@ -97,28 +97,34 @@ unstarted_owed b now c started h none same alive n asked on =
     left_if (now.story n).late _ _ early ∙ left_if (now.story n).unspoken _ _ spoken ∙ left_if (length (bytes_of (now.story n)) == 0) _ _ (not_empty (bytes_of (now.story n)) some) ∙ left_if (now.story n).overdue _ (owed_to_try now (now.story n) (last_of (now.story n).tries)) punctual
     ∙ ap (λ ts. owed_to_try now (now.story n) (last_of ts)) untried ∙ ap (λ m. owed_unstarted (now.link m).end) (ap (λ (x : Story). x.link) is ∙ q.on) ∙ ap owed_unstarted alive
 
--- a link that isn't set up carries no message of a request, none has started, and no creation was shown
-pub record IsUnset (b : Book) (c : Core) (started : List ℕ) : Type 0 where
-  pub bare : link_in c.single.connection.life ≡ no_link
-  pub none : started ≡ []
-  pub unshown : b.created ≡ 0
+-- a link that isn't set up isn't ready, nor is any other
+pub unready_shown : (now : Book) (link : ℕ) (l : Ledger) → now.link link ≡ l → ((m : ℕ) → m ≢ link → IsUnknown (now.link m)) → is_set_up l ≡ false → ReadyIsShown now
+unready_shown now link l own others unready m ready = by_test (m == link) _
+    (λ same. absurd (not_both (is_set_up l) unready (ap is_set_up (sym own) ∙ both_right (now.link link).up (is_set_up (now.link link)) (subst (λ i. is_ready (now.link i) ≡ true) (eq_from m link same) ready))))
+    (λ other. absurd (not_both (now.link m).up (others m (ne_from m link other)).up (both_left (now.link m).up (is_set_up (now.link m)) ready)))
 
 -- a link that isn't set up, and whose opening fails with this error
 pub record Fails (l : Ledger) (info : RedisConnectionInfo) (wants heard mine : Bool) (x : RedisError) : Type 0 where
   pub alive : l.end ≡ None
   pub unready : is_set_up l ≡ false
   pub must : ending l ≡ Some (by_opening x)
+  pub info_is : l.info ≡ info
   pub wanted_is : l.creds.wanted ≡ wants
   pub sourced : source_due l ≡ false
-  pub info_is : l.info ≡ info
   pub sent : AreSetups l
   pub pushes : PushesOf heard mine l
 
+-- a connection whose link is up and not set up, so that no message of a request has started
+pub record IsUnready (created : ℕ) (life : Life) (started : List ℕ) : Type 0 where
+  pub bare : link_in life ≡ no_link
+  pub none : started ≡ []
+  pub unshown : created ≡ 0
+
 -- it is closed, and its opening has failed
 pub setup_fails : (before : List Action) (c : Core) (started : List ℕ) (word : ℕ) (kind : EventKind) (n : News) (x : RedisError) → Between before c started → is_bad c kind ≡ false → IsNewsKind c.timers kind → news_of c.timers c.sources c.single.link kind ≡ n
-    → IsUnset (book before) c started → Fails (heard_by (book before) c n) c.single.connection.info c.single.connection.wants (is_heard (book before)) c.single.connection.hears x
+    → IsUnready (book before).created c.single.connection.life started → Fails (heard_by (book before) c n) c.single.connection.info c.single.connection.wants (is_heard (book before)) c.single.connection.hears x
     → IsFailing (trace_of_acts (before ++ turn_of c word kind ∷ []) (turned c kind) (act.Close ∷ [])) (turned c kind) (act.Close ∷ []) c.single.connection x started
-setup_fails before c started word kind n x h good k is unset fails =
+setup_fails before c started word kind n x h good k is u fails =
     let b = book before in
     let h0 = h.sound.tied in
     let conn = c.single.connection in
@@ -142,7 +148,7 @@ setup_fails before c started word kind n x h good k is unset fails =
       creds = record { wanted_is = fails.wanted_is; sought = tt };
       said = record { info_is = fails.info_is; sent = fails.sent; said = tt };
       linked = λ z. cc;
-      lines = subst (λ (y : LinkState). TiedLines b.story conn.requests y conn.waiting conn.admitted [] started) unset.bare h0.lines;
+      lines = subst (λ (y : LinkState). TiedLines b.story conn.requests y conn.waiting conn.admitted [] started) u.bare h0.lines;
       told = λ z. cc;
       waits = ended_waits b.story conn.requests conn.life x conn.fresh conn.moved h0.waits;
       pushes = record {
@@ -163,10 +169,8 @@ setup_fails before c started word kind n x h good k is unset fails =
       why = by_opening x;
       ends = ap ending own ∙ fails.must;
       in_order = λ m less. unknown_ends (now.link m) (others m (λ same. omega arith));
-      answered = unstarted_owed b now c started h0 unset.none (λ m. refl) (ap (λ (y : Ledger). y.end) own ∙ fails.alive);
-      created = λ m ready. by_test (m == c.single.link) _
-          (λ same. absurd (not_both (is_set_up l) fails.unready (ap is_set_up (sym own) ∙ both_right (now.link c.single.link).up (is_set_up (now.link c.single.link)) (subst (λ i. is_ready (now.link i) ≡ true) (eq_from m c.single.link same) ready))))
-          (λ other. absurd (not_both (now.link m).up (others m (ne_from m c.single.link other)).up (both_left (now.link m).up (is_set_up (now.link m)) ready)));
+      answered = unstarted_owed b now c started h0 u.none (λ m. refl) (ap (λ (y : Ledger). y.end) own ∙ fails.alive);
+      created = unready_shown now c.single.link l own others fails.unready;
       sourced = λ m. by_test (m == c.single.link) _
           (λ same. subst (λ i. source_due (now.link i) ≡ false) (sym (eq_from m c.single.link same)) (ap source_due own ∙ fails.sourced))
           (λ other. down_sourced (now.link m) (others m (ne_from m c.single.link other)).up);
@@ -177,14 +181,14 @@ setup_fails before c started word kind n x h good k is unset fails =
     record {
       stands = subst (AllStand blank_book) (sym shown) (all_stand-append (trace_of_acts front f []) (close ∷ []) all (subst (λ (y : Book). MayClose y c.single.link) (sym first) may, tt));
       fails = ap (λ (y : Book). failure_in (y.link c.single.link).end) book_is ∙ ap (λ (y : Ledger). failure_in y.end) closed ∙ ap (λ w. failure_of (ending_or_shutdown w)) fails.must;
-      unshown = ap (λ (y : Book). y.created) book_is ∙ unset.unshown;
+      unshown = ap (λ (y : Book). y.created) book_is ∙ u.unshown;
       tied = subst (λ (y : Book). Tied (entered y (action.Created (Some x))) t) (sym book_is) tied;
     }
 
 -- so the event has had its effect
 pub setup_failed : (before : List Action) (c : Core) (started : List ℕ) (word : ℕ) (kind : EventKind) (n : News) (x : RedisError) → Between before c started → is_bad c kind ≡ false → IsNewsKind c.timers kind → news_of c.timers c.sources c.single.link kind ≡ n
-    → IsUnset (book before) c started → Fails (heard_by (book before) c n) c.single.connection.info c.single.connection.wants (is_heard (book before)) c.single.connection.hears x
+    → IsUnready (book before).created c.single.connection.life started → Fails (heard_by (book before) c n) c.single.connection.info c.single.connection.wants (is_heard (book before)) c.single.connection.hears x
     → HasApplied (before ++ turn_of c word kind ∷ []) (with_work (record { core = turned c kind; acts = [] }) (opening_failed (record { conn = c.single.connection; acts = act.Close ∷ [] }) x)) started
-setup_failed before c started word kind n x h good k is unset fails =
+setup_failed before c started word kind n x h good k is u fails =
     failing_applied (before ++ turn_of c word kind ∷ []) (turned c kind) (record { conn = c.single.connection; acts = act.Close ∷ [] }) x started (λ z. absurd (omega arith)) h.moved
-    (setup_fails before c started word kind n x h good k is unset fails)
+    (setup_fails before c started word kind n x h good k is u fails)
