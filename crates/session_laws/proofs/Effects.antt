@@ -2,7 +2,6 @@
 use Rattle.std.proofs.Common.{ap, length, slice_get, Option, Some, ◌<◌, ◌≡◌, ℕ, ◌==◌, ◌&&◌, false, List, [], ◌∷◌, ◌++◌, refl, sym, ◌∙◌, subst}
 use Rattle.containers.proofs.Choices.{or_left, or_right, eq_test, not_le_from, not_lt_from}
 use Rattle.driver_model.specs.declared.action.Action.{Action}
-use Rattle.redis_error.specs.declared.redis_error.RedisError.TheVariants as error
 use Rattle.driver_model.specs.declared.event.EventKind.{EventKind}
 use Rattle.driver_model.specs.declared.event.EventKind.TheVariants as event
 use Rattle.driver_model.specs.declared.news.LinkFault.TheVariants as fault
@@ -17,7 +16,8 @@ use Rattle.session_laws.proofs.Announce.{turn_of, turned, own_news, own_source, 
 use Rattle.session_laws.proofs.Connect.{authorized_applied, connected_applied, refused_applied, overdue_applied}
 use Rattle.session_laws.proofs.Took.{took_applied}
 use Rattle.session_laws.proofs.Read.{read_applied}
-use Rattle.session_laws.proofs.End.{denied_is, deserted_is, failed_applied, shut_applied, unauthorized_applied}
+use Rattle.session_laws.proofs.Denied.{unauthorized_applied}
+use Rattle.session_laws.proofs.End.{failed_applied, shut_applied}
 use Rattle.session_laws.proofs.Cancel.{cancel_applied}
 use Rattle.session_laws.proofs.Late.{late_applied, time_applied}
 use Rattle.session_laws.proofs.Names.{get_some}
@@ -81,12 +81,12 @@ effect_holds before c started word (event.CredsError s text) h good =
     let g = get_some c.sources s (not_le_from (length c.sources) s good) in
     let own = own_source c s g.0 (denied text) h.sound.tied.numbers.uses g.1 in
     by_news before c started word (event.CredsError s text) (news_of c.timers c.sources c.single.link (event.CredsError s text)) (denied text) own
-    (unauthorized_applied before c started word (event.CredsError s text) (denied text) (error.Credentials text) (denied_is text) h good tt own)
+    (unauthorized_applied before c started word (event.CredsError s text) (denied text) tt h good tt own)
 effect_holds before c started word (event.CredsEnd s) h good =
     let g = get_some c.sources s (not_le_from (length c.sources) s good) in
     let own = own_source c s g.0 deserted h.sound.tied.numbers.uses g.1 in
     by_news before c started word (event.CredsEnd s) (news_of c.timers c.sources c.single.link (event.CredsEnd s)) deserted own
-    (unauthorized_applied before c started word (event.CredsEnd s) deserted (error.AuthFailed []) deserted_is h good tt own)
+    (unauthorized_applied before c started word (event.CredsEnd s) deserted tt h good tt own)
 effect_holds before c started word (event.Timeout ms) h good = time_applied before c started word ms h good
 effect_holds before c started word (event.Wrote l count) h good =
     let here = or_left (is_no_link c l) _ good in

@@ -29,6 +29,7 @@ pub mod Announce
 pub mod Heard
 pub mod Failing
 pub mod End
+pub mod Denied
 pub mod Connect
 pub mod Took
 pub mod ReadSetup
