@@ -33,6 +33,7 @@ pub mod Denied
 pub mod Connect
 pub mod Took
 pub mod ReadSetup
+pub mod ReadWanting
 pub mod Read
 pub mod Cancel
 pub mod Late
