@@ -13,7 +13,8 @@ use Rattle.shared_session.specs.declared.core_state.Core.{Core}
 use Rattle.shared_session.specs.Turn.{with_work, heard, fired_by, late_by, effect, counted, is_no_link, exceeds_offer, is_bad}
 use Rattle.session_laws.proofs.States.{Between, HasApplied}
 use Rattle.session_laws.proofs.Announce.{turn_of, turned, own_news, own_source, own_timer}
-use Rattle.session_laws.proofs.Connect.{authorized_applied, connected_applied, refused_applied, overdue_applied}
+use Rattle.session_laws.proofs.Connect.{connected_applied, refused_applied, overdue_applied}
+use Rattle.session_laws.proofs.Given.{authorized_applied}
 use Rattle.session_laws.proofs.Took.{took_applied}
 use Rattle.session_laws.proofs.Read.{read_applied}
 use Rattle.session_laws.proofs.Denied.{unauthorized_applied}

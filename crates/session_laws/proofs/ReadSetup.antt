@@ -63,7 +63,9 @@ use Rattle.session_laws.proofs.Heard.{heard_by, quiet_applied, setting_fit, sett
 use Rattle.session_laws.proofs.Failing.{Fails, setup_failed}
 use Rattle.session_laws.proofs.End.{IsSetting, fault_ends, setting_tied, setting_unready}
 use Rattle.session_laws.proofs.Creds.{has_credentials, has_sourced}
-use Rattle.session_laws.proofs.Connect.{IsMade, makes_ready}
+use Rattle.session_laws.proofs.ComeUp.{IsEarly, IsMade, makes_ready}
+use Rattle.driver_model.specs.declared.action.WaitKind.TheVariants as wait
+use Rattle.mux_conn.specs.Turn.{early_wait}
 use Rattle.legal_trace.specs.Legal.{is_heard}
 use Rattle.session_laws.proofs.Told.{retells, well_told}
 use Rattle.session_laws.proofs.Telling.{IsHeard, IsTelling, telling, told_holds, told_leaves}
@@ -586,9 +588,10 @@ setup_read before c started word kind piece link with_user h good k is e = by_ou
         let said : IsSetUp after = record { well = well; none = λ t. absurd (not_both (says_nothing (setup_steps l 0)) s.said.says t) } in
         let owned = named_tied name (owner_of c.single.connection.requests) after read (subst (SameNames name (owner_of c.single.connection.requests)) (sym a.row) tt) tied in
         let made : IsMade after b.created c.single.connection.requests read = record { asked = s.asked; up = s.up; alive = s.alive; unshown = s.unshown; said = said; tied = owned; queue = a.queue; row = a.row } in
-        let facts = subst (λ (y : Ledger). (y.info ≡ info) × AreSetups y × IsMade y b.created c.single.connection.requests read × TiedPushes (is_heard b) c.single.connection.hears y.pushes y.told y.end y.parted untold false) (sym same)
-        (h.sound.tied.setup.info_is, h.sound.tied.setup.sent, made, heard_pushes l piece (is_heard b) c.single.connection.hears untold came_so h.sound.tied.pushes) in
-        let shown = makes_ready before c started word kind (came piece) read untold h good k is (ap link_in e) (ap is_ready e) (ap has_ended e) facts in
+        let facts = subst (λ (y : Ledger). (y.info ≡ info) × AreSetups y × TiedCreds y.creds c.single.connection.wants (Ready read) × IsMade y b.created c.single.connection.requests read × TiedPushes (is_heard b) c.single.connection.hears y.pushes y.told y.end y.parted untold false) (sym same)
+        (h.sound.tied.setup.info_is, h.sound.tied.setup.sent, record { wanted_is = h.sound.tied.creds.wanted_is; sought = s.has }, made, heard_pushes l piece (is_heard b) c.single.connection.hears untold came_so h.sound.tied.pushes) in
+        let early : IsEarly c.single.connection.life wait.Permit = record { bare = ap link_in e; unready = ap is_ready e; alive = ap has_ended e; other = subst (λ (y : Life). early_wait y ≢ wait.Permit) (sym e) (λ no. cc) } in
+        let shown = makes_ready before c started word kind (came piece) info read untold h good k is early facts in
         let now = book (trace_of_acts front f v.acts) in
         let line = in_line now (record (seen f v.acts v.conn [] started) { untold = untold }) shown.holds.tied refl in
         let begins = subst (λ (y : Ledger). IsTelling front f y (owed now) (name_at v.conn.requests) (is_open_at v.conn.requests) v untold [] started) (shown.ledger ∙ same) (telling front f v untold [] started shown.holds line) in
