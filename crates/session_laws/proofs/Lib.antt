@@ -29,7 +29,9 @@ pub mod Announce
 pub mod Heard
 pub mod Failing
 pub mod End
+pub mod ComeUp
 pub mod Connect
+pub mod Given
 pub mod Took
 pub mod ReadSetup
 pub mod Read
