@@ -34,6 +34,7 @@ pub mod Connect
 pub mod Given
 pub mod Took
 pub mod ReadSetup
+pub mod ReadWanting
 pub mod Read
 pub mod Cancel
 pub mod Late
