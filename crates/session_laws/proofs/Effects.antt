@@ -5,19 +5,18 @@ use Rattle.driver_model.specs.declared.action.Action.{Action}
 use Rattle.driver_model.specs.declared.event.EventKind.{EventKind}
 use Rattle.driver_model.specs.declared.event.EventKind.TheVariants as event
 use Rattle.driver_model.specs.declared.news.LinkFault.TheVariants as fault
-use Rattle.driver_model.specs.News.{News, authorized, connected, denied, deserted, took, came, failed, news_of, of_timer, refused, overdue, silence}
+use Rattle.driver_model.specs.News.{News, connected, took, came, failed, authorized, denied, deserted, news_of, of_timer, refused, overdue, silence}
 use Rattle.mux_conn.specs.declared.life.Life.{Life}
-use Rattle.mux_conn.specs.declared.life.Life.TheVariants.{Dialing, Ready, Ended, Wanting, SettingUp}
+use Rattle.mux_conn.specs.declared.life.Life.TheVariants.{Dialing, Ready, Ended, SettingUp, Wanting}
 use Rattle.mux_conn.specs.Effects.{CanTake, applied}
 use Rattle.shared_session.specs.declared.core_state.Core.{Core}
 use Rattle.shared_session.specs.Turn.{with_work, heard, fired_by, late_by, effect, counted, is_no_link, exceeds_offer, is_bad}
 use Rattle.session_laws.proofs.States.{Between, HasApplied}
 use Rattle.session_laws.proofs.Announce.{turn_of, turned, own_news, own_source, own_timer}
 use Rattle.session_laws.proofs.Connect.{connected_applied, refused_applied, overdue_applied}
-use Rattle.session_laws.proofs.Given.{authorized_applied}
+use Rattle.session_laws.proofs.Given.{authorized_applied, denied_applied, deserted_applied}
 use Rattle.session_laws.proofs.Took.{took_applied}
 use Rattle.session_laws.proofs.Read.{read_applied}
-use Rattle.session_laws.proofs.Denied.{unauthorized_applied}
 use Rattle.session_laws.proofs.End.{failed_applied, shut_applied}
 use Rattle.session_laws.proofs.Cancel.{cancel_applied}
 use Rattle.session_laws.proofs.Late.{late_applied, time_applied}
@@ -74,20 +73,6 @@ effect_holds before c started word (event.Refused l f) h good =
 effect_holds before c started word (event.Fired n) h good =
     let g = get_some c.timers n (not_le_from (length c.timers) n good) in
     subst (λ (x : Option Purpose). HasApplied (before ++ turn_of c word (event.Fired n) ∷ []) (fired_by (heard (counted c) (event.Fired n)) x) started) (sym g.1) (fired before c started word n g.0 h good g.1)
-effect_holds before c started word (event.Creds s who) h good =
-    let g = get_some c.sources s (not_le_from (length c.sources) s good) in
-    let own = own_source c s g.0 (authorized who) h.sound.tied.numbers.uses g.1 in
-    by_news before c started word (event.Creds s who) (news_of c.timers c.sources c.single.link (event.Creds s who)) (authorized who) own (authorized_applied before c started word (event.Creds s who) who h good tt own)
-effect_holds before c started word (event.CredsError s text) h good =
-    let g = get_some c.sources s (not_le_from (length c.sources) s good) in
-    let own = own_source c s g.0 (denied text) h.sound.tied.numbers.uses g.1 in
-    by_news before c started word (event.CredsError s text) (news_of c.timers c.sources c.single.link (event.CredsError s text)) (denied text) own
-    (unauthorized_applied before c started word (event.CredsError s text) (denied text) tt h good tt own)
-effect_holds before c started word (event.CredsEnd s) h good =
-    let g = get_some c.sources s (not_le_from (length c.sources) s good) in
-    let own = own_source c s g.0 deserted h.sound.tied.numbers.uses g.1 in
-    by_news before c started word (event.CredsEnd s) (news_of c.timers c.sources c.single.link (event.CredsEnd s)) deserted own
-    (unauthorized_applied before c started word (event.CredsEnd s) deserted tt h good tt own)
 effect_holds before c started word (event.Timeout ms) h good = time_applied before c started word ms h good
 effect_holds before c started word (event.Wrote l count) h good =
     let here = or_left (is_no_link c l) _ good in
@@ -107,4 +92,16 @@ effect_holds before c started word (event.ReadFault l kind) h good =
 effect_holds before c started word (event.WriteFault l kind) h good =
     let own = own_news c l (failed (fault.Io kind)) h.sound.tied.numbers.only good in
     by_news before c started word (event.WriteFault l kind) (news_of c.timers c.sources c.single.link (event.WriteFault l kind)) (failed (fault.Io kind)) own (failed_applied before c started word (event.WriteFault l kind) (fault.Io kind) h good tt own)
+effect_holds before c started word (event.Creds n auth) h good =
+    let g = get_some c.sources n (not_le_from (length c.sources) n good) in
+    let own = own_source c n g.0 (authorized auth) h.sound.tied.numbers.uses g.1 in
+    by_news before c started word (event.Creds n auth) (news_of c.timers c.sources c.single.link (event.Creds n auth)) (authorized auth) own (authorized_applied before c started word (event.Creds n auth) auth h good tt own)
+effect_holds before c started word (event.CredsError n text) h good =
+    let g = get_some c.sources n (not_le_from (length c.sources) n good) in
+    let own = own_source c n g.0 (denied text) h.sound.tied.numbers.uses g.1 in
+    by_news before c started word (event.CredsError n text) (news_of c.timers c.sources c.single.link (event.CredsError n text)) (denied text) own (denied_applied before c started word (event.CredsError n text) text h good tt own)
+effect_holds before c started word (event.CredsEnd n) h good =
+    let g = get_some c.sources n (not_le_from (length c.sources) n good) in
+    let own = own_source c n g.0 deserted h.sound.tied.numbers.uses g.1 in
+    by_news before c started word (event.CredsEnd n) (news_of c.timers c.sources c.single.link (event.CredsEnd n)) deserted own (deserted_applied before c started word (event.CredsEnd n) h good tt own)
 effect_holds before c started word event.Shutdown h good = shut_applied before c started word event.Shutdown h good tt refl

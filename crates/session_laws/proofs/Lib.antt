@@ -29,8 +29,9 @@ pub mod Announce
 pub mod Heard
 pub mod Failing
 pub mod End
-pub mod Denied
+pub mod ComeUp
 pub mod Connect
+pub mod Given
 pub mod Took
 pub mod ReadSetup
 pub mod ReadWanting

@@ -125,7 +125,8 @@ read_begins before c started word kind piece link untold h good k is e came_so =
     let said = subst (λ (x : Life). TiedSetup l conn.info started x) e h0.setup in
     let same : noted l (hears c.turns (news_of b.timers b.sources c.single.link kind)) ≡ has_heard l piece = ap (λ (x : News). heard_by b c x) (book_news b c started kind (came piece) h0 is) ∙ heard_is l c.turns piece u.up in
     let t = record (seen (turned c kind) [] (lives_as c life) ids started) { untold = untold } in
-    let tied : Tied (heard_book b c.turns word kind) t = heard_tied b c started word b.created kind conn.info life conn.fresh ids untold (has_heard l piece) h0 good same (record {
+    let tied : Tied (heard_book b c.turns word kind) t = heard_tied b c started word b.created kind conn.info life conn.fresh ids untold (has_heard l piece) h0 good same
+    (record {
       starts = refl;
       lived = (u.asked, u.up, u.alive, u.shown);
       creds = record { wanted_is = h0.creds.wanted_is; sought = u.has };

@@ -23,6 +23,7 @@ use Rattle.connection_setup.specs.Setup.{Step, choices, library, opening, select
 use Rattle.driver_model.specs.declared.action.Action.{Action}
 use Rattle.driver_model.specs.declared.action.Owner.{Owner}
 use Rattle.driver_model.specs.declared.action.Owner.TheVariants as owner
+use Rattle.driver_model.specs.declared.action.WaitKind.TheVariants as wait
 use Rattle.driver_model.specs.declared.event.EventKind.{EventKind}
 use Rattle.driver_model.specs.declared.news.LinkFault.TheVariants as fault
 use Rattle.driver_model.specs.declared.outcome.Shape.{Shape}
@@ -52,7 +53,7 @@ use Rattle.shared_session.specs.declared.core_state.Core.{Core}
 use Rattle.shared_session.specs.Turn.{with_work, is_bad}
 use Rattle.legal_trace.specs.Ledger.{Ledger, Start, by_fault, by_opening, cut, ending, is_full, is_set_up, is_well, lacks_credentials, last_result, reach, repeats, result_of, setup_after, setup_count, setup_result, setup_steps, Heard, heard_each}
 use Rattle.legal_trace.specs.Book.{Book, book}
-use Rattle.session_laws.proofs.Tied.{AreSetups, IsSettingUp, IsSetupDue, IsSetupSent, IsSetUp, AreQueued, TiedCreds, TiedLife, TiedLines, TiedSetup, TiedWaits, has_ended, inner, link_in, owner_of, owners_each, owners_of, setup_owners, TiedPushes}
+use Rattle.session_laws.proofs.Tied.{AreSetups, AreSought, IsSettingUp, IsSetupDue, IsSetupSent, IsSetUp, AreQueued, TiedCreds, TiedLife, TiedLines, TiedSetup, TiedWaits, has_ended, inner, link_in, owner_of, owners_each, owners_of, setup_owners, TiedPushes}
 use Rattle.session_laws.proofs.States.{IsFit, Between, HasApplied, IsFitIn}
 use Rattle.session_laws.proofs.SetUp.{count_length, not_set_up}
 use Rattle.legal_trace.proofs.Setups.{ends_where_set, setup_said, AreSetups as SetUpsAre}
@@ -62,10 +63,8 @@ use Rattle.session_laws.proofs.Announce.{turn_of, turned, IsNewsKind}
 use Rattle.session_laws.proofs.Heard.{heard_by, quiet_applied, setting_fit, setting_waits, none_ends}
 use Rattle.session_laws.proofs.Failing.{Fails, setup_failed}
 use Rattle.session_laws.proofs.End.{IsSetting, fault_ends, setting_tied, setting_unready}
-use Rattle.session_laws.proofs.Creds.{has_credentials, has_sourced}
 use Rattle.session_laws.proofs.ComeUp.{IsEarly, IsMade, makes_ready}
-use Rattle.driver_model.specs.declared.action.WaitKind.TheVariants as wait
-use Rattle.mux_conn.specs.Turn.{early_wait}
+use Rattle.session_laws.proofs.Creds.{has_credentials, has_sourced}
 use Rattle.legal_trace.specs.Legal.{is_heard}
 use Rattle.session_laws.proofs.Told.{retells, well_told}
 use Rattle.session_laws.proofs.Telling.{IsHeard, IsTelling, telling, told_holds, told_leaves}
@@ -405,9 +404,9 @@ reads_answered name l link with_user piece x xs h owners sents alive tied is = e
 ]
 
 -- what it comes to
-answered_result : (l : Ledger) (link : LinkState) (piece : List ℕ) (with_user : Bool) (x : Settled) (info : RedisConnectionInfo) → l.info ≡ info → lacks_credentials l ≡ false → says_nothing (setup_steps l 0) ≡ false → IsAnswered l link piece with_user x
+answered_result : (l : Ledger) (link : LinkState) (piece : List ℕ) (with_user : Bool) (x : Settled) (info : RedisConnectionInfo) → lacks_credentials l ≡ false → l.info ≡ info → says_nothing (setup_steps l 0) ≡ false → IsAnswered l link piece with_user x
     → setup_result (has_heard l piece) ≡ Some (judged_by (setup info with_user) x.verdict)
-answered_result l link piece with_user x info is given says h =
+answered_result l link piece with_user x info given is says h =
     let after = has_heard l piece in
     let replies = cut after h.k (setup_shape (setup_steps after h.k)) in
     setup_said after given
@@ -506,9 +505,11 @@ setup_read before c started word kind piece link with_user h good k is e = by_ou
     same : heard_by b c (came piece) ≡ after
     same = heard_is l c.turns piece s.up
 
-    -- it has its credentials
     given : lacks_credentials l ≡ false
     given = has_credentials l.creds s.has
+
+    creds : (life : Life) → AreSought after.creds life → TiedCreds after.creds c.single.connection.wants life
+    creds life sought = record { wanted_is = h.sound.tied.creds.wanted_is; sought = sought }
 
     owners : owners_of l.starts ≡ setup_owners (setup_count l.starts) []
     owners = h.sound.tied.tries.owners ∙ ap (λ ps. setup_owners (setup_count l.starts) (owners_each c.single.connection.requests ps)) s.none
@@ -555,7 +556,7 @@ setup_read before c started word kind piece link with_user h good k is e = by_ou
         quiet_applied before c started word kind (came piece) (SettingUp next user) h good k is
         (record {
           lived = subst (λ (y : Ledger). TiedLife y b.created (SettingUp next user)) (sym same) (s.asked, s.up, s.alive, s.unshown);
-          creds = subst (λ (y : Ledger). TiedCreds y.creds c.single.connection.wants (SettingUp next user)) (sym same) (record { wanted_is = h.sound.tied.creds.wanted_is; sought = s.has });
+          creds = subst (λ (y : Ledger). TiedCreds y.creds c.single.connection.wants (SettingUp next user)) (sym same) (creds (SettingUp next user) s.has);
           said = subst (λ (y : Ledger). TiedSetup y info started (SettingUp next user)) (sym same) (record { info_is = h.sound.tied.setup.info_is; sent = h.sound.tied.setup.sent; said = (s.none, said) });
           linked = λ z. subst (λ (y : Ledger). TiedLink name y next) (sym same) tied_next;
           lines = subst (λ (x : Life). TiedLines b.story c.single.connection.requests (link_in x) c.single.connection.waiting c.single.connection.admitted [] started) e h.sound.tied.lines;
@@ -585,12 +586,12 @@ setup_read before c started word kind piece link with_user h good k is e = by_ou
         let f = turned c kind in
         let still = told_leaves v 0 ps [] in
         let well : is_set_up after ≡ true = ap is_well r in
+        let early : IsEarly c.single.connection.life wait.Permit = subst (λ (y : Life). IsEarly y wait.Permit) (sym e) (record { bare = refl; unready = refl; alive = refl; other = λ one. cc }) in
         let said : IsSetUp after = record { well = well; none = λ t. absurd (not_both (says_nothing (setup_steps l 0)) s.said.says t) } in
         let owned = named_tied name (owner_of c.single.connection.requests) after read (subst (SameNames name (owner_of c.single.connection.requests)) (sym a.row) tt) tied in
         let made : IsMade after b.created c.single.connection.requests read = record { asked = s.asked; up = s.up; alive = s.alive; unshown = s.unshown; said = said; tied = owned; queue = a.queue; row = a.row } in
         let facts = subst (λ (y : Ledger). (y.info ≡ info) × AreSetups y × TiedCreds y.creds c.single.connection.wants (Ready read) × IsMade y b.created c.single.connection.requests read × TiedPushes (is_heard b) c.single.connection.hears y.pushes y.told y.end y.parted untold false) (sym same)
-        (h.sound.tied.setup.info_is, h.sound.tied.setup.sent, record { wanted_is = h.sound.tied.creds.wanted_is; sought = s.has }, made, heard_pushes l piece (is_heard b) c.single.connection.hears untold came_so h.sound.tied.pushes) in
-        let early : IsEarly c.single.connection.life wait.Permit = record { bare = ap link_in e; unready = ap is_ready e; alive = ap has_ended e; other = subst (λ (y : Life). early_wait y ≢ wait.Permit) (sym e) (λ no. cc) } in
+        (h.sound.tied.setup.info_is, h.sound.tied.setup.sent, creds (Ready read) s.has, made, heard_pushes l piece (is_heard b) c.single.connection.hears untold came_so h.sound.tied.pushes) in
         let shown = makes_ready before c started word kind (came piece) info read untold h good k is early facts in
         let now = book (trace_of_acts front f v.acts) in
         let line = in_line now (record (seen f v.acts v.conn [] started) { untold = untold }) shown.holds.tied refl in
@@ -670,4 +671,4 @@ setup_read before c started word kind piece link with_user h good k is e = by_ou
     by_out [] none = stays read with_user (reads_still name l link with_user piece s.said owners s.alive s.tied none) tied sound
     by_out (x ∷ xs) some =
         let a = reads_answered name l link with_user piece x xs s.said owners h.sound.tied.setup.sent s.alive s.tied some in
-        by_result x xs some a (judged_by (steps_of c.single.connection with_user) x.verdict) refl (answered_result l link piece with_user x info h.sound.tied.setup.info_is given s.said.says a)
+        by_result x xs some a (judged_by (steps_of c.single.connection with_user) x.verdict) refl (answered_result l link piece with_user x info given h.sound.tied.setup.info_is s.said.says a)

@@ -243,7 +243,7 @@ IsMild (took count) = Unit {0}
 IsMild _ = ⊥
 
 -- so a link that is up need not end then
-pub mild_up : (l : Ledger) (taken offer : List ℕ) (n : News) → (let m = record l { taken = taken; offer = offer; heard = n } in (ending_up m n ≡ None) × (ending_unready m n ≡ None)) → ending l ≡ None → l.up ≡ true → ending (record l { taken = taken; offer = offer; heard = n }) ≡ None
+mild_up : (l : Ledger) (taken offer : List ℕ) (n : News) → (let m = record l { taken = taken; offer = offer; heard = n } in (ending_up m n ≡ None) × (ending_unready m n ≡ None)) → ending l ≡ None → l.up ≡ true → ending (record l { taken = taken; offer = offer; heard = n }) ≡ None
 mild_up l taken offer n mild none up =
     let m = record l { taken = taken; offer = offer; heard = n } in
     let same = well_on l l.asked l.up l.end taken offer l.rest n in
