@@ -25,7 +25,7 @@ user_and_password = record { username = codes "u"; password = codes "p" }
 abbrev pub credentials_line : List ℕ
 credentials_line = codes "*3\r\n$4\r\nAUTH\r\n$1\r\nu\r\n$1\r\np\r\n"
 
--- a source that can give none, and the error of an opening that it fails
+-- what a source says that can give none, and the error of an opening that it fails
 abbrev pub no_credentials : List ℕ
 no_credentials = codes "no"
 
