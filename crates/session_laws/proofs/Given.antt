@@ -1,5 +1,5 @@
 -- Credentials come for the setup of the connection's link, or there are none.
-use Rattle.std.proofs.Common.{◌≡◌, ◌≢◌, inl, inr, ℕ, ◌+◌, ◌<◌, true, false, List, [], ◌∷◌, ◌++◌, None, Some, refl, sym, ap, ◌∙◌, subst, arith}
+use Rattle.std.proofs.Common.{◌≡◌, ◌≢◌, inr, ℕ, false, List, [], ◌∷◌, ◌++◌, None, Some, refl, sym, ap, ◌∙◌, subst, arith}
 use Rattle.containers.proofs.Choices.{left_if}
 use Rattle.redis_error.specs.declared.redis_error.RedisError.TheVariants as error
 use Rattle.connection_info.specs.declared.address.RedisConnectionInfo.{RedisConnectionInfo}
@@ -15,13 +15,13 @@ use Rattle.link_core.specs.Link.{LinkState}
 use Rattle.link_laws.proofs.TiedLink.{SameNames, TiedLink, authorized_tied, named_tied}
 use Rattle.mux_conn.specs.declared.life.Life.{Life}
 use Rattle.mux_conn.specs.declared.life.Life.TheVariants.{Dialing, Wanting, SettingUp, Ready, Ended}
-use Rattle.mux_conn.specs.Connection.{Work, is_ready}
+use Rattle.mux_conn.specs.Connection.{is_ready}
 use Rattle.mux_conn.specs.Effects.{authorized_at, come_up, unauthorized_at, with_credentials}
 use Rattle.mux_conn.specs.Turn.{early_wait}
 use Rattle.shared_session.specs.declared.core_state.Core.{Core}
 use Rattle.shared_session.specs.Turn.{with_work, is_bad}
 use Rattle.legal_trace.specs.Ledger.{Ledger, authorized_by, by_opening, ending, lacks_credentials, setup_count}
-use Rattle.legal_trace.specs.Book.{Book, book}
+use Rattle.legal_trace.specs.Book.{book}
 use Rattle.legal_trace.specs.Legal.{is_heard}
 use Rattle.session_laws.proofs.Tied.{AreSetups, has_ended, inner, link_in}
 use Rattle.session_laws.proofs.Creds.{awaited_is, has_credentials, none_awaited, unawaited_is, wanting_awaits}
