@@ -1,6 +1,6 @@
 -- A link comes up: it is ready, or what is said to its server first is to start.
 use Rattle.std.specs.List.{AllByRecursion}
-use Rattle.std.proofs.Common.{inl, inr, length, ◌==◌, ◌≡◌, ℕ, ◌+◌, Bool, true, false, ◌&&◌, ◌||◌, not, List, [], ◌∷◌, ◌++◌, Option, None, refl, sym, ap, ◌∙◌, subst, arith, if◌then◌else◌, ◌≢◌, Some}
+use Rattle.std.proofs.Common.{inl, inr, length, ◌==◌, ◌≡◌, ℕ, ◌+◌, true, false, ◌&&◌, ◌||◌, List, [], ◌∷◌, ◌++◌, Option, None, refl, sym, ap, ◌∙◌, subst, arith, ◌≢◌, Some}
 use Rattle.containers.proofs.Choices.{chosen, left_if, not_both}
 use Rattle.driver_model.specs.declared.action.Action.{Action}
 use Rattle.driver_model.specs.declared.action.Action.TheVariants as action
@@ -28,7 +28,7 @@ use Rattle.mux_conn.specs.declared.request.Request.{Request}
 use Rattle.mux_conn.specs.declared.request.Waiting.{Waiting}
 use Rattle.shared_session.specs.declared.core_state.Core.{Core}
 use Rattle.shared_session.specs.Turn.{with_work, is_bad}
-use Rattle.legal_trace.specs.Ledger.{Ledger, Heard, ending, ending_unready, ending_up, hears, is_ready as is_ready_link, lacks_credentials, noted, setup_after, setup_count, setup_steps}
+use Rattle.legal_trace.specs.Ledger.{Ledger, Heard, ending, ending_unready, ending_up, is_ready as is_ready_link, lacks_credentials, setup_after, setup_count, setup_steps}
 use Rattle.legal_trace.specs.Book.{Book, blank_book, book, entered}
 use Rattle.legal_trace.specs.Story.{Story}
 use Rattle.legal_trace.specs.Legal.{AllStand, MayBeCreated, is_heard}

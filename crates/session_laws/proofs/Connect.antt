@@ -1,5 +1,5 @@
 -- The opening of the connection's link ends: its connect succeeds, is refused, or isn't answered in time.
-use Rattle.std.proofs.Common.{inl, inr, length, ◌==◌, ◌≡◌, ℕ, ◌+◌, Bool, true, false, ◌&&◌, not, List, [], ◌∷◌, ◌++◌, None, is_some, refl, sym, ap, ◌∙◌, subst, arith, if◌then◌else◌, ◌≢◌, ◌-◌, Some}
+use Rattle.std.proofs.Common.{inl, length, ◌==◌, ◌≡◌, ℕ, ◌+◌, Bool, true, false, ◌&&◌, not, List, [], ◌∷◌, ◌++◌, None, is_some, refl, sym, ap, ◌∙◌, subst, arith, if◌then◌else◌, ◌≢◌, ◌-◌, Some}
 use Rattle.std.proofs.lemmas.List.{append-nil}
 use Rattle.containers.proofs.Choices.{chosen, taken_if, left_if}
 use Rattle.redis_error.specs.declared.fault_kind.FaultKind.{FaultKind}
@@ -23,13 +23,12 @@ use Rattle.mux_conn.specs.Effects.{come_up, comes_to_want, new_link, numbers_of,
 use Rattle.mux_conn.specs.Connection.{Work, is_ready}
 use Rattle.mux_conn.specs.Turn.{early_wait}
 use Rattle.mux_conn.specs.declared.act.LinkAct.TheVariants as act
-use Rattle.mux_conn.specs.declared.connection.MultiplexedConnection.{MultiplexedConnection}
 use Rattle.shared_session.specs.declared.core_state.Core.{Core}
 use Rattle.shared_session.specs.Turn.{with_work, is_bad}
 use Rattle.legal_trace.specs.Ledger.{Ledger, hears, lacks_credentials, noted, noted_each, ending, ending_alive, is_over, by_opening, ends, dials, refused_in, failure_in, failure_of, ending_or_shutdown, source_due, sources}
 use Rattle.legal_trace.specs.Book.{Book, blank_book, book, entered, if_mine}
 use Rattle.legal_trace.specs.Legal.{AllStand, MayNeed}
-use Rattle.session_laws.proofs.Tied.{AreQueued, AreSought, HasSaid, Inner, inner, no_link, link_in, carried, whole_link, owner_of, Tied, TiedLife, TiedLines, has_ended}
+use Rattle.session_laws.proofs.Tied.{AreQueued, AreSought, HasSaid, inner, no_link, link_in, carried, whole_link, owner_of, Tied, TiedLife, TiedLines, has_ended}
 use Rattle.session_laws.proofs.Creds.{down_sourced, lacking_undecided}
 use Rattle.session_laws.proofs.Said.{ending_wanting, ready_heard, setting_heard, setup_hears}
 use Rattle.session_laws.proofs.Failing.{IsFailing, failing_applied, unready_shown, unstarted_owed}

@@ -1,5 +1,5 @@
 -- Credentials of a link that come of a source: how far they have come, and that every source was asked for that is to be.
-use Rattle.std.proofs.Common.{◌≡◌, ◌≢◌, inl, inr, ℕ, ◌==◌, Bool, true, false, ◌&&◌, ◌||◌, not, List, [], ◌++◌, take, Option, None, Some, refl, sym, ap, ◌∙◌, subst}
+use Rattle.std.proofs.Common.{◌≡◌, inl, inr, ℕ, ◌==◌, Bool, true, false, ◌&&◌, ◌||◌, not, List, [], ◌++◌, take, None, Some, refl, sym, ap, ◌∙◌, subst}
 use Rattle.containers.proofs.Choices.{by_test, chosen, taken_if, left_if, eq_from, ne_from}
 use Rattle.redis_error.specs.declared.redis_error.RedisError.TheVariants as error
 use Rattle.driver_model.specs.Setup.{says_nothing}
@@ -12,7 +12,7 @@ use Rattle.legal_trace.specs.Ledger.{Ledger, Sourced, Start, hears, noted, autho
 use Rattle.legal_trace.specs.Book.{Book}
 use Rattle.legal_trace.specs.Legal.{SourcesAreAsked}
 use Rattle.legal_trace.proofs.Setups.{IsUndecided, setup_unsaid}
-use Rattle.session_laws.proofs.Tied.{AreSought, HasCredentials, Inner, Tied, TiedCreds, TiedLife}
+use Rattle.session_laws.proofs.Tied.{AreSought, HasCredentials, Inner, Tied, TiedLife}
 
 -- whether they are waited for
 --

@@ -1,6 +1,7 @@
 -- The event's own effect: each kind of event leaves the session tied to its book, and nothing due but what moves.
 use Rattle.std.proofs.Common.{ap, length, slice_get, Option, Some, ◌<◌, ◌≡◌, ℕ, ◌==◌, ◌&&◌, false, List, [], ◌∷◌, ◌++◌, refl, sym, ◌∙◌, subst}
 use Rattle.containers.proofs.Choices.{or_left, or_right, eq_test, not_le_from, not_lt_from}
+use Rattle.redis_error.specs.declared.redis_error.RedisError.TheVariants as error
 use Rattle.driver_model.specs.declared.action.Action.{Action}
 use Rattle.driver_model.specs.declared.event.EventKind.{EventKind}
 use Rattle.driver_model.specs.declared.event.EventKind.TheVariants as event
@@ -14,7 +15,7 @@ use Rattle.shared_session.specs.Turn.{with_work, heard, fired_by, late_by, effec
 use Rattle.session_laws.proofs.States.{Between, HasApplied}
 use Rattle.session_laws.proofs.Announce.{turn_of, turned, own_news, own_source, own_timer}
 use Rattle.session_laws.proofs.Connect.{connected_applied, refused_applied, overdue_applied}
-use Rattle.session_laws.proofs.Given.{authorized_applied, denied_applied, deserted_applied}
+use Rattle.session_laws.proofs.Given.{authorized_applied, denied_applied, end_denies, text_denies}
 use Rattle.session_laws.proofs.Took.{took_applied}
 use Rattle.session_laws.proofs.Read.{read_applied}
 use Rattle.session_laws.proofs.End.{failed_applied, shut_applied}
@@ -99,9 +100,9 @@ effect_holds before c started word (event.Creds n auth) h good =
 effect_holds before c started word (event.CredsError n text) h good =
     let g = get_some c.sources n (not_le_from (length c.sources) n good) in
     let own = own_source c n g.0 (denied text) h.sound.tied.numbers.uses g.1 in
-    by_news before c started word (event.CredsError n text) (news_of c.timers c.sources c.single.link (event.CredsError n text)) (denied text) own (denied_applied before c started word (event.CredsError n text) text h good tt own)
+    by_news before c started word (event.CredsError n text) (news_of c.timers c.sources c.single.link (event.CredsError n text)) (denied text) own (denied_applied before c started word (event.CredsError n text) (denied text) (error.Credentials text) (text_denies text) h good tt own)
 effect_holds before c started word (event.CredsEnd n) h good =
     let g = get_some c.sources n (not_le_from (length c.sources) n good) in
     let own = own_source c n g.0 deserted h.sound.tied.numbers.uses g.1 in
-    by_news before c started word (event.CredsEnd n) (news_of c.timers c.sources c.single.link (event.CredsEnd n)) deserted own (deserted_applied before c started word (event.CredsEnd n) h good tt own)
+    by_news before c started word (event.CredsEnd n) (news_of c.timers c.sources c.single.link (event.CredsEnd n)) deserted own (denied_applied before c started word (event.CredsEnd n) deserted (error.AuthFailed []) end_denies h good tt own)
 effect_holds before c started word event.Shutdown h good = shut_applied before c started word event.Shutdown h good tt refl

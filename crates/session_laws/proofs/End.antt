@@ -1,5 +1,5 @@
 -- A fault ends the connection's link, or the shutdown does.
-use Rattle.std.proofs.Common.{inl, inr, ◌≡◌, ◌≢◌, ℕ, ◌-◌, Bool, true, false, List, [], ◌∷◌, ◌++◌, Some, None, refl, sym, ap, ◌∙◌, subst, ◌&&◌, not, is_some, arith}
+use Rattle.std.proofs.Common.{if◌then◌else◌, inl, inr, ◌≡◌, ◌≢◌, ℕ, ◌-◌, Bool, true, false, List, [], ◌∷◌, ◌++◌, Some, None, refl, sym, ap, ◌∙◌, subst, ◌&&◌, not, is_some, arith}
 use Rattle.std.specs.List.{AllByRecursion}
 use Rattle.containers.proofs.Choices.{chosen, taken_if, left_if}
 use Rattle.redis_error.specs.declared.fault_kind.FaultKind.TheVariants as kinds
@@ -11,7 +11,7 @@ use Rattle.driver_model.specs.declared.action.Owner.TheVariants as owner
 use Rattle.driver_model.specs.declared.event.EventKind.{EventKind}
 use Rattle.driver_model.specs.declared.news.LinkFault.{LinkFault}
 use Rattle.driver_model.specs.declared.outcome.Verdict.TheVariants as verdict
-use Rattle.driver_model.specs.News.{News, silence, connected, took, came, failed, denied, deserted, shut, news_of, refused, overdue}
+use Rattle.driver_model.specs.News.{News, failed, denied, deserted, shut, news_of, overdue}
 use Rattle.link_core.specs.declared.message.Queued.{Queued}
 use Rattle.link_core.specs.declared.message.Settled.{Settled}
 use Rattle.link_core.specs.Ends.{failed_by, row_closed, row_hit, queue_closed}
@@ -27,7 +27,7 @@ use Rattle.mux_conn.specs.Connection.{Work}
 use Rattle.mux_conn.specs.Effects.{ended, ended_by, failed_at, overdue_at, shut_at, unauthorized_at}
 use Rattle.shared_session.specs.declared.core_state.Core.{Core}
 use Rattle.shared_session.specs.Turn.{with_work, is_bad}
-use Rattle.legal_trace.specs.Ledger.{Ledger, by_fault, by_opening, by_shutdown, ends, noted, ending, ending_alive, ending_unready, is_over, is_set_up, lacks_credentials}
+use Rattle.legal_trace.specs.Ledger.{Ledger, by_fault, by_opening, by_shutdown, ends, hears, noted, ending, ending_alive, ending_unready, ending_up, is_over, is_set_up, lacks_credentials}
 use Rattle.legal_trace.specs.Book.{Book, book}
 use Rattle.session_laws.proofs.Numbers.{IsIn}
 use Rattle.session_laws.proofs.Tied.{AreSought, HasCredentials, Inner, inner, link_in, no_link, carried, whole_link, owner_of, queue_ids, HasSaid, IsSettingUp, Tied, TiedLife, has_ended}
@@ -39,7 +39,7 @@ use Rattle.session_laws.proofs.States.{Between, HasApplied}
 use Rattle.session_laws.proofs.Settle.{seen, trace_of_acts, Holds}
 use Rattle.session_laws.proofs.Close.{HasEnded, IsClosedOf, SettlesAll, ended_holds, ended_moved, ended_applied, faulted_holds, parted_moved}
 use Rattle.session_laws.proofs.Announce.{turn_of, turned, IsNewsKind}
-use Rattle.session_laws.proofs.Heard.{heard_by, Begins, Leads, heard_begins, leads_still, ended_quiet, dialing_quiet}
+use Rattle.session_laws.proofs.Heard.{IsOfAnother, heard_by, Begins, Leads, heard_begins, leads_still, ended_quiet, dialing_quiet}
 use Rattle.legal_trace.specs.Legal.{is_heard}
 
 -- what waits in the queue gets the closed connection
@@ -287,25 +287,24 @@ wanting_overdue before c started word kind link h good k is e =
     let x = error.Io kinds.TimedOut in
     setup_failed before c started word kind overdue x h good k is (wanting_unready (book before) (inner c started) link e h.sound.tied) (wanting_fails before c started overdue x link h e refl)
 
--- there are none, as its source says
-pub denied_fails : (before : List Action) (c : Core) (started : List ℕ) (word : ℕ) (kind : EventKind) (text : List ℕ) (link : LinkState) → Between before c started → is_bad c kind ≡ false → IsNewsKind c.timers kind
-    → news_of c.timers c.sources c.single.link kind ≡ denied text → c.single.connection.life ≡ Wanting link
-    → HasApplied (before ++ turn_of c word kind ∷ []) (with_work (record { core = turned c kind; acts = [] }) (unauthorized_at (record { conn = c.single.connection; acts = [] }) (error.Credentials text) (Wanting link))) started
-denied_fails before c started word kind text link h good k is e =
-    let l = (book before).link c.single.link in
-    let s = wanting_tied (book before) (inner c started) link e h.sound.tied in
-    setup_failed before c started word kind (denied text) (error.Credentials text) h good k is (wanting_unready (book before) (inner c started) link e h.sound.tied)
-    (wanting_fails before c started (denied text) (error.Credentials text) link h e (taken_if (lacks_credentials l) (Some (by_opening (error.Credentials text))) None s.lacks))
+-- news that there are none, and the error by which an opening fails then that waits for them
+pub record Denies (n : News) (x : RedisError) : Type 0 where
+  pub stays : (l : Ledger) (turn : ℕ) → noted l (hears turn n) ≡ record l { heard = n }
+  pub apart : IsOfAnother n
+  pub ends : (l : Ledger) → ending_unready l n ≡ (if lacks_credentials l then Some (by_opening x) else None)
+  pub calm : (l : Ledger) → ending_up l n ≡ None
 
--- or since it has ended
-pub deserted_fails : (before : List Action) (c : Core) (started : List ℕ) (word : ℕ) (kind : EventKind) (link : LinkState) → Between before c started → is_bad c kind ≡ false → IsNewsKind c.timers kind → news_of c.timers c.sources c.single.link kind ≡ deserted
-    → c.single.connection.life ≡ Wanting link
-    → HasApplied (before ++ turn_of c word kind ∷ []) (with_work (record { core = turned c kind; acts = [] }) (unauthorized_at (record { conn = c.single.connection; acts = [] }) (error.AuthFailed []) (Wanting link))) started
-deserted_fails before c started word kind link h good k is e =
-    let l = (book before).link c.single.link in
-    let s = wanting_tied (book before) (inner c started) link e h.sound.tied in
-    setup_failed before c started word kind deserted (error.AuthFailed []) h good k is (wanting_unready (book before) (inner c started) link e h.sound.tied)
-    (wanting_fails before c started deserted (error.AuthFailed []) link h e (taken_if (lacks_credentials l) (Some (by_opening (error.AuthFailed []))) None s.lacks))
+-- so the opening fails
+pub denied_fails : (before : List Action) (c : Core) (started : List ℕ) (word : ℕ) (kind : EventKind) (n : News) (x : RedisError) (link : LinkState) → Denies n x → Between before c started → is_bad c kind ≡ false → IsNewsKind c.timers kind
+    → news_of c.timers c.sources c.single.link kind ≡ n → c.single.connection.life ≡ Wanting link
+    → HasApplied (before ++ turn_of c word kind ∷ []) (with_work (record { core = turned c kind; acts = [] }) (unauthorized_at (record { conn = c.single.connection; acts = [] }) x (Wanting link))) started
+denied_fails before c started word kind n x link d h good k is e =
+    let b = book before in
+    let l = b.link c.single.link in
+    let s = wanting_tied b (inner c started) link e h.sound.tied in
+    setup_failed before c started word kind n x h good k is (wanting_unready b (inner c started) link e h.sound.tied)
+    (subst (λ (y : Ledger). Fails y c.single.connection.info c.single.connection.wants (is_heard b) c.single.connection.hears x) (sym (d.stays l c.turns))
+    (wanting_fails before c started n x link h e (d.ends (record l { heard = n }) ∙ taken_if (lacks_credentials l) (Some (by_opening x)) None s.lacks)))
 
 -- everything is shut down
 pub shut_applied : (before : List Action) (c : Core) (started : List ℕ) (word : ℕ) (kind : EventKind) → Between before c started → is_bad c kind ≡ false → IsNewsKind c.timers kind → news_of c.timers c.sources c.single.link kind ≡ shut

@@ -1,6 +1,7 @@
 -- Credentials come for the setup of the connection's link, or there are none.
-use Rattle.std.proofs.Common.{◌≡◌, ◌≢◌, inl, inr, ℕ, ◌+◌, ◌<◌, true, false, List, [], ◌∷◌, ◌++◌, None, Some, refl, sym, ap, ◌∙◌, subst, arith}
+use Rattle.std.proofs.Common.{◌≡◌, ◌≢◌, inr, ℕ, false, List, [], ◌∷◌, ◌++◌, None, Some, refl, sym, ap, ◌∙◌, subst, arith}
 use Rattle.containers.proofs.Choices.{left_if}
+use Rattle.redis_error.specs.declared.redis_error.RedisError.{RedisError}
 use Rattle.redis_error.specs.declared.redis_error.RedisError.TheVariants as error
 use Rattle.connection_info.specs.declared.address.RedisConnectionInfo.{RedisConnectionInfo}
 use Rattle.credentials.specs.Credentials.{Credentials}
@@ -10,18 +11,18 @@ use Rattle.driver_model.specs.declared.action.Owner.TheVariants as owner
 use Rattle.driver_model.specs.declared.action.WaitKind.{WaitKind}
 use Rattle.driver_model.specs.declared.action.WaitKind.TheVariants as wait
 use Rattle.driver_model.specs.declared.event.EventKind.{EventKind}
-use Rattle.driver_model.specs.News.{authorized, denied, deserted, news_of}
+use Rattle.driver_model.specs.News.{News, authorized, denied, deserted, news_of}
 use Rattle.link_core.specs.Link.{LinkState}
 use Rattle.link_laws.proofs.TiedLink.{SameNames, TiedLink, authorized_tied, named_tied}
 use Rattle.mux_conn.specs.declared.life.Life.{Life}
 use Rattle.mux_conn.specs.declared.life.Life.TheVariants.{Dialing, Wanting, SettingUp, Ready, Ended}
-use Rattle.mux_conn.specs.Connection.{Work, is_ready}
+use Rattle.mux_conn.specs.Connection.{is_ready}
 use Rattle.mux_conn.specs.Effects.{authorized_at, come_up, unauthorized_at, with_credentials}
 use Rattle.mux_conn.specs.Turn.{early_wait}
 use Rattle.shared_session.specs.declared.core_state.Core.{Core}
 use Rattle.shared_session.specs.Turn.{with_work, is_bad}
 use Rattle.legal_trace.specs.Ledger.{Ledger, authorized_by, by_opening, ending, lacks_credentials, setup_count}
-use Rattle.legal_trace.specs.Book.{Book, book}
+use Rattle.legal_trace.specs.Book.{book}
 use Rattle.legal_trace.specs.Legal.{is_heard}
 use Rattle.session_laws.proofs.Tied.{AreSetups, has_ended, inner, link_in}
 use Rattle.session_laws.proofs.Creds.{awaited_is, has_credentials, none_awaited, unawaited_is, wanting_awaits}
@@ -29,7 +30,7 @@ use Rattle.session_laws.proofs.Said.{PushesOf, ready_heard, setting_heard}
 use Rattle.session_laws.proofs.States.{Between, HasApplied}
 use Rattle.session_laws.proofs.Announce.{IsNewsKind, turn_of, turned}
 use Rattle.session_laws.proofs.Heard.{dialing_quiet, ended_quiet, heard_by}
-use Rattle.session_laws.proofs.End.{denied_fails, deserted_fails, setting_tied, up_tied, wanting_tied}
+use Rattle.session_laws.proofs.End.{Denies, denied_fails, setting_tied, up_tied, wanting_tied}
 use Rattle.session_laws.proofs.ComeUp.{IsEarly, IsUpNow, comes_up}
 use Rattle.session_laws.proofs.Connect.{passed_over}
 
@@ -118,42 +119,35 @@ authorized_applied before c started word kind a h good k is = by_life c.single.c
         late (has_credentials l.creds u.has) (ready_heard l (authorized a) u.up u.well)
     by_life (Ended x) e = ended_quiet before c started word kind (authorized a) x h good k is e
 
--- there are none, as the source says
-pub denied_applied : (before : List Action) (c : Core) (started : List ℕ) (word : ℕ) (kind : EventKind) (text : List ℕ) → Between before c started → is_bad c kind ≡ false → IsNewsKind c.timers kind → news_of c.timers c.sources c.single.link kind ≡ denied text
-    → HasApplied (before ++ turn_of c word kind ∷ []) (with_work (record { core = turned c kind; acts = [] }) (unauthorized_at (record { conn = c.single.connection; acts = [] }) (error.Credentials text) c.single.connection.life)) started
-denied_applied before c started word kind text h good k is = by_life c.single.connection.life refl
+-- a source says why it has none
+pub text_denies : (text : List ℕ) → Denies (denied text) (error.Credentials text)
+text_denies text = record { stays = λ l turn. refl; apart = tt; ends = λ l. refl; calm = λ l. refl }
+
+-- or it has ended
+pub end_denies : Denies deserted (error.AuthFailed [])
+end_denies = record { stays = λ l turn. refl; apart = tt; ends = λ l. refl; calm = λ l. refl }
+
+-- there are none
+pub denied_applied : (before : List Action) (c : Core) (started : List ℕ) (word : ℕ) (kind : EventKind) (n : News) (x : RedisError) → Denies n x → Between before c started → is_bad c kind ≡ false → IsNewsKind c.timers kind → news_of c.timers c.sources c.single.link kind ≡ n
+    → HasApplied (before ++ turn_of c word kind ∷ []) (with_work (record { core = turned c kind; acts = [] }) (unauthorized_at (record { conn = c.single.connection; acts = [] }) x c.single.connection.life)) started
+denied_applied before c started word kind n x d h good k is = by_life c.single.connection.life refl
   where
     l : Ledger
     l = (book before).link c.single.link
 
-    by_life : (x : Life) → c.single.connection.life ≡ x → HasApplied (before ++ turn_of c word kind ∷ []) (with_work (record { core = turned c kind; acts = [] }) (unauthorized_at (record { conn = c.single.connection; acts = [] }) (error.Credentials text) x)) started
-    by_life Dialing e = dialing_quiet before c started word kind (denied text) tt h good k is e
-    by_life (Wanting link) e = denied_fails before c started word kind text link h good k is e
+    told : Ledger
+    told = record l { heard = n }
+
+    late : ending told ≡ None → HasApplied (before ++ turn_of c word kind ∷ []) (with_work (record { core = turned c kind; acts = [] }) (record { conn = c.single.connection; acts = [] })) started
+    late none = passed_over before c started word kind n h good k is (d.stays l c.turns) none
+
+    by_life : (y : Life) → c.single.connection.life ≡ y → HasApplied (before ++ turn_of c word kind ∷ []) (with_work (record { core = turned c kind; acts = [] }) (unauthorized_at (record { conn = c.single.connection; acts = [] }) x y)) started
+    by_life Dialing e = dialing_quiet before c started word kind n d.apart h good k is e
+    by_life (Wanting link) e = denied_fails before c started word kind n x link d h good k is e
     by_life (SettingUp link with_user) e =
         let s = setting_tied (book before) (inner c started) link with_user e h.sound.tied in
-        passed_over before c started word kind (denied text) h good k is refl
-        (setting_heard l (denied text) link with_user s.up s.said ∙ left_if (lacks_credentials l) (Some (by_opening (error.Credentials text))) None (has_credentials l.creds s.has))
+        late (setting_heard l n link with_user s.up s.said ∙ d.ends told ∙ left_if (lacks_credentials l) (Some (by_opening x)) None (has_credentials l.creds s.has))
     by_life (Ready link) e =
         let u = up_tied (book before) (inner c started) link e h.sound.tied in
-        passed_over before c started word kind (denied text) h good k is refl (ready_heard l (denied text) u.up u.well)
-    by_life (Ended x) e = ended_quiet before c started word kind (denied text) x h good k is e
-
--- or since it has ended
-pub deserted_applied : (before : List Action) (c : Core) (started : List ℕ) (word : ℕ) (kind : EventKind) → Between before c started → is_bad c kind ≡ false → IsNewsKind c.timers kind → news_of c.timers c.sources c.single.link kind ≡ deserted
-    → HasApplied (before ++ turn_of c word kind ∷ []) (with_work (record { core = turned c kind; acts = [] }) (unauthorized_at (record { conn = c.single.connection; acts = [] }) (error.AuthFailed []) c.single.connection.life)) started
-deserted_applied before c started word kind h good k is = by_life c.single.connection.life refl
-  where
-    l : Ledger
-    l = (book before).link c.single.link
-
-    by_life : (x : Life) → c.single.connection.life ≡ x → HasApplied (before ++ turn_of c word kind ∷ []) (with_work (record { core = turned c kind; acts = [] }) (unauthorized_at (record { conn = c.single.connection; acts = [] }) (error.AuthFailed []) x)) started
-    by_life Dialing e = dialing_quiet before c started word kind deserted tt h good k is e
-    by_life (Wanting link) e = deserted_fails before c started word kind link h good k is e
-    by_life (SettingUp link with_user) e =
-        let s = setting_tied (book before) (inner c started) link with_user e h.sound.tied in
-        passed_over before c started word kind deserted h good k is refl
-        (setting_heard l deserted link with_user s.up s.said ∙ left_if (lacks_credentials l) (Some (by_opening (error.AuthFailed []))) None (has_credentials l.creds s.has))
-    by_life (Ready link) e =
-        let u = up_tied (book before) (inner c started) link e h.sound.tied in
-        passed_over before c started word kind deserted h good k is refl (ready_heard l deserted u.up u.well)
-    by_life (Ended x) e = ended_quiet before c started word kind deserted x h good k is e
+        late (ready_heard l n u.up u.well ∙ d.calm told)
+    by_life (Ended y) e = ended_quiet before c started word kind n y h good k is e

@@ -1,6 +1,6 @@
 -- A request is let in: it takes its permits, and its timer is asked for.
 use Rattle.std.proofs.Common.{Bool, List, None, Option, Some, [], ap, append_assoc, arith, false, inl, inr, length, refl, slice_get, slice_set, subst, suc, sym, true, zero, ℕ, ◌+◌, ◌-◌, ◌++◌, ◌<◌, ◌≤◌, ◌∙◌, ◌∷◌, ◌≡◌, ◌≢◌, ◌⊎◌}
-use Rattle.std.proofs.lemmas.List.{append-nil, length-append}
+use Rattle.std.proofs.lemmas.List.{length-append}
 use Rattle.std.specs.List.{AllByRecursion}
 use Rattle.std.specs.Prelude.{is_none, is_some, min, nat_lt, not, ◌==◌, ◌&&◌, ◌||◌}
 use Rattle.containers.proofs.Choices.{by_test, chosen, eq_from, eq_test, left_if, ne_from, ne_test, not_both, not_lt_from, taken_if}

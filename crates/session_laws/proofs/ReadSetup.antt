@@ -403,15 +403,17 @@ reads_answered name l link with_user piece x xs h owners sents alive tied is = e
       record { k = s.k; few = s.few; count = s.count; user = s.user; queue = s.queue; row = no_entries name (deals link piece).row rows; answers = a; last = last })
 ]
 
+-- where something is said, and no credentials are waited for, the last of so many setups says what all come to
+setup_last : (l : Ledger) (n : ℕ) → lacks_credentials l ≡ false → says_nothing (setup_steps l 0) ≡ false → setup_count l.starts ≡ n → setup_result l ≡ last_result l n
+setup_last l n given says count = setup_said l given ∙ left_if (says_nothing (setup_steps l 0)) (Some result.Ready) (last_result l (setup_count l.starts)) says ∙ ap (last_result l) count
+
 -- what it comes to
 answered_result : (l : Ledger) (link : LinkState) (piece : List ℕ) (with_user : Bool) (x : Settled) (info : RedisConnectionInfo) → lacks_credentials l ≡ false → l.info ≡ info → says_nothing (setup_steps l 0) ≡ false → IsAnswered l link piece with_user x
     → setup_result (has_heard l piece) ≡ Some (judged_by (setup info with_user) x.verdict)
 answered_result l link piece with_user x info given is says h =
     let after = has_heard l piece in
     let replies = cut after h.k (setup_shape (setup_steps after h.k)) in
-    setup_said after given
-    ∙ left_if (says_nothing (setup_steps l 0)) (Some result.Ready) (last_result after (setup_count l.starts)) says
-    ∙ ap (last_result after) h.count
+    setup_last after (suc h.k) given says h.count
     ∙ taken_if (is_full after h.k) (Some (judged (setup_steps after h.k) replies)) None h.answers.full
     ∙ ap (λ (i : RedisConnectionInfo). Some (judged (setup i (h.k == 0)) replies)) is
     ∙ ap (λ u. Some (judged (setup info u) replies)) (sym h.user)
@@ -633,7 +635,7 @@ setup_read before c started word kind piece link with_user h good k is e = by_ou
         let first = repeats_first l link piece with_user x info a judged_so in
         let q = setup_queued (steps_of c.single.connection false) false in
         let count : setup_count l.starts ≡ 1 = a.count ∙ ap suc first in
-        let last : result_of after 0 ≡ Some result.RepeatWithoutUser = sym (setup_said after given ∙ left_if (says_nothing (setup_steps l 0)) (Some result.Ready) (last_result after (setup_count l.starts)) s.said.says ∙ ap (last_result after) count) ∙ r in
+        let last : result_of after 0 ≡ Some result.RepeatWithoutUser = sym (setup_last after 1 given s.said.says count) ∙ r in
         let due : IsSetupDue after (enqueued read q) false = record {
           due = subst (λ n. setup_after after n ≡ Some n) (sym count) (taken_if (repeats (result_of after 0)) (Some 1) None (ap repeats last));
           user = subst (λ n. false ≡ (n == 0)) (sym count) refl;

@@ -1,9 +1,7 @@
 -- Bytes come on a link whose setup waits for credentials: they answer nothing, and those that begin no value end it.
-use Rattle.std.proofs.Common.{◌≡◌, inl, inr, ℕ, ◌-◌, ◌≤◌, Bool, true, false, if◌then◌else◌, List, [], ◌∷◌, ◌++◌, length, take, Some, None, refl, sym, ap, ◌∙◌, subst, arith}
-use Rattle.std.proofs.lemmas.List.{append-nil}
+use Rattle.std.proofs.Common.{◌≡◌, ℕ, Bool, true, false, List, [], ◌∷◌, ◌++◌, Some, None, sym, ap, ◌∙◌, subst}
 use Rattle.containers.proofs.Choices.{chosen, taken_if, left_if}
 use Rattle.redis_error.specs.declared.redis_error.RedisError.TheVariants as error
-use Rattle.resp_value.specs.Data.{Data}
 use Rattle.resp_read.specs.Values.{is_spoiled}
 use Rattle.resp_read.specs.Items.{items}
 use Rattle.driver_model.specs.declared.action.Action.{Action}
@@ -22,12 +20,12 @@ use Rattle.mux_conn.specs.Connection.{Work, with_wanting}
 use Rattle.mux_conn.specs.Effects.{failed_at, read_wanting}
 use Rattle.shared_session.specs.declared.core_state.Core.{Core}
 use Rattle.shared_session.specs.Turn.{with_work, is_bad}
-use Rattle.legal_trace.specs.Ledger.{Ledger, by_opening, ending, is_set_up, lacks_credentials}
+use Rattle.legal_trace.specs.Ledger.{Ledger, by_opening, ending, is_set_up}
 use Rattle.legal_trace.specs.Book.{Book, book}
 use Rattle.legal_trace.specs.Legal.{is_heard}
 use Rattle.session_laws.proofs.Tied.{AreQueued, TiedCreds, TiedLife, TiedLines, TiedSetup, TiedWaits, has_ended, inner, link_in}
 use Rattle.session_laws.proofs.Creds.{asked_sourced, lacking_undecided}
-use Rattle.session_laws.proofs.States.{IsFit, Between, HasApplied}
+use Rattle.session_laws.proofs.States.{Between, HasApplied}
 use Rattle.session_laws.proofs.Said.{PushesOf, ending_wanting}
 use Rattle.session_laws.proofs.Failing.{Fails, setup_failed}
 use Rattle.session_laws.proofs.Announce.{IsNewsKind, turn_of, turned}
