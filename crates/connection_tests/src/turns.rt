@@ -417,10 +417,7 @@ const PUSHES: [Row; 6] = [
 ];
 
 /// The first of these connections that asks or tells something else, by what its calls show.
-pub(crate) fn first_other(
-    alloc: Global,
-    rows: &[Row],
-) -> Result<Option<&'static str>, AllocError> {
+pub(crate) fn first_other(alloc: Global, rows: &[Row]) -> Result<Option<&'static str>, AllocError> {
     for row in rows {
         if !give(alloc, &row.1, row.2, row.3)? {
             return Ok(Some(row.0));
