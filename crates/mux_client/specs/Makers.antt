@@ -8,7 +8,7 @@ use Rattle.connection_info.specs.declared.open_error.OpenError.TheVariants as er
 use Rattle.connection_info.specs.Config.{default_config}
 use Rattle.connection_info.specs.Written.{url_of, ReadsBack}
 use Rattle.driver_model.specs.declared.config.Config.{Config}
-use Rattle.driver_model.specs.Config.{address, connect_timeout, response_timeout, buffer_size, boundary, hears_pushes, wants_credentials, told_info}
+use Rattle.driver_model.specs.Config.{connect_timeout, response_timeout, buffer_size, boundary, hears_pushes, wants_credentials, told_info}
 
 -- two times, or none
 abbrev pub is_same : Option ℕ → Option ℕ → Bool
