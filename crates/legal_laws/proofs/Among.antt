@@ -16,8 +16,8 @@ use Rattle.driver_model.specs.declared.event.EventKind.{EventKind}
 use Rattle.driver_model.specs.declared.event.EventKind.TheVariants as event
 use Rattle.driver_model.specs.declared.outcome.Outcome.{Outcome}
 use Rattle.driver_model.specs.declared.push_info.PushInfo.{PushInfo}
-use Rattle.driver_model.specs.News.{News, silence, connected, refused, overdue, took, came, failed, shut}
-use Rattle.legal_trace.specs.Ledger.{Ledger, Heard, Line, Start, asks, hears, begins, offers, tells, ends, parts, noted, noted_each, with_news, refused_in, bytes_came, is_over, dials, reach, reached, is_full, is_full_by, next_push}
+use Rattle.driver_model.specs.News.{News, silence, connected, refused, overdue, took, came, failed, shut, authorized, denied, deserted}
+use Rattle.legal_trace.specs.Ledger.{Ledger, Heard, Line, Start, asks, hears, begins, offers, tells, ends, parts, noted, noted_each, with_news, refused_in, bytes_came, is_over, dials, reach, reached, is_full, is_full_by, next_push, sources, awaits_credentials, authorized_by}
 use Rattle.legal_trace.specs.Story.{Story, Try, last_of, is_open, handed_in, left, holds, clocked, fires, tried, waits, answered}
 use Rattle.legal_trace.specs.Book.{Book, blank_book, book, entered, entered_each, current, is_clock_of, after_event, is_unspoken, message_of, if_mine, lines_of, lines_of_each}
 use Rattle.legal_trace.specs.Legal.{MayStand, MayTellPush, MayAnswer, MayTell, AllStand, IsOpen, IsBefore, is_heard, is_heard_in, Legal}
@@ -52,11 +52,14 @@ takes_hears k count l turn (took n) h = chosen (TakesUpTo k count) l.up (record 
 takes_hears k count l turn (came piece) h = chosen (TakesUpTo k count) l.up (bytes_came l piece) l
     (λ t. record { started = h.started; takes = reach_alike (take (k + 1) l.starts) (bytes_came l piece).dealt l.dealt ∙ h.takes }) (λ e. h)
 takes_hears k count l turn (failed f) h = h
+takes_hears k count l turn (authorized c) h = chosen (TakesUpTo k count) (awaits_credentials l) (authorized_by l c) l (λ t. record { started = h.started; takes = h.takes }) (λ e. h)
+takes_hears k count l turn (denied text) h = h
+takes_hears k count l turn deserted h = h
 takes_hears k count l turn shut h = h
 
 -- and with any line
 takes_keeps : (k count : ℕ) (l : Ledger) (x : Line) → TakesUpTo k count l → TakesUpTo k count (noted l x)
-takes_keeps k count l (asks info) h = record { started = h.started; takes = h.takes }
+takes_keeps k count l (asks info wanted) h = record { started = h.started; takes = h.takes }
 takes_keeps k count l (hears turn news) h = let m = takes_hears k count l turn news h in record { started = m.started; takes = m.takes }
 takes_keeps k count l (begins s) h = record {
   started = let i : k < length l.starts = h.started in let e = length_push l.starts s in omega arith;
@@ -65,6 +68,7 @@ takes_keeps k count l (begins s) h = record {
 takes_keeps k count l (offers bytes) h = record { started = h.started; takes = h.takes }
 takes_keeps k count l tells h = record { started = h.started; takes = h.takes }
 takes_keeps k count l (ends turn) h = record { started = h.started; takes = h.takes }
+takes_keeps k count l sources h = record { started = h.started; takes = h.takes }
 takes_keeps k count l parts h = record { started = h.started; takes = h.takes }
 
 -- message k of link l starts, which is of submission n
@@ -103,6 +107,9 @@ event_from b a l n k (event.Ended m) blank = λ o h. inl (o, h)
 event_from b a l n k (event.ReadFault m kind) blank = λ o h. inl (o, h)
 event_from b a l n k (event.WriteFault m kind) blank = λ o h. inl (o, h)
 event_from b a l n k (event.Timeout ms) blank = λ o h. inl (o, h)
+event_from b a l n k (event.Creds c auth) blank = λ o h. inl (o, h)
+event_from b a l n k (event.CredsError c text) blank = λ o h. inl (o, h)
+event_from b a l n k (event.CredsEnd c) blank = λ o h. inl (o, h)
 event_from b a l n k event.Shutdown blank = λ o h. inl (o, h)
 
 -- the last of tries, behind which one more stands
@@ -120,6 +127,7 @@ message_from b (action.Timer t ms what) l n k blank = chosen (IsFrom b (action.T
 message_from b (action.Took owner.Setup m count) l n k blank = λ o h. inl (o, h)
 message_from b (action.Took (owner.Try i round) m count) l n k blank = chosen (IsFrom b (action.Took (owner.Try i round) m count) l n k) (i == n) (holds (b.story n) count) (b.story n) (λ e o h. inl (o, h)) (λ f o h. inl (o, h))
 message_from b (action.Push m info) l n k blank = λ o h. inl (o, h)
+message_from b (action.NeedCreds c m) l n k blank = λ o h. inl (o, h)
 message_from b (action.Close m) l n k blank = λ o h. inl (o, h)
 message_from b (action.Write m bytes) l n k blank = λ o h. inl (o, h)
 message_from b (action.Wait owner.Setup kind) l n k blank = λ o h. inl (o, h)
@@ -169,16 +177,20 @@ dealt_hears count l turn (came piece) i = chosen (λ (x : Ledger). count ≤ len
     let long : length (l.dealt ++ take room (items (l.rest ++ piece))) ≡ length l.dealt + length (take room (items (l.rest ++ piece))) = length-append l.dealt (take room (items (l.rest ++ piece))) in
     omega (arith, long, i)) (λ e. i)
 dealt_hears count l turn (failed f) i = i
+dealt_hears count l turn (authorized c) i = chosen (λ (x : Ledger). count ≤ length x.dealt) (awaits_credentials l) (authorized_by l c) l (λ t. i) (λ e. i)
+dealt_hears count l turn (denied text) i = i
+dealt_hears count l turn deserted i = i
 dealt_hears count l turn shut i = i
 
 -- nor by any line
 dealt_keeps : (count : ℕ) (l : Ledger) (x : Line) → count ≤ length l.dealt → count ≤ length (noted l x).dealt
-dealt_keeps count l (asks info) i = i
+dealt_keeps count l (asks info wanted) i = i
 dealt_keeps count l (hears turn news) i = dealt_hears count l turn news i
 dealt_keeps count l (begins s) i = i
 dealt_keeps count l (offers bytes) i = i
 dealt_keeps count l tells i = i
 dealt_keeps count l (ends turn) i = i
+dealt_keeps count l sources i = i
 dealt_keeps count l parts i = i
 
 -- so each action that may stand leaves it

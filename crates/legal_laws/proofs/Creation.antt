@@ -12,7 +12,7 @@ use Rattle.driver_model.specs.declared.event.Event.{Event}
 use Rattle.driver_model.specs.declared.outcome.Outcome.{Outcome}
 use Rattle.driver_model.specs.declared.push_info.PushInfo.{PushInfo}
 use Rattle.driver_model.specs.declared.outcome.Outcome.TheVariants as outcome
-use Rattle.legal_trace.specs.Ledger.{Ledger, End, Ending, by_shutdown, by_fault, by_opening, begins, offers, ends, failure_of, failure_in, is_set_up, setup_due}
+use Rattle.legal_trace.specs.Ledger.{Ledger, End, Ending, by_shutdown, by_fault, by_opening, begins, offers, sources, ends, failure_of, failure_in, is_set_up, setup_due}
 use Rattle.legal_trace.specs.Story.{Try, bytes_of, last_of}
 use Rattle.legal_trace.specs.Book.{Book, blank_book, book, entered, entered_each, lines_of, message_of}
 use Rattle.legal_trace.specs.Owed.{owed, owed_to_try, owed_unstarted, unstarted_error}
@@ -155,6 +155,11 @@ close_shows_none : (b : Book) (m : ℕ) → ShowsNone b (action.Close m)
 close_shows_none b m = unchanged b (action.Close m) refl refl
     (λ shown l may h q. mine_keeps (IsQuiet shown) (m == l) (b.link l) (ends (b.turns - 1)) (λ t. ends_quiet shown (b.link l) (b.turns - 1) q) q)
 
+-- a source of credentials
+need_shows_none : (b : Book) (c m : ℕ) → ShowsNone b (action.NeedCreds c m)
+need_shows_none b c m = unchanged b (action.NeedCreds c m) refl refl
+    (λ shown l may h q. mine_keeps (IsQuiet shown) (m == l) (b.link l) sources (λ t. record { quiet = q.quiet; tells = q.tells }) q)
+
 -- a write
 write_shows_none : (b : Book) (m : ℕ) (bytes : List ℕ) → ShowsNone b (action.Write m bytes)
 write_shows_none b m bytes = unchanged b (action.Write m bytes) refl refl
@@ -190,6 +195,7 @@ step_told b shown (action.Timer t ms what) may h told = still_told b shown (acti
 step_told b shown (action.Took owner.Setup l count) may h told = absurd may
 step_told b shown (action.Took (owner.Try n round) l count) may h told = still_told b shown (action.Took (owner.Try n round) l count) (unchanged b (action.Took (owner.Try n round) l count) refl refl (λ s j m h q. q)) may h told
 step_told b shown (action.Push m info) may h told = still_told b shown (action.Push m info) (push_shows_none b m info) may h told
+step_told b shown (action.NeedCreds c m) may h told = still_told b shown (action.NeedCreds c m) (need_shows_none b c m) may h told
 step_told b shown (action.Close m) may h told = still_told b shown (action.Close m) (close_shows_none b m) may h told
 step_told b shown (action.Write m bytes) may h told = still_told b shown (action.Write m bytes) (write_shows_none b m bytes) may h told
 step_told b shown (action.Wait owner.Setup kind) may h told = absurd may

@@ -49,6 +49,9 @@ event_over b n (event.Ended l) i h = h
 event_over b n (event.ReadFault l kind) i h = h
 event_over b n (event.WriteFault l kind) i h = h
 event_over b n (event.Timeout ms) i h = h
+event_over b n (event.Creds c auth) i h = h
+event_over b n (event.CredsError c text) i h = h
+event_over b n (event.CredsEnd c) i h = h
 event_over b n event.Shutdown i h = h
 
 -- an outcome of it leaves it done
@@ -65,6 +68,7 @@ over_kept b (action.Timer t ms what) may n i h = chosen IsOver (is_clock_of n (S
 over_kept b (action.Took owner.Setup l count) may n i h = absurd may
 over_kept b (action.Took (owner.Try m round) l count) may n i h = chosen IsOver (m == n) (holds (b.story n) count) (b.story n) (λ e. h) (λ f. h)
 over_kept b (action.Push m info) may n i h = h
+over_kept b (action.NeedCreds c m) may n i h = h
 over_kept b (action.Close m) may n i h = h
 over_kept b (action.Write m bytes) may n i h = h
 over_kept b (action.Wait owner.Setup kind) may n i h = absurd may

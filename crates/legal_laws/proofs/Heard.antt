@@ -8,8 +8,8 @@ use Rattle.resp_value.specs.Data.{Data, push, list_of}
 use Rattle.resp_read.specs.Values.{values}
 use Rattle.resp_read.specs.Items.{items, items_among, is_item}
 use Rattle.driver_model.specs.declared.action.Action.{Action}
-use Rattle.driver_model.specs.News.{News, silence, connected, refused, overdue, took, came, failed, shut}
-use Rattle.legal_trace.specs.Ledger.{Ledger, Heard, Line, asks, hears, begins, offers, tells, ends, parts, blank_ledger, noted, with_news, refused_in, bytes_came, items_came, value_came, heard_at, heard_each, is_over, is_set_up, dials, reach}
+use Rattle.driver_model.specs.News.{News, silence, connected, refused, overdue, took, came, failed, shut, authorized, denied, deserted}
+use Rattle.legal_trace.specs.Ledger.{Ledger, Heard, Line, asks, hears, begins, offers, tells, ends, parts, blank_ledger, noted, with_news, refused_in, bytes_came, items_came, value_came, heard_at, heard_each, is_over, is_set_up, dials, reach, sources, awaits_credentials, authorized_by}
 use Rattle.legal_trace.specs.Book.{book}
 use Rattle.legal_trace.proofs.Ledgers.{each_keeps, reach_alike, FewAreDealt, few_keeps}
 use Rattle.legal_trace.proofs.Plain.{same_some}
@@ -140,16 +140,20 @@ rises_hears l turn overdue h = h.rise
 rises_hears l turn (took count) h = chosen Rises l.up (record l { taken = l.taken ++ take count l.offer; offer = [] }) l (λ t. h.rise) (λ e. h.rise)
 rises_hears l turn (came piece) h = chosen Rises l.up (bytes_came l piece) l (λ t. came_rises l piece h) (λ e. h.rise)
 rises_hears l turn (failed f) h = h.rise
+rises_hears l turn (authorized c) h = chosen Rises (awaits_credentials l) (authorized_by l c) l (λ t. h.rise) (λ e. h.rise)
+rises_hears l turn (denied text) h = h.rise
+rises_hears l turn deserted h = h.rise
 rises_hears l turn shut h = h.rise
 
 -- and with any line
 rises_keeps : (l : Ledger) (x : Line) → InRow l → Rises (noted l x)
-rises_keeps l (asks info) h = h.rise
+rises_keeps l (asks info wanted) h = h.rise
 rises_keeps l (hears turn news) h = rises_hears l turn news h
 rises_keeps l (begins s) h = h.rise
 rises_keeps l (offers bytes) h = h.rise
 rises_keeps l tells h = h.rise
 rises_keeps l (ends turn) h = h.rise
+rises_keeps l sources h = h.rise
 rises_keeps l parts h = h.rise
 
 row_keeps : (l : Ledger) (x : Line) → InRow l → InRow (noted l x)
@@ -194,14 +198,18 @@ beyond_hears count l turn overdue h = h
 beyond_hears count l turn (took n) h = chosen (IsBeyond count) l.up (record l { taken = l.taken ++ take n l.offer; offer = [] }) l (λ t. record { dealt = h.dealt; waits = h.waits }) (λ e. h)
 beyond_hears count l turn (came piece) h = chosen (IsBeyond count) l.up (bytes_came l piece) l (λ t. came_beyond count l piece h) (λ e. h)
 beyond_hears count l turn (failed f) h = h
+beyond_hears count l turn (authorized c) h = chosen (IsBeyond count) (awaits_credentials l) (authorized_by l c) l (λ t. record { dealt = h.dealt; waits = h.waits }) (λ e. h)
+beyond_hears count l turn (denied text) h = h
+beyond_hears count l turn deserted h = h
 beyond_hears count l turn shut h = h
 
 -- and with any line
 pub beyond_keeps : (count : ℕ) (l : Ledger) (x : Line) → IsBeyond count l → IsBeyond count (noted l x)
-beyond_keeps count l (asks info) h = record { dealt = h.dealt; waits = h.waits }
+beyond_keeps count l (asks info wanted) h = record { dealt = h.dealt; waits = h.waits }
 beyond_keeps count l (hears turn news) h = let k = beyond_hears count l turn news h in record { dealt = k.dealt; waits = k.waits }
 beyond_keeps count l (begins s) h = record { dealt = h.dealt; waits = h.waits }
 beyond_keeps count l (offers bytes) h = record { dealt = h.dealt; waits = h.waits }
 beyond_keeps count l tells h = record { dealt = h.dealt; waits = λ i p told at. h.waits i p (omega (arith, told)) at }
 beyond_keeps count l (ends turn) h = record { dealt = h.dealt; waits = h.waits }
+beyond_keeps count l sources h = record { dealt = h.dealt; waits = h.waits }
 beyond_keeps count l parts h = record { dealt = h.dealt; waits = h.waits }

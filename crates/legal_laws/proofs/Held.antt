@@ -8,7 +8,7 @@ use Rattle.driver_model.specs.declared.action.Owner.TheVariants as owner
 use Rattle.driver_model.specs.declared.action.Purpose.{Purpose}
 use Rattle.driver_model.specs.declared.action.WaitKind.{WaitKind}
 use Rattle.driver_model.specs.declared.outcome.Outcome.{Outcome}
-use Rattle.legal_trace.specs.Ledger.{Ledger, Line, Start, begins, offers, noted_each, is_of_setup, is_set_up, is_ready, is_cut, setup_due, ending, failure_in, next_push}
+use Rattle.legal_trace.specs.Ledger.{Ledger, Line, Start, begins, offers, noted_each, is_of_setup, is_set_up, is_ready, is_cut, setup_due, source_due, ending, failure_in, next_push}
 use Rattle.legal_trace.specs.Story.{Story, Try, is_open, is_unstarted, shape, holds, clocked, tried, waits, answered}
 use Rattle.legal_trace.specs.Steps.{is_due, is_held_back, permits_in, permits_on, permits_held, is_in_line, line_before, next_step}
 use Rattle.legal_trace.specs.Owed.{owed_to_message, owed_to_try}
@@ -87,6 +87,7 @@ start_applied b l k m round count len may h = record {
   };
   pushed = λ j heard. mine_keeps (λ x. next_push x ≡ None) (l == j) (b.link j) (begins (message_of b l (owner.Try m round))) (λ t. may.begun.applied.pushed j heard) (may.begun.applied.pushed j heard);
   parted = λ j heard. mine_keeps IsToldOver (l == j) (b.link j) (begins (message_of b l (owner.Try m round))) (λ t. may.begun.applied.parted j heard) (may.begun.applied.parted j heard);
+  sourced = λ j. mine_keeps (λ x. source_due x ≡ false) (l == j) (b.link j) (begins (message_of b l (owner.Try m round))) (λ t. may.begun.applied.sourced j) (may.begun.applied.sourced j);
   timed = may.begun.applied.timed;
 }
 
@@ -105,6 +106,7 @@ setup_applied b l k count len may h = record {
   };
   pushed = λ j heard. mine_keeps (λ x. next_push x ≡ None) (l == j) (b.link j) (begins (message_of b l owner.Setup)) (λ t. may.applied.pushed j heard) (may.applied.pushed j heard);
   parted = λ j heard. mine_keeps IsToldOver (l == j) (b.link j) (begins (message_of b l owner.Setup)) (λ t. may.applied.parted j heard) (may.applied.parted j heard);
+  sourced = λ j. mine_keeps (λ x. source_due x ≡ false) (l == j) (b.link j) (begins (message_of b l owner.Setup)) (λ t. may.applied.sourced j) (may.applied.sourced j);
   timed = may.applied.timed;
 }
 
@@ -122,6 +124,7 @@ tell_applied b m o may = record {
   created = record { asked = may.begun.applied.created.asked; shown = may.begun.applied.created.shown; failed = may.begun.applied.created.failed };
   pushed = may.begun.applied.pushed;
   parted = may.begun.applied.parted;
+  sourced = may.begun.applied.sourced;
   timed = may.begun.applied.timed;
 }
 
@@ -141,6 +144,7 @@ write_applied b l bytes done = record {
   };
   pushed = λ j heard. mine_keeps (λ x. next_push x ≡ None) (l == j) (b.link j) (offers bytes) (λ t. done.pushed j heard) (done.pushed j heard);
   parted = λ j heard. mine_keeps IsToldOver (l == j) (b.link j) (offers bytes) (λ t. done.parted j heard) (done.parted j heard);
+  sourced = λ j. mine_keeps (λ x. source_due x ≡ false) (l == j) (b.link j) (offers bytes) (λ t. done.sourced j) (done.sourced j);
   timed = done.timed;
 }
 
@@ -172,6 +176,7 @@ take_applied b m round l count done = record {
   created = record { asked = done.created.asked; shown = done.created.shown; failed = done.created.failed };
   pushed = done.pushed;
   parted = done.parted;
+  sourced = done.sourced;
   timed = done.timed;
 }
 
@@ -185,6 +190,7 @@ ask_applied b t ms what done = record {
   created = record { asked = done.created.asked; shown = done.created.shown; failed = done.created.failed };
   pushed = done.pushed;
   parted = done.parted;
+  sourced = done.sourced;
   timed = λ config word opens bounded none. not_empty b.timers what none;
 }
 
@@ -198,6 +204,7 @@ wait_applied b m round kind done = record {
   created = record { asked = done.created.asked; shown = done.created.shown; failed = done.created.failed };
   pushed = done.pushed;
   parted = done.parted;
+  sourced = done.sourced;
   timed = done.timed;
 }
 

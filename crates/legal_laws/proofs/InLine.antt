@@ -155,6 +155,9 @@ event_follows b n (event.Ended l) i = same_story (permits_in b.config) (b.story 
 event_follows b n (event.ReadFault l kind) i = same_story (permits_in b.config) (b.story n)
 event_follows b n (event.WriteFault l kind) i = same_story (permits_in b.config) (b.story n)
 event_follows b n (event.Timeout ms) i = same_story (permits_in b.config) (b.story n)
+event_follows b n (event.Creds c auth) i = same_story (permits_in b.config) (b.story n)
+event_follows b n (event.CredsError c text) i = same_story (permits_in b.config) (b.story n)
+event_follows b n (event.CredsEnd c) i = same_story (permits_in b.config) (b.story n)
 event_follows b n event.Shutdown i = same_story (permits_in b.config) (b.story n)
 
 -- and behind each action
@@ -167,6 +170,7 @@ follows b (action.Took owner.Setup l count) may n i = absurd may
 follows b (action.Took (owner.Try m round) l count) may n i = chosen (Follows (permits_in b.config) (b.story n)) (m == n) (holds (b.story n) count) (b.story n)
     (λ t. subst (λ j. Follows (permits_in b.config) (b.story j) (holds (b.story j) count)) (eq_from m n t) (holds_follows b m l count may.1)) (λ f. same_story (permits_in b.config) (b.story n))
 follows b (action.Push l info) may n i = same_story (permits_in b.config) (b.story n)
+follows b (action.NeedCreds c l) may n i = same_story (permits_in b.config) (b.story n)
 follows b (action.Close l) may n i = same_story (permits_in b.config) (b.story n)
 follows b (action.Write l bytes) may n i = same_story (permits_in b.config) (b.story n)
 follows b (action.Wait owner.Setup kind) may n i = absurd may
@@ -194,6 +198,7 @@ submissions_grow b (action.Connect m host port) = omega arith
 submissions_grow b (action.Timer t ms what) = omega arith
 submissions_grow b (action.Took who m count) = omega arith
 submissions_grow b (action.Push m info) = omega arith
+submissions_grow b (action.NeedCreds c m) = omega arith
 submissions_grow b (action.Close m) = omega arith
 submissions_grow b (action.Write m bytes) = omega arith
 submissions_grow b (action.Wait who kind) = omega arith

@@ -31,6 +31,7 @@ pub mod Rising
 pub mod Leaving
 pub mod Fired
 pub mod Opened
+pub mod Given
 pub mod Pushes
 pub mod Parted
 pub mod Among

@@ -13,10 +13,10 @@ use Rattle.driver_model.specs.declared.event.EventKind.TheVariants as event
 use Rattle.driver_model.specs.declared.news.LinkFault.TheVariants as fault
 use Rattle.driver_model.specs.declared.action.Purpose.{Purpose}
 use Rattle.driver_model.specs.declared.action.Purpose.TheVariants as purpose
-use Rattle.driver_model.specs.News.{silence, connected, refused, overdue, took, came, failed, news_of, of_timer}
-use Rattle.legal_trace.specs.Ledger.{Ledger, Line, asks, begins, offers, ends, is_over, IsWithin, MayNote, AllNoted}
+use Rattle.driver_model.specs.News.{silence, connected, refused, overdue, took, came, failed, authorized, denied, deserted, news_of, of_timer, is_source_of}
+use Rattle.legal_trace.specs.Ledger.{Ledger, Line, asks, begins, offers, ends, is_over, IsWithin, MayNote, AllNoted, sources}
 use Rattle.legal_trace.specs.Story.{is_awaited, is_no_error, bytes_of}
-use Rattle.legal_trace.specs.Book.{Book, blank_book, entered, lines_of, lines_of_each, if_mine, push_line, info_in, message_of}
+use Rattle.legal_trace.specs.Book.{Book, blank_book, entered, lines_of, lines_of_each, if_mine, push_line, info_in, message_of, wanted_in}
 use Rattle.legal_trace.specs.Events.{is_bad_event, is_no_link}
 use Rattle.legal_trace.specs.Legal.{MayStand, MayStart, AllStand, Legal}
 use Rattle.legal_laws.specs.Links.{LinksAreLegal, TakesInOrder, lines_for}
@@ -51,7 +51,7 @@ of_timer_within l n (Some (purpose.Connect m)) = chosen (IsWithin l) (m == n) ov
 of_timer_within l n (Some (purpose.Response who)) = tt
 
 -- an event that isn't bad is within what was offered
-within : (b : Book) (l : ℕ) (kind : EventKind) → is_bad_event b kind ≡ false → Sound b → IsWithin (b.link l) (news_of b.timers l kind)
+within : (b : Book) (l : ℕ) (kind : EventKind) → is_bad_event b kind ≡ false → Sound b → IsWithin (b.link l) (news_of b.timers b.sources l kind)
 unfolding is_bad_event
 within b l (event.Connected m) good h = chosen (IsWithin (b.link l)) (m == l) connected silence (λ t. tt) (λ f. tt)
 within b l (event.Refused m f) good h = chosen (IsWithin (b.link l)) (m == l) (refused f) silence (λ t. tt) (λ e. tt)
@@ -66,6 +66,9 @@ within b l (event.ReadFault m kind) good h = chosen (IsWithin (b.link l)) (m == 
 within b l (event.WriteFault m kind) good h = chosen (IsWithin (b.link l)) (m == l) (failed (fault.Io kind)) silence (λ t. tt) (λ f. tt)
 within b l event.Shutdown good h = tt
 within b l (event.Timeout ms) good h = tt
+within b l (event.Creds c auth) good h = chosen (IsWithin (b.link l)) (is_source_of l (slice_get b.sources c)) (authorized auth) silence (λ t. tt) (λ f. tt)
+within b l (event.CredsError c text) good h = chosen (IsWithin (b.link l)) (is_source_of l (slice_get b.sources c)) (denied text) silence (λ t. tt) (λ f. tt)
+within b l (event.CredsEnd c) good h = chosen (IsWithin (b.link l)) (is_source_of l (slice_get b.sources c)) deserted silence (λ t. tt) (λ f. tt)
 within b l (event.Submit what) good h = tt
 within b l (event.Cancel n) good h = tt
 
@@ -84,11 +87,12 @@ connects_new b l m next h t = let e : m ≡ l = eq_from m l t in (h.links.unaske
 pub lines_may : (b : Book) (l : ℕ) (a : Action) → MayStand b a → Sound b → AllNoted (b.link l) (lines_of b l a)
 lines_may b l (action.Turn k (cause.Opening config word)) may h = tt
 lines_may b l (action.Turn k (cause.Event e)) may h = (within b l e.kind may.is_for.2 h, tt)
-lines_may b l (action.Connect m host port) may h = may_mine (m == l) (b.link l) (asks (info_in b.config)) (connects_new b l m may.next h)
+lines_may b l (action.Connect m host port) may h = may_mine (m == l) (b.link l) (asks (info_in b.config) (wanted_in b.config)) (connects_new b l m may.next h)
 lines_may b l (action.Timer t ms what) may h = tt
 lines_may b l (action.Took owner.Setup m count) may h = absurd may
 lines_may b l (action.Took (owner.Try n round) m count) may h = tt
 lines_may b l (action.Push m info) may h = may_mine (m == l) (b.link l) (push_line info.kind) (λ t. subst (λ j. MayNote (b.link j) (push_line info.kind)) (eq_from m l t) (push_may b m info may))
+lines_may b l (action.NeedCreds c m) may h = may_mine (m == l) (b.link l) sources (λ t. subst (λ j. MayNote (b.link j) sources) (eq_from m l t) may.due)
 lines_may b l (action.Close m) may h = may_mine (m == l) (b.link l) (ends (b.turns - 1)) (λ t. subst (λ j. MayNote (b.link j) (ends (b.turns - 1))) (eq_from m l t) (may.why, may.ends))
 lines_may b l (action.Write m bytes) may h = may_mine (m == l) (b.link l) (offers bytes) (λ t. subst (λ j. MayNote (b.link j) (offers bytes)) (eq_from m l t) (may.up, may.answered, may.all, may.some))
 lines_may b l (action.Wait owner.Setup kind) may h = absurd may

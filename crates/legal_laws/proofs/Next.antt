@@ -21,12 +21,12 @@ use Rattle.resp_value.specs.declared.push_kind.PushKind.{PushKind}
 use Rattle.resp_value.specs.declared.push_kind.PushKind.TheVariants.{Disconnection}
 use Rattle.driver_model.specs.Push.{is_disconnection}
 use Rattle.driver_model.specs.declared.push_info.PushInfo.{PushInfo}
-use Rattle.legal_trace.specs.Ledger.{Heard, IsOffered, is_over, is_cut, unwritten, ending, failure_in, next_push, setup_due, setup_message}
+use Rattle.legal_trace.specs.Ledger.{Heard, IsOffered, is_over, is_cut, unwritten, ending, failure_in, next_push, setup_due, setup_message, source_due}
 use Rattle.legal_trace.specs.Story.{shape, bytes_of}
 use Rattle.legal_trace.specs.Owed.{owed}
 use Rattle.legal_trace.specs.Book.{Book, book}
 use Rattle.legal_trace.specs.Steps.{Step, waits, takes, asks, tells, starts, nothing, is_held_back, next_step}
-use Rattle.legal_trace.specs.Legal.{MayStand, MayConnect, MayTimeConnect, MayTime, MayTake, MayTimer, MayTellPush, MayPart, MayPushBy, MayClose, MayBeCreated, MayFail, MayShowCreation, MayAnswer, MayTell, MayStart, MaySetUp, MayWrite, MayWait, IsOpen, IsWaiting, link_of, CanMove}
+use Rattle.legal_trace.specs.Legal.{MayStand, MayConnect, MayTimeConnect, MayTime, MayTake, MayTimer, MayNeed, MayTellPush, MayPart, MayPushBy, MayClose, MayBeCreated, MayFail, MayShowCreation, MayAnswer, MayTell, MayStart, MaySetUp, MayWrite, MayWait, IsOpen, IsWaiting, link_of, CanMove}
 use Rattle.legal_laws.specs.Next.{BothAnnounce, OneIsNext, OneIsNextBehind}
 use Rattle.legal_trace.proofs.Moves.{teller_moves, starter_moves, taker_moves, asker_moves, same_kind}
 use Rattle.legal_laws.proofs.Ranks.{answer_rank, creation_rank, push_rank, rank, same_rank, outcome_rank, timer_rank, not_offered, not_shown}
@@ -180,6 +180,14 @@ one_push b l m info other h k =
     let same : info ≡ other = h.says ∙ (ap (λ (x : Heard). x.info) p ∙ sym k.says) in
     cc (e, same)
 
+-- two sources are one
+one_need : (b : Book) (c d l m : ℕ) → MayNeed b c l → MayNeed b d m → action.NeedCreds c l ≡ action.NeedCreds d m
+one_need b c d l m h k =
+    let e : l ≡ m = least_is_one (λ j. source_due (b.link j) ≡ true) l m h.due k.due
+    (λ j i w. not_both (source_due (b.link j)) (h.in_order j i) w) (λ j i w. not_both (source_due (b.link j)) (k.in_order j i) w) in
+    let same : c ≡ d = h.next ∙ sym k.next in
+    cc (e, same)
+
 -- what tells that a link has ended is of one kind
 one_kind : (kind : PushKind) → is_disconnection kind ≡ true → kind ≡ Disconnection
 one_kind Disconnection e = refl
@@ -230,9 +238,13 @@ IsCreating b y = (y ≡ action.Created None) × MayBeCreated b
 abbrev pub IsTelling : Book → Action → Type 0
 IsTelling b y = (l : ℕ) × (info : PushInfo) × (y ≡ action.Push l info) × MayTellPush b l info
 
--- it comes from values: an outcome, that a link is ready, or a push
+-- it asks for a source of credentials
+abbrev pub IsNeeding : Book → Action → Type 0
+IsNeeding b y = (c : ℕ) × (l : ℕ) × (y ≡ action.NeedCreds c l) × MayNeed b c l
+
+-- it comes from values: an outcome, that a link is ready, or a push; or it asks for a source, between these
 abbrev pub IsOfValues : Book → Action → Type 0
-IsOfValues b y = IsAnswering b false y ⊎ (IsCreating b y ⊎ IsTelling b y)
+IsOfValues b y = IsAnswering b false y ⊎ (IsCreating b y ⊎ (IsTelling b y ⊎ IsNeeding b y))
 
 -- what an action of this rank is, and that it may stand
 abbrev pub OfRank : ℕ → Book → Action → Type 0
@@ -267,7 +279,7 @@ creation_of_rank b (Some e) may = (e, refl, may)
 
 -- and a push
 push_of_rank : (b : Book) (l : ℕ) (info : PushInfo) (disconnects : Bool) → is_disconnection info.kind ≡ disconnects → MayPushBy disconnects b l info → OfRank (push_rank disconnects) b (action.Push l info)
-push_of_rank b l info false e may = inr (inr (l, info, refl, may))
+push_of_rank b l info false e may = inr (inr (inl (l, info, refl, may)))
 push_of_rank b l info true e may = (l, info, refl, e, may)
 
 -- and a timer
@@ -284,6 +296,7 @@ of_rank b (action.Took owner.Setup l count) may = absurd may
 of_rank b (action.Took (owner.Try n round) l count) may = subst (λ r. IsMoving b (action.Took (owner.Try n r) l count)) (sym may.0) (take_moving b n l count may.1)
 of_rank b (action.Outcome n o) may = outcome_of_rank b n o may
 of_rank b (action.Push l info) may = push_of_rank b l info (is_disconnection info.kind) refl may
+of_rank b (action.NeedCreds c l) may = inr (inr (inr (c, l, refl, may)))
 of_rank b (action.Close l) may = (l, refl, may)
 of_rank b (action.Created e) may = creation_of_rank b e may
 of_rank b (action.Start l k owner.Setup count len) may = (l, k, count, len, refl, may)
@@ -315,11 +328,24 @@ answer_or_push b n o l info h p q =
 push_or_created : (b : Book) (l : ℕ) (info : PushInfo) → MayTellPush b l info → MayBeCreated b → ⊥
 push_or_created b l info p q = p.created q.l q.ready q.once
 
+-- nor a source and an outcome that values gave
+need_or_answer : (b : Book) (c l n : ℕ) (o : Outcome) → is_over (link_of b n) ≡ false → MayNeed b c l → MayAnswer b n o → ⊥
+need_or_answer b c l n o e p q = not_none (owed b n) o (p.answered n q.asked e) q.owes
+
+-- nor a source and that a link is ready
+need_or_created : (b : Book) (c l : ℕ) → MayNeed b c l → MayBeCreated b → ⊥
+need_or_created b c l p q = p.created q.l q.ready q.once
+
+-- nor a source and a push
+need_or_push : (b : Book) (c l m : ℕ) (info : PushInfo) → MayNeed b c l → MayTellPush b m info → ⊥
+need_or_push b c l m info p q = not_both (source_due (b.link l)) (q.sourced l) p.due
+
 -- beside an outcome that values gave
 beside_verdict : (b : Book) (n : ℕ) (o : Outcome) (y : Action) → Sound b → is_over (link_of b n) ≡ false → MayAnswer b n o → IsOfValues b y → AreOne (action.Outcome n o) y
 beside_verdict b n o y h e p (inl q) = inl (one_answer b n q.0 o q.1 false e q.3 p q.4 ∙ sym q.2)
 beside_verdict b n o y h e p (inr (inl q)) = absurd (answer_or_created b n o e p q.1)
-beside_verdict b n o y h e p (inr (inr q)) = absurd (answer_or_push b n o q.0 q.1 h p q.3)
+beside_verdict b n o y h e p (inr (inr (inl q))) = absurd (answer_or_push b n o q.0 q.1 h p q.3)
+beside_verdict b n o y h e p (inr (inr (inr q))) = absurd (need_or_answer b q.0 q.1 n o e q.3 p)
 
 -- beside an outcome that is owed, another action of its rank
 beside_answer : (b : Book) (n : ℕ) (o : Outcome) (y : Action) (over : Bool) → Sound b → is_over (link_of b n) ≡ over → MayAnswer b n o → OfRank (answer_rank over) b y → AreOne (action.Outcome n o) y
@@ -335,13 +361,22 @@ beside_outcome b n o y (inr p) h q = inl (one_moving b (action.Outcome n o) y (t
 beside_ready : (b : Book) (y : Action) → MayBeCreated b → IsOfValues b y → AreOne (action.Created None) y
 beside_ready b y p (inl q) = absurd (answer_or_created b q.0 q.1 q.3 q.4 p)
 beside_ready b y p (inr (inl q)) = inl (sym q.0)
-beside_ready b y p (inr (inr q)) = absurd (push_or_created b q.0 q.1 q.3 p)
+beside_ready b y p (inr (inr (inl q))) = absurd (push_or_created b q.0 q.1 q.3 p)
+beside_ready b y p (inr (inr (inr q))) = absurd (need_or_created b q.0 q.1 q.3 p)
 
 -- beside a push that came
 beside_telling : (b : Book) (l : ℕ) (info : PushInfo) (y : Action) → Sound b → MayTellPush b l info → IsOfValues b y → AreOne (action.Push l info) y
 beside_telling b l info y h p (inl q) = absurd (answer_or_push b q.0 q.1 l info h q.4 p)
 beside_telling b l info y h p (inr (inl q)) = absurd (push_or_created b l info p q.1)
-beside_telling b l info y h p (inr (inr q)) = inl (one_push b l q.0 info q.1 p q.3 ∙ sym q.2)
+beside_telling b l info y h p (inr (inr (inl q))) = inl (one_push b l q.0 info q.1 p q.3 ∙ sym q.2)
+beside_telling b l info y h p (inr (inr (inr q))) = absurd (need_or_push b q.0 q.1 l info q.3 p)
+
+-- beside a source of credentials
+beside_need : (b : Book) (c l : ℕ) (y : Action) → MayNeed b c l → IsOfValues b y → AreOne (action.NeedCreds c l) y
+beside_need b c l y p (inl q) = absurd (need_or_answer b c l q.0 q.1 q.3 p q.4)
+beside_need b c l y p (inr (inl q)) = absurd (need_or_created b c l p q.1)
+beside_need b c l y p (inr (inr (inl q))) = absurd (need_or_push b c l q.0 q.1 p q.3)
+beside_need b c l y p (inr (inr (inr q))) = inl (one_need b c q.0 l q.1 p q.3 ∙ sym q.2)
 
 -- beside any push
 beside_push : (b : Book) (l : ℕ) (info : PushInfo) (y : Action) (disconnects : Bool) → Sound b → is_disconnection info.kind ≡ disconnects → MayPushBy disconnects b l info → OfRank (push_rank disconnects) b y → AreOne (action.Push l info) y
@@ -367,6 +402,7 @@ beside b (action.Took owner.Setup l count) y p h q = absurd p
 beside b (action.Took (owner.Try n round) l count) y p h q = subst (λ r. AreOne (action.Took (owner.Try n r) l count) y) (sym p.0) (inl (one_moving b (action.Took (owner.Try n 0) l count) y (take_moving b n l count p.1) q))
 beside b (action.Outcome n o) y p h q = beside_outcome b n o y p h q
 beside b (action.Push l info) y p h q = beside_push b l info y (is_disconnection info.kind) h refl p q
+beside b (action.NeedCreds c l) y p h q = beside_need b c l y p q
 beside b (action.Close l) y p h q = inl (one_close b l q.0 p q.2 ∙ sym q.1)
 beside b (action.Created e) y p h q = beside_creation b e y p q
 beside b (action.Start l k owner.Setup count len) y p h q = inl (one_setup b l q.0 k q.1 count q.2 len q.3 p q.5 ∙ sym q.4)

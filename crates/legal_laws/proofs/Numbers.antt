@@ -11,11 +11,11 @@ use Rattle.driver_model.specs.declared.event.EventKind.TheVariants as event
 use Rattle.driver_model.specs.declared.news.LinkFault.TheVariants as fault
 use Rattle.driver_model.specs.declared.action.Purpose.{Purpose}
 use Rattle.driver_model.specs.declared.action.Purpose.TheVariants as purpose
-use Rattle.driver_model.specs.News.{News, silence, connected, refused, overdue, took, came, failed, news_of, for_link, of_timer}
+use Rattle.driver_model.specs.News.{News, silence, connected, refused, overdue, took, came, failed, authorized, denied, deserted, news_of, for_link, of_timer, is_source_of}
 use Rattle.driver_model.specs.declared.outcome.Outcome.{Outcome}
-use Rattle.legal_trace.specs.Ledger.{Ledger, End, asks, begins, offers, ends, is_over, ending, ending_alive, ending_asked, noted_each}
+use Rattle.legal_trace.specs.Ledger.{Ledger, End, asks, begins, offers, ends, is_over, ending, ending_alive, ending_asked, noted_each, sources}
 use Rattle.legal_trace.specs.Story.{Story, blank_story, is_open, is_told, handed_in, left, holds, clocked, fires, tried, waits, answered}
-use Rattle.legal_trace.specs.Book.{Book, entered, lines_of, if_mine, info_in, message_of, current, is_clock_of, after_event, submitted_by, is_unspoken}
+use Rattle.legal_trace.specs.Book.{Book, entered, lines_of, if_mine, info_in, message_of, current, is_clock_of, after_event, submitted_by, is_unspoken, wanted_in}
 use Rattle.legal_trace.specs.Events.{is_bad_event}
 use Rattle.legal_trace.specs.Legal.{MayAnswer, MayTell, MayTimer, MayStand, IsOpen, CanMove}
 use Rattle.legal_trace.proofs.Ledgers.{each_keeps, mine_keeps, IsAsked, asked_keeps, IsUnasked, unasked_hears}
@@ -44,7 +44,7 @@ not_of_timer l (Some (purpose.Connect m)) e = not_for_link (m == l) overdue (λ 
 not_of_timer l (Some (purpose.Response who)) e = cc e
 
 -- the connect of a link that was not asked for can't succeed
-not_connected : (b : Book) (l : ℕ) (kind : EventKind) → b.links ≤ l → is_bad_event b kind ≡ false → news_of b.timers l kind ≡ connected → ⊥
+not_connected : (b : Book) (l : ℕ) (kind : EventKind) → b.links ≤ l → is_bad_event b kind ≡ false → news_of b.timers b.sources l kind ≡ connected → ⊥
 unfolding is_bad_event
 not_connected b l (event.Connected m) i good e =
     let known : m < b.links = not_le_from b.links m good in
@@ -59,6 +59,9 @@ not_connected b l (event.ReadFault m kind) i good e = not_for_link (m == l) (fai
 not_connected b l (event.WriteFault m kind) i good e = not_for_link (m == l) (failed (fault.Io kind)) (λ x. cc x) e
 not_connected b l event.Shutdown i good e = cc e
 not_connected b l (event.Timeout ms) i good e = cc e
+not_connected b l (event.Creds c auth) i good e = not_for_link (is_source_of l (slice_get b.sources c)) (authorized auth) (λ x. cc x) e
+not_connected b l (event.CredsError c text) i good e = not_for_link (is_source_of l (slice_get b.sources c)) (denied text) (λ x. cc x) e
+not_connected b l (event.CredsEnd c) i good e = not_for_link (is_source_of l (slice_get b.sources c)) deserted (λ x. cc x) e
 not_connected b l (event.Submit s) i good e = cc e
 not_connected b l (event.Cancel s) i good e = cc e
 
@@ -69,14 +72,15 @@ unasked_stays l h = left_if l.up (ending_alive l) (if l.asked && not (is_over l)
 -- a link that was not asked for is told nothing of its own
 unasked_kept : (b : Book) (l : ℕ) (a : Action) → MayStand b a → (entered b a).links ≤ l → IsUnasked (b.link l) → IsUnasked (noted_each (b.link l) (lines_of b l a))
 unasked_kept b l (action.Turn k (cause.Opening config word)) may i h = h
-unasked_kept b l (action.Turn k (cause.Event e)) may i h = unasked_hears (b.link l) k (news_of b.timers l e.kind) (not_connected b l e.kind i may.is_for.2) h
+unasked_kept b l (action.Turn k (cause.Event e)) may i h = unasked_hears (b.link l) k (news_of b.timers b.sources l e.kind) (not_connected b l e.kind i may.is_for.2) h
 unasked_kept b l (action.Connect m host port) may i h =
     let e : m ≡ b.links = may.next in
     let other : (m == l) ≡ false = ne_test m l (omega arith) in
-    mine_keeps IsUnasked (m == l) (b.link l) (asks (info_in b.config)) (λ t. absurd (not_both (m == l) other t)) h
+    mine_keeps IsUnasked (m == l) (b.link l) (asks (info_in b.config) (wanted_in b.config)) (λ t. absurd (not_both (m == l) other t)) h
 unasked_kept b l (action.Timer t ms what) may i h = h
 unasked_kept b l (action.Took who m count) may i h = h
 unasked_kept b l (action.Push m info) may i h = push_keeps IsUnasked (m == l) info.kind (b.link l) h h h
+unasked_kept b l (action.NeedCreds c m) may i h = mine_keeps IsUnasked (m == l) (b.link l) sources (λ t. h) h
 unasked_kept b l (action.Close m) may i h =
     mine_keeps IsUnasked (m == l) (b.link l) (ends (b.turns - 1))
     (λ t. absurd (not_none (ending (b.link m)) may.why (unasked_stays (b.link m) (subst (λ j. IsUnasked (b.link j)) (sym (eq_from m l t)) h)) may.ends)) h
@@ -94,6 +98,7 @@ links_grow b (action.Connect m host port) = omega arith
 links_grow b (action.Timer t ms what) = omega arith
 links_grow b (action.Took who m count) = omega arith
 links_grow b (action.Push m info) = omega arith
+links_grow b (action.NeedCreds c m) = omega arith
 links_grow b (action.Close m) = omega arith
 links_grow b (action.Write m bytes) = omega arith
 links_grow b (action.Wait who kind) = omega arith
@@ -111,13 +116,14 @@ asked_kept b l (action.Turn k (cause.Opening config word)) may h i = asked_stays
 asked_kept b l (action.Turn k (cause.Event e)) may h i = asked_stays b l (action.Turn k (cause.Event e)) (h.asked l i)
 asked_kept b l (action.Connect m host port) may h i =
     let e : m ≡ b.links = may.next in
-    by_test (m == l) (IsAsked (noted_each (b.link l) (if_mine (m == l) (asks (info_in b.config)))))
-    (λ t. subst (λ (x : Bool). IsAsked (noted_each (b.link l) (if_mine x (asks (info_in b.config))))) (sym t) refl)
-    (λ f. let other : m ≢ l = ne_from m l f in mine_keeps IsAsked (m == l) (b.link l) (asks (info_in b.config)) (λ t. refl) (h.asked l (omega arith)))
+    by_test (m == l) (IsAsked (noted_each (b.link l) (if_mine (m == l) (asks (info_in b.config) (wanted_in b.config)))))
+    (λ t. subst (λ (x : Bool). IsAsked (noted_each (b.link l) (if_mine x (asks (info_in b.config) (wanted_in b.config))))) (sym t) refl)
+    (λ f. let other : m ≢ l = ne_from m l f in mine_keeps IsAsked (m == l) (b.link l) (asks (info_in b.config) (wanted_in b.config)) (λ t. refl) (h.asked l (omega arith)))
 asked_kept b l (action.Timer t ms what) may h i = asked_stays b l (action.Timer t ms what) (h.asked l i)
 asked_kept b l (action.Took owner.Setup m count) may h i = absurd may
 asked_kept b l (action.Took (owner.Try n round) m count) may h i = asked_stays b l (action.Took (owner.Try n round) m count) (h.asked l i)
 asked_kept b l (action.Push m info) may h i = asked_stays b l (action.Push m info) (h.asked l i)
+asked_kept b l (action.NeedCreds c m) may h i = asked_stays b l (action.NeedCreds c m) (h.asked l i)
 asked_kept b l (action.Close m) may h i = asked_stays b l (action.Close m) (h.asked l i)
 asked_kept b l (action.Write m bytes) may h i = asked_stays b l (action.Write m bytes) (h.asked l i)
 asked_kept b l (action.Wait owner.Setup kind) may h i = absurd may
@@ -196,6 +202,9 @@ event_leaves_blank b n (event.Connected l) good h i = h n (omega arith)
 event_leaves_blank b n (event.Refused l f) good h i = h n (omega arith)
 event_leaves_blank b n (event.Fired t) good h i = chosen (λ s. s ≡ blank_story) (is_clock_of n (slice_get b.timers t)) (fires (b.story n)) (b.story n) (λ e. fires_blank (b.story n) (h n (omega arith))) (λ f. h n (omega arith))
 event_leaves_blank b n (event.Timeout ms) good h i = h n (omega arith)
+event_leaves_blank b n (event.Creds c auth) good h i = h n (omega arith)
+event_leaves_blank b n (event.CredsError c text) good h i = h n (omega arith)
+event_leaves_blank b n (event.CredsEnd c) good h i = h n (omega arith)
 event_leaves_blank b n (event.Wrote l count) good h i = h n (omega arith)
 event_leaves_blank b n (event.Bytes l piece) good h i = h n (omega arith)
 event_leaves_blank b n (event.Ended l) good h i = h n (omega arith)
@@ -217,6 +226,7 @@ stories_kept b (action.Timer t ms what) may h n i = timer_leaves_blank b t ms wh
 stories_kept b (action.Took owner.Setup l count) may h n i = absurd may
 stories_kept b (action.Took (owner.Try m round) l count) may h n i = others_blank b m n (holds (b.story n) count) h i (mover_is_numbered b m h (taker_moves b m l count may.1))
 stories_kept b (action.Push l info) may h n i = h n i
+stories_kept b (action.NeedCreds c l) may h n i = h n i
 stories_kept b (action.Close l) may h n i = h n i
 stories_kept b (action.Write l bytes) may h n i = h n i
 stories_kept b (action.Wait owner.Setup kind) may h n i = absurd may

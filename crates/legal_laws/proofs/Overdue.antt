@@ -10,7 +10,7 @@ use Rattle.driver_model.specs.declared.action.Owner.TheVariants as owner
 use Rattle.driver_model.specs.declared.action.Purpose.{Purpose}
 use Rattle.driver_model.specs.declared.event.EventKind.{EventKind}
 use Rattle.driver_model.specs.declared.event.EventKind.TheVariants as event
-use Rattle.legal_trace.specs.Ledger.{begins, offers, ends, failure_in, setup_due}
+use Rattle.legal_trace.specs.Ledger.{begins, offers, ends, failure_in, setup_due, sources}
 use Rattle.legal_trace.specs.Story.{Story, is_open, handed_in, left, holds, clocked, fires, tried, waits, answered}
 use Rattle.legal_trace.specs.Book.{Book, blank_book, book, entered, entered_each, message_of, current, is_clock_of, after_event, is_unspoken}
 use Rattle.legal_trace.specs.Legal.{MayTimer, MayTime, MayStand, AllStand, link_of}
@@ -55,6 +55,7 @@ quiet_stays b (action.Timer t ms what) may h some l q = q
 quiet_stays b (action.Took owner.Setup m count) may h some l q = absurd may
 quiet_stays b (action.Took (owner.Try n round) m count) may h some l q = q
 quiet_stays b (action.Push m info) may h some l q = push_keeps (IsQuiet []) (m == l) info.kind (b.link l) (record { quiet = q.quiet; tells = q.tells }) (record { quiet = q.quiet; tells = q.tells }) q
+quiet_stays b (action.NeedCreds c m) may h some l q = mine_keeps (IsQuiet []) (m == l) (b.link l) sources (λ t. record { quiet = q.quiet; tells = q.tells }) q
 quiet_stays b (action.Close m) may h some l q = mine_keeps (IsQuiet []) (m == l) (b.link l) (ends (b.turns - 1)) (λ t. ends_quiet [] (b.link l) (b.turns - 1) q) q
 quiet_stays b (action.Write m bytes) may h some l q = mine_keeps (IsQuiet []) (m == l) (b.link l) (offers bytes) (λ t. record { quiet = q.quiet; tells = q.tells }) q
 quiet_stays b (action.Wait owner.Setup kind) may h some l q = absurd may
@@ -106,6 +107,7 @@ clock_before b (action.Connect m host port) may h run n c = run.asked n c
 clock_before b (action.Timer t ms what) may h run n c = elim (clock_more n b.timers what c) [ inl before ↦ run.asked n before | inr new ↦ new_clock b t ms what n h may new ]
 clock_before b (action.Took who m count) may h run n c = run.asked n c
 clock_before b (action.Push m info) may h run n c = run.asked n c
+clock_before b (action.NeedCreds s m) may h run n c = run.asked n c
 clock_before b (action.Close m) may h run n c = run.asked n c
 clock_before b (action.Write m bytes) may h run n c = run.asked n c
 clock_before b (action.Wait who kind) may h run n c = run.asked n c
@@ -131,6 +133,9 @@ event_over b n (event.Ended l) = λ e. inl e
 event_over b n (event.ReadFault l kind) = λ e. inl e
 event_over b n (event.WriteFault l kind) = λ e. inl e
 event_over b n (event.Timeout ms) = λ e. inl e
+event_over b n (event.Creds c auth) = λ e. inl e
+event_over b n (event.CredsError c text) = λ e. inl e
+event_over b n (event.CredsEnd c) = λ e. inl e
 event_over b n event.Shutdown = λ e. inl e
 
 -- and behind each action
@@ -142,6 +147,7 @@ over_before b (action.Timer t ms what) n = chosen (WasOver b n) (is_clock_of n (
 over_before b (action.Took owner.Setup l count) n = λ e. inl e
 over_before b (action.Took (owner.Try m round) l count) n = chosen (WasOver b n) (m == n) (holds (b.story n) count) (b.story n) (λ t e. inl e) (λ f e. inl e)
 over_before b (action.Push m info) n = λ e. inl e
+over_before b (action.NeedCreds c m) n = λ e. inl e
 over_before b (action.Close m) n = λ e. inl e
 over_before b (action.Write m bytes) n = λ e. inl e
 over_before b (action.Wait owner.Setup kind) n = λ e. inl e

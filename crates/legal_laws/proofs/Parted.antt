@@ -13,12 +13,13 @@ use Rattle.driver_model.specs.declared.config.Config.{Config}
 use Rattle.driver_model.specs.declared.event.Event.{Event}
 use Rattle.driver_model.specs.declared.outcome.Outcome.{Outcome}
 use Rattle.driver_model.specs.declared.push_info.PushInfo.{PushInfo}
-use Rattle.driver_model.specs.News.{News, silence, connected, refused, overdue, took, came, failed, shut, news_of}
+use Rattle.driver_model.specs.News.{News, silence, connected, refused, overdue, took, came, failed, shut, news_of, authorized, denied, deserted}
 use Rattle.driver_model.specs.Push.{is_disconnection}
-use Rattle.legal_trace.specs.Ledger.{Ledger, Line, End, Ending, by_opening, asks, hears, begins, offers, tells, ends, parts, noted, noted_each, with_news, refused_in, bytes_came, is_over, is_fault, is_cut, is_set_up, setup_result, error_in, dials, ending, ending_alive, ending_by, ending_unready, ending_asked, ending_or_shutdown, MayNote, AllNoted}
-use Rattle.legal_trace.specs.Book.{Book, blank_book, book, entered, entered_each, push_line, info_in, message_of, lines_of_each}
+use Rattle.legal_trace.specs.Ledger.{Ledger, Line, End, Ending, by_opening, asks, hears, begins, offers, tells, ends, parts, noted, noted_each, with_news, refused_in, bytes_came, is_over, is_fault, is_cut, is_set_up, setup_result, error_in, dials, ending, ending_alive, ending_by, ending_unready, ending_asked, ending_or_shutdown, MayNote, AllNoted, sources, lacks_credentials, awaits_credentials, authorized_by}
+use Rattle.legal_trace.specs.Book.{Book, blank_book, book, entered, entered_each, push_line, info_in, message_of, lines_of_each, wanted_in}
 use Rattle.legal_trace.specs.Legal.{MayStand, MayAnswer, MayTell, MayPart, AllStand, is_heard, is_heard_in, Legal}
 use Rattle.legal_trace.proofs.Books.{stand_front, stand_behind}
+use Rattle.legal_trace.proofs.Sources.{awaits_up}
 use Rattle.legal_trace.proofs.Ledgers.{each_keeps, mine_keeps, UpIsNotOver, up_keeps, dials_from}
 use Rattle.legal_trace.proofs.Moves.{mover_is_up, starter_moves, teller_moves}
 use Rattle.legal_trace.proofs.Plain.{none_from, not_none}
@@ -60,6 +61,9 @@ hears_parted l turn overdue = refl
 hears_parted l turn (took count) = chosen (λ (x : Ledger). x.parted ≡ l.parted) l.up (record l { taken = l.taken ++ take count l.offer; offer = [] }) l (λ t. refl) (λ e. refl)
 hears_parted l turn (came piece) = chosen (λ (x : Ledger). x.parted ≡ l.parted) l.up (bytes_came l piece) l (λ t. refl) (λ e. refl)
 hears_parted l turn (failed f) = refl
+hears_parted l turn (authorized c) = chosen (λ (x : Ledger). x.parted ≡ l.parted) (awaits_credentials l) (authorized_by l c) l (λ t. refl) (λ e. refl)
+hears_parted l turn (denied text) = refl
+hears_parted l turn deserted = refl
 hears_parted l turn shut = refl
 
 -- the end of that link was told
@@ -68,12 +72,13 @@ WasParted l = l.parted ≡ true
 
 -- so it stays
 parted_keeps : (l : Ledger) (x : Line) → WasParted l → WasParted (noted l x)
-parted_keeps l (asks info) h = h
+parted_keeps l (asks info wanted) h = h
 parted_keeps l (hears turn news) h = hears_parted l turn news ∙ h
 parted_keeps l (begins s) h = h
 parted_keeps l (offers bytes) h = h
 parted_keeps l tells h = h
 parted_keeps l (ends turn) h = h
+parted_keeps l sources h = h
 parted_keeps l parts h = refl
 
 -- behind many actions
@@ -94,10 +99,11 @@ parted_by b l (action.Push m info) not_yet then_is =
     (λ t. chosen (λ x. WasParted (noted (b.link l) x) → Disconnects l (action.Push m info)) (is_disconnection info.kind) parts tells (λ d e. (eq_from m l t, d)) (λ n e. absurd (not_both (b.link l).parted not_yet e)))
     (λ e. absurd (not_both (b.link l).parted not_yet e)) then_is
 parted_by b l (action.Turn k (cause.Opening config word)) not_yet then_is = absurd (not_both (b.link l).parted not_yet then_is)
-parted_by b l (action.Turn k (cause.Event e)) not_yet then_is = absurd (not_both (b.link l).parted not_yet (sym (hears_parted (b.link l) k (news_of b.timers l e.kind)) ∙ then_is))
-parted_by b l (action.Connect m host port) not_yet then_is = absurd (not_both (b.link l).parted not_yet (mine_keeps (λ (x : Ledger). WasParted x → WasParted (b.link l)) (m == l) (b.link l) (asks (info_in b.config)) (λ t e. e) (λ e. e) then_is))
+parted_by b l (action.Turn k (cause.Event e)) not_yet then_is = absurd (not_both (b.link l).parted not_yet (sym (hears_parted (b.link l) k (news_of b.timers b.sources l e.kind)) ∙ then_is))
+parted_by b l (action.Connect m host port) not_yet then_is = absurd (not_both (b.link l).parted not_yet (mine_keeps (λ (x : Ledger). WasParted x → WasParted (b.link l)) (m == l) (b.link l) (asks (info_in b.config) (wanted_in b.config)) (λ t e. e) (λ e. e) then_is))
 parted_by b l (action.Timer t ms what) not_yet then_is = absurd (not_both (b.link l).parted not_yet then_is)
 parted_by b l (action.Took who m count) not_yet then_is = absurd (not_both (b.link l).parted not_yet then_is)
+parted_by b l (action.NeedCreds c m) not_yet then_is = absurd (not_both (b.link l).parted not_yet (mine_keeps (λ (x : Ledger). WasParted x → WasParted (b.link l)) (m == l) (b.link l) sources (λ t e. e) (λ e. e) then_is))
 parted_by b l (action.Close m) not_yet then_is = absurd (not_both (b.link l).parted not_yet (mine_keeps (λ (x : Ledger). WasParted x → WasParted (b.link l)) (m == l) (b.link l) (ends (b.turns - 1)) (λ t e. e) (λ e. e) then_is))
 parted_by b l (action.Write m bytes) not_yet then_is = absurd (not_both (b.link l).parted not_yet (mine_keeps (λ (x : Ledger). WasParted x → WasParted (b.link l)) (m == l) (b.link l) (offers bytes) (λ t e. e) (λ e. e) then_is))
 parted_by b l (action.Wait who kind) not_yet then_is = absurd (not_both (b.link l).parted not_yet then_is)
@@ -118,17 +124,21 @@ hears_cut l turn overdue = λ e. e
 hears_cut l turn (took count) = chosen (λ (x : Ledger). IsCut x → IsCut l) l.up (record l { taken = l.taken ++ take count l.offer; offer = [] }) l (λ t e. e) (λ f e. e)
 hears_cut l turn (came piece) = chosen (λ (x : Ledger). IsCut x → IsCut l) l.up (bytes_came l piece) l (λ t e. e) (λ f e. e)
 hears_cut l turn (failed f) = λ e. e
+hears_cut l turn (authorized c) = chosen (λ (x : Ledger). IsCut x → IsCut l) (awaits_credentials l) (authorized_by l c) l (λ t e. e) (λ f e. e)
+hears_cut l turn (denied text) = λ e. e
+hears_cut l turn deserted = λ e. e
 hears_cut l turn shut = λ e. e
 
 -- it is closed then
 cut_by : (b : Book) (l : ℕ) (a : Action) → is_cut (b.link l).end ≡ false → IsCut ((entered b a).link l) → a ≡ action.Close l
+cut_by b l (action.NeedCreds c m) not_yet then_is = absurd (not_both (is_cut (b.link l).end) not_yet (mine_keeps (λ (x : Ledger). IsCut x → IsCut (b.link l)) (m == l) (b.link l) sources (λ t e. e) (λ e. e) then_is))
 cut_by b l (action.Close m) not_yet then_is =
     mine_keeps (λ (x : Ledger). IsCut x → action.Close m ≡ action.Close l) (m == l) (b.link l) (ends (b.turns - 1))
     (λ t e. ap action.Close (eq_from m l t)) (λ e. absurd (not_both (is_cut (b.link l).end) not_yet e)) then_is
 cut_by b l (action.Push m info) not_yet then_is = absurd (not_both (is_cut (b.link l).end) not_yet (push_keeps (λ (x : Ledger). IsCut x → IsCut (b.link l)) (m == l) info.kind (b.link l) (λ e. e) (λ e. e) (λ e. e) then_is))
 cut_by b l (action.Turn k (cause.Opening config word)) not_yet then_is = absurd (not_both (is_cut (b.link l).end) not_yet then_is)
-cut_by b l (action.Turn k (cause.Event e)) not_yet then_is = absurd (not_both (is_cut (b.link l).end) not_yet (hears_cut (b.link l) k (news_of b.timers l e.kind) then_is))
-cut_by b l (action.Connect m host port) not_yet then_is = absurd (not_both (is_cut (b.link l).end) not_yet (mine_keeps (λ (x : Ledger). IsCut x → IsCut (b.link l)) (m == l) (b.link l) (asks (info_in b.config)) (λ t e. e) (λ e. e) then_is))
+cut_by b l (action.Turn k (cause.Event e)) not_yet then_is = absurd (not_both (is_cut (b.link l).end) not_yet (hears_cut (b.link l) k (news_of b.timers b.sources l e.kind) then_is))
+cut_by b l (action.Connect m host port) not_yet then_is = absurd (not_both (is_cut (b.link l).end) not_yet (mine_keeps (λ (x : Ledger). IsCut x → IsCut (b.link l)) (m == l) (b.link l) (asks (info_in b.config) (wanted_in b.config)) (λ t e. e) (λ e. e) then_is))
 cut_by b l (action.Timer t ms what) not_yet then_is = absurd (not_both (is_cut (b.link l).end) not_yet then_is)
 cut_by b l (action.Took who m count) not_yet then_is = absurd (not_both (is_cut (b.link l).end) not_yet then_is)
 cut_by b l (action.Write m bytes) not_yet then_is = absurd (not_both (is_cut (b.link l).end) not_yet (mine_keeps (λ (x : Ledger). IsCut x → IsCut (b.link l)) (m == l) (b.link l) (offers bytes) (λ t e. e) (λ e. e) then_is))
@@ -157,6 +167,9 @@ unready_faults_not l overdue = refl
 unready_faults_not l (took count) = refl
 unready_faults_not l (came piece) = chosen NoFault (is_spoiled l.rest) (Some (by_opening error.Closed)) None (λ t. refl) (λ f. refl)
 unready_faults_not l (failed f) = refl
+unready_faults_not l (authorized c) = refl
+unready_faults_not l (denied text) = chosen NoFault (lacks_credentials l) (Some (by_opening (error.Credentials text))) None (λ t. refl) (λ f. refl)
+unready_faults_not l deserted = chosen NoFault (lacks_credentials l) (Some (by_opening (error.AuthFailed []))) None (λ t. refl) (λ f. refl)
 unready_faults_not l shut = refl
 
 -- nor is what ends one whose connect isn't answered
@@ -168,6 +181,9 @@ asked_faults_not overdue = refl
 asked_faults_not (took count) = refl
 asked_faults_not (came piece) = refl
 asked_faults_not (failed f) = refl
+asked_faults_not (authorized c) = refl
+asked_faults_not (denied text) = refl
+asked_faults_not deserted = refl
 asked_faults_not shut = refl
 
 -- nor is a setup that failed
@@ -200,18 +216,22 @@ hears_set l turn overdue up h = h
 hears_set l turn (took count) up h = chosen CutIsSet l.up (record l { taken = l.taken ++ take count l.offer; offer = [] }) l (λ t. h) (λ e. h)
 hears_set l turn (came piece) up h = chosen CutIsSet l.up (bytes_came l piece) l (λ t cut. absurd (lives_uncut l (up t) cut)) (λ e. h)
 hears_set l turn (failed f) up h = h
+hears_set l turn (authorized c) up h = chosen CutIsSet (awaits_credentials l) (authorized_by l c) l (λ t cut. absurd (lives_uncut l (up (awaits_up l t)) cut)) (λ e. h)
+hears_set l turn (denied text) up h = h
+hears_set l turn deserted up h = h
 hears_set l turn shut up h = h
 
 -- and with each action that may stand
 set_kept : (b : Book) (l : ℕ) (a : Action) → MayStand b a → Sound b → CutIsSet (b.link l) → CutIsSet ((entered b a).link l)
 set_kept b l (action.Turn k (cause.Opening config word)) may s h = h
-set_kept b l (action.Turn k (cause.Event e)) may s h = hears_set (b.link l) k (news_of b.timers l e.kind) (s.up l) h
-set_kept b l (action.Connect m host port) may s h = mine_keeps CutIsSet (m == l) (b.link l) (asks (info_in b.config))
+set_kept b l (action.Turn k (cause.Event e)) may s h = hears_set (b.link l) k (news_of b.timers b.sources l e.kind) (s.up l) h
+set_kept b l (action.Connect m host port) may s h = mine_keeps CutIsSet (m == l) (b.link l) (asks (info_in b.config) (wanted_in b.config))
     (λ t cut. let e : m ≡ l = eq_from m l t in let next : m ≡ b.links = may.next in absurd (lives_uncut (b.link l) (s.links.unasked l (omega (arith, e, next))).2 cut)) h
 set_kept b l (action.Timer t ms what) may s h = h
 set_kept b l (action.Took owner.Setup m count) may s h = absurd may
 set_kept b l (action.Took (owner.Try n round) m count) may s h = h
 set_kept b l (action.Push m info) may s h = push_keeps CutIsSet (m == l) info.kind (b.link l) h h h
+set_kept b l (action.NeedCreds c m) may s h = mine_keeps CutIsSet (m == l) (b.link l) sources (λ t. h) h
 set_kept b l (action.Close m) may s h = mine_keeps CutIsSet (m == l) (b.link l) (ends (b.turns - 1)) (λ t cut. fault_is_set (b.link l) cut) h
 set_kept b l (action.Write m bytes) may s h = mine_keeps CutIsSet (m == l) (b.link l) (offers bytes) (λ t. h) h
 set_kept b l (action.Wait owner.Setup kind) may s h = absurd may
@@ -245,16 +265,20 @@ end_hears end l turn overdue h = h
 end_hears end l turn (took count) h = chosen (EndedAs end) l.up (record l { taken = l.taken ++ take count l.offer; offer = [] }) l (λ t. h) (λ e. h)
 end_hears end l turn (came piece) h = chosen (EndedAs end) l.up (bytes_came l piece) l (λ t. h) (λ e. h)
 end_hears end l turn (failed f) h = h
+end_hears end l turn (authorized c) h = chosen (EndedAs end) (awaits_credentials l) (authorized_by l c) l (λ t. h) (λ e. h)
+end_hears end l turn (denied text) h = h
+end_hears end l turn deserted h = h
 end_hears end l turn shut h = h
 
 -- nor any line that may stand
 end_noted : (end : End) (l : Ledger) (x : Line) → MayNote l x → UpIsNotOver l → EndedAs end l → EndedAs end (noted l x)
-end_noted end l (asks info) may up h = h
+end_noted end l (asks info wanted) may up h = h
 end_noted end l (hears turn news) may up h = end_hears end l turn news h
 end_noted end l (begins s) may up h = h
 end_noted end l (offers bytes) may up h = h
 end_noted end l tells may up h = h
 end_noted end l (ends turn) may up h = absurd (not_none (ending l) may.0 (over_stays l end up h) may.1)
+end_noted end l sources may up h = h
 end_noted end l parts may up h = h
 
 end_stays : (end : End) (l : Ledger) (lines : List Line) → AllNoted l lines → UpIsNotOver l → EndedAs end l → EndedAs end (noted_each l lines)

@@ -103,6 +103,9 @@ event_less b n (event.Ended l) = omega arith
 event_less b n (event.ReadFault l kind) = omega arith
 event_less b n (event.WriteFault l kind) = omega arith
 event_less b n (event.Timeout ms) = omega arith
+event_less b n (event.Creds c auth) = omega arith
+event_less b n (event.CredsError c text) = omega arith
+event_less b n (event.CredsEnd c) = omega arith
 event_less b n event.Shutdown = omega arith
 
 -- where permits are taken, no more are held than there are
@@ -145,6 +148,7 @@ within_kept b (action.Timer t ms what) may sound h = kept_by b (action.Timer t m
 within_kept b (action.Took owner.Setup l count) may sound h = absurd may
 within_kept b (action.Took (owner.Try m round) l count) may sound h = taken_within b m round l count may.1 may sound h
 within_kept b (action.Push m info) may sound h = kept_by b (action.Push m info) may sound refl (λ n i. omega arith) h
+within_kept b (action.NeedCreds c m) may sound h = kept_by b (action.NeedCreds c m) may sound refl (λ n i. omega arith) h
 within_kept b (action.Close m) may sound h = kept_by b (action.Close m) may sound refl (λ n i. omega arith) h
 within_kept b (action.Write m bytes) may sound h = kept_by b (action.Write m bytes) may sound refl (λ n i. omega arith) h
 within_kept b (action.Wait owner.Setup kind) may sound h = absurd may

@@ -5,12 +5,13 @@ use Rattle.containers.proofs.Choices.{by_test, chosen, taken_if, both_left, both
 use Rattle.redis_error.specs.declared.redis_error.RedisError.{RedisError}
 use Rattle.redis_error.specs.declared.redis_error.RedisError.TheVariants as error
 use Rattle.driver_model.specs.declared.news.LinkFault.TheVariants as fault
-use Rattle.driver_model.specs.News.{News, silence, connected, refused, overdue, took, came, failed, shut}
+use Rattle.driver_model.specs.News.{News, silence, connected, refused, overdue, took, came, failed, shut, authorized, denied, deserted}
 use Rattle.resp_read.specs.Values.{is_spoiled}
-use Rattle.legal_trace.specs.Ledger.{Ledger, Line, Start, End, Ending, is_of_setup, is_set_up, setup_result, error_in, ending_by, ending_unready, ending_alive, by_fault, asks, hears, begins, offers, tells, ends, parts, noted, noted_each, with_news, refused_in, bytes_came, is_over, dials, ending, ending_up, ending_asked, ending_or_shutdown, failure_of, failure_in, MayNote, AllNoted}
+use Rattle.legal_trace.specs.Ledger.{Ledger, Line, Start, End, Ending, is_of_setup, is_set_up, setup_result, error_in, ending_by, ending_unready, ending_alive, by_fault, asks, hears, begins, offers, tells, ends, parts, noted, noted_each, with_news, refused_in, bytes_came, is_over, dials, ending, ending_up, ending_asked, ending_or_shutdown, failure_of, failure_in, MayNote, AllNoted, sources, awaits_credentials, authorized_by}
 use Rattle.legal_trace.proofs.Ledgers.{dials_from, UpIsNotOver, up_keeps}
 use Rattle.legal_trace.proofs.Plain.{none_from, not_none}
 use Rattle.legal_trace.proofs.Setups.{AreSetups, set_came, set_begins}
+use Rattle.legal_trace.proofs.Sources.{awaits_unset, awaits_up}
 
 -- its opening is over: its connect is not open, since it was not asked for, is up, or has ended; and where it is up it is set up
 abbrev pub Quiet : Ledger → Type 0
@@ -26,6 +27,10 @@ quiet_hears l turn overdue asked shaped h = h
 quiet_hears l turn (took count) asked shaped h = chosen Quiet l.up (record l { taken = l.taken ++ take count l.offer; offer = [] }) l (λ t. h) (λ e. h)
 quiet_hears l turn (came piece) asked shaped h = chosen Quiet l.up (bytes_came l piece) l (λ t. (h.0, λ u. set_came l piece shaped (h.1 u))) (λ e. h)
 quiet_hears l turn (failed f) asked shaped h = h
+quiet_hears l turn (authorized c) asked shaped h = chosen Quiet (awaits_credentials l) (authorized_by l c) l
+    (λ t. let lacks : is_set_up l ≡ true → ⊥ = awaits_unset l t in absurd (lacks (h.1 (awaits_up l t)))) (λ e. h)
+quiet_hears l turn (denied text) asked shaped h = h
+quiet_hears l turn deserted asked shaped h = h
 quiet_hears l turn shut asked shaped h = h
 
 -- no opening fails by these
@@ -41,6 +46,9 @@ up_fails_not l overdue = refl
 up_fails_not l (took count) = refl
 up_fails_not l (came piece) = chosen NoFailure (is_spoiled l.rest) (Some (by_fault fault.Parse)) None (λ t. refl) (λ f. refl)
 up_fails_not l (failed f) = refl
+up_fails_not l (authorized c) = refl
+up_fails_not l (denied text) = refl
+up_fails_not l deserted = refl
 up_fails_not l shut = refl
 
 -- nor is what ends one whose connect is not open
@@ -72,6 +80,9 @@ tells_hears shown l turn overdue h = h.tells
 tells_hears shown l turn (took count) h = chosen (Tells shown) l.up _ l (λ t. h.tells) (λ e. h.tells)
 tells_hears shown l turn (came piece) h = chosen (Tells shown) l.up (bytes_came l piece) l (λ t. h.tells) (λ e. h.tells)
 tells_hears shown l turn (failed f) h = h.tells
+tells_hears shown l turn (authorized c) h = chosen (Tells shown) (awaits_credentials l) (authorized_by l c) l (λ t. h.tells) (λ e. h.tells)
+tells_hears shown l turn (denied text) h = h.tells
+tells_hears shown l turn deserted h = h.tells
 tells_hears shown l turn shut h = h.tells
 
 -- so it stays with a turn
@@ -119,16 +130,20 @@ failed_hears e l turn overdue h = h
 failed_hears e l turn (took count) h = chosen (FailedWith e) l.up _ l (λ t. h) (λ f. h)
 failed_hears e l turn (came piece) h = chosen (FailedWith e) l.up (bytes_came l piece) l (λ t. h) (λ f. h)
 failed_hears e l turn (failed f) h = h
+failed_hears e l turn (authorized c) h = chosen (FailedWith e) (awaits_credentials l) (authorized_by l c) l (λ t. h) (λ f. h)
+failed_hears e l turn (denied text) h = h
+failed_hears e l turn deserted h = h
 failed_hears e l turn shut h = h
 
 -- with any line that may stand
 failed_noted : (e : RedisError) (l : Ledger) (x : Line) → MayNote l x → UpIsNotOver l → FailedWith e l → FailedWith e (noted l x)
-failed_noted e l (asks info) may up h = h
+failed_noted e l (asks info wanted) may up h = h
 failed_noted e l (hears turn news) may up h = failed_hears e l turn news h
 failed_noted e l (begins s) may up h = h
 failed_noted e l (offers bytes) may up h = h
 failed_noted e l tells may up h = h
 failed_noted e l (ends turn) may up h = let over = failed_is_over l.end e h in absurd (not_none (ending l) may.0 (over_stays l over.0 up over.1) may.1)
+failed_noted e l sources may up h = h
 failed_noted e l parts may up h = h
 
 -- and with many

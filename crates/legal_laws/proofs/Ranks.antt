@@ -12,17 +12,18 @@ use Rattle.driver_model.specs.declared.action.WaitKind.{WaitKind}
 use Rattle.driver_model.specs.Config.{connect_timeout}
 use Rattle.driver_model.specs.Push.{is_disconnection}
 use Rattle.driver_model.specs.declared.push_info.PushInfo.{PushInfo}
-use Rattle.legal_trace.specs.Ledger.{End, Ending, by_shutdown, by_fault, by_opening, failure_of, failure_in, is_fault, is_cut, is_over, IsOffered, ending, next_push}
+use Rattle.legal_trace.specs.Ledger.{End, Ending, by_shutdown, by_fault, by_opening, failure_of, failure_in, is_fault, is_cut, is_over, IsOffered, ending, next_push, source_due}
 use Rattle.legal_trace.specs.Story.{Try, last_of}
 use Rattle.legal_trace.specs.Book.{Book}
 use Rattle.legal_trace.specs.Steps.{is_held_back, next_step}
-use Rattle.legal_trace.specs.Legal.{MayStand, MayTimer, MayAnswer, MayTell, MayWrite, MayWait, MayShowCreation, MayPushBy, IsOpen, link_of, NoneIsOwed, VerdictsAreShown, NoneEnds, FailuresAreShown, ReadyIsShown, PushesAreTold, EndsAreTold, SetupsAreStarted, IsTimed, IsApplied, IsBegun, IsMoved, IsWritten, IsSettled, IsStarted, IsWaiting, CanMove}
+use Rattle.legal_trace.specs.Legal.{MayStand, MayTimer, MayNeed, MayAnswer, MayTell, MayWrite, MayWait, MayShowCreation, MayPushBy, IsOpen, link_of, NoneIsOwed, VerdictsAreShown, NoneEnds, FailuresAreShown, ReadyIsShown, PushesAreTold, SourcesAreAsked, EndsAreTold, SetupsAreStarted, IsTimed, IsApplied, IsBegun, IsMoved, IsWritten, IsSettled, IsStarted, IsWaiting, CanMove}
 use Rattle.legal_trace.proofs.Moves.{teller_moves, starter_moves, taker_moves, asker_moves, same_kind, ready_is_up}
 use Rattle.legal_laws.proofs.Numbers.{up_is_numbered, over_is_numbered, open_is_numbered, unasked_stays}
 use Rattle.legal_laws.proofs.Opens.{still_stays}
 use Rattle.legal_laws.proofs.Quiet.{failed_is_over}
 use Rattle.legal_trace.specs.Owed.{owed}
 use Rattle.legal_trace.proofs.Plain.{not_none}
+use Rattle.legal_trace.proofs.Sources.{source_is_up}
 use Rattle.legal_laws.proofs.Told.{none_unless}
 use Rattle.legal_laws.proofs.Sound.{Sound}
 
@@ -52,9 +53,9 @@ abbrev pub timer_rank : (b : Book) (t ms : ℕ) (what : Purpose) → MayTimer b 
 timer_rank b t ms what (inl opening) = 2
 timer_rank b t ms what (inr response) = 9
 
--- the opening, its connect and its timer, the outcomes of links that have not ended, the creation and the pushes, the closes, the
--- creation that failed, that links have ended, the other outcomes that are owed, the setups, the passes, the writes, the waits,
--- and the next event
+-- the opening, its connect and its timer, the outcomes of links that have not ended, the creation, the sources of credentials and
+-- the pushes, the closes, the creation that failed, that links have ended, the other outcomes that are owed, the setups, the
+-- passes, the writes, the waits, and the next event
 abbrev pub rank : (b : Book) (a : Action) → MayStand b a → ℕ
 rank b (action.Turn k (cause.Opening config word)) may = 0
 rank b (action.Connect l host port) may = 1
@@ -62,6 +63,7 @@ rank b (action.Timer t ms what) may = timer_rank b t ms what may
 rank b (action.Took who l count) may = 9
 rank b (action.Outcome n o) may = outcome_rank b n o may
 rank b (action.Push l info) may = push_rank (is_disconnection info.kind)
+rank b (action.NeedCreds c l) may = 3
 rank b (action.Close l) may = 4
 rank b (action.Created e) may = creation_rank e
 rank b (action.Start l k owner.Setup count len) may = 8
@@ -85,10 +87,11 @@ pub push_first : (disconnects : Bool) → push_rank disconnects < 8
 push_first false = omega arith
 push_first true = omega arith
 
--- what came from values is told: their outcomes, that a link is ready, and the pushes
+-- what came from values is told: their outcomes, that a link is ready, and the pushes; and all sources were asked for
 pub record IsTold (b : Book) : Type 0 where
   pub answered : VerdictsAreShown b
   pub created : ReadyIsShown b
+  pub sourced : SourcesAreAsked b
   pub pushed : PushesAreTold b
 
 -- what is done once nothing of this rank is due
@@ -169,6 +172,7 @@ not_done b (action.Took owner.Setup l count) may h = absurd may
 not_done b (action.Took (owner.Try n round) l count) may h = h n (taker_moves b n l count may.1)
 not_done b (action.Outcome n o) may h = outcome_not_done b n o may h
 not_done b (action.Push l info) may h = push_not_done b l info (is_disconnection info.kind) may h
+not_done b (action.NeedCreds c l) may h = not_both (source_due (b.link l)) (h.sourced l) may.due
 not_done b (action.Close l) may h = not_none (ending (b.link l)) may.why (h l) may.ends
 not_done b (action.Created e) may h = creation_not_done b e may h
 not_done b (action.Start l k owner.Setup count len) may h = not_both (is_held_back b (b.link l)) may.free (h l may.k may.due)
@@ -194,7 +198,7 @@ verdicts b none n o e = none n o
 pub applied : (b : Book) → Sound b → IsApplied b → Reached 8 b
 applied b h done = (
   done.answered,
-  (done.parted, (done.created.failed, (done.ended, (record { answered = verdicts b done.answered; created = done.created.shown; pushed = done.pushed }, (done.timed, linked b h done.created.asked))))),
+  (done.parted, (done.created.failed, (done.ended, (record { answered = verdicts b done.answered; created = done.created.shown; sourced = done.sourced; pushed = done.pushed }, (done.timed, linked b h done.created.asked))))),
 )
 
 -- where setups have started
@@ -259,8 +263,8 @@ no_push_waits : (b : Book) (m : ℕ) (end : End) → Sound b → (b.link m).end 
 no_push_waits b m end h over l heard = none_unless (next_push (b.link l)) (λ p next. none_over b l m end h (h.waits l heard p next) over)
 
 -- so what came from values is told where what it gave is shown
-told_over : (b : Book) (m : ℕ) (end : End) → Sound b → (b.link m).end ≡ Some end → VerdictsAreShown b → IsTold b
-told_over b m end h over answered = record { answered = answered; created = none_ready b m end h over; pushed = no_push_waits b m end h over }
+told_over : (b : Book) (m : ℕ) (end : End) → Sound b → (b.link m).end ≡ Some end → VerdictsAreShown b → SourcesAreAsked b → IsTold b
+told_over b m end h over answered sourced = record { answered = answered; created = none_ready b m end h over; sourced = sourced; pushed = no_push_waits b m end h over }
 
 -- a fault is no failed opening
 fault_fails_not : (why : Ending) (e : RedisError) → is_fault why ≡ true → failure_of why ≡ Some e → ⊥
@@ -300,25 +304,29 @@ answer_reached b n o false e may h = open_is_begun b n h may.asked
 answer_reached b n o true e may h =
     let end = some_end (link_of b n).end e in
     let after = may.after_closes e in
-    (after.3, (after.2, (after.0, (told_over b (b.story n).link end.0 h end.1 after.1, open_is_begun b n h may.asked))))
+    (after.3, (after.2, (after.0, (told_over b (b.story n).link end.0 h end.1 after.1 (may.after_sources e), open_is_begun b n h may.asked))))
 
 -- all before the creation
 creation_reached : (b : Book) (e : Option RedisError) → MayShowCreation b e → Sound b → Reached (creation_rank e) b
 creation_reached b None may h = up_is_begun b may.l h (ready_is_up (b.link may.l) may.ready)
 creation_reached b (Some e) may h =
-    let over = failed_is_over (b.link may.l).end e may.fails in (may.ended, (told_over b may.l over.0 h over.1 may.answered, over_is_begun b may.l over.0 h over.1))
+    let over = failed_is_over (b.link may.l).end e may.fails in (may.ended, (told_over b may.l over.0 h over.1 may.answered may.sourced, over_is_begun b may.l over.0 h over.1))
 
 -- and before a push
 push_reached : (b : Book) (l : ℕ) (info : PushInfo) (disconnects : Bool) → MayPushBy disconnects b l info → Sound b → Reached (push_rank disconnects) b
 push_reached b l info false may h = up_is_begun b l h (h.waits l may.heard may.push may.next)
 push_reached b l info true may h =
     let over = cut_is_over (b.link l).end may.ended in
-    (none_failed_beside b l h may.ended, (may.closed, (told_over b l over.0 h over.1 may.answered, over_is_begun b l over.0 h over.1)))
+    (none_failed_beside b l h may.ended, (may.closed, (told_over b l over.0 h over.1 may.answered may.sourced, over_is_begun b l over.0 h over.1)))
 
 -- and before any outcome
 outcome_reached : (b : Book) (n : ℕ) (o : Outcome) (may : MayAnswer b n o ⊎ MayTell b n o) → Sound b → Reached (outcome_rank b n o may) b
 outcome_reached b n o (inl owes) h = answer_reached b n o (is_over (link_of b n)) refl owes h
 outcome_reached b n o (inr told) h = begun_all b h told.begun
+
+-- before a source of credentials, since its link is up
+need_reached : (b : Book) (c l : ℕ) → MayNeed b c l → Sound b → Reached 3 b
+need_reached b c l may h = up_is_begun b l h (source_is_up (b.link l) may.due)
 
 -- before any timer
 timer_reached : (b : Book) (t ms : ℕ) (what : Purpose) (may : MayTimer b t ms what) → Sound b → Reached (timer_rank b t ms what may) b
@@ -334,7 +342,8 @@ reached b (action.Timer t ms what) may h = timer_reached b t ms what may h
 reached b (action.Took owner.Setup l count) may h = absurd may
 reached b (action.Took (owner.Try n round) l count) may h = begun_all b h may.1.begun
 reached b (action.Push l info) may h = push_reached b l info (is_disconnection info.kind) may h
-reached b (action.Close l) may h = (record { answered = may.answered; created = may.created; pushed = may.pushed }, end_is_begun b l may.why h may.ends)
+reached b (action.NeedCreds c l) may h = need_reached b c l may h
+reached b (action.Close l) may h = (record { answered = may.answered; created = may.created; sourced = may.sourced; pushed = may.pushed }, end_is_begun b l may.why h may.ends)
 reached b (action.Created e) may h = creation_reached b e may h
 reached b (action.Start l k owner.Setup count len) may h = applied b h may.applied
 reached b (action.Start l k (owner.Try n round) count len) may h = begun_all b h may.1.begun

@@ -91,6 +91,9 @@ event_outcomes b n (event.Refused l f) = refl
 event_outcomes b n (event.Fired t) = chosen (λ (s : Story). s.outcomes ≡ (b.story n).outcomes) (is_clock_of n (slice_get b.timers t)) (fires (b.story n)) (b.story n)
     (λ e. chosen (λ (s : Story). s.outcomes ≡ (b.story n).outcomes) (is_open (b.story n)) (record (b.story n) { overdue = true }) (b.story n) (λ o. refl) (λ o. refl)) (λ f. refl)
 event_outcomes b n (event.Timeout ms) = refl
+event_outcomes b n (event.Creds c auth) = refl
+event_outcomes b n (event.CredsError c text) = refl
+event_outcomes b n (event.CredsEnd c) = refl
 event_outcomes b n (event.Wrote l count) = refl
 event_outcomes b n (event.Bytes l piece) = refl
 event_outcomes b n (event.Ended l) = refl
@@ -108,6 +111,9 @@ event_told b n (event.Refused l f) i t = t
 event_told b n (event.Fired w) i t = chosen (λ s. is_told s ≡ true → is_told (b.story n) ≡ true) (is_clock_of n (slice_get b.timers w)) (fires (b.story n)) (b.story n)
     (λ e. chosen (λ s. is_told s ≡ true → is_told (b.story n) ≡ true) (is_open (b.story n)) (record (b.story n) { overdue = true }) (b.story n) (λ o u. u) (λ o u. u)) (λ f u. u) t
 event_told b n (event.Timeout ms) i t = t
+event_told b n (event.Creds c auth) i t = t
+event_told b n (event.CredsError c text) i t = t
+event_told b n (event.CredsEnd c) i t = t
 event_told b n (event.Wrote l count) i t = t
 event_told b n (event.Bytes l piece) i t = t
 event_told b n (event.Ended l) i t = t
@@ -173,6 +179,7 @@ seated_kept b (action.Took owner.Setup l count) may sound holders h = absurd may
 seated_kept b (action.Took (owner.Try m round) l count) may sound holders h =
     kept_by b (action.Took (owner.Try m round) l count) may refl (unchanged b (action.Took (owner.Try m round) l count) (λ n. chosen (λ s. is_told s ≡ true → is_told (b.story n) ≡ true) (m == n) (holds (b.story n) count) (b.story n) (λ e t. t) (λ f t. t))) h
 seated_kept b (action.Push l info) may sound holders h = kept_by b (action.Push l info) may refl (unchanged b (action.Push l info) (λ n t. t)) h
+seated_kept b (action.NeedCreds c l) may sound holders h = kept_by b (action.NeedCreds c l) may refl (unchanged b (action.NeedCreds c l) (λ n t. t)) h
 seated_kept b (action.Close l) may sound holders h = kept_by b (action.Close l) may refl (unchanged b (action.Close l) (λ n t. t)) h
 seated_kept b (action.Write l bytes) may sound holders h = kept_by b (action.Write l bytes) may refl (unchanged b (action.Write l bytes) (λ n t. t)) h
 seated_kept b (action.Wait owner.Setup kind) may sound holders h = absurd may
@@ -221,6 +228,9 @@ event_gains b n (event.Ended l) = λ i. inl i
 event_gains b n (event.ReadFault l kind) = λ i. inl i
 event_gains b n (event.WriteFault l kind) = λ i. inl i
 event_gains b n (event.Timeout ms) = λ i. inl i
+event_gains b n (event.Creds c auth) = λ i. inl i
+event_gains b n (event.CredsError c text) = λ i. inl i
+event_gains b n (event.CredsEnd c) = λ i. inl i
 event_gains b n event.Shutdown = λ i. inl i
 
 -- nor does another action than the taking
@@ -233,6 +243,7 @@ gains b (action.Took owner.Setup l count) may n = absurd may
 gains b (action.Took (owner.Try m round) l count) may n = chosen (Gains b n) (m == n) (holds (b.story n) count) (b.story n)
     (λ t i. inr (subst (TakesNow b) (eq_from m n t) (l, count, may.1))) (λ f i. inl i)
 gains b (action.Push l info) may n = λ i. inl i
+gains b (action.NeedCreds c l) may n = λ i. inl i
 gains b (action.Close l) may n = λ i. inl i
 gains b (action.Write l bytes) may n = λ i. inl i
 gains b (action.Wait owner.Setup kind) may n = absurd may

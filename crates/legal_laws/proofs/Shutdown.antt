@@ -9,7 +9,7 @@ use Rattle.driver_model.specs.declared.action.Owner.TheVariants as owner
 use Rattle.driver_model.specs.declared.event.EventKind.{EventKind}
 use Rattle.driver_model.specs.declared.event.EventKind.TheVariants as event
 use Rattle.driver_model.specs.News.{News, shut, news_of}
-use Rattle.legal_trace.specs.Ledger.{Ledger, End, Ending, by_shutdown, hears, begins, offers, ends, noted, is_set_up, setup_result, error_in, ending, ending_up, ending_by, ending_unready, ending_alive, ending_asked}
+use Rattle.legal_trace.specs.Ledger.{Ledger, End, Ending, by_shutdown, hears, begins, offers, ends, noted, is_set_up, setup_result, error_in, ending, ending_up, ending_by, ending_unready, ending_alive, ending_asked, sources}
 use Rattle.legal_trace.specs.Book.{Book, entered, message_of, shuts}
 use Rattle.legal_trace.specs.Legal.{MayStand, NoneEnds}
 use Rattle.legal_trace.proofs.Ledgers.{mine_keeps, hears_past}
@@ -62,19 +62,22 @@ still_none : (b : Book) (turn : ℕ) (x : News) (l : ℕ) → NoneEnds b → Shu
 still_none b turn x l none h s a e = absurd (none_left b none h (was_shut b.shut s) l (sym (hears_past (b.link l) turn x).asked ∙ a) ((hears_past (b.link l) turn x).end e))
 
 -- each event leaves it so
-turn_heard : (b : Book) (turn : ℕ) (kind : EventKind) → NoneEnds b → ShutIsHeard b.shut b.link → ShutIsHeard (b.shut || shuts kind) (λ l. noted (b.link l) (hears turn (news_of b.timers l kind)))
+turn_heard : (b : Book) (turn : ℕ) (kind : EventKind) → NoneEnds b → ShutIsHeard b.shut b.link → ShutIsHeard (b.shut || shuts kind) (λ l. noted (b.link l) (hears turn (news_of b.timers b.sources l kind)))
 turn_heard b turn event.Shutdown none h = λ s l a e. refl
-turn_heard b turn (event.Submit what) none h = λ s l. still_none b turn (news_of b.timers l (event.Submit what)) l none h s
-turn_heard b turn (event.Cancel n) none h = λ s l. still_none b turn (news_of b.timers l (event.Cancel n)) l none h s
-turn_heard b turn (event.Connected m) none h = λ s l. still_none b turn (news_of b.timers l (event.Connected m)) l none h s
-turn_heard b turn (event.Refused m f) none h = λ s l. still_none b turn (news_of b.timers l (event.Refused m f)) l none h s
-turn_heard b turn (event.Fired t) none h = λ s l. still_none b turn (news_of b.timers l (event.Fired t)) l none h s
-turn_heard b turn (event.Timeout ms) none h = λ s l. still_none b turn (news_of b.timers l (event.Timeout ms)) l none h s
-turn_heard b turn (event.Wrote m count) none h = λ s l. still_none b turn (news_of b.timers l (event.Wrote m count)) l none h s
-turn_heard b turn (event.Bytes m piece) none h = λ s l. still_none b turn (news_of b.timers l (event.Bytes m piece)) l none h s
-turn_heard b turn (event.Ended m) none h = λ s l. still_none b turn (news_of b.timers l (event.Ended m)) l none h s
-turn_heard b turn (event.ReadFault m kind) none h = λ s l. still_none b turn (news_of b.timers l (event.ReadFault m kind)) l none h s
-turn_heard b turn (event.WriteFault m kind) none h = λ s l. still_none b turn (news_of b.timers l (event.WriteFault m kind)) l none h s
+turn_heard b turn (event.Submit what) none h = λ s l. still_none b turn (news_of b.timers b.sources l (event.Submit what)) l none h s
+turn_heard b turn (event.Cancel n) none h = λ s l. still_none b turn (news_of b.timers b.sources l (event.Cancel n)) l none h s
+turn_heard b turn (event.Connected m) none h = λ s l. still_none b turn (news_of b.timers b.sources l (event.Connected m)) l none h s
+turn_heard b turn (event.Refused m f) none h = λ s l. still_none b turn (news_of b.timers b.sources l (event.Refused m f)) l none h s
+turn_heard b turn (event.Fired t) none h = λ s l. still_none b turn (news_of b.timers b.sources l (event.Fired t)) l none h s
+turn_heard b turn (event.Timeout ms) none h = λ s l. still_none b turn (news_of b.timers b.sources l (event.Timeout ms)) l none h s
+turn_heard b turn (event.Creds c auth) none h = λ s l. still_none b turn (news_of b.timers b.sources l (event.Creds c auth)) l none h s
+turn_heard b turn (event.CredsError c text) none h = λ s l. still_none b turn (news_of b.timers b.sources l (event.CredsError c text)) l none h s
+turn_heard b turn (event.CredsEnd c) none h = λ s l. still_none b turn (news_of b.timers b.sources l (event.CredsEnd c)) l none h s
+turn_heard b turn (event.Wrote m count) none h = λ s l. still_none b turn (news_of b.timers b.sources l (event.Wrote m count)) l none h s
+turn_heard b turn (event.Bytes m piece) none h = λ s l. still_none b turn (news_of b.timers b.sources l (event.Bytes m piece)) l none h s
+turn_heard b turn (event.Ended m) none h = λ s l. still_none b turn (news_of b.timers b.sources l (event.Ended m)) l none h s
+turn_heard b turn (event.ReadFault m kind) none h = λ s l. still_none b turn (news_of b.timers b.sources l (event.ReadFault m kind)) l none h s
+turn_heard b turn (event.WriteFault m kind) none h = λ s l. still_none b turn (news_of b.timers b.sources l (event.WriteFault m kind)) l none h s
 
 -- it stays so
 pub shut_kept : (b : Book) (a : Action) → MayStand b a → IsOpening b → ShutIsHeard b.shut b.link → ShutIsHeard (entered b a).shut (entered b a).link
@@ -85,6 +88,7 @@ shut_kept b (action.Timer t ms what) may opening h = h
 shut_kept b (action.Took owner.Setup l count) may opening h = absurd may
 shut_kept b (action.Took (owner.Try n round) l count) may opening h = h
 shut_kept b (action.Push m info) may opening h = λ s l. push_keeps HearsShut (m == l) info.kind (b.link l) (h s l) (h s l) (h s l)
+shut_kept b (action.NeedCreds c m) may opening h = λ s l. mine_keeps HearsShut (m == l) (b.link l) sources (λ t. h s l) (h s l)
 shut_kept b (action.Close m) may opening h = λ s l. mine_keeps HearsShut (m == l) (b.link l) (ends (b.turns - 1)) (λ t a e. cc) (h s l)
 shut_kept b (action.Write m bytes) may opening h = λ s l. mine_keeps HearsShut (m == l) (b.link l) (offers bytes) (λ t. h s l) (h s l)
 shut_kept b (action.Wait owner.Setup kind) may opening h = absurd may

@@ -12,8 +12,8 @@ use Rattle.legal_laws.proofs.Shaped.{IsShaped, shaped_kept}
 use Rattle.legal_laws.proofs.Told.{PushesWait, waits_kept, GoToOne, goes_kept}
 
 -- how it opens, and that until the first event nothing happens to links; the numbers of links and submissions; that links which are up have not ended, and are not dealt too many
--- items; what submissions were answered, and which messages they started; what links hear of a shutdown, and that setups take what they are to;
--- that a link on which a push waits is up, where somebody hears it, and that submissions go to one link
+-- items; what submissions were answered, and which messages they started; what links hear of a shutdown, that setups take what they are to, and that nothing
+-- starts on a link that lacks credentials; that a link on which a push waits is up, where somebody hears it, and that submissions go to one link
 pub record Sound (b : Book) : Type 0 where
   pub opens : IsOpening b
   pub still : StillAtFirst b.turns b.link
@@ -65,7 +65,7 @@ blank_is_sound = record {
   once = λ n. record { once = omega arith; told = λ e t. absurd (cc e) };
   starts = λ n t e. absurd (cc e);
   shut = λ s l. absurd (cc s);
-  shaped = λ l. record { none = λ e. refl; are = λ k s i. absurd (omega (arith, i)) };
+  shaped = λ l. record { none = λ e. refl; are = λ k s i. absurd (omega (arith, i)); bare = λ lacks. refl };
   waits = λ l heard. absurd (cc heard);
   goes = λ n. refl;
 }

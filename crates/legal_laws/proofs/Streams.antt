@@ -4,8 +4,8 @@ use Rattle.std.proofs.lemmas.List.{append-nil, take-append-drop}
 use Rattle.std.proofs.Math.Seq.{drop-append_seam}
 use Rattle.containers.proofs.Choices.{chosen}
 use Rattle.redis_error.specs.declared.redis_error.RedisError.TheVariants as error
-use Rattle.driver_model.specs.News.{News, silence, connected, refused, overdue, took, came, failed, shut}
-use Rattle.legal_trace.specs.Ledger.{Ledger, Line, asks, hears, begins, offers, tells, ends, parts, blank_ledger, noted, noted_each, with_news, refused_in, bytes_came, is_over, dials, joined, stream, MayNote, AllNoted, LinkLegal}
+use Rattle.driver_model.specs.News.{News, silence, connected, refused, overdue, took, came, failed, shut, authorized, denied, deserted}
+use Rattle.legal_trace.specs.Ledger.{Ledger, Line, asks, hears, begins, offers, tells, ends, parts, blank_ledger, noted, noted_each, with_news, refused_in, bytes_came, is_over, dials, joined, stream, MayNote, AllNoted, LinkLegal, sources, awaits_credentials, authorized_by}
 use Rattle.legal_trace.proofs.Ledgers.{joined_more}
 use Rattle.legal_laws.specs.Links.{IsPrefix, TakesInOrder}
 
@@ -43,16 +43,20 @@ hears_in_order l turn overdue h = h
 hears_in_order l turn (took count) h = chosen InOrder l.up (record l { taken = l.taken ++ take count l.offer; offer = [] }) l (λ t. prefix_taken l.taken l.offer (joined l.starts) count h) (λ e. h)
 hears_in_order l turn (came piece) h = chosen InOrder l.up (bytes_came l piece) l (λ t. h) (λ e. h)
 hears_in_order l turn (failed f) h = h
+hears_in_order l turn (authorized c) h = chosen InOrder (awaits_credentials l) (authorized_by l c) l (λ t. h) (λ e. h)
+hears_in_order l turn (denied text) h = h
+hears_in_order l turn deserted h = h
 hears_in_order l turn shut h = h
 
 -- so does a line that may stand
 noted_in_order : (l : Ledger) (x : Line) → MayNote l x → InOrder l → InOrder (noted l x)
-noted_in_order l (asks info) may h = h
+noted_in_order l (asks info wanted) may h = h
 noted_in_order l (hears turn news) may h = hears_in_order l turn news h
 noted_in_order l (begins s) may h = subst (IsPrefix (stream l)) (sym (joined_more l.starts s)) (prefix_more (stream l) (joined l.starts) s.bytes h)
 noted_in_order l (offers bytes) may h = subst (λ x. IsPrefix (l.taken ++ x) (joined l.starts)) (sym may.2) (prefix_offered l.taken l.offer (joined l.starts) h)
 noted_in_order l tells may h = h
 noted_in_order l (ends turn) may h = h
+noted_in_order l sources may h = h
 noted_in_order l parts may h = h
 
 -- so do many

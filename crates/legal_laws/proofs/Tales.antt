@@ -91,6 +91,9 @@ event_once b n (event.Connected l) blank h = h
 event_once b n (event.Refused l f) blank h = h
 event_once b n (event.Fired t) blank h = chosen AnsweredOnce (is_clock_of n (slice_get b.timers t)) (fires (b.story n)) (b.story n) (λ e. chosen AnsweredOnce (is_open (b.story n)) (record (b.story n) { overdue = true }) (b.story n) (λ o. h) (λ o. h)) (λ f. h)
 event_once b n (event.Timeout ms) blank h = h
+event_once b n (event.Creds c auth) blank h = h
+event_once b n (event.CredsError c text) blank h = h
+event_once b n (event.CredsEnd c) blank h = h
 event_once b n (event.Wrote l count) blank h = h
 event_once b n (event.Bytes l piece) blank h = h
 event_once b n (event.Ended l) blank h = h
@@ -111,6 +114,7 @@ once_kept b (action.Timer t ms what) may blank n h = chosen AnsweredOnce (is_clo
 once_kept b (action.Took owner.Setup l count) may blank n h = absurd may
 once_kept b (action.Took (owner.Try m round) l count) may blank n h = chosen AnsweredOnce (m == n) (holds (b.story n) count) (b.story n) (λ t. h) (λ f. h)
 once_kept b (action.Push l info) may blank n h = h
+once_kept b (action.NeedCreds c l) may blank n h = h
 once_kept b (action.Close l) may blank n h = h
 once_kept b (action.Write l bytes) may blank n h = h
 once_kept b (action.Wait owner.Setup kind) may blank n h = absurd may
@@ -153,6 +157,9 @@ event_tries b n (event.Connected l) link h = h
 event_tries b n (event.Refused l f) link h = h
 event_tries b n (event.Fired t) link h = chosen (TriesAreStarted link) (is_clock_of n (slice_get b.timers t)) (fires (b.story n)) (b.story n) (λ e. chosen (TriesAreStarted link) (is_open (b.story n)) (record (b.story n) { overdue = true }) (b.story n) (λ o. h) (λ o. h)) (λ f. h)
 event_tries b n (event.Timeout ms) link h = h
+event_tries b n (event.Creds c auth) link h = h
+event_tries b n (event.CredsError c text) link h = h
+event_tries b n (event.CredsEnd c) link h = h
 event_tries b n (event.Wrote l count) link h = h
 event_tries b n (event.Bytes l piece) link h = h
 event_tries b n (event.Ended l) link h = h
@@ -169,6 +176,7 @@ tries_kept b (action.Timer t ms what) may n h = chosen (TriesAreStarted (entered
 tries_kept b (action.Took owner.Setup l count) may n h = absurd may
 tries_kept b (action.Took (owner.Try m round) l count) may n h = chosen (TriesAreStarted (entered b (action.Took (owner.Try m round) l count)).link) (m == n) (holds (b.story n) count) (b.story n) (λ t. h) (λ f. h)
 tries_kept b (action.Push l info) may n h = h
+tries_kept b (action.NeedCreds c l) may n h = h
 tries_kept b (action.Close l) may n h = h
 tries_kept b (action.Write l bytes) may n h = h
 tries_kept b (action.Wait owner.Setup kind) may n h = absurd may

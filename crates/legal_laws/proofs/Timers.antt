@@ -58,6 +58,9 @@ event_clocked b n (event.Ended l) h = h
 event_clocked b n (event.ReadFault l kind) h = h
 event_clocked b n (event.WriteFault l kind) h = h
 event_clocked b n (event.Timeout ms) h = h
+event_clocked b n (event.Creds c auth) h = h
+event_clocked b n (event.CredsError c text) h = h
+event_clocked b n (event.CredsEnd c) h = h
 event_clocked b n event.Shutdown h = h
 
 -- with each action
@@ -69,6 +72,7 @@ clock_stays b (action.Timer t ms what) n h = chosen Clocked (is_clock_of n (Some
 clock_stays b (action.Took owner.Setup l count) n h = h
 clock_stays b (action.Took (owner.Try m round) l count) n h = chosen Clocked (m == n) (holds (b.story n) count) (b.story n) (λ e. h) (λ f. h)
 clock_stays b (action.Push m info) n h = h
+clock_stays b (action.NeedCreds c m) n h = h
 clock_stays b (action.Close m) n h = h
 clock_stays b (action.Write m bytes) n h = h
 clock_stays b (action.Wait owner.Setup kind) n h = h
@@ -117,6 +121,9 @@ event_timeout b n (event.Ended l) i = refl
 event_timeout b n (event.ReadFault l kind) i = refl
 event_timeout b n (event.WriteFault l kind) i = refl
 event_timeout b n (event.Timeout ms) i = refl
+event_timeout b n (event.Creds c auth) i = refl
+event_timeout b n (event.CredsError c text) i = refl
+event_timeout b n (event.CredsEnd c) i = refl
 event_timeout b n event.Shutdown i = refl
 
 -- so it does with each action
@@ -128,6 +135,7 @@ timeout_stays b (action.Timer t ms what) n i = chosen (λ (s : Story). s.timeout
 timeout_stays b (action.Took owner.Setup l count) n i = refl
 timeout_stays b (action.Took (owner.Try m round) l count) n i = chosen (λ (s : Story). s.timeout ≡ (b.story n).timeout) (m == n) (holds (b.story n) count) (b.story n) (λ e. refl) (λ f. refl)
 timeout_stays b (action.Push m info) n i = refl
+timeout_stays b (action.NeedCreds c m) n i = refl
 timeout_stays b (action.Close m) n i = refl
 timeout_stays b (action.Write m bytes) n i = refl
 timeout_stays b (action.Wait owner.Setup kind) n i = refl

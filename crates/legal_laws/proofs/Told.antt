@@ -11,10 +11,10 @@ use Rattle.driver_model.specs.declared.action.Cause.TheVariants as cause
 use Rattle.driver_model.specs.declared.action.Owner.TheVariants as owner
 use Rattle.driver_model.specs.declared.event.EventKind.{EventKind}
 use Rattle.driver_model.specs.declared.event.EventKind.TheVariants as event
-use Rattle.driver_model.specs.News.{News, silence, connected, refused, overdue, took, came, failed, shut, news_of}
-use Rattle.legal_trace.specs.Ledger.{Ledger, Heard, asks, begins, offers, tells, ends, parts, noted, with_news, refused_in, bytes_came, is_over, dials, next_push, MayNote}
+use Rattle.driver_model.specs.News.{News, silence, connected, refused, overdue, took, came, failed, shut, news_of, authorized, denied, deserted}
+use Rattle.legal_trace.specs.Ledger.{Ledger, Heard, asks, begins, offers, tells, ends, parts, noted, with_news, refused_in, bytes_came, is_over, dials, next_push, MayNote, sources, awaits_credentials, authorized_by}
 use Rattle.legal_trace.specs.Story.{Story, is_open, handed_in, left, holds, clocked, fires, tried, waits, answered}
-use Rattle.legal_trace.specs.Book.{Book, entered, push_line, info_in, message_of, current, is_clock_of, after_event, is_unspoken}
+use Rattle.legal_trace.specs.Book.{Book, entered, push_line, info_in, message_of, current, is_clock_of, after_event, is_unspoken, wanted_in}
 use Rattle.legal_trace.specs.Legal.{MayStand, MayPush, MayPushBy, is_heard}
 use Rattle.legal_trace.proofs.Ledgers.{mine_keeps}
 use Rattle.legal_trace.proofs.Plain.{not_none}
@@ -53,6 +53,9 @@ waits_hears l turn overdue h = h
 waits_hears l turn (took count) h = chosen Waits l.up (record l { taken = l.taken ++ take count l.offer; offer = [] }) l (λ t. h) (λ e. h)
 waits_hears l turn (came piece) h = chosen Waits l.up (bytes_came l piece) l (λ t p next. t) (λ e. h)
 waits_hears l turn (failed f) h = h
+waits_hears l turn (authorized c) h = chosen Waits (awaits_credentials l) (authorized_by l c) l (λ t. h) (λ e. h)
+waits_hears l turn (denied text) h = h
+waits_hears l turn deserted h = h
 waits_hears l turn shut h = h
 
 -- and where one is told
@@ -68,12 +71,13 @@ pub waits_kept : (b : Book) (a : Action) → MayStand b a → StillAtFirst b.tur
 waits_kept b (action.Turn k (cause.Opening config word)) may still h = λ l heard p next.
     let none : b.turns ≡ 0 = may.is_for in
     absurd (not_none (next_push (b.link l)) p (ap (λ (hs : List Heard). slice_get hs (b.link l).told) (still (omega (arith, none)) l).mute) next)
-waits_kept b (action.Turn k (cause.Event e)) may still h = λ l heard. waits_hears (b.link l) k (news_of b.timers l e.kind) (h l heard)
-waits_kept b (action.Connect m host port) may still h = λ l heard. mine_keeps Waits (m == l) (b.link l) (asks (info_in b.config)) (λ t. h l heard) (h l heard)
+waits_kept b (action.Turn k (cause.Event e)) may still h = λ l heard. waits_hears (b.link l) k (news_of b.timers b.sources l e.kind) (h l heard)
+waits_kept b (action.Connect m host port) may still h = λ l heard. mine_keeps Waits (m == l) (b.link l) (asks (info_in b.config) (wanted_in b.config)) (λ t. h l heard) (h l heard)
 waits_kept b (action.Timer t ms what) may still h = h
 waits_kept b (action.Took owner.Setup m count) may still h = absurd may
 waits_kept b (action.Took (owner.Try n round) m count) may still h = h
 waits_kept b (action.Push m info) may still h = λ l heard. push_keeps Waits (m == l) info.kind (b.link l) (waits_tells (b.link l) (h l heard)) (h l heard) (h l heard)
+waits_kept b (action.NeedCreds c m) may still h = λ l heard. mine_keeps Waits (m == l) (b.link l) sources (λ t. h l heard) (h l heard)
 waits_kept b (action.Close m) may still h = λ l heard. mine_keeps Waits (m == l) (b.link l) (ends (b.turns - 1)) (λ t p next. absurd (not_none (next_push (b.link l)) p (may.pushed l heard) next)) (h l heard)
 waits_kept b (action.Write m bytes) may still h = λ l heard. mine_keeps Waits (m == l) (b.link l) (offers bytes) (λ t. h l heard) (h l heard)
 waits_kept b (action.Wait owner.Setup kind) may still h = absurd may
@@ -104,6 +108,9 @@ event_goes b n (event.Ended l) one h = h
 event_goes b n (event.ReadFault l kind) one h = h
 event_goes b n (event.WriteFault l kind) one h = h
 event_goes b n (event.Timeout ms) one h = h
+event_goes b n (event.Creds c auth) one h = h
+event_goes b n (event.CredsError c text) one h = h
+event_goes b n (event.CredsEnd c) one h = h
 event_goes b n event.Shutdown one h = h
 
 -- and behind each action
@@ -115,6 +122,7 @@ goes_kept b (action.Timer t ms what) one h n = chosen OnFirst (is_clock_of n (So
 goes_kept b (action.Took owner.Setup m count) one h n = h n
 goes_kept b (action.Took (owner.Try i round) m count) one h n = chosen OnFirst (i == n) (holds (b.story n) count) (b.story n) (λ e. h n) (λ f. h n)
 goes_kept b (action.Push m info) one h n = h n
+goes_kept b (action.NeedCreds c m) one h n = h n
 goes_kept b (action.Close m) one h n = h n
 goes_kept b (action.Write m bytes) one h n = h n
 goes_kept b (action.Wait owner.Setup kind) one h n = h n

@@ -25,4 +25,4 @@ unasked_quiet shown l h = record {
 pub turn_quiet : (b : Book) (k : ℕ) (e : Event) (shown : List (Option RedisError)) (l : ℕ) → MayStand b (action.Turn k (cause.Event e)) → Sound b → IsQuiet shown (b.link l) → IsQuiet shown ((entered b (action.Turn k (cause.Event e))).link l)
 turn_quiet b k e shown l may h q = by_test (nat_le b.links l) (IsQuiet shown ((entered b (action.Turn k (cause.Event e))).link l))
     (λ t. unasked_quiet shown ((entered b (action.Turn k (cause.Event e))).link l) ((links_kept b (action.Turn k (cause.Event e)) may h.links).unasked l (le_from b.links l t)))
-    (λ f. hears_quiet shown (b.link l) k (news_of b.timers l e.kind) (h.links.asked l (not_le_from b.links l f)) (h.shaped l).are q)
+    (λ f. hears_quiet shown (b.link l) k (news_of b.timers b.sources l e.kind) (h.links.asked l (not_le_from b.links l f)) (h.shaped l).are q)

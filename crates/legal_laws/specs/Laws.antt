@@ -10,6 +10,7 @@ use Rattle.legal_laws.specs.Segments.{AreInOrder}
 use Rattle.legal_laws.specs.Starts.{StaysWithin}
 use Rattle.legal_laws.specs.Permits.{KeepsPermits, AsksTimers}
 use Rattle.legal_laws.specs.Pushes.{TellsPushes, TellsEnds}
+use Rattle.legal_laws.specs.Sources.{StartsAuthorized}
 
 -- it is so of each legal trace
 abbrev pub OfEachLegal : (List Action → Type 0) → Type 0
@@ -61,3 +62,9 @@ abbrev pub EachTellsEnds : Type 0
 EachTellsEnds =
     (config : Config) (word : ℕ) (events : List Event) (trace : List Action) → Legal config word events trace
     → TellsEnds config trace
+
+-- in each legal trace messages start with credentials, where its configuration wants them of a source
+abbrev pub EachStartsAuthorized : Type 0
+EachStartsAuthorized =
+    (config : Config) (word : ℕ) (events : List Event) (trace : List Action) → Legal config word events trace
+    → StartsAuthorized config trace

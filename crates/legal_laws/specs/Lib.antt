@@ -5,6 +5,7 @@ pub mod Segments
 pub mod Creation
 pub mod Starts
 pub mod Opened
+pub mod Sources
 pub mod Permits
 pub mod Pushes
 pub mod Laws

@@ -26,6 +26,7 @@ segment b (action.Connect l host port) may = 1
 segment b (action.Timer t ms what) may = timer_in b t ms what may
 segment b (action.Took who l count) may = 2
 segment b (action.Push l info) may = 1
+segment b (action.NeedCreds c l) may = 1
 segment b (action.Close l) may = 1
 segment b (action.Created e) may = 1
 segment b (action.Outcome n o) may = answers_in b n o may

@@ -10,11 +10,12 @@ ghost use Rattle.legal_laws.specs.Next.{OneIsNextBehind};
 ghost use Rattle.legal_laws.specs.Creation.{TellsOfOpening};
 ghost use Rattle.legal_laws.specs.Starts.{StartsRise, LeftStartNoMore};
 ghost use Rattle.legal_laws.specs.Opened.{StartsOpened};
+ghost use Rattle.legal_laws.specs.Sources.{StartsNoneLacking};
 ghost use Rattle.legal_laws.specs.Laws.{OfEachLegal, LinksTakeInOrder, OneIsLegal, TurnsAreInOrder};
 ghost use Rattle.legal_laws.specs.Permits.{TimedOutStartNoMore, FiredStartNoMore};
 ghost use Rattle.legal_laws.specs.Pushes.{TellsInOrder};
 ghost use Rattle.legal_laws.specs.Laws.{EachStaysWithin, EachKeepsPermits, EachAsksTimers};
-ghost use Rattle.legal_laws.specs.Laws.{EachTellsPushes, EachTellsEnds};
+ghost use Rattle.legal_laws.specs.Laws.{EachTellsPushes, EachTellsEnds, EachStartsAuthorized};
 
 /// Does nothing. Its contract: what a legal trace tells of each link is legal by itself. What the
 /// book of any trace has of a link is what these lines come to.
@@ -77,6 +78,15 @@ pub fn a_failed_opening_is_told()
 /// is to be said to the server; and by then the creation is shown, once, and without an error.
 pub fn nothing_starts_before_the_setup()
     ensures { OfEachLegal StartsOpened }
+{}
+
+/// Does nothing. Its contract: in a legal trace nothing starts on a link whose setup waits for
+/// credentials. Where the configuration wants them of a source, a message starts on a link, of its
+/// setup or of a submission, only behind an event that gave credentials of a source that was asked
+/// for this link before; and they are the user name and the password that are said to its server.
+pub fn no_setup_starts_before_its_credentials()
+    ensures lacking { OfEachLegal StartsNoneLacking }
+    ensures authorized { EachStartsAuthorized }
 {}
 
 /// Does nothing. Its contract: in a legal trace a message starts only where no bytes of its link

@@ -6,11 +6,11 @@ use Rattle.resp_read.specs.Values.{values, left_over}
 use Rattle.resp_read.specs.Items.{items}
 use Rattle.resp_value.specs.Data.{Data}
 use Rattle.redis_error.specs.declared.redis_error.RedisError.TheVariants as error
-use Rattle.driver_model.specs.News.{News, silence, connected, refused, overdue, took, came, failed, shut}
+use Rattle.driver_model.specs.News.{News, silence, connected, refused, overdue, took, came, failed, authorized, denied, deserted, shut}
 use Rattle.driver_model.specs.declared.outcome.Shape.{Shape}
 use Rattle.driver_model.specs.declared.outcome.Shape.TheVariants.{Single, Pipeline, Confirmation}
 use Rattle.driver_model.specs.Shape.{need_of}
-use Rattle.legal_trace.specs.Ledger.{Ledger, Line, Start, asks, hears, begins, offers, tells, ends, parts, noted, noted_each, with_news, refused_in, bytes_came, heard_each, items_came, is_over, dials, reach, joined, AllNoted}
+use Rattle.legal_trace.specs.Ledger.{Ledger, Line, Start, asks, hears, begins, offers, tells, sources, ends, parts, noted, noted_each, with_news, refused_in, bytes_came, heard_each, items_came, awaits_credentials, authorized_by, is_over, dials, reach, joined, AllNoted}
 use Rattle.legal_trace.specs.Book.{if_mine}
 use Rattle.legal_trace.proofs.Plain.{none_from}
 
@@ -62,15 +62,19 @@ up_hears l turn overdue h = h
 up_hears l turn (took count) h = chosen UpIsNotOver l.up (record l { taken = l.taken ++ take count l.offer; offer = [] }) l (λ t. h) (λ e. h)
 up_hears l turn (came piece) h = chosen UpIsNotOver l.up (bytes_came l piece) l (λ t. h) (λ e. h)
 up_hears l turn (failed f) h = h
+up_hears l turn (authorized c) h = chosen UpIsNotOver (awaits_credentials l) (authorized_by l c) l (λ t. h) (λ e. h)
+up_hears l turn (denied text) h = h
+up_hears l turn deserted h = h
 up_hears l turn shut h = h
 
 -- nor does any line
 pub up_keeps : (l : Ledger) (x : Line) → UpIsNotOver l → UpIsNotOver (noted l x)
-up_keeps l (asks info) h = h
+up_keeps l (asks info wanted) h = h
 up_keeps l (hears turn news) h = up_hears l turn news h
 up_keeps l (begins s) h = h
 up_keeps l (offers bytes) h = h
 up_keeps l tells h = h
+up_keeps l sources h = h
 up_keeps l (ends turn) h = λ u. cc
 up_keeps l parts h = h
 
@@ -97,15 +101,19 @@ hears_past l turn overdue = same_past l
 hears_past l turn (took count) = chosen (SamePast l) l.up (record l { taken = l.taken ++ take count l.offer; offer = [] }) l (λ t. record { asked = refl; end = λ n. n; starts = refl }) (λ e. same_past l)
 hears_past l turn (came piece) = chosen (SamePast l) l.up (bytes_came l piece) l (λ t. record { asked = refl; end = λ n. n; starts = refl }) (λ e. same_past l)
 hears_past l turn (failed f) = same_past l
+hears_past l turn (authorized c) = chosen (SamePast l) (awaits_credentials l) (authorized_by l c) l (λ t. record { asked = refl; end = λ n. n; starts = refl }) (λ e. same_past l)
+hears_past l turn (denied text) = same_past l
+hears_past l turn deserted = same_past l
 hears_past l turn shut = same_past l
 
 -- each line leaves it so
 pub asked_keeps : (l : Ledger) (x : Line) → IsAsked l → IsAsked (noted l x)
-asked_keeps l (asks info) h = refl
+asked_keeps l (asks info wanted) h = refl
 asked_keeps l (hears turn news) h = subst (λ (b : Bool). b ≡ true) (sym (hears_past l turn news).asked) h
 asked_keeps l (begins s) h = h
 asked_keeps l (offers bytes) h = h
 asked_keeps l tells h = h
+asked_keeps l sources h = h
 asked_keeps l (ends turn) h = h
 asked_keeps l parts h = h
 
@@ -115,11 +123,12 @@ HasStarted k l = k < length l.starts
 
 -- each line leaves these
 pub started_keeps : (k : ℕ) (l : Ledger) (x : Line) → HasStarted k l → HasStarted k (noted l x)
-started_keeps k l (asks info) h = h
+started_keeps k l (asks info wanted) h = h
 started_keeps k l (hears turn news) h = subst (λ (ss : List Start). k < length ss) (sym (hears_past l turn news).starts) h
 started_keeps k l (begins s) h = let e : length (l.starts ++ s ∷ []) ≡ length l.starts + 1 = length-append l.starts (s ∷ []) in omega arith
 started_keeps k l (offers bytes) h = h
 started_keeps k l tells h = h
+started_keeps k l sources h = h
 started_keeps k l (ends turn) h = h
 started_keeps k l parts h = h
 
@@ -140,6 +149,9 @@ unasked_hears l turn overdue not_up h = h
 unasked_hears l turn (took count) not_up h = unasked_unless_up l (record l { taken = l.taken ++ take count l.offer; offer = [] }) h
 unasked_hears l turn (came piece) not_up h = unasked_unless_up l (bytes_came l piece) h
 unasked_hears l turn (failed f) not_up h = h
+unasked_hears l turn (authorized c) not_up h = chosen IsUnasked (awaits_credentials l) (authorized_by l c) l (λ t. h) (λ e. h)
+unasked_hears l turn (denied text) not_up h = h
+unasked_hears l turn deserted not_up h = h
 unasked_hears l turn shut not_up h = h
 
 -- the bytes of a message more
@@ -186,14 +198,18 @@ few_hears l turn overdue h = h
 few_hears l turn (took count) h = chosen FewAreDealt l.up (record l { taken = l.taken ++ take count l.offer; offer = [] }) l (λ t. h) (λ e. h)
 few_hears l turn (came piece) h = chosen FewAreDealt l.up (bytes_came l piece) l (λ t. few_come (record l { rest = left_over (l.rest ++ piece); pushes = l.pushes ++ heard_each l (values (l.rest ++ piece)) }) (items (l.rest ++ piece)) h) (λ e. h)
 few_hears l turn (failed f) h = h
+few_hears l turn (authorized c) h = chosen FewAreDealt (awaits_credentials l) (authorized_by l c) l (λ t. h) (λ e. h)
+few_hears l turn (denied text) h = h
+few_hears l turn deserted h = h
 few_hears l turn shut h = h
 
 -- and with any line
 pub few_keeps : (l : Ledger) (x : Line) → FewAreDealt l → FewAreDealt (noted l x)
-few_keeps l (asks info) h = h
+few_keeps l (asks info wanted) h = h
 few_keeps l (hears turn news) h = few_hears l turn news h
 few_keeps l (begins s) h = let e : reach (l.starts ++ s ∷ []) l.dealt ≡ reach l.starts l.dealt + need_of s.shape = reach_more l.starts s l.dealt in omega arith
 few_keeps l (offers bytes) h = h
 few_keeps l tells h = h
+few_keeps l sources h = h
 few_keeps l (ends turn) h = h
 few_keeps l parts h = h

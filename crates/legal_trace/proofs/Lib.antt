@@ -3,3 +3,4 @@ pub mod Ledgers
 pub mod Books
 pub mod Moves
 pub mod Setups
+pub mod Sources

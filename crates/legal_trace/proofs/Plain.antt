@@ -1,5 +1,5 @@
 -- Lists and options.
-use Rattle.std.proofs.Common.{◌≡◌, false, List, [], ◌∷◌, ◌++◌, Option, Some, None, is_some, refl}
+use Rattle.std.proofs.Common.{◌≡◌, ◌⊎◌, inl, inr, ℕ, zero, suc, false, List, [], ◌∷◌, ◌++◌, length, Option, Some, None, is_some, slice_get, refl, ap}
 
 -- an option that isn't some is none
 pub none_from : {X : Type 0} (o : Option X) → is_some o ≡ false → o ≡ None
@@ -18,3 +18,10 @@ same_some x y e = cc
 pub not_empty : {X : Type 0} (xs : List X) (x : X) → xs ++ x ∷ [] ≡ [] → ⊥
 not_empty [] x e = cc e
 not_empty (y ∷ xs) x e = cc e
+
+-- an item of a list with one more is one of the list, or that
+pub item_behind : {X : Type 0} (xs : List X) (y x : X) (k : ℕ) → slice_get (xs ++ y ∷ []) k ≡ Some x → (slice_get xs k ≡ Some x) ⊎ ((k ≡ length xs) × (y ≡ x))
+item_behind [] y x zero e = inr (refl, same_some y x e)
+item_behind [] y x (suc k) e = cc
+item_behind (z ∷ xs) y x zero e = inl e
+item_behind (z ∷ xs) y x (suc k) e = elim (item_behind xs y x k e) [ inl old ↦ inl old | inr new ↦ inr (ap suc new.0, new.1) ]

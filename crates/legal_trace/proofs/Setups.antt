@@ -1,8 +1,8 @@
 -- Links that are set up: what makes them so, and that they stay so.
-use Rattle.std.proofs.Common.{◌≡◌, ◌≢◌, ◌⊎◌, inl, inr, ℕ, zero, suc, ◌+◌, ◌-◌, ◌<◌, ◌≤◌, ◌==◌, nat_le, if◌then◌else◌, Bool, true, false, ◌&&◌, not, List, [], ◌∷◌, ◌++◌, length, take, drop, Option, Some, None, refl, sym, ap, ◌∙◌, subst, arith, length-append, slice_get}
+use Rattle.std.proofs.Common.{◌≡◌, ◌≢◌, ◌⊎◌, inl, inr, ℕ, zero, suc, ◌+◌, ◌-◌, ◌<◌, ◌≤◌, ◌==◌, nat_le, if◌then◌else◌, Bool, true, false, ◌&&◌, ◌||◌, not, List, [], ◌∷◌, ◌++◌, length, take, drop, Option, Some, None, refl, sym, ap, ◌∙◌, subst, arith, length-append, slice_get}
 use Rattle.std.proofs.lemmas.List.{take-append-le, drop-append-le, take_all, length_push}
 use Rattle.std.specs.Prelude.{ℤ, pos, negsuc}
-use Rattle.containers.proofs.Choices.{by_test, chosen, taken_if, left_if, le_from, le_test, not_le_test, not_both}
+use Rattle.containers.proofs.Choices.{by_test, chosen, taken_if, left_if, le_from, le_test, not_le_test, not_both, or_right}
 use Rattle.resp_value.specs.Data.{Data}
 use Rattle.resp_read.specs.Values.{left_over}
 use Rattle.resp_read.specs.Items.{items}
@@ -17,19 +17,53 @@ use Rattle.connection_setup.specs.Setup.{Step, choices, library, opening, openin
 use Rattle.connection_setup.specs.Judgement.{judged}
 use Rattle.driver_model.specs.Config.{bare_info}
 use Rattle.driver_model.specs.Setup.{says_nothing, setup_bytes, setup_shape}
-use Rattle.driver_model.specs.News.{News, silence, connected, refused, overdue, took, came, failed, shut}
+use Rattle.driver_model.specs.News.{News, silence, connected, refused, overdue, took, came, failed, authorized, denied, deserted, shut}
 use Rattle.driver_model.specs.Shape.{need_of}
-use Rattle.legal_trace.specs.Ledger.{Ledger, Start, Ending, is_over, reach, reached, cut, bytes_came, is_full, is_of_setup, setup_count, setup_steps, result_of, last_result, setup_result, is_well, is_set_up, error_in, repeats, setup_after, setup_due, setup_message, ending, ending_up, ending_by, ending_unready, ending_alive, ending_asked}
+use Rattle.legal_trace.specs.Ledger.{Ledger, Start, Ending, is_over, reach, reached, cut, bytes_came, is_full, is_of_setup, setup_count, setup_steps, result_of, last_result, lacks_credentials, setup_result, is_well, is_set_up, error_in, repeats, setup_after, setup_due, setup_message, ending, ending_up, ending_by, ending_unready, ending_alive, ending_asked}
 use Rattle.legal_trace.proofs.Ledgers.{reach_alike, reach_more, takes_one}
-use Rattle.legal_trace.proofs.Plain.{same_some}
+use Rattle.legal_trace.proofs.Plain.{item_behind, same_some}
 
--- a link to whose server nothing is to be said is set up
-pub silent_is_set : (l : Ledger) → says_nothing (setup_steps l 0) ≡ true → is_set_up l ≡ true
-silent_is_set l h = ap (λ t. is_well (if t then Some result.Ready else last_result l (setup_count l.starts))) h
+-- what so many setups came to, where no credentials are waited for
+abbrev pub said_result : Ledger → ℕ → Option SetupResult
+said_result l count = if says_nothing (setup_steps l 0) then Some result.Ready else last_result l count
+
+-- so it is what the setup came to
+pub setup_said : (l : Ledger) → lacks_credentials l ≡ false → setup_result l ≡ said_result l (setup_count l.starts)
+setup_said l given = left_if (lacks_credentials l) None (said_result l (setup_count l.starts)) given
+
+-- while they are, it came to nothing
+pub setup_unsaid : (l : Ledger) → lacks_credentials l ≡ true → setup_result l ≡ None
+setup_unsaid l lacks = taken_if (lacks_credentials l) None (said_result l (setup_count l.starts)) lacks
+
+-- none are waited for where none are to come
+pub unwanted : (l : Ledger) → l.creds.wanted ≡ false → lacks_credentials l ≡ false
+unwanted l e = ap (λ wanted. wanted && not l.creds.given) e
+
+-- a link that is set up has the credentials for it
+pub set_is_given : (l : Ledger) → is_set_up l ≡ true → lacks_credentials l ≡ false
+set_is_given l set = by_test (lacks_credentials l) (lacks_credentials l ≡ false)
+    (λ t. absurd (let x : false ≡ true = sym (ap is_well (setup_unsaid l t)) ∙ set in cc x)) (λ f. f)
+
+-- and its setups came to it
+pub set_is_said : (l : Ledger) → is_set_up l ≡ true → is_well (said_result l (setup_count l.starts)) ≡ true
+set_is_said l set = sym (ap is_well (setup_said l (set_is_given l set))) ∙ set
+
+-- so both make a link set up
+pub said_is_set : (l : Ledger) → lacks_credentials l ≡ false → is_well (said_result l (setup_count l.starts)) ≡ true → is_set_up l ≡ true
+said_is_set l given well = ap is_well (setup_said l given) ∙ well
+
+-- a link to whose server nothing is to be said is set up, where it waits for no credentials
+pub silent_is_set : (l : Ledger) → lacks_credentials l ≡ false → says_nothing (setup_steps l 0) ≡ true → is_set_up l ≡ true
+silent_is_set l given h = said_is_set l given (ap (λ t. is_well (if t then Some result.Ready else last_result l (setup_count l.starts))) h)
 
 -- so one of which nothing was told that is to be said
-pub bare_is_set : (l : Ledger) → l.info ≡ bare_info → is_set_up l ≡ true
-bare_is_set l e = silent_is_set l (ap (λ (info : RedisConnectionInfo). says_nothing (setup info (0 == 0))) e)
+pub bare_is_set : (l : Ledger) → l.info ≡ bare_info → l.creds.wanted ≡ false → is_set_up l ≡ true
+bare_is_set l e unasked = silent_is_set l (unwanted l unasked) (ap (λ (info : RedisConnectionInfo). says_nothing (setup info (0 == 0))) e)
+
+-- what holds of the second of two holds of one of them
+second_holds : (p q : Bool) → q ≡ true → (p || q) ≡ true
+second_holds true q e = refl
+second_holds false q e = e
 
 -- what ends a link that is up and set up
 pub ends_where_set : (l : Ledger) → l.up ≡ true → is_set_up l ≡ true → ending l ≡ ending_up l l.heard
@@ -52,9 +86,9 @@ repeats_unwell (Some (result.Failed e)) r w = cc r
 repeats_unwell (Some result.NoMemory) r w = cc r
 
 -- of so many setups that started, none is due on a link that is set up
-undue_after : (l : Ledger) (count k : ℕ) → is_well (if says_nothing (setup_steps l 0) then Some result.Ready else last_result l count) ≡ true → setup_after l count ≡ Some k → ⊥
+undue_after : (l : Ledger) (count k : ℕ) → is_well (said_result l count) ≡ true → setup_after l count ≡ Some k → ⊥
 undue_after l zero k well due = by_test (says_nothing (setup_steps l 0)) ⊥
-    (λ t. let x : None ≡ Some k = sym (taken_if (says_nothing (setup_steps l 0)) None (Some 0) t) ∙ due in cc x)
+    (λ t. let x : None ≡ Some k = sym (taken_if (lacks_credentials l || says_nothing (setup_steps l 0)) None (Some 0) (second_holds (lacks_credentials l) (says_nothing (setup_steps l 0)) t)) ∙ due in cc x)
     (λ f. let x : false ≡ true = sym (ap is_well (left_if (says_nothing (setup_steps l 0)) (Some result.Ready) None f)) ∙ well in cc x)
 undue_after l (suc zero) k well due = by_test (repeats (result_of l 0)) ⊥
     (λ r. by_test (says_nothing (setup_steps l 0)) ⊥
@@ -66,8 +100,12 @@ undue_after l (suc (suc count)) k well due = cc due
 -- no setup is due on a link that is set up
 pub set_is_undue : (l : Ledger) (k : ℕ) → is_set_up l ≡ true → setup_due l ≡ Some k → ⊥
 set_is_undue l k set due = by_test l.up ⊥
-    (λ t. undue_after l (setup_count l.starts) k set (sym (taken_if l.up (setup_after l (setup_count l.starts)) None t) ∙ due))
+    (λ t. undue_after l (setup_count l.starts) k (set_is_said l set) (sym (taken_if l.up (setup_after l (setup_count l.starts)) None t) ∙ due))
     (λ f. let x : None ≡ Some k = sym (left_if l.up (setup_after l (setup_count l.starts)) None f) ∙ due in cc x)
+
+-- so one on which a setup is due isn't set up
+pub due_is_unset : (l : Ledger) (k : ℕ) → setup_due l ≡ Some k → is_set_up l ≡ false
+due_is_unset l k due = by_test (is_set_up l) (is_set_up l ≡ false) (λ t. absurd (set_is_undue l k t due)) (λ f. f)
 
 -- a link on which a setup is due is up
 pub due_is_up : (l : Ledger) (k : ℕ) → setup_due l ≡ Some k → l.up ≡ true
@@ -108,7 +146,7 @@ set_begins l s f set =
     let m : Ledger = record l { starts = l.starts ++ s ∷ [] } in
     let e : last_result m (setup_count m.starts) ≡ last_result l (setup_count l.starts) =
     ap (last_result m) (count_more l.starts s f) ∙ last_begins l s (setup_count l.starts) (count_within l.starts) in
-    ap (λ o. is_well (if says_nothing (setup_steps l 0) then Some result.Ready else o)) e ∙ set
+    said_is_set m (set_is_given l set) (ap (λ o. is_well (if says_nothing (setup_steps l 0) then Some result.Ready else o)) e ∙ set_is_said l set)
 
 -- more items leave what messages take
 pub reached_dealt : (l : Ledger) (rest : List ℕ) (more : List Data) (k : ℕ) → reached (record l { rest = rest; dealt = l.dealt ++ more }) k ≡ reached l k
@@ -128,9 +166,9 @@ cut_stays n m ds more i =
 
 -- the setup that is due is the next of those that started
 due_is_next : (l : Ledger) (count k : ℕ) → setup_after l count ≡ Some k → count ≡ k
-due_is_next l zero k due = by_test (says_nothing (setup_steps l 0)) (0 ≡ k)
-    (λ t. absurd (let x : None ≡ Some k = sym (taken_if (says_nothing (setup_steps l 0)) None (Some 0) t) ∙ due in cc x))
-    (λ f. same_some 0 k (sym (left_if (says_nothing (setup_steps l 0)) None (Some 0) f) ∙ due))
+due_is_next l zero k due = by_test (lacks_credentials l || says_nothing (setup_steps l 0)) (0 ≡ k)
+    (λ t. absurd (let x : None ≡ Some k = sym (taken_if (lacks_credentials l || says_nothing (setup_steps l 0)) None (Some 0) t) ∙ due in cc x))
+    (λ f. same_some 0 k (sym (left_if (lacks_credentials l || says_nothing (setup_steps l 0)) None (Some 0) f) ∙ due))
 due_is_next l (suc zero) k due = by_test (repeats (result_of l 0)) (1 ≡ k)
     (λ t. same_some 1 k (sym (taken_if (repeats (result_of l 0)) (Some 1) None t) ∙ due))
     (λ f. absurd (let x : None ≡ Some k = sym (left_if (repeats (result_of l 0)) (Some 1) None f) ∙ due in cc x))
@@ -142,8 +180,9 @@ due_count l k due = due_is_next l (setup_count l.starts) k (sym (taken_if l.up (
 
 -- where a setup is due something is to be said
 due_says : (l : Ledger) (count k : ℕ) → setup_after l count ≡ Some k → says_nothing (setup_steps l 0) ≡ false
-due_says l zero k due = by_test (says_nothing (setup_steps l 0)) (says_nothing (setup_steps l 0) ≡ false)
-    (λ t. absurd (let x : None ≡ Some k = sym (taken_if (says_nothing (setup_steps l 0)) None (Some 0) t) ∙ due in cc x)) (λ f. f)
+due_says l zero k due = by_test (lacks_credentials l || says_nothing (setup_steps l 0)) (says_nothing (setup_steps l 0) ≡ false)
+    (λ t. absurd (let x : None ≡ Some k = sym (taken_if (lacks_credentials l || says_nothing (setup_steps l 0)) None (Some 0) t) ∙ due in cc x))
+    (λ f. or_right (lacks_credentials l) (says_nothing (setup_steps l 0)) f)
 due_says l (suc zero) k due = by_test (says_nothing (setup_steps l 0)) (says_nothing (setup_steps l 0) ≡ false)
     (λ t. absurd (let r : repeats (result_of l 0) ≡ false = none_repeats (setup_steps l 0) (is_full l 0) (cut l 0 (setup_shape (setup_steps l 0))) t in
     let x : None ≡ Some k = sym (left_if (repeats (result_of l 0)) (Some 1) None r) ∙ due in cc x)) (λ f. f)
@@ -273,11 +312,13 @@ still_open l s (suc (suc count)) k due i = cc due
 pub begun_undecided : (l : Ledger) (s : Start) (k : ℕ) → is_of_setup s.owner ≡ true → setup_due l ≡ Some k → length l.dealt ≤ reach l.starts l.dealt → IsUndecided (setup_result (pushed l s))
 begun_undecided l s k mine due few =
     let after : setup_after l (setup_count l.starts) ≡ Some k = sym (taken_if l.up (setup_after l (setup_count l.starts)) None (due_is_up l k due)) ∙ due in
-    subst IsUndecided (sym (left_if (says_nothing (setup_steps l 0)) (Some result.Ready) (last_result (pushed l s) (setup_count (l.starts ++ s ∷ []))) (says_something l k due)))
+    by_test (lacks_credentials l) (IsUndecided (setup_result (pushed l s)))
+    (λ t. subst IsUndecided (sym (setup_unsaid (pushed l s) t)) (record { unwell = refl; no_error = refl }))
+    (λ given. subst IsUndecided (sym (setup_said (pushed l s) given ∙ left_if (says_nothing (setup_steps l 0)) (Some result.Ready) (last_result (pushed l s) (setup_count (l.starts ++ s ∷ []))) (says_something l k due)))
     (elim (count_push l.starts s mine) [
       | inl same ↦ subst (λ n. IsUndecided (last_result (pushed l s) n)) (sym same) (still_open l s (setup_count l.starts) k after (count_within l.starts))
       | inr more ↦ subst (λ n. IsUndecided (last_result (pushed l s) n)) (sym more.0) (subst IsUndecided (sym (just_begun l s (setup_count l.starts) more.1 few)) (record { unwell = refl; no_error = refl }))
-    ])
+    ]))
 
 -- while it is undecided, what ends a link that is up is what ends one that isn't set up
 undecided_ends : (l : Ledger) → l.up ≡ true → IsUndecided (setup_result l) → ending l ≡ ending_unready l l.heard
@@ -300,13 +341,16 @@ unready_same l s overdue = refl
 unready_same l s (took count) = refl
 unready_same l s (came piece) = refl
 unready_same l s (failed f) = refl
+unready_same l s (authorized c) = refl
+unready_same l s (denied text) = refl
+unready_same l s deserted = refl
 unready_same l s shut = refl
 
 -- so the start of a setup ends no link
 pub setup_stays : (l : Ledger) (s : Start) (k : ℕ) → is_of_setup s.owner ≡ true → setup_due l ≡ Some k → length l.dealt ≤ reach l.starts l.dealt → ending l ≡ None → ending (pushed l s) ≡ None
 setup_stays l s k mine due few none =
     let up : l.up ≡ true = due_is_up l k due in
-    let unset : is_set_up l ≡ false = by_test (is_set_up l) (is_set_up l ≡ false) (λ t. absurd (set_is_undue l k t due)) (λ f. f) in
+    let unset : is_set_up l ≡ false = due_is_unset l k due in
     let before : ending_by (error_in (setup_result l)) (ending_unready l l.heard) ≡ None =
     sym (left_if (is_set_up l) (ending_up l l.heard) (ending_by (error_in (setup_result l)) (ending_unready l l.heard)) unset)
     ∙ (sym (taken_if l.up (ending_alive l) (if l.asked && not (is_over l) then ending_asked l.heard else None) up) ∙ none) in
@@ -373,20 +417,13 @@ pub set_more : (l : Ledger) (rest : List ℕ) (more : List Data) → AreSetups l
 set_more l rest more shaped set =
     let m : Ledger = record l { rest = rest; dealt = l.dealt ++ more } in
     by_test (says_nothing (setup_steps l 0)) (is_set_up m ≡ true)
-    (λ t. silent_is_set m t)
-    (λ f. ap is_well (left_if (says_nothing (setup_steps l 0)) (Some result.Ready) (last_result m (setup_count l.starts)) f)
-    ∙ last_more l rest more (setup_count l.starts) (omega arith) shaped (sym (ap is_well (left_if (says_nothing (setup_steps l 0)) (Some result.Ready) (last_result l (setup_count l.starts)) f)) ∙ set))
+    (λ t. silent_is_set m (set_is_given l set) t)
+    (λ f. said_is_set m (set_is_given l set) (ap is_well (left_if (says_nothing (setup_steps l 0)) (Some result.Ready) (last_result m (setup_count l.starts)) f)
+    ∙ last_more l rest more (setup_count l.starts) (omega arith) shaped (sym (ap is_well (left_if (says_nothing (setup_steps l 0)) (Some result.Ready) (last_result l (setup_count l.starts)) f)) ∙ set_is_said l set)))
 
 -- so it does where bytes come
 pub set_came : (l : Ledger) (piece : List ℕ) → AreSetups l → is_set_up l ≡ true → is_set_up (bytes_came l piece) ≡ true
 set_came l piece shaped set = set_more l (left_over (l.rest ++ piece)) (take (reach l.starts l.dealt - length l.dealt) (items (l.rest ++ piece))) shaped set
-
--- a start behind others is one of these, or that
-start_behind : (ss : List Start) (s x : Start) (k : ℕ) → slice_get (ss ++ s ∷ []) k ≡ Some x → (slice_get ss k ≡ Some x) ⊎ ((k ≡ length ss) × (s ≡ x))
-start_behind [] s x zero e = inr (refl, same_some s x e)
-start_behind [] s x (suc k) e = cc
-start_behind (y ∷ ss) s x zero e = inl e
-start_behind (y ∷ ss) s x (suc k) e = elim (start_behind ss s x k e) [ inl old ↦ inl old | inr new ↦ inr (ap suc new.0, new.1) ]
 
 -- a start that stands is within
 start_within : (ss : List Start) (k : ℕ) (s : Start) → slice_get ss k ≡ Some s → k < length ss
@@ -396,7 +433,7 @@ start_within (x ∷ ss) (suc k) s e = omega (arith, start_within ss k s e)
 
 -- setups stay so where a request's message starts
 pub setups_request : (l : Ledger) (s : Start) → is_of_setup s.owner ≡ false → AreSetups l → SetupsOf l.info (l.starts ++ s ∷ [])
-setups_request l s request h k x i stands = elim (start_behind l.starts s x k stands) [
+setups_request l s request h k x i stands = elim (item_behind l.starts s x k stands) [
   | inl old ↦ h k x (omega (arith, i, count_more l.starts s request)) old
   | inr new ↦ absurd (omega (arith, i, count_more l.starts s request, count_within l.starts, new.0))
 ]
@@ -405,7 +442,7 @@ setups_request l s request h k x i stands = elim (start_behind l.starts s x k st
 pub setups_setup : (l : Ledger) → AreSetups l → SetupsOf l.info (l.starts ++ setup_message l (setup_count l.starts) ∷ [])
 setups_setup l h k x i stands =
     let s : Start = setup_message l (setup_count l.starts) in
-    elim (start_behind l.starts s x k stands) [
+    elim (item_behind l.starts s x k stands) [
       | inl old ↦ h k x (elim (count_push l.starts s refl) [
         | inl same ↦ omega (arith, i, same)
         | inr more ↦ omega (arith, more.1, start_within l.starts k x old)
