@@ -10,7 +10,7 @@ use Rattle.driver_model.specs.Setup.{says_nothing}
 use Rattle.driver_model.specs.News.{News, silence, connected, refused, overdue, took, came, failed, authorized, denied, deserted, shut}
 use Rattle.legal_trace.specs.Ledger.{Ledger, Start, begins, ending_up, is_full, is_of_setup, is_well, lacks_credentials, last_result, noted, reach, repeats, result_of, setup_after, setup_count, setup_due, setup_result, setup_steps}
 use Rattle.legal_trace.proofs.Ledgers.{reach_more, takes_one}
-use Rattle.legal_trace.proofs.Setups.{IsUndecided, count_more, count_within, repeats_open, second_holds, set_begins, set_came, set_is_given, set_is_said, setup_said}
+use Rattle.legal_trace.proofs.Setups.{IsUndecided, count_more, count_within, repeats_open, set_begins, set_came, set_is_given, set_is_said, setup_said}
 use Rattle.link_core.specs.Link.{LinkState}
 use Rattle.link_laws.proofs.TiedLink.{has_heard}
 use Rattle.session_laws.proofs.Creds.{lacking_undecided}
