@@ -6,6 +6,7 @@ use Rattle.redis_error.specs.declared.fault_kind.FaultKind.TheVariants as kinds
 use Rattle.redis_error.specs.declared.fault_kind.FaultKind.{FaultKind}
 use Rattle.redis_error.specs.declared.redis_error.RedisError.TheVariants as error
 use Rattle.redis_error.specs.declared.redis_error.RedisError.{RedisError}
+use Rattle.credentials.specs.Credentials.{Credentials}
 use Rattle.resp_value.specs.Data.{Data, push, list_of}
 use Rattle.resp_value.specs.declared.push_kind.PushKind.TheVariants.{Disconnection}
 use Rattle.resp_value.specs.declared.value.Value.TheVariants.{Nil}
@@ -18,7 +19,7 @@ use Rattle.driver_model.specs.declared.outcome.Outcome.{Outcome}
 use Rattle.driver_model.specs.declared.outcome.Outcome.TheVariants as outcome
 use Rattle.driver_model.specs.declared.outcome.Shape.{Shape}
 use Rattle.driver_model.specs.declared.push_info.PushInfo.{PushInfo}
-use Rattle.driver_model.specs.News.{News, silence, connected, took, failed, shut, refused, overdue}
+use Rattle.driver_model.specs.News.{News, silence, connected, took, failed, shut, refused, overdue, authorized, denied, deserted}
 use Rattle.driver_model.specs.News.{came}
 use Rattle.driver_model.specs.Shape.{outcome_of}
 use Rattle.link_core.specs.declared.message.Entry.{Entry}
@@ -34,13 +35,13 @@ use Rattle.mux_conn.specs.declared.act.LinkAct.{LinkAct}
 use Rattle.mux_conn.specs.declared.act.LinkAct.TheVariants as act
 use Rattle.mux_conn.specs.declared.connection.MultiplexedConnection.{MultiplexedConnection}
 use Rattle.mux_conn.specs.declared.life.Life.{Life}
-use Rattle.mux_conn.specs.declared.life.Life.TheVariants.{Dialing, SettingUp, Ready, Ended}
+use Rattle.mux_conn.specs.declared.life.Life.TheVariants.{Dialing, Wanting, SettingUp, Ready, Ended}
 use Rattle.mux_conn.specs.declared.request.Progress.TheVariants as progress
 use Rattle.mux_conn.specs.declared.request.Request.{Request}
 use Rattle.mux_conn.specs.declared.request.Waiting.{Waiting}
 use Rattle.mux_conn.specs.Connection.{Work, acted, at_life, with_link, with_setup, has_no_permit, admits_none_at, admits_none, has_room, first_queued}
 use Rattle.mux_conn.specs.Requests.{is_open, is_waiting, is_admitted, is_placed, is_open_at, is_waiting_at, is_admitted_at, is_placed_at, name_at, permits_at, with_permits, given_back, closed, answered, waiting_of, asked}
-use Rattle.mux_conn.specs.Effects.{settled_each, failed_each, nobody_waits, waiting_failed, pushed, told_each, cut_short, all_answered, ended, parted, heard_in, opening_failed, connected_at, refused_at, overdue_at, taken_at, failed_at, broken_at, read_to, read_at, shut_at, applied, cancelled_in, left, timed_out}
+use Rattle.mux_conn.specs.Effects.{settled_each, failed_each, nobody_waits, waiting_failed, pushed, told_each, cut_short, all_answered, ended, parted, heard_in, opening_failed, authorized_at, connected_at, unauthorized_at, refused_at, overdue_at, taken_at, failed_at, broken_at, read_to, read_at, shut_at, applied, cancelled_in, left, timed_out}
 use Rattle.mux_conn.specs.Passes.{shown_each, starts_with, started_at, started, message_of, placed_at, told_at_place, seated, still_admitted, moved_up, moved_up_each, moved_up_all, put_behind, seated_or_behind, permits_taken, holding, took_shown, took as holds, timer_asked, let_in, admitted_at, admitted, still_waiting, admitted_each, admitted_all, passed}
 use Rattle.mux_conn.specs.Turn.{written_at, written, is_from, moved_wait, early_wait, fresh_wait, wait_shown, moved_each_shown, moved_shown, fresh_each_shown, fresh_shown, waits_shown, flushed}
 use Rattle.cancel_laws.specs.ButFor.{hushed_each, hushed_link, hushed_life}
@@ -259,19 +260,38 @@ bare_given_up n p w e h = bare_opening n p (acted w act.Close) e h ∙ ap (λ (x
 bare_failed : (n p : ℕ) (w : Work) (f : LinkFault) (life : Life) → At (There (IsGone n p)) w → bare n p (failed_at w f life) ≡ failed_at (bare n p w) f (hushed_life p life)
 bare_failed n p w f (Ready l) h = bare_faulted n p w _ _ h (fault_alike p f l (hushed_link p l) [] [] (alike_hushed p l) refl).out
 bare_failed n p w f Dialing h = refl
+bare_failed n p w f (Wanting l) h = bare_given_up n p w error.Closed h
 bare_failed n p w f (SettingUp l with_user) h = bare_given_up n p w error.Closed h
 bare_failed n p w f (Ended e) h = refl
 
 -- the connect
 bare_connected : (n p : ℕ) (w : Work) (life : Life) → NoneQueued p life → bare n p (connected_at w life) ≡ connected_at (bare n p w) (hushed_life p life)
 bare_connected n p w Dialing none = absurd none
+bare_connected n p w (Wanting l) none = absurd none
 bare_connected n p w (SettingUp l with_user) none = absurd none
 bare_connected n p w (Ready l) none = refl
 bare_connected n p w (Ended e) none = refl
 
+-- credentials for the setup
+bare_authorized : (n p : ℕ) (w : Work) (c : Credentials) (life : Life) → NoneQueued p life → bare n p (authorized_at w c life) ≡ authorized_at (bare n p w) c (hushed_life p life)
+bare_authorized n p w c Dialing none = refl
+bare_authorized n p w c (Wanting l) none = absurd none
+bare_authorized n p w c (SettingUp l with_user) none = refl
+bare_authorized n p w c (Ready l) none = refl
+bare_authorized n p w c (Ended e) none = refl
+
+-- that there are none
+bare_unauthorized : (n p : ℕ) (w : Work) (e : RedisError) (life : Life) → NoneQueued p life → bare n p (unauthorized_at w e life) ≡ unauthorized_at (bare n p w) e (hushed_life p life)
+bare_unauthorized n p w e Dialing none = refl
+bare_unauthorized n p w e (Wanting l) none = absurd none
+bare_unauthorized n p w e (SettingUp l with_user) none = refl
+bare_unauthorized n p w e (Ready l) none = refl
+bare_unauthorized n p w e (Ended x) none = refl
+
 -- the connect is refused
 bare_refused : (n p : ℕ) (w : Work) (f : FaultKind) (life : Life) → At (There (IsGone n p)) w → bare n p (refused_at w f life) ≡ refused_at (bare n p w) f (hushed_life p life)
 bare_refused n p w f Dialing h = bare_opening n p w (error.Io f) h
+bare_refused n p w f (Wanting l) h = refl
 bare_refused n p w f (SettingUp l with_user) h = refl
 bare_refused n p w f (Ready l) h = refl
 bare_refused n p w f (Ended e) h = refl
@@ -279,6 +299,7 @@ bare_refused n p w f (Ended e) h = refl
 -- the time to connect is over
 bare_overdue : (n p : ℕ) (w : Work) (life : Life) → At (There (IsGone n p)) w → bare n p (overdue_at w life) ≡ overdue_at (bare n p w) (hushed_life p life)
 bare_overdue n p w Dialing h = bare_given_up n p w (error.Io kinds.TimedOut) h
+bare_overdue n p w (Wanting l) h = bare_given_up n p w (error.Io kinds.TimedOut) h
 bare_overdue n p w (SettingUp l with_user) h = bare_given_up n p w (error.Io kinds.TimedOut) h
 bare_overdue n p w (Ready l) h = refl
 bare_overdue n p w (Ended e) h = refl
@@ -286,6 +307,7 @@ bare_overdue n p w (Ended e) h = refl
 -- bytes were taken
 bare_taken : (n p : ℕ) (w : Work) (count : ℕ) (life : Life) → bare n p (taken_at w count life) ≡ taken_at (bare n p w) count (hushed_life p life)
 bare_taken n p w count Dialing = refl
+bare_taken n p w count (Wanting l) = refl
 bare_taken n p w count (SettingUp l with_user) = refl
 bare_taken n p w count (Ready l) = refl
 bare_taken n p w count (Ended e) = refl
@@ -349,6 +371,7 @@ bare_came n p w piece (Ready l) h =
     bare_read n p w (heard_in w l piece) (heard_in (bare n p w) (hushed_link p l) piece) s (piece_dealt (record { link = hushed_link p l; out = [] }) piece) k (hushed_came p l piece)
     (bare_told_each n p (with_link w s.link) l piece w.conn.hears k)
 bare_came n p w piece Dialing h = refl
+bare_came n p w piece (Wanting l) h = absurd h.none
 bare_came n p w piece (SettingUp l with_user) h = absurd h.none
 bare_came n p w piece (Ended e) h = refl
 
@@ -356,6 +379,7 @@ bare_came n p w piece (Ended e) h = refl
 bare_shut : (n p : ℕ) (w : Work) (life : Life) → At (There (IsGone n p)) w → bare n p (shut_at w life) ≡ shut_at (bare n p w) (hushed_life p life)
 bare_shut n p w (Ready l) h = bare_ended n p w _ _ h (close_alike p l (hushed_link p l) [] [] (alike_hushed p l) refl).out
 bare_shut n p w Dialing h = bare_ended n p w [] [] h refl
+bare_shut n p w (Wanting l) h = bare_ended n p w [] [] h refl
 bare_shut n p w (SettingUp l with_user) h = bare_ended n p w [] [] h refl
 bare_shut n p w (Ended e) h = refl
 
@@ -368,6 +392,9 @@ bare_applied n p w overdue h = bare_overdue n p w w.conn.life h
 bare_applied n p w (took count) h = bare_taken n p w count w.conn.life
 bare_applied n p w (came piece) h = bare_came n p w piece w.conn.life h
 bare_applied n p w (failed f) h = bare_failed n p w f w.conn.life h
+bare_applied n p w (authorized c) h = bare_authorized n p w c w.conn.life h.none
+bare_applied n p w (denied text) h = bare_unauthorized n p w (error.Credentials text) w.conn.life h.none
+bare_applied n p w deserted h = bare_unauthorized n p w (error.AuthFailed []) w.conn.life h.none
 bare_applied n p w shut h = bare_shut n p w w.conn.life h
 
 -- requests
@@ -385,6 +412,7 @@ bare_asked p c name packed shape awaited timeout l =
 -- the cancel of request p itself
 own_life : (p : ℕ) (life : Life) → NoneQueued p life → hushed_life p (cancelled_in life p) ≡ hushed_life p life
 own_life p Dialing h = refl
+own_life p (Wanting l) h = refl
 own_life p (SettingUp l with_user) h = refl
 own_life p (Ready l) h = ap Ready (own_cancelled p l (none_leaves p l.queue h))
 own_life p (Ended e) h = refl
@@ -404,6 +432,7 @@ own_left p c none =
 -- the cancel of another request, on the link
 other_life : (p q : ℕ) (life : Life) → hushed_life p (cancelled_in life q) ≡ cancelled_in (hushed_life p life) q
 other_life p q Dialing = refl
+other_life p q (Wanting l) = refl
 other_life p q (SettingUp l with_user) = refl
 other_life p q (Ready l) = ap Ready (hushed_cancelled p q l)
 other_life p q (Ended e) = refl
@@ -485,6 +514,7 @@ bare_started_at n p w (Ready l) none =
     let out = (start_alike p l (hushed_link p l) [] (alike_hushed p l)).out in
     bare_shown n p (with_link w s.link) s.out ∙ (λ i. starts_with (bare n p w) (record { link = link i; out = out i }))
 bare_started_at n p w Dialing none = refl
+bare_started_at n p w (Wanting l) none = absurd none
 bare_started_at n p w (SettingUp l with_user) none = absurd none
 bare_started_at n p w (Ended e) none = refl
 
@@ -515,6 +545,7 @@ bare_seated_at n p w q (Ready l) t g h =
     bare_started n p (told_at_place d q) (told_kept (gone_kept n p) d q k) ∙ ap started (bare_told n p d q k)
     ∙ ap (λ (x : Work). started (told_at_place x q)) (bare_placed n p w q l (other_test is_admitted w.conn.requests q.number p t g.seated))
 bare_seated_at n p w q Dialing t g h = bare_started n p (told_at_place w q) (told_kept (gone_kept n p) w q h) ∙ ap started (bare_told n p w q h)
+bare_seated_at n p w q (Wanting l) t g h = bare_started n p (told_at_place w q) (told_kept (gone_kept n p) w q h) ∙ ap started (bare_told n p w q h)
 bare_seated_at n p w q (SettingUp l with_user) t g h = bare_started n p (told_at_place w q) (told_kept (gone_kept n p) w q h) ∙ ap started (bare_told n p w q h)
 bare_seated_at n p w q (Ended e) t g h = bare_started n p (told_at_place w q) (told_kept (gone_kept n p) w q h) ∙ ap started (bare_told n p w q h)
 
@@ -533,6 +564,7 @@ bare_moved_up n p w q h =
 -- whether the queue has room doesn't depend on the row
 room_same : (p : ℕ) (life : Life) → has_room life ≡ has_room (hushed_life p life)
 room_same p Dialing = refl
+room_same p (Wanting l) = refl
 room_same p (SettingUp l with_user) = refl
 room_same p (Ready l) = refl
 room_same p (Ended e) = refl
@@ -611,6 +643,7 @@ bare_admitted_at n p w q (Ready l) t none h =
     ∙ ap (λ (x : Work). seated_or_behind x q) (bare_let_in n p w q none (other_test is_waiting w.conn.requests q.number p t h.past))
 bare_admitted_at n p w q (Ended e) t none h = bare_answered n p w q.number (outcome.Fault e) h
 bare_admitted_at n p w q Dialing t none h = refl
+bare_admitted_at n p w q (Wanting l) t none h = refl
 bare_admitted_at n p w q (SettingUp l with_user) t none h = refl
 
 -- and any other stays
@@ -624,6 +657,7 @@ bare_admitted n p w q none h =
 -- where permits aren't counted, whether requests can be moved at all depends neither on the row nor on permits
 stuck_same : (p : ℕ) (life : Life) (lim : Option ℕ) (j k : ℕ) → lim ≡ None → admits_none_at life (has_no_permit lim j) ≡ admits_none_at (hushed_life p life) (has_no_permit lim k)
 stuck_same p Dialing lim j k none = refl
+stuck_same p (Wanting l) lim j k none = refl
 stuck_same p (SettingUp l with_user) lim j k none = refl
 stuck_same p (Ready l) None j k none = refl
 stuck_same p (Ready l) (Some most) j k none = cc
@@ -653,6 +687,7 @@ bare_passed n p w none h =
 bare_written_at : (n p : ℕ) (w : Work) (life : Life) → bare n p (written_at w life) ≡ written_at (bare n p w) (hushed_life p life)
 bare_written_at n p w (Ready l) =
     either (bare n p) (can_offer l.outbox) _ w _ (bare n p w) (λ t. bare_acted n p (with_link w (offered_of l)) (act.Write l.outbox.unwritten) (λ m. refl)) (λ f. refl)
+bare_written_at n p w (Wanting l) = refl
 bare_written_at n p w (SettingUp l with_user) =
     either (bare n p) (can_offer l.outbox) _ w _ (bare n p w) (λ t. bare_acted n p (with_setup w (offered_of l) with_user) (act.Write l.outbox.unwritten) (λ m. refl)) (λ f. refl)
 bare_written_at n p w Dialing = refl
@@ -661,6 +696,7 @@ bare_written_at n p w (Ended e) = refl
 -- nor does it what a request waits for that waits for the connection
 early_same : (p : ℕ) (life : Life) → early_wait life ≡ early_wait (hushed_life p life)
 early_same p Dialing = refl
+early_same p (Wanting l) = refl
 early_same p (SettingUp l with_user) = refl
 early_same p (Ready l) = refl
 early_same p (Ended e) = refl
@@ -675,6 +711,7 @@ bare_wait n p w q (Some kind) =
 -- nor does who is the first of the queue depend on the row
 first_same : (p : ℕ) (life : Life) → first_queued life ≡ first_queued (hushed_life p life)
 first_same p Dialing = refl
+first_same p (Wanting l) = refl
 first_same p (SettingUp l with_user) = refl
 first_same p (Ready l) = refl
 first_same p (Ended e) = refl

@@ -14,14 +14,14 @@ use Rattle.driver_model.specs.declared.event.EventKind.TheVariants as event
 use Rattle.driver_model.specs.declared.outcome.Outcome.{Outcome}
 use Rattle.mux_conn.specs.declared.connection.MultiplexedConnection.{MultiplexedConnection}
 use Rattle.mux_conn.specs.declared.life.Life.{Life}
-use Rattle.mux_conn.specs.declared.life.Life.TheVariants.{Dialing, SettingUp, Ready, Ended}
+use Rattle.mux_conn.specs.declared.life.Life.TheVariants.{Dialing, Wanting, SettingUp, Ready, Ended}
 use Rattle.mux_conn.specs.declared.request.Pending.{Pending}
 use Rattle.mux_conn.specs.Requests.{if_there, is_open, is_waiting, is_admitted, is_open_at}
 use Rattle.mux_conn.specs.Connection.{Work}
 use Rattle.mux_conn.specs.Effects.{cancelled_in, left}
 use Rattle.mux_conn.specs.Passes.{passed}
 use Rattle.shared_session.specs.declared.core_state.Core.{Core}
-use Rattle.shared_session.specs.Turn.{Turning, work_of, with_work, heard, left_by, counted, moved_on, timed, exceeds_offer, is_bad, shown_each, actions_of, next_turn}
+use Rattle.shared_session.specs.Turn.{Turning, work_of, with_work, heard, left_by, counted, moved_on, numbered, exceeds_offer, is_bad, shown_each, actions_of, next_turn}
 use Rattle.shared_session.specs.Replay.{opening_core, opening_actions, run_on, state_after, turns_on, trace_of, told_each, outcomes_in, outcome_at, is_bad_after}
 use Rattle.shared_session.proofs.Replays.{turns_after}
 use Rattle.cancel_laws.specs.ButFor.{all_unnumbered, but_for, hushed_life}
@@ -52,9 +52,10 @@ cancel_turn c n p unlimited r there none =
     let d = left_by t (Some (Some p)) in
     let shut = or-false c.shut in
     let timers = append-nil c.timers in
-    ap (λ (who : Option (Option Pending)). timed (moved_on (left_by t who))) there
-    ∙ ap (λ (w : Work). timed (with_work d w)) (nothing_moves (work_of d) (left_idle c.single.connection p.number unlimited none r.idle))
-    ∙ (λ i. record { core = record c { turns = c.turns + 1; shut = shut i; timers = timers i; single = record c.single { connection = left c.single.connection p.number } }; acts = [] })
+    let sources = append-nil c.sources in
+    ap (λ (who : Option (Option Pending)). numbered (moved_on (left_by t who))) there
+    ∙ ap (λ (w : Work). numbered (with_work d w)) (nothing_moves (work_of d) (left_idle c.single.connection p.number unlimited none r.idle))
+    ∙ (λ i. record { core = record c { turns = c.turns + 1; shut = shut i; timers = timers i; sources = sources i; single = record c.single { connection = left c.single.connection p.number } }; acts = [] })
 
 -- a started request is gone from the queue
 started_none : (n : ℕ) (c : Core) (h : HasStarted n c) → NoneQueued h.pending.number c.single.connection.life
@@ -158,7 +159,7 @@ hushed_on n p c (e ∷ es) l h =
 
 -- the turn of the cancel shows nothing, where permits aren't counted
 cancel_shows : (c : Core) (draw n : ℕ) (h : HasStarted n c) → AtCore Unlimited c → IsReady c → actions_of c (cancel_of draw n) ≡ action.Turn c.turns (cause.Event (cancel_of draw n)) ∷ []
-cancel_shows c draw n h u r = ap (λ (x : Turning). action.Turn c.turns (cause.Event (cancel_of draw n)) ∷ shown_each c.single.link (length c.timers) x.acts) (started_cancel n c h u r)
+cancel_shows c draw n h u r = ap (λ (x : Turning). action.Turn c.turns (cause.Event (cancel_of draw n)) ∷ shown_each c.single.link (length c.timers) (length c.sources) x.acts) (started_cancel n c h u r)
 
 -- histories
 --
@@ -293,6 +294,7 @@ same_items config word draw n before after free h =
 -- how many bytes are offered doesn't depend on the row
 too_much_same : (p count : ℕ) (life : Life) → exceeds_offer life count ≡ exceeds_offer (hushed_life p life) count
 too_much_same p count Dialing = refl
+too_much_same p count (Wanting l) = refl
 too_much_same p count (SettingUp l with_user) = refl
 too_much_same p count (Ready l) = refl
 too_much_same p count (Ended e) = refl
@@ -306,6 +308,9 @@ bare_bad p c (event.Connected l) = refl
 bare_bad p c (event.Refused l f) = refl
 bare_bad p c (event.Fired n) = refl
 bare_bad p c (event.Timeout ms) = refl
+bare_bad p c (event.Creds n auth) = refl
+bare_bad p c (event.CredsError n text) = refl
+bare_bad p c (event.CredsEnd n) = refl
 bare_bad p c (event.Wrote l count) = ap (λ (b : Bool). nat_le c.links l || ((l == c.single.link) && b)) (too_much_same p count c.single.connection.life)
 bare_bad p c (event.Bytes l piece) = refl
 bare_bad p c (event.Ended l) = refl

@@ -19,7 +19,7 @@ use Rattle.link_core.specs.Outbox.{can_offer}
 use Rattle.link_core.specs.Waiting.{without}
 use Rattle.mux_conn.specs.declared.connection.MultiplexedConnection.{MultiplexedConnection}
 use Rattle.mux_conn.specs.declared.life.Life.{Life}
-use Rattle.mux_conn.specs.declared.life.Life.TheVariants.{Dialing, SettingUp, Ready, Ended}
+use Rattle.mux_conn.specs.declared.life.Life.TheVariants.{Dialing, Wanting, SettingUp, Ready, Ended}
 use Rattle.mux_conn.specs.declared.request.Pending.{Pending}
 use Rattle.mux_conn.specs.declared.request.Progress.TheVariants as progress
 use Rattle.mux_conn.specs.declared.request.Request.{Request}
@@ -29,7 +29,7 @@ use Rattle.mux_conn.specs.Requests.{if_there, is_waiting, is_waiting_at, name_at
 use Rattle.mux_conn.specs.Passes.{started, message_of, placed_at, told_at_place, seated, moved_up_all, put_behind, seated_or_behind, permits_taken, holding, let_in, admitted_at, admitted, still_waiting, still_admitted, admitted_each, admitted_all, passed}
 use Rattle.mux_conn.specs.Turn.{written_at, written, flushed}
 use Rattle.shared_session.specs.declared.core_state.Core.{Core}
-use Rattle.shared_session.specs.Turn.{Turning, pending, work_of, heard, refused_with, counted, moved_on, timed, next_turn}
+use Rattle.shared_session.specs.Turn.{Turning, pending, work_of, heard, refused_with, counted, moved_on, numbered, next_turn}
 use Rattle.shared_session.specs.Replay.{state_after}
 use Rattle.cancel_laws.specs.Cancels.{handed_in_at, IsFree, HasStarted}
 use Rattle.cancel_laws.proofs.Kept.{let_in_conn}
@@ -54,6 +54,10 @@ same_link k l e = cc
 not_set_up : (k l : LinkState) (with_user : Bool) → Ready k ≡ SettingUp l with_user → ⊥
 not_set_up k l with_user e = cc
 
+-- nor does it wait for credentials
+not_wanting : (k l : LinkState) → Ready k ≡ Wanting l → ⊥
+not_wanting k l e = cc
+
 -- bytes are offered
 written_from : (p : ℕ) (w : Work) (life : Life) → w.conn.life ≡ life → IsStarted p w.conn → IsStarted p (written_at w life).conn
 written_from p w (Ready l) e h =
@@ -69,6 +73,7 @@ written_from p w (Ready l) e h =
     })
     (λ f. h)
 written_from p w Dialing e h = h
+written_from p w (Wanting l) e h = absurd (not_wanting h.link l (sym h.up ∙ e))
 written_from p w (SettingUp l with_user) e h = absurd (not_set_up h.link l with_user (sym h.up ∙ e))
 written_from p w (Ended x) e h = h
 
@@ -174,13 +179,13 @@ turn_starts c s some awaited ready free spoken =
     } in
     let sits : IsStarted p (passed (work_of (asks true))).conn =
     asked_starts conn n (packed_bytes s) (shape_of s) c.timeout free.link ready.idle free.ready free.goes free.room free.permit in
-    let done : HasStarted n (timed (moved_on (asks true))).core =
-    has_started n (timed (moved_on (asks true))).core (pending p) (get_last c.table (Some (pending p))) (all_flushed p (passed (work_of (asks true))) sits) in
-    let own : HasStarted n (timed (moved_on (asks (is_reply_awaited s)))).core = subst (λ (b : Bool). HasStarted n (timed (moved_on (asks b))).core) (sym awaited) done in
+    let done : HasStarted n (numbered (moved_on (asks true))).core =
+    has_started n (numbered (moved_on (asks true))).core (pending p) (get_last c.table (Some (pending p))) (all_flushed p (passed (work_of (asks true))) sits) in
+    let own : HasStarted n (numbered (moved_on (asks (is_reply_awaited s)))).core = subst (λ (b : Bool). HasStarted n (numbered (moved_on (asks b))).core) (sym awaited) done in
     let packed = if length (packed_bytes s) == 0 then refused_with t error.EmptyCommand else asks (is_reply_awaited s) in
-    if_false (λ (x : Turning). HasStarted n (timed (moved_on x)).core) (c.shut || false) _ (if lacks_resp3 conn.info.protocol s then refused_with t error.Resp3Required else packed) (or-false c.shut ∙ free.unshut)
-    (if_false (λ (x : Turning). HasStarted n (timed (moved_on x)).core) (lacks_resp3 conn.info.protocol s) _ packed spoken
-    (if_false (λ (x : Turning). HasStarted n (timed (moved_on x)).core) (length (packed_bytes s) == 0) _ (asks (is_reply_awaited s)) (no_bytes (packed_bytes s) some) own))
+    if_false (λ (x : Turning). HasStarted n (numbered (moved_on x)).core) (c.shut || false) _ (if lacks_resp3 conn.info.protocol s then refused_with t error.Resp3Required else packed) (or-false c.shut ∙ free.unshut)
+    (if_false (λ (x : Turning). HasStarted n (numbered (moved_on x)).core) (lacks_resp3 conn.info.protocol s) _ packed spoken
+    (if_false (λ (x : Turning). HasStarted n (numbered (moved_on x)).core) (length (packed_bytes s) == 0) _ (asks (is_reply_awaited s)) (no_bytes (packed_bytes s) some) own))
 
 -- whatever came before
 pub free_started : (config : Config) (word draw : ℕ) (before : List Event) (s : Submission) → packed_bytes s ≢ [] → is_reply_awaited s ≡ true → IsFree (state_after config word before)

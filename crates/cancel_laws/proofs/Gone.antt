@@ -4,7 +4,7 @@ use Rattle.containers.proofs.Choices.{ne_test}
 use Rattle.link_core.specs.declared.message.Entry.{Entry}
 use Rattle.mux_conn.specs.declared.act.LinkAct.{LinkAct}
 use Rattle.mux_conn.specs.declared.life.Life.{Life}
-use Rattle.mux_conn.specs.declared.life.Life.TheVariants.{Dialing, SettingUp, Ready, Ended}
+use Rattle.mux_conn.specs.declared.life.Life.TheVariants.{Dialing, Wanting, SettingUp, Ready, Ended}
 use Rattle.mux_conn.specs.declared.request.Progress.{Progress}
 use Rattle.mux_conn.specs.declared.request.Progress.TheVariants as progress
 use Rattle.mux_conn.specs.declared.request.Request.{Request}
@@ -20,6 +20,7 @@ use Rattle.cancel_laws.proofs.Kept.{IsKept, IsKeptThere, There, kept_there, CanA
 -- the link has been set up, and nobody awaits message p in its queue
 abbrev pub NoneQueued : ℕ → Life → Type 0
 NoneQueued p Dialing = ⊥
+NoneQueued p (Wanting l) = ⊥
 NoneQueued p (SettingUp l with_user) = ⊥
 NoneQueued p (Ready l) = NoneOf p l.queue
 NoneQueued p (Ended e) = Unit {0}
@@ -27,6 +28,7 @@ NoneQueued p (Ended e) = Unit {0}
 -- nor in its row
 abbrev pub NoneInRow : ℕ → Life → Type 0
 NoneInRow p Dialing = Unit {0}
+NoneInRow p (Wanting l) = Unit {0}
 NoneInRow p (SettingUp l with_user) = Unit {0}
 NoneInRow p (Ready l) = NoneWanted p l.row
 NoneInRow p (Ended e) = Unit {0}
@@ -53,6 +55,7 @@ within_kept r p q now count l = omega (arith, progress_count r q now count)
 -- a cancel puts nothing into the queue
 none_cancelled : (p q : ℕ) (life : Life) → NoneQueued p life → NoneQueued p (cancelled_in life q)
 none_cancelled p q Dialing h = h
+none_cancelled p q (Wanting l) h = h
 none_cancelled p q (SettingUp l with_user) h = h
 none_cancelled p q (Ready l) h = none_without p q l.queue h
 none_cancelled p q (Ended e) h = h
@@ -72,8 +75,10 @@ gone_there n p = record {
     none = h.none;
   };
   hush = λ r life q h. record { there = h.there; own = h.own; past = h.past; seated = h.seated; none = none_cancelled p q life h.none };
-  connect = λ r size bound h. absurd h.none;
-  set_up = λ r size bound q with_user h. absurd h.none;
+  want = λ r size bound h. absurd h.none;
+  wait_on = λ r l k few h. absurd h.none;
+  connect = λ r l h. absurd h.none;
+  set_up = λ r l q with_user h. absurd h.none;
   go_on = λ r l k with_user few h. absurd h.none;
   repeat = λ r l k q with_user few h. absurd h.none;
   ready = λ r l k with_user few h. absurd h.none;
@@ -137,8 +142,10 @@ away_kept n p = record {
   answer = λ lim r life ms xs q o t h. record { gone = (gone_there n p).answer r life q h.gone; unmoved = h.unmoved };
   cancel = λ lim r life ms xs q t h. record { gone = (gone_kept n p).cancel lim r life ms xs q t h.gone; unmoved = h.unmoved };
   hush = λ lim r life ms xs q h. record { gone = (gone_there n p).hush r life q h.gone; unmoved = h.unmoved };
-  connect = λ lim r size bound ms xs h. absurd h.gone.none;
-  set_up = λ lim r size bound ms xs q with_user h. absurd h.gone.none;
+  want = λ lim r size bound ms xs h. absurd h.gone.none;
+  wait_on = λ lim r l k ms xs few h. absurd h.gone.none;
+  connect = λ lim r l ms xs h. absurd h.gone.none;
+  set_up = λ lim r l ms xs q with_user h. absurd h.gone.none;
   go_on = λ lim r l k with_user ms xs few h. absurd h.gone.none;
   repeat = λ lim r l k q with_user ms xs few h. absurd h.gone.none;
   ready = λ lim r l k with_user ms xs few h. absurd h.gone.none;
@@ -171,6 +178,7 @@ pub record IsHushed (n p : ℕ) (r : List Request) (life : Life) : Type 0 where
 -- a cancel makes nobody await a message
 quiet_cancelled : (p q : ℕ) (life : Life) → NoneInRow p life → NoneInRow p (cancelled_in life q)
 quiet_cancelled p q Dialing h = h
+quiet_cancelled p q (Wanting l) h = h
 quiet_cancelled p q (SettingUp l with_user) h = h
 quiet_cancelled p q (Ready l) h = quiet_silenced p q l.row h
 quiet_cancelled p q (Ended e) h = h
@@ -180,8 +188,10 @@ hushed_there : (n p : ℕ) → IsKeptThere (IsHushed n p)
 hushed_there n p = record {
   answer = λ r life q h. record { gone = (gone_there n p).answer r life q h.gone; quiet = h.quiet };
   hush = λ r life q h. record { gone = (gone_there n p).hush r life q h.gone; quiet = quiet_cancelled p q life h.quiet };
-  connect = λ r size bound h. absurd h.gone.none;
-  set_up = λ r size bound q with_user h. absurd h.gone.none;
+  want = λ r size bound h. absurd h.gone.none;
+  wait_on = λ r l k few h. absurd h.gone.none;
+  connect = λ r l h. absurd h.gone.none;
+  set_up = λ r l q with_user h. absurd h.gone.none;
   go_on = λ r l k with_user few h. absurd h.gone.none;
   repeat = λ r l k q with_user few h. absurd h.gone.none;
   ready = λ r l k with_user few h. absurd h.gone.none;
@@ -205,6 +215,7 @@ hushed_asks n p m o = record { ask = λ lim r life ms xs h. record { gone = gone
 -- where nobody awaits it, its verdict is not wanted
 pub quiet_life : (p : ℕ) (life : Life) → NoneInRow p life → hushed_life p life ≡ life
 quiet_life p Dialing h = refl
+quiet_life p (Wanting l) h = refl
 quiet_life p (SettingUp l with_user) h = refl
 quiet_life p (Ready l) h = ap (λ (row : List Entry). Ready (record l { row = row })) (quiet_stays p l.row h)
 quiet_life p (Ended e) h = refl

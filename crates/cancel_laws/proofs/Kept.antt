@@ -6,6 +6,7 @@ use Rattle.redis_error.specs.declared.fault_kind.FaultKind.TheVariants as kinds
 use Rattle.redis_error.specs.declared.fault_kind.FaultKind.{FaultKind}
 use Rattle.redis_error.specs.declared.redis_error.RedisError.{RedisError}
 use Rattle.resp_value.specs.declared.value.Value.TheVariants.{Nil}
+use Rattle.credentials.specs.Credentials.{Credentials}
 use Rattle.connection_setup.specs.declared.judgement.SetupResult.{SetupResult}
 use Rattle.connection_setup.specs.declared.judgement.SetupResult.TheVariants as result
 use Rattle.driver_model.specs.declared.action.Owner.TheVariants as owner
@@ -19,7 +20,7 @@ use Rattle.driver_model.specs.declared.news.LinkFault.{LinkFault}
 use Rattle.driver_model.specs.declared.news.LinkFault.TheVariants as fault
 use Rattle.driver_model.specs.declared.outcome.Outcome.{Outcome}
 use Rattle.driver_model.specs.declared.outcome.Outcome.TheVariants as outcome
-use Rattle.driver_model.specs.News.{News, news_of, silence, connected, took, failed, shut, refused, overdue}
+use Rattle.driver_model.specs.News.{News, news_of, silence, connected, took, failed, shut, refused, overdue, authorized, denied, deserted}
 use Rattle.driver_model.specs.News.{came}
 use Rattle.driver_model.specs.Request.{packed_bytes, lacks_resp3}
 use Rattle.driver_model.specs.Setup.{says_nothing}
@@ -33,14 +34,14 @@ use Rattle.mux_conn.specs.declared.act.LinkAct.{LinkAct}
 use Rattle.mux_conn.specs.declared.act.LinkAct.TheVariants as act
 use Rattle.mux_conn.specs.declared.connection.MultiplexedConnection.{MultiplexedConnection}
 use Rattle.mux_conn.specs.declared.life.Life.{Life}
-use Rattle.mux_conn.specs.declared.life.Life.TheVariants.{Dialing, SettingUp, Ready, Ended}
+use Rattle.mux_conn.specs.declared.life.Life.TheVariants.{Dialing, Wanting, SettingUp, Ready, Ended}
 use Rattle.mux_conn.specs.declared.request.Pending.{Pending}
 use Rattle.mux_conn.specs.declared.request.Progress.TheVariants as progress
 use Rattle.mux_conn.specs.declared.request.Request.{Request}
 use Rattle.mux_conn.specs.declared.request.Waiting.{Waiting}
-use Rattle.mux_conn.specs.Connection.{Work, acted, at_life, with_link, with_setup, has_room, admits_none, is_ready}
+use Rattle.mux_conn.specs.Connection.{Work, acted, at_life, with_link, with_setup, with_wanting, has_room, admits_none, is_ready}
 use Rattle.mux_conn.specs.Requests.{is_open_at, is_waiting_at, is_admitted_at, name_at, with_permits, at_progress, answered}
-use Rattle.mux_conn.specs.Effects.{new_link, settled_each, failed_each, nobody_waits, waiting_failed, ended, opening_failed, connected_at, refused_at, overdue_at, taken_at, failed_at, broken_at, read_to, read_at, shut_at, all_fresh, made_ready, steps_of, setup_queued, sets_up, judged_by, set_up_by, answered_setup, applied, cancelled_in, left, timed_out, all_answered, behind_first, cut_short, heard_in, heard_on, parted, pushed, pushed_each, told_each}
+use Rattle.mux_conn.specs.Effects.{new_link, settled_each, failed_each, nobody_waits, waiting_failed, ended, opening_failed, authorized_at, come_up, comes_to_want, connected_at, unauthorized_at, with_credentials, refused_at, overdue_at, taken_at, failed_at, broken_at, read_to, read_at, shut_at, all_fresh, made_ready, steps_of, setup_queued, sets_up, judged_by, set_up_by, answered_setup, applied, cancelled_in, left, timed_out, all_answered, behind_first, cut_short, heard_in, heard_on, parted, pushed, pushed_each, told_each}
 use Rattle.mux_conn.specs.Passes.{shown_each, set_up_each, started_at, started, message_of, placed_at, told_at_place, seated, still_admitted, moved_up, moved_up_each, moved_up_all, put_behind, seated_or_behind, permits_taken, holding, took_shown, took as holds, timer_asked, let_in, admitted_at, admitted, still_waiting, admitted_each, passed}
 use Rattle.mux_conn.specs.Turn.{written_at, written, moved_wait, fresh_wait, wait_shown, moved_each_shown, moved_shown, fresh_each_shown, flushed}
 use Rattle.shared_session.specs.declared.core_state.Core.{Core}
@@ -57,6 +58,7 @@ other_act n (act.Created e) = act.Created e ∷ []
 other_act n (act.Took m count) = act.Took m count ∷ []
 other_act n (act.Timer m ms) = act.Timer m ms ∷ []
 other_act n (act.Push info) = act.Push info ∷ []
+other_act n act.NeedCreds = act.NeedCreds ∷ []
 other_act n act.Close = act.Close ∷ []
 other_act n (act.Write bytes) = act.Write bytes ∷ []
 other_act n (act.Wait m kind) = act.Wait m kind ∷ []
@@ -73,8 +75,10 @@ pub record IsKept (P : Option ℕ → List Request → Life → List ℕ → Lis
   pub answer : (lim : Option ℕ) (r : List Request) (life : Life) (ms : List ℕ) (xs : List LinkAct) (q : ℕ) (o : Outcome) → is_open_at r q ≡ true → P lim r life ms xs → P lim (with_permits r q progress.Closed 0) life ms (xs ++ act.Outcome (name_at r q) o ∷ [])
   pub cancel : (lim : Option ℕ) (r : List Request) (life : Life) (ms : List ℕ) (xs : List LinkAct) (q : ℕ) → is_open_at r q ≡ true → P lim r life ms xs → P lim (with_permits r q progress.Closed 0) (cancelled_in life q) ms xs
   pub hush : (lim : Option ℕ) (r : List Request) (life : Life) (ms : List ℕ) (xs : List LinkAct) (q : ℕ) → P lim r life ms xs → P lim r (cancelled_in life q) ms xs
-  pub connect : (lim : Option ℕ) (r : List Request) (size bound : ℕ) (ms : List ℕ) (xs : List LinkAct) → P lim r Dialing ms xs → P lim r (Ready (fresh size bound)) ms xs
-  pub set_up : (lim : Option ℕ) (r : List Request) (size bound : ℕ) (ms : List ℕ) (xs : List LinkAct) (q : Queued) (with_user : Bool) → P lim r Dialing ms xs → P lim r (SettingUp (enqueued (fresh size bound) q) with_user) ms xs
+  pub want : (lim : Option ℕ) (r : List Request) (size bound : ℕ) (ms : List ℕ) (xs : List LinkAct) → P lim r Dialing ms xs → P lim r (Wanting (fresh size bound)) ms xs
+  pub wait_on : (lim : Option ℕ) (r : List Request) (l k : LinkState) (ms : List ℕ) (xs : List LinkAct) → count_on k ≤ count_on l → P lim r (Wanting l) ms xs → P lim r (Wanting k) ms xs
+  pub connect : (lim : Option ℕ) (r : List Request) (l : LinkState) (ms : List ℕ) (xs : List LinkAct) → P lim r (Wanting l) ms xs → P lim r (Ready l) ms xs
+  pub set_up : (lim : Option ℕ) (r : List Request) (l : LinkState) (ms : List ℕ) (xs : List LinkAct) (q : Queued) (with_user : Bool) → P lim r (Wanting l) ms xs → P lim r (SettingUp (enqueued l q) with_user) ms xs
   pub go_on : (lim : Option ℕ) (r : List Request) (l k : LinkState) (with_user : Bool) (ms : List ℕ) (xs : List LinkAct) → count_on k ≤ count_on l → P lim r (SettingUp l with_user) ms xs → P lim r (SettingUp k with_user) ms xs
   pub repeat : (lim : Option ℕ) (r : List Request) (l k : LinkState) (q : Queued) (with_user : Bool) (ms : List ℕ) (xs : List LinkAct) → count_on k + 1 ≤ count_on l → P lim r (SettingUp l with_user) ms xs → P lim r (SettingUp (enqueued k q) false) ms xs
   pub ready : (lim : Option ℕ) (r : List Request) (l k : LinkState) (with_user : Bool) (ms : List ℕ) (xs : List LinkAct) → count_on k + 1 ≤ count_on l → P lim r (SettingUp l with_user) ms xs → P lim r (Ready k) ms xs
@@ -93,8 +97,10 @@ pub record IsKept (P : Option ℕ → List Request → Life → List ℕ → Lis
 pub record IsKeptThere (P : List Request → Life → Type 0) : Type 0 where
   pub answer : (r : List Request) (life : Life) (q : ℕ) → P r life → P (with_permits r q progress.Closed 0) life
   pub hush : (r : List Request) (life : Life) (q : ℕ) → P r life → P r (cancelled_in life q)
-  pub connect : (r : List Request) (size bound : ℕ) → P r Dialing → P r (Ready (fresh size bound))
-  pub set_up : (r : List Request) (size bound : ℕ) (q : Queued) (with_user : Bool) → P r Dialing → P r (SettingUp (enqueued (fresh size bound) q) with_user)
+  pub want : (r : List Request) (size bound : ℕ) → P r Dialing → P r (Wanting (fresh size bound))
+  pub wait_on : (r : List Request) (l k : LinkState) → count_on k ≤ count_on l → P r (Wanting l) → P r (Wanting k)
+  pub connect : (r : List Request) (l : LinkState) → P r (Wanting l) → P r (Ready l)
+  pub set_up : (r : List Request) (l : LinkState) (q : Queued) (with_user : Bool) → P r (Wanting l) → P r (SettingUp (enqueued l q) with_user)
   pub go_on : (r : List Request) (l k : LinkState) (with_user : Bool) → count_on k ≤ count_on l → P r (SettingUp l with_user) → P r (SettingUp k with_user)
   pub repeat : (r : List Request) (l k : LinkState) (q : Queued) (with_user : Bool) → count_on k + 1 ≤ count_on l → P r (SettingUp l with_user) → P r (SettingUp (enqueued k q) false)
   pub ready : (r : List Request) (l k : LinkState) (with_user : Bool) → count_on k + 1 ≤ count_on l → P r (SettingUp l with_user) → P r (Ready k)
@@ -116,8 +122,10 @@ kept_there k = record {
   answer = λ lim r life ms xs q o t h. k.answer r life q h;
   cancel = λ lim r life ms xs q t h. k.answer r (cancelled_in life q) q (k.hush r life q h);
   hush = λ lim r life ms xs q h. k.hush r life q h;
-  connect = λ lim r size bound ms xs h. k.connect r size bound h;
-  set_up = λ lim r size bound ms xs q with_user h. k.set_up r size bound q with_user h;
+  want = λ lim r size bound ms xs h. k.want r size bound h;
+  wait_on = λ lim r l m ms xs few h. k.wait_on r l m few h;
+  connect = λ lim r l ms xs h. k.connect r l h;
+  set_up = λ lim r l ms xs q with_user h. k.set_up r l q with_user h;
   go_on = λ lim r l m with_user ms xs few h. k.go_on r l m with_user few h;
   repeat = λ lim r l m q with_user ms xs few h. k.repeat r l m q with_user few h;
   ready = λ lim r l m with_user ms xs few h. k.ready r l m with_user few h;
@@ -143,8 +151,10 @@ unlimited_kept = record {
   answer = λ lim r life ms xs q o t h. h;
   cancel = λ lim r life ms xs q t h. h;
   hush = λ lim r life ms xs q h. h;
-  connect = λ lim r size bound ms xs h. h;
-  set_up = λ lim r size bound ms xs q with_user h. h;
+  want = λ lim r size bound ms xs h. h;
+  wait_on = λ lim r l k ms xs few h. h;
+  connect = λ lim r l ms xs h. h;
+  set_up = λ lim r l ms xs q with_user h. h;
   go_on = λ lim r l k with_user ms xs few h. h;
   repeat = λ lim r l k q with_user ms xs few h. h;
   ready = λ lim r l k with_user ms xs few h. h;
@@ -239,19 +249,46 @@ given_up_kept k w e h = opening_kept k (acted w act.Close) e (k.show w.conn.limi
 
 -- news
 --
+-- a link comes up, where the fact is true of it while it waits for credentials
+come_up_kept : {P : Option ℕ → List Request → Life → List ℕ → List LinkAct → Type 0} → IsKept P → (w : Work) (l : LinkState) → P w.conn.limit w.conn.requests (Wanting l) w.conn.moved w.acts → At P (come_up w l)
+come_up_kept {P = P} k w l g =
+    chosen (At P) (says_nothing (steps_of w.conn true)) (made_ready w l) (sets_up (all_fresh w) l true)
+    (λ t. k.show w.conn.limit w.conn.requests (Ready l) w.conn.moved w.acts (act.Created None) (λ n. refl) (k.connect w.conn.limit w.conn.requests l w.conn.moved w.acts g))
+    (λ f. k.set_up w.conn.limit w.conn.requests l w.conn.moved w.acts (setup_queued (steps_of w.conn true) true) true g)
+
 -- a function of the life that a connection has is looked at with any life of which the fact is true
 connected_kept : {P : Option ℕ → List Request → Life → List ℕ → List LinkAct → Type 0} → IsKept P → (w : Work) (life : Life) → P w.conn.limit w.conn.requests life w.conn.moved w.acts → At P w → At P (connected_at w life)
 connected_kept {P = P} k w Dialing g h =
-    chosen (At P) (says_nothing (steps_of w.conn true)) (made_ready w (new_link w.conn)) (sets_up (all_fresh w) (new_link w.conn) true)
-    (λ t. k.show w.conn.limit w.conn.requests (Ready (new_link w.conn)) w.conn.moved w.acts (act.Created None) (λ n. refl) (k.connect w.conn.limit w.conn.requests w.conn.size w.conn.boundary w.conn.moved w.acts g))
-    (λ f. k.set_up w.conn.limit w.conn.requests w.conn.size w.conn.boundary w.conn.moved w.acts (setup_queued (steps_of w.conn true) true) true g)
+    let link = new_link w.conn in
+    let wanting = k.want w.conn.limit w.conn.requests w.conn.size w.conn.boundary w.conn.moved w.acts g in
+    chosen (At P) w.conn.wants (comes_to_want w link) (come_up w link)
+    (λ t. k.show w.conn.limit w.conn.requests (Wanting link) w.conn.moved w.acts act.NeedCreds (λ n. refl) wanting)
+    (λ f. come_up_kept k w link wanting)
+connected_kept k w (Wanting l) g h = h
 connected_kept k w (SettingUp l with_user) g h = h
 connected_kept k w (Ready l) g h = h
 connected_kept k w (Ended e) g h = h
 
+-- credentials come
+authorized_kept : {P : Option ℕ → List Request → Life → List ℕ → List LinkAct → Type 0} → IsKept P → (w : Work) (c : Credentials) (life : Life) → P w.conn.limit w.conn.requests life w.conn.moved w.acts → At P w → At P (authorized_at w c life)
+authorized_kept k w c (Wanting l) g h = come_up_kept k (with_credentials w c) l g
+authorized_kept k w c Dialing g h = h
+authorized_kept k w c (SettingUp l with_user) g h = h
+authorized_kept k w c (Ready l) g h = h
+authorized_kept k w c (Ended e) g h = h
+
+-- or there are none
+unauthorized_kept : {P : Option ℕ → List Request → Life → List ℕ → List LinkAct → Type 0} → IsKept P → (w : Work) (e : RedisError) (life : Life) → At P w → At P (unauthorized_at w e life)
+unauthorized_kept k w e (Wanting l) h = given_up_kept k w e h
+unauthorized_kept k w e Dialing h = h
+unauthorized_kept k w e (SettingUp l with_user) h = h
+unauthorized_kept k w e (Ready l) h = h
+unauthorized_kept k w e (Ended x) h = h
+
 -- the connect is refused
 refused_kept : {P : Option ℕ → List Request → Life → List ℕ → List LinkAct → Type 0} → IsKept P → (w : Work) (f : FaultKind) (life : Life) → At P w → At P (refused_at w f life)
 refused_kept k w f Dialing h = opening_kept k w (error.Io f) h
+refused_kept k w f (Wanting l) h = h
 refused_kept k w f (SettingUp l with_user) h = h
 refused_kept k w f (Ready l) h = h
 refused_kept k w f (Ended e) h = h
@@ -259,6 +296,7 @@ refused_kept k w f (Ended e) h = h
 -- the time to connect is over
 overdue_kept : {P : Option ℕ → List Request → Life → List ℕ → List LinkAct → Type 0} → IsKept P → (w : Work) (life : Life) → At P w → At P (overdue_at w life)
 overdue_kept k w Dialing h = given_up_kept k w (error.Io kinds.TimedOut) h
+overdue_kept k w (Wanting l) h = given_up_kept k w (error.Io kinds.TimedOut) h
 overdue_kept k w (SettingUp l with_user) h = given_up_kept k w (error.Io kinds.TimedOut) h
 overdue_kept k w (Ready l) h = h
 overdue_kept k w (Ended e) h = h
@@ -267,6 +305,7 @@ overdue_kept k w (Ended e) h = h
 taken_kept : {P : Option ℕ → List Request → Life → List ℕ → List LinkAct → Type 0} → IsKept P → (w : Work) (count : ℕ) (life : Life) → P w.conn.limit w.conn.requests life w.conn.moved w.acts → At P w → At P (taken_at w count life)
 taken_kept k w count (Ready l) g h = k.write w.conn.limit w.conn.requests l w.conn.moved w.acts count g
 taken_kept k w count Dialing g h = h
+taken_kept k w count (Wanting l) g h = k.wait_on w.conn.limit w.conn.requests l (wrote_of l count) w.conn.moved w.acts (omega arith) g
 taken_kept k w count (SettingUp l with_user) g h = k.go_on w.conn.limit w.conn.requests l (wrote_of l count) with_user w.conn.moved w.acts (omega arith) g
 taken_kept k w count (Ended e) g h = h
 
@@ -274,6 +313,7 @@ taken_kept k w count (Ended e) g h = h
 failed_kept : {P : Option ℕ → List Request → Life → List ℕ → List LinkAct → Type 0} → IsKept P → (w : Work) (f : LinkFault) (life : Life) → At P w → At P (failed_at w f life)
 failed_kept k w f (Ready l) h = faulted_kept k w (faulted (record { link = l; out = [] }) f).out h
 failed_kept k w f Dialing h = h
+failed_kept k w f (Wanting l) h = given_up_kept k w error.Closed h
 failed_kept k w f (SettingUp l with_user) h = given_up_kept k w error.Closed h
 failed_kept k w f (Ended e) h = h
 
@@ -303,6 +343,9 @@ answered_setup_kept k w l m with_user ps (s ∷ ss) few g h =
 came_kept : {P : Option ℕ → List Request → Life → List ℕ → List LinkAct → Type 0} → IsKept P → (w : Work) (piece : List ℕ) (life : Life) → P w.conn.limit w.conn.requests life w.conn.moved w.acts → At P w → At P (read_at w piece life)
 came_kept k w piece (Ready l) g h = read_kept k w (heard_in w l piece) (piece_dealt (record { link = l; out = [] }) piece) (k.come w.conn.limit w.conn.requests l w.conn.moved w.acts piece g)
 came_kept k w piece Dialing g h = h
+came_kept k w piece (Wanting l) g h =
+    let s = piece_dealt (record { link = l; out = [] }) piece in
+    broken_kept k s.link.broken (with_wanting w s.link) (k.wait_on w.conn.limit w.conn.requests l s.link w.conn.moved w.acts (omega (arith, count_came l piece)) g)
 came_kept k w piece (SettingUp l with_user) g h =
     let s = piece_dealt (record { link = l; out = [] }) piece in
     broken_kept k s.link.broken (answered_setup w s.link with_user (heard_in w l piece) s.out) (answered_setup_kept k w l s.link with_user (heard_in w l piece) s.out (count_came l piece) g h)
@@ -312,6 +355,7 @@ came_kept k w piece (Ended e) g h = h
 shut_kept : {P : Option ℕ → List Request → Life → List ℕ → List LinkAct → Type 0} → IsKept P → (w : Work) (life : Life) → At P w → At P (shut_at w life)
 shut_kept k w (Ready l) h = ended_kept k w (closed_all (record { link = l; out = [] })).out h
 shut_kept k w Dialing h = ended_kept k w [] h
+shut_kept k w (Wanting l) h = ended_kept k w [] h
 shut_kept k w (SettingUp l with_user) h = ended_kept k w [] h
 shut_kept k w (Ended e) h = h
 
@@ -324,6 +368,9 @@ applied_kept k w overdue h = overdue_kept k w w.conn.life h
 applied_kept k w (took count) h = taken_kept k w count w.conn.life h h
 applied_kept k w (came piece) h = came_kept k w piece w.conn.life h h
 applied_kept k w (failed f) h = failed_kept k w f w.conn.life h
+applied_kept k w (authorized c) h = authorized_kept k w c w.conn.life h h
+applied_kept k w (denied text) h = unauthorized_kept k w (error.Credentials text) w.conn.life h
+applied_kept k w deserted h = unauthorized_kept k w (error.AuthFailed []) w.conn.life h
 applied_kept k w shut h = shut_kept k w w.conn.life h
 
 -- moves
@@ -347,6 +394,7 @@ started_at_kept : {P : Option ℕ → List Request → Life → List ℕ → Lis
 started_at_kept k w (Ready l) g h =
     let s = started_all (record { link = l; out = [] }) in
     shown_kept k (with_link w s.link) s.out (k.start w.conn.limit w.conn.requests l w.conn.moved w.acts g)
+started_at_kept k w (Wanting l) g h = h
 started_at_kept k w (SettingUp l with_user) g h =
     let s = started_all (record { link = l; out = [] }) in
     set_up_each_kept k (with_setup w s.link with_user) s.out (k.go_on w.conn.limit w.conn.requests l s.link with_user w.conn.moved w.acts (count_started l) g)
@@ -370,6 +418,7 @@ seated_at_kept k w q (Ready l) t g h =
     let ms = w.conn.moved in
     started_kept k (told_at_place d q) (told_kept k d q (k.place lim r l (ms ++ q.number ∷ []) w.acts q t (k.note lim r (Ready l) ms w.acts q.number t g)))
 seated_at_kept k w q Dialing t g h = started_kept k (told_at_place w q) (told_kept k w q h)
+seated_at_kept k w q (Wanting l) t g h = started_kept k (told_at_place w q) (told_kept k w q h)
 seated_at_kept k w q (SettingUp l with_user) t g h = started_kept k (told_at_place w q) (told_kept k w q h)
 seated_at_kept k w q (Ended e) t g h = started_kept k (told_at_place w q) (told_kept k w q h)
 
@@ -442,6 +491,7 @@ admitted_at_kept k w q (Ready l) t h =
     seated_or_behind_kept k (let_in w q) q (let_in_admitted w q t) (let_in_kept k w q t h)
 admitted_at_kept k w q (Ended e) t h = answered_kept k w q.number (outcome.Fault e) h
 admitted_at_kept k w q Dialing t h = h
+admitted_at_kept k w q (Wanting l) t h = h
 admitted_at_kept k w q (SettingUp l with_user) t h = h
 
 -- and any other stays
@@ -473,6 +523,7 @@ written_at_kept {P = P} k w (SettingUp l with_user) g h =
     (λ t. k.show w.conn.limit w.conn.requests (SettingUp (offered_of l) with_user) w.conn.moved w.acts (act.Write l.outbox.unwritten) (λ n. refl) (k.go_on w.conn.limit w.conn.requests l (offered_of l) with_user w.conn.moved w.acts (omega arith) g))
     (λ f. h)
 written_at_kept k w Dialing g h = h
+written_at_kept k w (Wanting l) g h = h
 written_at_kept k w (Ended e) g h = h
 
 -- on the link that the connection has
@@ -513,7 +564,7 @@ pub record CanAsk (P : Option ℕ → List Request → Life → List ℕ → Lis
 
 -- the connection hears its link's news
 pub heard_kept : {P : Option ℕ → List Request → Life → List ℕ → List LinkAct → Type 0} → IsKept P → (t : Turning) (kind : EventKind) → At P (work_of t) → At P (work_of (heard t kind))
-heard_kept k t kind h = applied_kept k (work_of t) (news_of t.core.timers t.core.single.link kind) h
+heard_kept k t kind h = applied_kept k (work_of t) (news_of t.core.timers t.core.sources t.core.single.link kind) h
 
 -- a request is left
 left_kept : {P : Option ℕ → List Request → Life → List ℕ → List LinkAct → Type 0} → IsKept P → (c : MultiplexedConnection) (xs : List LinkAct) (q : ℕ) → P c.limit c.requests c.life c.moved xs → P (left c q).limit (left c q).requests (left c q).life (left c q).moved xs
@@ -561,6 +612,9 @@ requested_kept k t a (event.Connected l) h = h
 requested_kept k t a (event.Refused l f) h = h
 requested_kept k t a (event.Fired n) h = fired_kept k t (slice_get t.core.timers n) h
 requested_kept k t a (event.Timeout ms) h = h
+requested_kept k t a (event.Creds c auth) h = h
+requested_kept k t a (event.CredsError c text) h = h
+requested_kept k t a (event.CredsEnd c) h = h
 requested_kept k t a (event.Wrote l count) h = h
 requested_kept k t a (event.Bytes l piece) h = h
 requested_kept k t a (event.Ended l) h = h

@@ -12,7 +12,7 @@ use Rattle.link_core.specs.Link.{LinkState, Starting, Settling, entry_of, holds_
 use Rattle.link_core.specs.Row.{silenced}
 use Rattle.link_core.specs.Waiting.{is_wanted, without}
 use Rattle.mux_conn.specs.declared.life.Life.{Life}
-use Rattle.mux_conn.specs.declared.life.Life.TheVariants.{Dialing, SettingUp, Ready, Ended}
+use Rattle.mux_conn.specs.declared.life.Life.TheVariants.{Dialing, Wanting, SettingUp, Ready, Ended}
 use Rattle.mux_conn.specs.declared.request.Progress.{Progress}
 use Rattle.mux_conn.specs.declared.request.Progress.TheVariants as progress
 use Rattle.mux_conn.specs.declared.request.Request.{Request}
@@ -44,6 +44,7 @@ places p (q ∷ qs) = one p q.id + places p qs
 -- and on a link
 abbrev pub all_of : ℕ → Life → ℕ
 all_of p Dialing = 0
+all_of p (Wanting l) = 0
 all_of p (SettingUp l with_user) = 0
 all_of p (Ready l) = times p l.row + places p l.queue
 all_of p (Ended e) = 0
@@ -64,9 +65,10 @@ share_of (Some r) = share_by r.progress
 abbrev pub share : List Request → ℕ → ℕ
 share r p = share_of (slice_get r p)
 
--- a link that is set up has one message at most, that of the setup
+-- a link that waits for credentials has no message, and one that is set up has one at most, that of the setup
 abbrev pub HasOne : Life → Type 0
 HasOne Dialing = Unit {0}
+HasOne (Wanting l) = count_on l ≤ 0
 HasOne (SettingUp l with_user) = count_on l ≤ 1
 HasOne (Ready l) = Unit {0}
 HasOne (Ended e) = Unit {0}
@@ -170,6 +172,7 @@ starts_same p s (q ∷ qs) =
 -- a cancel brings no message
 cancelled_once : (p q : ℕ) (life : Life) → all_of p (cancelled_in life q) ≤ all_of p life
 cancelled_once p q Dialing = omega arith
+cancelled_once p q (Wanting l) = omega arith
 cancelled_once p q (SettingUp l with_user) = omega arith
 cancelled_once p q (Ready l) = omega (arith, times_silenced p q l.row, places_without p q l.queue)
 cancelled_once p q (Ended e) = omega arith
@@ -177,6 +180,7 @@ cancelled_once p q (Ended e) = omega arith
 -- it changes nothing of a setup
 cancelled_alone : (q : ℕ) (life : Life) → HasOne life → HasOne (cancelled_in life q)
 cancelled_alone q Dialing h = h
+cancelled_alone q (Wanting l) h = h
 cancelled_alone q (SettingUp l with_user) h = h
 cancelled_alone q (Ready l) h = tt
 cancelled_alone q (Ended e) h = h
@@ -206,8 +210,10 @@ once_there : (p : ℕ) → IsKeptThere (IsOnce p)
 once_there p = record {
   answer = λ r life q h. record { within = omega (arith, h.within, share_set r p q progress.Closed 0 refl); alone = h.alone };
   hush = λ r life q h. record { within = omega (arith, h.within, cancelled_once p q life); alone = cancelled_alone q life h.alone };
-  connect = λ r size bound h. record { within = omega arith; alone = tt };
-  set_up = λ r size bound q with_user h. record { within = omega arith; alone = omega arith };
+  want = λ r size bound h. record { within = omega arith; alone = omega arith };
+  wait_on = λ r l k few h. record { within = omega arith; alone = omega (arith, few, h.alone) };
+  connect = λ r l h. record { within = omega (arith, h.alone, times_count p l.row, places_count p l.queue); alone = tt };
+  set_up = λ r l q with_user h. record { within = omega arith; alone = omega (arith, h.alone, count_push l q) };
   go_on = λ r l k with_user few h. record { within = omega arith; alone = omega (arith, few, h.alone) };
   repeat = λ r l k q with_user few h. record { within = omega arith; alone = omega (arith, few, h.alone, count_push k q) };
   ready = λ r l k with_user few h. record { within = omega (arith, few, h.alone, times_count p k.row, places_count p k.queue); alone = tt };

@@ -11,7 +11,7 @@ use Rattle.link_core.specs.Outbox.{can_offer}
 use Rattle.mux_conn.specs.declared.act.LinkAct.TheVariants as act
 use Rattle.mux_conn.specs.declared.connection.MultiplexedConnection.{MultiplexedConnection}
 use Rattle.mux_conn.specs.declared.life.Life.{Life}
-use Rattle.mux_conn.specs.declared.life.Life.TheVariants.{Dialing, SettingUp, Ready, Ended}
+use Rattle.mux_conn.specs.declared.life.Life.TheVariants.{Dialing, Wanting, SettingUp, Ready, Ended}
 use Rattle.mux_conn.specs.declared.request.Waiting.{Waiting}
 use Rattle.mux_conn.specs.Connection.{Work, acted, at_life, with_link, with_setup, has_no_permit, admits_none_at, admits_none, has_room}
 use Rattle.mux_conn.specs.Requests.{is_open_at, is_waiting_at, is_admitted_at, name_at, closed, answered}
@@ -31,6 +31,7 @@ IsThrough l = (l.queue ≡ []) ⊎ (holds_back l ≡ true)
 -- so is a link that is up
 abbrev pub HasStartedAll : Life → Type 0
 HasStartedAll Dialing = Unit {0}
+HasStartedAll (Wanting l) = Unit {0}
 HasStartedAll (SettingUp l with_user) = IsThrough l
 HasStartedAll (Ready l) = IsThrough l
 HasStartedAll (Ended e) = Unit {0}
@@ -38,6 +39,7 @@ HasStartedAll (Ended e) = Unit {0}
 -- all its bytes are offered, or an offer is unanswered
 abbrev pub HasOffered : Life → Type 0
 HasOffered Dialing = Unit {0}
+HasOffered (Wanting l) = Unit {0}
 HasOffered (SettingUp l with_user) = can_offer l.outbox ≡ false
 HasOffered (Ready l) = can_offer l.outbox ≡ false
 HasOffered (Ended e) = Unit {0}
@@ -85,6 +87,7 @@ started_from : (w : Work) (life : Life) → w.conn.life ≡ life → HasStartedA
 started_from w (Ready l) e =
     let s = started_all (record { link = l; out = [] }) in
     subst (λ (c : MultiplexedConnection). HasStartedAll c.life) (sym (conn_shown (with_link w s.link) s.out)) (queue_starts (record { link = l; out = [] }) l.queue)
+started_from w (Wanting l) e = subst HasStartedAll (sym e) tt
 started_from w (SettingUp l with_user) e =
     let s = started_all (record { link = l; out = [] }) in
     subst (λ (c : MultiplexedConnection). HasStartedAll c.life) (sym (setup_shown (with_setup w s.link with_user) s.out)) (queue_starts (record { link = l; out = [] }) l.queue)
@@ -100,6 +103,7 @@ admitted_started : (w : Work) (life : Life) → (started_at w life).conn.admitte
 admitted_started w (Ready l) =
     let s = started_all (record { link = l; out = [] }) in
     ap (λ (c : MultiplexedConnection). c.admitted) (conn_shown (with_link w s.link) s.out)
+admitted_started w (Wanting l) = refl
 admitted_started w (SettingUp l with_user) =
     let s = started_all (record { link = l; out = [] }) in
     ap (λ (c : MultiplexedConnection). c.admitted) (setup_shown (with_setup w s.link with_user) s.out)
@@ -109,6 +113,7 @@ admitted_started w (Ended e) = refl
 -- and so does a request that takes its place
 admitted_placed : (w : Work) (q : Waiting) (life : Life) → (placed_at w q life).conn.admitted ≡ w.conn.admitted
 admitted_placed w q (Ready l) = refl
+admitted_placed w q (Wanting l) = refl
 admitted_placed w q (SettingUp l with_user) = refl
 admitted_placed w q Dialing = refl
 admitted_placed w q (Ended e) = refl
@@ -154,6 +159,7 @@ one_admitted_at : (w : Work) (q : Waiting) (life : Life) → IsSeated w.conn →
 one_admitted_at w q (Ready l) h = one_or_behind (let_in w q) q (subst IsSeated (sym (let_in_conn w q)) (record { queue = h.queue; admitted = h.admitted }))
 one_admitted_at w q (Ended e) h =
     chosen (λ (x : Work). IsSeated x.conn) (is_open_at w.conn.requests q.number) _ w (λ t. record { queue = h.queue; admitted = h.admitted }) (λ f. h)
+one_admitted_at w q (Wanting l) h = h
 one_admitted_at w q (SettingUp l with_user) h = h
 one_admitted_at w q Dialing h = h
 
@@ -199,6 +205,7 @@ written_from w (Ready l) e h =
       offered = offered_none (length l.outbox.unwritten == 0);
     })
     (λ f. record { moved = h; offered = subst HasOffered (sym e) f })
+written_from w (Wanting l) e h = record { moved = h; offered = subst HasOffered (sym e) tt }
 written_from w (SettingUp l with_user) e h =
     chosen (λ (x : Work). IsWritten x.conn) (can_offer l.outbox) _ w
     (λ t. record {
@@ -266,6 +273,7 @@ none_starts l (q ∷ qs) e (inr held) =
 -- on any link
 pub started_stays : (w : Work) (life : Life) → w.conn.life ≡ life → HasStartedAll life → started_at w life ≡ w
 started_stays w (Ready l) e h = ap (starts_with w) (none_starts l l.queue refl h) ∙ ap (at_life w) (sym e)
+started_stays w (Wanting l) e h = refl
 started_stays w (SettingUp l with_user) e h = ap (sets_up_with w with_user) (none_starts l l.queue refl h) ∙ ap (at_life w) (sym e)
 started_stays w Dialing e h = refl
 started_stays w (Ended x) e h = refl
@@ -297,6 +305,7 @@ passed_stays w h =
 -- no bytes are offered
 written_stays : (w : Work) (life : Life) → HasOffered life → written_at w life ≡ w
 written_stays w (Ready l) h = left_if (can_offer l.outbox) _ w h
+written_stays w (Wanting l) h = refl
 written_stays w (SettingUp l with_user) h = left_if (can_offer l.outbox) _ w h
 written_stays w Dialing h = refl
 written_stays w (Ended e) h = refl
@@ -336,6 +345,7 @@ left_idle c p unlimited none h =
   where
     queue_left : (life : Life) → NoneQueued p life → HasStartedAll life → HasStartedAll (cancelled_in life p)
     queue_left Dialing n e = e
+    queue_left (Wanting l) n e = e
     queue_left (SettingUp l with_user) n e = e
     queue_left (Ready l) n (inl e) = inl (none_leaves p l.queue n ∙ e)
     queue_left (Ready l) n (inr held) = inr held
@@ -343,12 +353,14 @@ left_idle c p unlimited none h =
 
     room_left : (life : Life) → NoneQueued p life → has_room (cancelled_in life p) ≡ has_room life
     room_left Dialing n = refl
+    room_left (Wanting l) n = refl
     room_left (SettingUp l with_user) n = refl
     room_left (Ready l) n = ap (λ (queue : List Queued). has_room (Ready (record l { queue = queue }))) (none_leaves p l.queue n)
     room_left (Ended x) n = refl
 
     stuck_left : (life : Life) (lim : Option ℕ) (j k : ℕ) → lim ≡ None → admits_none_at life (has_no_permit lim j) ≡ admits_none_at (cancelled_in life p) (has_no_permit lim k)
     stuck_left Dialing lim j k e = refl
+    stuck_left (Wanting l) lim j k e = refl
     stuck_left (SettingUp l with_user) lim j k e = refl
     stuck_left (Ready l) None j k e = refl
     stuck_left (Ready l) (Some most) j k e = cc
@@ -356,6 +368,7 @@ left_idle c p unlimited none h =
 
     offered_left : (life : Life) → HasOffered life → HasOffered (cancelled_in life p)
     offered_left Dialing e = e
+    offered_left (Wanting l) e = e
     offered_left (SettingUp l with_user) e = e
     offered_left (Ready l) e = e
     offered_left (Ended x) e = e

@@ -9,7 +9,7 @@ use Rattle.driver_model.specs.declared.outcome.Outcome.{Outcome}
 use Rattle.mux_conn.specs.declared.act.LinkAct.{LinkAct}
 use Rattle.mux_conn.specs.declared.act.LinkAct.TheVariants as act
 use Rattle.shared_session.specs.declared.core_state.Core.{Core}
-use Rattle.shared_session.specs.Turn.{Turning, work_of, timer_of, shown, shown_each, actions_of, next_turn}
+use Rattle.shared_session.specs.Turn.{Turning, work_of, source_of, timer_of, shown, shown_each, actions_of, next_turn}
 use Rattle.shared_session.specs.Replay.{run_on, turns_on}
 use Rattle.cancel_laws.specs.ButFor.{unnumbered, all_unnumbered, shown_of, but_for}
 use Rattle.cancel_laws.proofs.Kept.{At, AtCore, turn_kept}
@@ -31,38 +31,44 @@ unnumbered-append (x ∷ xs) ys = ap (λ (zs : List Action). unnumbered x ∷ zs
 
 -- acts, and what they show
 --
--- an outcome, which asks for no timer
-outcome_shown : (n l count m : ℕ) (o : Outcome) (xs : List LinkAct) (b : Bool) → but_for n (shown_each l (count + 0) xs) ≡ shown_each l (count + 0) (other_acts n xs)
-    → (if b then [] else action.Outcome m o ∷ []) ++ but_for n (shown_each l (count + 0) xs) ≡ shown_each l count ((if b then [] else act.Outcome m o ∷ []) ++ other_acts n xs)
-outcome_shown n l count m o xs true h = let e : count + 0 ≡ count = omega arith in h ∙ ap (λ (k : ℕ). shown_each l k (other_acts n xs)) e
-outcome_shown n l count m o xs false h = ap (λ (ys : List Action). action.Outcome m o ∷ ys) h
+-- an outcome, which asks for no timer, and for no source of credentials
+outcome_shown : (n l count c m : ℕ) (o : Outcome) (xs : List LinkAct) (b : Bool) → but_for n (shown_each l (count + 0) (c + 0) xs) ≡ shown_each l (count + 0) (c + 0) (other_acts n xs)
+    → (if b then [] else action.Outcome m o ∷ []) ++ but_for n (shown_each l (count + 0) (c + 0) xs) ≡ shown_each l count c ((if b then [] else act.Outcome m o ∷ []) ++ other_acts n xs)
+outcome_shown n l count c m o xs true h =
+    let timers : count + 0 ≡ count = omega arith in
+    let sources : c + 0 ≡ c = omega arith in
+    h ∙ (λ i. shown_each l (timers i) (sources i) (other_acts n xs))
+outcome_shown n l count c m o xs false h = ap (λ (ys : List Action). action.Outcome m o ∷ ys) h
 
 -- all acts
-but_for_shown : (n l count : ℕ) (xs : List LinkAct) → but_for n (shown_each l count xs) ≡ shown_each l count (other_acts n xs)
-but_for_shown n l count [] = refl
-but_for_shown n l count (act.Created e ∷ xs) = ap (λ (ys : List Action). action.Created e ∷ ys) (but_for_shown n l (count + 0) xs)
-but_for_shown n l count (act.Took m permits ∷ xs) = ap (λ (ys : List Action). shown l count (act.Took m permits) ∷ ys) (but_for_shown n l (count + 0) xs)
-but_for_shown n l count (act.Timer m ms ∷ xs) = ap (λ (ys : List Action). shown l count (act.Timer m ms) ∷ ys) (but_for_shown n l (count + 1) xs)
-but_for_shown n l count (act.Push info ∷ xs) = ap (λ (ys : List Action). action.Push l info ∷ ys) (but_for_shown n l (count + 0) xs)
-but_for_shown n l count (act.Close ∷ xs) = ap (λ (ys : List Action). action.Close l ∷ ys) (but_for_shown n l (count + 0) xs)
-but_for_shown n l count (act.Write bytes ∷ xs) = ap (λ (ys : List Action). action.Write l bytes ∷ ys) (but_for_shown n l (count + 0) xs)
-but_for_shown n l count (act.Wait m kind ∷ xs) = ap (λ (ys : List Action). shown l count (act.Wait m kind) ∷ ys) (but_for_shown n l (count + 0) xs)
-but_for_shown n l count (act.Start message m need len ∷ xs) = ap (λ (ys : List Action). shown l count (act.Start message m need len) ∷ ys) (but_for_shown n l (count + 0) xs)
-but_for_shown n l count (act.SetUp message need len ∷ xs) = ap (λ (ys : List Action). shown l count (act.SetUp message need len) ∷ ys) (but_for_shown n l (count + 0) xs)
-but_for_shown n l count (act.Outcome m o ∷ xs) = outcome_shown n l count m o xs (m == n) (but_for_shown n l (count + 0) xs)
+but_for_shown : (n l count c : ℕ) (xs : List LinkAct) → but_for n (shown_each l count c xs) ≡ shown_each l count c (other_acts n xs)
+but_for_shown n l count c [] = refl
+but_for_shown n l count c (act.Created e ∷ xs) = ap (λ (ys : List Action). action.Created e ∷ ys) (but_for_shown n l (count + 0) (c + 0) xs)
+but_for_shown n l count c (act.Took m permits ∷ xs) = ap (λ (ys : List Action). shown l count c (act.Took m permits) ∷ ys) (but_for_shown n l (count + 0) (c + 0) xs)
+but_for_shown n l count c (act.Timer m ms ∷ xs) = ap (λ (ys : List Action). shown l count c (act.Timer m ms) ∷ ys) (but_for_shown n l (count + 1) (c + 0) xs)
+but_for_shown n l count c (act.Push info ∷ xs) = ap (λ (ys : List Action). action.Push l info ∷ ys) (but_for_shown n l (count + 0) (c + 0) xs)
+but_for_shown n l count c (act.NeedCreds ∷ xs) = ap (λ (ys : List Action). action.NeedCreds c l ∷ ys) (but_for_shown n l (count + 0) (c + 1) xs)
+but_for_shown n l count c (act.Close ∷ xs) = ap (λ (ys : List Action). action.Close l ∷ ys) (but_for_shown n l (count + 0) (c + 0) xs)
+but_for_shown n l count c (act.Write bytes ∷ xs) = ap (λ (ys : List Action). action.Write l bytes ∷ ys) (but_for_shown n l (count + 0) (c + 0) xs)
+but_for_shown n l count c (act.Wait m kind ∷ xs) = ap (λ (ys : List Action). shown l count c (act.Wait m kind) ∷ ys) (but_for_shown n l (count + 0) (c + 0) xs)
+but_for_shown n l count c (act.Start message m need len ∷ xs) = ap (λ (ys : List Action). shown l count c (act.Start message m need len) ∷ ys) (but_for_shown n l (count + 0) (c + 0) xs)
+but_for_shown n l count c (act.SetUp message need len ∷ xs) = ap (λ (ys : List Action). shown l count c (act.SetUp message need len) ∷ ys) (but_for_shown n l (count + 0) (c + 0) xs)
+but_for_shown n l count c (act.Outcome m o ∷ xs) = outcome_shown n l count c m o xs (m == n) (but_for_shown n l (count + 0) (c + 0) xs)
 
 -- no act shows the number of a turn
-numberless : (l count : ℕ) (xs : List LinkAct) → all_unnumbered (shown_each l count xs) ≡ shown_each l count xs
-numberless l count [] = refl
-numberless l count (a ∷ xs) =
+numberless : (l count c : ℕ) (xs : List LinkAct) → all_unnumbered (shown_each l count c xs) ≡ shown_each l count c xs
+numberless l count c [] = refl
+numberless l count c (a ∷ xs) =
     let more = count + length (timer_of a) in
-    ap (λ (b : Action). b ∷ all_unnumbered (shown_each l more xs)) (one_numberless a) ∙ ap (λ (ys : List Action). shown l count a ∷ ys) (numberless l more xs)
+    let later = c + length (source_of l a) in
+    ap (λ (b : Action). b ∷ all_unnumbered (shown_each l more later xs)) (one_numberless a) ∙ ap (λ (ys : List Action). shown l count c a ∷ ys) (numberless l more later xs)
   where
-    one_numberless : (a : LinkAct) → unnumbered (shown l count a) ≡ shown l count a
+    one_numberless : (a : LinkAct) → unnumbered (shown l count c a) ≡ shown l count c a
     one_numberless (act.Created e) = refl
     one_numberless (act.Took m permits) = refl
     one_numberless (act.Timer m ms) = refl
     one_numberless (act.Push info) = refl
+    one_numberless act.NeedCreds = refl
     one_numberless act.Close = refl
     one_numberless (act.Write bytes) = refl
     one_numberless (act.Wait m kind) = refl
@@ -78,8 +84,9 @@ acts_alike n p c d e h =
     let xs = ap (λ (t : Turning). t.acts) (turns_same n p c d e.kind h) in
     let l = ap (λ (x : Core). x.single.link) h.same in
     let k = ap (λ (x : Core). length x.timers) h.same in
+    let u = ap (λ (x : Core). length x.sources) h.same in
     ap (λ (ys : List Action). action.Turn 0 (cause.Event e) ∷ ys)
-    (but_for_shown n c.single.link (length c.timers) (next_turn c e.kind).acts ∙ (λ i. shown_each (l i) (k i) (xs i)) ∙ sym (but_for_shown n d.single.link (length d.timers) (next_turn d e.kind).acts))
+    (but_for_shown n c.single.link (length c.timers) (length c.sources) (next_turn c e.kind).acts ∙ (λ i. shown_each (l i) (k i) (u i) (xs i)) ∙ sym (but_for_shown n d.single.link (length d.timers) (length d.sources) (next_turn d e.kind).acts))
 
 -- and more of them
 pub shown_alike : (n p : ℕ) (c d : Core) (es : List Event) → AreAlike n p c d → but_for n (turns_on c es) ≡ but_for n (turns_on d es)
@@ -102,7 +109,8 @@ unshown_acts n c e none =
     let xs = (next_turn c e.kind).acts in
     let l = c.single.link in
     let k = length c.timers in
-    ap (λ (ys : List Action). action.Turn 0 (cause.Event e) ∷ ys) (but_for_shown n l k xs ∙ ap (shown_each l k) none ∙ sym (numberless l k xs))
+    let u = length c.sources in
+    ap (λ (ys : List Action). action.Turn 0 (cause.Event e) ∷ ys) (but_for_shown n l k u xs ∙ ap (shown_each l k u) none ∙ sym (numberless l k u xs))
 
 -- and one in which the request is cancelled shows no outcome of its submission
 --

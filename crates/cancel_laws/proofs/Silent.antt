@@ -41,8 +41,10 @@ silent_kept n p = record {
     unshown = h.unshown;
   };
   hush = λ lim r life ms xs q h. record { there = h.there; own = h.own; closed = h.closed; unshown = h.unshown };
-  connect = λ lim r size bound ms xs h. record { there = h.there; own = h.own; closed = h.closed; unshown = h.unshown };
-  set_up = λ lim r size bound ms xs q with_user h. record { there = h.there; own = h.own; closed = h.closed; unshown = h.unshown };
+  want = λ lim r size bound ms xs h. record { there = h.there; own = h.own; closed = h.closed; unshown = h.unshown };
+  wait_on = λ lim r l k ms xs few h. record { there = h.there; own = h.own; closed = h.closed; unshown = h.unshown };
+  connect = λ lim r l ms xs h. record { there = h.there; own = h.own; closed = h.closed; unshown = h.unshown };
+  set_up = λ lim r l ms xs q with_user h. record { there = h.there; own = h.own; closed = h.closed; unshown = h.unshown };
   go_on = λ lim r l k with_user ms xs few h. record { there = h.there; own = h.own; closed = h.closed; unshown = h.unshown };
   repeat = λ lim r l k q with_user ms xs few h. record { there = h.there; own = h.own; closed = h.closed; unshown = h.unshown };
   ready = λ lim r l k with_user ms xs few h. record { there = h.there; own = h.own; closed = h.closed; unshown = h.unshown };

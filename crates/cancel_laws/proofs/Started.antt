@@ -11,12 +11,14 @@ use Rattle.redis_error.specs.declared.config_name.ConfigName.TheVariants as name
 use Rattle.driver_model.specs.declared.config.Config.{Config}
 use Rattle.driver_model.specs.declared.event.Submission.{Submission}
 use Rattle.driver_model.specs.declared.event.Submission.TheVariants.{Cmd, Pipe, Multi}
-use Rattle.driver_model.specs.Config.{address, buffer_size, buffer_fault, room_fault, fault_in, hears_pushes}
+use Rattle.connection_setup.specs.Setup.{setup}
+use Rattle.driver_model.specs.Config.{address, buffer_size, buffer_fault, room_fault, fault_in, hears_pushes, told_info}
+use Rattle.driver_model.specs.Setup.{says_nothing}
 use Rattle.driver_model.specs.Request.{packed_bytes, is_reply_awaited, needs_resp3, lacks_resp3}
 use Rattle.mux_conn.specs.Connection.{has_no_permit}
-use Rattle.mux_conn.specs.Effects.{new_link, all_fresh, made_ready, sets_up}
+use Rattle.mux_conn.specs.Effects.{new_link, all_fresh, comes_to_want, made_ready, sets_up}
 use Rattle.shared_session.specs.declared.core_state.Core.{Core}
-use Rattle.shared_session.specs.Turn.{work_of, with_work, shut_by, counted, moved_on, timed, next_turn}
+use Rattle.shared_session.specs.Turn.{work_of, with_work, shut_by, counted, moved_on, numbered, next_turn}
 use Rattle.shared_session.specs.Replay.{opening_core, IsSound, state_after}
 use Rattle.cancel_laws.specs.Cancels.{connected_at, handed_in_after_connect, SaysNothing, IsFree, HasStarted}
 use Rattle.cancel_laws.proofs.Free.{free_started}
@@ -47,20 +49,24 @@ room_sound : (info : Option ConnectionInfo) (heard : Bool) (lim : Option ℕ) (s
 room_sound None heard lim size e = cc
 room_sound (Some info) heard lim size e = (unless_refused (heard && not (is_resp3 info.redis.protocol)) name.Push (room_fault lim size) e).1
 
--- where the connect leads: the link is ready where nothing is to be said, and else it is set up
-abbrev up_at : Config → ℕ → ℕ → Bool → Core
-up_at config word draw silent =
+-- where the connect leads: the link waits for credentials that are to come of a source, or it is ready where nothing is to be
+-- said, and else it is set up
+abbrev up_at : Config → ℕ → ℕ → Bool → Bool → Core
+up_at config word draw wants silent =
     let t = counted (opening_core config word) in
     let w = work_of t in
     let kind = (connected_at draw).kind in
-    (timed (moved_on (with_work (record t { core = shut_by t.core kind }) (if silent then made_ready w (new_link w.conn) else sets_up (all_fresh w) (new_link w.conn) true)))).core
+    let link = new_link w.conn in
+    let up = if silent then made_ready w link else sets_up (all_fresh w) link true in
+    (numbered (moved_on (with_work (record t { core = shut_by t.core kind }) (if wants then comes_to_want w link else up)))).core
 
--- so nothing holds it back where nothing is to be said, and nothing of the configuration is refused
+-- so nothing holds it back where nothing is to be said and no credentials are waited for, and nothing of the configuration is refused
 connected_free : (config : Config) (word draw : ℕ) → IsSound config → SaysNothing config → IsFree (state_after config word (connected_at draw ∷ []))
 unfolding state_after next_turn
 connected_free config word draw sound silent =
     let fits = room_sound (address config) (hears_pushes config) config.limit (buffer_size config) sound in
-    subst (λ (b : Bool). IsFree (up_at config word draw b)) (sym silent)
+    subst (λ (b : Bool). IsFree (up_at config word draw b (says_nothing (setup (told_info config) true)))) (sym silent.0)
+    (subst (λ (b : Bool). IsFree (up_at config word draw false b)) (sym silent.1)
     (record {
       link = _;
       ready = refl;
@@ -68,7 +74,7 @@ connected_free config word draw sound silent =
       room = not_le_test (buffer_size config) 0 (room_places config.limit (buffer_size config) fits);
       permit = room_permits config.limit (buffer_size config) fits;
       unshut = refl;
-    })
+    }))
 
 -- what doesn't need RESP3 is never refused for want of it
 needs_none : (protocol : ProtocolVersion) (s : Submission) → needs_resp3 s ≡ false → lacks_resp3 protocol s ≡ false

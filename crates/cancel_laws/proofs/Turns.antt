@@ -6,6 +6,7 @@ use Rattle.redis_error.specs.declared.redis_error.RedisError.TheVariants as erro
 use Rattle.driver_model.specs.declared.action.Owner.TheVariants as owner
 use Rattle.driver_model.specs.declared.action.Purpose.{Purpose}
 use Rattle.driver_model.specs.declared.action.Purpose.TheVariants as purpose
+use Rattle.driver_model.specs.declared.action.SourceUse.{SourceUse}
 use Rattle.driver_model.specs.declared.event.EventKind.{EventKind}
 use Rattle.driver_model.specs.declared.event.EventKind.TheVariants as event
 use Rattle.driver_model.specs.declared.event.Submission.{Submission}
@@ -19,7 +20,7 @@ use Rattle.mux_conn.specs.declared.request.Pending.{Pending}
 use Rattle.mux_conn.specs.Passes.{passed}
 use Rattle.mux_conn.specs.Turn.{flushed}
 use Rattle.shared_session.specs.declared.core_state.Core.{Core}
-use Rattle.shared_session.specs.Turn.{Turning, work_of, with_work, shut_by, heard, refused_with, pending, asked_for, submitted, left_by, late_by, fired_by, requested, effect, counted, moved_on, whole_effect, timer_of, timers_of, timed, next_turn}
+use Rattle.shared_session.specs.Turn.{Turning, work_of, with_work, shut_by, heard, refused_with, pending, asked_for, submitted, left_by, late_by, fired_by, requested, effect, counted, moved_on, whole_effect, timer_of, timers_of, source_of, sources_of, numbered, next_turn}
 use Rattle.mux_conn.specs.declared.request.Progress.TheVariants as progress
 use Rattle.cancel_laws.proofs.Requests.{progress_count}
 use Rattle.cancel_laws.proofs.Kept.{other_act, At, AtCore, Unlimited, unlimited_kept, heard_kept, effect_kept, passed_kept, turn_kept}
@@ -39,7 +40,7 @@ bare_turning n p t = record { core = bare_core p t.core; acts = other_acts n t.a
 -- the connection hears its link's news
 bare_heard : (n p : ℕ) (t : Turning) (kind : EventKind) → At (IsAway n p) (work_of t) → bare_turning n p (heard t kind) ≡ heard (bare_turning n p t) kind
 bare_heard n p t kind h =
-    ap (with_work (bare_turning n p (record t { core = shut_by t.core kind }))) (bare_applied n p (work_of t) (news_of t.core.timers t.core.single.link kind) h.gone)
+    ap (with_work (bare_turning n p (record t { core = shut_by t.core kind }))) (bare_applied n p (work_of t) (news_of t.core.timers t.core.sources t.core.single.link kind) h.gone)
 
 -- the next submission is another one
 pub above : (n : ℕ) (table : List (Option Pending)) → n < length table → length table ≢ n
@@ -97,6 +98,9 @@ bare_requested n p t (event.Connected m) l h = refl
 bare_requested n p t (event.Refused m f) l h = refl
 bare_requested n p t (event.Fired m) l h = bare_fired n p t (slice_get t.core.timers m) h
 bare_requested n p t (event.Timeout ms) l h = refl
+bare_requested n p t (event.Creds c auth) l h = refl
+bare_requested n p t (event.CredsError c text) l h = refl
+bare_requested n p t (event.CredsEnd c) l h = refl
 bare_requested n p t (event.Wrote m count) l h = refl
 bare_requested n p t (event.Bytes m piece) l h = refl
 bare_requested n p t (event.Ended m) l h = refl
@@ -121,6 +125,7 @@ no_timer n (act.Created e) more = refl
 no_timer n (act.Took m count) more = refl
 no_timer n (act.Timer m ms) more = refl
 no_timer n (act.Push info) more = refl
+no_timer n act.NeedCreds more = refl
 no_timer n act.Close more = refl
 no_timer n (act.Write bytes) more = refl
 no_timer n (act.Wait m kind) more = refl
@@ -133,9 +138,31 @@ timers_same : (n : ℕ) (xs : List LinkAct) → timers_of xs ≡ timers_of (othe
 timers_same n [] = refl
 timers_same n (a ∷ xs) = ap (λ (ps : List Purpose). timer_of a ++ ps) (timers_same n xs) ∙ sym (no_timer n a (other_acts n xs))
 
--- the timers get their numbers
-bare_timed : (n p : ℕ) (t : Turning) → bare_turning n p (timed t) ≡ timed (bare_turning n p t)
-bare_timed n p t = ap (λ (ps : List Purpose). record (bare_turning n p t) { core = record (bare_core p t.core) { timers = t.core.timers ++ ps } }) (timers_same n t.acts)
+-- nor for a source of credentials
+no_source : (n l : ℕ) (a : LinkAct) (more : List LinkAct) → sources_of l (other_act n a ++ more) ≡ source_of l a ++ sources_of l more
+no_source n l (act.Created e) more = refl
+no_source n l (act.Took m count) more = refl
+no_source n l (act.Timer m ms) more = refl
+no_source n l (act.Push info) more = refl
+no_source n l act.NeedCreds more = refl
+no_source n l act.Close more = refl
+no_source n l (act.Write bytes) more = refl
+no_source n l (act.Wait m kind) more = refl
+no_source n l (act.Start message m need len) more = refl
+no_source n l (act.SetUp message need len) more = refl
+no_source n l (act.Outcome m o) more = chosen (λ (xs : List LinkAct). sources_of l (xs ++ more) ≡ sources_of l more) (m == n) [] (act.Outcome m o ∷ []) (λ t. refl) (λ f. refl)
+
+-- so the sources of a turn are those of all other acts
+sources_same : (n l : ℕ) (xs : List LinkAct) → sources_of l xs ≡ sources_of l (other_acts n xs)
+sources_same n l [] = refl
+sources_same n l (a ∷ xs) = ap (λ (us : List SourceUse). source_of l a ++ us) (sources_same n l xs) ∙ sym (no_source n l a (other_acts n xs))
+
+-- the timers and the sources get their numbers
+bare_numbered : (n p : ℕ) (t : Turning) → bare_turning n p (numbered t) ≡ numbered (bare_turning n p t)
+bare_numbered n p t =
+    let ps = timers_same n t.acts in
+    let us = sources_same n t.core.single.link t.acts in
+    λ i. record (bare_turning n p t) { core = record (bare_core p t.core) { timers = t.core.timers ++ ps i; sources = t.core.sources ++ us i } }
 
 -- that permits aren't counted stays so where the event has had its effect
 unlimited_effect : (t : Turning) (kind : EventKind) → At Unlimited (work_of t) → At Unlimited (work_of (effect t kind))
@@ -143,12 +170,12 @@ unlimited_effect t kind none =
     effect_kept unlimited_kept t (record { ask = λ lim r life ms xs h. h; refuse = λ lim r life ms xs o h. h }) kind none
 
 -- a whole turn
-bare_turn : (n p : ℕ) (c : Core) (kind : EventKind) → n < length c.table → AtCore Unlimited c → AtCore (IsAway n p) c → bare_turning n p (next_turn c kind) ≡ timed (whole_effect (record { core = bare_core p c; acts = [] }) kind)
+bare_turn : (n p : ℕ) (c : Core) (kind : EventKind) → n < length c.table → AtCore Unlimited c → AtCore (IsAway n p) c → bare_turning n p (next_turn c kind) ≡ numbered (whole_effect (record { core = bare_core p c; acts = [] }) kind)
 unfolding next_turn
 bare_turn n p c kind l none h =
     let t = counted c in
-    bare_timed n p (whole_effect t kind)
-    ∙ ap timed
+    bare_numbered n p (whole_effect t kind)
+    ∙ ap numbered
     (bare_moved_on n p (effect t kind) (unlimited_effect t kind none) (effect_kept (away_kept n p) t (away_asks n p (length c.table) (above n c.table l)) kind h)
     ∙ ap moved_on (bare_effect n p t kind l h))
 
@@ -182,6 +209,9 @@ more_requested n t (event.Fired m) l = more_fired (slice_get t.core.timers m)
     more_fired (Some (purpose.Response owner.Setup)) = l
     more_fired (Some (purpose.Response (owner.Try k round))) = more_late (slice_get t.core.table k)
 more_requested n t (event.Timeout ms) l = l
+more_requested n t (event.Creds c auth) l = l
+more_requested n t (event.CredsError c text) l = l
+more_requested n t (event.CredsEnd c) l = l
 more_requested n t (event.Wrote m count) l = l
 more_requested n t (event.Bytes m piece) l = l
 more_requested n t (event.Ended m) l = l
@@ -207,7 +237,7 @@ pub record AreAlike (n p : ℕ) (c d : Core) : Type 0 where
 -- a turn of each does the same
 pub turns_same : (n p : ℕ) (c d : Core) (kind : EventKind) → AreAlike n p c d → bare_turning n p (next_turn c kind) ≡ bare_turning n p (next_turn d kind)
 turns_same n p c d kind h =
-    bare_turn n p c kind h.within h.unlimited h.gone ∙ ap (λ (x : Core). timed (whole_effect (record { core = x; acts = [] }) kind)) h.same
+    bare_turn n p c kind h.within h.unlimited h.gone ∙ ap (λ (x : Core). numbered (whole_effect (record { core = x; acts = [] }) kind)) h.same
     ∙ sym (bare_turn n p d kind h.within_too h.unlimited_too h.gone_too)
 
 -- the message stays gone

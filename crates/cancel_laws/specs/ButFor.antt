@@ -5,7 +5,7 @@ use Rattle.driver_model.specs.declared.action.Action.TheVariants as action
 use Rattle.link_core.specs.declared.message.Entry.{Entry}
 use Rattle.link_core.specs.Link.{LinkState}
 use Rattle.mux_conn.specs.declared.life.Life.{Life}
-use Rattle.mux_conn.specs.declared.life.Life.TheVariants.{Dialing, SettingUp, Ready, Ended}
+use Rattle.mux_conn.specs.declared.life.Life.TheVariants.{Dialing, Wanting, SettingUp, Ready, Ended}
 
 -- an action without the number of its turn
 abbrev pub unnumbered : Action → Action
@@ -14,6 +14,7 @@ unnumbered (action.Connect l host port) = action.Connect l host port
 unnumbered (action.Timer t ms what) = action.Timer t ms what
 unnumbered (action.Took who l count) = action.Took who l count
 unnumbered (action.Push l info) = action.Push l info
+unnumbered (action.NeedCreds c l) = action.NeedCreds c l
 unnumbered (action.Close l) = action.Close l
 unnumbered (action.Write l bytes) = action.Write l bytes
 unnumbered (action.Wait who kind) = action.Wait who kind
@@ -33,6 +34,7 @@ shown_of n (action.Connect l host port) = action.Connect l host port ∷ []
 shown_of n (action.Timer t ms what) = action.Timer t ms what ∷ []
 shown_of n (action.Took who l count) = action.Took who l count ∷ []
 shown_of n (action.Push l info) = action.Push l info ∷ []
+shown_of n (action.NeedCreds c l) = action.NeedCreds c l ∷ []
 shown_of n (action.Close l) = action.Close l ∷ []
 shown_of n (action.Write l bytes) = action.Write l bytes ∷ []
 shown_of n (action.Wait who kind) = action.Wait who kind ∷ []
@@ -58,9 +60,10 @@ hushed_each p (e ∷ es) = hushed p e ∷ hushed_each p es
 abbrev pub hushed_link : ℕ → LinkState → LinkState
 hushed_link p l = record l { row = hushed_each p l.row }
 
--- the same of a link's life: while it is set up, it has no message of a request
+-- the same of a link's life: until it is set up, it has no message of a request
 abbrev pub hushed_life : ℕ → Life → Life
 hushed_life p Dialing = Dialing
+hushed_life p (Wanting l) = Wanting l
 hushed_life p (SettingUp l with_user) = SettingUp l with_user
 hushed_life p (Ready l) = Ready (hushed_link p l)
 hushed_life p (Ended e) = Ended e

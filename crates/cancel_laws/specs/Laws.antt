@@ -74,7 +74,7 @@ StartsOnFreeLink s =
     → HasStarted (length (state_after config word before).table) (state_after config word (before ++ handed_in_at draw s ∷ []))
 
 -- a submission has started where it is the first that is handed in, after the link's connect, nothing of the configuration
--- is refused, and nothing is to be said to the server before it
+-- is refused, no credentials are to come of a source, and nothing is to be said to the server before it
 abbrev pub StartsWhereHandedIn : Submission → Type 0
 StartsWhereHandedIn s =
     (config : Config) (word draw later : ℕ) → IsSound config → SaysNothing config

@@ -61,7 +61,7 @@ pub bare_is_set : (l : Ledger) → l.info ≡ bare_info → l.creds.wanted ≡ f
 bare_is_set l e unasked = silent_is_set l (unwanted l unasked) (ap (λ (info : RedisConnectionInfo). says_nothing (setup info (0 == 0))) e)
 
 -- what holds of the second of two holds of one of them
-second_holds : (p q : Bool) → q ≡ true → (p || q) ≡ true
+pub second_holds : (p q : Bool) → q ≡ true → (p || q) ≡ true
 second_holds true q e = refl
 second_holds false q e = e
 

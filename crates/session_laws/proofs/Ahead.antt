@@ -5,6 +5,7 @@ use Rattle.std.specs.Prelude.{Bool, Option, None, Some, is_none, is_some, slice_
 use Rattle.containers.proofs.Choices.{by_test, both_left, both_right, lt_from, eq_from, eq_test, le_from, le_test, left_if, ne_from, not_le_from, not_le_test, taken_if}
 use Rattle.driver_model.specs.Shape.{permits_for}
 use Rattle.driver_model.specs.declared.action.Owner.{Owner}
+use Rattle.driver_model.specs.declared.action.WaitKind.{WaitKind}
 use Rattle.driver_model.specs.declared.action.WaitKind.TheVariants as wait
 use Rattle.link_core.specs.Link.{LinkState, holds_back, is_full}
 use Rattle.link_core.specs.declared.message.Queued.{Queued}
@@ -12,16 +13,17 @@ use Rattle.link_laws.proofs.TiedLink.{TiedLink, unwritten_is}
 use Rattle.mux_conn.specs.Connection.{has_no_permit, is_ready}
 use Rattle.mux_conn.specs.Requests.{if_there, is_admitted, is_admitted_at, is_open as is_open_progress, is_open_at, is_placed, is_placed_at, is_waiting, is_waiting_at, name_at}
 use Rattle.mux_conn.specs.declared.life.Life.{Life}
-use Rattle.mux_conn.specs.declared.life.Life.TheVariants.{Dialing, Ended, Ready, SettingUp}
+use Rattle.mux_conn.specs.declared.life.Life.TheVariants.{Dialing, Ended, Ready, Wanting, SettingUp}
 use Rattle.mux_conn.specs.declared.request.Pending.{Pending}
 use Rattle.mux_conn.specs.declared.request.Progress.{Progress}
 use Rattle.mux_conn.specs.declared.request.Progress.TheVariants as progress
 use Rattle.mux_conn.specs.declared.request.Request.{Request}
 use Rattle.legal_trace.specs.Book.{Book}
-use Rattle.legal_trace.specs.Ledger.{Ledger, dials, is_over, is_set_up}
-use Rattle.legal_trace.specs.Steps.{Step, asks, free_permits, is_held, is_held_back, is_in_line, is_let_in, is_outside, line_before, next_step, nothing, starts_or_waits, step_holding, step_open, step_placed, step_ready, step_taking, step_timed, takes, tells, waits}
+use Rattle.legal_trace.specs.Ledger.{Ledger, dials, is_over, is_set_up, lacks_credentials}
+use Rattle.legal_trace.specs.Steps.{Step, asks, free_permits, is_held, is_held_back, is_in_line, is_let_in, is_outside, line_before, next_step, nothing, starts_or_waits, step_holding, step_open, step_placed, step_ready, step_taking, step_timed, takes, tells, unready_wait, waits}
 use Rattle.legal_trace.specs.Story.{Story, is_awaited, is_told, is_unstarted, shape}
 use Rattle.session_laws.proofs.Behind.{nil_told, open_untold}
+use Rattle.session_laws.proofs.Creds.{has_credentials, lacking_undecided, wanting_lacks}
 use Rattle.session_laws.proofs.InLine.{first_is_least, kept_ids, kept_in}
 use Rattle.session_laws.proofs.Moves.{IsLater, later_of, open_unstarted, told_unstarted, or_true}
 use Rattle.session_laws.proofs.Names.{earlier_name, get_some, name_of_some, names_rise, open_within}
@@ -29,7 +31,7 @@ use Rattle.session_laws.proofs.Numbers.{IsIn, Rising, in_left, in_right, rising_
 use Rattle.session_laws.proofs.Owes.{later_unstarted, request_story}
 use Rattle.session_laws.proofs.SetUp.{not_set_up}
 use Rattle.session_laws.proofs.States.{IsFit}
-use Rattle.session_laws.proofs.Tied.{HasSaid, Inner, IsQueued, Tied, TiedLife, TiedNames, TiedNumbers, carried, has_ended, link_in, owner_of, queue_ids, waiting_ids, whole_link}
+use Rattle.session_laws.proofs.Tied.{AreSought, HasSaid, Inner, IsQueued, Tied, TiedLife, TiedNames, TiedNumbers, carried, has_ended, link_in, owner_of, queue_ids, waiting_ids, whole_link}
 
 -- counts
 --
@@ -159,6 +161,7 @@ pub record IsRunning (t : Inner) : Type 0 where
 -- a link that is up has not ended
 pub ready_alive : (life : Life) → is_ready life ≡ true → has_ended life ≡ false
 ready_alive Dialing e = refl
+ready_alive (Wanting link) e = refl
 ready_alive (SettingUp link with_user) e = refl
 ready_alive (Ready link) e = refl
 ready_alive (Ended x) e = cc
@@ -170,6 +173,7 @@ running_of t link none life fit = record { settled = none; up = ap is_ready life
 -- and its ledger says that it is up
 pub ready_up : (l : Ledger) (created : ℕ) (life : Life) → is_ready life ≡ true → TiedLife l created life → l.up ≡ true
 ready_up l created Dialing e h = cc
+ready_up l created (Wanting link) e h = cc
 ready_up l created (SettingUp link with_user) e h = cc
 ready_up l created (Ready link) e h = h.1
 ready_up l created (Ended x) e h = cc
@@ -177,6 +181,7 @@ ready_up l created (Ended x) e h = cc
 -- and that it is set up
 ready_set : (l : Ledger) (started : List ℕ) (life : Life) → is_ready life ≡ true → HasSaid l started life → is_set_up l ≡ true
 ready_set l started Dialing e h = cc
+ready_set l started (Wanting link) e h = cc
 ready_set l started (SettingUp link with_user) e h = cc
 ready_set l started (Ready link) e h = h.well
 ready_set l started (Ended x) e h = cc
@@ -184,6 +189,7 @@ ready_set l started (Ended x) e h = cc
 -- it carries the messages of requests
 ready_link : (l : Ledger) (requests : List Request) (life : Life) → is_ready life ≡ true → TiedLink (carried life requests) l (whole_link life) → TiedLink (owner_of requests) l (link_in life)
 ready_link l requests Dialing e h = cc
+ready_link l requests (Wanting link) e h = cc
 ready_link l requests (SettingUp link with_user) e h = cc
 ready_link l requests (Ready link) e h = h
 ready_link l requests (Ended x) e h = cc
@@ -202,17 +208,17 @@ up_step b n up well =
     let s = b.story n in
     let l = b.link s.link in
     let step = step_ready b n s in
-    let other : Step = if is_set_up l then step else waits wait.Setup in
-    left_if (dials l) (waits wait.Connect) (if l.up then other else nothing) (up_dials l up) ∙ taken_if l.up other nothing up ∙ taken_if (is_set_up l) step (waits wait.Setup) well
+    let other : Step = if is_set_up l then step else waits (unready_wait l) in
+    left_if (dials l) (waits wait.Connect) (if l.up then other else nothing) (up_dials l up) ∙ taken_if l.up other nothing up ∙ taken_if (is_set_up l) step (waits (unready_wait l)) well
 
--- and where it isn't set up, the submission waits for that
-pub setting_step : (b : Book) (n : ℕ) → (b.link (b.story n).link).up ≡ true → is_set_up (b.link (b.story n).link) ≡ false → next_step b n ≡ waits wait.Setup
-setting_step b n up unwell =
+-- and where it isn't set up, the submission waits for that, or for credentials
+unready_step : (b : Book) (n : ℕ) → (b.link (b.story n).link).up ≡ true → is_set_up (b.link (b.story n).link) ≡ false → next_step b n ≡ waits (unready_wait (b.link (b.story n).link))
+unready_step b n up unwell =
     let s = b.story n in
     let l = b.link s.link in
     let step = step_ready b n s in
-    let other : Step = if is_set_up l then step else waits wait.Setup in
-    left_if (dials l) (waits wait.Connect) (if l.up then other else nothing) (up_dials l up) ∙ taken_if l.up other nothing up ∙ left_if (is_set_up l) step (waits wait.Setup) unwell
+    let other : Step = if is_set_up l then step else waits (unready_wait l) in
+    left_if (dials l) (waits wait.Connect) (if l.up then other else nothing) (up_dials l up) ∙ taken_if l.up other nothing up ∙ left_if (is_set_up l) step (waits (unready_wait l)) unwell
 
 -- the book has a link held back where the link is, by what it is tied by
 pub held_by : (b : Book) (t : Inner) (name : ℕ → Owner) (link : LinkState) → TiedNumbers b t → link.boundary ≡ t.bound → TiedLink name (b.link t.link) link → is_held_back b (b.link t.link) ≡ holds_back link
@@ -539,6 +545,7 @@ ask_step b t p ms h r o has time none =
 --
 dialing_dials : (l : Ledger) (created : ℕ) (life : Life) → life ≡ Dialing → TiedLife l created life → dials l ≡ true
 dialing_dials l created Dialing e h = λ i. h.0 i && not (h.1 i) && not (is_some (h.2 i))
+dialing_dials l created (Wanting link) e h = cc
 dialing_dials l created (SettingUp link with_user) e h = cc
 dialing_dials l created (Ready link) e h = cc
 dialing_dials l created (Ended x) e h = cc
@@ -554,6 +561,19 @@ dialing_step b t p h dialing within =
 pub setup_step : (b : Book) (t : Inner) (p : ℕ) (link : LinkState) (with_user : Bool) → Tied b t → t.life ≡ SettingUp link with_user → p < length t.requests → next_step b (name_at t.requests p) ≡ waits wait.Setup
 setup_step b t p link with_user h setting within =
     let q = request_story b t p h within in
-    let life = subst (TiedLife (b.link t.link) b.created) setting h.life in
-    let said = subst (HasSaid (b.link t.link) t.started) setting h.setup.said in
-    setting_step b (name_at t.requests p) (ap (λ l. (b.link l).up) q.on ∙ life.1) (ap (λ l. is_set_up (b.link l)) q.on ∙ (not_set_up (b.link t.link) link with_user said.1).unwell)
+    let l = b.link t.link in
+    let life = subst (TiedLife l b.created) setting h.life in
+    let said = subst (HasSaid l t.started) setting h.setup.said in
+    let has = has_credentials l.creds (subst (AreSought l.creds) setting h.creds.sought) in
+    unready_step b (name_at t.requests p) (ap (λ m. (b.link m).up) q.on ∙ life.1) (ap (λ m. is_set_up (b.link m)) q.on ∙ (not_set_up l link with_user said.1).unwell)
+    ∙ ap (λ (kind : WaitKind). waits kind) (ap (λ m. unready_wait (b.link m)) q.on ∙ left_if (lacks_credentials l) wait.Creds wait.Setup has)
+
+-- and credentials, while they are to come
+pub creds_step : (b : Book) (t : Inner) (p : ℕ) (link : LinkState) → Tied b t → t.life ≡ Wanting link → p < length t.requests → next_step b (name_at t.requests p) ≡ waits wait.Creds
+creds_step b t p link h wanting within =
+    let q = request_story b t p h within in
+    let l = b.link t.link in
+    let life = subst (TiedLife l b.created) wanting h.life in
+    let lacks = wanting_lacks l.creds link (subst (AreSought l.creds) wanting h.creds.sought) in
+    unready_step b (name_at t.requests p) (ap (λ m. (b.link m).up) q.on ∙ life.1) (ap (λ m. is_set_up (b.link m)) q.on ∙ (lacking_undecided l lacks).unwell)
+    ∙ ap (λ (kind : WaitKind). waits kind) (ap (λ m. unready_wait (b.link m)) q.on ∙ taken_if (lacks_credentials l) wait.Creds wait.Setup lacks)

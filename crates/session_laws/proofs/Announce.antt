@@ -1,5 +1,5 @@
 -- A turn of an event: where it may stand, and what its link and the others hear.
-use Rattle.std.proofs.Common.{◌≡◌, ◌≢◌, ◌⊎◌, inl, inr, ℕ, ◌+◌, ◌<◌, ◌≤◌, ◌==◌, nat_lt, nat_le, false, ◌&&◌, ◌||◌, not, is_some, List, [], ◌∷◌, ◌++◌, length, slice_get, Some, refl, sym, ap, ◌∙◌, subst, arith, length-take, None, Option}
+use Rattle.std.proofs.Common.{◌≡◌, ◌≢◌, ◌⊎◌, inl, inr, ℕ, zero, suc, ◌+◌, ◌<◌, ◌≤◌, ◌==◌, nat_lt, nat_le, false, ◌&&◌, ◌||◌, not, is_some, List, [], ◌∷◌, ◌++◌, length, slice_get, Some, refl, sym, ap, ◌∙◌, subst, arith, length-take, None, Option}
 use Rattle.std.proofs.lemmas.List.{append-nil}
 use Rattle.containers.proofs.Choices.{by_test, chosen, taken_if, left_if, eq_test, ne_test, not_le_from, or_left}
 use Rattle.redis_error.specs.declared.redis_error.RedisError.TheVariants as error
@@ -8,27 +8,30 @@ use Rattle.driver_model.specs.declared.action.Owner.{Owner}
 use Rattle.driver_model.specs.declared.action.Owner.TheVariants as owner
 use Rattle.driver_model.specs.declared.action.Purpose.{Purpose}
 use Rattle.driver_model.specs.declared.action.Purpose.TheVariants as purpose
+use Rattle.driver_model.specs.declared.action.SourceUse.{SourceUse}
+use Rattle.driver_model.specs.declared.action.SourceUse.TheVariants as source
+use Rattle.connection_info.specs.declared.address.RedisConnectionInfo.{RedisConnectionInfo}
 use Rattle.driver_model.specs.declared.action.Action.TheVariants as action
 use Rattle.driver_model.specs.declared.action.Cause.TheVariants as cause
 use Rattle.driver_model.specs.declared.event.EventKind.{EventKind}
 use Rattle.driver_model.specs.declared.event.EventKind.TheVariants as event
 use Rattle.driver_model.specs.declared.news.LinkFault.TheVariants as fault
-use Rattle.driver_model.specs.News.{News, silence, connected, took, came, failed, shut, for_link, news_of, refused, overdue, of_timer}
+use Rattle.driver_model.specs.News.{News, silence, connected, took, came, failed, authorized, denied, deserted, shut, for_link, is_source_of, news_of, refused, overdue, of_timer}
 use Rattle.driver_model.specs.declared.outcome.Outcome.TheVariants as outcome
 use Rattle.link_core.specs.Link.{LinkState}
 use Rattle.link_laws.proofs.TiedLink.{TiedLink}
 use Rattle.mux_conn.specs.declared.connection.MultiplexedConnection.{MultiplexedConnection}
 use Rattle.mux_conn.specs.declared.life.Life.{Life}
-use Rattle.mux_conn.specs.declared.life.Life.TheVariants.{Dialing, SettingUp, Ready, Ended}
+use Rattle.mux_conn.specs.declared.life.Life.TheVariants.{Dialing, Wanting, SettingUp, Ready, Ended}
 use Rattle.mux_conn.specs.declared.request.Request.{Request}
 use Rattle.shared_session.specs.declared.core_state.Core.{Core}
 use Rattle.shared_session.specs.Turn.{is_shutdown, shut_by, exceeds_offer, is_no_link, is_bad}
-use Rattle.legal_trace.specs.Ledger.{Ledger, Start, setup_count, hears, noted, is_over, bytes_came, dials, refused_in, Heard}
+use Rattle.legal_trace.specs.Ledger.{Ledger, Start, setup_count, authorized_by, awaits_credentials, hears, noted, is_over, bytes_came, dials, refused_in, Heard}
 use Rattle.legal_trace.specs.Story.{Story, fires}
 use Rattle.legal_trace.specs.Book.{Book, book, entered, is_clock_of}
 use Rattle.legal_trace.specs.Events.{is_bad_event}
 use Rattle.legal_trace.specs.Legal.{MayTurn, is_heard}
-use Rattle.session_laws.proofs.Tied.{AreAimed, IsAim, owners_of, owners_each, setup_owners, Inner, inner, link_in, carried, whole_link, IsUnknown, TiedLife, TiedSetup, TiedTries, TiedLines, AreQueued, TiedWaits, Tied, Sound, no_opening, has_ended, TiedPushes}
+use Rattle.session_laws.proofs.Tied.{AreAimed, AreUses, IsAim, owners_of, owners_each, setup_owners, Inner, inner, link_in, carried, whole_link, IsUnknown, TiedCreds, TiedLife, TiedSetup, TiedTries, TiedLines, AreQueued, TiedWaits, Tied, Sound, no_opening, has_ended, TiedPushes}
 use Rattle.session_laws.proofs.States.{Between}
 use Rattle.session_laws.proofs.Entered.{book_more, sound_more}
 use Rattle.session_laws.proofs.Answer.{some_end}
@@ -44,6 +47,7 @@ offered_length name l s h = ap length h.offer ∙ (let e = length-take s.outbox.
 -- the connection's link can't take so much
 too_much : (l : Ledger) (created : ℕ) (life : Life) (requests : List Request) (count : ℕ) → TiedLife l created life → (has_ended life ≡ false → TiedLink (carried life requests) l (whole_link life)) → (not (is_over l) && nat_lt (length l.offer) count) ≡ exceeds_offer life count
 too_much l created Dialing requests count h link = (λ i. not (is_some (h.2 i)) && nat_lt (offered_length (carried Dialing requests) l (whole_link Dialing) (link refl) i) count)
+too_much l created (Wanting s) requests count h link = (λ i. not (is_some (h.2 i)) && nat_lt (offered_length (carried (Wanting s) requests) l s (link refl) i) count)
 too_much l created (SettingUp s with_user) requests count h link = (λ i. not (is_some (h.2 i)) && nat_lt (offered_length (carried (SettingUp s with_user) requests) l s (link refl) i) count)
 too_much l created (Ready s) requests count h link = (λ i. not (is_some (h.2 i)) && nat_lt (offered_length (carried (Ready s) requests) l s (link refl) i) count)
 too_much l created (Ended e) requests count h link = ap (λ o. not o && nat_lt (length l.offer) count) (some_end l.end (outcome.Fault e) h.1)
@@ -56,6 +60,9 @@ same_badness b c started (event.Cancel n) h = ap (λ k. nat_le k n) h.numbers.su
 same_badness b c started (event.Connected l) h = ap (λ k. nat_le k l) h.numbers.links
 same_badness b c started (event.Refused l f) h = ap (λ k. nat_le k l) h.numbers.links
 same_badness b c started (event.Fired n) h = ap (λ (ts : List Purpose). nat_le (length ts) n) h.numbers.timers
+same_badness b c started (event.Creds n auth) h = ap (λ (ss : List SourceUse). nat_le (length ss) n) h.numbers.sources
+same_badness b c started (event.CredsError n text) h = ap (λ (ss : List SourceUse). nat_le (length ss) n) h.numbers.sources
+same_badness b c started (event.CredsEnd n) h = ap (λ (ss : List SourceUse). nat_le (length ss) n) h.numbers.sources
 same_badness b c started (event.Bytes l piece) h = ap (λ k. nat_le k l) h.numbers.links
 same_badness b c started (event.Ended l) h = ap (λ k. nat_le k l) h.numbers.links
 same_badness b c started (event.ReadFault l kind) h = ap (λ k. nat_le k l) h.numbers.links
@@ -102,21 +109,34 @@ elsewhere_fired link count m n timers aims other = by_timer (slice_get timers n)
     by_timer (Some (purpose.Connect l)) e = left_if (l == m) overdue silence (ne_test l m (λ same. other (sym same ∙ aims n (purpose.Connect l) e)))
     by_timer (Some (purpose.Response who)) e = refl
 
+-- nor of a source of credentials
+elsewhere_given : (link m n : ℕ) (sources : List SourceUse) (news : News) → AreUses sources link → m ≢ link → for_link (is_source_of m (slice_get sources n)) news ≡ silence
+elsewhere_given link m n sources news uses other = by_source (slice_get sources n) refl
+  where
+    by_source : (x : Option SourceUse) → slice_get sources n ≡ x → for_link (is_source_of m x) news ≡ silence
+    by_source None e = refl
+    by_source (Some (source.Setup l)) e =
+        let own : l ≡ link = (let same = uses n (source.Setup l) e in cc) in
+        left_if (l == m) news silence (ne_test l m (λ same. other (sym same ∙ own)))
+
 -- whatever the event is
-elsewhere : (c : Core) (m : ℕ) (kind : EventKind) → ((k : ℕ) → k < c.links → k ≡ c.single.link) → AreAimed c.timers c.single.link (length c.table) → is_bad c kind ≡ false → m ≢ c.single.link → (news_of c.timers m kind ≡ silence) ⊎ (news_of c.timers m kind ≡ shut)
+elsewhere : (c : Core) (m : ℕ) (kind : EventKind) → ((k : ℕ) → k < c.links → k ≡ c.single.link) → AreAimed c.timers c.single.link (length c.table) → AreUses c.sources c.single.link → is_bad c kind ≡ false → m ≢ c.single.link → (news_of c.timers c.sources m kind ≡ silence) ⊎ (news_of c.timers c.sources m kind ≡ shut)
 unfolding is_bad
-elsewhere c m (event.Submit what) only aims good other = inl refl
-elsewhere c m (event.Cancel n) only aims good other = inl refl
-elsewhere c m (event.Connected l) only aims good other = inl (elsewhere_of c l m connected only good other)
-elsewhere c m (event.Refused l f) only aims good other = inl (elsewhere_of c l m (refused f) only good other)
-elsewhere c m (event.Fired n) only aims good other = inl (elsewhere_fired c.single.link (length c.table) m n c.timers aims other)
-elsewhere c m (event.Wrote l count) only aims good other = inl (elsewhere_of c l m (took count) only (or_left (is_no_link c l) _ good) other)
-elsewhere c m (event.Bytes l piece) only aims good other = inl (elsewhere_of c l m (came piece) only good other)
-elsewhere c m (event.Ended l) only aims good other = inl (elsewhere_of c l m (failed fault.Ended) only good other)
-elsewhere c m (event.ReadFault l kind) only aims good other = inl (elsewhere_of c l m (failed (fault.Io kind)) only good other)
-elsewhere c m (event.WriteFault l kind) only aims good other = inl (elsewhere_of c l m (failed (fault.Io kind)) only good other)
-elsewhere c m (event.Timeout ms) only aims good other = inl refl
-elsewhere c m event.Shutdown only aims good other = inr refl
+elsewhere c m (event.Submit what) only aims uses good other = inl refl
+elsewhere c m (event.Cancel n) only aims uses good other = inl refl
+elsewhere c m (event.Connected l) only aims uses good other = inl (elsewhere_of c l m connected only good other)
+elsewhere c m (event.Refused l f) only aims uses good other = inl (elsewhere_of c l m (refused f) only good other)
+elsewhere c m (event.Fired n) only aims uses good other = inl (elsewhere_fired c.single.link (length c.table) m n c.timers aims other)
+elsewhere c m (event.Wrote l count) only aims uses good other = inl (elsewhere_of c l m (took count) only (or_left (is_no_link c l) _ good) other)
+elsewhere c m (event.Bytes l piece) only aims uses good other = inl (elsewhere_of c l m (came piece) only good other)
+elsewhere c m (event.Ended l) only aims uses good other = inl (elsewhere_of c l m (failed fault.Ended) only good other)
+elsewhere c m (event.ReadFault l kind) only aims uses good other = inl (elsewhere_of c l m (failed (fault.Io kind)) only good other)
+elsewhere c m (event.WriteFault l kind) only aims uses good other = inl (elsewhere_of c l m (failed (fault.Io kind)) only good other)
+elsewhere c m (event.Creds n auth) only aims uses good other = inl (elsewhere_given c.single.link m n c.sources (authorized auth) uses other)
+elsewhere c m (event.CredsError n text) only aims uses good other = inl (elsewhere_given c.single.link m n c.sources (denied text) uses other)
+elsewhere c m (event.CredsEnd n) only aims uses good other = inl (elsewhere_given c.single.link m n c.sources deserted uses other)
+elsewhere c m (event.Timeout ms) only aims uses good other = inl refl
+elsewhere c m event.Shutdown only aims uses good other = inr refl
 
 -- and stay unknown
 unknown_heard : (l : Ledger) (turn : ℕ) (n : News) → (n ≡ silence) ⊎ (n ≡ shut) → IsUnknown l → IsUnknown (noted l (hears turn n))
@@ -124,10 +144,11 @@ unknown_heard l turn n (inl e) h = subst (λ (x : News). IsUnknown (noted l (hea
 unknown_heard l turn n (inr e) h = subst (λ (x : News). IsUnknown (noted l (hears turn x))) (sym e) (record { asked = h.asked; up = h.up; end = h.end; starts = h.starts; pushes = h.pushes })
 
 -- so all other links stay unknown
-pub others_heard : (b : Book) (c : Core) (started : List ℕ) (kind : EventKind) → Tied b (inner c started) → is_bad c kind ≡ false → (m : ℕ) → m ≢ c.single.link → IsUnknown (noted (b.link m) (hears c.turns (news_of b.timers m kind)))
+pub others_heard : (b : Book) (c : Core) (started : List ℕ) (kind : EventKind) → Tied b (inner c started) → is_bad c kind ≡ false → (m : ℕ) → m ≢ c.single.link → IsUnknown (noted (b.link m) (hears c.turns (news_of b.timers b.sources m kind)))
 others_heard b c started kind h good m other =
-    unknown_heard (b.link m) c.turns (news_of b.timers m kind)
-    (subst (λ (ts : List Purpose). (news_of ts m kind ≡ silence) ⊎ (news_of ts m kind ≡ shut)) (sym h.numbers.timers) (elsewhere c m kind h.numbers.only h.numbers.aims good other)) (h.others m other)
+    let same : news_of b.timers b.sources m kind ≡ news_of c.timers c.sources m kind = λ i. news_of (h.numbers.timers i) (h.numbers.sources i) m kind in
+    unknown_heard (b.link m) c.turns (news_of b.timers b.sources m kind)
+    (subst (λ (n : News). (n ≡ silence) ⊎ (n ≡ shut)) (sym same) (elsewhere c m kind h.numbers.only h.numbers.aims h.numbers.uses good other)) (h.others m other)
 
 -- the event that names a link names the connection's
 pub own_news : (c : Core) (l : ℕ) (n : News) → ((k : ℕ) → k < c.links → k ≡ c.single.link) → is_no_link c l ≡ false → for_link (l == c.single.link) n ≡ n
@@ -136,6 +157,12 @@ own_news c l n only here = taken_if (l == c.single.link) n silence (eq_test l c.
 -- a timer of a connect that was asked for is one for it
 pub own_timer : (c : Core) (n l : ℕ) → AreAimed c.timers c.single.link (length c.table) → slice_get c.timers n ≡ Some (purpose.Connect l) → of_timer c.single.link (slice_get c.timers n) ≡ overdue
 own_timer c n l aims is = ap (of_timer c.single.link) is ∙ taken_if (l == c.single.link) overdue silence (eq_test l c.single.link (aims n (purpose.Connect l) is))
+
+-- a source that was asked for is one for it
+pub own_source : (c : Core) (n : ℕ) (what : SourceUse) (news : News) → AreUses c.sources c.single.link → slice_get c.sources n ≡ Some what → for_link (is_source_of c.single.link (slice_get c.sources n)) news ≡ news
+own_source c n what news uses is =
+    ap (λ (x : Option SourceUse). for_link (is_source_of c.single.link x) news) (is ∙ ap Some (uses n what is))
+    ∙ taken_if (c.single.link == c.single.link) news silence (eq_test c.single.link c.single.link refl)
 
 -- news start nothing
 pub heard_starts : (l : Ledger) (turn : ℕ) (n : News) → (noted l (hears turn n)).starts ≡ l.starts
@@ -146,6 +173,9 @@ heard_starts l turn connected = chosen (λ (x : Ledger). x.starts ≡ l.starts) 
 heard_starts l turn (took count) = chosen (λ (x : Ledger). x.starts ≡ l.starts) l.up _ l (λ t. refl) (λ f. refl)
 heard_starts l turn (came piece) = chosen (λ (x : Ledger). x.starts ≡ l.starts) l.up (bytes_came l piece) l (λ t. refl) (λ f. refl)
 heard_starts l turn (failed f) = refl
+heard_starts l turn (authorized c) = chosen (λ (x : Ledger). x.starts ≡ l.starts) (awaits_credentials l) (authorized_by l c) l (λ t. refl) (λ f. refl)
+heard_starts l turn (denied text) = refl
+heard_starts l turn deserted = refl
 heard_starts l turn shut = refl
 
 -- the turn of an event that is of no account for submissions
@@ -163,6 +193,9 @@ IsNewsKind timers (event.Ended l) = Unit {0}
 IsNewsKind timers (event.ReadFault l kind) = Unit {0}
 IsNewsKind timers (event.WriteFault l kind) = Unit {0}
 IsNewsKind timers (event.Timeout ms) = ⊥
+IsNewsKind timers (event.Creds c auth) = Unit {0}
+IsNewsKind timers (event.CredsError c text) = Unit {0}
+IsNewsKind timers (event.CredsEnd c) = Unit {0}
 IsNewsKind timers event.Shutdown = Unit {0}
 
 -- leaves the stories
@@ -171,7 +204,7 @@ heard_book b number word kind = record b {
   turns = b.turns + 1;
   running = Some (cause.Event (record { word = word; kind = kind }));
   shut = b.shut || is_shutdown kind;
-  link = λ m. noted (b.link m) (hears number (news_of b.timers m kind));
+  link = λ m. noted (b.link m) (hears number (news_of b.timers b.sources m kind));
 }
 
 -- with as many submissions as before
@@ -193,6 +226,9 @@ heard_is b number word (event.Ended l) k = still_as_many b number word (event.En
 heard_is b number word (event.ReadFault l kind) k = still_as_many b number word (event.ReadFault l kind)
 heard_is b number word (event.WriteFault l kind) k = still_as_many b number word (event.WriteFault l kind)
 heard_is b number word (event.Timeout ms) k = absurd k
+heard_is b number word (event.Creds c auth) k = still_as_many b number word (event.Creds c auth)
+heard_is b number word (event.CredsError c text) k = still_as_many b number word (event.CredsError c text)
+heard_is b number word (event.CredsEnd c) k = still_as_many b number word (event.CredsEnd c)
 heard_is b number word event.Shutdown k = still_as_many b number word event.Shutdown
 
 -- tries are of the starts
@@ -212,6 +248,17 @@ turned c kind = shut_by (record c { turns = c.turns + 1 }) kind
 pub aims_on : (timers : List Purpose) (link count : ℕ) → AreAimed timers link count → AreAimed (timers ++ []) link count
 aims_on timers link count h = subst (λ (ts : List Purpose). AreAimed ts link count) (sym (append-nil timers)) h
 
+-- what sources are for, with none more
+pub uses_on : (sources : List SourceUse) (link : ℕ) → AreUses sources link → AreUses (sources ++ []) link
+uses_on sources link h = subst (λ (ss : List SourceUse). AreUses ss link) (sym (append-nil sources)) h
+
+-- with one more
+pub uses_more : (sources : List SourceUse) (link : ℕ) → AreUses sources link → AreUses (sources ++ source.Setup link ∷ []) link
+uses_more [] link h zero what e = cc
+uses_more [] link h (suc k) what e = cc
+uses_more (x ∷ xs) link h zero what e = h zero what e
+uses_more (x ∷ xs) link h (suc k) what e = uses_more xs link (λ j u i. h (suc j) u i) k what e
+
 -- with more submissions
 pub aims_longer : (timers : List Purpose) (link count more : ℕ) → count ≤ more → AreAimed timers link count → AreAimed timers link more
 aims_longer timers link count more l h k what e = by_purpose what (h k what e)
@@ -221,20 +268,37 @@ aims_longer timers link count more l h k what e = by_purpose what (h k what e)
     by_purpose (purpose.Response owner.Setup) is = absurd is
     by_purpose (purpose.Response (owner.Try n round)) is = (let less = is.0 in omega arith, is.1)
 
--- the session tied to a book with these ledgers, by what its link has come to there; the creation may be shown with it
-pub heard_tied_by : (b : Book) (c : Core) (started : List ℕ) (word created : ℕ) (kind : EventKind) (life : Life) (fresh pending : List ℕ) (untold : List Heard) (links : ℕ → Ledger) (l : Ledger) → Tied b (inner c started) → ((m : ℕ) → m ≢ c.single.link → IsUnknown (links m)) → links c.single.link ≡ l
-    → l.starts ≡ (b.link c.single.link).starts → TiedLife l created life → TiedSetup l c.single.connection.info started life → (has_ended life ≡ false → TiedLink (carried life c.single.connection.requests) l (whole_link life))
-    → TiedLines b.story c.single.connection.requests (link_in life) c.single.connection.waiting c.single.connection.admitted pending started → (has_ended life ≡ false → AreQueued b.story c.single.connection.requests (link_in life))
-    → TiedWaits b.story c.single.connection.requests life fresh c.single.connection.moved → TiedPushes (is_heard b) c.single.connection.hears l.pushes l.told l.end l.parted untold false
-    → Tied (record (heard_book b c.turns word kind) { created = created; link = links }) (record (seen (turned c kind) [] (record c.single.connection { life = life; fresh = fresh }) pending started) { untold = untold })
-heard_tied_by b c started word created kind life fresh pending untold links l h others is same lived said linked lines told waits pushed =
-    let after = record (heard_book b c.turns word kind) { created = created; link = links } in
-    let t = record (seen (turned c kind) [] (record c.single.connection { life = life; fresh = fresh }) pending started) { untold = untold } in
+-- what the session needs of the life that the turn leads to, by the ledger that its link has come to, and by what is said to
+-- its server then; the creation may be shown with it
+pub record ComesTo (b : Book) (c : Core) (l : Ledger) (created : ℕ) (info : RedisConnectionInfo) (life : Life) (fresh pending : List ℕ) (untold : List Heard) (started : List ℕ) : Type 0 where
+  pub starts : l.starts ≡ (b.link c.single.link).starts
+  pub lived : TiedLife l created life
+  pub creds : TiedCreds l.creds c.single.connection.wants life
+  pub said : TiedSetup l info started life
+  pub linked : has_ended life ≡ false → TiedLink (carried life c.single.connection.requests) l (whole_link life)
+  pub lines : TiedLines b.story c.single.connection.requests (link_in life) c.single.connection.waiting c.single.connection.admitted pending started
+  pub told : has_ended life ≡ false → AreQueued b.story c.single.connection.requests (link_in life)
+  pub waits : TiedWaits b.story c.single.connection.requests life fresh c.single.connection.moved
+  pub pushes : TiedPushes (is_heard b) c.single.connection.hears l.pushes l.told l.end l.parted untold false
+
+-- the connection then
+abbrev pub comes_as : Core → RedisConnectionInfo → Life → List ℕ → MultiplexedConnection
+comes_as c info life fresh = record c.single.connection { info = info; life = life; fresh = fresh }
+
+-- the session tied to a book with these ledgers, and with these sources of credentials
+pub heard_tied_by : (b : Book) (c : Core) (started : List ℕ) (word created : ℕ) (kind : EventKind) (info : RedisConnectionInfo) (life : Life) (fresh pending : List ℕ) (untold : List Heard) (links : ℕ → Ledger) (l : Ledger) (asked uses : List SourceUse) → Tied b (inner c started)
+    → ((m : ℕ) → m ≢ c.single.link → IsUnknown (links m)) → links c.single.link ≡ l → asked ≡ uses → AreUses uses c.single.link → ComesTo b c l created info life fresh pending untold started
+    → Tied (record (heard_book b c.turns word kind) { created = created; link = links; sources = asked }) (record (seen (turned c kind) [] (comes_as c info life fresh) pending started) { untold = untold; sources = uses })
+heard_tied_by b c started word created kind info life fresh pending untold links l asked uses h others is sourced used k =
+    let after = record (heard_book b c.turns word kind) { created = created; link = links; sources = asked } in
+    let t = record (seen (turned c kind) [] (comes_as c info life fresh) pending started) { untold = untold; sources = uses } in
     tied_by after t l is (record {
       numbers = record {
         turns = ap (λ n. n + 1) h.numbers.turns;
         links = h.numbers.links;
         timers = h.numbers.timers ∙ sym (append-nil c.timers);
+        sources = sourced;
+        uses = used;
         aims = aims_on c.timers c.single.link (length c.table) h.numbers.aims;
         timed = λ config other opens bounded none. no_opening _ config other opens;
         submissions = h.numbers.submissions;
@@ -245,28 +309,28 @@ heard_tied_by b c started word created kind life fresh pending untold links l h 
         only = h.numbers.only;
       };
       others = others;
-      pushes = pushed;
-      life = lived;
-      setup = said;
-      link = linked;
+      pushes = k.pushes;
+      life = k.lived;
+      creds = k.creds;
+      setup = k.said;
+      link = k.linked;
       names = h.names;
       story = h.story;
-      tries = tries_by (b.link c.single.link) l b.story c.single.connection.requests c.single.link started same h.tries;
-      lines = lines;
-      told = told;
-      waits = waits;
+      tries = tries_by (b.link c.single.link) l b.story c.single.connection.requests c.single.link started k.starts h.tries;
+      lines = k.lines;
+      told = k.told;
+      waits = k.waits;
       permits = h.permits;
       late = λ p o late. absurd (h.late p o late);
     })
 
 -- by what its link hears
-pub heard_tied : (b : Book) (c : Core) (started : List ℕ) (word created : ℕ) (kind : EventKind) (life : Life) (fresh pending : List ℕ) (untold : List Heard) (l : Ledger) → Tied b (inner c started) → is_bad c kind ≡ false → noted (b.link c.single.link) (hears c.turns (news_of b.timers c.single.link kind)) ≡ l
-    → l.starts ≡ (b.link c.single.link).starts → TiedLife l created life → TiedSetup l c.single.connection.info started life → (has_ended life ≡ false → TiedLink (carried life c.single.connection.requests) l (whole_link life))
-    → TiedLines b.story c.single.connection.requests (link_in life) c.single.connection.waiting c.single.connection.admitted pending started → (has_ended life ≡ false → AreQueued b.story c.single.connection.requests (link_in life))
-    → TiedWaits b.story c.single.connection.requests life fresh c.single.connection.moved → TiedPushes (is_heard b) c.single.connection.hears l.pushes l.told l.end l.parted untold false
-    → Tied (record (heard_book b c.turns word kind) { created = created }) (record (seen (turned c kind) [] (record c.single.connection { life = life; fresh = fresh }) pending started) { untold = untold })
-heard_tied b c started word created kind life fresh pending untold l h good is same lived said linked lines told waits pushed =
-    heard_tied_by b c started word created kind life fresh pending untold (heard_book b c.turns word kind).link l h (others_heard b c started kind h good) is same lived said linked lines told waits pushed
+pub heard_tied : (b : Book) (c : Core) (started : List ℕ) (word created : ℕ) (kind : EventKind) (info : RedisConnectionInfo) (life : Life) (fresh pending : List ℕ) (untold : List Heard) (l : Ledger) → Tied b (inner c started) → is_bad c kind ≡ false
+    → noted (b.link c.single.link) (hears c.turns (news_of b.timers b.sources c.single.link kind)) ≡ l → ComesTo b c l created info life fresh pending untold started
+    → Tied (record (heard_book b c.turns word kind) { created = created }) (record (seen (turned c kind) [] (comes_as c info life fresh) pending started) { untold = untold })
+heard_tied b c started word created kind info life fresh pending untold l h good is k =
+    heard_tied_by b c started word created kind info life fresh pending untold (heard_book b c.turns word kind).link l b.sources (c.sources ++ []) h (others_heard b c started kind h good) is
+    (h.numbers.sources ∙ sym (append-nil c.sources)) (uses_on c.sources c.single.link h.numbers.uses) k
 
 -- the trace begins
 --

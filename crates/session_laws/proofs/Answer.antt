@@ -12,7 +12,7 @@ use Rattle.link_core.specs.declared.message.Entry.{Entry}
 use Rattle.link_core.specs.Link.{LinkState}
 use Rattle.link_laws.specs.Settles.{wanted}
 use Rattle.mux_conn.specs.declared.life.Life.{Life}
-use Rattle.mux_conn.specs.declared.life.Life.TheVariants.{Dialing, SettingUp, Ready, Ended}
+use Rattle.mux_conn.specs.declared.life.Life.TheVariants.{Dialing, Wanting, SettingUp, Ready, Ended}
 use Rattle.mux_conn.specs.declared.request.Pending.{Pending}
 use Rattle.mux_conn.specs.declared.request.Progress.TheVariants as progress
 use Rattle.mux_conn.specs.declared.request.Request.{Request}
@@ -25,6 +25,7 @@ use Rattle.legal_trace.specs.Owed.{owed, owed_to_try, owed_to_message, owed_unst
 use Rattle.legal_trace.specs.Legal.{NoneEnds, VerdictsAreShown, MayAnswer, FailuresAreShown, EndsAreTold, IsBefore, is_heard}
 use Rattle.session_laws.proofs.Numbers.{IsIn, in_either, in_right, in_left, Rising, rising_in}
 use Rattle.session_laws.proofs.Tied.{Inner, link_in, queue_ids, IsUnknown, TiedLife, TiedNames, IsEntry, AreQueued, TiedLines, Tied, relined, has_ended, numbers_kept}
+use Rattle.session_laws.proofs.Creds.{sources_asked}
 use Rattle.session_laws.proofs.Said.{carried_tied}
 use Rattle.session_laws.proofs.Names.{name_within, open_within, earlier_name, owners_with, length_with, names_with, with_other, with_then}
 use Rattle.session_laws.proofs.InLine.{kept_ids, line_of, IsInLine, awaited_in, first_is_apart}
@@ -53,6 +54,7 @@ may_answer b t p o h e owes before pushed after =
           ap (owed b) (sym q.named) ∙ before q.number (earlier_name t.table t.requests q.number p h.names k l (subst (λ n. n < name_at t.requests p) (sym q.named) less)) q.open_at;
       after_pushes = λ heard push next. pushed heard push (subst (λ n. next_push (b.link n) ≡ Some push) r.on next);
       after_closes = λ over. after (subst (λ n. is_over (b.link n) ≡ true) r.on over);
+      after_sources = λ over. sources_asked b t h;
     }
 
 -- what isn't up need not end where it isn't asked for, or is over
@@ -79,6 +81,7 @@ over_not_asked l over = ap (λ o. l.asked && not o) over ∙ none_of l.asked
 -- a connection that has ended has a link that is over
 ended_over : (l : Ledger) (created : ℕ) (life : Life) → has_ended life ≡ true → TiedLife l created life → is_over l ≡ true
 ended_over l created Dialing over h = cc
+ended_over l created (Wanting link) over h = cc
 ended_over l created (SettingUp link with_user) over h = cc
 ended_over l created (Ready link) over h = cc
 ended_over l created (Ended e) over h = some_end l.end (outcome.Fault e) h.1
@@ -86,6 +89,7 @@ ended_over l created (Ended e) over h = some_end l.end (outcome.Fault e) h.1
 -- what has ended need not end
 ended_ends : (l : Ledger) (created : ℕ) (life : Life) → has_ended life ≡ true → TiedLife l created life → ending l ≡ None
 ended_ends l created Dialing over h = cc
+ended_ends l created (Wanting link) over h = cc
 ended_ends l created (SettingUp link with_user) over h = cc
 ended_ends l created (Ready link) over h = cc
 ended_ends l created (Ended e) over h = not_up_ends l h.0 (over_not_asked l (some_end l.end (outcome.Fault e) h.1))
@@ -221,6 +225,7 @@ answer_apart b t p pending o l apart told h =
       others = h.others;
       pushes = h.pushes;
       life = h.life;
+      creds = h.creds;
       setup = h.setup;
       link = λ up. carried_tied t.life t.requests (with_permits t.requests p progress.Closed 0) (b.link t.link) (sym (owners_with t.requests p progress.Closed 0)) (h.link up);
       names = names_with t.table t.requests p progress.Closed 0 h.names;
@@ -228,7 +233,7 @@ answer_apart b t p pending o l apart told h =
       tries = tries_closed (b.link t.link) b.story t.requests t.link p closed t.started c h.tries;
       lines = lines_answered t.table b.story t.requests (link_in t.life) t.waiting t.admitted p pending t.started closed h.names l c apart h.lines;
       told = told;
-      waits = waits_closed t.table b.story t.requests p closed t.life t.life t.fresh t.moved h.names l (λ e. e) (λ x u e. (x, e)) (λ x e. (x, e))
+      waits = waits_closed t.table b.story t.requests p closed t.life t.life t.fresh t.moved h.names l (λ e. e) (λ x e. (x, e)) (λ x u e. (x, e)) (λ x e. (x, e))
           (λ q i.
           let j = awaited_in q link.queue i in
           let k = rising_in 0 (t.started ++ (queue ++ kept)) (length t.requests) q h.lines.line (in_right q t.started (queue ++ kept) (in_left q queue kept j)) in

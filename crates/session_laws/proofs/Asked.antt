@@ -32,7 +32,7 @@ use Rattle.session_laws.proofs.Entered.{all_stand-append, book_more, sound_more}
 use Rattle.session_laws.proofs.Names.{there_within, names_asked}
 use Rattle.session_laws.proofs.Owes.{started_within}
 use Rattle.session_laws.proofs.Settle.{seen}
-use Rattle.session_laws.proofs.Announce.{aims_longer, aims_on, turn_of, turned, may_turn}
+use Rattle.session_laws.proofs.Announce.{aims_longer, aims_on, turn_of, turned, may_turn, uses_on}
 use Rattle.session_laws.proofs.Heard.{told_life, silent_no_end, silent_applied, still_none}
 use Rattle.session_laws.proofs.Said.{setup_on}
 use Rattle.session_laws.proofs.Further.{one_longer, there_longer, before_or_new, further_story, tries_longer, queue_longer, packs_longer, entries_longer, link_longer, told_longer, IsNext, waits_longer, permits_longer, late_longer}
@@ -58,7 +58,7 @@ refused_applied before c started word what e h good why =
       ended = subst NoneEnds (sym (book_more front a ∙ ap (λ (x : Book). entered x a) book_is)) (λ m. silent_no_end (b.link m) c.turns (still_none before c started h m));
       began = λ z. absurd (omega arith);
       moved = h.moved;
-      fit = record { setup = h.fit.setup; link = h.fit.link; none = h.fit.none };
+      fit = record { wanting = h.fit.wanting; setup = h.fit.setup; link = h.fit.link; none = h.fit.none };
     }
 
 -- it is the next request
@@ -231,6 +231,8 @@ asked_tied b c started word what h no_fresh up speaks some =
         turns = ap (λ m. m + 1) h.numbers.turns;
         links = h.numbers.links;
         timers = h.numbers.timers ∙ sym (append-nil c.timers);
+        sources = h.numbers.sources ∙ sym (append-nil c.sources);
+        uses = uses_on c.sources c.single.link h.numbers.uses;
         aims = aims_on c.timers c.single.link (length (c.table ++ next ∷ [])) (aims_longer c.timers c.single.link (length c.table) (length (c.table ++ next ∷ [])) (omega (arith, length-append c.table (next ∷ []))) h.numbers.aims);
         timed = λ config other opens bounded none. no_opening _ config other opens;
         submissions = (let k = h.numbers.submissions in omega (arith, length-append c.table (next ∷ [])));
@@ -243,6 +245,7 @@ asked_tied b c started word what h no_fresh up speaks some =
       others = λ m other. let u = h.others m other in record { asked = u.asked; up = u.up; end = u.end; starts = u.starts; pushes = u.pushes };
       pushes = h.pushes;
       life = told_life ledger b.created conn.life silence h.life;
+      creds = h.creds;
       setup = setup_on ledger ledger.asked ledger.up ledger.end ledger.taken ledger.offer ledger.rest silence conn.info started conn.life h.setup;
       link = λ alive. told_tied (carried conn.life (more_requests c)) ledger (whole_link conn.life) ledger.asked ledger.up silence (link_longer ledger conn.requests (more_requests c) conn.life longer h.lines.entries (h.link alive));
       names = names_asked c.table conn.requests progress.Waiting h.names;
@@ -274,7 +277,7 @@ pub asked_applied : (before : List Action) (c : Core) (started : List ℕ) (word
     → HasApplied (before ++ turn_of c word (event.Submit what) ∷ []) (asked_for (heard (counted c) (event.Submit what)) what) started
 asked_applied before c started word what h good up speaks some =
     let b = book before in
-    silent_applied before c started word (event.Submit what) (core_asked c what) (asked c.single.connection (length c.table) (packed_bytes what) (shape_of what) (is_reply_awaited what) c.timeout) h good (λ m. silent_no_end (b.link m) c.turns (still_none before c started h m)) (λ z. absurd (omega arith)) h.moved (record { setup = h.fit.setup; link = h.fit.link; none = h.fit.none })
+    silent_applied before c started word (event.Submit what) (core_asked c what) (asked c.single.connection (length c.table) (packed_bytes what) (shape_of what) (is_reply_awaited what) c.timeout) h good (λ m. silent_no_end (b.link m) c.turns (still_none before c started h m)) (λ z. absurd (omega arith)) h.moved (record { wanting = h.fit.wanting; setup = h.fit.setup; link = h.fit.link; none = h.fit.none })
     (asked_tied b c started word what h.sound.tied h.fresh up speaks some)
 
 -- one or the other

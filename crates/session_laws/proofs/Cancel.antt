@@ -20,7 +20,7 @@ use Rattle.link_laws.specs.Settles.{wanted, awaited_ids}
 use Rattle.link_laws.proofs.TiedLink.{TiedLink, told_tied, cancelled_tied}
 use Rattle.mux_conn.specs.declared.connection.MultiplexedConnection.{MultiplexedConnection}
 use Rattle.mux_conn.specs.declared.life.Life.{Life}
-use Rattle.mux_conn.specs.declared.life.Life.TheVariants.{Dialing, SettingUp, Ready, Ended}
+use Rattle.mux_conn.specs.declared.life.Life.TheVariants.{Dialing, Wanting, SettingUp, Ready, Ended}
 use Rattle.mux_conn.specs.declared.request.Pending.{Pending}
 use Rattle.mux_conn.specs.declared.request.Progress.TheVariants as progress
 use Rattle.mux_conn.specs.declared.request.Request.{Request}
@@ -29,21 +29,21 @@ use Rattle.mux_conn.specs.Requests.{is_open as is_open_progress, is_placed, is_o
 use Rattle.mux_conn.specs.Effects.{cancelled_in}
 use Rattle.shared_session.specs.declared.core_state.Core.{Core}
 use Rattle.shared_session.specs.Turn.{with_work, heard, is_shutdown, left_by, effect, counted, is_bad}
-use Rattle.legal_trace.specs.Ledger.{Ledger, ending, hears, noted}
+use Rattle.legal_trace.specs.Ledger.{Ledger, Sourced, ending, hears, noted}
 use Rattle.legal_trace.specs.Story.{Story, is_open, is_told, left}
 use Rattle.legal_trace.specs.Book.{Book, after_event, book, entered, if_own, shuts, submitted_by, timeout_after}
 use Rattle.session_laws.proofs.Numbers.{IsIn, in_left, in_right, in_either, Rising, rising_from, rising_in, rising_right, rising_tail}
-use Rattle.session_laws.proofs.Tied.{carried, inner, no_link, link_in, owner_of, queue_ids, whole_link, IsQueued, IsEntry, AreQueued, TiedLife, TiedStory, TiedNames, TiedNumbers, TiedPermits, TiedLines, TiedSetup, IsUnknown, Tied, no_opening, has_ended}
+use Rattle.session_laws.proofs.Tied.{carried, inner, no_link, link_in, owner_of, queue_ids, whole_link, IsQueued, IsEntry, AreQueued, TiedCreds, TiedLife, TiedStory, TiedNames, TiedNumbers, TiedPermits, TiedLines, TiedSetup, IsUnknown, Tied, no_opening, has_ended}
 use Rattle.session_laws.proofs.States.{IsFit, IsFitIn, Between, HasApplied}
 use Rattle.session_laws.proofs.Names.{name_within, open_within, name_of_some, owners_with, length_with, names_with, with_other, with_then}
 use Rattle.session_laws.proofs.InLine.{row_ids, kept_ids, chosen_in, awaited_in, wanted_in}
 use Rattle.session_laws.proofs.Behind.{open_untold}
 use Rattle.session_laws.proofs.Owes.{answered_closed, request_story, row_in_line}
 use Rattle.legal_trace.specs.Legal.{NoneEnds}
-use Rattle.session_laws.proofs.Closing.{Closes, WasReady, WasSettingUp, closed_other, late_closed, with_closed, story_closed, tries_closed, packs_closed, queued_other, queue_closed, AreOthers, waits_closed, kept_other, IsUntried, told_closed}
+use Rattle.session_laws.proofs.Closing.{Closes, WasReady, WasSettingUp, WasWanting, closed_other, late_closed, with_closed, story_closed, tries_closed, packs_closed, queued_other, queue_closed, AreOthers, waits_closed, kept_other, IsUntried, told_closed}
 use Rattle.session_laws.proofs.Answer.{entries_answered}
 use Rattle.session_laws.proofs.Settle.{seen}
-use Rattle.session_laws.proofs.Announce.{aims_on, turn_of, turned}
+use Rattle.session_laws.proofs.Announce.{aims_on, turn_of, turned, uses_on}
 use Rattle.session_laws.proofs.Kept.{tied_by}
 use Rattle.session_laws.proofs.Permits.{permits_closed}
 use Rattle.session_laws.proofs.Heard.{silent_applied, still_none, told_life, silent_no_end}
@@ -220,13 +220,23 @@ left_lines table story requests link waiting admitted p started closed names l a
 -- the link is as far as it was
 pub left_life : (l : Ledger) (created : ℕ) (life : Life) (p : ℕ) → TiedLife l created life → TiedLife (record l { heard = silence }) created (cancelled_in life p)
 left_life l created Dialing p h = h
+left_life l created (Wanting link) p h = h
 left_life l created (SettingUp link with_user) p h = h
 left_life l created (Ready link) p h = h
 left_life l created (Ended e) p h = h
 
+-- its credentials have come as far
+pub left_creds : (c : Sourced) (wants : Bool) (life : Life) (p : ℕ) → TiedCreds c wants life → TiedCreds c wants (cancelled_in life p)
+left_creds c wants Dialing p h = h
+left_creds c wants (Wanting link) p h = h
+left_creds c wants (SettingUp link with_user) p h = h
+left_creds c wants (Ready link) p h = record { wanted_is = h.wanted_is; sought = h.sought }
+left_creds c wants (Ended e) p h = h
+
 -- and its setup is
 pub left_setup : (l : Ledger) (info : RedisConnectionInfo) (started : List ℕ) (life : Life) (p : ℕ) → TiedSetup l info started life → TiedSetup (record l { heard = silence }) info started (cancelled_in life p)
 left_setup l info started Dialing p h = setup_on l l.asked l.up l.end l.taken l.offer l.rest silence info started Dialing h
+left_setup l info started (Wanting link) p h = setup_on l l.asked l.up l.end l.taken l.offer l.rest silence info started (Wanting link) h
 left_setup l info started (SettingUp link with_user) p h = setup_on l l.asked l.up l.end l.taken l.offer l.rest silence info started (SettingUp link with_user) h
 left_setup l info started (Ready link) p h = let k = setup_on l l.asked l.up l.end l.taken l.offer l.rest silence info started (Ready link) h in record { info_is = k.info_is; sent = k.sent; said = k.said }
 left_setup l info started (Ended e) p h = setup_on l l.asked l.up l.end l.taken l.offer l.rest silence info started (Ended e) h
@@ -235,6 +245,7 @@ left_setup l info started (Ended e) p h = setup_on l l.asked l.up l.end l.taken 
 pub left_link : (requests : List Request) (l : Ledger) (life : Life) (p : ℕ) → (has_ended life ≡ false → TiedLink (carried life requests) l (whole_link life)) → has_ended (cancelled_in life p) ≡ false
     → TiedLink (carried (cancelled_in life p) requests) (record l { heard = silence }) (whole_link (cancelled_in life p))
 left_link requests l Dialing p h n = told_tied (owner_of requests) l (whole_link Dialing) l.asked l.up silence (h refl)
+left_link requests l (Wanting link) p h n = told_tied (λ (q : ℕ). owner.Setup) l link l.asked l.up silence (h refl)
 left_link requests l (SettingUp link with_user) p h n = told_tied (λ (q : ℕ). owner.Setup) l link l.asked l.up silence (h refl)
 left_link requests l (Ready link) p h n = told_tied (owner_of requests) l (cancelled link p) l.asked l.up silence (cancelled_tied (owner_of requests) l link p (h refl))
 left_link requests l (Ended e) p h n = cc
@@ -242,6 +253,7 @@ left_link requests l (Ended e) p h n = cc
 -- what dials has dialled before
 pub still_dials : (life : Life) (p : ℕ) → cancelled_in life p ≡ Dialing → life ≡ Dialing
 still_dials Dialing p e = refl
+still_dials (Wanting link) p e = cc
 still_dials (SettingUp link with_user) p e = cc
 still_dials (Ready link) p e = cc
 still_dials (Ended x) p e = cc
@@ -249,13 +261,23 @@ still_dials (Ended x) p e = cc
 -- a link that is up was so
 pub was_ready : (life : Life) (p : ℕ) → WasReady life (cancelled_in life p)
 was_ready Dialing p x e = cc
+was_ready (Wanting link) p x e = cc
 was_ready (SettingUp link with_user) p x e = cc
 was_ready (Ready link) p x e = (link, refl)
 was_ready (Ended y) p x e = cc
 
+-- so was one that waits for credentials
+pub was_wanting : (life : Life) (p : ℕ) → WasWanting life (cancelled_in life p)
+was_wanting Dialing p x e = cc
+was_wanting (Wanting link) p x e = (x, e)
+was_wanting (SettingUp link with_user) p x e = cc
+was_wanting (Ready link) p x e = cc
+was_wanting (Ended y) p x e = cc
+
 -- and so was one that is set up
 pub was_setting : (life : Life) (p : ℕ) → WasSettingUp life (cancelled_in life p)
 was_setting Dialing p x u e = cc
+was_setting (Wanting link) p x u e = cc
 was_setting (SettingUp link with_user) p x u e = (x, e)
 was_setting (Ready link) p x u e = cc
 was_setting (Ended y) p x u e = cc
@@ -277,6 +299,7 @@ left_lines_in table story requests life waiting admitted p started closed names 
         → TiedLines (with_closed story requests p closed) (with_permits requests p progress.Closed 0) (link_in (cancelled_in x p)) waiting admitted [] started
     by_life (Ready link) r h = left_lines table story requests link waiting admitted p started closed names l asked c (r refl) h
     by_life Dialing r h = bare h
+    by_life (Wanting link) r h = bare h
     by_life (SettingUp link with_user) r h = bare h
     by_life (Ended e) r h = bare h
 
@@ -294,6 +317,7 @@ left_told story requests life p asked h = by_life life h
     by_life : (x : Life) → (has_ended x ≡ false → AreQueued story requests (link_in x)) → has_ended (cancelled_in x p) ≡ false → AreQueued (with_closed story requests p (λ n. left (story n))) (with_permits requests p progress.Closed 0) (link_in (cancelled_in x p))
     by_life (Ready link) g n = told_closed story requests p (λ m. left (story m)) link (cancelled link p) own (λ q is i. without_others link.queue p q (other q is) i) (g refl)
     by_life Dialing g n = told_closed story requests p (λ m. left (story m)) no_link no_link own (λ q is i. i) (g refl)
+    by_life (Wanting link) g n = told_closed story requests p (λ m. left (story m)) no_link no_link own (λ q is i. i) (g refl)
     by_life (SettingUp link with_user) g n = told_closed story requests p (λ m. left (story m)) no_link no_link own (λ q is i. i) (g refl)
     by_life (Ended e) g n = cc
 
@@ -304,19 +328,28 @@ left_others requests (Ready link) ys p lo r q i =
     let k = rising_in lo (queue_ids link.queue ++ ys) (length requests) q r (in_left q (queue_ids link.queue) ys (awaited_in q link.queue was)) in
     ((λ same. without_apart link.queue ys p lo (length requests) r (subst (λ n. IsIn n (awaited_ids (without link.queue p))) (sym same) i)), k.1, was)
 left_others requests Dialing ys p lo r q i = absurd i
+left_others requests (Wanting link) ys p lo r q i = absurd i
 left_others requests (SettingUp link with_user) ys p lo r q i = absurd i
 left_others requests (Ended e) ys p lo r q i = absurd i
 
 -- the link is fit
 pub left_fit : (c : MultiplexedConnection) (free : ℕ) (requests : List Request) (life : Life) (p : ℕ) → c.life ≡ life → IsFitIn c → IsFitIn (record c { free = free; requests = requests; life = cancelled_in life p })
-left_fit c free requests Dialing p is h = record { setup = λ x u e. cc; link = λ x e. cc; none = λ n. h.none (λ x e. (let no : Dialing ≡ Ready x = sym is ∙ e in cc)) }
+left_fit c free requests Dialing p is h = record { wanting = λ x e. cc; setup = λ x u e. cc; link = λ x e. cc; none = λ n. h.none (λ x e. (let no : Dialing ≡ Ready x = sym is ∙ e in cc)) }
+left_fit c free requests (Wanting link) p is h = record {
+  wanting = λ x e. let same : link ≡ x = cc in subst (IsFit c.size c.boundary) same (h.wanting link is);
+  setup = λ x u e. cc;
+  link = λ x e. cc;
+  none = λ n. h.none (λ x e. (let no : Wanting link ≡ Ready x = sym is ∙ e in cc));
+}
 left_fit c free requests (SettingUp link with_user) p is h = record {
+  wanting = λ x e. cc;
   setup = λ x u e. let same : link ≡ x = cc in subst (IsFit c.size c.boundary) same (h.setup link with_user is);
   link = λ x e. cc;
   none = λ n. h.none (λ x e. (let no : SettingUp link with_user ≡ Ready x = sym is ∙ e in cc));
 }
-left_fit c free requests (Ended y) p is h = record { setup = λ x u e. cc; link = λ x e. cc; none = λ n. h.none (λ x e. (let no : Ended y ≡ Ready x = sym is ∙ e in cc)) }
+left_fit c free requests (Ended y) p is h = record { wanting = λ x e. cc; setup = λ x u e. cc; link = λ x e. cc; none = λ n. h.none (λ x e. (let no : Ended y ≡ Ready x = sym is ∙ e in cc)) }
 left_fit c free requests (Ready link) p is h = record {
+  wanting = λ x e. cc;
   setup = λ x u e. cc;
   link = λ x e.
       let same : cancelled link p ≡ x = cc in
@@ -336,7 +369,7 @@ none_more n = omega arith
 
 -- an event that nobody hears, which hands nothing in
 pub record IsSilent (b : Book) (c : Core) (kind : EventKind) (timeout : Option ℕ) : Type 0 where
-  pub silent : (m : ℕ) → news_of b.timers m kind ≡ silence
+  pub silent : (m : ℕ) → news_of b.timers b.sources m kind ≡ silence
   pub none : submitted_by kind ≡ 0
   pub time : timeout_after b.timeout kind ≡ timeout
   pub shut : (b.shut || shuts kind) ≡ (c.shut || is_shutdown kind)
@@ -352,6 +385,8 @@ silent_numbers b c started word kind timeout story free life requests pending q 
   turns = ap (λ m. m + 1) h.numbers.turns;
   links = h.numbers.links;
   timers = h.numbers.timers ∙ sym (append-nil c.timers);
+  sources = h.numbers.sources ∙ sym (append-nil c.sources);
+  uses = uses_on c.sources c.single.link h.numbers.uses;
   aims = aims_on c.timers c.single.link (length c.table) h.numbers.aims;
   timed = λ config other opens bounded none. no_opening _ config other opens;
   submissions = (let e = h.numbers.submissions in let none = q.none in omega arith);
@@ -363,11 +398,11 @@ silent_numbers b c started word kind timeout story free life requests pending q 
 }
 
 -- all other links stay unknown
-pub silent_others : (b : Book) (c : Core) (kind : EventKind) (timeout : Option ℕ) (m : ℕ) → IsSilent b c kind timeout → IsUnknown (b.link m) → IsUnknown (noted (b.link m) (hears c.turns (news_of b.timers m kind)))
+pub silent_others : (b : Book) (c : Core) (kind : EventKind) (timeout : Option ℕ) (m : ℕ) → IsSilent b c kind timeout → IsUnknown (b.link m) → IsUnknown (noted (b.link m) (hears c.turns (news_of b.timers b.sources m kind)))
 silent_others b c kind timeout m q u = subst (λ (x : News). IsUnknown (noted (b.link m) (hears c.turns x))) (sym (q.silent m)) (record { asked = u.asked; up = u.up; end = u.end; starts = u.starts; pushes = u.pushes })
 
 -- no link must end
-pub silent_ends : (b : Book) (c : Core) (kind : EventKind) (timeout : Option ℕ) → IsSilent b c kind timeout → NoneEnds b → (m : ℕ) → ending (noted (b.link m) (hears c.turns (news_of b.timers m kind))) ≡ None
+pub silent_ends : (b : Book) (c : Core) (kind : EventKind) (timeout : Option ℕ) → IsSilent b c kind timeout → NoneEnds b → (m : ℕ) → ending (noted (b.link m) (hears c.turns (news_of b.timers b.sources m kind))) ≡ None
 silent_ends b c kind timeout q none m = ap (λ (x : News). ending (noted (b.link m) (hears c.turns x))) (q.silent m) ∙ silent_no_end (b.link m) c.turns (none m)
 
 -- where nothing else changes, the session is tied as it was
@@ -386,6 +421,7 @@ still_tied b c started word kind timeout q same h =
       others = λ m other. silent_others b c kind timeout m q (h.others m other);
       pushes = h.pushes;
       life = told_life ledger b.created conn.life silence h.life;
+      creds = h.creds;
       setup = setup_on ledger ledger.asked ledger.up ledger.end ledger.taken ledger.offer ledger.rest silence conn.info started conn.life h.setup;
       link = λ alive. told_tied (carried conn.life conn.requests) ledger (whole_link conn.life) ledger.asked ledger.up silence (h.link alive);
       names = h.names;
@@ -426,6 +462,7 @@ gone_tied b c started word p n h o named =
       others = λ m other. let u = h.others m other in record { asked = u.asked; up = u.up; end = u.end; starts = u.starts; pushes = u.pushes };
       pushes = h.pushes;
       life = left_life ledger b.created conn.life p h.life;
+      creds = left_creds ledger.creds conn.wants conn.life p h.creds;
       setup = left_setup ledger conn.info started conn.life p h.setup;
       link = λ alive. left_link requests ledger conn.life p (λ up. carried_tied conn.life conn.requests requests ledger (sym (owners_with conn.requests p progress.Closed 0)) (h.link up)) alive;
       names = names_with c.table conn.requests p progress.Closed 0 h.names;
@@ -433,7 +470,7 @@ gone_tied b c started word p n h o named =
       tries = tries_closed (record ledger { heard = silence }) b.story conn.requests c.single.link p closed started k (record { owners = h.tries.owners; shapes = h.tries.shapes; tried = h.tries.tried; untried = h.tries.untried });
       lines = left_lines_in c.table b.story conn.requests conn.life conn.waiting conn.admitted p started closed h.names l asked k (λ up. row_in_line b (inner c started) h up) h.lines;
       told = left_told b.story conn.requests conn.life p asked h.told;
-      waits = waits_closed c.table b.story conn.requests p closed conn.life (cancelled_in conn.life p) conn.fresh conn.moved h.names l (still_dials conn.life p) (was_setting conn.life p) (was_ready conn.life p) (left_others conn.requests conn.life (kept_ids conn.admitted conn.waiting) p 0 line) h.waits;
+      waits = waits_closed c.table b.story conn.requests p closed conn.life (cancelled_in conn.life p) conn.fresh conn.moved h.names l (still_dials conn.life p) (was_wanting conn.life p) (was_setting conn.life p) (was_ready conn.life p) (left_others conn.requests conn.life (kept_ids conn.admitted conn.waiting) p 0 line) h.waits;
       permits = subst (λ m. TiedPermits after m requests c.single.link conn.limit free []) (none_more b.submissions)
           (permits_closed b.story after c.table b.submissions conn.requests c.single.link conn.limit conn.free [] p h.names l known r.on r.permits_is (λ m other. closed_other b.story conn.requests p closed m other)
           (ap (λ (s : Story). s.permits) is ∙ leave_frees (b.story own) asked) (ap (λ (s : Story). s.link) is ∙ leave_link (b.story own) ∙ r.on) h.permits);

@@ -17,7 +17,7 @@ use Rattle.link_laws.proofs.Dealt.{all_append}
 use Rattle.link_laws.proofs.Once.{settled_ids-append}
 use Rattle.mux_conn.specs.declared.act.LinkAct.TheVariants as act
 use Rattle.mux_conn.specs.declared.life.Life.{Life}
-use Rattle.mux_conn.specs.declared.life.Life.TheVariants.{SettingUp, Ready, Ended}
+use Rattle.mux_conn.specs.declared.life.Life.TheVariants.{Wanting, SettingUp, Ready, Ended}
 use Rattle.mux_conn.specs.declared.request.Request.{Request}
 use Rattle.mux_conn.specs.declared.request.Waiting.{Waiting}
 use Rattle.mux_conn.specs.Connection.{Work, acted, at_life}
@@ -32,6 +32,7 @@ use Rattle.legal_trace.specs.Owed.{owed, owed_unstarted, unstarted_error}
 use Rattle.legal_trace.specs.Legal.{MayClose, MayPart}
 use Rattle.session_laws.proofs.Numbers.{IsIn, in_left, in_right, Rising, rising_in, rising_within, rising_right, rising_tail}
 use Rattle.session_laws.proofs.Tied.{Inner, no_link, link_in, owner_of, queue_ids, waiting_ids, IsKept, TiedLines, TiedWaits, Tied, relined, FailureIsShown, TiedLife, has_ended}
+use Rattle.session_laws.proofs.Creds.{sources_asked}
 use Rattle.session_laws.proofs.Said.{ready_shown}
 use Rattle.session_laws.proofs.States.{HasApplied}
 use Rattle.session_laws.proofs.InLine.{kept_ids, kept_in, line_of, IsInLine, awaited_rises}
@@ -55,6 +56,7 @@ may_close b t why h none told n must = record {
   in_order = λ m less. unknown_ends (b.link m) (h.others m (λ e. omega arith));
   answered = λ m asked alive. none_owed b t h none n m asked;
   created = ready_shown b t h;
+  sourced = sources_asked b t h;
   pushed = pushes_told b t h told;
 }
 
@@ -80,6 +82,7 @@ pub ended_waits : (story : ℕ → Story) (requests : List Request) (life : Life
 ended_waits story requests life e fresh moved h = record {
   early = h.early;
   connect = λ p w d. cc;
+  creds = λ p link w s. cc;
   setup = λ p link with_user w s. cc;
   permit = λ p link w r. cc;
   place = h.place;
@@ -87,6 +90,7 @@ ended_waits story requests life e fresh moved h = record {
   newer = h.newer;
   rising = h.rising;
   no_connect = λ p i w d. cc;
+  no_creds = λ p link i w s. cc;
   no_setup = λ p link with_user i w s. cc;
   no_permit = λ p link i w r. cc;
   no_place = h.no_place;
@@ -109,7 +113,7 @@ close_tied b t created why e parting pending ids must is shown mild up h =
     let turn = b.turns - 1 in
     let after = record (entered b (action.Close t.link)) { created = created } in
     tied_by after (record t { life = Ended e; pending = pending; untold = []; parting = parting }) (noted (b.link t.link) (ends turn)) (mine_noted (b.link t.link) t.link (ends turn)) (record {
-      numbers = record { turns = h.numbers.turns; links = h.numbers.links; timers = h.numbers.timers; aims = h.numbers.aims; timed = h.numbers.timed; submissions = h.numbers.submissions; timeout = h.numbers.timeout; shut = h.numbers.shut; settings = record { size_is = h.numbers.settings.size_is; bound_is = h.numbers.settings.bound_is; limit_is = h.numbers.settings.limit_is; some = h.numbers.settings.some; limited = h.numbers.settings.limited }; one = h.numbers.one; only = h.numbers.only };
+      numbers = record { turns = h.numbers.turns; links = h.numbers.links; timers = h.numbers.timers; sources = h.numbers.sources; uses = h.numbers.uses; aims = h.numbers.aims; timed = h.numbers.timed; submissions = h.numbers.submissions; timeout = h.numbers.timeout; shut = h.numbers.shut; settings = record { size_is = h.numbers.settings.size_is; bound_is = h.numbers.settings.bound_is; limit_is = h.numbers.settings.limit_is; some = h.numbers.settings.some; limited = h.numbers.settings.limited }; one = h.numbers.one; only = h.numbers.only };
       others = others_kept b t.link (ends turn) h.others;
       pushes = record {
         heard_is = h.pushes.heard_is;
@@ -120,6 +124,7 @@ close_tied b t created why e parting pending ids must is shown mild up h =
         due = λ parted. h.pushes.alive (lives (b.link t.link) b.created t.life h.life up);
       };
       life = (refl, ends_owed (b.link t.link) turn why e must is, ends_failed (b.link t.link) turn created why must shown);
+      creds = record { wanted_is = h.creds.wanted_is; sought = tt };
       setup = record { info_is = h.setup.info_is; sent = h.setup.sent; said = tt };
       link = λ n. cc;
       names = h.names;
@@ -394,6 +399,7 @@ parts_may b t e h over hears due cut =
       in_order = λ m less other. absurd (not_both (is_cut (b.link m).end) (ap is_cut (h.others m (λ same. absurd (omega arith))).end) other);
       closed = a.0;
       answered = a.1;
+      sourced = sources_asked b t h;
     }
 
 -- so all are answered then
@@ -469,6 +475,7 @@ ended_applied before f w e started began none_moved h = record {
   began = began;
   moved = none_moved;
   fit = record {
+    wanting = λ link is. (let no : Ended e ≡ Wanting link = sym h.over ∙ is in cc);
     setup = λ link with_user is. (let no : Ended e ≡ SettingUp link with_user = sym h.over ∙ is in cc);
     link = λ link is. (let no : Ended e ≡ Ready link = sym h.over ∙ is in cc);
     none = λ n. h.none_admitted;

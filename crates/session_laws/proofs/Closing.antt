@@ -10,7 +10,7 @@ use Rattle.link_core.specs.declared.message.Queued.{Queued}
 use Rattle.link_core.specs.Link.{LinkState}
 use Rattle.link_laws.specs.Settles.{awaited_ids}
 use Rattle.mux_conn.specs.declared.life.Life.{Life}
-use Rattle.mux_conn.specs.declared.life.Life.TheVariants.{Dialing, SettingUp, Ready}
+use Rattle.mux_conn.specs.declared.life.Life.TheVariants.{Dialing, Wanting, SettingUp, Ready}
 use Rattle.mux_conn.specs.declared.request.Pending.{Pending}
 use Rattle.mux_conn.specs.declared.request.Progress.TheVariants as progress
 use Rattle.mux_conn.specs.declared.request.Request.{Request}
@@ -190,7 +190,7 @@ AreOthers requests p life after = (q : ℕ) → IsIn q (awaited_ids (link_in aft
 
 -- what is shown of a request that waits for the connection, or for a permit: nothing, or one of these
 abbrev pub IsOneOf : Option WaitKind → Type 0
-IsOneOf x = (x ≡ None) ⊎ ((x ≡ Some wait.Connect) ⊎ ((x ≡ Some wait.Setup) ⊎ (x ≡ Some wait.Permit)))
+IsOneOf x = (x ≡ None) ⊎ ((x ≡ Some wait.Connect) ⊎ ((x ≡ Some wait.Creds) ⊎ ((x ≡ Some wait.Setup) ⊎ (x ≡ Some wait.Permit))))
 
 -- with another left side
 pub one_of : (x y : Option WaitKind) → x ≡ y → IsOneOf y → IsOneOf x
@@ -200,15 +200,19 @@ one_of x y same h = subst IsOneOf (sym same) h
 abbrev pub WasReady : Life → Life → Type 0
 WasReady life after = (link : LinkState) → after ≡ Ready link → (x : LinkState) × (life ≡ Ready x)
 
+-- a link that waits for credentials did so before
+abbrev pub WasWanting : Life → Life → Type 0
+WasWanting life after = (link : LinkState) → after ≡ Wanting link → (x : LinkState) × (life ≡ Wanting x)
+
 -- a link that is set up was so before
 abbrev pub WasSettingUp : Life → Life → Type 0
 WasSettingUp life after = (link : LinkState) (with_user : Bool) → after ≡ SettingUp link with_user → (x : LinkState) × (life ≡ SettingUp x with_user)
 
 -- the waits of the others stay
 pub waits_closed : (table : List (Option Pending)) (story : ℕ → Story) (requests : List Request) (p : ℕ) (closed : ℕ → Story) (life after : Life) (fresh moved : List ℕ) → TiedNames table requests → p < length requests
-    → (after ≡ Dialing → life ≡ Dialing) → WasSettingUp life after → WasReady life after → AreOthers requests p life after → TiedWaits story requests life fresh moved
+    → (after ≡ Dialing → life ≡ Dialing) → WasWanting life after → WasSettingUp life after → WasReady life after → AreOthers requests p life after → TiedWaits story requests life fresh moved
     → TiedWaits (with_closed story requests p closed) (with_permits requests p progress.Closed 0) after fresh moved
-waits_closed table story requests p closed life after fresh moved names l dials sets ready others h =
+waits_closed table story requests p closed life after fresh moved names l dials wants sets ready others h =
     let waits : (q : ℕ) → is_waiting_at (with_permits requests p progress.Closed 0) q ≡ true → (p ≢ q) × (is_waiting_at requests q ≡ true) = λ q w. with_then is_waiting requests p q progress.Closed 0 refl l w in
     let admits : (q : ℕ) → is_admitted_at (with_permits requests p progress.Closed 0) q ≡ true → (p ≢ q) × (is_admitted_at requests q ≡ true) = λ q a. with_then is_admitted requests p q progress.Closed 0 refl l a in
     let same : (q : ℕ) → p ≢ q → q < length requests → shown_wait (with_closed story requests p closed) (with_permits requests p progress.Closed 0) q ≡ shown_wait story requests q = λ q other m. shown_closed table story requests p q closed names l m other in
@@ -219,6 +223,10 @@ waits_closed table story requests p closed life after fresh moved names l dials 
       connect = λ q w d.
           let k = waits q w in
           elim (h.connect q k.1 (dials d)) [ inl i ↦ inl i | inr e ↦ inr (same q k.0 (there_within is_waiting requests q k.1) ∙ e) ];
+      creds = λ q link w c.
+          let k = waits q w in
+          let x = wants link c in
+          elim (h.creds q x.0 k.1 x.1) [ inl i ↦ inl i | inr e ↦ inr (same q k.0 (there_within is_waiting requests q k.1) ∙ e) ];
       setup = λ q link with_user w s.
           let k = waits q w in
           let x = sets link with_user s in
@@ -236,6 +244,7 @@ waits_closed table story requests p closed life after fresh moved names l dials 
       newer = subst (Rising 0 fresh) (sym (length_with requests p progress.Closed 0)) h.newer;
       rising = subst (Rising 0 moved) (sym (length_with requests p progress.Closed 0)) h.rising;
       no_connect = λ q i w d e. let k = waits q w in h.no_connect q i k.1 (dials d) (sym (same q k.0 (there_within is_waiting requests q k.1)) ∙ e);
+      no_creds = λ q link i w c e. let k = waits q w in let x = wants link c in h.no_creds q x.0 i k.1 x.1 (sym (same q k.0 (there_within is_waiting requests q k.1)) ∙ e);
       no_setup = λ q link with_user i w s e. let k = waits q w in let x = sets link with_user s in h.no_setup q x.0 with_user i k.1 x.1 (sym (same q k.0 (there_within is_waiting requests q k.1)) ∙ e);
       no_permit = λ q link i w r e. let k = waits q w in let x = ready link r in h.no_permit q x.0 i k.1 x.1 (sym (same q k.0 (there_within is_waiting requests q k.1)) ∙ e);
       no_place = λ q i a e. let k = admits q a in h.no_place q i k.1 (sym (same q k.0 (there_within is_admitted requests q k.1)) ∙ e);

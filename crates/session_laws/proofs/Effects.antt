@@ -1,19 +1,21 @@
 -- The event's own effect: each kind of event leaves the session tied to its book, and nothing due but what moves.
 use Rattle.std.proofs.Common.{ap, length, slice_get, Option, Some, ◌<◌, ◌≡◌, ℕ, ◌==◌, ◌&&◌, false, List, [], ◌∷◌, ◌++◌, refl, sym, ◌∙◌, subst}
 use Rattle.containers.proofs.Choices.{or_left, or_right, eq_test, not_le_from, not_lt_from}
+use Rattle.redis_error.specs.declared.redis_error.RedisError.TheVariants as error
 use Rattle.driver_model.specs.declared.action.Action.{Action}
 use Rattle.driver_model.specs.declared.event.EventKind.{EventKind}
 use Rattle.driver_model.specs.declared.event.EventKind.TheVariants as event
 use Rattle.driver_model.specs.declared.news.LinkFault.TheVariants as fault
-use Rattle.driver_model.specs.News.{News, connected, took, came, failed, news_of, of_timer, refused, overdue, silence}
+use Rattle.driver_model.specs.News.{News, connected, took, came, failed, authorized, denied, deserted, news_of, of_timer, refused, overdue, silence}
 use Rattle.mux_conn.specs.declared.life.Life.{Life}
-use Rattle.mux_conn.specs.declared.life.Life.TheVariants.{Dialing, Ready, Ended, SettingUp}
+use Rattle.mux_conn.specs.declared.life.Life.TheVariants.{Dialing, Ready, Ended, SettingUp, Wanting}
 use Rattle.mux_conn.specs.Effects.{CanTake, applied}
 use Rattle.shared_session.specs.declared.core_state.Core.{Core}
 use Rattle.shared_session.specs.Turn.{with_work, heard, fired_by, late_by, effect, counted, is_no_link, exceeds_offer, is_bad}
 use Rattle.session_laws.proofs.States.{Between, HasApplied}
-use Rattle.session_laws.proofs.Announce.{turn_of, turned, own_news, own_timer}
+use Rattle.session_laws.proofs.Announce.{turn_of, turned, own_news, own_source, own_timer}
 use Rattle.session_laws.proofs.Connect.{connected_applied, refused_applied, overdue_applied}
+use Rattle.session_laws.proofs.Given.{authorized_applied, denied_applied, end_denies, text_denies}
 use Rattle.session_laws.proofs.Took.{took_applied}
 use Rattle.session_laws.proofs.Read.{read_applied}
 use Rattle.session_laws.proofs.End.{failed_applied, shut_applied}
@@ -35,6 +37,7 @@ by_news before c started word kind heard n e h = subst (λ (x : News). HasApplie
 -- no more is taken than is offered
 can_take : (life : Life) (count : ℕ) → exceeds_offer life count ≡ false → CanTake life count
 can_take Dialing count f = tt
+can_take (Wanting link) count f = not_lt_from link.outbox.offered count f
 can_take (SettingUp link with_user) count f = not_lt_from link.outbox.offered count f
 can_take (Ready link) count f = not_lt_from link.outbox.offered count f
 can_take (Ended e) count f = tt
@@ -48,12 +51,12 @@ fired : (before : List Action) (c : Core) (started : List ℕ) (word n : ℕ) (w
     → HasApplied (before ++ turn_of c word (event.Fired n) ∷ []) (fired_by (heard (counted c) (event.Fired n)) (Some what)) started
 fired before c started word n (purpose.Connect l) h good is =
     let own = own_timer c n l h.sound.tied.numbers.aims is in
-    by_news before c started word (event.Fired n) (news_of c.timers c.single.link (event.Fired n)) overdue own (overdue_applied before c started word (event.Fired n) h good (λ m. ap (is_clock_of m) is) own)
+    by_news before c started word (event.Fired n) (news_of c.timers c.sources c.single.link (event.Fired n)) overdue own (overdue_applied before c started word (event.Fired n) h good (λ m. ap (is_clock_of m) is) own)
 fired before c started word n (purpose.Response owner.Setup) h good is = absurd (h.sound.tied.numbers.aims n (purpose.Response owner.Setup) is)
 fired before c started word n (purpose.Response (owner.Try m round)) h good is =
     let aim : (m < length c.table) × (round ≡ 0) = h.sound.tied.numbers.aims n (purpose.Response (owner.Try m round)) is in
     let first = is ∙ ap (λ k. Some (purpose.Response (owner.Try m k))) aim.1 in
-    let silent_is : news_of c.timers c.single.link (event.Fired n) ≡ silence = ap (of_timer c.single.link) is in
+    let silent_is : news_of c.timers c.sources c.single.link (event.Fired n) ≡ silence = ap (of_timer c.single.link) is in
     subst (λ (x : News). HasApplied (before ++ turn_of c word (event.Fired n) ∷ []) (late_by (with_work (record { core = turned c (event.Fired n); acts = [] }) (applied (record { conn = c.single.connection; acts = [] }) x)) (slice_get c.table m)) started)
     (sym silent_is) (late_applied before c started word n m h good first)
 
@@ -64,10 +67,10 @@ effect_holds before c started word (event.Submit what) h good = submit_applied b
 effect_holds before c started word (event.Cancel n) h good = cancel_applied before c started word n h good
 effect_holds before c started word (event.Connected l) h good =
     let own = own_news c l connected h.sound.tied.numbers.only good in
-    by_news before c started word (event.Connected l) (news_of c.timers c.single.link (event.Connected l)) connected own (connected_applied before c started word (event.Connected l) h good tt own)
+    by_news before c started word (event.Connected l) (news_of c.timers c.sources c.single.link (event.Connected l)) connected own (connected_applied before c started word (event.Connected l) h good tt own)
 effect_holds before c started word (event.Refused l f) h good =
     let own = own_news c l (refused f) h.sound.tied.numbers.only good in
-    by_news before c started word (event.Refused l f) (news_of c.timers c.single.link (event.Refused l f)) (refused f) own (refused_applied before c started word (event.Refused l f) f h good tt own)
+    by_news before c started word (event.Refused l f) (news_of c.timers c.sources c.single.link (event.Refused l f)) (refused f) own (refused_applied before c started word (event.Refused l f) f h good tt own)
 effect_holds before c started word (event.Fired n) h good =
     let g = get_some c.timers n (not_le_from (length c.timers) n good) in
     subst (λ (x : Option Purpose). HasApplied (before ++ turn_of c word (event.Fired n) ∷ []) (fired_by (heard (counted c) (event.Fired n)) x) started) (sym g.1) (fired before c started word n g.0 h good g.1)
@@ -76,18 +79,30 @@ effect_holds before c started word (event.Wrote l count) h good =
     let here = or_left (is_no_link c l) _ good in
     let few = or_right (is_no_link c l) _ good in
     let own = own_news c l (took count) h.sound.tied.numbers.only here in
-    by_news before c started word (event.Wrote l count) (news_of c.timers c.single.link (event.Wrote l count)) (took count) own
+    by_news before c started word (event.Wrote l count) (news_of c.timers c.sources c.single.link (event.Wrote l count)) (took count) own
     (took_applied before c started word count (event.Wrote l count) h good tt own (can_take_from c l count (h.sound.tied.numbers.only l (not_le_from c.links l here)) few))
 effect_holds before c started word (event.Bytes l piece) h good =
     let own = own_news c l (came piece) h.sound.tied.numbers.only good in
-    by_news before c started word (event.Bytes l piece) (news_of c.timers c.single.link (event.Bytes l piece)) (came piece) own (read_applied before c started word (event.Bytes l piece) piece h good tt own)
+    by_news before c started word (event.Bytes l piece) (news_of c.timers c.sources c.single.link (event.Bytes l piece)) (came piece) own (read_applied before c started word (event.Bytes l piece) piece h good tt own)
 effect_holds before c started word (event.Ended l) h good =
     let own = own_news c l (failed fault.Ended) h.sound.tied.numbers.only good in
-    by_news before c started word (event.Ended l) (news_of c.timers c.single.link (event.Ended l)) (failed fault.Ended) own (failed_applied before c started word (event.Ended l) fault.Ended h good tt own)
+    by_news before c started word (event.Ended l) (news_of c.timers c.sources c.single.link (event.Ended l)) (failed fault.Ended) own (failed_applied before c started word (event.Ended l) fault.Ended h good tt own)
 effect_holds before c started word (event.ReadFault l kind) h good =
     let own = own_news c l (failed (fault.Io kind)) h.sound.tied.numbers.only good in
-    by_news before c started word (event.ReadFault l kind) (news_of c.timers c.single.link (event.ReadFault l kind)) (failed (fault.Io kind)) own (failed_applied before c started word (event.ReadFault l kind) (fault.Io kind) h good tt own)
+    by_news before c started word (event.ReadFault l kind) (news_of c.timers c.sources c.single.link (event.ReadFault l kind)) (failed (fault.Io kind)) own (failed_applied before c started word (event.ReadFault l kind) (fault.Io kind) h good tt own)
 effect_holds before c started word (event.WriteFault l kind) h good =
     let own = own_news c l (failed (fault.Io kind)) h.sound.tied.numbers.only good in
-    by_news before c started word (event.WriteFault l kind) (news_of c.timers c.single.link (event.WriteFault l kind)) (failed (fault.Io kind)) own (failed_applied before c started word (event.WriteFault l kind) (fault.Io kind) h good tt own)
+    by_news before c started word (event.WriteFault l kind) (news_of c.timers c.sources c.single.link (event.WriteFault l kind)) (failed (fault.Io kind)) own (failed_applied before c started word (event.WriteFault l kind) (fault.Io kind) h good tt own)
+effect_holds before c started word (event.Creds n auth) h good =
+    let g = get_some c.sources n (not_le_from (length c.sources) n good) in
+    let own = own_source c n g.0 (authorized auth) h.sound.tied.numbers.uses g.1 in
+    by_news before c started word (event.Creds n auth) (news_of c.timers c.sources c.single.link (event.Creds n auth)) (authorized auth) own (authorized_applied before c started word (event.Creds n auth) auth h good tt own)
+effect_holds before c started word (event.CredsError n text) h good =
+    let g = get_some c.sources n (not_le_from (length c.sources) n good) in
+    let own = own_source c n g.0 (denied text) h.sound.tied.numbers.uses g.1 in
+    by_news before c started word (event.CredsError n text) (news_of c.timers c.sources c.single.link (event.CredsError n text)) (denied text) own (denied_applied before c started word (event.CredsError n text) (denied text) (error.Credentials text) (text_denies text) h good tt own)
+effect_holds before c started word (event.CredsEnd n) h good =
+    let g = get_some c.sources n (not_le_from (length c.sources) n good) in
+    let own = own_source c n g.0 deserted h.sound.tied.numbers.uses g.1 in
+    by_news before c started word (event.CredsEnd n) (news_of c.timers c.sources c.single.link (event.CredsEnd n)) deserted own (denied_applied before c started word (event.CredsEnd n) deserted (error.AuthFailed []) end_denies h good tt own)
 effect_holds before c started word event.Shutdown h good = shut_applied before c started word event.Shutdown h good tt refl

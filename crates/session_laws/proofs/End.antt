@@ -1,5 +1,5 @@
 -- A fault ends the connection's link, or the shutdown does.
-use Rattle.std.proofs.Common.{inl, inr, ◌≡◌, ◌≢◌, ℕ, ◌-◌, Bool, true, false, List, [], ◌∷◌, ◌++◌, Some, None, refl, sym, ap, ◌∙◌, subst, ◌&&◌, not, is_some, arith}
+use Rattle.std.proofs.Common.{if◌then◌else◌, inl, inr, ◌≡◌, ◌≢◌, ℕ, ◌-◌, Bool, true, false, List, [], ◌∷◌, ◌++◌, Some, None, refl, sym, ap, ◌∙◌, subst, ◌&&◌, not, is_some, arith}
 use Rattle.std.specs.List.{AllByRecursion}
 use Rattle.containers.proofs.Choices.{chosen, taken_if, left_if}
 use Rattle.redis_error.specs.declared.fault_kind.FaultKind.TheVariants as kinds
@@ -11,7 +11,7 @@ use Rattle.driver_model.specs.declared.action.Owner.TheVariants as owner
 use Rattle.driver_model.specs.declared.event.EventKind.{EventKind}
 use Rattle.driver_model.specs.declared.news.LinkFault.{LinkFault}
 use Rattle.driver_model.specs.declared.outcome.Verdict.TheVariants as verdict
-use Rattle.driver_model.specs.News.{News, silence, connected, took, came, failed, shut, news_of, refused, overdue}
+use Rattle.driver_model.specs.News.{News, failed, denied, deserted, shut, news_of, overdue}
 use Rattle.link_core.specs.declared.message.Queued.{Queued}
 use Rattle.link_core.specs.declared.message.Settled.{Settled}
 use Rattle.link_core.specs.Ends.{failed_by, row_closed, row_hit, queue_closed}
@@ -20,25 +20,26 @@ use Rattle.link_laws.specs.Settles.{settled_ids, wanted, awaited_ids, IsOwed}
 use Rattle.link_laws.proofs.Dealt.{all_append}
 use Rattle.link_laws.proofs.Once.{closed_ids, hit_ids}
 use Rattle.link_laws.proofs.Settles.{row_hit_owed, row_closed_owed}
-use Rattle.link_laws.proofs.TiedLink.{TiedLink, told_tied}
+use Rattle.link_laws.proofs.TiedLink.{TiedLink}
 use Rattle.mux_conn.specs.declared.life.Life.{Life}
-use Rattle.mux_conn.specs.declared.life.Life.TheVariants.{Dialing, SettingUp, Ready, Ended}
+use Rattle.mux_conn.specs.declared.life.Life.TheVariants.{Dialing, Wanting, SettingUp, Ready, Ended}
 use Rattle.mux_conn.specs.Connection.{Work}
-use Rattle.mux_conn.specs.Effects.{ended, ended_by, failed_at, overdue_at, shut_at}
+use Rattle.mux_conn.specs.Effects.{ended, ended_by, failed_at, overdue_at, shut_at, unauthorized_at}
 use Rattle.shared_session.specs.declared.core_state.Core.{Core}
 use Rattle.shared_session.specs.Turn.{with_work, is_bad}
-use Rattle.legal_trace.specs.Ledger.{Ledger, by_fault, by_opening, by_shutdown, ends, noted, ending, ending_alive, ending_unready, is_over, is_set_up}
+use Rattle.legal_trace.specs.Ledger.{Ledger, by_fault, by_opening, by_shutdown, ends, hears, noted, ending, ending_alive, ending_unready, ending_up, is_over, is_set_up, lacks_credentials}
 use Rattle.legal_trace.specs.Book.{Book, book}
 use Rattle.session_laws.proofs.Numbers.{IsIn}
-use Rattle.session_laws.proofs.Tied.{Inner, inner, link_in, no_link, carried, whole_link, owner_of, queue_ids, HasSaid, IsSettingUp, Tied, TiedLife, has_ended}
+use Rattle.session_laws.proofs.Tied.{AreSought, HasCredentials, Inner, inner, link_in, no_link, carried, whole_link, owner_of, queue_ids, HasSaid, IsSettingUp, Tied, TiedLife, has_ended}
+use Rattle.session_laws.proofs.Creds.{asked_sourced, has_sourced, lacking_undecided, wanting_lacks}
 use Rattle.session_laws.proofs.SetUp.{not_set_up}
-use Rattle.session_laws.proofs.Said.{ready_heard, setting_heard, setting_told, setup_hears}
-use Rattle.session_laws.proofs.Failing.{Fails, setup_failed}
+use Rattle.session_laws.proofs.Said.{ending_wanting, ready_heard, setting_heard, setting_told}
+use Rattle.session_laws.proofs.Failing.{Fails, IsUnready, setup_failed}
 use Rattle.session_laws.proofs.States.{Between, HasApplied}
 use Rattle.session_laws.proofs.Settle.{seen, trace_of_acts, Holds}
 use Rattle.session_laws.proofs.Close.{HasEnded, IsClosedOf, SettlesAll, ended_holds, ended_moved, ended_applied, faulted_holds, parted_moved}
 use Rattle.session_laws.proofs.Announce.{turn_of, turned, IsNewsKind}
-use Rattle.session_laws.proofs.Heard.{told_life, heard_by, Begins, Leads, heard_begins, leads_on, ended_quiet, dialing_quiet}
+use Rattle.session_laws.proofs.Heard.{IsOfAnother, heard_by, Begins, Leads, heard_begins, leads_still, ended_quiet, dialing_quiet}
 use Rattle.legal_trace.specs.Legal.{is_heard}
 
 -- what waits in the queue gets the closed connection
@@ -61,6 +62,7 @@ pub record IsUp (name : ℕ → Owner) (l : Ledger) (created : ℕ) (link : Link
   pub up : l.up ≡ true
   pub alive : l.end ≡ None
   pub shown : created ≢ 0
+  pub has : HasCredentials l.creds
   pub well : is_set_up l ≡ true
   pub tied : TiedLink name l link
 
@@ -75,7 +77,43 @@ up_tied b t link is h =
       up = lived.1;
       alive = lived.2;
       shown = lived.3;
+      has = subst (λ (x : Life). AreSought l.creds x) is h.creds.sought;
       well = said.well;
+      tied = subst (λ (x : Life). TiedLink (carried x t.requests) l (whole_link x)) is (h.link (ap has_ended is));
+    }
+
+-- a link that waits for credentials, with its ledger
+pub record IsWanting (l : Ledger) (created : ℕ) (started : List ℕ) (link : LinkState) : Type 0 where
+  pub asked : l.asked ≡ true
+  pub up : l.up ≡ true
+  pub alive : l.end ≡ None
+  pub unshown : created ≡ 0
+  pub sought : AreSought l.creds (Wanting link)
+  pub lacks : lacks_credentials l ≡ true
+  pub starts : l.starts ≡ []
+  pub none : started ≡ []
+  pub queue : link.queue ≡ []
+  pub row : link.row ≡ []
+  pub tied : TiedLink (λ p. owner.Setup) l link
+
+-- so it is while the connection says so
+pub wanting_tied : (b : Book) (t : Inner) (link : LinkState) → t.life ≡ Wanting link → Tied b t → IsWanting (b.link t.link) b.created t.started link
+wanting_tied b t link is h =
+    let l = b.link t.link in
+    let lived = subst (λ (x : Life). TiedLife l b.created x) is h.life in
+    let said = subst (λ (x : Life). HasSaid l t.started x) is h.setup.said in
+    let sought : AreSought l.creds (Wanting link) = subst (λ (x : Life). AreSought l.creds x) is h.creds.sought in
+    record {
+      asked = lived.0;
+      up = lived.1;
+      alive = lived.2;
+      unshown = lived.3;
+      sought = sought;
+      lacks = wanting_lacks l.creds link sought;
+      starts = said.0;
+      none = said.1;
+      queue = said.2;
+      row = said.3;
       tied = subst (λ (x : Life). TiedLink (carried x t.requests) l (whole_link x)) is (h.link (ap has_ended is));
     }
 
@@ -85,6 +123,7 @@ pub record IsSetting (l : Ledger) (created : ℕ) (started : List ℕ) (link : L
   pub up : l.up ≡ true
   pub alive : l.end ≡ None
   pub unshown : created ≡ 0
+  pub has : HasCredentials l.creds
   pub none : started ≡ []
   pub said : IsSettingUp l link with_user
   pub tied : TiedLink (λ p. owner.Setup) l link
@@ -100,6 +139,7 @@ setting_tied b t link with_user is h =
       up = lived.1;
       alive = lived.2;
       unshown = lived.3;
+      has = subst (λ (x : Life). AreSought l.creds x) is h.creds.sought;
       none = said.0;
       said = said.1;
       tied = subst (λ (x : Life). TiedLink (carried x t.requests) l (whole_link x)) is (h.link (ap has_ended is));
@@ -141,39 +181,40 @@ bare_ends before f w started h alive bare must =
 
 -- the turns of these events
 --
--- news that are no bytes leave the ledger of a link
+-- news that leave what is told of a link
 abbrev pub IsPlain : News → Type 0
 IsPlain (failed f) = Unit {0}
 IsPlain shut = Unit {0}
 IsPlain overdue = Unit {0}
-IsPlain (refused f) = ⊥
+IsPlain (denied text) = Unit {0}
+IsPlain deserted = Unit {0}
 IsPlain _ = ⊥
 
 -- the link stays as it is
 plain_leads : (before : List Action) (c : Core) (started : List ℕ) (n : News) → IsPlain n → Between before c started → Leads (book before) c n c.single.connection.life [] started
-plain_leads before c started n k h = by_news n k
-  where
-    l : Ledger
-    l = (book before).link c.single.link
-
-    by_news : (m : News) → IsPlain m → Leads (book before) c m c.single.connection.life [] started
-    by_news silence j = absurd j
-    by_news connected j = absurd j
-    by_news (took count) j = absurd j
-    by_news (came piece) j = absurd j
-    by_news (refused f) j = absurd j
-    by_news overdue j = leads_on before c started overdue h (inl tt) (told_life l (book before).created c.single.connection.life overdue h.sound.tied.life, setup_hears l c.turns overdue c.single.connection.info started c.single.connection.life tt h.sound.tied.setup, λ alive. told_tied (carried c.single.connection.life c.single.connection.requests) l (whole_link c.single.connection.life) l.asked l.up overdue (h.sound.tied.link alive))
-    by_news (failed f) j = leads_on before c started (failed f) h (inl tt) (told_life l (book before).created c.single.connection.life (failed f) h.sound.tied.life, setup_hears l c.turns (failed f) c.single.connection.info started c.single.connection.life tt h.sound.tied.setup, λ alive. told_tied (carried c.single.connection.life c.single.connection.requests) l (whole_link c.single.connection.life) l.asked l.up (failed f) (h.sound.tied.link alive))
-    by_news shut j = leads_on before c started shut h (inl tt) (told_life l (book before).created c.single.connection.life shut h.sound.tied.life, setup_hears l c.turns shut c.single.connection.info started c.single.connection.life tt h.sound.tied.setup, λ alive. told_tied (carried c.single.connection.life c.single.connection.requests) l (whole_link c.single.connection.life) l.asked l.up shut (h.sound.tied.link alive))
+plain_leads before c started (failed f) k h = leads_still before c started (failed f) h refl
+plain_leads before c started shut k h = leads_still before c started shut h refl
+plain_leads before c started overdue k h = leads_still before c started overdue h refl
+plain_leads before c started (denied text) k h = leads_still before c started (denied text) h refl
+plain_leads before c started deserted k h = leads_still before c started deserted h refl
+plain_leads before c started _ k h = absurd k
 
 -- the turn of such an event begins with its link as it was
-pub plain_begins : (before : List Action) (c : Core) (started : List ℕ) (word : ℕ) (kind : EventKind) (n : News) → IsPlain n → Between before c started → is_bad c kind ≡ false → IsNewsKind c.timers kind → news_of c.timers c.single.link kind ≡ n
+pub plain_begins : (before : List Action) (c : Core) (started : List ℕ) (word : ℕ) (kind : EventKind) (n : News) → IsPlain n → Between before c started → is_bad c kind ≡ false → IsNewsKind c.timers kind → news_of c.timers c.sources c.single.link kind ≡ n
     → Begins (before ++ turn_of c word kind ∷ []) (turned c kind) c.single.connection (heard_by (book before) c n) (book before).story [] started
 plain_begins before c started word kind n p h good k is = heard_begins before c started word kind n c.single.connection.life [] h good k is (plain_leads before c started n p h)
 
+-- a link that is set up still isn't ready
+pub setting_unready : (b : Book) (t : Inner) (link : LinkState) (with_user : Bool) → t.life ≡ SettingUp link with_user → Tied b t → IsUnready b.created t.life t.started
+setting_unready b t link with_user e h = let s = setting_tied b t link with_user e h in record { bare = ap link_in e; none = s.none; unshown = s.unshown }
+
+-- nor is one that waits for credentials
+pub wanting_unready : (b : Book) (t : Inner) (link : LinkState) → t.life ≡ Wanting link → Tied b t → IsUnready b.created t.life t.started
+wanting_unready b t link e h = let s = wanting_tied b t link e h in record { bare = ap link_in e; none = s.none; unshown = s.unshown }
+
 -- a link that is set up fails by news that leave its ledger
 plain_fails : (before : List Action) (c : Core) (started : List ℕ) (n : News) (x : RedisError) (link : LinkState) (with_user : Bool) → Between before c started → c.single.connection.life ≡ SettingUp link with_user
-    → (let l = record ((book before).link c.single.link) { heard = n } in ending_unready l n ≡ Some (by_opening x)) → Fails (record ((book before).link c.single.link) { heard = n }) c.single.connection.info (is_heard (book before)) c.single.connection.hears x
+    → (let l = record ((book before).link c.single.link) { heard = n } in ending_unready l n ≡ Some (by_opening x)) → Fails (record ((book before).link c.single.link) { heard = n }) c.single.connection.info c.single.connection.wants (is_heard (book before)) c.single.connection.hears x
 plain_fails before c started n x link with_user h e is =
     let b = book before in
     let l = b.link c.single.link in
@@ -183,12 +224,32 @@ plain_fails before c started n x link with_user h e is =
       unready = (not_set_up (record l { heard = n }) link with_user (setting_told l n link with_user s.said)).unwell;
       must = setting_heard l n link with_user s.up s.said ∙ is;
       info_is = h.sound.tied.setup.info_is;
+      wanted_is = h.sound.tied.creds.wanted_is;
+      sourced = has_sourced l s.has;
+      sent = h.sound.tied.setup.sent;
+      pushes = h.sound.tied.pushes;
+    }
+
+-- and so does one that waits for credentials
+wanting_fails : (before : List Action) (c : Core) (started : List ℕ) (n : News) (x : RedisError) (link : LinkState) → Between before c started → c.single.connection.life ≡ Wanting link
+    → (let l = record ((book before).link c.single.link) { heard = n } in ending_unready l n ≡ Some (by_opening x)) → Fails (record ((book before).link c.single.link) { heard = n }) c.single.connection.info c.single.connection.wants (is_heard (book before)) c.single.connection.hears x
+wanting_fails before c started n x link h e is =
+    let b = book before in
+    let l = b.link c.single.link in
+    let s = wanting_tied b (inner c started) link e h.sound.tied in
+    record {
+      alive = s.alive;
+      unready = (lacking_undecided (record l { heard = n }) s.lacks).unwell;
+      must = ending_wanting (record l { heard = n }) s.up s.lacks ∙ is;
+      info_is = h.sound.tied.setup.info_is;
+      wanted_is = h.sound.tied.creds.wanted_is;
+      sourced = asked_sourced l s.sought.1;
       sent = h.sound.tied.setup.sent;
       pushes = h.sound.tied.pushes;
     }
 
 -- a fault, or the peer's end
-pub failed_applied : (before : List Action) (c : Core) (started : List ℕ) (word : ℕ) (kind : EventKind) (f : LinkFault) → Between before c started → is_bad c kind ≡ false → IsNewsKind c.timers kind → news_of c.timers c.single.link kind ≡ failed f
+pub failed_applied : (before : List Action) (c : Core) (started : List ℕ) (word : ℕ) (kind : EventKind) (f : LinkFault) → Between before c started → is_bad c kind ≡ false → IsNewsKind c.timers kind → news_of c.timers c.sources c.single.link kind ≡ failed f
     → HasApplied (before ++ turn_of c word kind ∷ []) (with_work (record { core = turned c kind; acts = [] }) (failed_at (record { conn = c.single.connection; acts = [] }) f c.single.connection.life)) started
 failed_applied before c started word kind f h good k is = by_life c.single.connection.life refl
   where
@@ -196,7 +257,11 @@ failed_applied before c started word kind f h good k is = by_life c.single.conne
     by_life Dialing e = dialing_quiet before c started word kind (failed f) tt h good k is e
     by_life (Ended x) e = ended_quiet before c started word kind (failed f) x h good k is e
     by_life (SettingUp link with_user) e =
-        setup_failed before c started word kind (failed f) error.Closed link with_user h good k is e (plain_fails before c started (failed f) error.Closed link with_user h e refl)
+        setup_failed before c started word kind (failed f) error.Closed h good k is (setting_unready (book before) (inner c started) link with_user e h.sound.tied)
+        (plain_fails before c started (failed f) error.Closed link with_user h e refl)
+    by_life (Wanting link) e =
+        setup_failed before c started word kind (failed f) error.Closed h good k is (wanting_unready (book before) (inner c started) link e h.sound.tied)
+        (wanting_fails before c started (failed f) error.Closed link h e refl)
     by_life (Ready link) e =
         let begins = plain_begins before c started word kind (failed f) tt h good k is in
         let l = (book before).link c.single.link in
@@ -207,15 +272,42 @@ failed_applied before c started word kind f h good k is = by_life c.single.conne
         (fault_ends (before ++ turn_of c word kind ∷ []) (turned c kind) (record { conn = c.single.connection; acts = [] }) link f started begins.holds e must)
 
 -- the time of the opening is over while the link is set up
-pub setting_overdue : (before : List Action) (c : Core) (started : List ℕ) (word : ℕ) (kind : EventKind) (link : LinkState) (with_user : Bool) → Between before c started → is_bad c kind ≡ false → IsNewsKind c.timers kind → news_of c.timers c.single.link kind ≡ overdue
+pub setting_overdue : (before : List Action) (c : Core) (started : List ℕ) (word : ℕ) (kind : EventKind) (link : LinkState) (with_user : Bool) → Between before c started → is_bad c kind ≡ false → IsNewsKind c.timers kind → news_of c.timers c.sources c.single.link kind ≡ overdue
     → c.single.connection.life ≡ SettingUp link with_user
     → HasApplied (before ++ turn_of c word kind ∷ []) (with_work (record { core = turned c kind; acts = [] }) (overdue_at (record { conn = c.single.connection; acts = [] }) (SettingUp link with_user))) started
 setting_overdue before c started word kind link with_user h good k is e =
     let x = error.Io kinds.TimedOut in
-    setup_failed before c started word kind overdue x link with_user h good k is e (plain_fails before c started overdue x link with_user h e refl)
+    setup_failed before c started word kind overdue x h good k is (setting_unready (book before) (inner c started) link with_user e h.sound.tied) (plain_fails before c started overdue x link with_user h e refl)
+
+-- or while it waits for credentials
+pub wanting_overdue : (before : List Action) (c : Core) (started : List ℕ) (word : ℕ) (kind : EventKind) (link : LinkState) → Between before c started → is_bad c kind ≡ false → IsNewsKind c.timers kind → news_of c.timers c.sources c.single.link kind ≡ overdue
+    → c.single.connection.life ≡ Wanting link
+    → HasApplied (before ++ turn_of c word kind ∷ []) (with_work (record { core = turned c kind; acts = [] }) (overdue_at (record { conn = c.single.connection; acts = [] }) (Wanting link))) started
+wanting_overdue before c started word kind link h good k is e =
+    let x = error.Io kinds.TimedOut in
+    setup_failed before c started word kind overdue x h good k is (wanting_unready (book before) (inner c started) link e h.sound.tied) (wanting_fails before c started overdue x link h e refl)
+
+-- news that there are none, and the error by which an opening fails then that waits for them
+pub record Denies (n : News) (x : RedisError) : Type 0 where
+  pub stays : (l : Ledger) (turn : ℕ) → noted l (hears turn n) ≡ record l { heard = n }
+  pub apart : IsOfAnother n
+  pub ends : (l : Ledger) → ending_unready l n ≡ (if lacks_credentials l then Some (by_opening x) else None)
+  pub calm : (l : Ledger) → ending_up l n ≡ None
+
+-- so the opening fails
+pub denied_fails : (before : List Action) (c : Core) (started : List ℕ) (word : ℕ) (kind : EventKind) (n : News) (x : RedisError) (link : LinkState) → Denies n x → Between before c started → is_bad c kind ≡ false → IsNewsKind c.timers kind
+    → news_of c.timers c.sources c.single.link kind ≡ n → c.single.connection.life ≡ Wanting link
+    → HasApplied (before ++ turn_of c word kind ∷ []) (with_work (record { core = turned c kind; acts = [] }) (unauthorized_at (record { conn = c.single.connection; acts = [] }) x (Wanting link))) started
+denied_fails before c started word kind n x link d h good k is e =
+    let b = book before in
+    let l = b.link c.single.link in
+    let s = wanting_tied b (inner c started) link e h.sound.tied in
+    setup_failed before c started word kind n x h good k is (wanting_unready b (inner c started) link e h.sound.tied)
+    (subst (λ (y : Ledger). Fails y c.single.connection.info c.single.connection.wants (is_heard b) c.single.connection.hears x) (sym (d.stays l c.turns))
+    (wanting_fails before c started n x link h e (d.ends (record l { heard = n }) ∙ taken_if (lacks_credentials l) (Some (by_opening x)) None s.lacks)))
 
 -- everything is shut down
-pub shut_applied : (before : List Action) (c : Core) (started : List ℕ) (word : ℕ) (kind : EventKind) → Between before c started → is_bad c kind ≡ false → IsNewsKind c.timers kind → news_of c.timers c.single.link kind ≡ shut
+pub shut_applied : (before : List Action) (c : Core) (started : List ℕ) (word : ℕ) (kind : EventKind) → Between before c started → is_bad c kind ≡ false → IsNewsKind c.timers kind → news_of c.timers c.sources c.single.link kind ≡ shut
     → HasApplied (before ++ turn_of c word kind ∷ []) (with_work (record { core = turned c kind; acts = [] }) (shut_at (record { conn = c.single.connection; acts = [] }) c.single.connection.life)) started
 shut_applied before c started word kind h good k is = by_life c.single.connection.life refl
   where
@@ -239,6 +331,9 @@ shut_applied before c started word kind h good k is = by_life c.single.connectio
         let lived = subst (λ (x : Life). TiedLife l (book before).created x) e h.sound.tied.life in
         let asked : (l.asked && not (is_over l)) ≡ true = (λ i. lived.0 i && not (is_some (lived.2 i))) in
         bare Dialing e refl refl (left_if l.up (ending_alive (record l { heard = shut })) _ lived.1 ∙ taken_if (l.asked && not (is_over l)) (Some by_shutdown) None asked)
+    by_life (Wanting link) e =
+        let s = wanting_tied (book before) (inner c started) link e h.sound.tied in
+        bare (Wanting link) e refl refl (ending_wanting (record l { heard = shut }) s.up s.lacks)
     by_life (SettingUp link with_user) e =
         let s = setting_tied (book before) (inner c started) link with_user e h.sound.tied in
         bare (SettingUp link with_user) e refl refl (setting_heard l shut link with_user s.up s.said)

@@ -3,7 +3,7 @@ use Rattle.std.proofs.Common.{◌≡◌, ℕ, ◌+◌, List, [], ◌∷◌, ◌+
 use Rattle.std.proofs.lemmas.List.{append-nil}
 use Rattle.driver_model.specs.declared.action.Action.{Action}
 use Rattle.mux_conn.specs.declared.act.LinkAct.{LinkAct}
-use Rattle.shared_session.specs.Turn.{shown, shown_each, timer_of, timers_of}
+use Rattle.shared_session.specs.Turn.{shown, shown_each, source_of, sources_of, timer_of, timers_of}
 use Rattle.legal_trace.specs.Book.{Book, blank_book, book, entered, entered_each}
 use Rattle.legal_trace.specs.Legal.{MayStand, AllStand}
 use Rattle.session_laws.proofs.Tied.{Inner, Tied, Sound}
@@ -58,14 +58,36 @@ timers_of-append (x ∷ xs) ys = ap (λ ts. timer_of x ++ ts) (timers_of-append 
 pub timers_more : (acts : List LinkAct) (a : LinkAct) → timers_of (acts ++ a ∷ []) ≡ timers_of acts ++ timer_of a
 timers_more acts a = timers_of-append acts (a ∷ []) ∙ ap (λ ts. timers_of acts ++ ts) (append-nil (timer_of a))
 
+-- the sources of credentials that acts ask for, and then others
+pub sources_of-append : (l : ℕ) (xs ys : List LinkAct) → sources_of l (xs ++ ys) ≡ sources_of l xs ++ sources_of l ys
+sources_of-append l [] ys = refl
+sources_of-append l (x ∷ xs) ys = ap (λ ss. source_of l x ++ ss) (sources_of-append l xs ys) ∙ sym (append_assoc (source_of l x) (sources_of l xs) (sources_of l ys))
+
+-- one more act asks for one source more, or for none
+pub sources_more : (l : ℕ) (acts : List LinkAct) (a : LinkAct) → sources_of l (acts ++ a ∷ []) ≡ sources_of l acts ++ source_of l a
+sources_more l acts a = sources_of-append l acts (a ∷ []) ∙ ap (λ ss. sources_of l acts ++ ss) (append-nil (source_of l a))
+
+-- an act that asks for none
+pub quiet_timers : (acts : List LinkAct) (a : LinkAct) → timer_of a ≡ [] → timers_of (acts ++ a ∷ []) ≡ timers_of acts
+quiet_timers acts a e = timers_more acts a ∙ ap (λ ts. timers_of acts ++ ts) e ∙ append-nil (timers_of acts)
+
+-- nor for a source
+pub quiet_sources : (l : ℕ) (acts : List LinkAct) (a : LinkAct) → source_of l a ≡ [] → sources_of l (acts ++ a ∷ []) ≡ sources_of l acts
+quiet_sources l acts a e = sources_more l acts a ∙ ap (λ ss. sources_of l acts ++ ss) e ∙ append-nil (sources_of l acts)
+
 -- the actions that acts show, and then others
-pub shown_each-append : (l t : ℕ) (xs ys : List LinkAct) → shown_each l t (xs ++ ys) ≡ shown_each l t xs ++ shown_each l (t + length (timers_of xs)) ys
-shown_each-append l t [] ys = ap (λ k. shown_each l k ys) (omega arith)
-shown_each-append l t (x ∷ xs) ys =
+pub shown_each-append : (l t c : ℕ) (xs ys : List LinkAct) → shown_each l t c (xs ++ ys) ≡ shown_each l t c xs ++ shown_each l (t + length (timers_of xs)) (c + length (sources_of l xs)) ys
+shown_each-append l t c [] ys = let same : t ≡ t + 0 = omega arith in let still : c ≡ c + 0 = omega arith in λ i. shown_each l (same i) (still i) ys
+shown_each-append l t c (x ∷ xs) ys =
     let next = t + length (timer_of x) in
+    let source = c + length (source_of l x) in
     let far : next + length (timers_of xs) ≡ t + length (timers_of (x ∷ xs)) = omega (arith, length-append (timer_of x) (timers_of xs)) in
-    ap (λ more. shown l t x ∷ more) (shown_each-append l next xs ys ∙ ap (λ k. shown_each l next xs ++ shown_each l k ys) far)
+    let behind : source + length (sources_of l xs) ≡ c + length (sources_of l (x ∷ xs)) = omega (arith, length-append (source_of l x) (sources_of l xs)) in
+    ap (λ more. shown l t c x ∷ more) (shown_each-append l next source xs ys ∙ (λ i. shown_each l next source xs ++ shown_each l (far i) (behind i) ys))
 
 -- one more act shows one more action
-pub shown_more : (before : List Action) (l t : ℕ) (acts : List LinkAct) (a : LinkAct) → before ++ shown_each l t (acts ++ a ∷ []) ≡ (before ++ shown_each l t acts) ++ shown l (t + length (timers_of acts)) a ∷ []
-shown_more before l t acts a = ap (λ more. before ++ more) (shown_each-append l t acts (a ∷ [])) ∙ sym (append_assoc before (shown_each l t acts) (shown l (t + length (timers_of acts)) a ∷ []))
+pub shown_more : (before : List Action) (l t c : ℕ) (acts : List LinkAct) (a : LinkAct)
+    → before ++ shown_each l t c (acts ++ a ∷ []) ≡ (before ++ shown_each l t c acts) ++ shown l (t + length (timers_of acts)) (c + length (sources_of l acts)) a ∷ []
+shown_more before l t c acts a =
+    ap (λ more. before ++ more) (shown_each-append l t c acts (a ∷ []))
+    ∙ sym (append_assoc before (shown_each l t c acts) (shown l (t + length (timers_of acts)) (c + length (sources_of l acts)) a ∷ []))

@@ -1,4 +1,4 @@
--- The opening of the connection's link has failed, which is shown; and a link that is closed while it is set up.
+-- The opening of the connection's link has failed, which is shown; and a link that is closed before it is set up.
 use Rattle.std.proofs.Common.{◌≡◌, ◌≢◌, ℕ, ◌+◌, ◌-◌, ◌==◌, Bool, true, false, List, [], ◌∷◌, ◌++◌, length, Some, None, refl, sym, ap, ◌∙◌, subst, arith, slice_get}
 use Rattle.std.proofs.lemmas.List.{append-nil}
 use Rattle.containers.proofs.Choices.{by_test, left_if, both_left, both_right, eq_from, ne_from, not_both}
@@ -14,28 +14,29 @@ use Rattle.mux_conn.specs.declared.act.LinkAct.{LinkAct}
 use Rattle.mux_conn.specs.declared.act.LinkAct.TheVariants as act
 use Rattle.mux_conn.specs.declared.connection.MultiplexedConnection.{MultiplexedConnection}
 use Rattle.mux_conn.specs.declared.life.Life.{Life}
-use Rattle.mux_conn.specs.declared.life.Life.TheVariants.{SettingUp, Ended}
+use Rattle.mux_conn.specs.declared.life.Life.TheVariants.{Ended}
 use Rattle.mux_conn.specs.Connection.{Work, acted, at_life}
 use Rattle.mux_conn.specs.Effects.{opening_failed}
 use Rattle.mux_conn.specs.Requests.{name_at}
 use Rattle.shared_session.specs.declared.core_state.Core.{Core}
 use Rattle.shared_session.specs.Turn.{with_work, is_bad}
-use Rattle.legal_trace.specs.Ledger.{Ledger, by_opening, ends, noted, noted_each, ending, ending_or_shutdown, failure_in, failure_of, is_ready, is_set_up, Heard, is_fault, next_push}
+use Rattle.legal_trace.specs.Ledger.{Ledger, by_opening, ends, noted, noted_each, ending, ending_or_shutdown, failure_in, failure_of, is_ready, is_set_up, Heard, is_fault, next_push, source_due}
 use Rattle.legal_trace.specs.Story.{Story, bytes_of, is_open, last_of}
 use Rattle.legal_trace.specs.Book.{Book, blank_book, book, entered, if_mine}
 use Rattle.legal_trace.specs.Owed.{owed_to_try, owed_unstarted, unstarted_error}
-use Rattle.legal_trace.specs.Legal.{AllStand, FailuresAreShown, MayClose, MayFail, NoneEnds, VerdictsAreShown, is_heard}
+use Rattle.legal_trace.specs.Legal.{AllStand, FailuresAreShown, MayClose, MayFail, NoneEnds, ReadyIsShown, VerdictsAreShown, is_heard}
 use Rattle.session_laws.proofs.Numbers.{IsIn}
-use Rattle.session_laws.proofs.Tied.{AreSetups, HasSaid, inner, link_in, TiedLife, TiedLines, Tied}
+use Rattle.session_laws.proofs.Tied.{AreSetups, IsUnknown, inner, link_in, no_link, TiedLines, Tied}
 use Rattle.session_laws.proofs.States.{Between, HasApplied}
 use Rattle.session_laws.proofs.Entered.{all_stand-append, shown_more}
+use Rattle.session_laws.proofs.Creds.{down_sourced, sources_asked}
 use Rattle.session_laws.proofs.Names.{get_some, name_of_some, open_within}
 use Rattle.session_laws.proofs.Owes.{in_time, not_empty, open_request, request_story, get_behind}
 use Rattle.session_laws.proofs.Kept.{mine_noted, others_kept}
 use Rattle.session_laws.proofs.Answer.{after_end, unknown_ends}
 use Rattle.session_laws.proofs.Settle.{seen, sound_act, trace_of_acts, Holds, book_of_more}
 use Rattle.session_laws.proofs.Close.{ended_applied, ended_waits, waiting_ends, waiting_leaves}
-use Rattle.session_laws.proofs.Announce.{turn_of, turned, IsNewsKind, first_book, heard_book, heard_is, heard_starts, heard_tied_by, may_turn, others_heard}
+use Rattle.session_laws.proofs.Announce.{turn_of, turned, IsNewsKind, first_book, heard_book, heard_is, heard_starts, heard_tied_by, may_turn, others_heard, uses_on}
 use Rattle.session_laws.proofs.Heard.{heard_by, book_kind, book_news}
 use Rattle.session_laws.proofs.Said.{PushesOf}
 
@@ -57,6 +58,7 @@ failing_may trace f acts conn e started h = record {
   once = h.unshown;
   ended = over.0;
   answered = over.1;
+  sourced = sources_asked (entered (book trace) (action.Created (Some e))) (seen f acts (record conn { life = Ended e }) [] started) h.tied;
 }
   where
     over : NoneEnds (book trace) × VerdictsAreShown (book trace) × FailuresAreShown (entered (book trace) (action.Created (Some e)))
@@ -75,10 +77,10 @@ failing_applied before f w e started began none_moved h =
     let v = acted (at_life w (Ended e)) (act.Created (Some e)) in
     ended_applied before f (opening_failed w e) e started began ((waiting_leaves v e).moved ∙ none_moved) (waiting_ends before f v e started (failing_shown before f w e started h) refl)
 
--- a link that is closed while it is set up
+-- a link that is closed before it is set up
 --
 -- no message of a request has started, so none is owed anything
-unstarted_owed : (b now : Book) (c : Core) (started : List ℕ) → Tied b (inner c started) → started ≡ [] → ((n : ℕ) → now.story n ≡ b.story n) → (now.link c.single.link).end ≡ None → VerdictsAreShown now
+pub unstarted_owed : (b now : Book) (c : Core) (started : List ℕ) → Tied b (inner c started) → started ≡ [] → ((n : ℕ) → now.story n ≡ b.story n) → (now.link c.single.link).end ≡ None → VerdictsAreShown now
 unstarted_owed b now c started h none same alive n asked on =
     let t = inner c started in
     let r = open_request b t n h (ap is_open (sym (same n)) ∙ asked) in
@@ -95,20 +97,34 @@ unstarted_owed b now c started h none same alive n asked on =
     left_if (now.story n).late _ _ early ∙ left_if (now.story n).unspoken _ _ spoken ∙ left_if (length (bytes_of (now.story n)) == 0) _ _ (not_empty (bytes_of (now.story n)) some) ∙ left_if (now.story n).overdue _ (owed_to_try now (now.story n) (last_of (now.story n).tries)) punctual
     ∙ ap (λ ts. owed_to_try now (now.story n) (last_of ts)) untried ∙ ap (λ m. owed_unstarted (now.link m).end) (ap (λ (x : Story). x.link) is ∙ q.on) ∙ ap owed_unstarted alive
 
+-- a link that isn't set up isn't ready, nor is any other
+pub unready_shown : (now : Book) (link : ℕ) (l : Ledger) → now.link link ≡ l → ((m : ℕ) → m ≢ link → IsUnknown (now.link m)) → is_set_up l ≡ false → ReadyIsShown now
+unready_shown now link l own others unready m ready = by_test (m == link) _
+    (λ same. absurd (not_both (is_set_up l) unready (ap is_set_up (sym own) ∙ both_right (now.link link).up (is_set_up (now.link link)) (subst (λ i. is_ready (now.link i) ≡ true) (eq_from m link same) ready))))
+    (λ other. absurd (not_both (now.link m).up (others m (ne_from m link other)).up (both_left (now.link m).up (is_set_up (now.link m)) ready)))
+
 -- a link that isn't set up, and whose opening fails with this error
-pub record Fails (l : Ledger) (info : RedisConnectionInfo) (heard mine : Bool) (x : RedisError) : Type 0 where
+pub record Fails (l : Ledger) (info : RedisConnectionInfo) (wants heard mine : Bool) (x : RedisError) : Type 0 where
   pub alive : l.end ≡ None
   pub unready : is_set_up l ≡ false
   pub must : ending l ≡ Some (by_opening x)
   pub info_is : l.info ≡ info
+  pub wanted_is : l.creds.wanted ≡ wants
+  pub sourced : source_due l ≡ false
   pub sent : AreSetups l
   pub pushes : PushesOf heard mine l
 
+-- a connection whose link is up and not set up, so that no message of a request has started
+pub record IsUnready (created : ℕ) (life : Life) (started : List ℕ) : Type 0 where
+  pub bare : link_in life ≡ no_link
+  pub none : started ≡ []
+  pub unshown : created ≡ 0
+
 -- it is closed, and its opening has failed
-pub setup_fails : (before : List Action) (c : Core) (started : List ℕ) (word : ℕ) (kind : EventKind) (n : News) (x : RedisError) (link : LinkState) (with_user : Bool) → Between before c started → is_bad c kind ≡ false → IsNewsKind c.timers kind → news_of c.timers c.single.link kind ≡ n
-    → c.single.connection.life ≡ SettingUp link with_user → Fails (heard_by (book before) c n) c.single.connection.info (is_heard (book before)) c.single.connection.hears x
+pub setup_fails : (before : List Action) (c : Core) (started : List ℕ) (word : ℕ) (kind : EventKind) (n : News) (x : RedisError) → Between before c started → is_bad c kind ≡ false → IsNewsKind c.timers kind → news_of c.timers c.sources c.single.link kind ≡ n
+    → IsUnready (book before).created c.single.connection.life started → Fails (heard_by (book before) c n) c.single.connection.info c.single.connection.wants (is_heard (book before)) c.single.connection.hears x
     → IsFailing (trace_of_acts (before ++ turn_of c word kind ∷ []) (turned c kind) (act.Close ∷ [])) (turned c kind) (act.Close ∷ []) c.single.connection x started
-setup_fails before c started word kind n x link with_user h good k is e fails =
+setup_fails before c started word kind n x h good k is u fails =
     let b = book before in
     let h0 = h.sound.tied in
     let conn = c.single.connection in
@@ -119,42 +135,45 @@ setup_fails before c started word kind n x link with_user h good k is e fails =
     let now = heard_book b c.turns word kind in
     let line = ends (now.turns - 1) in
     let close = action.Close c.single.link in
-    let lived = subst (λ (y : Life). TiedLife l0 b.created y) e h0.life in
-    let said = subst (λ (y : Life). HasSaid l0 started y) e h0.setup.said in
-    let own : now.link c.single.link ≡ l = ap (heard_by b c) (book_news b c kind n h0.numbers.timers is) in
+    let own : now.link c.single.link ≡ l = ap (heard_by b c) (book_news b c started kind n h0 is) in
     let others = others_heard b c started kind h0 good in
     let links : ℕ → Ledger = λ m. noted_each (now.link m) (if_mine (c.single.link == m) line) in
     let closed : links c.single.link ≡ noted l line = mine_noted (now.link c.single.link) c.single.link line ∙ ap (λ (y : Ledger). noted y line) own in
     let t = seen f (act.Close ∷ []) (record conn { life = Ended x }) [] started in
-    let tied : Tied (entered (entered now close) (action.Created (Some x))) t = heard_tied_by b c started word (b.created + 1) kind (Ended x) conn.fresh [] [] links (noted l line) h0
-    (others_kept now c.single.link line others) closed (heard_starts l0 c.turns n)
-    (refl, ap (λ w. Some (outcome.Fault (unstarted_error (ending_or_shutdown w)))) fails.must, λ y shown z. absurd (omega arith))
-    (record { info_is = fails.info_is; sent = fails.sent; said = tt })
-    (λ z. cc)
-    (subst (λ (y : Life). TiedLines b.story conn.requests (link_in y) conn.waiting conn.admitted [] started) e h0.lines)
-    (λ z. cc)
-    (ended_waits b.story conn.requests conn.life x conn.fresh conn.moved h0.waits)
+    let tied : Tied (entered (entered now close) (action.Created (Some x))) t = heard_tied_by b c started word (b.created + 1) kind conn.info (Ended x) conn.fresh [] [] links (noted l line) b.sources (c.sources ++ []) h0
+    (others_kept now c.single.link line others) closed (h0.numbers.sources ∙ sym (append-nil c.sources)) (uses_on c.sources c.single.link h0.numbers.uses)
     (record {
-      heard_is = fails.pushes.heard_is;
-      within = fails.pushes.within;
-      untold_is = fails.pushes.untold_is;
-      parts = λ heard done cut. absurd (not_both (is_fault (by_opening x)) refl (sym (ap (λ w. is_fault (ending_or_shutdown w)) fails.must) ∙ cut));
-      alive = λ none. cc;
-      due = fails.pushes.due;
+      starts = heard_starts l0 c.turns n;
+      lived = (refl, ap (λ w. Some (outcome.Fault (unstarted_error (ending_or_shutdown w)))) fails.must, λ y shown z. absurd (omega arith));
+      creds = record { wanted_is = fails.wanted_is; sought = tt };
+      said = record { info_is = fails.info_is; sent = fails.sent; said = tt };
+      linked = λ z. cc;
+      lines = subst (λ (y : LinkState). TiedLines b.story conn.requests y conn.waiting conn.admitted [] started) u.bare h0.lines;
+      told = λ z. cc;
+      waits = ended_waits b.story conn.requests conn.life x conn.fresh conn.moved h0.waits;
+      pushes = record {
+        heard_is = fails.pushes.heard_is;
+        within = fails.pushes.within;
+        untold_is = fails.pushes.untold_is;
+        parts = λ heard done cut. absurd (not_both (is_fault (by_opening x)) refl (sym (ap (λ w. is_fault (ending_or_shutdown w)) fails.must) ∙ cut));
+        alive = λ none. cc;
+        due = fails.pushes.due;
+      };
     }) in
     let first : book (trace_of_acts front f []) ≡ now = first_book before (turn_of c word kind) f ∙ heard_is b c.turns word kind (book_kind b c kind h0.numbers.timers k) in
     let trace = trace_of_acts front f (act.Close ∷ []) in
     let book_is : book trace ≡ entered now close = book_of_more front f [] act.Close ∙ ap (λ (y : Book). entered y close) first in
-    let shown : trace ≡ trace_of_acts front f [] ++ close ∷ [] = shown_more front c.single.link (length f.timers) [] act.Close in
+    let shown : trace ≡ trace_of_acts front f [] ++ close ∷ [] = shown_more front c.single.link (length f.timers) (length f.sources) [] act.Close in
     let all : AllStand blank_book (trace_of_acts front f []) = subst (AllStand blank_book) (sym (append-nil front)) (all_stand-append before (turn_of c word kind ∷ []) h.sound.stands (may_turn before c started word kind h good, tt)) in
     let may : MayClose now c.single.link = record {
       why = by_opening x;
       ends = ap ending own ∙ fails.must;
       in_order = λ m less. unknown_ends (now.link m) (others m (λ same. omega arith));
-      answered = unstarted_owed b now c started h0 said.0 (λ m. refl) (ap (λ (y : Ledger). y.end) own ∙ fails.alive);
-      created = λ m ready. by_test (m == c.single.link) _
-          (λ same. absurd (not_both (is_set_up l) fails.unready (ap is_set_up (sym own) ∙ both_right (now.link c.single.link).up (is_set_up (now.link c.single.link)) (subst (λ i. is_ready (now.link i) ≡ true) (eq_from m c.single.link same) ready))))
-          (λ other. absurd (not_both (now.link m).up (others m (ne_from m c.single.link other)).up (both_left (now.link m).up (is_set_up (now.link m)) ready)));
+      answered = unstarted_owed b now c started h0 u.none (λ m. refl) (ap (λ (y : Ledger). y.end) own ∙ fails.alive);
+      created = unready_shown now c.single.link l own others fails.unready;
+      sourced = λ m. by_test (m == c.single.link) _
+          (λ same. subst (λ i. source_due (now.link i) ≡ false) (sym (eq_from m c.single.link same)) (ap source_due own ∙ fails.sourced))
+          (λ other. down_sourced (now.link m) (others m (ne_from m c.single.link other)).up);
       pushed = λ m heard. by_test (m == c.single.link) _
           (λ same. subst (λ i. next_push (now.link i) ≡ None) (sym (eq_from m c.single.link same)) (ap next_push own ∙ get_behind l.told l.pushes (fails.pushes.untold_is (sym fails.pushes.heard_is ∙ heard))))
           (λ other. ap (λ (hs : List Heard). slice_get hs (now.link m).told) (others m (ne_from m c.single.link other)).pushes);
@@ -162,14 +181,14 @@ setup_fails before c started word kind n x link with_user h good k is e fails =
     record {
       stands = subst (AllStand blank_book) (sym shown) (all_stand-append (trace_of_acts front f []) (close ∷ []) all (subst (λ (y : Book). MayClose y c.single.link) (sym first) may, tt));
       fails = ap (λ (y : Book). failure_in (y.link c.single.link).end) book_is ∙ ap (λ (y : Ledger). failure_in y.end) closed ∙ ap (λ w. failure_of (ending_or_shutdown w)) fails.must;
-      unshown = ap (λ (y : Book). y.created) book_is ∙ lived.3;
+      unshown = ap (λ (y : Book). y.created) book_is ∙ u.unshown;
       tied = subst (λ (y : Book). Tied (entered y (action.Created (Some x))) t) (sym book_is) tied;
     }
 
 -- so the event has had its effect
-pub setup_failed : (before : List Action) (c : Core) (started : List ℕ) (word : ℕ) (kind : EventKind) (n : News) (x : RedisError) (link : LinkState) (with_user : Bool) → Between before c started → is_bad c kind ≡ false → IsNewsKind c.timers kind → news_of c.timers c.single.link kind ≡ n
-    → c.single.connection.life ≡ SettingUp link with_user → Fails (heard_by (book before) c n) c.single.connection.info (is_heard (book before)) c.single.connection.hears x
+pub setup_failed : (before : List Action) (c : Core) (started : List ℕ) (word : ℕ) (kind : EventKind) (n : News) (x : RedisError) → Between before c started → is_bad c kind ≡ false → IsNewsKind c.timers kind → news_of c.timers c.sources c.single.link kind ≡ n
+    → IsUnready (book before).created c.single.connection.life started → Fails (heard_by (book before) c n) c.single.connection.info c.single.connection.wants (is_heard (book before)) c.single.connection.hears x
     → HasApplied (before ++ turn_of c word kind ∷ []) (with_work (record { core = turned c kind; acts = [] }) (opening_failed (record { conn = c.single.connection; acts = act.Close ∷ [] }) x)) started
-setup_failed before c started word kind n x link with_user h good k is e fails =
+setup_failed before c started word kind n x h good k is u fails =
     failing_applied (before ++ turn_of c word kind ∷ []) (turned c kind) (record { conn = c.single.connection; acts = act.Close ∷ [] }) x started (λ z. absurd (omega arith)) h.moved
-    (setup_fails before c started word kind n x link with_user h good k is e fails)
+    (setup_fails before c started word kind n x h good k is u fails)

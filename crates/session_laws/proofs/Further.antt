@@ -15,7 +15,7 @@ use Rattle.mux_conn.specs.declared.request.Request.{Request}
 use Rattle.mux_conn.specs.declared.request.Waiting.{Waiting}
 use Rattle.mux_conn.specs.Requests.{is_open as is_open_progress, is_waiting, is_admitted, is_placed, is_open_at, is_waiting_at, is_admitted_at, is_placed_at, if_there, name_or_none, name_at, permits_or_none, permits_at}
 use Rattle.mux_conn.specs.declared.life.Life.{Life}
-use Rattle.mux_conn.specs.declared.life.Life.TheVariants.{Dialing, Ended, Ready, SettingUp}
+use Rattle.mux_conn.specs.declared.life.Life.TheVariants.{Dialing, Ended, Ready, Wanting, SettingUp}
 use Rattle.link_core.specs.Link.{LinkState}
 use Rattle.link_laws.specs.Settles.{awaited_ids}
 use Rattle.legal_trace.specs.Ledger.{Ledger, setup_count}
@@ -189,6 +189,7 @@ owners_of_row requests more (e ∷ es) longer all = (sym (λ i. owner.Try (name_
 -- so the link is tied
 pub link_longer : (l : Ledger) (requests more : List Request) (life : Life) → IsLonger requests more → AllByRecursion (IsEntry requests) (link_in life).row → TiedLink (carried life requests) l (whole_link life) → TiedLink (carried life more) l (whole_link life)
 link_longer l requests more Dialing longer all h = named_tied (owner_of requests) (owner_of more) l no_link tt h
+link_longer l requests more (Wanting link) longer all h = h
 link_longer l requests more (SettingUp link with_user) longer all h = h
 link_longer l requests more (Ready link) longer all h = named_tied (owner_of requests) (owner_of more) l link (owners_of_row requests more link.row longer all) h
 link_longer l requests more (Ended e) longer all h = named_tied (owner_of requests) (owner_of more) l no_link tt h
@@ -244,6 +245,9 @@ waits_longer table story after requests more life fresh later moved names same l
       connect = λ p w d. before_or_new requests more p _
           (λ old. elim (h.connect p (was p old w) d) [ inl i ↦ absurd (old_one p i) | inr e ↦ inr (still p old ∙ e) ])
           (λ past. inl (next.shown p w past).1);
+      creds = λ p link w r. before_or_new requests more p _
+          (λ old. elim (h.creds p link (was p old w) r) [ inl i ↦ absurd (old_one p i) | inr e ↦ inr (still p old ∙ e) ])
+          (λ past. inl (next.shown p w past).1);
       setup = λ p link u w r. before_or_new requests more p _
           (λ old. elim (h.setup p link u (was p old w) r) [ inl i ↦ absurd (old_one p i) | inr e ↦ inr (still p old ∙ e) ])
           (λ past. inl (next.shown p w past).1);
@@ -257,6 +261,7 @@ waits_longer table story after requests more life fresh later moved names same l
       newer = next.newer;
       rising = rising_below 0 (length requests) (length more) moved longer.long h.rising;
       no_connect = λ p i w d. no_wait (shown_wait after more p) wait.Connect (next.shown p w (next.only p i)).0;
+      no_creds = λ p link i w r. no_wait (shown_wait after more p) wait.Creds (next.shown p w (next.only p i)).0;
       no_setup = λ p link u i w r. no_wait (shown_wait after more p) wait.Setup (next.shown p w (next.only p i)).0;
       no_permit = λ p link i w r. no_wait (shown_wait after more p) wait.Permit (next.shown p w (next.only p i)).0;
       no_place = λ p i a. before_or_new requests more p _

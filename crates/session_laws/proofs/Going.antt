@@ -12,13 +12,14 @@ use Rattle.mux_conn.specs.Connection.{has_no_permit, is_ready}
 use Rattle.mux_conn.specs.Effects.{setup_queued}
 use Rattle.mux_conn.specs.Requests.{name_at}
 use Rattle.mux_conn.specs.declared.life.Life.{Life}
-use Rattle.mux_conn.specs.declared.life.Life.TheVariants.{Dialing, Ended, Ready, SettingUp}
+use Rattle.mux_conn.specs.declared.life.Life.TheVariants.{Dialing, Ended, Ready, SettingUp, Wanting}
 use Rattle.legal_trace.specs.Book.{Book, blank_book, book, entered, if_mine}
-use Rattle.legal_trace.specs.Ledger.{Ledger, Line, dials, ending, is_set_up, noted, noted_each, setup_count, setup_due, setup_steps}
+use Rattle.legal_trace.specs.Ledger.{Ledger, Line, dials, ending, is_set_up, lacks_credentials, noted, noted_each, setup_count, setup_due, setup_steps}
 use Rattle.legal_trace.specs.Legal.{AllStand, CanMove, IsApplied, IsBegun, IsFirstToMove, IsMoved, MayStand, NoneEnds, SetupsAreStarted}
-use Rattle.legal_trace.specs.Steps.{Step, is_due, is_held_back, next_step, nothing, starts_or_waits, step_ready, waits}
-use Rattle.session_laws.proofs.Ahead.{IsRunning, full_step, held_by, permit_step, queue_step, ready_alive, running_of, setup_step}
+use Rattle.legal_trace.specs.Steps.{Step, is_due, is_held_back, next_step, nothing, starts_or_waits, step_ready, unready_wait, waits}
+use Rattle.session_laws.proofs.Ahead.{IsRunning, creds_step, full_step, held_by, permit_step, queue_step, ready_alive, running_of, setup_step}
 use Rattle.session_laws.proofs.Behind.{alive_behind}
+use Rattle.session_laws.proofs.Creds.{lacking_undue, sources_asked, wanting_lacks}
 use Rattle.session_laws.proofs.Entered.{book_more, sound_more}
 use Rattle.session_laws.proofs.InLine.{first_is_least, kept_ids, kept_in}
 use Rattle.session_laws.proofs.Moves.{IsLater, later_of, unstarted_alive}
@@ -27,7 +28,7 @@ use Rattle.session_laws.proofs.Numbers.{IsIn, Rising, in_left, in_right, rising_
 use Rattle.session_laws.proofs.Owes.{created_is, ends_told, none_open, none_owed, pushes_told}
 use Rattle.session_laws.proofs.SetUp.{down_undue, none_due, sent_undue, set_up_undue}
 use Rattle.session_laws.proofs.States.{IsFit}
-use Rattle.session_laws.proofs.Tied.{HasSaid, Inner, IsSetUp, Sound, Tied, TiedLife, carried, has_ended, link_in, queue_ids, waiting_ids, whole_link, IsToldIn}
+use Rattle.session_laws.proofs.Tied.{AreSought, HasSaid, Inner, IsSetUp, Sound, Tied, TiedLife, carried, has_ended, link_in, queue_ids, waiting_ids, whole_link, IsToldIn}
 
 -- nothing must end
 pub record IsGoing (trace : List Action) (t : Inner) : Type 0 where
@@ -43,7 +44,7 @@ going_more trace a t stands may tied none = record {
 
 -- the event has had its effect, while nothing is to be answered and the link has not ended
 pub applied_up : (b : Book) (t : Inner) → Tied b t → t.pending ≡ [] → IsToldIn t → has_ended t.life ≡ false → NoneEnds b → IsApplied b
-applied_up b t h none told up ended = record { answered = none_owed b t h none up; ended = ended; created = created_is b t h; pushed = pushes_told b t h told.0; parted = ends_told b t h told.1; timed = h.numbers.timed }
+applied_up b t h none told up ended = record { answered = none_owed b t h none up; ended = ended; created = created_is b t h; pushed = pushes_told b t h told.0; parted = ends_told b t h told.1; sourced = sources_asked b t h; timed = h.numbers.timed }
 
 -- each setup has started that is to start, but where its link is held back, where it is so of the link of the session
 pub setups_started : (b : Book) (t : Inner) → Tied b t → ((link : LinkState) (with_user : Bool) → t.life ≡ SettingUp link with_user → (setup_due (b.link t.link) ≡ None) ⊎ (is_held_back b (b.link t.link) ≡ true)) → SetupsAreStarted b
@@ -56,6 +57,11 @@ setups_started b t h mine m k due = by_test (m == t.link) _
 
     by_life : (life : Life) → t.life ≡ life → setup_due (b.link t.link) ≡ Some k → is_held_back b (b.link t.link) ≡ true
     by_life Dialing e d = absurd (undue (b.link t.link) (down_undue (b.link t.link) (subst (TiedLife (b.link t.link) b.created) e h.life).1) d)
+    by_life (Wanting link) e d =
+        let l = b.link t.link in
+        let said : HasSaid l t.started (Wanting link) = subst (HasSaid l t.started) e h.setup.said in
+        let lacks : lacks_credentials l ≡ true = wanting_lacks l.creds link (subst (AreSought l.creds) e h.creds.sought) in
+        absurd (undue l (none_due l (lacking_undue l lacks said.0)) d)
     by_life (SettingUp link with_user) e d = elim (mine link with_user e) [ inl none ↦ absurd (undue (b.link t.link) none d) | inr held ↦ held ]
     by_life (Ready link) e d =
         let said : IsSetUp (b.link t.link) = subst (HasSaid (b.link t.link) t.started) e h.setup.said in
@@ -81,6 +87,7 @@ applied_over b t e h none told over empty ended = record {
   created = created_is b t h;
   pushed = pushes_told b t h told.0;
   parted = ends_told b t h told.1;
+  sourced = sources_asked b t h;
   timed = h.numbers.timed;
 }
 
@@ -148,7 +155,7 @@ down_stays : (b : Book) (n : ℕ) → (b.link (b.story n).link).up ≡ false →
 down_stays b n down =
     let s = b.story n in
     let l = b.link s.link in
-    let step : Step = if is_set_up l then step_ready b n s else waits wait.Setup in
+    let step : Step = if is_set_up l then step_ready b n s else waits (unready_wait l) in
     chosen (λ (x : Step). is_due x ≡ false) (dials l) (waits wait.Connect) (if l.up then step else nothing) (λ t. refl) (λ f. ap is_due (left_if l.up step nothing down))
 
 -- as each submission that is still to start is for it
@@ -160,9 +167,16 @@ down_moves_none b t h down n m =
 -- a link whose connect isn't answered isn't up
 dialing_down : (l : Ledger) (created : ℕ) (life : Life) → life ≡ Dialing → TiedLife l created life → l.up ≡ false
 dialing_down l created Dialing e h = h.1
+dialing_down l created (Wanting link) e h = cc
 dialing_down l created (SettingUp link with_user) e h = cc
 dialing_down l created (Ready link) e h = cc
 dialing_down l created (Ended x) e h = cc
+
+-- nor does one on a link that waits for credentials
+wanting_moves_none : (b : Book) (t : Inner) (link : LinkState) → Tied b t → t.life ≡ Wanting link → (n : ℕ) → CanMove b n → ⊥
+wanting_moves_none b t link h e n m =
+    let a = alive_behind b t n h (unstarted_alive (b.story n) m.unstarted) in
+    not_both (is_due (next_step b n)) (ap (λ k. is_due (next_step b k)) (sym a.name) ∙ ap is_due (creds_step b t a.p link h e a.within)) m.due
 
 -- nor does one on a link that isn't set up
 setting_moves_none : (b : Book) (t : Inner) (link : LinkState) (with_user : Bool) → Tied b t → t.life ≡ SettingUp link with_user → (n : ℕ) → CanMove b n → ⊥
@@ -218,6 +232,10 @@ is_moved b t h none told alone ends fit nobody held full stuck gone setup_fit se
     by_life Dialing e = record {
       begun = record { applied = applied_up b t h none told (ap has_ended e) ends; setups = setups };
       moved = down_moves_none b t h (dialing_down (b.link t.link) b.created t.life e h.life);
+    }
+    by_life (Wanting link) e = record {
+      begun = record { applied = applied_up b t h none told (ap has_ended e) ends; setups = setups };
+      moved = wanting_moves_none b t link h e;
     }
     by_life (SettingUp link with_user) e = record {
       begun = record { applied = applied_up b t h none told (ap has_ended e) ends; setups = setups };

@@ -4,28 +4,30 @@ use Rattle.containers.proofs.Choices.{by_test, chosen, if_false, left_if, eq_fro
 use Rattle.redis_error.specs.declared.redis_error.RedisError.TheVariants as error
 use Rattle.redis_error.specs.declared.redis_error.RedisError.{RedisError}
 use Rattle.driver_model.specs.declared.action.Action.{Action}
+use Rattle.connection_info.specs.declared.address.RedisConnectionInfo.{RedisConnectionInfo}
 use Rattle.driver_model.specs.declared.action.Purpose.{Purpose}
 use Rattle.driver_model.specs.declared.event.EventKind.{EventKind}
-use Rattle.driver_model.specs.News.{News, silence, connected, took, came, failed, shut, news_of, refused, overdue}
+use Rattle.driver_model.specs.News.{News, silence, connected, took, came, failed, authorized, denied, deserted, shut, news_of, refused, overdue}
 use Rattle.driver_model.specs.declared.outcome.Outcome.TheVariants as outcome
 use Rattle.link_core.specs.Link.{LinkState}
-use Rattle.link_laws.proofs.TiedLink.{TiedLink, unheard_tied}
+use Rattle.link_laws.proofs.TiedLink.{TiedLink, told_tied, unheard_tied}
 use Rattle.mux_conn.specs.declared.request.Request.{Request}
 use Rattle.mux_conn.specs.declared.connection.MultiplexedConnection.{MultiplexedConnection}
 use Rattle.mux_conn.specs.declared.life.Life.{Life}
-use Rattle.mux_conn.specs.declared.life.Life.TheVariants.{Dialing, SettingUp, Ready, Ended}
+use Rattle.mux_conn.specs.declared.life.Life.TheVariants.{Dialing, Wanting, SettingUp, Ready, Ended}
 use Rattle.shared_session.specs.declared.core_state.Core.{Core}
 use Rattle.shared_session.specs.Turn.{with_work, is_bad}
-use Rattle.legal_trace.specs.Ledger.{Ledger, Ending, hears, noted, ending, ending_alive, ending_asked, is_over, bytes_came, dials, refused_in}
+use Rattle.legal_trace.specs.Ledger.{Ledger, Ending, Sourced, hears, noted, ending, ending_alive, ending_asked, is_over, bytes_came, dials, refused_in}
 use Rattle.legal_trace.specs.Book.{Book, book, entered}
 use Rattle.legal_trace.specs.Story.{Story}
 use Rattle.legal_trace.specs.Legal.{NoneEnds, is_heard}
-use Rattle.session_laws.proofs.Said.{mild_end, setup_unheard, IsNoPiece, PushesOf, pushes_hear}
-use Rattle.session_laws.proofs.Tied.{Inner, link_in, carried, whole_link, TiedLife, TiedSetup, TiedLines, AreQueued, TiedWaits, Tied, has_ended}
+use Rattle.session_laws.proofs.Said.{mild_end, setup_on, setup_unheard, BringsNothing, PushesOf, pushes_hear}
+use Rattle.session_laws.proofs.Creds.{creds_hear, down_unawaited, unawaited_is}
+use Rattle.session_laws.proofs.Tied.{Inner, inner, link_in, carried, whole_link, TiedCreds, TiedLife, TiedSetup, TiedLines, AreQueued, TiedWaits, Tied, has_ended}
 use Rattle.session_laws.proofs.States.{IsFit, IsFitIn, Between, HasApplied}
 use Rattle.session_laws.proofs.Answer.{unknown_ends, not_up_ends, over_not_asked, some_end}
 use Rattle.session_laws.proofs.Settle.{seen, trace_of_acts, Holds}
-use Rattle.session_laws.proofs.Announce.{turn_of, turned, IsNewsKind, heard_book, heard_is, heard_starts, heard_tied, announced_sound, holds_first, first_book}
+use Rattle.session_laws.proofs.Announce.{ComesTo, comes_as, turn_of, turned, IsNewsKind, heard_book, heard_is, heard_starts, heard_tied, announced_sound, holds_first, first_book}
 
 -- what a turn of news does to the ledger of the connection's link
 abbrev pub heard_by : Book → Core → News → Ledger
@@ -50,6 +52,7 @@ pub record Begins (before : List Action) (f : Core) (conn : MultiplexedConnectio
 -- what the turn of news needs of the life that it leads to
 pub record Leads (b : Book) (c : Core) (n : News) (life : Life) (pending started : List ℕ) : Type 0 where
   pub lived : TiedLife (heard_by b c n) b.created life
+  pub creds : TiedCreds (heard_by b c n).creds c.single.connection.wants life
   pub said : TiedSetup (heard_by b c n) c.single.connection.info started life
   pub linked : has_ended life ≡ false → TiedLink (carried life c.single.connection.requests) (heard_by b c n) (whole_link life)
   pub lines : TiedLines b.story c.single.connection.requests (link_in life) c.single.connection.waiting c.single.connection.admitted pending started
@@ -57,67 +60,55 @@ pub record Leads (b : Book) (c : Core) (n : News) (life : Life) (pending started
   pub waits : TiedWaits b.story c.single.connection.requests life c.single.connection.fresh c.single.connection.moved
   pub pushes : PushesOf (is_heard b) c.single.connection.hears (heard_by b c n)
 
--- the news by the timers of the book
-pub book_news : (b : Book) (c : Core) (kind : EventKind) (n : News) → b.timers ≡ c.timers → news_of c.timers c.single.link kind ≡ n → news_of b.timers c.single.link kind ≡ n
-book_news b c kind n same is = ap (λ (ts : List Purpose). news_of ts c.single.link kind) same ∙ is
+-- the news by the timers and the sources of the book
+pub book_news : (b : Book) (c : Core) (started : List ℕ) (kind : EventKind) (n : News) → Tied b (inner c started) → news_of c.timers c.sources c.single.link kind ≡ n → news_of b.timers b.sources c.single.link kind ≡ n
+book_news b c started kind n h is = (λ i. news_of (h.numbers.timers i) (h.numbers.sources i) c.single.link kind) ∙ is
 
 -- so it is of no account for submissions
 pub book_kind : (b : Book) (c : Core) (kind : EventKind) → b.timers ≡ c.timers → IsNewsKind c.timers kind → IsNewsKind b.timers kind
 book_kind b c kind same k = subst (λ (ts : List Purpose). IsNewsKind ts kind) (sym same) k
 
--- the session with its link in that life, and these waits to be shown
-abbrev pub fresh_as : Core → Life → List ℕ → MultiplexedConnection
-fresh_as c life fresh = record c.single.connection { life = life; fresh = fresh }
-
--- what the turn needs where other waits are to be shown then
-pub record LeadsTo (b : Book) (c : Core) (n : News) (life : Life) (fresh pending started : List ℕ) : Type 0 where
-  pub lived : TiedLife (heard_by b c n) b.created life
-  pub said : TiedSetup (heard_by b c n) c.single.connection.info started life
-  pub linked : has_ended life ≡ false → TiedLink (carried life c.single.connection.requests) (heard_by b c n) (whole_link life)
-  pub lines : TiedLines b.story c.single.connection.requests (link_in life) c.single.connection.waiting c.single.connection.admitted pending started
-  pub told : has_ended life ≡ false → AreQueued b.story c.single.connection.requests (link_in life)
-  pub waits : TiedWaits b.story c.single.connection.requests life fresh c.single.connection.moved
-  pub pushes : PushesOf (is_heard b) c.single.connection.hears (heard_by b c n)
-
--- it begins so
-pub fresh_begins : (before : List Action) (c : Core) (started : List ℕ) (word : ℕ) (kind : EventKind) (n : News) (life : Life) (fresh pending : List ℕ) → Between before c started → is_bad c kind ≡ false → IsNewsKind c.timers kind → news_of c.timers c.single.link kind ≡ n
-    → LeadsTo (book before) c n life fresh pending started → Begins (before ++ turn_of c word kind ∷ []) (turned c kind) (fresh_as c life fresh) (heard_by (book before) c n) (book before).story pending started
-fresh_begins before c started word kind n life fresh pending h good k is g =
+-- the turn begins so, also with other waits to be shown, and where something else is said to the server
+pub fresh_begins : (before : List Action) (c : Core) (started : List ℕ) (word : ℕ) (kind : EventKind) (n : News) (info : RedisConnectionInfo) (life : Life) (fresh pending : List ℕ) → Between before c started → is_bad c kind ≡ false → IsNewsKind c.timers kind
+    → news_of c.timers c.sources c.single.link kind ≡ n → ComesTo (book before) c (heard_by (book before) c n) (book before).created info life fresh pending [] started
+    → Begins (before ++ turn_of c word kind ∷ []) (turned c kind) (comes_as c info life fresh) (heard_by (book before) c n) (book before).story pending started
+fresh_begins before c started word kind n info life fresh pending h good k is g =
     let b = book before in
     let l = heard_by b c n in
-    let t = seen (turned c kind) [] (fresh_as c life fresh) pending started in
-    let same : noted (b.link c.single.link) (hears c.turns (news_of b.timers c.single.link kind)) ≡ l = ap (λ (x : News). heard_by b c x) (book_news b c kind n h.sound.tied.numbers.timers is) in
-    let tied : Tied (heard_book b c.turns word kind) t = heard_tied b c started word b.created kind life fresh pending [] l h.sound.tied good same (heard_starts (b.link c.single.link) c.turns n) g.lived g.said g.linked g.lines g.told g.waits g.pushes in
+    let t = seen (turned c kind) [] (comes_as c info life fresh) pending started in
+    let same : noted (b.link c.single.link) (hears c.turns (news_of b.timers b.sources c.single.link kind)) ≡ l = ap (λ (x : News). heard_by b c x) (book_news b c started kind n h.sound.tied is) in
+    let tied : Tied (heard_book b c.turns word kind) t = heard_tied b c started word b.created kind info life fresh pending [] l h.sound.tied good same g in
     let book_is : entered b (turn_of c word kind) ≡ heard_book b c.turns word kind = heard_is b c.turns word kind (book_kind b c kind h.sound.tied.numbers.timers k) in
     record {
-      holds = holds_first (before ++ turn_of c word kind ∷ []) (turned c kind) (fresh_as c life fresh) pending started (announced_sound before c started word kind t h good (subst (λ (x : Book). Tied x t) (sym book_is) tied));
+      holds = holds_first (before ++ turn_of c word kind ∷ []) (turned c kind) (comes_as c info life fresh) pending started (announced_sound before c started word kind t h good (subst (λ (x : Book). Tied x t) (sym book_is) tied));
       ledger = ap (λ (x : Book). x.link c.single.link) (first_book before (turn_of c word kind) (turned c kind) ∙ book_is) ∙ same;
       stories = λ m. ap (λ (x : Book). x.story m) (first_book before (turn_of c word kind) (turned c kind) ∙ book_is);
     }
 
 -- where the same are
-pub heard_begins : (before : List Action) (c : Core) (started : List ℕ) (word : ℕ) (kind : EventKind) (n : News) (life : Life) (pending : List ℕ) → Between before c started → is_bad c kind ≡ false → IsNewsKind c.timers kind → news_of c.timers c.single.link kind ≡ n
+pub heard_begins : (before : List Action) (c : Core) (started : List ℕ) (word : ℕ) (kind : EventKind) (n : News) (life : Life) (pending : List ℕ) → Between before c started → is_bad c kind ≡ false → IsNewsKind c.timers kind → news_of c.timers c.sources c.single.link kind ≡ n
     → Leads (book before) c n life pending started → Begins (before ++ turn_of c word kind ∷ []) (turned c kind) (lives_as c life) (heard_by (book before) c n) (book before).story pending started
 heard_begins before c started word kind n life pending h good k is g =
-    let s = fresh_begins before c started word kind n life c.single.connection.fresh pending h good k is (record { lived = g.lived; said = g.said; linked = g.linked; lines = g.lines; told = g.told; waits = g.waits; pushes = g.pushes }) in
+    let s = fresh_begins before c started word kind n c.single.connection.info life c.single.connection.fresh pending h good k is
+    (record { starts = heard_starts ((book before).link c.single.link) c.turns n; lived = g.lived; creds = g.creds; said = g.said; linked = g.linked; lines = g.lines; told = g.told; waits = g.waits; pushes = g.pushes }) in
     record { holds = s.holds; ledger = s.ledger; stories = s.stories }
 
 -- where the link need not end then, and no act follows, the event has had its effect
-pub fresh_applied : (before : List Action) (c : Core) (started : List ℕ) (word : ℕ) (kind : EventKind) (n : News) (life : Life) (fresh : List ℕ) → Between before c started → is_bad c kind ≡ false → IsNewsKind c.timers kind → news_of c.timers c.single.link kind ≡ n
-    → LeadsTo (book before) c n life fresh [] started → ending (heard_by (book before) c n) ≡ None → IsFitIn (fresh_as c life fresh)
-    → HasApplied (before ++ turn_of c word kind ∷ []) (with_work (record { core = turned c kind; acts = [] }) (record { conn = fresh_as c life fresh; acts = [] })) started
-fresh_applied before c started word kind n life fresh h good k is g no_end fit =
-    let s = fresh_begins before c started word kind n life fresh [] h good k is g in
+pub fresh_applied : (before : List Action) (c : Core) (started : List ℕ) (word : ℕ) (kind : EventKind) (n : News) (info : RedisConnectionInfo) (life : Life) (fresh : List ℕ) → Between before c started → is_bad c kind ≡ false → IsNewsKind c.timers kind
+    → news_of c.timers c.sources c.single.link kind ≡ n → ComesTo (book before) c (heard_by (book before) c n) (book before).created info life fresh [] [] started → ending (heard_by (book before) c n) ≡ None → IsFitIn (comes_as c info life fresh)
+    → HasApplied (before ++ turn_of c word kind ∷ []) (with_work (record { core = turned c kind; acts = [] }) (record { conn = comes_as c info life fresh; acts = [] })) started
+fresh_applied before c started word kind n info life fresh h good k is g no_end fit =
+    let s = fresh_begins before c started word kind n info life fresh [] h good k is g in
     record {
       sound = s.holds;
-      ended = none_ends (book (trace_of_acts (before ++ turn_of c word kind ∷ []) (turned c kind) [])) (seen (turned c kind) [] (fresh_as c life fresh) [] started) s.holds.tied (ap ending s.ledger ∙ no_end);
+      ended = none_ends (book (trace_of_acts (before ++ turn_of c word kind ∷ []) (turned c kind) [])) (seen (turned c kind) [] (comes_as c info life fresh) [] started) s.holds.tied (ap ending s.ledger ∙ no_end);
       began = λ e. omega arith;
       moved = h.moved;
       fit = fit;
     }
 
 -- where the same waits are to be shown
-pub quiet_applied : (before : List Action) (c : Core) (started : List ℕ) (word : ℕ) (kind : EventKind) (n : News) (life : Life) → Between before c started → is_bad c kind ≡ false → IsNewsKind c.timers kind → news_of c.timers c.single.link kind ≡ n
+pub quiet_applied : (before : List Action) (c : Core) (started : List ℕ) (word : ℕ) (kind : EventKind) (n : News) (life : Life) → Between before c started → is_bad c kind ≡ false → IsNewsKind c.timers kind → news_of c.timers c.sources c.single.link kind ≡ n
     → Leads (book before) c n life [] started → ending (heard_by (book before) c n) ≡ None → IsFitIn (lives_as c life)
     → HasApplied (before ++ turn_of c word kind ∷ []) (with_work (record { core = turned c kind; acts = [] }) (record { conn = lives_as c life; acts = [] })) started
 quiet_applied before c started word kind n life h good k is g no_end fit =
@@ -131,14 +122,41 @@ quiet_applied before c started word kind n life h good k is g no_end fit =
     }
 
 -- what is still to be told of the pushes
-pub pushes_still : (before : List Action) (c : Core) (started : List ℕ) (n : News) → Between before c started → IsNoPiece n ⊎ (((book before).link c.single.link).up ≡ false) → PushesOf (is_heard (book before)) c.single.connection.hears (heard_by (book before) c n)
+pub pushes_still : (before : List Action) (c : Core) (started : List ℕ) (n : News) → Between before c started → BringsNothing n ⊎ (((book before).link c.single.link).up ≡ false) → PushesOf (is_heard (book before)) c.single.connection.hears (heard_by (book before) c n)
 pushes_still before c started n h k = pushes_hear ((book before).link c.single.link) c.turns n (is_heard (book before)) c.single.connection.hears k h.sound.tied.pushes
 
 -- what is alike of any life
-pub leads_on : (before : List Action) (c : Core) (started : List ℕ) (n : News) → Between before c started → IsNoPiece n ⊎ (((book before).link c.single.link).up ≡ false) → (let l = heard_by (book before) c n in let life = c.single.connection.life in
-    TiedLife l (book before).created life × TiedSetup l c.single.connection.info started life × (has_ended life ≡ false → TiedLink (carried life c.single.connection.requests) l (whole_link life)))
+pub leads_on : (before : List Action) (c : Core) (started : List ℕ) (n : News) → Between before c started → BringsNothing n ⊎ (((book before).link c.single.link).up ≡ false) → (let l = heard_by (book before) c n in let life = c.single.connection.life in
+    TiedLife l (book before).created life × TiedCreds l.creds c.single.connection.wants life × TiedSetup l c.single.connection.info started life × (has_ended life ≡ false → TiedLink (carried life c.single.connection.requests) l (whole_link life)))
     → Leads (book before) c n c.single.connection.life [] started
-leads_on before c started n h k g = record { lived = g.0; said = g.1; linked = g.2; lines = h.sound.tied.lines; told = h.sound.tied.told; waits = h.sound.tied.waits; pushes = pushes_still before c started n h k }
+leads_on before c started n h k g = record { lived = g.0; creds = g.1; said = g.2; linked = g.3; lines = h.sound.tied.lines; told = h.sound.tied.told; waits = h.sound.tied.waits; pushes = pushes_still before c started n h k }
+
+-- what the news are is of no account for how far a link has come
+pub told_life : (l : Ledger) (created : ℕ) (life : Life) (n : News) → TiedLife l created life → TiedLife (record l { heard = n }) created life
+told_life l created Dialing n h = h
+told_life l created (Wanting link) n h = h
+told_life l created (SettingUp link with_user) n h = h
+told_life l created (Ready link) n h = h
+told_life l created (Ended e) n h = h
+
+-- news that leave what is told of it lead nowhere else
+pub leads_still : (before : List Action) (c : Core) (started : List ℕ) (n : News) → Between before c started → heard_by (book before) c n ≡ record ((book before).link c.single.link) { heard = n } → Leads (book before) c n c.single.connection.life [] started
+leads_still before c started n h stays =
+    let b = book before in
+    let l = b.link c.single.link in
+    let conn = c.single.connection in
+    let t = h.sound.tied in
+    let name = carried conn.life conn.requests in
+    record {
+      lived = subst (λ (x : Ledger). TiedLife x b.created conn.life) (sym stays) (told_life l b.created conn.life n t.life);
+      creds = subst (λ (x : Ledger). TiedCreds x.creds conn.wants conn.life) (sym stays) t.creds;
+      said = subst (λ (x : Ledger). TiedSetup x conn.info started conn.life) (sym stays) (setup_on l l.asked l.up l.end l.taken l.offer l.rest n conn.info started conn.life t.setup);
+      linked = λ alive. subst (λ (x : Ledger). TiedLink name x (whole_link conn.life)) (sym stays) (told_tied name l (whole_link conn.life) l.asked l.up n (t.link alive));
+      lines = t.lines;
+      told = t.told;
+      waits = t.waits;
+      pushes = subst (λ (x : Ledger). PushesOf (is_heard b) conn.hears x) (sym stays) t.pushes;
+    }
 
 -- a link that has ended hears nothing
 --
@@ -160,14 +178,21 @@ ended_hears l created e turn connected h = chosen (λ (x : Ledger). TiedLife x c
 ended_hears l created e turn (took count) h = if_false (λ (x : Ledger). TiedLife x created (Ended e)) l.up _ l h.0 h
 ended_hears l created e turn (came piece) h = if_false (λ (x : Ledger). TiedLife x created (Ended e)) l.up (bytes_came l piece) l h.0 h
 ended_hears l created e turn (failed f) h = h
+ended_hears l created e turn (authorized c) h = subst (λ (x : Ledger). TiedLife x created (Ended e)) (sym (unawaited_is l turn c (down_unawaited l h.0))) h
+ended_hears l created e turn (denied text) h = h
+ended_hears l created e turn deserted h = h
 ended_hears l created e turn shut h = h
 
 -- and need not end again
 over_no_end : (l : Ledger) (created : ℕ) (e : RedisError) → TiedLife l created (Ended e) → ending l ≡ None
 over_no_end l created e h = not_up_ends l h.0 (over_not_asked l (some_end l.end (outcome.Fault e) h.1))
 
+-- what is known of its credentials stays
+down_creds : (l : Ledger) (turn : ℕ) (n : News) (wants : Bool) (life : Life) → l.up ≡ false → TiedCreds l.creds wants life → TiedCreds (noted l (hears turn n)).creds wants life
+down_creds l turn n wants life down h = subst (λ (x : Sourced). TiedCreds x wants life) (sym (creds_hear l turn n (down_unawaited l down))) h
+
 -- an event that names a link that has ended has no effect
-pub ended_quiet : (before : List Action) (c : Core) (started : List ℕ) (word : ℕ) (kind : EventKind) (n : News) (error : RedisError) → Between before c started → is_bad c kind ≡ false → IsNewsKind c.timers kind → news_of c.timers c.single.link kind ≡ n → c.single.connection.life ≡ Ended error
+pub ended_quiet : (before : List Action) (c : Core) (started : List ℕ) (word : ℕ) (kind : EventKind) (n : News) (error : RedisError) → Between before c started → is_bad c kind ≡ false → IsNewsKind c.timers kind → news_of c.timers c.sources c.single.link kind ≡ n → c.single.connection.life ≡ Ended error
     → HasApplied (before ++ turn_of c word kind ∷ []) (with_work (record { core = turned c kind; acts = [] }) (record { conn = c.single.connection; acts = [] })) started
 ended_quiet before c started word kind n error h good k is over =
     let b = book before in
@@ -177,6 +202,7 @@ ended_quiet before c started word kind n error h good k is over =
     quiet_applied before c started word kind n c.single.connection.life h good k is
     (leads_on before c started n h (inr life.0) (
       subst (λ (x : Life). TiedLife (noted l (hears c.turns n)) b.created x) (sym over) after,
+      down_creds l c.turns n c.single.connection.wants c.single.connection.life life.0 h.sound.tied.creds,
       setup_unheard l c.turns n c.single.connection.info started c.single.connection.life life.0 h.sound.tied.setup,
       λ alive. absurd (not_both (has_ended c.single.connection.life) alive (ap has_ended over)),
     ))
@@ -189,6 +215,9 @@ abbrev pub IsOfAnother : News → Type 0
 IsOfAnother (took count) = Unit {0}
 IsOfAnother (came piece) = Unit {0}
 IsOfAnother (failed f) = Unit {0}
+IsOfAnother (authorized c) = Unit {0}
+IsOfAnother (denied text) = Unit {0}
+IsOfAnother deserted = Unit {0}
 IsOfAnother silence = ⊥
 IsOfAnother (refused f) = ⊥
 IsOfAnother overdue = ⊥
@@ -204,6 +233,9 @@ dialing_hears l created turn connected k h = absurd k
 dialing_hears l created turn (took count) k h = if_false (λ (x : Ledger). TiedLife x created Dialing) l.up _ l h.1 h
 dialing_hears l created turn (came piece) k h = if_false (λ (x : Ledger). TiedLife x created Dialing) l.up (bytes_came l piece) l h.1 h
 dialing_hears l created turn (failed f) k h = h
+dialing_hears l created turn (authorized c) k h = subst (λ (x : Ledger). TiedLife x created Dialing) (sym (unawaited_is l turn c (down_unawaited l h.1))) h
+dialing_hears l created turn (denied text) k h = h
+dialing_hears l created turn deserted k h = h
 dialing_hears l created turn shut k h = absurd k
 
 -- such news end no link that is not up
@@ -215,6 +247,9 @@ asked_on connected k = refl
 asked_on (took count) k = refl
 asked_on (came piece) k = refl
 asked_on (failed f) k = refl
+asked_on (authorized c) k = refl
+asked_on (denied text) k = refl
+asked_on deserted k = refl
 asked_on shut k = absurd k
 
 -- so it need not end
@@ -225,7 +260,7 @@ dialing_no_end l created turn n k h =
     ∙ chosen (λ (x : Option Ending). x ≡ None) (after.asked && not (is_over after)) (ending_asked n) None (λ t. asked_on n k) (λ f. refl)
 
 -- and the event has no effect
-pub dialing_quiet : (before : List Action) (c : Core) (started : List ℕ) (word : ℕ) (kind : EventKind) (n : News) → IsOfAnother n → Between before c started → is_bad c kind ≡ false → IsNewsKind c.timers kind → news_of c.timers c.single.link kind ≡ n → c.single.connection.life ≡ Dialing
+pub dialing_quiet : (before : List Action) (c : Core) (started : List ℕ) (word : ℕ) (kind : EventKind) (n : News) → IsOfAnother n → Between before c started → is_bad c kind ≡ false → IsNewsKind c.timers kind → news_of c.timers c.sources c.single.link kind ≡ n → c.single.connection.life ≡ Dialing
     → HasApplied (before ++ turn_of c word kind ∷ []) (with_work (record { core = turned c kind; acts = [] }) (record { conn = c.single.connection; acts = [] })) started
 dialing_quiet before c started word kind n o h good k is dialing =
     let b = book before in
@@ -234,17 +269,11 @@ dialing_quiet before c started word kind n o h good k is dialing =
     quiet_applied before c started word kind n c.single.connection.life h good k is
     (leads_on before c started n h (inr life.1) (
       subst (λ (x : Life). TiedLife (noted l (hears c.turns n)) b.created x) (sym dialing) (dialing_hears l b.created c.turns n o life),
+      down_creds l c.turns n c.single.connection.wants c.single.connection.life life.1 h.sound.tied.creds,
       setup_unheard l c.turns n c.single.connection.info started c.single.connection.life life.1 h.sound.tied.setup,
       λ alive. unheard_tied (carried c.single.connection.life c.single.connection.requests) l (whole_link c.single.connection.life) c.turns n life.1 (h.sound.tied.link alive),
     ))
     (dialing_no_end l b.created c.turns n o life) h.fit
-
--- what the news are is of no account for how far a link has come
-pub told_life : (l : Ledger) (created : ℕ) (life : Life) (n : News) → TiedLife l created life → TiedLife (record l { heard = n }) created life
-told_life l created Dialing n h = h
-told_life l created (SettingUp link with_user) n h = h
-told_life l created (Ready link) n h = h
-told_life l created (Ended e) n h = h
 
 -- a link that hears nothing need not end, where it need not before
 pub silent_no_end : (l : Ledger) (turn : ℕ) → ending l ≡ None → ending (noted l (hears turn silence)) ≡ None
@@ -273,6 +302,7 @@ silent_applied before c started word kind f conn h good no_end began none_moved 
 -- is fit
 pub setting_fit : (c : MultiplexedConnection) (link after : LinkState) (was with_user : Bool) (fresh : List ℕ) → c.life ≡ SettingUp link was → IsFitIn c → IsFit c.size c.boundary after → IsFitIn (record c { life = SettingUp after with_user; fresh = fresh })
 setting_fit c link after was with_user fresh e h k = record {
+  wanting = λ x is. cc;
   setup = λ x u is. (let same : after ≡ x = cc in subst (IsFit c.size c.boundary) same k);
   link = λ x is. cc;
   none = λ n. h.none (λ x r. (let no : SettingUp link was ≡ Ready x = sym e ∙ r in cc));
@@ -283,6 +313,7 @@ pub setting_waits : (story : ℕ → Story) (requests : List Request) (link afte
 setting_waits story requests link after was with_user fresh moved h = record {
   early = h.early;
   connect = λ p w d. cc;
+  creds = λ p x w s. cc;
   setup = λ p x u w s. h.setup p link was w refl;
   permit = λ p x w r. cc;
   place = h.place;
@@ -290,7 +321,39 @@ setting_waits story requests link after was with_user fresh moved h = record {
   newer = h.newer;
   rising = h.rising;
   no_connect = λ p i w d. cc;
+  no_creds = λ p x i w s. cc;
   no_setup = λ p x u i w s. h.no_setup p link was i w refl;
+  no_permit = λ p x i w r. cc;
+  no_place = h.no_place;
+  no_room = λ p i r. absurd r;
+}
+
+-- a link that waits for credentials
+--
+-- is fit
+pub wanting_fit : (c : MultiplexedConnection) (link after : LinkState) → c.life ≡ Wanting link → IsFitIn c → IsFit c.size c.boundary after → IsFitIn (record c { life = Wanting after })
+wanting_fit c link after e h k = record {
+  wanting = λ x is. (let same : after ≡ x = cc in subst (IsFit c.size c.boundary) same k);
+  setup = λ x u is. cc;
+  link = λ x is. cc;
+  none = λ n. h.none (λ x r. (let no : Wanting link ≡ Ready x = sym e ∙ r in cc));
+}
+
+-- and its waits stay
+pub wanting_waits : (story : ℕ → Story) (requests : List Request) (link after : LinkState) (fresh moved : List ℕ) → TiedWaits story requests (Wanting link) fresh moved → TiedWaits story requests (Wanting after) fresh moved
+wanting_waits story requests link after fresh moved h = record {
+  early = h.early;
+  connect = λ p w d. cc;
+  creds = λ p x w s. h.creds p link w refl;
+  setup = λ p x u w s. cc;
+  permit = λ p x w r. cc;
+  place = h.place;
+  room = λ p i. absurd i;
+  newer = h.newer;
+  rising = h.rising;
+  no_connect = λ p i w d. cc;
+  no_creds = λ p x i w s. h.no_creds p link i w refl;
+  no_setup = λ p x u i w s. cc;
   no_permit = λ p x i w r. cc;
   no_place = h.no_place;
   no_room = λ p i r. absurd r;

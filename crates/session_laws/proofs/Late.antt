@@ -21,7 +21,7 @@ use Rattle.link_laws.specs.Settles.{wanted, awaited_ids}
 use Rattle.mux_conn.specs.declared.act.LinkAct.TheVariants as act
 use Rattle.mux_conn.specs.declared.connection.MultiplexedConnection.{MultiplexedConnection}
 use Rattle.mux_conn.specs.declared.life.Life.{Life}
-use Rattle.mux_conn.specs.declared.life.Life.TheVariants.{Dialing, SettingUp, Ready, Ended}
+use Rattle.mux_conn.specs.declared.life.Life.TheVariants.{Dialing, Wanting, SettingUp, Ready, Ended}
 use Rattle.mux_conn.specs.declared.request.Pending.{Pending}
 use Rattle.mux_conn.specs.declared.request.Request.{Request}
 use Rattle.mux_conn.specs.declared.request.Waiting.{Waiting}
@@ -50,7 +50,7 @@ use Rattle.session_laws.proofs.Answer.{answer_apart, may_answer, owed_untold, no
 use Rattle.session_laws.proofs.Settle.{book_of_more, holds_more, seen, trace_of_acts}
 use Rattle.session_laws.proofs.Announce.{announced_sound, first_book, holds_first, turn_of, turned}
 use Rattle.session_laws.proofs.Heard.{silent_applied, still_none}
-use Rattle.session_laws.proofs.Cancel.{IsSilent, left_fit, left_life, left_link, left_others, left_setup, none_more, queued_apart, silenced_wanted, silent_core, silent_ends, silent_numbers, silent_others, still_dials, still_tied, was_ready, was_setting, without_awaited, without_others, without_rises}
+use Rattle.session_laws.proofs.Cancel.{IsSilent, left_creds, left_fit, left_life, left_link, left_others, left_setup, none_more, queued_apart, silenced_wanted, silent_core, silent_ends, silent_numbers, silent_others, still_dials, still_tied, was_ready, was_setting, was_wanting, without_awaited, without_others, without_rises}
 
 -- a story whose timer fires
 --
@@ -173,6 +173,9 @@ late_lines_in m story requests (Ready link) waiting admitted p started h = late_
 late_lines_in m story requests Dialing waiting admitted p started h =
     let k = late_lines m story requests no_link waiting admitted p started h in
     record { line = k.line; queued = k.queued; entries = k.entries; packs = k.packs; packed_in = k.packed_in; there = k.there }
+late_lines_in m story requests (Wanting link) waiting admitted p started h =
+    let k = late_lines m story requests no_link waiting admitted p started h in
+    record { line = k.line; queued = k.queued; entries = k.entries; packs = k.packs; packed_in = k.packed_in; there = k.there }
 late_lines_in m story requests (SettingUp link with_user) waiting admitted p started h =
     let k = late_lines m story requests no_link waiting admitted p started h in
     record { line = k.line; queued = k.queued; entries = k.entries; packs = k.packs; packed_in = k.packed_in; there = k.there }
@@ -200,6 +203,7 @@ late_told story requests life p o h up n is none = by_life life h up
     by_life : (x : Life) → (has_ended x ≡ false → AreQueued story requests (link_in x)) → has_ended (cancelled_in x p) ≡ false → (q : ℕ) × (q < length requests) × (name_at requests q ≡ n) × IsIn q (queue_ids (link_in (cancelled_in x p)).queue)
     by_life (Ready link) g f = let k = g refl n was untried in (k.0, k.1, k.2, without_others link.queue p k.0 (other k.0 k.2) k.3)
     by_life Dialing g f = g refl n was untried
+    by_life (Wanting link) g f = g refl n was untried
     by_life (SettingUp link with_user) g f = g refl n was untried
     by_life (Ended e) g f = cc
 
@@ -210,12 +214,14 @@ late_waits story requests m life p ys fresh moved line h =
     let after = fires_at m story in
     let same : (q : ℕ) → shown_wait after requests q ≡ shown_wait story requests q = λ q. (fired_at m story (name_at requests q)).waiting in
     let dials = still_dials life p in
+    let wants = was_wanting life p in
     let sets = was_setting life p in
     let ready = was_ready life p in
     let others = left_others requests life ys p 0 line in
     record {
       early = λ q w. one_of (shown_wait after requests q) (shown_wait story requests q) (same q) (h.early q w);
       connect = λ q w d. elim (h.connect q w (dials d)) [ inl i ↦ inl i | inr e ↦ inr (same q ∙ e) ];
+      creds = λ q link w r. let x = wants link r in elim (h.creds q x.0 w x.1) [ inl i ↦ inl i | inr e ↦ inr (same q ∙ e) ];
       setup = λ q link u w r. let x = sets link u r in elim (h.setup q x.0 u w x.1) [ inl i ↦ inl i | inr e ↦ inr (same q ∙ e) ];
       permit = λ q link w r. let x = ready link r in elim (h.permit q x.0 w x.1) [ inl i ↦ inl i | inr e ↦ inr (same q ∙ e) ];
       place = λ q a. elim (h.place q a) [ inl i ↦ inl i | inr e ↦ inr (same q ∙ e) ];
@@ -223,6 +229,7 @@ late_waits story requests m life p ys fresh moved line h =
       newer = h.newer;
       rising = h.rising;
       no_connect = λ q i w d e. h.no_connect q i w (dials d) (sym (same q) ∙ e);
+      no_creds = λ q link i w r e. let x = wants link r in h.no_creds q x.0 i w x.1 (sym (same q) ∙ e);
       no_setup = λ q link u i w r e. let x = sets link u r in h.no_setup q x.0 u i w x.1 (sym (same q) ∙ e);
       no_permit = λ q link i w r e. let x = ready link r in h.no_permit q x.0 i w x.1 (sym (same q) ∙ e);
       no_place = λ q i a e. h.no_place q i a (sym (same q) ∙ e);
@@ -272,6 +279,7 @@ late_tied b c started word n p h is o =
       others = λ k other. silent_others b c (event.Fired n) c.timeout k q (h.others k other);
       pushes = h.pushes;
       life = left_life ledger b.created conn.life p h.life;
+      creds = left_creds ledger.creds conn.wants conn.life p h.creds;
       setup = left_setup ledger conn.info started conn.life p h.setup;
       link = λ alive. left_link conn.requests ledger conn.life p h.link alive;
       names = h.names;
@@ -313,6 +321,7 @@ fired_overdue b c started word n p h is o =
 -- the rows and the queue are without it
 late_apart : (b : Book) (t : Inner) (life : Life) (p : ℕ) → Tied b t → t.life ≡ life → has_ended life ≡ false → is_open (b.story (name_at t.requests p)) ≡ true → IsIn p (wanted (link_in (cancelled_in life p)).row ++ queue_ids (link_in (cancelled_in life p)).queue) → ⊥
 late_apart b t Dialing p h e up o i = i
+late_apart b t (Wanting link) p h e up o i = i
 late_apart b t (SettingUp link with_user) p h e up o i = i
 late_apart b t (Ended x) p h e up o i = cc
 late_apart b t (Ready link) p h e up o i =
@@ -344,6 +353,7 @@ open_alive before c started p h o = by_life c.single.connection.life refl
 
     by_life : (x : Life) → conn.life ≡ x → has_ended conn.life ≡ false
     by_life Dialing e = ap has_ended e
+    by_life (Wanting link) e = ap has_ended e
     by_life (SettingUp link with_user) e = ap has_ended e
     by_life (Ready link) e = ap has_ended e
     by_life (Ended x) e =
@@ -355,6 +365,7 @@ open_alive before c started p h o = by_life c.single.connection.life refl
 -- a cancel ends no link
 still_alive : (life : Life) (p : ℕ) → has_ended life ≡ false → has_ended (cancelled_in life p) ≡ false
 still_alive Dialing p e = refl
+still_alive (Wanting link) p e = refl
 still_alive (SettingUp link with_user) p e = refl
 still_alive (Ready link) p e = refl
 still_alive (Ended x) p e = e

@@ -13,6 +13,7 @@ use Rattle.driver_model.specs.declared.action.Cause.TheVariants as cause
 use Rattle.driver_model.specs.declared.action.Owner.TheVariants as owner
 use Rattle.driver_model.specs.declared.action.Purpose.{Purpose}
 use Rattle.driver_model.specs.declared.action.Purpose.TheVariants as purpose
+use Rattle.driver_model.specs.declared.action.SourceUse.{SourceUse}
 use Rattle.driver_model.specs.declared.config.Config.{Config}
 use Rattle.driver_model.specs.declared.event.Event.{Event}
 use Rattle.driver_model.specs.declared.event.EventKind.{EventKind}
@@ -22,7 +23,7 @@ use Rattle.mux_conn.specs.declared.act.LinkAct.{LinkAct}
 use Rattle.mux_conn.specs.declared.act.LinkAct.TheVariants as act
 use Rattle.mux_conn.specs.declared.request.Pending.{Pending}
 use Rattle.shared_session.specs.Replay.{AreGood, AreGoodOn, is_bad_after, opening_core, opening_actions, outcome_at, outcomes_in, run_on, state_after, trace_of, turns_on, IsSound, connect_asked}
-use Rattle.shared_session.specs.Turn.{Turning, actions_of, asked_for, counted, effect, fired_by, heard, is_bad, late_by, left_by, moved_on, refused_with, shown_each, submitted, next_turn, timed, timer_of}
+use Rattle.shared_session.specs.Turn.{Turning, actions_of, asked_for, counted, effect, fired_by, heard, is_bad, late_by, left_by, moved_on, refused_with, shown_each, submitted, next_turn, numbered, source_of, timer_of}
 use Rattle.shared_session.specs.declared.core_state.Core.{Core}
 use Rattle.legal_trace.specs.Book.{book}
 use Rattle.legal_trace.specs.Events.{is_bad_event}
@@ -37,54 +38,57 @@ use Rattle.session_laws.specs.Outcomes.{last_outcome}
 
 -- a turn
 --
--- the connection's link is this, and the timers are these
-abbrev IsStillOf : Turning → ℕ → List Purpose → Type 0
-IsStillOf t link timers = (t.core.single.link ≡ link) × (t.core.timers ≡ timers)
+-- the connection's link is this, and the timers and the sources of credentials are these
+abbrev IsStillOf : Turning → ℕ → List Purpose → List SourceUse → Type 0
+IsStillOf t link timers sources = (t.core.single.link ≡ link) × (t.core.timers ≡ timers) × (t.core.sources ≡ sources)
 
--- a submission leaves both the same
-refused_still : (t : Turning) (what : Submission) → IsStillOf (submitted t what) t.core.single.link t.core.timers
+-- a submission leaves them the same
+refused_still : (t : Turning) (what : Submission) → IsStillOf (submitted t what) t.core.single.link t.core.timers t.core.sources
 refused_still t what =
-    let still = λ (x : Turning). IsStillOf x t.core.single.link t.core.timers in
+    let still = λ (x : Turning). IsStillOf x t.core.single.link t.core.timers t.core.sources in
     let lacks = lacks_resp3 t.core.single.connection.info.protocol what in
     let packed = if length (packed_bytes what) == 0 then refused_with t error.EmptyCommand else asked_for t what in
     chosen still t.core.shut (refused_with t error.Closed) (if lacks then refused_with t error.Resp3Required else packed)
-    (λ s. (refl, refl))
-    (λ f. chosen still lacks (refused_with t error.Resp3Required) packed (λ s. (refl, refl))
-    (λ d. chosen still (length (packed_bytes what) == 0) (refused_with t error.EmptyCommand) (asked_for t what) (λ s. (refl, refl)) (λ g. (refl, refl))))
+    (λ s. (refl, refl, refl))
+    (λ f. chosen still lacks (refused_with t error.Resp3Required) packed (λ s. (refl, refl, refl))
+    (λ d. chosen still (length (packed_bytes what) == 0) (refused_with t error.EmptyCommand) (asked_for t what) (λ s. (refl, refl, refl)) (λ g. (refl, refl, refl))))
 
 -- so does a leave
-left_still : (t : Turning) (x : Option (Option Pending)) → IsStillOf (left_by t x) t.core.single.link t.core.timers
-left_still t None = (refl, refl)
-left_still t (Some None) = (refl, refl)
-left_still t (Some (Some p)) = (refl, refl)
+left_still : (t : Turning) (x : Option (Option Pending)) → IsStillOf (left_by t x) t.core.single.link t.core.timers t.core.sources
+left_still t None = (refl, refl, refl)
+left_still t (Some None) = (refl, refl, refl)
+left_still t (Some (Some p)) = (refl, refl, refl)
 
 -- and a time that is over
-late_still : (t : Turning) (x : Option (Option Pending)) → IsStillOf (late_by t x) t.core.single.link t.core.timers
-late_still t None = (refl, refl)
-late_still t (Some None) = (refl, refl)
-late_still t (Some (Some p)) = (refl, refl)
+late_still : (t : Turning) (x : Option (Option Pending)) → IsStillOf (late_by t x) t.core.single.link t.core.timers t.core.sources
+late_still t None = (refl, refl, refl)
+late_still t (Some None) = (refl, refl, refl)
+late_still t (Some (Some p)) = (refl, refl, refl)
 
 -- as a timer fires
-fired_still : (t : Turning) (x : Option Purpose) → IsStillOf (fired_by t x) t.core.single.link t.core.timers
-fired_still t None = (refl, refl)
-fired_still t (Some (purpose.Connect l)) = (refl, refl)
-fired_still t (Some (purpose.Response owner.Setup)) = (refl, refl)
+fired_still : (t : Turning) (x : Option Purpose) → IsStillOf (fired_by t x) t.core.single.link t.core.timers t.core.sources
+fired_still t None = (refl, refl, refl)
+fired_still t (Some (purpose.Connect l)) = (refl, refl, refl)
+fired_still t (Some (purpose.Response owner.Setup)) = (refl, refl, refl)
 fired_still t (Some (purpose.Response (owner.Try n round))) = late_still t (slice_get t.core.table n)
 
 -- and so does any event
-effect_still : (c : Core) (kind : EventKind) → IsStillOf (effect (counted c) kind) c.single.link c.timers
+effect_still : (c : Core) (kind : EventKind) → IsStillOf (effect (counted c) kind) c.single.link c.timers c.sources
 effect_still c (event.Submit what) = refused_still (heard (counted c) (event.Submit what)) what
 effect_still c (event.Cancel n) = left_still (heard (counted c) (event.Cancel n)) (slice_get c.table n)
-effect_still c (event.Connected l) = (refl, refl)
-effect_still c (event.Refused l f) = (refl, refl)
+effect_still c (event.Connected l) = (refl, refl, refl)
+effect_still c (event.Refused l f) = (refl, refl, refl)
 effect_still c (event.Fired n) = fired_still (heard (counted c) (event.Fired n)) (slice_get c.timers n)
-effect_still c (event.Timeout ms) = (refl, refl)
-effect_still c (event.Wrote l count) = (refl, refl)
-effect_still c (event.Bytes l piece) = (refl, refl)
-effect_still c (event.Ended l) = (refl, refl)
-effect_still c (event.ReadFault l kind) = (refl, refl)
-effect_still c (event.WriteFault l kind) = (refl, refl)
-effect_still c event.Shutdown = (refl, refl)
+effect_still c (event.Timeout ms) = (refl, refl, refl)
+effect_still c (event.Creds s auth) = (refl, refl, refl)
+effect_still c (event.CredsError s text) = (refl, refl, refl)
+effect_still c (event.CredsEnd s) = (refl, refl, refl)
+effect_still c (event.Wrote l count) = (refl, refl, refl)
+effect_still c (event.Bytes l piece) = (refl, refl, refl)
+effect_still c (event.Ended l) = (refl, refl, refl)
+effect_still c (event.ReadFault l kind) = (refl, refl, refl)
+effect_still c (event.WriteFault l kind) = (refl, refl, refl)
+effect_still c event.Shutdown = (refl, refl, refl)
 
 -- one turn leads from between two turns to between the next two
 turn_between : (before : List Action) (c : Core) (e : Event) → IsBetween before c → is_bad c e.kind ≡ false → IsBetween (before ++ actions_of c e) (next_turn c e.kind).core
@@ -97,8 +101,8 @@ turn_between before c e h good =
     let acts = (moved_on t).acts in
     let done = moved_on_between (before ++ a ∷ []) t h.started applied in
     let same : trace_with (before ++ a ∷ []) (moved_on t) ≡ before ++ actions_of c e =
-    append_assoc before (a ∷ []) (shown_each t.core.single.link (length t.core.timers) acts) ∙ (λ i. before ++ a ∷ shown_each (still.0 i) (length (still.1 i)) acts) in
-    subst (λ (x : List Action). IsBetween x (timed (moved_on t)).core) same done
+    append_assoc before (a ∷ []) (shown_each t.core.single.link (length t.core.timers) (length t.core.sources) acts) ∙ (λ i. before ++ a ∷ shown_each (still.0 i) (length (still.1 i)) (length (still.2 i)) acts) in
+    subst (λ (x : List Action). IsBetween x (numbered (moved_on t)).core) same done
 
 -- a history
 --
@@ -121,26 +125,27 @@ causes-append (action.Turn k c ∷ xs) ys = ap (λ cs. c ∷ cs) (causes-append 
 causes-append (_ ∷ xs) ys = causes-append xs ys
 
 -- acts are no causes
-no_causes : (l n : ℕ) (acts : List LinkAct) → causes (shown_each l n acts) ≡ []
-no_causes l n [] = refl
-no_causes l n (act.Created e ∷ acts) = no_causes l (n + length (timer_of (act.Created e))) acts
-no_causes l n (act.Took k count ∷ acts) = no_causes l (n + length (timer_of (act.Took k count))) acts
-no_causes l n (act.Timer k ms ∷ acts) = no_causes l (n + length (timer_of (act.Timer k ms))) acts
-no_causes l n (act.Push info ∷ acts) = no_causes l (n + length (timer_of (act.Push info))) acts
-no_causes l n (act.Close ∷ acts) = no_causes l (n + length (timer_of act.Close)) acts
-no_causes l n (act.Write bytes ∷ acts) = no_causes l (n + length (timer_of (act.Write bytes))) acts
-no_causes l n (act.Wait k kind ∷ acts) = no_causes l (n + length (timer_of (act.Wait k kind))) acts
-no_causes l n (act.Start m k count len ∷ acts) = no_causes l (n + length (timer_of (act.Start m k count len))) acts
-no_causes l n (act.SetUp m count len ∷ acts) = no_causes l (n + length (timer_of (act.SetUp m count len))) acts
-no_causes l n (act.Outcome k o ∷ acts) = no_causes l (n + length (timer_of (act.Outcome k o))) acts
+no_causes : (l n c : ℕ) (acts : List LinkAct) → causes (shown_each l n c acts) ≡ []
+no_causes l n c [] = refl
+no_causes l n c (act.Created e ∷ acts) = no_causes l (n + length (timer_of (act.Created e))) (c + length (source_of l (act.Created e))) acts
+no_causes l n c (act.Took k count ∷ acts) = no_causes l (n + length (timer_of (act.Took k count))) (c + length (source_of l (act.Took k count))) acts
+no_causes l n c (act.Timer k ms ∷ acts) = no_causes l (n + length (timer_of (act.Timer k ms))) (c + length (source_of l (act.Timer k ms))) acts
+no_causes l n c (act.Push info ∷ acts) = no_causes l (n + length (timer_of (act.Push info))) (c + length (source_of l (act.Push info))) acts
+no_causes l n c (act.NeedCreds ∷ acts) = no_causes l (n + length (timer_of act.NeedCreds)) (c + length (source_of l act.NeedCreds)) acts
+no_causes l n c (act.Close ∷ acts) = no_causes l (n + length (timer_of act.Close)) (c + length (source_of l act.Close)) acts
+no_causes l n c (act.Write bytes ∷ acts) = no_causes l (n + length (timer_of (act.Write bytes))) (c + length (source_of l (act.Write bytes))) acts
+no_causes l n c (act.Wait k kind ∷ acts) = no_causes l (n + length (timer_of (act.Wait k kind))) (c + length (source_of l (act.Wait k kind))) acts
+no_causes l n c (act.Start m k count len ∷ acts) = no_causes l (n + length (timer_of (act.Start m k count len))) (c + length (source_of l (act.Start m k count len))) acts
+no_causes l n c (act.SetUp m count len ∷ acts) = no_causes l (n + length (timer_of (act.SetUp m count len))) (c + length (source_of l (act.SetUp m count len))) acts
+no_causes l n c (act.Outcome k o ∷ acts) = no_causes l (n + length (timer_of (act.Outcome k o))) (c + length (source_of l (act.Outcome k o))) acts
 
 -- a turn for each event
 turns_causes : (c : Core) (es : List Event) → causes (turns_on c es) ≡ event_causes es
 turns_causes c [] = refl
 turns_causes c (e ∷ es) =
     ap (λ cs. cause.Event e ∷ cs)
-    (causes-append (shown_each c.single.link (length c.timers) (next_turn c e.kind).acts) (turns_on (next_turn c e.kind).core es)
-    ∙ (λ i. no_causes c.single.link (length c.timers) (next_turn c e.kind).acts i ++ turns_causes (next_turn c e.kind).core es i))
+    (causes-append (shown_each c.single.link (length c.timers) (length c.sources) (next_turn c e.kind).acts) (turns_on (next_turn c e.kind).core es)
+    ∙ (λ i. no_causes c.single.link (length c.timers) (length c.sources) (next_turn c e.kind).acts i ++ turns_causes (next_turn c e.kind).core es i))
 
 -- the opening asks for what it asks, and is the cause of all of it
 opening_causes : (x : Option ConnectionInfo) (timeout : Option ℕ) (rest : List Action) → causes (connect_asked x timeout ++ rest) ≡ causes rest

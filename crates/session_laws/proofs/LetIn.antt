@@ -1,6 +1,6 @@
 -- A request is let in: it takes its permits, and its timer is asked for.
 use Rattle.std.proofs.Common.{Bool, List, None, Option, Some, [], ap, append_assoc, arith, false, inl, inr, length, refl, slice_get, slice_set, subst, suc, sym, true, zero, ℕ, ◌+◌, ◌-◌, ◌++◌, ◌<◌, ◌≤◌, ◌∙◌, ◌∷◌, ◌≡◌, ◌≢◌, ◌⊎◌}
-use Rattle.std.proofs.lemmas.List.{append-nil, length-append}
+use Rattle.std.proofs.lemmas.List.{length-append}
 use Rattle.std.specs.List.{AllByRecursion}
 use Rattle.std.specs.Prelude.{is_none, is_some, min, nat_lt, not, ◌==◌, ◌&&◌, ◌||◌}
 use Rattle.containers.proofs.Choices.{by_test, chosen, eq_from, eq_test, left_if, ne_from, ne_test, not_both, not_lt_from, taken_if}
@@ -22,8 +22,8 @@ use Rattle.mux_conn.specs.declared.act.LinkAct.{LinkAct}
 use Rattle.mux_conn.specs.declared.act.LinkAct.TheVariants as act
 use Rattle.mux_conn.specs.declared.connection.MultiplexedConnection.{MultiplexedConnection}
 use Rattle.shared_session.specs.declared.core_state.Core.{Core}
-use Rattle.shared_session.specs.Turn.{timer_of, timers_of}
-use Rattle.session_laws.proofs.Entered.{shown_more, timers_more}
+use Rattle.shared_session.specs.Turn.{sources_of, timers_of}
+use Rattle.session_laws.proofs.Entered.{quiet_sources, quiet_timers, shown_more, timers_more}
 use Rattle.session_laws.proofs.Settle.{book_of_more, seen, trace_of_acts}
 use Rattle.mux_conn.specs.Requests.{if_there, is_admitted, is_admitted_at, is_open as is_open_progress, is_placed, is_waiting, is_waiting_at, name_at, permits_at, with_permits}
 use Rattle.mux_conn.specs.declared.life.Life.{Life}
@@ -226,6 +226,7 @@ waits_let f g requests life fresh moved p count w eased h =
     record {
       early = λ m v. one_of (shown_wait g ss m) (shown_wait f requests m) (same m) (h.early m (waits m v));
       connect = λ m v d. elim (h.connect m (waits m v) d) [ inl e ↦ inl e | inr e ↦ inr (same m ∙ e) ];
+      creds = λ m link v d. elim (h.creds m link (waits m v) d) [ inl e ↦ inl e | inr e ↦ inr (same m ∙ e) ];
       setup = λ m link u v d. elim (h.setup m link u (waits m v) d) [ inl e ↦ inl e | inr e ↦ inr (same m ∙ e) ];
       permit = λ m link v d. elim (h.permit m link (waits m v) d) [ inl e ↦ inl e | inr e ↦ inr (same m ∙ e) ];
       place = λ m a. elim (h.place m (admits m a)) [ inl i ↦ inl i | inr e ↦ inr (same m ∙ e) ];
@@ -233,6 +234,7 @@ waits_let f g requests life fresh moved p count w eased h =
       newer = subst (Rising 0 fresh) long h.newer;
       rising = subst (Rising 0 moved) long h.rising;
       no_connect = λ m i v d e. h.no_connect m i (waits m v) d (sym (same m) ∙ e);
+      no_creds = λ m link i v d e. h.no_creds m link i (waits m v) d (sym (same m) ∙ e);
       no_setup = λ m link u i v d e. h.no_setup m link u i (waits m v) d (sym (same m) ∙ e);
       no_permit = λ m link i v d e. h.no_permit m link i (waits m v) d (sym (same m) ∙ e);
       no_place = λ m i a e. h.no_place m i (admits m a) (sym (same m) ∙ e);
@@ -292,6 +294,7 @@ let_tied b t p count free g noted timers w alone eased has sum numbers h = recor
   others = h.others;
   pushes = h.pushes;
   life = h.life;
+  creds = h.creds;
   setup = h.setup;
   link = λ e. carried_tied t.life t.requests (with_permits t.requests p progress.Waiting count) (b.link t.link) (sym (owners_with t.requests p progress.Waiting count)) (h.link e);
   names = names_with t.table t.requests p progress.Waiting count h.names;
@@ -473,6 +476,8 @@ ask_tied b t p number ms w alone h =
       turns = k.turns;
       links = k.links;
       timers = ap (λ ts. ts ++ what ∷ []) h.numbers.timers;
+      sources = k.sources;
+      uses = k.uses;
       aims = aims_more t.timers t.link (length t.table) n known h.numbers.aims;
       timed = λ config word opens bounded none. some_more b.timers what none;
       submissions = k.submissions;
@@ -496,15 +501,12 @@ permits_twice requests p one two a c =
     set_twice (z ∷ xs) zero x y = refl
     set_twice (z ∷ xs) (suc n) x y = ap (λ ys. z ∷ ys) (set_twice xs n x y)
 
--- an act that asks for no timer
-pub quiet_timers : (acts : List LinkAct) (a : LinkAct) → timer_of a ≡ [] → timers_of (acts ++ a ∷ []) ≡ timers_of acts
-quiet_timers acts a e = timers_more acts a ∙ ap (λ ts. timers_of acts ++ ts) e ∙ append-nil (timers_of acts)
-
 -- one that waits holds its permits, where they are counted, and has no timer
 pub record HasTaken (before : List Action) (f : Core) (t : Inner) (p count : ℕ) (acts : List LinkAct) : Type 0 where
   pub going : IsGoing (trace_of_acts before f acts) (lets t p count (t.free - count) (f.timers ++ timers_of acts))
   pub has : (is_none t.limit || nat_lt 0 ((book (trace_of_acts before f acts)).story (name_at t.requests p)).permits) ≡ true
   pub none : ((book (trace_of_acts before f acts)).story (name_at t.requests p)).clock ≡ None
+  pub sourced : f.sources ++ sources_of f.single.link acts ≡ t.sources
 
 -- where permits are counted it has taken some
 some_taken : (before : List Action) (f : Core) (acts : List LinkAct) (conn : MultiplexedConnection) (started : List ℕ) (link : LinkState) (q : Waiting) (qs : List Waiting) (k : ℕ) → IsOpening (seen f acts conn [] started) link q qs → conn.limit ≡ Some k → conn.free ≢ 0
@@ -525,7 +527,7 @@ some_taken before f acts conn started link q qs k o e some h =
     (refl, may_take b t link q qs k o refl e some h.sound.tied h.ended)
     (take_tied b t p count o.is_waiting refl most.0 h.sound.tied)
     h.ended in
-    let there = subst (λ (x : List Action). IsGoing x after) (sym (shown_more before f.single.link (length f.timers) acts a)) first in
+    let there = subst (λ (x : List Action). IsGoing x after) (sym (shown_more before f.single.link (length f.timers) (length f.sources) acts a)) first in
     let book_is = book_of_more before f acts a in
     let own : (entered b taken).story n ≡ holds (b.story n) count = taken_if (n == n) (holds (b.story n) count) (b.story n) (eq_test n n refl) in
     let story_is : (book (trace_of_acts before f (acts ++ a ∷ []))).story n ≡ holds (b.story n) count = ap (λ (x : Book). x.story n) book_is ∙ own in
@@ -533,6 +535,7 @@ some_taken before f acts conn started link q qs k o e some h =
       going = subst (λ ts. IsGoing (trace_of_acts before f (acts ++ a ∷ [])) (lets t p count (conn.free - count) (f.timers ++ ts))) (sym (quiet_timers acts a refl)) there;
       has = ap (λ (x : Story). is_none conn.limit || nat_lt 0 x.permits) story_is ∙ ap (λ x. is_none conn.limit || x) (some_less count most.1) ∙ or_true (is_none conn.limit);
       none = ap (λ (x : Story). x.clock) story_is ∙ (h.sound.tied.permits.none p o.is_waiting (λ i. i)).1;
+      sourced = ap (λ ss. f.sources ++ ss) (quiet_sources f.single.link acts a refl);
     }
   where
     some_less : (n : ℕ) → 0 < n → nat_lt 0 n ≡ true
@@ -547,6 +550,7 @@ none_taken before f acts conn started link q qs o e h =
       going = record { sound = record { stands = h.sound.stands; tied = free_tied (book (trace_of_acts before f acts)) t q.number o.is_waiting refl e h.sound.tied }; ended = h.ended };
       has = ap (λ (x : Option ℕ). is_none x || nat_lt 0 ((book (trace_of_acts before f acts)).story (name_at conn.requests q.number)).permits) e;
       none = (h.sound.tied.permits.none q.number o.is_waiting (λ i. i)).1;
+      sourced = refl;
     }
 
 -- what is shown of that leaves the connection
@@ -569,6 +573,7 @@ has_taken before f acts conn started link q qs (Some k) o e some h =
 pub record HasLet (before : List Action) (f : Core) (t : Inner) (p count : ℕ) (acts : List LinkAct) : Type 0 where
   pub going : IsGoing (trace_of_acts before f acts) (lets t p count (t.free - count) (f.timers ++ timers_of acts))
   pub is : is_let_in t.limit ((book (trace_of_acts before f acts)).story (name_at t.requests p)) ≡ true
+  pub sourced : f.sources ++ sources_of f.single.link acts ≡ t.sources
 
 -- it is still to be let in when it holds its permits
 opening_taken : (t : Inner) (link : LinkState) (q : Waiting) (qs : List Waiting) (count free : ℕ) (timers : List Purpose) → IsOpening t link q qs → IsOpening (lets t q.number count free timers) link q qs
@@ -591,7 +596,7 @@ let_untimed before f t link q qs count acts o e h =
     let now = lets t q.number count (t.free - count) (f.timers ++ timers_of acts) in
     let packed = opening_packed b now link q qs (opening_taken t link q qs count (t.free - count) (f.timers ++ timers_of acts) o) h.going.sound.tied in
     let time : (b.story n).timeout ≡ None = ap (λ m. (b.story m).timeout) (sym (name_with t.requests q.number progress.Waiting count q.number)) ∙ sym packed.time_is ∙ e in
-    record { going = h.going; is = λ i. h.has i && (is_none (time i) || is_some (b.story n).clock) }
+    record { going = h.going; is = λ i. h.has i && (is_none (time i) || is_some (b.story n).clock); sourced = h.sourced }
 
 -- where it has one, it is
 let_timed : (before : List Action) (f : Core) (t : Inner) (link : LinkState) (q : Waiting) (qs : List Waiting) (count ms : ℕ) (acts : List LinkAct) → IsOpening t link q qs → q.timeout ≡ Some ms → t.link ≡ f.single.link → HasTaken before f t q.number count acts
@@ -621,12 +626,13 @@ let_timed before f t link q qs count ms acts o e same h =
     subst (λ (x : List Request). Tied (entered b timer) (record after { requests = x })) again
     (subst (λ m. Tied (entered b (action.Timer number ms (purpose.Response (owner.Try m 0)))) (record after { requests = with_permits now.requests p progress.Waiting (permits_at now.requests p); timers = timers ++ purpose.Response (owner.Try m 0) ∷ [] })) named asked) in
     let first : IsGoing (trace ++ timer ∷ []) after = going_more trace timer after h.going.sound.stands (inr stands) tied h.going.ended in
-    let there = subst (λ (x : List Action). IsGoing x after) (sym (shown_more before f.single.link (length f.timers) acts a)) first in
+    let there = subst (λ (x : List Action). IsGoing x after) (sym (shown_more before f.single.link (length f.timers) (length f.sources) acts a)) first in
     let own : (entered b timer).story n ≡ clocked (b.story n) number = taken_if (n == n) (clocked (b.story n) number) (b.story n) (eq_test n n refl) in
     let story_is : (book (trace_of_acts before f (acts ++ a ∷ []))).story n ≡ clocked (b.story n) number = ap (λ (x : Book). x.story n) (book_of_more before f acts a) ∙ own in
     record {
       going = subst (λ ts. IsGoing (trace_of_acts before f (acts ++ a ∷ [])) (lets t p count (t.free - count) ts)) (append_assoc f.timers (timers_of acts) (what ∷ []) ∙ ap (λ ts. f.timers ++ ts) (sym (timers_more acts a))) there;
       is = ap (is_let_in t.limit) story_is ∙ (λ i. h.has i && or_true (is_none (b.story n).timeout) i);
+      sourced = ap (λ ss. f.sources ++ ss) (quiet_sources f.single.link acts a refl) ∙ h.sourced;
     }
 
 -- by its time

@@ -1,6 +1,7 @@
 pub mod Numbers
 pub mod Tied
 pub mod States
+pub mod Creds
 pub mod SetUp
 pub mod Said
 pub mod Entered
@@ -28,9 +29,12 @@ pub mod Announce
 pub mod Heard
 pub mod Failing
 pub mod End
+pub mod ComeUp
 pub mod Connect
+pub mod Given
 pub mod Took
 pub mod ReadSetup
+pub mod ReadWanting
 pub mod Read
 pub mod Cancel
 pub mod Late

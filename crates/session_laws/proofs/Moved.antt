@@ -12,7 +12,7 @@ use Rattle.mux_conn.specs.Effects.{failed_each, nobody_waits, waiting_failed}
 use Rattle.mux_conn.specs.Passes.{admitted, admitted_all, admitted_at, admitted_each, moved_up_all, moved_up_each, passed, started_at, still_admitted, still_waiting}
 use Rattle.mux_conn.specs.Requests.{answered, with_permits, is_open as is_open_progress, is_open_at, is_waiting, is_waiting_at}
 use Rattle.mux_conn.specs.declared.life.Life.{Life}
-use Rattle.mux_conn.specs.declared.life.Life.TheVariants.{Dialing, Ended, Ready, SettingUp}
+use Rattle.mux_conn.specs.declared.life.Life.TheVariants.{Dialing, Ended, Ready, Wanting, SettingUp}
 use Rattle.mux_conn.specs.declared.request.Progress.TheVariants as progress
 use Rattle.mux_conn.specs.declared.request.Request.{Request}
 use Rattle.mux_conn.specs.declared.request.Waiting.{Waiting}
@@ -56,6 +56,10 @@ one_link life link link' e k = let both : Ready link ≡ Ready link' = sym e ∙
 not_both_lives : (life : Life) (link link' : LinkState) (with_user : Bool) → life ≡ Ready link → life ≡ SettingUp link' with_user → ⊥
 not_both_lives life link link' with_user e k = let both : Ready link ≡ SettingUp link' with_user = sym e ∙ k in cc
 
+-- nor does it wait for credentials
+not_wanting_too : (life : Life) (link link' : LinkState) → life ≡ Ready link → life ≡ Wanting link' → ⊥
+not_wanting_too life link link' e k = let both : Ready link ≡ Wanting link' = sym e ∙ k in cc
+
 -- nothing moves there any more
 up_moved : (before : List Action) (f : Core) (w : Work) → IsDone before f w → HasMoved before f w
 up_moved before f w done =
@@ -65,7 +69,7 @@ up_moved before f w done =
       started = h.started;
       holds = h.going.sound;
       ended = h.going.ended;
-      fit = record { setup = λ link u e. absurd (not_both_lives c.life h.link link u h.life e); link = λ link e. subst (IsFit c.size c.boundary) (one_link c.life h.link link h.life e) h.fit; none = λ no. absurd (no h.link h.life) };
+      fit = record { wanting = λ link e. absurd (not_wanting_too c.life h.link link h.life e); setup = λ link u e. absurd (not_both_lives c.life h.link link u h.life e); link = λ link e. subst (IsFit c.size c.boundary) (one_link c.life h.link link h.life e) h.fit; none = λ no. absurd (no h.link h.life) };
       still = record {
         setup = λ link u e. absurd (not_both_lives c.life h.link link u h.life e);
         held = λ link e. subst (λ (x : LinkState). (x.queue ≡ []) ⊎ (holds_back x ≡ true)) (one_link c.life h.link link h.life e) h.held;
@@ -106,7 +110,7 @@ ready_moved before f w started link life h =
     (subst (λ (x : List Waiting). HasMoved before f (admitted_all (moved_up_each (still_admitted v []) x))) (sym keeps.admitted)
     (subst (λ (x : List Waiting). HasMoved before f (admitted_each (still_waiting u []) x)) (sym same) all))
 
--- while the connect isn't answered
+-- while the connect isn't answered, or credentials are to come
 --
 stuck_stays : (w : Work) (qs : List Waiting) → admits_none w.conn ≡ true → admitted_each w qs ≡ still_waiting w qs
 stuck_stays w [] e = refl
@@ -116,25 +120,52 @@ stuck_stays w (q ∷ qs) e = taken_if (admits_none w.conn) (still_waiting w (q �
 none_moved_up : (w : Work) → w.conn.admitted ≡ [] → moved_up_all w ≡ w
 none_moved_up w e = ap (moved_up_each (still_admitted w [])) e ∙ ap (still_admitted w) (sym e)
 
+-- nothing of a connection can move: no message starts, and nobody who waits for the connection is let in
+record IsStuck (w : Work) : Type 0 where
+  none_starts : started_at w w.conn.life ≡ w
+  admits : admits_none w.conn ≡ true
+  down : (link : LinkState) → w.conn.life ≡ Ready link → ⊥
+  unset : (link : LinkState) (with_user : Bool) → w.conn.life ≡ SettingUp link with_user → ⊥
+  alive : has_ended w.conn.life ≡ false
+
 -- all stays there
-dialing_moved : (before : List Action) (f : Core) (w : Work) (started : List ℕ) → w.conn.life ≡ Dialing → IsReady before f w started → HasMoved before f (passed w)
-dialing_moved before f w started life h =
-    let down : (link : LinkState) → w.conn.life ≡ Ready link → ⊥ = λ link e. (let no : Dialing ≡ Ready link = sym life ∙ e in cc) in
+stuck_moved : (before : List Action) (f : Core) (w : Work) (started : List ℕ) → IsStuck w → IsReady before f w started → HasMoved before f (passed w)
+stuck_moved before f w started stuck h =
     let same : passed w ≡ w =
-    ap (λ (x : Life). admitted_all (moved_up_all (started_at w x))) life ∙ ap admitted_all (none_moved_up w (h.fit.none down)) ∙ stuck_stays (still_waiting w []) w.conn.waiting (ap (λ (x : Life). admits_none_at x (has_no_permit w.conn.limit w.conn.free)) life) in
+    ap (λ (x : Work). admitted_all (moved_up_all x)) stuck.none_starts ∙ ap admitted_all (none_moved_up w (h.fit.none stuck.down)) ∙ stuck_stays (still_waiting w []) w.conn.waiting stuck.admits in
     subst (HasMoved before f) (sym same) (record {
       started = started;
       holds = h.holds;
       ended = h.ended;
       fit = h.fit;
       still = record {
-        setup = λ link u e. absurd (let no : Dialing ≡ SettingUp link u = sym life ∙ e in cc);
-        held = λ link e. absurd (down link e);
-        full = λ link e. absurd (down link e);
-        waiting = λ link e. absurd (down link e);
-        none_waits = λ over. absurd (not_both (has_ended w.conn.life) (ap has_ended life) over);
+        setup = λ link u e. absurd (stuck.unset link u e);
+        held = λ link e. absurd (stuck.down link e);
+        full = λ link e. absurd (stuck.down link e);
+        waiting = λ link e. absurd (stuck.down link e);
+        none_waits = λ over. absurd (not_both (has_ended w.conn.life) stuck.alive over);
       };
     })
+
+-- so it is while the connect isn't answered
+dialing_stuck : (w : Work) → w.conn.life ≡ Dialing → IsStuck w
+dialing_stuck w life = record {
+  none_starts = ap (started_at w) life;
+  admits = ap (λ (x : Life). admits_none_at x (has_no_permit w.conn.limit w.conn.free)) life;
+  down = λ link e. (let no : Dialing ≡ Ready link = sym life ∙ e in cc);
+  unset = λ link u e. (let no : Dialing ≡ SettingUp link u = sym life ∙ e in cc);
+  alive = ap has_ended life;
+}
+
+-- and while credentials are to come
+wanting_stuck : (w : Work) (link : LinkState) → w.conn.life ≡ Wanting link → IsStuck w
+wanting_stuck w link life = record {
+  none_starts = ap (started_at w) life;
+  admits = ap (λ (x : Life). admits_none_at x (has_no_permit w.conn.limit w.conn.free)) life;
+  down = λ x e. (let no : Wanting link ≡ Ready x = sym life ∙ e in cc);
+  unset = λ x u e. (let no : Wanting link ≡ SettingUp x u = sym life ∙ e in cc);
+  alive = ap has_ended life;
+}
 
 -- while the link is set up
 --
@@ -153,6 +184,7 @@ setting_moved before f w started link with_user life h =
       holds = begun.going.sound;
       ended = begun.going.ended;
       fit = record {
+        wanting = λ x e. absurd (let no : SettingUp begun.link with_user ≡ Wanting x = sym begun.life ∙ e in cc);
         setup = λ x u e. subst (IsFit c.size c.boundary) (one_setting c.life begun.link x with_user u begun.life e) begun.fit;
         link = λ x e. absurd (down x e);
         none = λ no. begun.admitted;
@@ -236,19 +268,23 @@ over_moved before f w e started over h =
       started = started;
       holds = done.holds;
       ended = ends.0;
-      fit = record { setup = λ link u r. absurd (over_setting link u (sym done.over ∙ r)); link = λ link r. absurd (down link r); none = λ no. done.none_admitted };
+      fit = record { wanting = λ link r. absurd (over_wanting link (sym done.over ∙ r)); setup = λ link u r. absurd (over_setting link u (sym done.over ∙ r)); link = λ link r. absurd (down link r); none = λ no. done.none_admitted };
       still = record { setup = λ link u r. absurd (over_setting link u (sym done.over ∙ r)); held = λ link r. absurd (down link r); full = λ link r. absurd (down link r); waiting = λ link r. absurd (down link r); none_waits = λ no. done.none_waits };
     })
   where
     over_setting : (link : LinkState) (with_user : Bool) → Ended e ≡ SettingUp link with_user → ⊥
     over_setting link with_user same = cc
 
+    over_wanting : (link : LinkState) → Ended e ≡ Wanting link → ⊥
+    over_wanting link same = cc
+
 -- all requests are moved
 pub passed_moved : (before : List Action) (f : Core) (w : Work) (started : List ℕ) → IsReady before f w started → HasMoved before f (passed w)
 passed_moved before f w started h = by_life w.conn.life refl
   where
     by_life : (life : Life) → w.conn.life ≡ life → HasMoved before f (passed w)
-    by_life Dialing e = dialing_moved before f w started e h
+    by_life Dialing e = stuck_moved before f w started (dialing_stuck w e) h
+    by_life (Wanting link) e = stuck_moved before f w started (wanting_stuck w link e) h
     by_life (SettingUp link with_user) e = setting_moved before f w started link with_user e h
     by_life (Ready link) e = ready_moved before f w started link e h
     by_life (Ended x) e = over_moved before f w x started e h

@@ -8,7 +8,7 @@ use Rattle.redis_error.specs.declared.config_name.ConfigName.TheVariants as name
 use Rattle.driver_model.specs.declared.action.Action.TheVariants as action
 use Rattle.driver_model.specs.declared.action.Cause.TheVariants as cause
 use Rattle.driver_model.specs.declared.config.Config.{Config}
-use Rattle.driver_model.specs.Config.{address, boundary, buffer_fault, buffer_size, connect_timeout, fault_in, response_timeout, room_fault, told_info, hears_pushes}
+use Rattle.driver_model.specs.Config.{address, boundary, buffer_fault, buffer_size, connect_timeout, fault_in, response_timeout, room_fault, told_info, hears_pushes, wants_credentials}
 use Rattle.driver_model.specs.declared.action.Action.{Action}
 use Rattle.driver_model.specs.declared.action.Cause.{Cause}
 use Rattle.driver_model.specs.declared.action.Purpose.{Purpose}
@@ -46,13 +46,14 @@ opened_core config timers = record {
   shut = false;
   timeout = response_timeout config;
   timers = timers;
+  sources = [];
   table = [];
-  single = record { link = first_link; connection = dialing (buffer_size config) (boundary config) config.limit (hears_pushes config) (told_info config) };
+  single = record { link = first_link; connection = dialing (buffer_size config) (boundary config) config.limit (hears_pushes config) (told_info config) (wants_credentials config) };
 }
 
 -- no other link is told of
 opened_link : (config : Config) (word : ℕ) (info : ConnectionInfo) (timers : List Purpose) (m : ℕ) → m ≢ first_link → (opened config word info timers).link m ≡ blank_ledger
-opened_link config word info timers m other = ap (noted_each blank_ledger) (left_if (first_link == m) (asks (told_info config) ∷ []) [] (ne_test first_link m (λ e. other (sym e))))
+opened_link config word info timers m other = ap (noted_each blank_ledger) (left_if (first_link == m) (asks (told_info config) (wants_credentials config) ∷ []) [] (ne_test first_link m (λ e. other (sym e))))
 
 -- the opening that runs is its own
 own_opening : (config other : Config) (word another : ℕ) → ◌≡◌ {A = Option Cause} (Some (cause.Opening config word)) (Some (cause.Opening other another)) → config ≡ other
@@ -104,6 +105,8 @@ opening_numbers config word info timeout some is = record {
   turns = refl;
   links = refl;
   timers = refl;
+  sources = refl;
+  uses = λ k what e. cc;
   aims = first_aims timeout;
   timed = λ other another opens bounded. bounded_timers timeout (λ none. bounded (ap connect_timeout (sym (own_opening config other word another opens)) ∙ is ∙ none));
   submissions = refl;
@@ -123,6 +126,7 @@ opening_waits : TiedWaits (λ n. blank_story) [] Dialing [] []
 opening_waits = record {
   early = λ p w. cc;
   connect = λ p w e. cc;
+  creds = λ p link w e. cc;
   setup = λ p link u w e. cc;
   permit = λ p link w e. cc;
   place = λ p a. cc;
@@ -130,6 +134,7 @@ opening_waits = record {
   newer = omega arith;
   rising = omega arith;
   no_connect = λ p i. absurd i;
+  no_creds = λ p link i. absurd i;
   no_setup = λ p link u i. absurd i;
   no_permit = λ p link i. absurd i;
   no_place = λ p i. absurd i;
@@ -159,8 +164,9 @@ opening_tied config word info timeout some is = record {
   others = λ m other. subst IsUnknown (sym (opened_link config word info (connect_timers timeout) m other)) (record { asked = refl; up = refl; end = refl; starts = refl; pushes = refl });
   pushes = record { heard_is = refl; within = λ y. omega arith; untold_is = λ y. refl; parts = λ y d z. cc; alive = λ z. refl; due = λ z. cc };
   life = (refl, refl, refl, refl);
+  creds = record { wanted_is = refl; sought = (refl, refl) };
   setup = record { info_is = refl; sent = λ k s less e. absurd (omega arith); said = (refl, refl) };
-  link = λ e. asked_tied (owner_of []) blank_ledger (told_info config) no_link (fresh_tied (owner_of []) 0 0);
+  link = λ e. asked_tied (owner_of []) blank_ledger (told_info config) (wants_credentials config) no_link (fresh_tied (owner_of []) 0 0);
   names = opening_names;
   story = λ n. refl;
   tries = opening_tries ((opened config word info (connect_timers timeout)).link first_link) refl;
@@ -173,7 +179,7 @@ opening_tied config word info timeout some is = record {
 
 -- no link must end
 opening_ends : (config : Config) (word : ℕ) (info : ConnectionInfo) (timers : List Purpose) → NoneEnds (opened config word info timers)
-opening_ends config word info timers m = chosen (λ (ls : List Line). ending (noted_each blank_ledger ls) ≡ None) (first_link == m) (asks (told_info config) ∷ []) [] (λ t. refl) (λ f. refl)
+opening_ends config word info timers m = chosen (λ (ls : List Line). ending (noted_each blank_ledger ls) ≡ None) (first_link == m) (asks (told_info config) (wants_credentials config) ∷ []) [] (λ t. refl) (λ f. refl)
 
 -- what the opening shows
 abbrev opened_actions : Config → ℕ → ConnectionInfo → Option ℕ → List Action
@@ -207,7 +213,7 @@ opened_between config word info timeout sound at some is =
     let conn = c.single.connection in
     let t = inner c [] in
     let tied = opening_tied config word info timeout some is in
-    let fit : IsFitIn conn = record { setup = λ link u e. cc; link = λ link e. cc; none = λ no. refl } in
+    let fit : IsFitIn conn = record { wanting = λ link e. cc; setup = λ link u e. cc; link = λ link e. cc; none = λ no. refl } in
     let still : IsStill conn = record { setup = λ link u e. cc; held = λ link e. cc; full = λ link e. cc; waiting = λ link e. cc; none_waits = λ e. refl } in
     let moved = is_moved b t tied refl (refl, refl) refl (opening_ends config word info timers) fit.link fit.none still.held still.full still.waiting still.none_waits fit.setup still.setup in
     let written = is_written b t tied moved refl in

@@ -111,6 +111,9 @@ event_outcomes os b number word (event.Refused l f) h = same_outcomes os b (acti
 event_outcomes os b number word (event.Fired k) h =
     same_outcomes os b (action.Turn number (cause.Event (record { word = word; kind = event.Fired k }))) (omega arith)
     (λ n. chosen (SameTold (b.story n)) (is_clock_of n (slice_get b.timers k)) (fires (b.story n)) (b.story n) (λ t. fires_same (b.story n)) (λ f. (refl, refl))) h
+event_outcomes os b number word (event.Creds c auth) h = same_outcomes os b (action.Turn number (cause.Event (record { word = word; kind = event.Creds c auth }))) (omega arith) (λ n. (refl, refl)) h
+event_outcomes os b number word (event.CredsError c text) h = same_outcomes os b (action.Turn number (cause.Event (record { word = word; kind = event.CredsError c text }))) (omega arith) (λ n. (refl, refl)) h
+event_outcomes os b number word (event.CredsEnd c) h = same_outcomes os b (action.Turn number (cause.Event (record { word = word; kind = event.CredsEnd c }))) (omega arith) (λ n. (refl, refl)) h
 event_outcomes os b number word (event.Timeout ms) h = same_outcomes os b (action.Turn number (cause.Event (record { word = word; kind = event.Timeout ms }))) (omega arith) (λ n. (refl, refl)) h
 event_outcomes os b number word (event.Wrote l count) h = same_outcomes os b (action.Turn number (cause.Event (record { word = word; kind = event.Wrote l count }))) (omega arith) (λ n. (refl, refl)) h
 event_outcomes os b number word (event.Bytes l piece) h = same_outcomes os b (action.Turn number (cause.Event (record { word = word; kind = event.Bytes l piece }))) (omega arith) (λ n. (refl, refl)) h
@@ -145,6 +148,7 @@ action_outcomes os b (action.Timer t ms what) may h = same_outcomes os b (action
 action_outcomes os b (action.Took owner.Setup l count) may h = absurd may
 action_outcomes os b (action.Took (owner.Try m round) l count) may h = same_outcomes os b (action.Took (owner.Try m round) l count) refl (took_same b m round l count) h
 action_outcomes os b (action.Push l info) may h = same_outcomes os b (action.Push l info) refl (λ n. (refl, refl)) h
+action_outcomes os b (action.NeedCreds c l) may h = same_outcomes os b (action.NeedCreds c l) refl (λ n. (refl, refl)) h
 action_outcomes os b (action.Close l) may h = same_outcomes os b (action.Close l) refl (λ n. (refl, refl)) h
 action_outcomes os b (action.Write l bytes) may h = same_outcomes os b (action.Write l bytes) refl (λ n. (refl, refl)) h
 action_outcomes os b (action.Wait owner.Setup kind) may h = absurd may

@@ -16,7 +16,7 @@ use Rattle.link_laws.specs.Settles.{wanted, StandsAs, IsOwed}
 use Rattle.link_laws.proofs.TiedLink.{TiedLink}
 use Rattle.link_laws.proofs.Started.{IsOpenAs, OpenFrom, row_open, open_unowed}
 use Rattle.mux_conn.specs.declared.life.Life.{Life}
-use Rattle.mux_conn.specs.declared.life.Life.TheVariants.{Dialing, SettingUp, Ready, Ended}
+use Rattle.mux_conn.specs.declared.life.Life.TheVariants.{Dialing, Wanting, SettingUp, Ready, Ended}
 use Rattle.mux_conn.specs.declared.request.Pending.{Pending}
 use Rattle.mux_conn.specs.declared.request.Request.{Request}
 use Rattle.mux_conn.specs.Requests.{name_at, is_open_at}
@@ -171,6 +171,7 @@ wanted_entry name l k (e ∷ es) p all (inr i) = let w = wanted_entry name l (su
 -- how far a link has come that has not ended
 pub lives : (l : Ledger) (created : ℕ) (life : Life) → TiedLife l created life → has_ended life ≡ false → l.end ≡ None
 lives l created Dialing h n = h.2
+lives l created (Wanting link) h n = h.2
 lives l created (SettingUp link with_user) h n = h.2
 lives l created (Ready link) h n = h.2
 lives l created (Ended e) h n = cc
@@ -178,6 +179,7 @@ lives l created (Ended e) h n = cc
 -- a link that has messages of requests in its row is tied by their names
 pub row_link : (l : Ledger) (requests : List Request) (life : Life) (p : ℕ) → IsIn p (row_ids (link_in life).row) → TiedLink (carried life requests) l (whole_link life) → TiedLink (owner_of requests) l (link_in life)
 row_link l requests Dialing p i h = absurd i
+row_link l requests (Wanting link) p i h = absurd i
 row_link l requests (SettingUp link with_user) p i h = absurd i
 row_link l requests (Ready link) p i h = h
 row_link l requests (Ended e) p i h = absurd i
@@ -232,6 +234,7 @@ alive_failure end created none e fails = absurd (let no : ◌≡◌ {A = Option 
 -- by how far the link has come
 failure_shown : (l : Ledger) (created : ℕ) (life : Life) → TiedLife l created life → FailureIsShown l.end created
 failure_shown l created Dialing h = alive_failure l.end created h.2
+failure_shown l created (Wanting link) h = alive_failure l.end created h.2
 failure_shown l created (SettingUp link with_user) h = alive_failure l.end created h.2
 failure_shown l created (Ready link) h = alive_failure l.end created h.2
 failure_shown l created (Ended e) h = h.2

@@ -17,12 +17,13 @@ use Rattle.mux_conn.specs.declared.act.LinkAct.{LinkAct}
 use Rattle.mux_conn.specs.declared.act.LinkAct.TheVariants as act
 use Rattle.mux_conn.specs.declared.connection.MultiplexedConnection.{MultiplexedConnection}
 use Rattle.mux_conn.specs.declared.life.Life.{Life}
-use Rattle.mux_conn.specs.declared.life.Life.TheVariants.{Dialing, Ended, Ready, SettingUp}
+use Rattle.mux_conn.specs.declared.life.Life.TheVariants.{Dialing, Ended, Ready, Wanting, SettingUp}
 use Rattle.mux_conn.specs.declared.request.Progress.{Progress}
 use Rattle.mux_conn.specs.declared.request.Progress.TheVariants as progress
 use Rattle.mux_conn.specs.declared.request.Request.{Request}
 use Rattle.mux_conn.specs.declared.request.Waiting.{Waiting}
 use Rattle.shared_session.specs.declared.core_state.Core.{Core}
+use Rattle.shared_session.specs.Turn.{timers_of}
 use Rattle.legal_trace.specs.Book.{Book, book}
 use Rattle.legal_trace.specs.Legal.{MayTell, NoneEnds}
 use Rattle.legal_trace.specs.Steps.{is_let_in}
@@ -30,15 +31,15 @@ use Rattle.session_laws.proofs.Ahead.{IsRunning, first_step, kept_unstarted, wai
 use Rattle.session_laws.proofs.Entered.{shown_more}
 use Rattle.session_laws.proofs.Going.{IsGoing, begun_up, first_behind, going_more}
 use Rattle.session_laws.proofs.InLine.{kept_ids}
-use Rattle.session_laws.proofs.LetIn.{IsOpening, let_in_conn, let_in_going, permits_twice, quiet_timers}
+use Rattle.session_laws.proofs.LetIn.{IsOpening, let_in_conn, let_in_going, lets, permits_twice}
 use Rattle.session_laws.proofs.Names.{length_still, length_with, name_still, name_with, open_within, permits_still, permits_with, there_same, with_same}
 use Rattle.session_laws.proofs.Numbers.{IsIn, Rising, rising_left, rising_right, rising_tail, rising_without}
 use Rattle.session_laws.proofs.Owes.{request_story}
 use Rattle.session_laws.proofs.Place.{IsNext, admit_tied, next_admitted, next_waiting, passed_admitted, passed_waiting, place_tied, tell_tied, with_place, with_told}
 use Rattle.session_laws.proofs.SetsUp.{set_up_conn}
-use Rattle.session_laws.proofs.Settle.{answered_leaves, seen, trace_of_acts}
+use Rattle.session_laws.proofs.Settle.{answered_leaves, quiet_asks, seen, trace_of_acts}
 use Rattle.session_laws.proofs.Start.{on_link}
-use Rattle.session_laws.proofs.Starts.{each_fit, each_going, each_held, shown_is, shows, shows_timers}
+use Rattle.session_laws.proofs.Starts.{each_fit, each_going, each_held, shown_is, shows, shows_sources, shows_timers}
 use Rattle.session_laws.proofs.States.{IsFit}
 use Rattle.session_laws.proofs.Tied.{Inner, Tied, queue_ids, waiting_ids}
 
@@ -79,7 +80,8 @@ started_up before f w link admitted waiting next done fit h order =
       fit = each_fit w.conn.size w.conn.boundary from link.queue fit;
       held = each_held from link.queue;
       started = done ++ ids;
-      going = subst (λ ts. IsGoing (trace_of_acts before f acts) (record (on_link t s.link) { started = done ++ ids; timers = f.timers ++ ts })) (sym (shows_timers w.acts w.conn.requests s.out)) (each_going before (length f.timers) w.acts t from link.queue fit first);
+      going = subst (λ ss. IsGoing (trace_of_acts before f acts) (record (on_link t s.link) { started = done ++ ids; timers = f.timers ++ timers_of acts; sources = f.sources ++ ss })) (sym (shows_sources f.single.link w.acts w.conn.requests s.out))
+          (subst (λ ts. IsGoing (trace_of_acts before f acts) (record (on_link t s.link) { started = done ++ ids; timers = f.timers ++ ts })) (sym (shows_timers w.acts w.conn.requests s.out)) (each_going before (length f.timers) (length f.sources) w.acts t from link.queue fit first));
       order = order;
     })
 
@@ -101,6 +103,7 @@ keeps_on u v w h k = record { admitted = k.admitted ∙ h.admitted; waiting = k.
 -- starts leave those that wait
 pub started_keeps : (w : Work) (life : Life) → Keeps w (started_at w life)
 started_keeps w Dialing = record { admitted = refl; waiting = refl }
+started_keeps w (Wanting link) = record { admitted = refl; waiting = refl }
 started_keeps w (SettingUp link with_user) =
     let s = started_all (record { link = link; out = [] }) in
     let same = set_up_conn (with_setup w s.link with_user) s.out in
@@ -114,6 +117,7 @@ started_keeps w (Ended e) = record { admitted = refl; waiting = refl }
 -- so does the place of another
 placed_keeps : (w : Work) (q : Waiting) (life : Life) → Keeps w (placed_at w q life)
 placed_keeps w q Dialing = record { admitted = refl; waiting = refl }
+placed_keeps w q (Wanting link) = record { admitted = refl; waiting = refl }
 placed_keeps w q (SettingUp link with_user) = record { admitted = refl; waiting = refl }
 placed_keeps w q (Ready link) = record { admitted = refl; waiting = refl }
 placed_keeps w q (Ended e) = record { admitted = refl; waiting = refl }
@@ -212,13 +216,14 @@ told_up before f w q was_admitted was_waiting admitted waiting letting next h no
     let is_open : is_open_at placed p ≡ true = there_same is_open_progress w.conn.requests p progress.Placed within in
     let going = told_going trace t h.link q waiting admitted not_awaited h.fit h.held room first (up_going before f w was_admitted was_waiting letting (p ∷ next) h) in
     let shown : trace ++ action.Outcome (name_at w.conn.requests p) nil ∷ [] ≡ trace_of_acts before f (w.acts ++ a ∷ []) =
-    ap (λ n. trace ++ action.Outcome n nil ∷ []) (sym (name_still w.conn.requests p progress.Placed p)) ∙ sym (shown_more before f.single.link (length f.timers) w.acts a) in
+    ap (λ n. trace ++ action.Outcome n nil ∷ []) (sym (name_still w.conn.requests p progress.Placed p)) ∙ sym (shown_more before f.single.link (length f.timers) (length f.sources) w.acts a) in
     let after = with_told t h.link q waiting admitted in
     let there = subst (λ (x : List Action). IsGoing x after) shown going in
     let twice : with_permits w.conn.requests p progress.Closed 0 ≡ with_permits placed p progress.Closed 0 = sym (permits_twice w.conn.requests p progress.Placed progress.Closed (permits_at w.conn.requests p) 0) in
     let back : given_back w.conn.limit w.conn.free (permits_at w.conn.requests p) ≡ given_back w.conn.limit w.conn.free (permits_at placed p) = ap (given_back w.conn.limit w.conn.free) (sym (permits_still w.conn.requests p p progress.Placed within)) in
     let acts = w.acts ++ a ∷ [] in
-    let here = subst (λ ts. IsGoing (trace_of_acts before f acts) (record after { requests = with_permits placed p progress.Closed 0; free = given_back w.conn.limit w.conn.free (permits_at placed p); timers = f.timers ++ ts })) (sym (quiet_timers w.acts a refl))
+    let closed_one : Inner = record after { requests = with_permits placed p progress.Closed 0; free = given_back w.conn.limit w.conn.free (permits_at placed p) } in
+    let here = subst (IsGoing (trace_of_acts before f acts)) (quiet_asks f closed_one w.acts a refl refl)
     (subst (λ n. IsGoing (trace_of_acts before f acts) (record after { requests = with_permits placed p progress.Closed 0; free = n })) back (subst (λ (x : List Request). IsGoing (trace_of_acts before f acts) (record after { requests = x })) twice there)) in
     let order = subst (λ (x : List Request). Rising 0 ((w.conn.moved ++ p ∷ []) ++ next) (length x)) twice (subst (λ n. Rising 0 ((w.conn.moved ++ p ∷ []) ++ next) n) (length_still w.conn.requests p progress.Placed ∙ sym (length_with w.conn.requests p progress.Closed 0)) (order_next w.conn.moved p next w.conn.requests progress.Placed h.order)) in
     if_true (λ (x : Work). IsUp before f (started x) admitted waiting [] next) (is_open_at placed p) _ (with_link at link) is_open
@@ -392,14 +397,16 @@ letting_up before f w q qs s wt some =
       waiting = refl;
       is_waiting = wt;
     } in
-    let k = let_in_going before f w w.conn.admitted h.started h.link q qs opening some h.going in (
+    let k = let_in_going before f w w.conn.admitted h.started h.link q qs opening some h.going in
+    let t = moving f w.acts w.conn w.conn.admitted (q ∷ qs) h.started in
+    let acts = (let_in w q).acts in (
       record {
         link = h.link;
         life = h.life;
         fit = h.fit;
         held = h.held;
         started = h.started;
-        going = k.going;
+        going = subst (λ ss. IsGoing (trace_of_acts before f acts) (record (lets t p count (w.conn.free - count) (f.timers ++ timers_of acts)) { sources = ss })) (sym k.sourced) k.going;
         order = subst (Rising 0 (w.conn.moved ++ waiting_ids (q ∷ qs))) (sym (length_with w.conn.requests p progress.Waiting count)) h.order;
       },
       ap (λ n. is_let_in w.conn.limit ((book (trace_of_acts before f (let_in w q).acts)).story n)) (name_with w.conn.requests p progress.Waiting count p) ∙ k.is,

@@ -35,7 +35,7 @@ use Rattle.session_laws.proofs.Names.{length_still, length_with, name_still, nam
 use Rattle.session_laws.proofs.Numbers.{IsIn, Rising, in_either, in_left, in_right, rising_apart, rising_in, rising_right, rising_tail, rising_without}
 use Rattle.session_laws.proofs.Owes.{in_line, request_story}
 use Rattle.session_laws.proofs.Permits.{permits_closed, permits_further, permits_let}
-use Rattle.session_laws.proofs.Start.{not_dialing, not_setting, on_link}
+use Rattle.session_laws.proofs.Start.{not_dialing, not_setting, not_wanting, on_link}
 use Rattle.session_laws.proofs.Tied.{AreLate, AreQueued, Inner, IsEntry, IsKept, IsOf, IsPacked, IsQueued, Tied, TiedLines, TiedStory, TiedTries, TiedWaits, owner_of, owners_each, queue_ids, setup_owners, relined, shown_wait, waiting_ids, numbers_kept}
 use Rattle.session_laws.proofs.Ahead.{admitted_open, early_open, waiting_open}
 
@@ -231,8 +231,9 @@ other_wait x one other e apart r = apart (some_same one other (sym e ∙ r))
 shown_early : (x : Option WaitKind) → IsOneOf x → (x ≢ Some wait.Place) × (x ≢ Some wait.Room)
 shown_early x (inl e) = (λ r. (let no : ◌≡◌ {A = Option WaitKind} None (Some wait.Place) = sym e ∙ r in cc), λ r. (let no : ◌≡◌ {A = Option WaitKind} None (Some wait.Room) = sym e ∙ r in cc))
 shown_early x (inr (inl e)) = (other_wait x wait.Connect wait.Place e (λ r. cc), other_wait x wait.Connect wait.Room e (λ r. cc))
-shown_early x (inr (inr (inl e))) = (other_wait x wait.Setup wait.Place e (λ r. cc), other_wait x wait.Setup wait.Room e (λ r. cc))
-shown_early x (inr (inr (inr e))) = (other_wait x wait.Permit wait.Place e (λ r. cc), other_wait x wait.Permit wait.Room e (λ r. cc))
+shown_early x (inr (inr (inl e))) = (other_wait x wait.Creds wait.Place e (λ r. cc), other_wait x wait.Creds wait.Room e (λ r. cc))
+shown_early x (inr (inr (inr (inl e)))) = (other_wait x wait.Setup wait.Place e (λ r. cc), other_wait x wait.Setup wait.Room e (λ r. cc))
+shown_early x (inr (inr (inr (inr e)))) = (other_wait x wait.Permit wait.Place e (λ r. cc), other_wait x wait.Permit wait.Room e (λ r. cc))
 
 -- or of those that wait for the connection, where none waits for a place, and it is being let in
 pub next_waiting : (b : Book) (t : Inner) (link : LinkState) (q : Waiting) (qs : List Waiting) → is_waiting_at t.requests q.number ≡ true → is_let_in t.limit (b.story (name_at t.requests q.number)) ≡ true → Rising 0 (t.moved ++ q.number ∷ []) (length t.requests)
@@ -360,6 +361,7 @@ waits_placed story requests p life fresh moved l h =
     record {
       early = λ m w. let k = there_then is_waiting requests p m progress.Placed refl l w in one_of (shown_wait story (at_progress requests p progress.Placed) m) (shown_wait story requests m) (same m) (h.early m k.1);
       connect = λ m w d. let k = there_then is_waiting requests p m progress.Placed refl l w in elim (h.connect m k.1 d) [ inl e ↦ inl e | inr e ↦ inr (same m ∙ e) ];
+      creds = λ m link w d. let k = there_then is_waiting requests p m progress.Placed refl l w in elim (h.creds m link k.1 d) [ inl e ↦ inl e | inr e ↦ inr (same m ∙ e) ];
       setup = λ m link u w d. let k = there_then is_waiting requests p m progress.Placed refl l w in elim (h.setup m link u k.1 d) [ inl e ↦ inl e | inr e ↦ inr (same m ∙ e) ];
       permit = λ m link w d. let k = there_then is_waiting requests p m progress.Placed refl l w in elim (h.permit m link k.1 d) [ inl e ↦ inl e | inr e ↦ inr (same m ∙ e) ];
       place = λ m a. let k = there_then is_admitted requests p m progress.Placed refl l a in elim (h.place m k.1) [ inl i ↦ inl i | inr e ↦ inr (same m ∙ e) ];
@@ -367,6 +369,7 @@ waits_placed story requests p life fresh moved l h =
       newer = subst (Rising 0 fresh) long h.newer;
       rising = subst (Rising 0 moved) long h.rising;
       no_connect = λ m i w d e. let k = there_then is_waiting requests p m progress.Placed refl l w in h.no_connect m i k.1 d (sym (same m) ∙ e);
+      no_creds = λ m link i w d e. let k = there_then is_waiting requests p m progress.Placed refl l w in h.no_creds m link i k.1 d (sym (same m) ∙ e);
       no_setup = λ m link u i w d e. let k = there_then is_waiting requests p m progress.Placed refl l w in h.no_setup m link u i k.1 d (sym (same m) ∙ e);
       no_permit = λ m link i w d e. let k = there_then is_waiting requests p m progress.Placed refl l w in h.no_permit m link i k.1 d (sym (same m) ∙ e);
       no_place = λ m i a e. let k = there_then is_admitted requests p m progress.Placed refl l a in h.no_place m i k.1 (sym (same m) ∙ e);
@@ -382,6 +385,7 @@ waits_enqueued story requests link m fresh moved last placed shown h =
     record {
       early = h.early;
       connect = λ n w e. absurd (not_dialing (enqueued link m) e);
+      creds = λ n l w e. absurd (not_wanting (enqueued link m) l e);
       setup = λ n l u w e. absurd (not_setting (enqueued link m) l u e);
       permit = λ n l w e. h.permit n link w refl;
       place = λ n a. elim (h.place n a) [ inl i ↦ inl (in_left n moved (p ∷ []) i) | inr e ↦ inr e ];
@@ -392,6 +396,7 @@ waits_enqueued story requests link m fresh moved last placed shown h =
       newer = h.newer;
       rising = last;
       no_connect = λ n i w e. absurd (not_dialing (enqueued link m) e);
+      no_creds = λ n l i w e. absurd (not_wanting (enqueued link m) l e);
       no_setup = λ n l u i w e. absurd (not_setting (enqueued link m) l u e);
       no_permit = λ n l i w e. h.no_permit n link i w refl;
       no_place = λ n i a. h.no_place n (earlier n (λ same. not_both (is_admitted_at requests n) (ap (is_admitted_at requests) (sym same) ∙ placed) a) i) a;
@@ -411,6 +416,7 @@ waits_admitted story requests link p fresh moved w last h =
     record {
       early = λ m v. let k = there_then is_waiting requests p m progress.Admitted refl l v in one_of (shown_wait story (at_progress requests p progress.Admitted) m) (shown_wait story requests m) (same m) (h.early m k.1);
       connect = λ m v d. absurd (not_dialing link d);
+      creds = λ m x v d. absurd (not_wanting link x d);
       setup = λ m x u v d. absurd (not_setting link x u d);
       permit = λ m x v d. let k = there_then is_waiting requests p m progress.Admitted refl l v in elim (h.permit m link k.1 refl) [ inl e ↦ inl e | inr e ↦ inr (same m ∙ e) ];
       place = λ m a. by_test (p == m) _
@@ -420,6 +426,7 @@ waits_admitted story requests link p fresh moved w last h =
       newer = subst (Rising 0 fresh) (sym (length_still requests p progress.Admitted)) h.newer;
       rising = subst (Rising 0 (moved ++ p ∷ [])) (sym (length_still requests p progress.Admitted)) last;
       no_connect = λ m i v d. absurd (not_dialing link d);
+      no_creds = λ m x i v d. absurd (not_wanting link x d);
       no_setup = λ m x u i v d. absurd (not_setting link x u d);
       no_permit = λ m x i v d e. let k = there_then is_waiting requests p m progress.Admitted refl l v in h.no_permit m link i k.1 refl (sym (same m) ∙ e);
       no_place = λ m i a e. by_test (p == m) _
@@ -478,6 +485,7 @@ place_tied b t link q waiting admitted yes_awaited next h =
       others = h.others;
       pushes = h.pushes;
       life = h.life;
+      creds = record { wanted_is = h.creds.wanted_is; sought = h.creds.sought };
       setup = record { info_is = h.setup.info_is; sent = h.setup.sent; said = h.setup.said };
       link = λ e. subst (λ x. TiedLink x (b.link t.link) (enqueued link (message_of q))) (sym (owners_still t.requests p progress.Placed)) (enqueued_tied (owner_of t.requests) (b.link t.link) link (message_of q) (h.link refl));
       names = names_progressed t.table t.requests p progress.Placed h.names;
@@ -542,6 +550,7 @@ tell_tied b t link q waiting admitted not_awaited next h =
       others = h.others;
       pushes = h.pushes;
       life = h.life;
+      creds = record { wanted_is = h.creds.wanted_is; sought = h.creds.sought };
       setup = record { info_is = h.setup.info_is; sent = h.setup.sent; said = h.setup.said };
       link = λ e. subst (λ x. TiedLink x (b.link t.link) (enqueued link (message_of q))) (sym (owners_with t.requests p progress.Closed 0)) (enqueued_tied (owner_of t.requests) (b.link t.link) link (message_of q) (h.link refl));
       names = names_with t.table t.requests p progress.Closed 0 h.names;
@@ -558,7 +567,7 @@ tell_tied b t link q waiting admitted not_awaited next h =
           (k.0, subst (λ x. k.0 < x) (sym still) k.1, name_with t.requests p progress.Closed 0 k.0 ∙ k.2, subst (IsIn k.0) (sym (queue_ids-push link.queue (message_of q))) (in_left k.0 (queue_ids link.queue) (p ∷ []) k.3)));
       waits = waits_enqueued after closed link (message_of q) t.fresh t.moved (subst (Rising 0 (t.moved ++ p ∷ [])) (sym still) next.last) (with_same is_admitted t.requests p progress.Closed 0 within)
           (λ e. (let gone : ◌≡◌ {A = Option WaitKind} None (Some wait.Room) = ap (λ (s : Story). s.waiting) same ∙ ap (λ x. (after x).waiting) (sym named) ∙ e in cc))
-          (waits_closed t.table b.story t.requests p done (Ready link) (Ready link) t.fresh t.moved h.names within (λ e. e) (λ l u e. absurd (not_setting link l u e)) (λ l e. (link, refl))
+          (waits_closed t.table b.story t.requests p done (Ready link) (Ready link) t.fresh t.moved h.names within (λ e. e) (λ l e. absurd (not_wanting link l e)) (λ l u e. absurd (not_setting link l u e)) (λ l e. (link, refl))
           (λ m i.
           let queue = queue_ids link.queue in
           let kept = kept_ids t.admitted t.waiting in
@@ -591,6 +600,7 @@ admit_tied b t link q qs w is last h =
       others = h.others;
       pushes = h.pushes;
       life = h.life;
+      creds = record { wanted_is = h.creds.wanted_is; sought = h.creds.sought };
       setup = record { info_is = h.setup.info_is; sent = h.setup.sent; said = h.setup.said };
       link = λ e. subst (λ x. TiedLink x (b.link t.link) link) (sym (owners_still t.requests p now)) (h.link refl);
       names = names_progressed t.table t.requests p now h.names;

@@ -21,12 +21,12 @@ use Rattle.link_laws.proofs.Settles.{read_owed}
 use Rattle.link_laws.proofs.TiedLink.{TiedLink, deals, has_read, has_heard, reads_on, heard_is, read_tied}
 use Rattle.mux_conn.specs.declared.connection.MultiplexedConnection.{MultiplexedConnection}
 use Rattle.mux_conn.specs.declared.life.Life.{Life}
-use Rattle.mux_conn.specs.declared.life.Life.TheVariants.{Dialing, SettingUp, Ready, Ended}
+use Rattle.mux_conn.specs.declared.life.Life.TheVariants.{Dialing, Wanting, SettingUp, Ready, Ended}
 use Rattle.mux_conn.specs.declared.request.Request.{Request}
 use Rattle.mux_conn.specs.declared.request.Waiting.{Waiting}
 use Rattle.mux_conn.specs.Connection.{Work}
 use Rattle.mux_conn.specs.Requests.{is_open_at, name_at}
-use Rattle.mux_conn.specs.Effects.{failed_at, read_to, read_at, read_setup, told_each}
+use Rattle.mux_conn.specs.Effects.{failed_at, read_to, read_at, read_setup, read_wanting, told_each}
 use Rattle.shared_session.specs.declared.core_state.Core.{Core}
 use Rattle.shared_session.specs.Turn.{with_work, is_bad}
 use Rattle.legal_trace.specs.Ledger.{Ledger, by_fault, ending, is_set_up, Heard, heard_each, hears, noted}
@@ -38,6 +38,7 @@ use Rattle.session_laws.proofs.Tied.{inner, link_in, owner_of, queue_ids, IsEntr
 use Rattle.session_laws.proofs.SetUp.{set_up_hears}
 use Rattle.legal_trace.proofs.Setups.{ends_where_set}
 use Rattle.session_laws.proofs.ReadSetup.{dealt_all, setup_read, all_heard, fit_by, heard_pushes}
+use Rattle.session_laws.proofs.ReadWanting.{wanting_read}
 use Rattle.session_laws.proofs.States.{IsFit, Between, HasApplied}
 use Rattle.session_laws.proofs.InLine.{kept_ids, IsInLine}
 use Rattle.session_laws.proofs.Owes.{in_line}
@@ -109,7 +110,7 @@ record BeginsTelling (before : List Action) (f : Core) (conn : MultiplexedConnec
   pub stories : (n : ℕ) → (book (trace_of_acts before f [])).story n ≡ story n
 
 -- so it does
-read_begins : (before : List Action) (c : Core) (started : List ℕ) (word : ℕ) (kind : EventKind) (piece : List ℕ) (link : LinkState) (untold : List Heard) → Between before c started → is_bad c kind ≡ false → IsNewsKind c.timers kind → news_of c.timers c.single.link kind ≡ came piece
+read_begins : (before : List Action) (c : Core) (started : List ℕ) (word : ℕ) (kind : EventKind) (piece : List ℕ) (link : LinkState) (untold : List Heard) → Between before c started → is_bad c kind ≡ false → IsNewsKind c.timers kind → news_of c.timers c.sources c.single.link kind ≡ came piece
     → c.single.connection.life ≡ Ready link → (let l = (book before).link c.single.link in c.single.connection.hears ≡ true → untold ≡ heard_each l (values (l.rest ++ piece)))
     → BeginsTelling (before ++ turn_of c word kind ∷ []) (turned c kind) (lives_as c (Ready (has_read link piece))) (has_heard ((book before).link c.single.link) piece) (book before).story untold (settled_ids (deals link piece).out) started
 read_begins before c started word kind piece link untold h good k is e came_so =
@@ -122,16 +123,20 @@ read_begins before c started word kind piece link untold h good k is e came_so =
     let name = owner_of conn.requests in
     let u = up_tied b (inner c started) link e h0 in
     let said = subst (λ (x : Life). TiedSetup l conn.info started x) e h0.setup in
-    let same : noted l (hears c.turns (news_of b.timers c.single.link kind)) ≡ has_heard l piece = ap (λ (x : News). heard_by b c x) (book_news b c kind (came piece) h0.numbers.timers is) ∙ heard_is l c.turns piece u.up in
+    let same : noted l (hears c.turns (news_of b.timers b.sources c.single.link kind)) ≡ has_heard l piece = ap (λ (x : News). heard_by b c x) (book_news b c started kind (came piece) h0 is) ∙ heard_is l c.turns piece u.up in
     let t = record (seen (turned c kind) [] (lives_as c life) ids started) { untold = untold } in
-    let tied : Tied (heard_book b c.turns word kind) t = heard_tied b c started word b.created kind life conn.fresh ids untold (has_heard l piece) h0 good same refl
-    (u.asked, u.up, u.alive, u.shown)
-    (record { info_is = said.info_is; sent = said.sent; said = set_up_hears l piece said.sent said.said })
-    (λ n. read_tied name l link piece u.alive u.tied)
-    (read_lines b.story conn.requests link piece conn.waiting conn.admitted started (subst (λ (x : Life). TiedLines b.story conn.requests (link_in x) conn.waiting conn.admitted [] started) e h0.lines))
-    (λ n. subst (λ (x : Life). AreQueued b.story conn.requests (link_in x)) e (h0.told (ap has_ended e)))
-    (queue_waits b.story conn.requests link (has_read link piece) conn.fresh conn.moved (λ p i. i) (subst (λ (x : Life). TiedWaits b.story conn.requests x conn.fresh conn.moved) e h0.waits))
-    (heard_pushes l piece (is_heard b) conn.hears untold came_so h0.pushes) in
+    let tied : Tied (heard_book b c.turns word kind) t = heard_tied b c started word b.created kind conn.info life conn.fresh ids untold (has_heard l piece) h0 good same
+    (record {
+      starts = refl;
+      lived = (u.asked, u.up, u.alive, u.shown);
+      creds = record { wanted_is = h0.creds.wanted_is; sought = u.has };
+      said = record { info_is = said.info_is; sent = said.sent; said = set_up_hears l piece said.sent said.said };
+      linked = λ n. read_tied name l link piece u.alive u.tied;
+      lines = read_lines b.story conn.requests link piece conn.waiting conn.admitted started (subst (λ (x : Life). TiedLines b.story conn.requests (link_in x) conn.waiting conn.admitted [] started) e h0.lines);
+      told = λ n. subst (λ (x : Life). AreQueued b.story conn.requests (link_in x)) e (h0.told (ap has_ended e));
+      waits = queue_waits b.story conn.requests link (has_read link piece) conn.fresh conn.moved (λ p i. i) (subst (λ (x : Life). TiedWaits b.story conn.requests x conn.fresh conn.moved) e h0.waits);
+      pushes = heard_pushes l piece (is_heard b) conn.hears untold came_so h0.pushes;
+    }) in
     let book_is : entered b (turn_of c word kind) ≡ heard_book b c.turns word kind = turn_is b c.turns word kind (book_kind b c kind h0.numbers.timers k) in
     let first = first_book before (turn_of c word kind) (turned c kind) ∙ book_is in
     record {
@@ -155,7 +160,7 @@ record Reads (front : List Action) (f : Core) (l : Ledger) (w : Work) (untold : 
   pub telling : IsTelling front f ((book (trace_of_acts front f [])).link f.single.link) (owed (book (trace_of_acts front f []))) (name_at w.conn.requests) (is_open_at w.conn.requests) w untold (settled_ids out ++ []) started
 
 -- so it is
-read_due : (before : List Action) (c : Core) (started : List ℕ) (word : ℕ) (kind : EventKind) (piece : List ℕ) (link : LinkState) (untold : List Heard) → Between before c started → is_bad c kind ≡ false → IsNewsKind c.timers kind → news_of c.timers c.single.link kind ≡ came piece
+read_due : (before : List Action) (c : Core) (started : List ℕ) (word : ℕ) (kind : EventKind) (piece : List ℕ) (link : LinkState) (untold : List Heard) → Between before c started → is_bad c kind ≡ false → IsNewsKind c.timers kind → news_of c.timers c.sources c.single.link kind ≡ came piece
     → c.single.connection.life ≡ Ready link → (let l = (book before).link c.single.link in c.single.connection.hears ≡ true → untold ≡ heard_each l (values (l.rest ++ piece)))
     → Reads (before ++ turn_of c word kind ∷ []) (turned c kind) (has_heard ((book before).link c.single.link) piece) (reads c link piece) untold (deals link piece).out started
 read_due before c started word kind piece link untold h good k is e came_so =
@@ -182,7 +187,7 @@ read_due before c started word kind piece link untold h good k is e came_so =
     }
 
 -- what the bytes settle is answered, and the pushes that came are told
-read_answered : (before : List Action) (c : Core) (started : List ℕ) (word : ℕ) (kind : EventKind) (piece : List ℕ) (link : LinkState) → Between before c started → is_bad c kind ≡ false → IsNewsKind c.timers kind → news_of c.timers c.single.link kind ≡ came piece
+read_answered : (before : List Action) (c : Core) (started : List ℕ) (word : ℕ) (kind : EventKind) (piece : List ℕ) (link : LinkState) → Between before c started → is_bad c kind ≡ false → IsNewsKind c.timers kind → news_of c.timers c.sources c.single.link kind ≡ came piece
     → c.single.connection.life ≡ Ready link
     → (let front = before ++ turn_of c word kind ∷ [] in let f = turned c kind in
     IsTelling front f (has_heard ((book before).link c.single.link) piece) (owed (book (trace_of_acts front f []))) (name_at c.single.connection.requests) (is_open_at c.single.connection.requests)
@@ -214,7 +219,7 @@ read_answered before c started word kind piece link h good k is e =
     (subst (λ (x : Ledger). IsTelling front f x owes (name_at conn.requests) (is_open_at conn.requests) w [] (settled_ids out ++ []) started) r.ledger r.telling))
 
 -- a link that is up reads on, or is broken and ends
-read_on : (before : List Action) (c : Core) (started : List ℕ) (word : ℕ) (kind : EventKind) (piece : List ℕ) (link : LinkState) → Between before c started → is_bad c kind ≡ false → IsNewsKind c.timers kind → news_of c.timers c.single.link kind ≡ came piece
+read_on : (before : List Action) (c : Core) (started : List ℕ) (word : ℕ) (kind : EventKind) (piece : List ℕ) (link : LinkState) → Between before c started → is_bad c kind ≡ false → IsNewsKind c.timers kind → news_of c.timers c.sources c.single.link kind ≡ came piece
     → c.single.connection.life ≡ Ready link
     → HasApplied (before ++ turn_of c word kind ∷ []) (with_work (record { core = turned c kind; acts = [] }) (read_to (record { conn = c.single.connection; acts = [] }) (heard_of c.single.connection.hears (pushes_came link piece)) (record { link = has_read link piece; out = (deals link piece).out }))) started
 read_on before c started word kind piece link h good k is e =
@@ -245,13 +250,16 @@ read_on before c started word kind piece link h good k is e =
     })
 
 -- bytes come
-pub read_applied : (before : List Action) (c : Core) (started : List ℕ) (word : ℕ) (kind : EventKind) (piece : List ℕ) → Between before c started → is_bad c kind ≡ false → IsNewsKind c.timers kind → news_of c.timers c.single.link kind ≡ came piece
+pub read_applied : (before : List Action) (c : Core) (started : List ℕ) (word : ℕ) (kind : EventKind) (piece : List ℕ) → Between before c started → is_bad c kind ≡ false → IsNewsKind c.timers kind → news_of c.timers c.sources c.single.link kind ≡ came piece
     → HasApplied (before ++ turn_of c word kind ∷ []) (with_work (record { core = turned c kind; acts = [] }) (read_at (record { conn = c.single.connection; acts = [] }) piece c.single.connection.life)) started
 read_applied before c started word kind piece h good k is = by_life c.single.connection.life refl
   where
     by_life : (x : Life) → c.single.connection.life ≡ x → HasApplied (before ++ turn_of c word kind ∷ []) (with_work (record { core = turned c kind; acts = [] }) (read_at (record { conn = c.single.connection; acts = [] }) piece x)) started
     by_life Dialing e = dialing_quiet before c started word kind (came piece) tt h good k is e
     by_life (Ended x) e = ended_quiet before c started word kind (came piece) x h good k is e
+    by_life (Wanting link) e =
+        subst (λ (s : Settling). HasApplied (before ++ turn_of c word kind ∷ []) (with_work (record { core = turned c kind; acts = [] }) (read_wanting (record { conn = c.single.connection; acts = [] }) s)) started)
+        (sym (reads_on link [] piece (h.fit.wanting link e).sound)) (wanting_read before c started word kind piece link h good k is e)
     by_life (SettingUp link with_user) e =
         subst (λ (s : Settling). HasApplied (before ++ turn_of c word kind ∷ []) (with_work (record { core = turned c kind; acts = [] }) (read_setup (record { conn = c.single.connection; acts = [] }) with_user (heard_of c.single.connection.hears (pushes_came link piece)) s)) started)
         (sym (reads_on link [] piece (h.fit.setup link with_user e).sound)) (setup_read before c started word kind piece link with_user h good k is e)

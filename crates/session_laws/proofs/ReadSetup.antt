@@ -23,6 +23,7 @@ use Rattle.connection_setup.specs.Setup.{Step, choices, library, opening, select
 use Rattle.driver_model.specs.declared.action.Action.{Action}
 use Rattle.driver_model.specs.declared.action.Owner.{Owner}
 use Rattle.driver_model.specs.declared.action.Owner.TheVariants as owner
+use Rattle.driver_model.specs.declared.action.WaitKind.TheVariants as wait
 use Rattle.driver_model.specs.declared.event.EventKind.{EventKind}
 use Rattle.driver_model.specs.declared.news.LinkFault.TheVariants as fault
 use Rattle.driver_model.specs.declared.outcome.Shape.{Shape}
@@ -45,24 +46,25 @@ use Rattle.link_laws.proofs.TiedLink.{TiedLink, SameNames, deals, dealt_alike, h
 use Rattle.legal_trace.proofs.Ledgers.{reach_alike}
 use Rattle.mux_conn.specs.declared.act.LinkAct.TheVariants as act
 use Rattle.mux_conn.specs.declared.life.Life.{Life}
-use Rattle.mux_conn.specs.declared.life.Life.TheVariants.{SettingUp, Ended, Ready}
+use Rattle.mux_conn.specs.declared.life.Life.TheVariants.{Wanting, SettingUp, Ended, Ready}
 use Rattle.mux_conn.specs.Connection.{Work, acted, at_life, is_ready, with_setup}
 use Rattle.mux_conn.specs.Effects.{answered_setup, broken_at, failed_at, judged_by, made_ready, opening_failed, read_setup, set_up_by, sets_up, setup_queued, steps_of, behind_first, heard_on, pushed_each, told_each}
 use Rattle.shared_session.specs.declared.core_state.Core.{Core}
 use Rattle.shared_session.specs.Turn.{with_work, is_bad}
-use Rattle.legal_trace.specs.Ledger.{Ledger, Start, by_fault, by_opening, cut, ending, is_full, is_set_up, is_well, last_result, reach, repeats, result_of, setup_after, setup_count, setup_result, setup_steps, Heard, heard_each}
+use Rattle.legal_trace.specs.Ledger.{Ledger, Start, by_fault, by_opening, cut, ending, is_full, is_set_up, is_well, lacks_credentials, last_result, reach, repeats, result_of, setup_after, setup_count, setup_result, setup_steps, Heard, heard_each}
 use Rattle.legal_trace.specs.Book.{Book, book}
-use Rattle.session_laws.proofs.Tied.{AreSetups, IsSettingUp, IsSetupDue, IsSetupSent, IsSetUp, AreQueued, TiedLife, TiedLines, TiedSetup, TiedWaits, has_ended, inner, link_in, owner_of, owners_each, owners_of, setup_owners, TiedPushes}
+use Rattle.session_laws.proofs.Tied.{AreSetups, AreSought, IsSettingUp, IsSetupDue, IsSetupSent, IsSetUp, AreQueued, TiedCreds, TiedLife, TiedLines, TiedSetup, TiedWaits, has_ended, inner, link_in, owner_of, owners_each, owners_of, setup_owners, TiedPushes}
 use Rattle.session_laws.proofs.States.{IsFit, Between, HasApplied, IsFitIn}
 use Rattle.session_laws.proofs.SetUp.{count_length, not_set_up}
-use Rattle.legal_trace.proofs.Setups.{ends_where_set, AreSetups as SetUpsAre}
+use Rattle.legal_trace.proofs.Setups.{ends_where_set, setup_said, AreSetups as SetUpsAre}
 use Rattle.session_laws.proofs.Said.{after_on, ending_failed, ending_setting, retold, PushesOf}
 use Rattle.session_laws.proofs.Close.{ended_applied, waiting_leaves, HasEnded, parted_moved}
 use Rattle.session_laws.proofs.Announce.{turn_of, turned, IsNewsKind}
 use Rattle.session_laws.proofs.Heard.{heard_by, quiet_applied, setting_fit, setting_waits, none_ends}
 use Rattle.session_laws.proofs.Failing.{Fails, setup_failed}
-use Rattle.session_laws.proofs.End.{IsSetting, fault_ends, setting_tied}
-use Rattle.session_laws.proofs.Connect.{IsMade, makes_ready}
+use Rattle.session_laws.proofs.End.{IsSetting, fault_ends, setting_tied, setting_unready}
+use Rattle.session_laws.proofs.ComeUp.{IsEarly, IsMade, makes_ready}
+use Rattle.session_laws.proofs.Creds.{has_credentials, has_sourced}
 use Rattle.legal_trace.specs.Legal.{is_heard}
 use Rattle.session_laws.proofs.Told.{retells, well_told}
 use Rattle.session_laws.proofs.Telling.{IsHeard, IsTelling, telling, told_holds, told_leaves}
@@ -150,7 +152,7 @@ setup_no_user info =
 -- items that are dealt
 --
 -- where nothing takes items all are dropped
-dealt_none : (out : List Settled) (vs : List Data) → dealt_each (record { row = []; out = out }) vs ≡ record { row = []; out = out }
+pub dealt_none : (out : List Settled) (vs : List Data) → dealt_each (record { row = []; out = out }) vs ≡ record { row = []; out = out }
 dealt_none out [] = refl
 dealt_none out (v ∷ vs) = dealt_none out vs
 
@@ -401,14 +403,17 @@ reads_answered name l link with_user piece x xs h owners sents alive tied is = e
       record { k = s.k; few = s.few; count = s.count; user = s.user; queue = s.queue; row = no_entries name (deals link piece).row rows; answers = a; last = last })
 ]
 
+-- where something is said, and no credentials are waited for, the last of so many setups says what all come to
+setup_last : (l : Ledger) (n : ℕ) → lacks_credentials l ≡ false → says_nothing (setup_steps l 0) ≡ false → setup_count l.starts ≡ n → setup_result l ≡ last_result l n
+setup_last l n given says count = setup_said l given ∙ left_if (says_nothing (setup_steps l 0)) (Some result.Ready) (last_result l (setup_count l.starts)) says ∙ ap (last_result l) count
+
 -- what it comes to
-answered_result : (l : Ledger) (link : LinkState) (piece : List ℕ) (with_user : Bool) (x : Settled) (info : RedisConnectionInfo) → l.info ≡ info → says_nothing (setup_steps l 0) ≡ false → IsAnswered l link piece with_user x
+answered_result : (l : Ledger) (link : LinkState) (piece : List ℕ) (with_user : Bool) (x : Settled) (info : RedisConnectionInfo) → lacks_credentials l ≡ false → l.info ≡ info → says_nothing (setup_steps l 0) ≡ false → IsAnswered l link piece with_user x
     → setup_result (has_heard l piece) ≡ Some (judged_by (setup info with_user) x.verdict)
-answered_result l link piece with_user x info is says h =
+answered_result l link piece with_user x info given is says h =
     let after = has_heard l piece in
     let replies = cut after h.k (setup_shape (setup_steps after h.k)) in
-    left_if (says_nothing (setup_steps l 0)) (Some result.Ready) (last_result after (setup_count l.starts)) says
-    ∙ ap (last_result after) h.count
+    setup_last after (suc h.k) given says h.count
     ∙ taken_if (is_full after h.k) (Some (judged (setup_steps after h.k) replies)) None h.answers.full
     ∙ ap (λ (i : RedisConnectionInfo). Some (judged (setup i (h.k == 0)) replies)) is
     ∙ ap (λ u. Some (judged (setup info u) replies)) (sym h.user)
@@ -450,6 +455,7 @@ all_heard l piece = all_places (IsHeard (has_heard l piece)) (heard_each l (valu
 -- a connection whose link is up is fit where the link is
 pub fit_by : (c : MultiplexedConnection) (size bound : ℕ) (link : LinkState) → c.size ≡ size → c.boundary ≡ bound → c.life ≡ Ready link → ((x : LinkState) → Ready link ≡ Ready x → IsFit size bound x) → IsFitIn c
 fit_by c size bound link size_is bound_is life h = record {
+  wanting = λ x same. (let no : Ready link ≡ Wanting x = sym life ∙ same in cc);
   setup = λ x u same. (let no : Ready link ≡ SettingUp x u = sym life ∙ same in cc);
   link = λ x same. subst (λ n. IsFit n c.boundary x) (sym size_is) (subst (λ n. IsFit size n x) (sym bound_is) (h x (sym life ∙ same)));
   none = λ none. absurd (none link life);
@@ -463,7 +469,7 @@ behind_same (p ∷ ps) = λ i. if p.settled == 0 then behind_same ps i else p �
 -- bytes come on such a link
 --
 -- the event has its effect
-pub setup_read : (before : List Action) (c : Core) (started : List ℕ) (word : ℕ) (kind : EventKind) (piece : List ℕ) (link : LinkState) (with_user : Bool) → Between before c started → is_bad c kind ≡ false → IsNewsKind c.timers kind → news_of c.timers c.single.link kind ≡ came piece
+pub setup_read : (before : List Action) (c : Core) (started : List ℕ) (word : ℕ) (kind : EventKind) (piece : List ℕ) (link : LinkState) (with_user : Bool) → Between before c started → is_bad c kind ≡ false → IsNewsKind c.timers kind → news_of c.timers c.sources c.single.link kind ≡ came piece
     → c.single.connection.life ≡ SettingUp link with_user
     → HasApplied (before ++ turn_of c word kind ∷ []) (with_work (record { core = turned c kind; acts = [] }) (read_setup (record { conn = c.single.connection; acts = [] }) with_user (heard_of c.single.connection.hears (pushes_came link piece)) (record { link = has_read link piece; out = (deals link piece).out }))) started
 setup_read before c started word kind piece link with_user h good k is e = by_out (deals link piece).out refl
@@ -501,6 +507,12 @@ setup_read before c started word kind piece link with_user h good k is e = by_ou
     same : heard_by b c (came piece) ≡ after
     same = heard_is l c.turns piece s.up
 
+    given : lacks_credentials l ≡ false
+    given = has_credentials l.creds s.has
+
+    creds : (life : Life) → AreSought after.creds life → TiedCreds after.creds c.single.connection.wants life
+    creds life sought = record { wanted_is = h.sound.tied.creds.wanted_is; sought = sought }
+
     owners : owners_of l.starts ≡ setup_owners (setup_count l.starts) []
     owners = h.sound.tied.tries.owners ∙ ap (λ ps. setup_owners (setup_count l.starts) (owners_each c.single.connection.requests ps)) s.none
 
@@ -528,8 +540,17 @@ setup_read before c started word kind piece link with_user h good k is e = by_ou
 
     fails : (x : RedisError) → is_set_up after ≡ false → ending after ≡ Some (by_opening x) → applied (opening_failed (record { conn = c.single.connection; acts = act.Close ∷ [] }) x)
     fails x unready must =
-        setup_failed before c started word kind (came piece) x link with_user h good k is e
-        (subst (λ (y : Ledger). Fails y info (is_heard b) c.single.connection.hears x) (sym same) (record { alive = s.alive; unready = unready; must = must; info_is = h.sound.tied.setup.info_is; sent = h.sound.tied.setup.sent; pushes = quiet unready }))
+        setup_failed before c started word kind (came piece) x h good k is (setting_unready b (inner c started) link with_user e h.sound.tied)
+        (subst (λ (y : Ledger). Fails y info c.single.connection.wants (is_heard b) c.single.connection.hears x) (sym same) (record {
+          alive = s.alive;
+          unready = unready;
+          must = must;
+          info_is = h.sound.tied.setup.info_is;
+          wanted_is = h.sound.tied.creds.wanted_is;
+          sourced = has_sourced after s.has;
+          sent = h.sound.tied.setup.sent;
+          pushes = quiet unready;
+        }))
 
     -- the link is set up still
     goes_on : (next : LinkState) (user : Bool) → IsSettingUp after next user → TiedLink name after next → IsFit c.single.connection.size c.single.connection.boundary next → read.broken ≡ false → applied (with_setup w next user)
@@ -537,6 +558,7 @@ setup_read before c started word kind piece link with_user h good k is e = by_ou
         quiet_applied before c started word kind (came piece) (SettingUp next user) h good k is
         (record {
           lived = subst (λ (y : Ledger). TiedLife y b.created (SettingUp next user)) (sym same) (s.asked, s.up, s.alive, s.unshown);
+          creds = subst (λ (y : Ledger). TiedCreds y.creds c.single.connection.wants (SettingUp next user)) (sym same) (creds (SettingUp next user) s.has);
           said = subst (λ (y : Ledger). TiedSetup y info started (SettingUp next user)) (sym same) (record { info_is = h.sound.tied.setup.info_is; sent = h.sound.tied.setup.sent; said = (s.none, said) });
           linked = λ z. subst (λ (y : Ledger). TiedLink name y next) (sym same) tied_next;
           lines = subst (λ (x : Life). TiedLines b.story c.single.connection.requests (link_in x) c.single.connection.waiting c.single.connection.admitted [] started) e h.sound.tied.lines;
@@ -566,12 +588,13 @@ setup_read before c started word kind piece link with_user h good k is e = by_ou
         let f = turned c kind in
         let still = told_leaves v 0 ps [] in
         let well : is_set_up after ≡ true = ap is_well r in
+        let early : IsEarly c.single.connection.life wait.Permit = subst (λ (y : Life). IsEarly y wait.Permit) (sym e) (record { bare = refl; unready = refl; alive = refl; other = λ one. cc }) in
         let said : IsSetUp after = record { well = well; none = λ t. absurd (not_both (says_nothing (setup_steps l 0)) s.said.says t) } in
         let owned = named_tied name (owner_of c.single.connection.requests) after read (subst (SameNames name (owner_of c.single.connection.requests)) (sym a.row) tt) tied in
         let made : IsMade after b.created c.single.connection.requests read = record { asked = s.asked; up = s.up; alive = s.alive; unshown = s.unshown; said = said; tied = owned; queue = a.queue; row = a.row } in
-        let facts = subst (λ (y : Ledger). (y.info ≡ info) × AreSetups y × IsMade y b.created c.single.connection.requests read × TiedPushes (is_heard b) c.single.connection.hears y.pushes y.told y.end y.parted untold false) (sym same)
-        (h.sound.tied.setup.info_is, h.sound.tied.setup.sent, made, heard_pushes l piece (is_heard b) c.single.connection.hears untold came_so h.sound.tied.pushes) in
-        let shown = makes_ready before c started word kind (came piece) read untold h good k is (ap link_in e) (ap is_ready e) (ap has_ended e) facts in
+        let facts = subst (λ (y : Ledger). (y.info ≡ info) × AreSetups y × TiedCreds y.creds c.single.connection.wants (Ready read) × IsMade y b.created c.single.connection.requests read × TiedPushes (is_heard b) c.single.connection.hears y.pushes y.told y.end y.parted untold false) (sym same)
+        (h.sound.tied.setup.info_is, h.sound.tied.setup.sent, creds (Ready read) s.has, made, heard_pushes l piece (is_heard b) c.single.connection.hears untold came_so h.sound.tied.pushes) in
+        let shown = makes_ready before c started word kind (came piece) info read untold h good k is early facts in
         let now = book (trace_of_acts front f v.acts) in
         let line = in_line now (record (seen f v.acts v.conn [] started) { untold = untold }) shown.holds.tied refl in
         let begins = subst (λ (y : Ledger). IsTelling front f y (owed now) (name_at v.conn.requests) (is_open_at v.conn.requests) v untold [] started) (shown.ledger ∙ same) (telling front f v untold [] started shown.holds line) in
@@ -612,7 +635,7 @@ setup_read before c started word kind piece link with_user h good k is e = by_ou
         let first = repeats_first l link piece with_user x info a judged_so in
         let q = setup_queued (steps_of c.single.connection false) false in
         let count : setup_count l.starts ≡ 1 = a.count ∙ ap suc first in
-        let last : result_of after 0 ≡ Some result.RepeatWithoutUser = sym (left_if (says_nothing (setup_steps l 0)) (Some result.Ready) (last_result after (setup_count l.starts)) s.said.says ∙ ap (last_result after) count) ∙ r in
+        let last : result_of after 0 ≡ Some result.RepeatWithoutUser = sym (setup_last after 1 given s.said.says count) ∙ r in
         let due : IsSetupDue after (enqueued read q) false = record {
           due = subst (λ n. setup_after after n ≡ Some n) (sym count) (taken_if (repeats (result_of after 0)) (Some 1) None (ap repeats last));
           user = subst (λ n. false ≡ (n == 0)) (sym count) refl;
@@ -650,4 +673,4 @@ setup_read before c started word kind piece link with_user h good k is e = by_ou
     by_out [] none = stays read with_user (reads_still name l link with_user piece s.said owners s.alive s.tied none) tied sound
     by_out (x ∷ xs) some =
         let a = reads_answered name l link with_user piece x xs s.said owners h.sound.tied.setup.sent s.alive s.tied some in
-        by_result x xs some a (judged_by (steps_of c.single.connection with_user) x.verdict) refl (answered_result l link piece with_user x info h.sound.tied.setup.info_is s.said.says a)
+        by_result x xs some a (judged_by (steps_of c.single.connection with_user) x.verdict) refl (answered_result l link piece with_user x info given h.sound.tied.setup.info_is s.said.says a)

@@ -6,10 +6,11 @@ use Rattle.containers.proofs.Choices.{by_test, eq_from, le_from, le_test, ne_fro
 use Rattle.driver_model.specs.declared.config.Config.{Config}
 use Rattle.driver_model.specs.declared.event.Event.{Event}
 use Rattle.driver_model.specs.declared.action.Purpose.{Purpose}
+use Rattle.driver_model.specs.declared.action.SourceUse.{SourceUse}
 use Rattle.link_laws.proofs.TiedLink.{TiedLink}
 use Rattle.mux_conn.specs.Connection.{is_spent_in, started_in}
 use Rattle.mux_conn.specs.declared.life.Life.{Life}
-use Rattle.mux_conn.specs.declared.life.Life.TheVariants.{Dialing, Ended, Ready, SettingUp}
+use Rattle.mux_conn.specs.declared.life.Life.TheVariants.{Dialing, Ended, Ready, Wanting, SettingUp}
 use Rattle.shared_session.specs.Replay.{AreGood, AreGoodOn, is_bad_after, is_spent_after, opening_core, run_on, state_after, trace_of, IsSound}
 use Rattle.shared_session.specs.Turn.{is_bad, has_run_out, spends, next_turn}
 use Rattle.shared_session.specs.declared.core_state.Core.{Core}
@@ -45,6 +46,7 @@ spent_up b t h e = by_life t.life h.life e
   where
     by_life : (life : Life) → TiedLife (b.link t.link) b.created life → is_spent_in life ≡ true → (b.link t.link).up ≡ true
     by_life Dialing k s = absurd (let far = le_from (2 ^ 32) 0 s in omega arith)
+    by_life (Wanting link) k s = k.1
     by_life (SettingUp link with_user) k s = k.1
     by_life (Ready link) k s = k.1
     by_life (Ended x) k s = absurd (let far = le_from (2 ^ 32) 0 s in omega arith)
@@ -55,16 +57,18 @@ up_started b t h up = by_life t.life h.life h.link
   where
     by_life : (life : Life) → TiedLife (b.link t.link) b.created life → (has_ended life ≡ false → TiedLink (carried life t.requests) (b.link t.link) (whole_link life)) → started_in life ≡ length (b.link t.link).starts
     by_life Dialing k tied = absurd (not_both (b.link t.link).up k.1 up)
+    by_life (Wanting link) k tied = (tied refl).started
     by_life (SettingUp link with_user) k tied = (tied refl).started
     by_life (Ready link) k tied = (tied refl).started
     by_life (Ended x) k tied = absurd (not_both (b.link t.link).up k.0 up)
 
--- one of four tests
-either_true : (a b c d : Bool) → (a || (b || (c || d))) ≡ true → (a ≡ true) ⊎ ((b ≡ true) ⊎ ((c ≡ true) ⊎ (d ≡ true)))
-either_true true b c d e = inl refl
-either_true false true c d e = inr (inl refl)
-either_true false false true d e = inr (inr (inl refl))
-either_true false false false d e = inr (inr (inr e))
+-- one of five tests
+either_true : (a b c d e : Bool) → (a || (b || (c || (d || e)))) ≡ true → (a ≡ true) ⊎ ((b ≡ true) ⊎ ((c ≡ true) ⊎ ((d ≡ true) ⊎ (e ≡ true))))
+either_true true b c d e is = inl refl
+either_true false true c d e is = inr (inl refl)
+either_true false false true d e is = inr (inr (inl refl))
+either_true false false false true e is = inr (inr (inr (inl refl)))
+either_true false false false false e is = inr (inr (inr (inr is)))
 
 -- over any bound
 turns_out : (bound turns now next : ℕ) → bound ≤ turns → now ≡ next → next ≡ turns + 1 → bound < now
@@ -74,45 +78,61 @@ turns_out bound turns now next l e i = omega arith
 as_many : (bound n m : ℕ) → bound ≤ n → m ≡ n → bound ≤ m
 as_many bound n m l e = omega arith
 
+-- a session that has begun so many turns before this one has given out the last number of a sort
+abbrev IsSpentBy : ℕ → Inner → Bool
+IsSpentBy turns t = nat_le (2 ^ 32) turns || (is_spent_in t.life || (nat_le (2 ^ 32) (length t.table) || (nat_le (2 ^ 32) (length t.timers) || nat_le (2 ^ 32) (length t.sources))))
+
 -- by the numbers of the session
-pub run_out_of : (b : Book) (t : Inner) (turns : ℕ) → Tied b t → t.turns ≡ turns + 1 → (nat_le (2 ^ 32) turns || (is_spent_in t.life || (nat_le (2 ^ 32) (length t.table) || nat_le (2 ^ 32) (length t.timers)))) ≡ true → HasRunOut b
+pub run_out_of : (b : Book) (t : Inner) (turns : ℕ) → Tied b t → t.turns ≡ turns + 1 → IsSpentBy turns t ≡ true → HasRunOut b
 run_out_of b t turns h count e =
-    elim (either_true (nat_le (2 ^ 32) turns) (is_spent_in t.life) (nat_le (2 ^ 32) (length t.table)) (nat_le (2 ^ 32) (length t.timers)) e) [
+    elim (either_true (nat_le (2 ^ 32) turns) (is_spent_in t.life) (nat_le (2 ^ 32) (length t.table)) (nat_le (2 ^ 32) (length t.timers)) (nat_le (2 ^ 32) (length t.sources)) e) [
       | inl x ↦ inl (turns_out (2 ^ 32) turns b.turns t.turns (le_from (2 ^ 32) turns x) h.numbers.turns count)
       | inr x ↦ elim x [
-        | inl y ↦ let up = spent_up b t h y in inr (inr (inr (inr (t.link, up, as_many (2 ^ 32) (started_in t.life) (length (b.link t.link).starts) (le_from (2 ^ 32) (started_in t.life) y) (sym (up_started b t h up))))))
+        | inl y ↦ let up = spent_up b t h y in inr (inr (inr (inr (inr (t.link, up, as_many (2 ^ 32) (started_in t.life) (length (b.link t.link).starts) (le_from (2 ^ 32) (started_in t.life) y) (sym (up_started b t h up)))))))
         | inr y ↦ elim y [
           | inl z ↦ inr (inl (as_many (2 ^ 32) (length t.table) b.submissions (le_from (2 ^ 32) (length t.table) z) h.numbers.submissions))
-          | inr z ↦ inr (inr (inr (inl (subst (λ (ts : List Purpose). 2 ^ 32 ≤ length ts) (sym h.numbers.timers) (le_from (2 ^ 32) (length t.timers) z)))))
+          | inr z ↦ elim z [
+            | inl w ↦ inr (inr (inr (inl (subst (λ (ts : List Purpose). 2 ^ 32 ≤ length ts) (sym h.numbers.timers) (le_from (2 ^ 32) (length t.timers) w)))))
+            | inr w ↦ inr (inr (inr (inr (inl (subst (λ (ss : List SourceUse). 2 ^ 32 ≤ length ss) (sym h.numbers.sources) (le_from (2 ^ 32) (length t.sources) w))))))
+          ]
         ]
       ]
     ]
 
 -- and where they have, it is
 --
-first_true : (a b c d : Bool) → a ≡ true → (a || (b || (c || d))) ≡ true
-first_true true b c d e = refl
-first_true false b c d e = cc
+first_true : (a b c d e : Bool) → a ≡ true → (a || (b || (c || (d || e)))) ≡ true
+first_true true b c d e is = refl
+first_true false b c d e is = cc
 
--- the second of four tests
-second_true : (a b c d : Bool) → b ≡ true → (a || (b || (c || d))) ≡ true
-second_true true b c d e = refl
-second_true false true c d e = refl
-second_true false false c d e = cc
+-- the second of five tests
+second_true : (a b c d e : Bool) → b ≡ true → (a || (b || (c || (d || e)))) ≡ true
+second_true true b c d e is = refl
+second_true false true c d e is = refl
+second_true false false c d e is = cc
 
--- the third of four tests
-third_true : (a b c d : Bool) → c ≡ true → (a || (b || (c || d))) ≡ true
-third_true true b c d e = refl
-third_true false true c d e = refl
-third_true false false true d e = refl
-third_true false false false d e = cc
+-- the third of five tests
+third_true : (a b c d e : Bool) → c ≡ true → (a || (b || (c || (d || e)))) ≡ true
+third_true true b c d e is = refl
+third_true false true c d e is = refl
+third_true false false true d e is = refl
+third_true false false false d e is = cc
+
+-- the fourth of five tests
+fourth_true : (a b c d e : Bool) → d ≡ true → (a || (b || (c || (d || e)))) ≡ true
+fourth_true true b c d e is = refl
+fourth_true false true c d e is = refl
+fourth_true false false true d e is = refl
+fourth_true false false false true e is = refl
+fourth_true false false false false e is = cc
 
 -- and the last
-last_true : (a b c d : Bool) → d ≡ true → (a || (b || (c || d))) ≡ true
-last_true true b c d e = refl
-last_true false true c d e = refl
-last_true false false true d e = refl
-last_true false false false d e = e
+last_true : (a b c d e : Bool) → e ≡ true → (a || (b || (c || (d || e)))) ≡ true
+last_true true b c d e is = refl
+last_true false true c d e is = refl
+last_true false false true d e is = refl
+last_true false false false true e is = refl
+last_true false false false false e is = is
 
 -- the turn before
 turns_then : (bound turns now next : ℕ) → bound < now → now ≡ next → next ≡ turns + 1 → bound ≤ turns
@@ -132,27 +152,31 @@ one_link b t h many =
     more_than_one n l = omega arith
 
 -- by the numbers of the session
-pub spent_of : (b : Book) (t : Inner) (turns : ℕ) → Tied b t → t.turns ≡ turns + 1 → HasRunOut b → (nat_le (2 ^ 32) turns || (is_spent_in t.life || (nat_le (2 ^ 32) (length t.table) || nat_le (2 ^ 32) (length t.timers)))) ≡ true
+pub spent_of : (b : Book) (t : Inner) (turns : ℕ) → Tied b t → t.turns ≡ turns + 1 → HasRunOut b → IsSpentBy turns t ≡ true
 spent_of b t turns h count out =
     let first = nat_le (2 ^ 32) turns in
     let second = is_spent_in t.life in
     let third = nat_le (2 ^ 32) (length t.table) in
-    let last = nat_le (2 ^ 32) (length t.timers) in
+    let fourth = nat_le (2 ^ 32) (length t.timers) in
+    let last = nat_le (2 ^ 32) (length t.sources) in
     elim out [
-      | inl l ↦ first_true first second third last (le_test (2 ^ 32) turns (turns_then (2 ^ 32) turns b.turns t.turns l h.numbers.turns count))
+      | inl l ↦ first_true first second third fourth last (le_test (2 ^ 32) turns (turns_then (2 ^ 32) turns b.turns t.turns l h.numbers.turns count))
       | inr x ↦ elim x [
-        | inl l ↦ third_true first second third last (le_test (2 ^ 32) (length t.table) (as_many (2 ^ 32) b.submissions (length t.table) l (sym h.numbers.submissions)))
+        | inl l ↦ third_true first second third fourth last (le_test (2 ^ 32) (length t.table) (as_many (2 ^ 32) b.submissions (length t.table) l (sym h.numbers.submissions)))
         | inr y ↦ elim y [
           | inl l ↦ absurd (one_link b t h l)
           | inr z ↦ elim z [
-            | inl l ↦ last_true first second third last (le_test (2 ^ 32) (length t.timers) (subst (λ (ts : List Purpose). 2 ^ 32 ≤ length ts) h.numbers.timers l))
-            | inr m ↦ by_test (m.0 == t.link) _
-                (λ e.
-                let same = eq_from m.0 t.link e in
-                let up = subst (λ l. (b.link l).up ≡ true) same m.1 in
-                let here = subst (λ l. 2 ^ 32 ≤ length (b.link l).starts) same m.2 in
-                second_true first second third last (le_test (2 ^ 32) (started_in t.life) (as_many (2 ^ 32) (length (b.link t.link).starts) (started_in t.life) here (up_started b t h up))))
-                (λ o. absurd (not_both (b.link m.0).up (h.others m.0 (ne_from m.0 t.link o)).up m.1))
+            | inl l ↦ fourth_true first second third fourth last (le_test (2 ^ 32) (length t.timers) (subst (λ (ts : List Purpose). 2 ^ 32 ≤ length ts) h.numbers.timers l))
+            | inr w ↦ elim w [
+              | inl l ↦ last_true first second third fourth last (le_test (2 ^ 32) (length t.sources) (subst (λ (ss : List SourceUse). 2 ^ 32 ≤ length ss) h.numbers.sources l))
+              | inr m ↦ by_test (m.0 == t.link) _
+                  (λ e.
+                  let same = eq_from m.0 t.link e in
+                  let up = subst (λ l. (b.link l).up ≡ true) same m.1 in
+                  let here = subst (λ l. 2 ^ 32 ≤ length (b.link l).starts) same m.2 in
+                  second_true first second third fourth last (le_test (2 ^ 32) (started_in t.life) (as_many (2 ^ 32) (length (b.link t.link).starts) (started_in t.life) here (up_started b t h up))))
+                  (λ o. absurd (not_both (b.link m.0).up (h.others m.0 (ne_from m.0 t.link o)).up m.1))
+            ]
           ]
         ]
       ]

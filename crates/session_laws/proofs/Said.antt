@@ -8,25 +8,27 @@ use Rattle.connection_info.specs.declared.address.RedisConnectionInfo.{RedisConn
 use Rattle.connection_setup.specs.declared.judgement.SetupResult.TheVariants.{Ready as Well, Failed}
 use Rattle.driver_model.specs.Setup.{says_nothing}
 use Rattle.driver_model.specs.declared.action.Owner.TheVariants as owner
-use Rattle.driver_model.specs.News.{News, silence, connected, refused, overdue, took, came, failed, shut}
+use Rattle.driver_model.specs.News.{News, silence, connected, refused, overdue, took, came, failed, authorized, denied, deserted, shut}
 use Rattle.link_core.specs.declared.message.Entry.{Entry}
 use Rattle.link_core.specs.Link.{LinkState}
 use Rattle.link_laws.proofs.TiedLink.{TiedLink}
 use Rattle.mux_conn.specs.declared.life.Life.{Life}
-use Rattle.mux_conn.specs.declared.life.Life.TheVariants.{Dialing, SettingUp, Ready, Ended}
+use Rattle.mux_conn.specs.declared.life.Life.TheVariants.{Dialing, Wanting, SettingUp, Ready, Ended}
 use Rattle.mux_conn.specs.declared.request.Request.{Request}
-use Rattle.legal_trace.specs.Ledger.{Ledger, End, Ending, by_opening, hears, noted, is_over, dials, refused_in, bytes_came, ending, ending_up, ending_asked, ending_unready, ending_by, ending_alive, error_in, is_well, is_set_up, is_ready, last_result, setup_after, setup_count, setup_result, setup_steps}
-use Rattle.legal_trace.proofs.Setups.{ends_where_set}
+use Rattle.legal_trace.specs.Ledger.{Ledger, End, Ending, by_opening, hears, noted, authorized_by, awaits_credentials, is_over, dials, refused_in, bytes_came, ending, ending_up, ending_asked, ending_unready, ending_by, ending_alive, error_in, is_well, is_set_up, is_ready, lacks_credentials, last_result, setup_after, setup_count, setup_result, setup_steps}
+use Rattle.legal_trace.proofs.Setups.{IsUndecided, ends_where_set}
 use Rattle.legal_trace.specs.Book.{Book}
 use Rattle.legal_trace.specs.Legal.{ReadyIsShown}
+use Rattle.session_laws.proofs.Creds.{down_unawaited, lacking_undecided, unawaited_is, wanting_lacks}
 use Rattle.session_laws.proofs.SetUp.{not_set_up}
-use Rattle.session_laws.proofs.Tied.{Inner, HasSaid, IsSettingUp, Tied, TiedLife, TiedSetup, carried, owner_of, whole_link, TiedPushes}
+use Rattle.session_laws.proofs.Tied.{AreSought, Inner, HasSaid, IsSettingUp, Tied, TiedLife, TiedSetup, carried, owner_of, whole_link, TiedPushes}
 
 -- whose messages a link carries
 --
 -- they are the same where names are
 pub carried_same : (life : Life) (requests other : List Request) → owner_of requests ≡ owner_of other → carried life requests ≡ carried life other
 carried_same Dialing requests other e = λ i p. e i p
+carried_same (Wanting link) requests other e = λ i p. owner.Setup
 carried_same (SettingUp link with_user) requests other e = λ i p. owner.Setup
 carried_same (Ready link) requests other e = λ i p. e i p
 carried_same (Ended x) requests other e = λ i p. e i p
@@ -54,7 +56,7 @@ last_on l asked up end taken offer rest heard (suc k) = refl
 
 -- are the same
 pub result_on : (l : Ledger) (asked up : Bool) (end : Option End) (taken offer rest : List ℕ) (heard : News) → setup_result (retold l asked up end taken offer rest heard) ≡ setup_result l
-result_on l asked up end taken offer rest heard = λ i. if says_nothing (setup_steps l 0) then Some Well else last_on l asked up end taken offer rest heard (setup_count l.starts) i
+result_on l asked up end taken offer rest heard = λ i. if lacks_credentials l then None else if says_nothing (setup_steps l 0) then Some Well else last_on l asked up end taken offer rest heard (setup_count l.starts) i
 
 -- so is whether it is set up
 pub well_on : (l : Ledger) (asked up : Bool) (end : Option End) (taken offer rest : List ℕ) (heard : News) → is_set_up (retold l asked up end taken offer rest heard) ≡ is_set_up l
@@ -63,6 +65,7 @@ well_on l asked up end taken offer rest heard = ap is_well (result_on l asked up
 -- and how far it has come
 pub said_on : (l : Ledger) (asked up : Bool) (end : Option End) (taken offer rest : List ℕ) (heard : News) (started : List ℕ) (life : Life) → HasSaid l started life → HasSaid (retold l asked up end taken offer rest heard) started life
 said_on l asked up end taken offer rest heard started Dialing h = h
+said_on l asked up end taken offer rest heard started (Wanting link) h = h
 said_on l asked up end taken offer rest heard started (SettingUp link with_user) h = (
   h.0,
   record {
@@ -100,23 +103,30 @@ setup_link l info started link after with_user queue row h = record {
   );
 }
 
+-- also where it waits for credentials
+pub wanting_link : (l : Ledger) (info : RedisConnectionInfo) (started : List ℕ) (link after : LinkState) → after.queue ≡ link.queue → after.row ≡ link.row → TiedSetup l info started (Wanting link) → TiedSetup l info started (Wanting after)
+wanting_link l info started link after queue row h = record { info_is = h.info_is; sent = h.sent; said = (h.said.0, h.said.1, queue ∙ h.said.2, row ∙ h.said.3) }
+
 -- and on any that is set up
 pub setup_ready : (l : Ledger) (info : RedisConnectionInfo) (started : List ℕ) (link after : LinkState) → TiedSetup l info started (Ready link) → TiedSetup l info started (Ready after)
 setup_ready l info started link after h = record { info_is = h.info_is; sent = h.sent; said = record { well = h.said.well; none = h.said.none } }
 
--- news that are no bytes leave it
-abbrev pub IsNoPiece : News → Type 0
-IsNoPiece (came piece) = ⊥
-IsNoPiece silence = Unit {0}
-IsNoPiece connected = Unit {0}
-IsNoPiece (refused f) = Unit {0}
-IsNoPiece overdue = Unit {0}
-IsNoPiece (took count) = Unit {0}
-IsNoPiece (failed f) = Unit {0}
-IsNoPiece shut = Unit {0}
+-- news that bring neither bytes nor credentials leave it
+abbrev pub BringsNothing : News → Type 0
+BringsNothing (came piece) = ⊥
+BringsNothing (authorized c) = ⊥
+BringsNothing silence = Unit {0}
+BringsNothing connected = Unit {0}
+BringsNothing (refused f) = Unit {0}
+BringsNothing overdue = Unit {0}
+BringsNothing (took count) = Unit {0}
+BringsNothing (failed f) = Unit {0}
+BringsNothing (denied text) = Unit {0}
+BringsNothing deserted = Unit {0}
+BringsNothing shut = Unit {0}
 
 -- so it does
-pub setup_hears : (l : Ledger) (turn : ℕ) (n : News) (info : RedisConnectionInfo) (started : List ℕ) (life : Life) → IsNoPiece n → TiedSetup l info started life → TiedSetup (noted l (hears turn n)) info started life
+pub setup_hears : (l : Ledger) (turn : ℕ) (n : News) (info : RedisConnectionInfo) (started : List ℕ) (life : Life) → BringsNothing n → TiedSetup l info started life → TiedSetup (noted l (hears turn n)) info started life
 setup_hears l turn silence info started life k h = setup_on l l.asked l.up l.end l.taken l.offer l.rest silence info started life h
 setup_hears l turn connected info started life k h =
     chosen (λ (x : Ledger). TiedSetup (record x { heard = connected }) info started life) (is_over l) l (record l { up = true })
@@ -134,9 +144,12 @@ setup_hears l turn (took count) info started life k h =
     (λ n. setup_on l l.asked l.up l.end l.taken l.offer l.rest (took count) info started life h)
 setup_hears l turn (came piece) info started life k h = absurd k
 setup_hears l turn (failed f) info started life k h = setup_on l l.asked l.up l.end l.taken l.offer l.rest (failed f) info started life h
+setup_hears l turn (authorized c) info started life k h = absurd k
+setup_hears l turn (denied text) info started life k h = setup_on l l.asked l.up l.end l.taken l.offer l.rest (denied text) info started life h
+setup_hears l turn deserted info started life k h = setup_on l l.asked l.up l.end l.taken l.offer l.rest deserted info started life h
 setup_hears l turn shut info started life k h = setup_on l l.asked l.up l.end l.taken l.offer l.rest shut info started life h
 
--- and so do bytes, where the link isn't up
+-- and so do bytes and credentials, where the link isn't up
 pub setup_unheard : (l : Ledger) (turn : ℕ) (n : News) (info : RedisConnectionInfo) (started : List ℕ) (life : Life) → l.up ≡ false → TiedSetup l info started life → TiedSetup (noted l (hears turn n)) info started life
 setup_unheard l turn (came piece) info started life down h =
     if_false (λ (x : Ledger). TiedSetup (record x { heard = came piece }) info started life) l.up (bytes_came l piece) l down (setup_on l l.asked l.up l.end l.taken l.offer l.rest (came piece) info started life h)
@@ -146,6 +159,10 @@ setup_unheard l turn (refused f) info started life down h = setup_hears l turn (
 setup_unheard l turn overdue info started life down h = setup_hears l turn overdue info started life tt h
 setup_unheard l turn (took count) info started life down h = setup_hears l turn (took count) info started life tt h
 setup_unheard l turn (failed f) info started life down h = setup_hears l turn (failed f) info started life tt h
+setup_unheard l turn (authorized c) info started life down h =
+    subst (λ (x : Ledger). TiedSetup x info started life) (sym (unawaited_is l turn c (down_unawaited l down))) (setup_on l l.asked l.up l.end l.taken l.offer l.rest (authorized c) info started life h)
+setup_unheard l turn (denied text) info started life down h = setup_hears l turn (denied text) info started life tt h
+setup_unheard l turn deserted info started life down h = setup_hears l turn deserted info started life tt h
 setup_unheard l turn shut info started life down h = setup_hears l turn shut info started life tt h
 
 -- what is still to be told of a link stays
@@ -154,8 +171,8 @@ setup_unheard l turn shut info started life down h = setup_hears l turn shut inf
 abbrev pub PushesOf : Bool → Bool → Ledger → Type 0
 PushesOf heard mine l = TiedPushes heard mine l.pushes l.told l.end l.parted [] false
 
--- so it does whatever news come that are no bytes of a link that is up
-pub pushes_hear : (l : Ledger) (turn : ℕ) (n : News) (heard mine : Bool) → IsNoPiece n ⊎ (l.up ≡ false) → PushesOf heard mine l → PushesOf heard mine (noted l (hears turn n))
+-- so it does whatever news come that bring a link that is up nothing
+pub pushes_hear : (l : Ledger) (turn : ℕ) (n : News) (heard mine : Bool) → BringsNothing n ⊎ (l.up ≡ false) → PushesOf heard mine l → PushesOf heard mine (noted l (hears turn n))
 pushes_hear l turn silence heard mine k h = h
 pushes_hear l turn overdue heard mine k h = h
 pushes_hear l turn (refused f) heard mine k h =
@@ -169,15 +186,25 @@ pushes_hear l turn (came piece) heard mine k h = elim k [
   | inr down ↦ if_false (λ (x : Ledger). PushesOf heard mine x) l.up (bytes_came l piece) l down h
 ]
 pushes_hear l turn (failed f) heard mine k h = h
+pushes_hear l turn (authorized c) heard mine k h = chosen (λ (x : Ledger). PushesOf heard mine x) (awaits_credentials l) (authorized_by l c) l (λ t. h) (λ f. h)
+pushes_hear l turn (denied text) heard mine k h = h
+pushes_hear l turn deserted heard mine k h = h
 pushes_hear l turn shut heard mine k h = h
 
 -- what ends a link
 --
+-- whose setup has come to nothing yet
+ending_undecided : (l : Ledger) → l.up ≡ true → IsUndecided (setup_result l) → ending l ≡ ending_unready l l.heard
+ending_undecided l up r =
+    taken_if l.up (ending_alive l) _ up ∙ left_if (is_set_up l) (ending_up l l.heard) _ r.unwell ∙ ap (λ x. ending_by x (ending_unready l l.heard)) r.no_error
+
 -- that is set up still
 pub ending_setting : (l : Ledger) (link : LinkState) (with_user : Bool) → l.up ≡ true → IsSettingUp l link with_user → ending l ≡ ending_unready l l.heard
-ending_setting l link with_user up h =
-    let r = not_set_up l link with_user h in
-    taken_if l.up (ending_alive l) _ up ∙ left_if (is_set_up l) (ending_up l l.heard) _ r.unwell ∙ ap (λ x. ending_by x (ending_unready l l.heard)) r.no_error
+ending_setting l link with_user up h = ending_undecided l up (not_set_up l link with_user h)
+
+-- or waits for credentials
+pub ending_wanting : (l : Ledger) → l.up ≡ true → lacks_credentials l ≡ true → ending l ≡ ending_unready l l.heard
+ending_wanting l up lacks = ending_undecided l up (lacking_undecided l lacks)
 
 -- once it has heard something
 pub ready_heard : (l : Ledger) (n : News) → l.up ≡ true → is_set_up l ≡ true → ending (record l { heard = n }) ≡ ending_up (record l { heard = n }) n
@@ -242,14 +269,15 @@ mild_end l taken offer _ k none = absurd k
 -- where a link is ready
 --
 -- by how far it has come
-ready_by : (l : Ledger) (created : ℕ) (info : RedisConnectionInfo) (started : List ℕ) (life : Life) → TiedLife l created life → TiedSetup l info started life → is_ready l ≡ true → created ≢ 0
-ready_by l created info started Dialing h s r = absurd (not_both l.up h.1 (both_left l.up (is_set_up l) r))
-ready_by l created info started (SettingUp link with_user) h s r = absurd (not_both (is_set_up l) (not_set_up l link with_user s.said.1).unwell (both_right l.up (is_set_up l) r))
-ready_by l created info started (Ready link) h s r = h.3
-ready_by l created info started (Ended e) h s r = absurd (not_both l.up h.0 (both_left l.up (is_set_up l) r))
+ready_by : (l : Ledger) (created : ℕ) (info : RedisConnectionInfo) (started : List ℕ) (life : Life) → TiedLife l created life → AreSought l.creds life → TiedSetup l info started life → is_ready l ≡ true → created ≢ 0
+ready_by l created info started Dialing h c s r = absurd (not_both l.up h.1 (both_left l.up (is_set_up l) r))
+ready_by l created info started (Wanting link) h c s r = absurd (not_both (is_set_up l) (lacking_undecided l (wanting_lacks l.creds link c)).unwell (both_right l.up (is_set_up l) r))
+ready_by l created info started (SettingUp link with_user) h c s r = absurd (not_both (is_set_up l) (not_set_up l link with_user s.said.1).unwell (both_right l.up (is_set_up l) r))
+ready_by l created info started (Ready link) h c s r = h.3
+ready_by l created info started (Ended e) h c s r = absurd (not_both l.up h.0 (both_left l.up (is_set_up l) r))
 
 -- the creation was shown
 pub ready_shown : (b : Book) (t : Inner) → Tied b t → ReadyIsShown b
 ready_shown b t h m ready = by_test (m == t.link) _
-    (λ same. ready_by (b.link t.link) b.created t.info t.started t.life h.life h.setup (subst (λ k. is_ready (b.link k) ≡ true) (eq_from m t.link same) ready))
+    (λ same. ready_by (b.link t.link) b.created t.info t.started t.life h.life h.creds.sought h.setup (subst (λ k. is_ready (b.link k) ≡ true) (eq_from m t.link same) ready))
     (λ other. absurd (not_both (b.link m).up (h.others m (ne_from m t.link other)).up (both_left (b.link m).up (is_set_up (b.link m)) ready)))

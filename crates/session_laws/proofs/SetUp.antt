@@ -1,5 +1,5 @@
 -- How far the setup of a link has come, by its ledger.
-use Rattle.std.proofs.Common.{List, None, Option, Some, [], ap, arith, false, inl, inr, length, refl, slice_get, subst, suc, sym, take, true, zero, ℕ, ◌+◌, ◌++◌, ◌<◌, ◌≤◌, ◌∙◌, ◌∷◌, ◌≡◌}
+use Rattle.std.proofs.Common.{List, None, Option, Some, [], ap, arith, false, inl, inr, length, refl, slice_get, subst, suc, sym, take, true, zero, ℕ, ◌+◌, ◌++◌, ◌<◌, ◌≤◌, ◌∙◌, ◌∷◌, ◌≡◌, ◌||◌}
 use Rattle.std.proofs.lemmas.List.{length_push, take_all}
 use Rattle.std.specs.Prelude.{Bool, nat_le}
 use Rattle.containers.proofs.Choices.{by_test, left_if, not_le_test, taken_if}
@@ -7,12 +7,13 @@ use Rattle.connection_setup.specs.declared.judgement.SetupResult.{SetupResult}
 use Rattle.connection_setup.specs.declared.judgement.SetupResult.TheVariants as result
 use Rattle.driver_model.specs.declared.action.Owner.TheVariants as owner
 use Rattle.driver_model.specs.Setup.{says_nothing}
-use Rattle.driver_model.specs.News.{News, silence, connected, refused, overdue, took, came, failed, shut}
-use Rattle.legal_trace.specs.Ledger.{Ledger, Start, begins, ending_up, is_full, is_of_setup, is_well, last_result, noted, reach, repeats, result_of, setup_after, setup_count, setup_due, setup_result, setup_steps}
+use Rattle.driver_model.specs.News.{News, silence, connected, refused, overdue, took, came, failed, authorized, denied, deserted, shut}
+use Rattle.legal_trace.specs.Ledger.{Ledger, Start, begins, ending_up, is_full, is_of_setup, is_well, lacks_credentials, last_result, noted, reach, repeats, result_of, setup_after, setup_count, setup_due, setup_result, setup_steps}
 use Rattle.legal_trace.proofs.Ledgers.{reach_more, takes_one}
-use Rattle.legal_trace.proofs.Setups.{IsUndecided, count_more, count_within, repeats_open, set_begins, set_came}
+use Rattle.legal_trace.proofs.Setups.{IsUndecided, count_more, count_within, repeats_open, set_begins, set_came, set_is_given, set_is_said, setup_said}
 use Rattle.link_core.specs.Link.{LinkState}
 use Rattle.link_laws.proofs.TiedLink.{has_heard}
+use Rattle.session_laws.proofs.Creds.{lacking_undecided}
 use Rattle.session_laws.proofs.Tied.{AreSetups, IsSetUp, IsSettingUp, IsSetupSent, owners_of, setup_owners}
 
 -- what a setup has come to
@@ -41,10 +42,11 @@ none_yet l k f = left_if (is_full l k) _ None f
 -- so while a setup is to start, or isn't answered, the link isn't set up
 pub not_set_up : (l : Ledger) (link : LinkState) (with_user : Bool) → IsSettingUp l link with_user → IsUndecided (setup_result l)
 not_set_up l link with_user h =
-    subst IsUndecided (sym (left_if (says_nothing (setup_steps l 0)) (Some result.Ready) (last_result l (setup_count l.starts)) h.says)) (elim h.stage [
+    by_test (lacks_credentials l) _ (lacking_undecided l)
+    (λ given. subst IsUndecided (sym (setup_said l given ∙ left_if (says_nothing (setup_steps l 0)) (Some result.Ready) (last_result l (setup_count l.starts)) h.says)) (elim h.stage [
       | inl due ↦ due_open l (setup_count l.starts) due.due
       | inr sent ↦ subst IsUndecided (sym (ap (last_result l) sent.count ∙ none_yet l sent.k sent.open_is)) (record { unwell = refl; no_error = refl })
-    ])
+    ]))
 
 -- what is due next
 --
@@ -59,8 +61,8 @@ sent_undue l link with_user h = ap (setup_after l) h.count ∙ after h.k (none_y
 -- nor on a link that is set up
 pub set_up_undue : (l : Ledger) → IsSetUp l → setup_after l (setup_count l.starts) ≡ None
 set_up_undue l h = by_test (says_nothing (setup_steps l 0)) _
-    (λ t. ap (setup_after l) (h.none t) ∙ taken_if (says_nothing (setup_steps l 0)) None (Some 0) t)
-    (λ f. after (setup_count l.starts) (sym (ap is_well (left_if (says_nothing (setup_steps l 0)) (Some result.Ready) (last_result l (setup_count l.starts)) f)) ∙ h.well))
+    (λ t. ap (setup_after l) (h.none t) ∙ taken_if (lacks_credentials l || says_nothing (setup_steps l 0)) None (Some 0) (λ i. set_is_given l h.well i || t i))
+    (λ f. after (setup_count l.starts) (sym (ap is_well (left_if (says_nothing (setup_steps l 0)) (Some result.Ready) (last_result l (setup_count l.starts)) f)) ∙ set_is_said l h.well))
   where
     after : (n : ℕ) → is_well (last_result l n) ≡ true → setup_after l n ≡ None
     after zero e = cc
@@ -127,4 +129,7 @@ ending_up_same l ss overdue = refl
 ending_up_same l ss (took count) = refl
 ending_up_same l ss (came piece) = refl
 ending_up_same l ss (failed f) = refl
+ending_up_same l ss (authorized c) = refl
+ending_up_same l ss (denied text) = refl
+ending_up_same l ss deserted = refl
 ending_up_same l ss shut = refl

@@ -35,10 +35,9 @@ use Rattle.session_laws.proofs.Entered.{shown_more}
 use Rattle.session_laws.proofs.Going.{IsGoing, applied_up, going_more, none_ends_mine}
 use Rattle.session_laws.proofs.Heard.{setting_waits}
 use Rattle.session_laws.proofs.Kept.{mine_noted, others_kept, tied_by}
-use Rattle.session_laws.proofs.LetIn.{quiet_timers}
 use Rattle.session_laws.proofs.Names.{get_more}
 use Rattle.session_laws.proofs.SetUp.{begun_open, count_length, count_next, down_undue}
-use Rattle.session_laws.proofs.Settle.{seen, trace_of_acts}
+use Rattle.session_laws.proofs.Settle.{quiet_asks, seen, trace_of_acts}
 use Rattle.session_laws.proofs.Start.{owners-append, with_queue}
 use Rattle.session_laws.proofs.States.{IsFit}
 use Rattle.session_laws.proofs.Tied.{AreSetups, Inner, IsSettingUp, Tied, TiedTries, numbers_kept, owners_of, setup_owners}
@@ -195,6 +194,7 @@ set_up_tied b t link with_user due user h =
       others = others_kept b t.link (begins s) h.others;
       pushes = h.pushes;
       life = h.life;
+      creds = record { wanted_is = h.creds.wanted_is; sought = h.creds.sought };
       setup = record { info_is = h.setup.info_is; sent = setups_next l all h.setup.sent; said = (said.0, setting_next l link with_user all tied.within due user said.1) };
       link = λ e. queue_tied name (noted l (begins s)) (begun (with_queue link (q ∷ [])) q) [] (begun_tied name l (with_queue link (q ∷ [])) q (setup_packed l (setup_count l.starts) said.1.says) tied);
       names = h.names;
@@ -275,13 +275,13 @@ setting_begun before f w started link with_user life fit none h =
           let is : started_at w (SettingUp link with_user) ≡ acted (with_setup w after with_user) a =
           ap (λ (qs : List Queued). sets_up_with w with_user (started_each (record { link = link; out = [] }) qs)) d.queue
           ∙ ap (sets_up_with w with_user) (left_if (holds_back link) (record { link = with_queue link (q ∷ []); out = [] }) (started_each (started_one (record { link = link; out = [] }) q) []) free) in
-          let there = subst (λ (x : List Action). IsGoing x (setting_on t after with_user)) (sym (shown_more before f.single.link (length f.timers) w.acts a)) going in
+          let there = subst (λ (x : List Action). IsGoing x (setting_on t after with_user)) (sym (shown_more before f.single.link (length f.timers) (length f.sources) w.acts a)) going in
           subst (λ (x : Work). HasBegun before f x started with_user) (sym is) (record {
             link = after;
             life = refl;
             fit = record { sound = fit.sound; size_is = fit.size_is; bound_is = fit.bound_is; within = omega arith };
             held = inl refl;
-            going = subst (λ ts. IsGoing (trace_of_acts before f (w.acts ++ a ∷ [])) (record (setting_on t after with_user) { timers = f.timers ++ ts })) (sym (quiet_timers w.acts a refl)) there;
+            going = subst (IsGoing (trace_of_acts before f (w.acts ++ a ∷ []))) (quiet_asks f (setting_on t after with_user) w.acts a refl refl) there;
             admitted = none;
           }))
       | inr sent ↦ stays [] sent.queue refl (inl sent.queue)

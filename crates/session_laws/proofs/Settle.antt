@@ -5,7 +5,6 @@ use Rattle.std.specs.List.{AllByRecursion}
 use Rattle.containers.proofs.Choices.{chosen, not_both}
 use Rattle.redis_error.specs.declared.redis_error.RedisError.{RedisError}
 use Rattle.driver_model.specs.declared.action.Action.{Action}
-use Rattle.driver_model.specs.declared.action.Purpose.{Purpose}
 use Rattle.driver_model.specs.declared.outcome.Outcome.{Outcome}
 use Rattle.driver_model.specs.Shape.{outcome_of}
 use Rattle.driver_model.specs.declared.outcome.Outcome.TheVariants as outcome
@@ -16,7 +15,7 @@ use Rattle.mux_conn.specs.declared.act.LinkAct.{LinkAct}
 use Rattle.mux_conn.specs.declared.act.LinkAct.TheVariants as act
 use Rattle.mux_conn.specs.declared.connection.MultiplexedConnection.{MultiplexedConnection}
 use Rattle.mux_conn.specs.declared.life.Life.{Life}
-use Rattle.mux_conn.specs.declared.life.Life.TheVariants.{Dialing, SettingUp, Ready, Ended}
+use Rattle.mux_conn.specs.declared.life.Life.TheVariants.{Dialing, Wanting, SettingUp, Ready, Ended}
 use Rattle.mux_conn.specs.declared.request.Progress.TheVariants as progress
 use Rattle.mux_conn.specs.declared.request.Request.{Request}
 use Rattle.mux_conn.specs.declared.request.Waiting.{Waiting}
@@ -24,25 +23,27 @@ use Rattle.mux_conn.specs.Connection.{Work}
 use Rattle.mux_conn.specs.Requests.{is_open, is_open_at, name_at, closed, answered}
 use Rattle.mux_conn.specs.Effects.{settled_each, failed_each}
 use Rattle.shared_session.specs.declared.core_state.Core.{Core}
-use Rattle.shared_session.specs.Turn.{shown, shown_each, timer_of, timers_of}
+use Rattle.shared_session.specs.Turn.{shown, shown_each, source_of, sources_of, timer_of, timers_of}
 use Rattle.legal_trace.specs.Ledger.{Ledger, is_over, Heard, next_push}
 use Rattle.legal_trace.specs.Book.{Book, blank_book, book, entered}
 use Rattle.legal_trace.specs.Owed.{owed}
 use Rattle.legal_trace.specs.Legal.{AllStand, MayStand, MayAnswer, IsBefore, is_heard}
 use Rattle.session_laws.proofs.Numbers.{Rising, rising_from}
 use Rattle.session_laws.proofs.Tied.{Inner, link_in, TiedLife, Tied, Sound, waiting_ids, has_ended}
-use Rattle.session_laws.proofs.Entered.{book_more, sound_more, shown_more, timers_more}
+use Rattle.session_laws.proofs.Entered.{book_more, quiet_sources, quiet_timers, sound_more, shown_more, sources_more, timers_more}
 use Rattle.session_laws.proofs.Names.{open_within, name_with, length_with, with_then}
 use Rattle.session_laws.proofs.InLine.{line_of, IsInLine, open_in_line, first_is_least}
 use Rattle.session_laws.proofs.Answer.{may_answer, after_closes, none_before, owed_still, answer_tied, skip_tied}
 
--- a session in the middle of a turn, by its connection, and by the acts so far, which may ask for timers
+-- a session in the middle of a turn, by its connection, and by the acts so far, which may ask for timers and for sources of
+-- credentials
 abbrev pub seen : Core → List LinkAct → MultiplexedConnection → List ℕ → List ℕ → Inner
 seen f acts conn pending started = record {
   turns = f.turns;
   links = f.links;
   link = f.single.link;
   timers = f.timers ++ timers_of acts;
+  sources = f.sources ++ sources_of f.single.link acts;
   shut = f.shut;
   table = f.table;
   timeout = f.timeout;
@@ -54,6 +55,7 @@ seen f acts conn pending started = record {
   untold = [];
   parting = false;
   info = conn.info;
+  wants = conn.wants;
   life = conn.life;
   requests = conn.requests;
   waiting = conn.waiting;
@@ -67,7 +69,7 @@ seen f acts conn pending started = record {
 
 -- the trace up to the last act
 abbrev pub trace_of_acts : List Action → Core → List LinkAct → List Action
-trace_of_acts before f acts = before ++ shown_each f.single.link (length f.timers) acts
+trace_of_acts before f acts = before ++ shown_each f.single.link (length f.timers) (length f.sources) acts
 
 -- the session is tied to the book of that trace
 abbrev pub Holds : List Action → Core → Work → List ℕ → List ℕ → Type 0
@@ -83,34 +85,49 @@ Parts before f w parting pending started = Sound (trace_of_acts before f w.acts)
 
 -- what one more act shows
 abbrev pub shown_now : Core → List LinkAct → LinkAct → Action
-shown_now f acts a = shown f.single.link (length f.timers + length (timers_of acts)) a
+shown_now f acts a = shown f.single.link (length f.timers + length (timers_of acts)) (length f.sources + length (sources_of f.single.link acts)) a
 
--- these timers, and then those
-abbrev pub add_timers : List Purpose → List Purpose → List Purpose
-add_timers xs [] = xs
-add_timers xs (y ∷ ys) = xs ++ y ∷ ys
+-- these, and then those
+abbrev pub added : {X : Type 0} → List X → List X → List X
+added xs [] = xs
+added xs (y ∷ ys) = xs ++ y ∷ ys
 
 -- they are both
-add_is : (xs ys : List Purpose) → add_timers xs ys ≡ xs ++ ys
+add_is : {X : Type 0} (xs ys : List X) → added xs ys ≡ xs ++ ys
 add_is xs [] = sym (append-nil xs)
 add_is xs (y ∷ ys) = refl
 
 -- the session once one more act is shown
 abbrev pub seen_more : Core → List LinkAct → LinkAct → MultiplexedConnection → List ℕ → List ℕ → Inner
-seen_more f acts a conn pending started = record (seen f acts conn pending started) { timers = add_timers (f.timers ++ timers_of acts) (timer_of a) }
+seen_more f acts a conn pending started =
+    let l = f.single.link in
+    record (seen f acts conn pending started) { timers = added (f.timers ++ timers_of acts) (timer_of a); sources = added (f.sources ++ sources_of l acts) (source_of l a) }
 
 -- it is the session with that act
 seen_is : (f : Core) (acts : List LinkAct) (a : LinkAct) (conn : MultiplexedConnection) (pending started : List ℕ) → seen_more f acts a conn pending started ≡ seen f (acts ++ a ∷ []) conn pending started
 seen_is f acts a conn pending started =
-    ap (λ (ts : List Purpose). record (seen f acts conn pending started) { timers = ts })
-    (add_is (f.timers ++ timers_of acts) (timer_of a) ∙ append_assoc f.timers (timers_of acts) (timer_of a) ∙ ap (λ ts. f.timers ++ ts) (sym (timers_more acts a)))
+    let l = f.single.link in
+    let ts = add_is (f.timers ++ timers_of acts) (timer_of a) ∙ append_assoc f.timers (timers_of acts) (timer_of a) ∙ ap (λ ts. f.timers ++ ts) (sym (timers_more acts a)) in
+    let ss = add_is (f.sources ++ sources_of l acts) (source_of l a) ∙ append_assoc f.sources (sources_of l acts) (source_of l a) ∙ ap (λ ss. f.sources ++ ss) (sym (sources_more l acts a)) in
+    λ i. record (seen f acts conn pending started) { timers = ts i; sources = ss i }
+
+-- a session with what acts have asked for
+abbrev pub asked_by : Core → Inner → List LinkAct → Inner
+asked_by f t acts = record t { timers = f.timers ++ timers_of acts; sources = f.sources ++ sources_of f.single.link acts }
+
+-- an act that asks for no timer and for no source leaves it
+pub quiet_asks : (f : Core) (t : Inner) (acts : List LinkAct) (a : LinkAct) → timer_of a ≡ [] → source_of f.single.link a ≡ [] → asked_by f t acts ≡ asked_by f t (acts ++ a ∷ [])
+quiet_asks f t acts a timers sources =
+    let ts = quiet_timers acts a timers in
+    let ss = quiet_sources f.single.link acts a sources in
+    sym (λ i. record t { timers = f.timers ++ ts i; sources = f.sources ++ ss i })
 
 -- also where these pushes are still to be told, and the end of the link is
 pub sound_told : (before : List Action) (f : Core) (acts : List LinkAct) (a : LinkAct) (conn : MultiplexedConnection) (untold : List Heard) (parting : Bool) (pending started : List ℕ) → AllStand blank_book (trace_of_acts before f acts) → MayStand (book (trace_of_acts before f acts)) (shown_now f acts a)
     → Tied (entered (book (trace_of_acts before f acts)) (shown_now f acts a)) (record (seen_more f acts a conn pending started) { untold = untold; parting = parting }) → Sound (trace_of_acts before f (acts ++ a ∷ [])) (record (seen f (acts ++ a ∷ []) conn pending started) { untold = untold; parting = parting })
 sound_told before f acts a conn untold parting pending started stands may tied =
     subst (λ (t : Inner). Sound (trace_of_acts before f (acts ++ a ∷ [])) (record t { untold = untold; parting = parting })) (seen_is f acts a conn pending started)
-    (subst (λ (x : List Action). Sound x (record (seen_more f acts a conn pending started) { untold = untold; parting = parting })) (sym (shown_more before f.single.link (length f.timers) acts a))
+    (subst (λ (x : List Action). Sound x (record (seen_more f acts a conn pending started) { untold = untold; parting = parting })) (sym (shown_more before f.single.link (length f.timers) (length f.sources) acts a))
     (sound_more (trace_of_acts before f acts) (shown_now f acts a) (record (seen_more f acts a conn pending started) { untold = untold; parting = parting }) stands may tied))
 
 -- one more act that may stand behind those that do
@@ -118,7 +135,7 @@ pub sound_act : (before : List Action) (f : Core) (acts : List LinkAct) (a : Lin
     → Tied (entered (book (trace_of_acts before f acts)) (shown_now f acts a)) (seen_more f acts a conn pending started) → Sound (trace_of_acts before f (acts ++ a ∷ [])) (seen f (acts ++ a ∷ []) conn pending started)
 sound_act before f acts a conn pending started stands may tied =
     subst (λ (t : Inner). Sound (trace_of_acts before f (acts ++ a ∷ [])) t) (seen_is f acts a conn pending started)
-    (subst (λ (x : List Action). Sound x (seen_more f acts a conn pending started)) (sym (shown_more before f.single.link (length f.timers) acts a))
+    (subst (λ (x : List Action). Sound x (seen_more f acts a conn pending started)) (sym (shown_more before f.single.link (length f.timers) (length f.sources) acts a))
     (sound_more (trace_of_acts before f acts) (shown_now f acts a) (seen_more f acts a conn pending started) stands may tied))
 
 -- one more act
@@ -128,7 +145,7 @@ holds_more before f w a conn was pending started h may tied = sound_act before f
 
 -- and the book behind it
 pub book_of_more : (before : List Action) (f : Core) (acts : List LinkAct) (a : LinkAct) → book (trace_of_acts before f (acts ++ a ∷ [])) ≡ entered (book (trace_of_acts before f acts)) (shown_now f acts a)
-book_of_more before f acts a = ap book (shown_more before f.single.link (length f.timers) acts a) ∙ book_more (trace_of_acts before f acts) (shown_now f acts a)
+book_of_more before f acts a = ap book (shown_more before f.single.link (length f.timers) (length f.sources) acts a) ∙ book_more (trace_of_acts before f acts) (shown_now f acts a)
 
 -- some requests are to be answered, in line, before all others that are open; and their link's ledger, what is owed, and all
 -- names are as they were, and who is open was so
@@ -148,6 +165,7 @@ answering before f w pending started h line = record { holds = h; line = line; l
 -- a link that is over has ended
 over_life : (l : Ledger) (created : ℕ) (life : Life) → TiedLife l created life → is_over l ≡ true → has_ended life ≡ true
 over_life l created Dialing h over = absurd (not_both (is_over l) (ap is_some h.2) over)
+over_life l created (Wanting link) h over = absurd (not_both (is_over l) (ap is_some h.2) over)
 over_life l created (SettingUp link with_user) h over = absurd (not_both (is_over l) (ap is_some h.2) over)
 over_life l created (Ready link) h over = absurd (not_both (is_over l) (ap is_some h.2) over)
 over_life l created (Ended e) h over = refl

@@ -18,14 +18,14 @@ use Rattle.mux_conn.specs.declared.act.LinkAct.TheVariants as act
 use Rattle.mux_conn.specs.declared.connection.MultiplexedConnection.{MultiplexedConnection}
 use Rattle.redis_error.specs.declared.redis_error.RedisError.{RedisError}
 use Rattle.mux_conn.specs.declared.life.Life.{Life}
-use Rattle.mux_conn.specs.declared.life.Life.TheVariants.{Dialing, Ended, Ready, SettingUp}
-use Rattle.shared_session.specs.Turn.{Turning, moved_on, timed, with_work, work_of}
+use Rattle.mux_conn.specs.declared.life.Life.TheVariants.{Dialing, Ended, Ready, Wanting, SettingUp}
+use Rattle.shared_session.specs.Turn.{Turning, moved_on, numbered, with_work, work_of}
 use Rattle.shared_session.specs.declared.core_state.Core.{Core}
 use Rattle.legal_trace.specs.Book.{Book, book}
 use Rattle.legal_trace.specs.Ledger.{setup_count}
 use Rattle.legal_trace.specs.Legal.{IsMoved, IsSettled, IsStarted, IsWaiting, IsWritten, NoneEnds, WaitHolds}
 use Rattle.legal_trace.specs.Story.{last_of}
-use Rattle.session_laws.proofs.Ahead.{dialing_step, placed_open, setup_step, waiting_open, admitted_open}
+use Rattle.session_laws.proofs.Ahead.{dialing_step, placed_open, setup_step, waiting_open, admitted_open, creds_step}
 use Rattle.session_laws.proofs.Going.{is_moved}
 use Rattle.session_laws.proofs.InLine.{awaited_in, first_is_least, kept_ids, wanted_in}
 use Rattle.session_laws.proofs.Moved.{IsReady, passed_moved}
@@ -212,6 +212,8 @@ moved_each_up before f w (p ∷ ps) fresh started link e h =
 none_from : (life : Life) (p : ℕ) (placed : Bool) → is_ready life ≡ false → (placed && is_from (first_queued life) p) ≡ false
 none_from Dialing p true f = refl
 none_from Dialing p false f = refl
+none_from (Wanting link) p true f = refl
+none_from (Wanting link) p false f = refl
 none_from (SettingUp link with_user) p true f = refl
 none_from (SettingUp link with_user) p false f = refl
 none_from (Ready link) p placed f = cc
@@ -231,6 +233,7 @@ down_waits : (b : Book) (t : Inner) → Tied b t → is_ready t.life ≡ false �
 down_waits b t h down none = record {
   early = h.waits.early;
   connect = h.waits.connect;
+  creds = h.waits.creds;
   setup = h.waits.setup;
   permit = h.waits.permit;
   place = λ p a. absurd (not_both (is_admitted_at t.requests p) (none p) a);
@@ -238,6 +241,7 @@ down_waits b t h down none = record {
   newer = h.waits.newer;
   rising = omega arith;
   no_connect = h.waits.no_connect;
+  no_creds = h.waits.no_creds;
   no_setup = h.waits.no_setup;
   no_permit = h.waits.no_permit;
   no_place = λ p i. absurd i;
@@ -246,6 +250,7 @@ down_waits b t h down none = record {
   where
     no_queue : (life : Life) (p : ℕ) → is_ready life ≡ false → IsIn p (awaited_ids (link_in life).queue) → ⊥
     no_queue Dialing p f i = i
+    no_queue (Wanting link) p f i = i
     no_queue (SettingUp link with_user) p f i = i
     no_queue (Ready link) p f i = cc
     no_queue (Ended e) p f i = i
@@ -267,14 +272,16 @@ early_kind : (t : Inner) → has_ended t.life ≡ false → IsEarly t (early_wai
 early_kind t up = record {
   either = by_life t.life up;
   connect = λ e. ap early_wait e;
+  creds = λ link e. ap early_wait e;
   setup = λ link u e. ap early_wait e;
   permit = λ link e. ap early_wait e;
 }
   where
-    by_life : (x : Life) → has_ended x ≡ false → (early_wait x ≡ wait.Connect) ⊎ ((early_wait x ≡ wait.Setup) ⊎ (early_wait x ≡ wait.Permit))
+    by_life : (x : Life) → has_ended x ≡ false → (early_wait x ≡ wait.Connect) ⊎ ((early_wait x ≡ wait.Creds) ⊎ ((early_wait x ≡ wait.Setup) ⊎ (early_wait x ≡ wait.Permit)))
     by_life Dialing f = inl refl
-    by_life (SettingUp link with_user) f = inr (inl refl)
-    by_life (Ready link) f = inr (inr refl)
+    by_life (Wanting link) f = inr (inl refl)
+    by_life (SettingUp link with_user) f = inr (inr (inl refl))
+    by_life (Ready link) f = inr (inr (inr refl))
     by_life (Ended x) f = cc
 
 -- its wait is true, and was not shown
@@ -292,6 +299,8 @@ early_holds b t p ps h q is up w = by_life t.life refl
     by_life : (x : Life) → t.life ≡ x → EarlyHolds b t p (early_wait t.life)
     by_life Dialing e = subst (λ (x : Life). EarlyHolds b t p (early_wait x)) (sym e)
         (record { new = h.waits.no_connect p first w e; holds = dialing_step b t p h e (there_within is_waiting t.requests p w) })
+    by_life (Wanting link) e = subst (λ (x : Life). EarlyHolds b t p (early_wait x)) (sym e)
+        (record { new = h.waits.no_creds p link first w e; holds = creds_step b t p link h e (there_within is_waiting t.requests p w) })
     by_life (SettingUp link with_user) e = subst (λ (x : Life). EarlyHolds b t p (early_wait x)) (sym e)
         (record { new = h.waits.no_setup p link with_user first w e; holds = setup_step b t p link with_user h e (there_within is_waiting t.requests p w) })
     by_life (Ready link) e = subst (λ (x : Life). EarlyHolds b t p (early_wait x)) (sym e)
@@ -304,6 +313,7 @@ waiting_alive b t p h q w = by_life t.life refl
   where
     by_life : (x : Life) → t.life ≡ x → has_ended t.life ≡ false
     by_life Dialing e = ap has_ended e
+    by_life (Wanting link) e = ap has_ended e
     by_life (SettingUp link with_user) e = ap has_ended e
     by_life (Ready link) e = ap has_ended e
     by_life (Ended x) e = absurd (ended_none b t p x h q e (waiting_open t.requests p w))
@@ -357,7 +367,7 @@ showing_unmoved : (before : List Action) (f : Core) (w : Work) (moved fresh star
 showing_unmoved before f w moved fresh started h = record {
   sound = h.sound;
   ended = h.ended;
-  fit = record { setup = h.fit.setup; link = h.fit.link; none = h.fit.none };
+  fit = record { wanting = h.fit.wanting; setup = h.fit.setup; link = h.fit.link; none = h.fit.none };
   still = record { setup = h.still.setup; held = h.still.held; full = h.still.full; waiting = h.still.waiting; none_waits = h.still.none_waits };
   offered = h.offered;
 }
@@ -367,7 +377,7 @@ showing_unfresh : (before : List Action) (f : Core) (w : Work) (moved fresh star
 showing_unfresh before f w moved fresh started h = record {
   sound = h.sound;
   ended = h.ended;
-  fit = record { setup = h.fit.setup; link = h.fit.link; none = h.fit.none };
+  fit = record { wanting = h.fit.wanting; setup = h.fit.setup; link = h.fit.link; none = h.fit.none };
   still = record { setup = h.still.setup; held = h.still.held; full = h.still.full; waiting = h.still.waiting; none_waits = h.still.none_waits };
   offered = h.offered;
 }
@@ -414,6 +424,7 @@ waits_hold before f w h = by_life w.conn.life refl
 
     by_life : (life : Life) → w.conn.life ≡ life → HasShown before f (waits_shown w)
     by_life Dialing e = down (ap is_ready e) (λ p. down_admits b t p Dialing first.sound.tied quiet refl e)
+    by_life (Wanting link) e = down (ap is_ready e) (λ p. down_admits b t p (Wanting link) first.sound.tied quiet refl e)
     by_life (SettingUp link with_user) e = down (ap is_ready e) (λ p. down_admits b t p (SettingUp link with_user) first.sound.tied quiet refl e)
     by_life (Ended x) e = down (ap is_ready e) (λ p. ended_admits b t p x first.sound.tied quiet e)
     by_life (Ready link) e =
@@ -458,6 +469,7 @@ is_settled b t h q fresh moved written = record {
   where
     by_life : (n : ℕ) (r : IsOpenRequest t n) → IsIn r.number (wanted (link_in t.life).row) → (life : Life) → t.life ≡ life → IsStarted b n ⊎ IsWaiting b n
     by_life n r i Dialing e = absurd (subst (λ (x : Life). IsIn r.number (wanted (link_in x).row)) e i)
+    by_life n r i (Wanting link) e = absurd (subst (λ (x : Life). IsIn r.number (wanted (link_in x).row)) e i)
     by_life n r i (SettingUp link with_user) e = absurd (subst (λ (x : Life). IsIn r.number (wanted (link_in x).row)) e i)
     by_life n r i (Ready link) e = inl (row_goes b t n h written link e r i)
     by_life n r i (Ended x) e = absurd (subst (λ (x : Life). IsIn r.number (wanted (link_in x).row)) e i)
@@ -470,7 +482,7 @@ pub record IsBetween (before : List Action) (c : Core) : Type 0 where
   pub between : Between before c started
 
 -- what is shown at a turn's end is settled
-pub shown_between : (before : List Action) (f : Core) (w : Work) → f.turns ≢ 0 → HasShown before f w → IsBetween (trace_of_acts before f w.acts) (timed (with_work (record { core = f; acts = [] }) w)).core
+pub shown_between : (before : List Action) (f : Core) (w : Work) → f.turns ≢ 0 → HasShown before f w → IsBetween (trace_of_acts before f w.acts) (numbered (with_work (record { core = f; acts = [] }) w)).core
 shown_between before f w began h =
     let trace = trace_of_acts before f w.acts in
     let t = seen f w.acts w.conn [] h.started in
@@ -491,7 +503,7 @@ shown_between before f w began h =
     }
 
 -- all is moved, and all is shown
-pub moved_on_between : (before : List Action) (t : Turning) (started : List ℕ) → HasApplied before t started → IsBetween (trace_with before (moved_on t)) (timed (moved_on t)).core
+pub moved_on_between : (before : List Action) (t : Turning) (started : List ℕ) → HasApplied before t started → IsBetween (trace_with before (moved_on t)) (numbered (moved_on t)).core
 moved_on_between before t started h =
     let w = work_of t in
     let ready : IsReady before t.core w started = record { holds = h.sound; ended = h.ended; fit = h.fit; moved = h.moved } in

@@ -17,7 +17,7 @@ use Rattle.link_laws.proofs.TiedLink.{all_push, begun_tied, queue_tied}
 use Rattle.link_laws.specs.Settles.{awaited_ids, wanted}
 use Rattle.link_laws.specs.Starts.{begun, start_from}
 use Rattle.mux_conn.specs.Requests.{is_admitted_at, is_open_at, is_placed_at, is_waiting_at, name_at}
-use Rattle.mux_conn.specs.declared.life.Life.TheVariants.{Dialing, Ready, SettingUp}
+use Rattle.mux_conn.specs.declared.life.Life.TheVariants.{Dialing, Ready, Wanting, SettingUp}
 use Rattle.mux_conn.specs.declared.request.Request.{Request}
 use Rattle.mux_conn.specs.declared.request.Waiting.{Waiting}
 use Rattle.legal_trace.specs.Book.{Book, entered, if_own, message_of}
@@ -194,6 +194,10 @@ lines_started story requests link waiting admitted started q qs k l h = record {
 pub not_dialing : (link : LinkState) → Ready link ≡ Dialing → ⊥
 not_dialing link e = cc
 
+-- nor does it wait for credentials
+pub not_wanting : (link link' : LinkState) → Ready link ≡ Wanting link' → ⊥
+not_wanting link link' e = cc
+
 -- nor is it being set up
 pub not_setting : (link link' : LinkState) (with_user : Bool) → Ready link ≡ SettingUp link' with_user → ⊥
 not_setting link link' with_user e = cc
@@ -209,8 +213,9 @@ pub waits_up : (f g : ℕ → Story) (requests : List Request) (link link' : Lin
     → ((p : ℕ) → IsIn p (awaited_ids link'.queue) → IsIn p (awaited_ids link.queue) × (shown_wait g requests p ≡ shown_wait f requests p))
     → TiedWaits f requests (Ready link) fresh moved → TiedWaits g requests (Ready link') fresh moved
 waits_up f g requests link link' fresh moved lost waiting admitted queued h = record {
-  early = λ p w. elim (h.early p w) [ inl k ↦ inl (waiting p w ∙ k) | inr k ↦ inr (elim k [ inl x ↦ inl (waiting p w ∙ x) | inr x ↦ inr (elim x [ inl y ↦ inl (waiting p w ∙ y) | inr y ↦ inr (waiting p w ∙ y) ]) ]) ];
+  early = λ p w. elim (h.early p w) [ inl k ↦ inl (waiting p w ∙ k) | inr k ↦ inr (elim k [ inl x ↦ inl (waiting p w ∙ x) | inr x ↦ inr (elim x [ inl y ↦ inl (waiting p w ∙ y) | inr y ↦ inr (elim y [ inl z ↦ inl (waiting p w ∙ z) | inr z ↦ inr (waiting p w ∙ z) ]) ]) ]) ];
   connect = λ p w e. absurd (not_dialing link' e);
+  creds = λ p l w e. absurd (not_wanting link' l e);
   setup = λ p l u w e. absurd (not_setting link' l u e);
   permit = λ p l w e. elim (h.permit p link w refl) [ inl i ↦ inl i | inr k ↦ inr (waiting p w ∙ k) ];
   place = λ p a. elim (h.place p a) [ inl i ↦ inl i | inr k ↦ inr (admitted p a ∙ k) ];
@@ -218,6 +223,7 @@ waits_up f g requests link link' fresh moved lost waiting admitted queued h = re
   newer = h.newer;
   rising = h.rising;
   no_connect = λ p i w e. absurd (not_dialing link' e);
+  no_creds = λ p l i w e. absurd (not_wanting link' l e);
   no_setup = λ p l u i w e. absurd (not_setting link' l u e);
   no_permit = λ p l i w e k. h.no_permit p link i w refl (sym (waiting p w) ∙ k);
   no_place = λ p i a e. h.no_place p i a (sym (admitted p a) ∙ e);
@@ -304,6 +310,7 @@ start_tied b t link q qs h =
       others = others_kept b t.link (begins (message_of b t.link (name q.id))) h.others;
       pushes = h.pushes;
       life = h.life;
+      creds = record { wanted_is = h.creds.wanted_is; sought = h.creds.sought };
       setup = record { info_is = h.setup.info_is; sent = setups_begins l s refl h.setup.sent; said = set_up_begins l s refl h.setup.said };
       link = λ e. queue_tied name (noted l (begins s)) (begun (with_queue link (q ∷ qs)) q) qs (begun_tied name l (with_queue link (q ∷ qs)) q (queued_some b was q h within is) up);
       names = h.names;

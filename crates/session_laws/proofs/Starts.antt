@@ -15,13 +15,13 @@ use Rattle.mux_conn.specs.Requests.{name_at}
 use Rattle.mux_conn.specs.declared.act.LinkAct.{LinkAct}
 use Rattle.mux_conn.specs.declared.act.LinkAct.TheVariants as act
 use Rattle.mux_conn.specs.declared.request.Request.{Request}
-use Rattle.shared_session.specs.Turn.{shown_each, timers_of}
+use Rattle.shared_session.specs.Turn.{shown_each, sources_of, timers_of}
 use Rattle.legal_trace.specs.Book.{Book, book, message_of}
 use Rattle.legal_trace.specs.Ledger.{Ledger, Start, begins, ending, is_of_setup, noted}
 use Rattle.legal_trace.specs.Legal.{MayStart, NoneEnds}
 use Rattle.legal_trace.specs.Steps.{starts_or_waits}
 use Rattle.session_laws.proofs.Ahead.{IsRunning, queue_step, queue_unstarted, queue_within}
-use Rattle.session_laws.proofs.Entered.{shown_more, timers_of-append}
+use Rattle.session_laws.proofs.Entered.{shown_more, sources_of-append, timers_of-append}
 use Rattle.session_laws.proofs.Going.{IsGoing, begun_up, first_in_queue, going_more, none_ends_mine}
 use Rattle.session_laws.proofs.Owes.{request_story}
 use Rattle.legal_trace.proofs.Setups.{ends_where_set}
@@ -99,26 +99,34 @@ shows_timers acts requests ss = timers_of-append acts (shows requests ss) ∙ ap
     none [] = refl
     none (s ∷ ss) = none ss
 
+-- nor for a source of credentials
+pub shows_sources : (l : ℕ) (acts : List LinkAct) (requests : List Request) (ss : List Started) → sources_of l (acts ++ shows requests ss) ≡ sources_of l acts
+shows_sources l acts requests ss = sources_of-append l acts (shows requests ss) ∙ ap (λ us. sources_of l acts ++ us) (none ss) ∙ append-nil (sources_of l acts)
+  where
+    none : (ss : List Started) → sources_of l (shows requests ss) ≡ []
+    none [] = refl
+    none (s ∷ ss) = none ss
+
 -- what is in a queue starts as long as nothing holds it back
-pub each_going : (before : List Action) (n : ℕ) (acts : List LinkAct) (t : Inner) (s : Starting) (qs : List Queued) → IsFit t.size t.bound (with_queue s.link qs)
-    → IsGoing (before ++ shown_each t.link n (acts ++ shows t.requests s.out)) (on_link t (with_queue s.link qs))
-    → IsGoing (before ++ shown_each t.link n (acts ++ shows t.requests (started_each s qs).out)) (record (on_link t (started_each s qs).link) { started = t.started ++ queue_ids (starting s.link qs) })
-each_going before n acts t s [] fit h = subst (λ ns. IsGoing (before ++ shown_each t.link n (acts ++ shows t.requests s.out)) (record (on_link t (with_queue s.link [])) { started = ns })) (sym (append-nil t.started)) h
-each_going before n acts t s (q ∷ qs) fit h =
+pub each_going : (before : List Action) (n c : ℕ) (acts : List LinkAct) (t : Inner) (s : Starting) (qs : List Queued) → IsFit t.size t.bound (with_queue s.link qs)
+    → IsGoing (before ++ shown_each t.link n c (acts ++ shows t.requests s.out)) (on_link t (with_queue s.link qs))
+    → IsGoing (before ++ shown_each t.link n c (acts ++ shows t.requests (started_each s qs).out)) (record (on_link t (started_each s qs).link) { started = t.started ++ queue_ids (starting s.link qs) })
+each_going before n c acts t s [] fit h = subst (λ ns. IsGoing (before ++ shown_each t.link n c (acts ++ shows t.requests s.out)) (record (on_link t (with_queue s.link [])) { started = ns })) (sym (append-nil t.started)) h
+each_going before n c acts t s (q ∷ qs) fit h =
     let next = started_one s q in
     let more = shows t.requests s.out in
     let stopped : Starting = record { link = with_queue s.link (q ∷ qs); out = s.out } in
-    chosen_both (λ (x : List Queued) (y : Starting). IsGoing (before ++ shown_each t.link n (acts ++ shows t.requests y.out)) (record (on_link t y.link) { started = t.started ++ queue_ids x })) (holds_back s.link) [] (q ∷ starting (begun s.link q) qs) stopped
+    chosen_both (λ (x : List Queued) (y : Starting). IsGoing (before ++ shown_each t.link n c (acts ++ shows t.requests y.out)) (record (on_link t y.link) { started = t.started ++ queue_ids x })) (holds_back s.link) [] (q ∷ starting (begun s.link q) qs) stopped
     (started_each next qs)
-    (λ held. subst (λ ns. IsGoing (before ++ shown_each t.link n (acts ++ more)) (record (on_link t (with_queue s.link (q ∷ qs))) { started = ns })) (sym (append-nil t.started)) h)
+    (λ held. subst (λ ns. IsGoing (before ++ shown_each t.link n c (acts ++ more)) (record (on_link t (with_queue s.link (q ∷ qs))) { started = ns })) (sym (append-nil t.started)) h)
     (λ free.
-    let first = start_going (before ++ shown_each t.link n (acts ++ more)) t s.link q qs fit free h in
-    let same : (before ++ shown_each t.link n (acts ++ more)) ++ start_action t s.link q ∷ [] ≡ before ++ shown_each t.link n (acts ++ shows t.requests next.out) =
-    sym (shown_more before t.link n (acts ++ more) (show_start t.requests (start_of s.link.started q)))
-    ∙ ap (λ (x : List LinkAct). before ++ shown_each t.link n x) (append_assoc acts more (show_start t.requests (start_of s.link.started q) ∷ []) ∙ ap (λ (x : List LinkAct). acts ++ x) (sym (shows-append t.requests s.out (start_of s.link.started q)))) in
+    let first = start_going (before ++ shown_each t.link n c (acts ++ more)) t s.link q qs fit free h in
+    let same : (before ++ shown_each t.link n c (acts ++ more)) ++ start_action t s.link q ∷ [] ≡ before ++ shown_each t.link n c (acts ++ shows t.requests next.out) =
+    sym (shown_more before t.link n c (acts ++ more) (show_start t.requests (start_of s.link.started q)))
+    ∙ ap (λ (x : List LinkAct). before ++ shown_each t.link n c x) (append_assoc acts more (show_start t.requests (start_of s.link.started q) ∷ []) ∙ ap (λ (x : List LinkAct). acts ++ x) (sym (shows-append t.requests s.out (start_of s.link.started q)))) in
     let after = record t { started = t.started ++ q.id ∷ [] } in
-    let rest = each_going before n acts after next qs (fit_next t.size t.bound s q qs fit) (subst (λ (x : List Action). IsGoing x (after_start t s.link q qs)) same first) in
-    subst (λ ns. IsGoing (before ++ shown_each t.link n (acts ++ shows t.requests (started_each next qs).out)) (record (on_link t (started_each next qs).link) { started = ns })) (append_assoc t.started (q.id ∷ []) (queue_ids (starting (begun s.link q) qs))) rest)
+    let rest = each_going before n c acts after next qs (fit_next t.size t.bound s q qs fit) (subst (λ (x : List Action). IsGoing x (after_start t s.link q qs)) same first) in
+    subst (λ ns. IsGoing (before ++ shown_each t.link n c (acts ++ shows t.requests (started_each next qs).out)) (record (on_link t (started_each next qs).link) { started = ns })) (append_assoc t.started (q.id ∷ []) (queue_ids (starting (begun s.link q) qs))) rest)
 
 -- the link is fit behind them
 pub each_fit : (size bound : ℕ) (s : Starting) (qs : List Queued) → IsFit size bound (with_queue s.link qs) → IsFit size bound (started_each s qs).link

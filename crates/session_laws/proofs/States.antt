@@ -3,9 +3,9 @@ use Rattle.std.proofs.Common.{◌≡◌, ◌≢◌, ◌⊎◌, ℕ, ◌≤◌, B
 use Rattle.driver_model.specs.declared.action.Action.{Action}
 use Rattle.link_core.specs.Link.{LinkState, is_full, holds_back}
 use Rattle.mux_conn.specs.declared.connection.MultiplexedConnection.{MultiplexedConnection}
-use Rattle.mux_conn.specs.declared.life.Life.TheVariants.{SettingUp, Ready}
+use Rattle.mux_conn.specs.declared.life.Life.TheVariants.{Wanting, SettingUp, Ready}
 use Rattle.shared_session.specs.declared.core_state.Core.{Core}
-use Rattle.shared_session.specs.Turn.{Turning, shown_each, timed}
+use Rattle.shared_session.specs.Turn.{Turning, numbered, shown_each}
 use Rattle.mux_conn.specs.Connection.{has_no_permit}
 use Rattle.legal_trace.specs.Book.{book}
 use Rattle.legal_trace.specs.Legal.{NoneEnds, IsSettled}
@@ -18,8 +18,9 @@ pub record IsFit (size bound : ℕ) (link : LinkState) : Type 0 where
   pub bound_is : link.boundary ≡ bound
   pub within : length link.queue ≤ size
 
--- where a link is up, it is so, also while it is set up; and where none is ready, nobody waits for a place
+-- where a link is up, it is so, also before it is set up; and where none is ready, nobody waits for a place
 pub record IsFitIn (c : MultiplexedConnection) : Type 0 where
+  pub wanting : (link : LinkState) → c.life ≡ Wanting link → IsFit c.size c.boundary link
   pub setup : (link : LinkState) (with_user : Bool) → c.life ≡ SettingUp link with_user → IsFit c.size c.boundary link
   pub link : (link : LinkState) → c.life ≡ Ready link → IsFit c.size c.boundary link
   pub none : ((link : LinkState) → c.life ≡ Ready link → ⊥) → c.admitted ≡ []
@@ -45,11 +46,11 @@ pub record Between (before : List Action) (c : Core) (started : List ℕ) : Type
 
 -- the trace of a turn up to its last act so far, behind what was shown before its acts
 abbrev pub trace_with : List Action → Turning → List Action
-trace_with before t = before ++ shown_each t.core.single.link (length t.core.timers) t.acts
+trace_with before t = before ++ shown_each t.core.single.link (length t.core.timers) (length t.core.sources) t.acts
 
 -- the event of the turn has had its own effect: nothing more must end, and the messages that started are those
 pub record HasApplied (before : List Action) (t : Turning) (started : List ℕ) : Type 0 where
-  pub sound : Sound (trace_with before t) (inner (timed t).core started)
+  pub sound : Sound (trace_with before t) (inner (numbered t).core started)
   pub ended : NoneEnds (book (trace_with before t))
   pub began : t.core.turns ≢ 0
   pub moved : t.core.single.connection.moved ≡ []

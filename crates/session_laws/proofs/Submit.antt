@@ -27,8 +27,9 @@ use Rattle.session_laws.proofs.Tied.{carried, inner, link_in, queue_ids, waiting
 use Rattle.session_laws.proofs.Names.{there_within, names_refused}
 use Rattle.session_laws.proofs.Owes.{started_within, ends_told, pushes_told}
 use Rattle.session_laws.proofs.Answer.{owed_in, no_push}
+use Rattle.session_laws.proofs.Creds.{sources_asked}
 use Rattle.session_laws.proofs.Settle.{seen}
-use Rattle.session_laws.proofs.Announce.{aims_longer, aims_on, turn_of, turned}
+use Rattle.session_laws.proofs.Announce.{aims_longer, aims_on, turn_of, turned, uses_on}
 use Rattle.session_laws.proofs.Heard.{told_life, silent_no_end}
 use Rattle.session_laws.proofs.Said.{setup_on}
 use Rattle.session_laws.proofs.Further.{get_beyond, no_longer, SameBefore, further_story, tries_longer, queue_longer, packs_longer, told_longer, IsNext, waits_longer, permits_longer, late_longer}
@@ -120,6 +121,7 @@ may_refuse b c started word what e h none no_end shown why =
         shown,
         ends_told b (inner c started) h refl,
       );
+      after_sources = λ over. sources_asked b (inner c started) h;
     }
 
 -- the stories once it is answered
@@ -172,6 +174,8 @@ refused_tied b c started word what e h no_fresh =
         turns = ap (λ m. m + 1) h.numbers.turns;
         links = h.numbers.links;
         timers = h.numbers.timers ∙ sym (append-nil c.timers);
+        sources = h.numbers.sources ∙ sym (append-nil c.sources);
+        uses = uses_on c.sources c.single.link h.numbers.uses;
         aims = aims_on c.timers c.single.link (length (c.table ++ None ∷ [])) (aims_longer c.timers c.single.link (length c.table) (length (c.table ++ None ∷ [])) (omega (arith, length-append c.table (None ∷ []))) h.numbers.aims);
         timed = λ config other opens bounded none. no_opening _ config other opens;
         submissions = (let k = h.numbers.submissions in omega (arith, length-append c.table (None ∷ [])));
@@ -184,6 +188,7 @@ refused_tied b c started word what e h no_fresh =
       others = λ m other. let u = h.others m other in record { asked = u.asked; up = u.up; end = u.end; starts = u.starts; pushes = u.pushes };
       pushes = h.pushes;
       life = told_life ledger b.created conn.life silence h.life;
+      creds = h.creds;
       setup = setup_on ledger ledger.asked ledger.up ledger.end ledger.taken ledger.offer ledger.rest silence conn.info started conn.life h.setup;
       link = λ alive. told_tied (carried conn.life conn.requests) ledger (whole_link conn.life) ledger.asked ledger.up silence (h.link alive);
       names = names_refused c.table conn.requests h.names;

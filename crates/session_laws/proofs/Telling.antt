@@ -33,6 +33,7 @@ use Rattle.legal_trace.specs.Owed.{owed, owed_to_message, owed_to_try, owed_unst
 use Rattle.legal_trace.specs.Legal.{IsBefore, IsOpen, MayPush, MayPushBy}
 use Rattle.session_laws.proofs.Numbers.{IsIn, Rising, in_either, in_left, in_right}
 use Rattle.session_laws.proofs.Tied.{Inner, Tied, has_ended, link_in, owner_of, queue_ids}
+use Rattle.session_laws.proofs.Creds.{sources_asked}
 use Rattle.session_laws.proofs.Said.{ready_shown}
 use Rattle.session_laws.proofs.Names.{length_with, name_with, open_within, with_then}
 use Rattle.session_laws.proofs.InLine.{IsInLine, awaited_in, kept_ids, kept_in, line_of, wanted_in}
@@ -195,6 +196,7 @@ push_may b t info h rest tied untold hears alive says kind_is within pending =
       says = says;
       in_order = λ m less. ap (λ (hs : List Heard). slice_get hs (b.link m).told) (tied.others m (λ same. absurd (omega arith))).pushes;
       created = ready_shown b t tied;
+      sourced = sources_asked b t tied;
       answered = λ m asked on before. none_was b t h tied alive within pending m asked before;
     })
 

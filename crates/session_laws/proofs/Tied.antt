@@ -8,6 +8,8 @@ use Rattle.driver_model.specs.declared.action.Action.{Action}
 use Rattle.driver_model.specs.declared.action.Owner.{Owner}
 use Rattle.driver_model.specs.declared.action.Cause.{Cause}
 use Rattle.driver_model.specs.declared.action.Purpose.{Purpose}
+use Rattle.driver_model.specs.declared.action.SourceUse.{SourceUse}
+use Rattle.driver_model.specs.declared.action.SourceUse.TheVariants as source
 use Rattle.driver_model.specs.declared.action.Owner.TheVariants as owner
 use Rattle.driver_model.specs.Config.{boundary}
 use Rattle.driver_model.specs.Setup.{says_nothing, setup_shape}
@@ -26,14 +28,14 @@ use Rattle.link_core.specs.Link.{LinkState, fresh as fresh_link}
 use Rattle.link_laws.specs.Settles.{wanted, awaited_ids}
 use Rattle.link_laws.proofs.TiedLink.{TiedLink}
 use Rattle.mux_conn.specs.declared.life.Life.{Life}
-use Rattle.mux_conn.specs.declared.life.Life.TheVariants.{Dialing, SettingUp, Ready, Ended}
+use Rattle.mux_conn.specs.declared.life.Life.TheVariants.{Dialing, Wanting, SettingUp, Ready, Ended}
 use Rattle.mux_conn.specs.declared.request.Pending.{Pending}
 use Rattle.mux_conn.specs.declared.request.Request.{Request}
 use Rattle.mux_conn.specs.declared.request.Waiting.{Waiting}
 use Rattle.mux_conn.specs.Effects.{setup_queued}
 use Rattle.mux_conn.specs.Requests.{name_at, permits_at, is_open_at, is_waiting_at, is_admitted_at, is_placed_at}
 use Rattle.shared_session.specs.declared.core_state.Core.{Core}
-use Rattle.legal_trace.specs.Ledger.{Ledger, Heard, Start, End, failure_in, is_cut, is_full, is_set_up, setup_count, setup_steps, setup_after}
+use Rattle.legal_trace.specs.Ledger.{Ledger, Heard, Sourced, Start, End, failure_in, is_cut, is_full, is_set_up, setup_count, setup_steps, setup_after}
 use Rattle.legal_trace.specs.Story.{Story, blank_story, is_open, is_told, bytes_of, shape, is_awaited}
 use Rattle.legal_trace.specs.Book.{Book, blank_book, book}
 use Rattle.legal_trace.specs.Steps.{configured, queue_size, permits_in, permits_held, is_let_in}
@@ -42,19 +44,20 @@ use Rattle.legal_trace.specs.Owed.{owed_unstarted}
 use Rattle.session_laws.proofs.Numbers.{IsIn, Rising}
 
 -- what counts of a session in the middle of a turn: how many turns it has begun, how many links it has asked for and
--- which of them is its connection's, what each timer was asked for, whether everything was shut down, the request of
--- each submission, and within how many milliseconds one that comes now is to be answered; how many messages the queue
--- of its connection's link holds, at how many unwritten bytes none starts, how many permits there are, if they are
--- counted, and how many are free; whether somebody hears pushes, which pushes of those that came are still to be told, and
--- whether the end of the link is; what is said to the server before the first request; its connection's life and
--- requests, those that wait for the connection, those that wait for a place, those that came in this turn and those
--- that were moved in it, whose waits aren't shown yet; the one that is being let in; the requests that are settled
--- and not answered yet; and the requests whose messages started, in order
+-- which of them is its connection's, what each timer, and each source of credentials, was asked for, whether everything was
+-- shut down, the request of each submission, and within how many milliseconds one that comes now is to be answered; how many
+-- messages the queue of its connection's link holds, at how many unwritten bytes none starts, how many permits there are, if
+-- they are counted, and how many are free; whether somebody hears pushes, which pushes of those that came are still to be
+-- told, and whether the end of the link is; what is said to the server before the first request, and whether its credentials
+-- come of a source; its connection's life and requests, those that wait for the connection, those that wait for a place, those
+-- that came in this turn and those that were moved in it, whose waits aren't shown yet; the one that is being let in; the
+-- requests that are settled and not answered yet; and the requests whose messages started, in order
 pub record Inner : Type 0 where
   pub turns : ℕ
   pub links : ℕ
   pub link : ℕ
   pub timers : List Purpose
+  pub sources : List SourceUse
   pub shut : Bool
   pub table : List (Option Pending)
   pub timeout : Option ℕ
@@ -66,6 +69,7 @@ pub record Inner : Type 0 where
   pub untold : List Heard
   pub parting : Bool
   pub info : RedisConnectionInfo
+  pub wants : Bool
   pub life : Life
   pub requests : List Request
   pub waiting : List Waiting
@@ -83,6 +87,7 @@ no_link = fresh_link 0 0
 -- the link of a connection as requests see it: it has none of their messages where it isn't up and set up
 abbrev pub link_in : Life → LinkState
 link_in Dialing = no_link
+link_in (Wanting link) = no_link
 link_in (SettingUp link with_user) = no_link
 link_in (Ready link) = link
 link_in (Ended e) = no_link
@@ -90,6 +95,7 @@ link_in (Ended e) = no_link
 -- it takes no more messages
 abbrev pub has_ended : Life → Bool
 has_ended Dialing = false
+has_ended (Wanting link) = false
 has_ended (SettingUp link with_user) = false
 has_ended (Ready link) = false
 has_ended (Ended e) = true
@@ -98,16 +104,18 @@ has_ended (Ended e) = true
 abbrev pub owner_of : List Request → ℕ → Owner
 owner_of requests p = owner.Try (name_at requests p) 0
 
--- the link of a connection, also while it is set up
+-- the link of a connection, also while it waits for credentials, and while it is set up
 abbrev pub whole_link : Life → LinkState
 whole_link Dialing = no_link
+whole_link (Wanting link) = link
 whole_link (SettingUp link with_user) = link
 whole_link (Ready link) = link
 whole_link (Ended e) = no_link
 
--- whose messages its link carries: the setup's alone, while it is set up
+-- whose messages its link carries: the setup's alone, until it is set up
 abbrev pub carried : Life → List Request → ℕ → Owner
 carried Dialing requests = owner_of requests
+carried (Wanting link) requests = λ p. owner.Setup
 carried (SettingUp link with_user) requests = λ p. owner.Setup
 carried (Ready link) requests = owner_of requests
 carried (Ended e) requests = owner_of requests
@@ -144,6 +152,10 @@ IsAim (purpose.Response (owner.Try n round)) link count = (n < count) × (round 
 abbrev pub AreAimed : List Purpose → ℕ → ℕ → Type 0
 AreAimed timers link count = (k : ℕ) (what : Purpose) → slice_get timers k ≡ Some what → IsAim what link count
 
+-- all sources of credentials are for the setup of this link
+abbrev pub AreUses : List SourceUse → ℕ → Type 0
+AreUses sources link = (k : ℕ) (what : SourceUse) → slice_get sources k ≡ Some what → what ≡ source.Setup link
+
 -- the configuration that the book tells has a queue of this size, which is not none, this boundary, and so many permits,
 -- which are not none, if they are counted
 pub record IsConfigured (b : Book) (size bound : ℕ) (limit : Option ℕ) : Type 0 where
@@ -154,12 +166,14 @@ pub record IsConfigured (b : Book) (size bound : ℕ) (limit : Option ℕ) : Typ
   pub limited : limit ≢ Some 0
 
 -- the numbers that the session gives are those of the book; its connection's link is the only one; all timers are for it or
--- for a submission, and the opening has asked for its timer
+-- for a submission, all sources of credentials are for it, and the opening has asked for its timer
 pub record TiedNumbers (b : Book) (t : Inner) : Type 0 where
   pub turns : b.turns ≡ t.turns
   pub links : b.links ≡ t.links
   pub submissions : b.submissions ≡ length t.table
   pub timers : b.timers ≡ t.timers
+  pub sources : b.sources ≡ t.sources
+  pub uses : AreUses t.sources t.link
   pub aims : AreAimed t.timers t.link (length t.table)
   pub timed : IsTimed b
   pub timeout : b.timeout ≡ t.timeout
@@ -193,9 +207,27 @@ FailureIsShown end created = (e : RedisError) → failure_in end ≡ Some e → 
 -- how far the link has come; where it has ended, a submission without a message gets this error
 abbrev pub TiedLife : Ledger → ℕ → Life → Type 0
 TiedLife l created Dialing = (l.asked ≡ true) × (l.up ≡ false) × (l.end ≡ None) × (created ≡ 0)
+TiedLife l created (Wanting link) = (l.asked ≡ true) × (l.up ≡ true) × (l.end ≡ None) × (created ≡ 0)
 TiedLife l created (SettingUp link with_user) = (l.asked ≡ true) × (l.up ≡ true) × (l.end ≡ None) × (created ≡ 0)
 TiedLife l created (Ready link) = (l.asked ≡ true) × (l.up ≡ true) × (l.end ≡ None) × (created ≢ 0)
 TiedLife l created (Ended e) = (l.up ≡ false) × (owed_unstarted l.end ≡ Some (outcome.Fault e)) × FailureIsShown l.end created
+
+-- the credentials of a link come of no source, or they have come
+abbrev pub HasCredentials : Sourced → Type 0
+HasCredentials c = (c.wanted ≡ false) ⊎ ((c.asked ≡ true) × (c.given ≡ true))
+
+-- how far the credentials of a link have come
+abbrev pub AreSought : Sourced → Life → Type 0
+AreSought c Dialing = (c.asked ≡ false) × (c.given ≡ false)
+AreSought c (Wanting link) = (c.wanted ≡ true) × (c.asked ≡ true) × (c.given ≡ false)
+AreSought c (SettingUp link with_user) = HasCredentials c
+AreSought c (Ready link) = HasCredentials c
+AreSought c (Ended e) = Unit {0}
+
+-- whether they come of a source is the same for the link and the session
+pub record TiedCreds (c : Sourced) (wants : Bool) (life : Life) : Type 0 where
+  pub wanted_is : c.wanted ≡ wants
+  pub sought : AreSought c life
 
 -- the setup that is to start next on a link is in its queue: the first with the user name, and a second one without it
 pub record IsSetupDue (l : Ledger) (link : LinkState) (with_user : Bool) : Type 0 where
@@ -228,6 +260,7 @@ pub record IsSetUp (l : Ledger) : Type 0 where
 -- how far the setup of a link has come; no request's message starts before it is set up
 abbrev pub HasSaid : Ledger → List ℕ → Life → Type 0
 HasSaid l started Dialing = (l.starts ≡ []) × (started ≡ [])
+HasSaid l started (Wanting link) = (l.starts ≡ []) × (started ≡ []) × (link.queue ≡ []) × (link.row ≡ [])
 HasSaid l started (SettingUp link with_user) = (started ≡ []) × IsSettingUp l link with_user
 HasSaid l started (Ready link) = IsSetUp l
 HasSaid l started (Ended e) = Unit {0}
@@ -325,12 +358,13 @@ abbrev pub shown_wait : (ℕ → Story) → List Request → ℕ → Option Wait
 shown_wait story requests p = (story (name_at requests p)).waiting
 
 -- a request that waits for the connection, or for a permit, has shown nothing or one of these; the first while the
--- connect isn't answered, the second while the link is set up, and the third while it is up, where its wait isn't to
--- be shown yet; one that waits for a place, or has one in the queue, was moved in this turn and its wait isn't shown
+-- connect isn't answered, the second while credentials are to come, the third while the link is set up, and the fourth while
+-- it is up, where its wait isn't to be shown yet; one that waits for a place, or has one in the queue, was moved in this turn and its wait isn't shown
 -- yet, or has shown it
 pub record TiedWaits (story : ℕ → Story) (requests : List Request) (life : Life) (fresh moved : List ℕ) : Type 0 where
-  pub early : (p : ℕ) → is_waiting_at requests p ≡ true → (shown_wait story requests p ≡ None) ⊎ ((shown_wait story requests p ≡ Some wait.Connect) ⊎ ((shown_wait story requests p ≡ Some wait.Setup) ⊎ (shown_wait story requests p ≡ Some wait.Permit)))
+  pub early : (p : ℕ) → is_waiting_at requests p ≡ true → (shown_wait story requests p ≡ None) ⊎ ((shown_wait story requests p ≡ Some wait.Connect) ⊎ ((shown_wait story requests p ≡ Some wait.Creds) ⊎ ((shown_wait story requests p ≡ Some wait.Setup) ⊎ (shown_wait story requests p ≡ Some wait.Permit))))
   pub connect : (p : ℕ) → is_waiting_at requests p ≡ true → life ≡ Dialing → IsIn p fresh ⊎ (shown_wait story requests p ≡ Some wait.Connect)
+  pub creds : (p : ℕ) (link : LinkState) → is_waiting_at requests p ≡ true → life ≡ Wanting link → IsIn p fresh ⊎ (shown_wait story requests p ≡ Some wait.Creds)
   pub setup : (p : ℕ) (link : LinkState) (with_user : Bool) → is_waiting_at requests p ≡ true → life ≡ SettingUp link with_user → IsIn p fresh ⊎ (shown_wait story requests p ≡ Some wait.Setup)
   pub permit : (p : ℕ) (link : LinkState) → is_waiting_at requests p ≡ true → life ≡ Ready link → IsIn p fresh ⊎ (shown_wait story requests p ≡ Some wait.Permit)
   pub place : (p : ℕ) → is_admitted_at requests p ≡ true → IsIn p moved ⊎ (shown_wait story requests p ≡ Some wait.Place)
@@ -338,6 +372,7 @@ pub record TiedWaits (story : ℕ → Story) (requests : List Request) (life : L
   pub newer : Rising 0 fresh (length requests)
   pub rising : Rising 0 moved (length requests)
   pub no_connect : (p : ℕ) → IsIn p fresh → is_waiting_at requests p ≡ true → life ≡ Dialing → shown_wait story requests p ≢ Some wait.Connect
+  pub no_creds : (p : ℕ) (link : LinkState) → IsIn p fresh → is_waiting_at requests p ≡ true → life ≡ Wanting link → shown_wait story requests p ≢ Some wait.Creds
   pub no_setup : (p : ℕ) (link : LinkState) (with_user : Bool) → IsIn p fresh → is_waiting_at requests p ≡ true → life ≡ SettingUp link with_user → shown_wait story requests p ≢ Some wait.Setup
   pub no_permit : (p : ℕ) (link : LinkState) → IsIn p fresh → is_waiting_at requests p ≡ true → life ≡ Ready link → shown_wait story requests p ≢ Some wait.Permit
   pub no_place : (p : ℕ) → IsIn p moved → is_admitted_at requests p ≡ true → shown_wait story requests p ≢ Some wait.Place
@@ -360,6 +395,7 @@ pub record Tied (b : Book) (t : Inner) : Type 0 where
   pub others : (m : ℕ) → m ≢ t.link → IsUnknown (b.link m)
   pub pushes : TiedPushes (is_heard b) t.hears (b.link t.link).pushes (b.link t.link).told (b.link t.link).end (b.link t.link).parted t.untold t.parting
   pub life : TiedLife (b.link t.link) b.created t.life
+  pub creds : TiedCreds (b.link t.link).creds t.wants t.life
   pub setup : TiedSetup (b.link t.link) t.info t.started t.life
   pub link : has_ended t.life ≡ false → TiedLink (carried t.life t.requests) (b.link t.link) (whole_link t.life)
   pub names : TiedNames t.table t.requests
@@ -387,6 +423,7 @@ inner c started = record {
   links = c.links;
   link = c.single.link;
   timers = c.timers;
+  sources = c.sources;
   shut = c.shut;
   table = c.table;
   timeout = c.timeout;
@@ -398,6 +435,7 @@ inner c started = record {
   untold = [];
   parting = false;
   info = c.single.connection.info;
+  wants = c.single.connection.wants;
   life = c.single.connection.life;
   requests = c.single.connection.requests;
   waiting = c.single.connection.waiting;
@@ -420,6 +458,8 @@ numbers_kept b link story t life free requests waiting admitted fresh moved lett
   turns = h.turns;
   links = h.links;
   timers = h.timers;
+  sources = h.sources;
+  uses = h.uses;
   aims = h.aims;
   timed = h.timed;
   submissions = h.submissions;
@@ -441,6 +481,7 @@ relined b t waiting admitted fresh moved pending h lines waits late = record {
   others = h.others;
   pushes = h.pushes;
   life = h.life;
+  creds = h.creds;
   setup = h.setup;
   link = h.link;
   names = h.names;

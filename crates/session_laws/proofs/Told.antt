@@ -1,5 +1,5 @@
 -- One push is told of a link, or its end is: what this leaves as it is.
-use Rattle.std.proofs.Common.{◌≡◌, inl, inr, ℕ, zero, suc, Bool, if◌then◌else◌, List, [], ◌∷◌, Some, refl, ap, ◌∙◌}
+use Rattle.std.proofs.Common.{◌≡◌, inl, inr, ℕ, zero, suc, Bool, if◌then◌else◌, List, [], ◌∷◌, None, Some, refl, ap, ◌∙◌}
 use Rattle.std.specs.List.{AllByRecursion}
 use Rattle.connection_setup.specs.declared.judgement.SetupResult.TheVariants.{Ready as Well}
 use Rattle.driver_model.specs.declared.action.Action.TheVariants as action
@@ -11,8 +11,8 @@ use Rattle.link_core.specs.Link.{LinkState}
 use Rattle.link_laws.specs.Settles.{IsOwed}
 use Rattle.link_laws.proofs.TiedLink.{TiedLink}
 use Rattle.mux_conn.specs.declared.life.Life.{Life}
-use Rattle.mux_conn.specs.declared.life.Life.TheVariants.{Dialing, SettingUp, Ready, Ended}
-use Rattle.legal_trace.specs.Ledger.{Ledger, Heard, noted, is_well, is_set_up, last_result, setup_after, setup_count, setup_steps}
+use Rattle.mux_conn.specs.declared.life.Life.TheVariants.{Dialing, Wanting, SettingUp, Ready, Ended}
+use Rattle.legal_trace.specs.Ledger.{Ledger, Heard, noted, is_well, is_set_up, lacks_credentials, last_result, setup_after, setup_count, setup_steps}
 use Rattle.legal_trace.specs.Book.{Book, entered, push_line}
 use Rattle.legal_trace.specs.Legal.{is_heard}
 use Rattle.session_laws.proofs.Kept.{mine_noted, others_kept, tied_by}
@@ -35,11 +35,12 @@ last_told l told parted (suc k) = refl
 
 -- are the same, and so is whether it is set up
 pub well_told : (l : Ledger) (told : ℕ) (parted : Bool) → is_set_up (retells l told parted) ≡ is_set_up l
-well_told l told parted = ap is_well (λ i. if says_nothing (setup_steps l 0) then Some Well else last_told l told parted (setup_count l.starts) i)
+well_told l told parted = ap is_well (λ i. if lacks_credentials l then None else if says_nothing (setup_steps l 0) then Some Well else last_told l told parted (setup_count l.starts) i)
 
 -- and how far its setup has come
 said_told : (l : Ledger) (told : ℕ) (parted : Bool) (started : List ℕ) (life : Life) → HasSaid l started life → HasSaid (retells l told parted) started life
 said_told l told parted started Dialing h = h
+said_told l told parted started (Wanting link) h = h
 said_told l told parted started (SettingUp link with_user) h = (
   h.0,
   record {
@@ -57,6 +58,7 @@ said_told l told parted started (Ended e) h = tt
 -- how far the link has come
 life_told : (l : Ledger) (told : ℕ) (parted : Bool) (created : ℕ) (life : Life) → TiedLife l created life → TiedLife (retells l told parted) created life
 life_told l told parted created Dialing h = h
+life_told l told parted created (Wanting link) h = h
 life_told l told parted created (SettingUp link with_user) h = h
 life_told l told parted created (Ready link) h = h
 life_told l told parted created (Ended e) h = h
@@ -87,10 +89,11 @@ push_tied b t info told parted untold parting is pushed h =
     let l = b.link t.link in
     let line = push_line info.kind in
     tied_by (entered b (action.Push t.link info)) (record t { untold = untold; parting = parting }) (retells l told parted) (mine_noted l t.link line ∙ is) (record {
-      numbers = record { turns = h.numbers.turns; links = h.numbers.links; submissions = h.numbers.submissions; timers = h.numbers.timers; aims = h.numbers.aims; timed = h.numbers.timed; timeout = h.numbers.timeout; shut = h.numbers.shut; settings = record { size_is = h.numbers.settings.size_is; bound_is = h.numbers.settings.bound_is; limit_is = h.numbers.settings.limit_is; some = h.numbers.settings.some; limited = h.numbers.settings.limited }; one = h.numbers.one; only = h.numbers.only };
+      numbers = record { turns = h.numbers.turns; links = h.numbers.links; submissions = h.numbers.submissions; timers = h.numbers.timers; sources = h.numbers.sources; uses = h.numbers.uses; aims = h.numbers.aims; timed = h.numbers.timed; timeout = h.numbers.timeout; shut = h.numbers.shut; settings = record { size_is = h.numbers.settings.size_is; bound_is = h.numbers.settings.bound_is; limit_is = h.numbers.settings.limit_is; some = h.numbers.settings.some; limited = h.numbers.settings.limited }; one = h.numbers.one; only = h.numbers.only };
       others = others_kept b t.link line h.others;
       pushes = pushed;
       life = life_told l told parted b.created t.life h.life;
+      creds = h.creds;
       setup = record { info_is = h.setup.info_is; sent = h.setup.sent; said = said_told l told parted t.started t.life h.setup.said };
       link = λ up. link_told (carried t.life t.requests) l told parted (whole_link t.life) (h.link up);
       names = h.names;

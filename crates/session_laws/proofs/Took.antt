@@ -9,7 +9,7 @@ use Rattle.link_core.specs.Link.{LinkState, wrote_of}
 use Rattle.link_laws.proofs.TiedLink.{TiedLink, wrote_tied}
 use Rattle.link_laws.specs.Settles.{awaited_ids}
 use Rattle.mux_conn.specs.declared.life.Life.{Life}
-use Rattle.mux_conn.specs.declared.life.Life.TheVariants.{Dialing, SettingUp, Ready, Ended}
+use Rattle.mux_conn.specs.declared.life.Life.TheVariants.{Dialing, Wanting, SettingUp, Ready, Ended}
 use Rattle.mux_conn.specs.declared.request.Request.{Request}
 use Rattle.mux_conn.specs.declared.request.Waiting.{Waiting}
 use Rattle.mux_conn.specs.Effects.{taken_at, CanTake}
@@ -19,11 +19,11 @@ use Rattle.legal_trace.specs.Ledger.{Ledger, hears, noted, ending}
 use Rattle.legal_trace.specs.Story.{Story}
 use Rattle.legal_trace.specs.Book.{book}
 use Rattle.session_laws.proofs.Numbers.{IsIn}
-use Rattle.session_laws.proofs.Tied.{carried, link_in, owner_of, whole_link, TiedLife, TiedLines, TiedSetup, AreQueued, TiedWaits, has_ended}
+use Rattle.session_laws.proofs.Tied.{carried, link_in, owner_of, whole_link, TiedLife, TiedLines, TiedSetup, AreQueued, TiedCreds, TiedWaits, has_ended}
 use Rattle.session_laws.proofs.States.{IsFit, Between, HasApplied}
 use Rattle.session_laws.proofs.Announce.{turn_of, turned, IsNewsKind}
-use Rattle.session_laws.proofs.Heard.{quiet_applied, ended_quiet, dialing_quiet, setting_waits, still_none, pushes_still}
-use Rattle.session_laws.proofs.Said.{mild_end, setup_hears, setup_link, setup_ready}
+use Rattle.session_laws.proofs.Heard.{quiet_applied, ended_quiet, dialing_quiet, setting_waits, still_none, pushes_still, wanting_waits}
+use Rattle.session_laws.proofs.Said.{mild_end, setup_hears, setup_link, setup_ready, wanting_link}
 
 -- it need not end
 took_no_end : (l : Ledger) (turn count : ℕ) → ending l ≡ None → ending (noted l (hears turn (took count))) ≡ None
@@ -36,9 +36,17 @@ took_no_end l turn count none =
 took_life : (l : Ledger) (created turn count : ℕ) (link after : LinkState) → TiedLife l created (Ready link) → TiedLife (noted l (hears turn (took count))) created (Ready after)
 took_life l created turn count link after h = chosen (λ (x : Ledger). TiedLife (record x { heard = took count }) created (Ready after)) l.up _ l (λ t. h) (λ f. h)
 
--- also while it is set up
+-- also while it waits for credentials
+took_wanting : (l : Ledger) (created turn count : ℕ) (link after : LinkState) → TiedLife l created (Wanting link) → TiedLife (noted l (hears turn (took count))) created (Wanting after)
+took_wanting l created turn count link after h = chosen (λ (x : Ledger). TiedLife (record x { heard = took count }) created (Wanting after)) l.up _ l (λ t. h) (λ f. h)
+
+-- and while it is set up
 took_setting : (l : Ledger) (created turn count : ℕ) (link after : LinkState) (with_user : Bool) → TiedLife l created (SettingUp link with_user) → TiedLife (noted l (hears turn (took count))) created (SettingUp after with_user)
 took_setting l created turn count link after with_user h = chosen (λ (x : Ledger). TiedLife (record x { heard = took count }) created (SettingUp after with_user)) l.up _ l (λ t. h) (λ f. h)
+
+-- its credentials have come as far
+took_creds : (l : Ledger) (wants : Bool) (turn count : ℕ) (life : Life) → TiedCreds l.creds wants life → TiedCreds (noted l (hears turn (took count))).creds wants life
+took_creds l wants turn count life h = chosen (λ (x : Ledger). TiedCreds x.creds wants life) l.up (record l { taken = l.taken ++ take count l.offer; offer = [] }) l (λ t. h) (λ f. h)
 
 -- the lines stay
 wrote_lines : (story : ℕ → Story) (requests : List Request) (link : LinkState) (count : ℕ) (waiting admitted : List Waiting) (pending started : List ℕ) → TiedLines story requests link waiting admitted pending started
@@ -51,6 +59,7 @@ pub queue_waits : (story : ℕ → Story) (requests : List Request) (link after 
 queue_waits story requests link after fresh moved same h = record {
   early = h.early;
   connect = λ p w d. cc;
+  creds = λ p x w d. cc;
   setup = λ p x u w d. cc;
   permit = λ p x w r. h.permit p link w refl;
   place = h.place;
@@ -58,6 +67,7 @@ queue_waits story requests link after fresh moved same h = record {
   newer = h.newer;
   rising = h.rising;
   no_connect = λ p i w d. cc;
+  no_creds = λ p x i w d. cc;
   no_setup = λ p x u i w d. cc;
   no_permit = λ p x i w r. h.no_permit p link i w refl;
   no_place = h.no_place;
@@ -68,29 +78,61 @@ queue_waits story requests link after fresh moved same h = record {
 wrote_fit : (size bound : ℕ) (link : LinkState) (count : ℕ) → IsFit size bound link → (x : LinkState) → Ready (wrote_of link count) ≡ Ready x → IsFit size bound x
 wrote_fit size bound link count h x e = let same : wrote_of link count ≡ x = cc in subst (IsFit size bound) same (record { sound = h.sound; size_is = h.size_is; bound_is = h.bound_is; within = h.within })
 
--- also while it is set up
+-- also while it waits for credentials
+wrote_fit_want : (size bound : ℕ) (link : LinkState) (count : ℕ) → IsFit size bound link → (x : LinkState) → Wanting (wrote_of link count) ≡ Wanting x → IsFit size bound x
+wrote_fit_want size bound link count h x e = let same : wrote_of link count ≡ x = cc in subst (IsFit size bound) same (record { sound = h.sound; size_is = h.size_is; bound_is = h.bound_is; within = h.within })
+
+-- and while it is set up
 wrote_fit_set : (size bound : ℕ) (link : LinkState) (count : ℕ) (with_user : Bool) → IsFit size bound link → (x : LinkState) (u : Bool) → SettingUp (wrote_of link count) with_user ≡ SettingUp x u → IsFit size bound x
 wrote_fit_set size bound link count with_user h x u e = let same : wrote_of link count ≡ x = cc in subst (IsFit size bound) same (record { sound = h.sound; size_is = h.size_is; bound_is = h.bound_is; within = h.within })
 
 -- so much was taken of what was offered
-pub took_applied : (before : List Action) (c : Core) (started : List ℕ) (word count : ℕ) (kind : EventKind) → Between before c started → is_bad c kind ≡ false → IsNewsKind c.timers kind → news_of c.timers c.single.link kind ≡ took count → CanTake c.single.connection.life count
+pub took_applied : (before : List Action) (c : Core) (started : List ℕ) (word count : ℕ) (kind : EventKind) → Between before c started → is_bad c kind ≡ false → IsNewsKind c.timers kind → news_of c.timers c.sources c.single.link kind ≡ took count → CanTake c.single.connection.life count
     → HasApplied (before ++ turn_of c word kind ∷ []) (with_work (record { core = turned c kind; acts = [] }) (taken_at (record { conn = c.single.connection; acts = [] }) count c.single.connection.life)) started
 took_applied before c started word count kind h good k is can = by_life c.single.connection.life refl
   where
     by_life : (x : Life) → c.single.connection.life ≡ x → HasApplied (before ++ turn_of c word kind ∷ []) (with_work (record { core = turned c kind; acts = [] }) (taken_at (record { conn = c.single.connection; acts = [] }) count x)) started
     by_life Dialing e = dialing_quiet before c started word kind (took count) tt h good k is e
     by_life (Ended x) e = ended_quiet before c started word kind (took count) x h good k is e
+    by_life (Wanting link) e =
+        let b = book before in
+        let l = b.link c.single.link in
+        let conn = c.single.connection in
+        let life = subst (TiedLife l b.created) e h.sound.tied.life in
+        let creds = subst (TiedCreds l.creds conn.wants) e h.sound.tied.creds in
+        let tied : TiedLink (λ (p : ℕ). owner.Setup) l link = subst (λ (x : Life). TiedLink (carried x conn.requests) l (whole_link x)) e (h.sound.tied.link (ap has_ended e)) in
+        let few : count ≤ link.outbox.offered = subst (λ (x : Life). CanTake x count) e can in
+        let said = setup_hears l c.turns (took count) conn.info started (Wanting link) tt (subst (TiedSetup l conn.info started) e h.sound.tied.setup) in
+        quiet_applied before c started word kind (took count) (Wanting (wrote_of link count)) h good k is
+        (record {
+          lived = took_wanting l b.created c.turns count link (wrote_of link count) life;
+          creds = took_creds l conn.wants c.turns count (Wanting (wrote_of link count)) (record { wanted_is = creds.wanted_is; sought = creds.sought });
+          said = wanting_link (noted l (hears c.turns (took count))) conn.info started link (wrote_of link count) refl refl said;
+          linked = λ n. wrote_tied (λ (p : ℕ). owner.Setup) l link c.turns count life.1 few tied;
+          lines = subst (λ (x : Life). TiedLines b.story conn.requests (link_in x) conn.waiting conn.admitted [] started) e h.sound.tied.lines;
+          told = λ n. subst (λ (x : Life). AreQueued b.story conn.requests (link_in x)) e (h.sound.tied.told (ap has_ended e));
+          waits = wanting_waits b.story conn.requests link (wrote_of link count) conn.fresh conn.moved (subst (λ (x : Life). TiedWaits b.story conn.requests x conn.fresh conn.moved) e h.sound.tied.waits);
+          pushes = pushes_still before c started (took count) h (inl tt);
+        })
+        (took_no_end l c.turns count (still_none before c started h c.single.link)) (record {
+          wanting = wrote_fit_want conn.size conn.boundary link count (h.fit.wanting link e);
+          setup = λ x u r. cc;
+          link = λ x r. cc;
+          none = λ none. h.fit.none (λ x r. (let no : Wanting link ≡ Ready x = sym e ∙ r in cc));
+        })
     by_life (SettingUp link with_user) e =
         let b = book before in
         let l = b.link c.single.link in
         let conn = c.single.connection in
         let life = subst (TiedLife l b.created) e h.sound.tied.life in
+        let creds = subst (TiedCreds l.creds conn.wants) e h.sound.tied.creds in
         let tied : TiedLink (λ (p : ℕ). owner.Setup) l link = subst (λ (x : Life). TiedLink (carried x conn.requests) l (whole_link x)) e (h.sound.tied.link (ap has_ended e)) in
         let few : count ≤ link.outbox.offered = subst (λ (x : Life). CanTake x count) e can in
         let said = setup_hears l c.turns (took count) conn.info started (SettingUp link with_user) tt (subst (TiedSetup l conn.info started) e h.sound.tied.setup) in
         quiet_applied before c started word kind (took count) (SettingUp (wrote_of link count) with_user) h good k is
         (record {
           lived = took_setting l b.created c.turns count link (wrote_of link count) with_user life;
+          creds = took_creds l conn.wants c.turns count (SettingUp (wrote_of link count) with_user) (record { wanted_is = creds.wanted_is; sought = creds.sought });
           said = setup_link (noted l (hears c.turns (took count))) conn.info started link (wrote_of link count) with_user refl refl said;
           linked = λ n. wrote_tied (λ (p : ℕ). owner.Setup) l link c.turns count life.1 few tied;
           lines = subst (λ (x : Life). TiedLines b.story conn.requests (link_in x) conn.waiting conn.admitted [] started) e h.sound.tied.lines;
@@ -99,6 +141,7 @@ took_applied before c started word count kind h good k is can = by_life c.single
           pushes = pushes_still before c started (took count) h (inl tt);
         })
         (took_no_end l c.turns count (still_none before c started h c.single.link)) (record {
+          wanting = λ x r. cc;
           setup = wrote_fit_set conn.size conn.boundary link count with_user (h.fit.setup link with_user e);
           link = λ x r. cc;
           none = λ none. h.fit.none (λ x r. (let no : SettingUp link with_user ≡ Ready x = sym e ∙ r in cc));
@@ -108,12 +151,14 @@ took_applied before c started word count kind h good k is can = by_life c.single
         let l = b.link c.single.link in
         let conn = c.single.connection in
         let life = subst (TiedLife l b.created) e h.sound.tied.life in
+        let creds = subst (TiedCreds l.creds conn.wants) e h.sound.tied.creds in
         let tied : TiedLink (owner_of conn.requests) l link = subst (λ (x : Life). TiedLink (carried x conn.requests) l (whole_link x)) e (h.sound.tied.link (ap has_ended e)) in
         let few : count ≤ link.outbox.offered = subst (λ (x : Life). CanTake x count) e can in
         let said = setup_hears l c.turns (took count) conn.info started (Ready link) tt (subst (TiedSetup l conn.info started) e h.sound.tied.setup) in
         quiet_applied before c started word kind (took count) (Ready (wrote_of link count)) h good k is
         (record {
           lived = took_life l b.created c.turns count link (wrote_of link count) life;
+          creds = took_creds l conn.wants c.turns count (Ready (wrote_of link count)) (record { wanted_is = creds.wanted_is; sought = creds.sought });
           said = setup_ready (noted l (hears c.turns (took count))) conn.info started link (wrote_of link count) said;
           linked = λ n. wrote_tied (owner_of conn.requests) l link c.turns count life.1 few tied;
           lines = wrote_lines b.story conn.requests link count conn.waiting conn.admitted [] started (subst (λ (x : Life). TiedLines b.story conn.requests (link_in x) conn.waiting conn.admitted [] started) e h.sound.tied.lines);
@@ -122,6 +167,7 @@ took_applied before c started word count kind h good k is can = by_life c.single
           pushes = pushes_still before c started (took count) h (inl tt);
         })
         (took_no_end l c.turns count (still_none before c started h c.single.link)) (record {
+          wanting = λ x r. cc;
           setup = λ x u r. cc;
           link = wrote_fit conn.size conn.boundary link count (h.fit.link link e);
           none = λ none. absurd (none (wrote_of link count) refl);

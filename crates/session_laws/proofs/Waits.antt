@@ -16,7 +16,7 @@ use Rattle.mux_conn.specs.Connection.{has_no_permit, is_ready}
 use Rattle.mux_conn.specs.Requests.{if_there, is_admitted, is_admitted_at, is_open_at, is_placed, is_placed_at, is_waiting, is_waiting_at, name_at}
 use Rattle.mux_conn.specs.Turn.{is_from}
 use Rattle.mux_conn.specs.declared.life.Life.{Life}
-use Rattle.mux_conn.specs.declared.life.Life.TheVariants.{Dialing, Ended, Ready, SettingUp}
+use Rattle.mux_conn.specs.declared.life.Life.TheVariants.{Dialing, Ended, Ready, Wanting, SettingUp}
 use Rattle.mux_conn.specs.declared.request.Progress.{Progress}
 use Rattle.mux_conn.specs.declared.request.Progress.TheVariants as progress
 use Rattle.mux_conn.specs.declared.request.Request.{Request}
@@ -24,7 +24,7 @@ use Rattle.legal_trace.specs.Book.{Book, entered, if_own}
 use Rattle.legal_trace.specs.Legal.{IsWaiting, IsWritten, MayWait, WaitHolds}
 use Rattle.legal_trace.specs.Steps.{starts_or_waits}
 use Rattle.legal_trace.specs.Story.{Story, awaited_in, is_no_error, is_told, waits as waits_now}
-use Rattle.session_laws.proofs.Ahead.{IsRunning, dialing_step, full_step, permit_step, queue_step, queue_within, running_of, setup_step, waiting_open, admitted_open}
+use Rattle.session_laws.proofs.Ahead.{IsRunning, dialing_step, full_step, permit_step, queue_step, queue_within, running_of, setup_step, waiting_open, admitted_open, creds_step}
 use Rattle.session_laws.proofs.Closing.{one_of}
 use Rattle.session_laws.proofs.InLine.{awaited_in as in_queue, chosen_in, kept_ids, kept_in, row_ids, wanted_in}
 use Rattle.session_laws.proofs.Kept.{SameOutcomes, SameSubmissions, SameTimes, one_changed, packed_same, queued_same, tries_same}
@@ -153,6 +153,7 @@ wait_tied b t p kind moved fresh within h waits =
       others = h.others;
       pushes = h.pushes;
       life = h.life;
+      creds = h.creds;
       setup = h.setup;
       link = h.link;
       names = h.names;
@@ -333,6 +334,13 @@ waiting_is b t p h q o at unmoved old = by_life t.life refl
         | inr w ↦ as_shown wait.Connect (elim (h.waits.connect p w.0 e) [ inl new ↦ absurd (old w.0 new) | inr s ↦ s ]) (dialing_step b t p h e within)
       ]
     ]
+    by_life (Wanting link) e = elim at [
+      | inl i ↦ absurd (subst (λ (x : Life). IsIn p (awaited_ids (link_in x).queue)) e i)
+      | inr k ↦ elim k [
+        | inl a ↦ absurd (subst (λ ws. IsIn p (waiting_ids ws)) (q.none (λ other r. not_ready t.life (Wanting link) other refl e r)) a.1)
+        | inr w ↦ as_shown wait.Creds (elim (h.waits.creds p link w.0 e) [ inl new ↦ absurd (old w.0 new) | inr s ↦ s ]) (creds_step b t p link h e within)
+      ]
+    ]
     by_life (SettingUp link with_user) e = elim at [
       | inl i ↦ absurd (subst (λ (x : Life). IsIn p (awaited_ids (link_in x).queue)) e i)
       | inr k ↦ elim k [
@@ -441,6 +449,7 @@ moved_waits b t p kind ps h is l so =
     record {
       early = λ q w. one_of (shown_wait after requests q) (shown_wait b.story requests q) (still q w) (h.waits.early q w);
       connect = λ q w d. elim (h.waits.connect q w d) [ inl i ↦ inl i | inr e ↦ inr (still q w ∙ e) ];
+      creds = λ q link w r. elim (h.waits.creds q link w r) [ inl i ↦ inl i | inr e ↦ inr (still q w ∙ e) ];
       setup = λ q link u w r. elim (h.waits.setup q link u w r) [ inl i ↦ inl i | inr e ↦ inr (still q w ∙ e) ];
       permit = λ q link w r. elim (h.waits.permit q link w r) [ inl i ↦ inl i | inr e ↦ inr (still q w ∙ e) ];
       place = λ q a. by_test (p == q) _
@@ -462,6 +471,7 @@ moved_waits b t p kind ps h is l so =
       newer = h.waits.newer;
       rising = rest_rises p ps (length requests) line;
       no_connect = λ q i w d e. h.waits.no_connect q i w d (sym (still q w) ∙ e);
+      no_creds = λ q link i w r e. h.waits.no_creds q link i w r (sym (still q w) ∙ e);
       no_setup = λ q link u i w r e. h.waits.no_setup q link u i w r (sym (still q w) ∙ e);
       no_permit = λ q link i w r e. h.waits.no_permit q link i w r (sym (still q w) ∙ e);
       no_place = λ q i a e. h.waits.no_place q (back q i) a (sym (shown_then b t p q kind h l (there_within is_admitted requests q a) (above q i)) ∙ e);
@@ -476,6 +486,7 @@ passed_waits b t p ps h is gone none =
     record {
       early = h.waits.early;
       connect = h.waits.connect;
+      creds = h.waits.creds;
       setup = h.waits.setup;
       permit = h.waits.permit;
       place = λ q a. elim (h.waits.place q a) [
@@ -489,6 +500,7 @@ passed_waits b t p ps h is gone none =
       newer = h.waits.newer;
       rising = rest_rises p ps (length t.requests) line;
       no_connect = h.waits.no_connect;
+      no_creds = h.waits.no_creds;
       no_setup = h.waits.no_setup;
       no_permit = h.waits.no_permit;
       no_place = λ q i a. h.waits.no_place q (back q i) a;
@@ -503,10 +515,11 @@ down_admits b t p life h q down e = by_test (is_admitted_at t.requests p) _
 
 -- the waits of those that came in this turn, or whose connect was answered in it
 --
--- one of them waits for the connect, for the setup, or for a permit
+-- one of them waits for the connect, for credentials, for the setup, or for a permit
 pub record IsEarly (t : Inner) (kind : WaitKind) : Type 0 where
-  pub either : (kind ≡ wait.Connect) ⊎ ((kind ≡ wait.Setup) ⊎ (kind ≡ wait.Permit))
+  pub either : (kind ≡ wait.Connect) ⊎ ((kind ≡ wait.Creds) ⊎ ((kind ≡ wait.Setup) ⊎ (kind ≡ wait.Permit)))
   pub connect : t.life ≡ Dialing → kind ≡ wait.Connect
+  pub creds : (link : LinkState) → t.life ≡ Wanting link → kind ≡ wait.Creds
   pub setup : (link : LinkState) (with_user : Bool) → t.life ≡ SettingUp link with_user → kind ≡ wait.Setup
   pub permit : (link : LinkState) → t.life ≡ Ready link → kind ≡ wait.Permit
 
@@ -532,12 +545,15 @@ fresh_waits b t p kind ps h is w so =
           let shown = own q (eq_from p q t1) in
           inr (elim so.either [
             | inl e ↦ inl (shown ∙ ap Some e)
-            | inr k ↦ inr (elim k [ inl e ↦ inl (shown ∙ ap Some e) | inr e ↦ inr (shown ∙ ap Some e) ])
+            | inr k ↦ inr (elim k [ inl e ↦ inl (shown ∙ ap Some e) | inr x ↦ inr (elim x [ inl e ↦ inl (shown ∙ ap Some e) | inr e ↦ inr (shown ∙ ap Some e) ]) ])
           ]))
           (λ f. one_of (shown_wait after requests q) (shown_wait b.story requests q) (waits q v (ne_from p q f)) (h.waits.early q v));
       connect = λ q v d. by_test (p == q) _
           (λ t1. inr (own q (eq_from p q t1) ∙ ap Some (so.connect d)))
           (λ f. let other = ne_from p q f in elim (h.waits.connect q v d) [ inl i ↦ inl (rest_in p q ps other (subst (IsIn q) is i)) | inr e ↦ inr (waits q v other ∙ e) ]);
+      creds = λ q link v r. by_test (p == q) _
+          (λ t1. inr (own q (eq_from p q t1) ∙ ap Some (so.creds link r)))
+          (λ f. let other = ne_from p q f in elim (h.waits.creds q link v r) [ inl i ↦ inl (rest_in p q ps other (subst (IsIn q) is i)) | inr e ↦ inr (waits q v other ∙ e) ]);
       setup = λ q link u v r. by_test (p == q) _
           (λ t1. inr (own q (eq_from p q t1) ∙ ap Some (so.setup link u r)))
           (λ f. let other = ne_from p q f in elim (h.waits.setup q link u v r) [ inl i ↦ inl (rest_in p q ps other (subst (IsIn q) is i)) | inr e ↦ inr (waits q v other ∙ e) ]);
@@ -549,6 +565,7 @@ fresh_waits b t p kind ps h is w so =
       newer = rest_rises p ps (length requests) line;
       rising = h.waits.rising;
       no_connect = λ q i v d e. h.waits.no_connect q (back q i) v d (sym (waits q v (rest_other p q ps (length requests) line i)) ∙ e);
+      no_creds = λ q link i v r e. h.waits.no_creds q link (back q i) v r (sym (waits q v (rest_other p q ps (length requests) line i)) ∙ e);
       no_setup = λ q link u i v r e. h.waits.no_setup q link u (back q i) v r (sym (waits q v (rest_other p q ps (length requests) line i)) ∙ e);
       no_permit = λ q link i v r e. h.waits.no_permit q link (back q i) v r (sym (waits q v (rest_other p q ps (length requests) line i)) ∙ e);
       no_place = λ q i a e. h.waits.no_place q i a (sym (admitted q a) ∙ e);
@@ -564,6 +581,7 @@ stale_waits b t p ps h is gone =
     record {
       early = h.waits.early;
       connect = λ q w d. elim (h.waits.connect q w d) [ inl i ↦ inl (rest_in p q ps (other q w) (subst (IsIn q) is i)) | inr e ↦ inr e ];
+      creds = λ q link w r. elim (h.waits.creds q link w r) [ inl i ↦ inl (rest_in p q ps (other q w) (subst (IsIn q) is i)) | inr e ↦ inr e ];
       setup = λ q link u w r. elim (h.waits.setup q link u w r) [ inl i ↦ inl (rest_in p q ps (other q w) (subst (IsIn q) is i)) | inr e ↦ inr e ];
       permit = λ q link w r. elim (h.waits.permit q link w r) [ inl i ↦ inl (rest_in p q ps (other q w) (subst (IsIn q) is i)) | inr e ↦ inr e ];
       place = h.waits.place;
@@ -571,6 +589,7 @@ stale_waits b t p ps h is gone =
       newer = rest_rises p ps (length t.requests) line;
       rising = h.waits.rising;
       no_connect = λ q i w d. h.waits.no_connect q (back q i) w d;
+      no_creds = λ q link i w r. h.waits.no_creds q link (back q i) w r;
       no_setup = λ q link u i w r. h.waits.no_setup q link u (back q i) w r;
       no_permit = λ q link i w r. h.waits.no_permit q link (back q i) w r;
       no_place = h.waits.no_place;

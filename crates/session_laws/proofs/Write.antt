@@ -1,5 +1,5 @@
 -- All bytes of a link are offered.
-use Rattle.std.proofs.Common.{Bool, List, [], ap, arith, false, length, not, refl, subst, sym, true, ℕ, ◌∙◌, ◌≡◌, ◌≢◌, ◌⊎◌}
+use Rattle.std.proofs.Common.{Bool, List, [], ap, arith, false, length, not, refl, subst, sym, true, ℕ, ◌++◌, ◌∙◌, ◌∷◌, ◌≡◌, ◌≢◌, ◌⊎◌}
 use Rattle.std.specs.Prelude.{◌&&◌, ◌==◌}
 use Rattle.containers.proofs.Choices.{by_test, chosen, eq_from, ne_from, not_both}
 use Rattle.driver_model.specs.declared.action.Action.{Action}
@@ -14,10 +14,10 @@ use Rattle.mux_conn.specs.Connection.{Work, acted, with_link, with_setup}
 use Rattle.mux_conn.specs.Turn.{written, written_at}
 use Rattle.mux_conn.specs.declared.act.LinkAct.TheVariants as act
 use Rattle.mux_conn.specs.declared.life.Life.{Life}
-use Rattle.mux_conn.specs.declared.life.Life.TheVariants.{Dialing, Ended, Ready, SettingUp}
+use Rattle.mux_conn.specs.declared.life.Life.TheVariants.{Dialing, Ended, Ready, Wanting, SettingUp}
 use Rattle.shared_session.specs.declared.core_state.Core.{Core}
 use Rattle.legal_trace.specs.Book.{Book, book, entered}
-use Rattle.legal_trace.specs.Ledger.{IsOffered, noted, offers}
+use Rattle.legal_trace.specs.Ledger.{IsOffered, Ledger, joined, noted, offers}
 use Rattle.legal_trace.specs.Legal.{IsMoved, IsWritten, MayWrite, NoneEnds}
 use Rattle.session_laws.proofs.Going.{is_moved, none_ends_kept}
 use Rattle.session_laws.proofs.Kept.{mine_noted, others_kept, tied_by}
@@ -29,7 +29,7 @@ use Rattle.session_laws.proofs.Settle.{book_of_more, holds_more, seen, trace_of_
 use Rattle.session_laws.proofs.Start.{on_link}
 use Rattle.session_laws.proofs.Took.{queue_waits}
 use Rattle.session_laws.proofs.States.{IsFit}
-use Rattle.session_laws.proofs.Tied.{Inner, IsUnknown, Tied, TiedLife, carried, has_ended, numbers_kept, owner_of, whole_link}
+use Rattle.session_laws.proofs.Tied.{HasSaid, Inner, IsUnknown, Tied, TiedLife, carried, has_ended, numbers_kept, owner_of, whole_link}
 
 -- an offer
 --
@@ -42,6 +42,7 @@ write_tied b t link h =
       others = others_kept b t.link line h.others;
       pushes = h.pushes;
       life = h.life;
+      creds = record { wanted_is = h.creds.wanted_is; sought = h.creds.sought };
       setup = record { info_is = h.setup.info_is; sent = h.setup.sent; said = record { well = h.setup.said.well; none = h.setup.said.none } };
       link = λ e. offered_tied (owner_of t.requests) l link (h.link refl);
       names = h.names;
@@ -64,6 +65,7 @@ write_set_tied b t link with_user h =
       others = others_kept b t.link line h.others;
       pushes = h.pushes;
       life = h.life;
+      creds = record { wanted_is = h.creds.wanted_is; sought = h.creds.sought };
       setup = setup_link (noted l line) t.info t.started link (offered_of link) with_user refl refl
           (setup_on l l.asked l.up l.end l.taken link.outbox.unwritten l.rest l.heard t.info t.started (SettingUp link with_user) h.setup);
       link = λ e. offered_tied (λ (p : ℕ). owner.Setup) l link (h.link refl);
@@ -131,6 +133,7 @@ write_shown before f w link life can h =
         holds = holds_more before f w a (with_link w (offered_of link)).conn [] [] h.started h.holds (write_may b t (owner_of w.conn.requests) link tied.others tied.life.1 (tied.link refl) (moved_book before f w h) can) (write_tied b t link tied);
         ended = subst NoneEnds (sym (book_of_more before f w.acts a)) (none_ends_kept b f.single.link (offers link.outbox.unwritten) (λ l e. e) h.ended);
         fit = record {
+          wanting = λ other e. cc;
           setup = λ other u e. cc;
           link = λ other e. subst (IsFit w.conn.size w.conn.boundary) (same_link after other e) (record { sound = fit.sound; size_is = fit.size_is; bound_is = fit.bound_is; within = fit.within });
           none = λ none. absurd (none after refl);
@@ -166,6 +169,7 @@ write_set_shown before f w link with_user life can h =
         holds = holds_more before f w a (with_setup w (offered_of link) with_user).conn [] [] h.started h.holds (write_may b t (λ (p : ℕ). owner.Setup) link tied.others tied.life.1 (tied.link refl) (moved_book before f w h) can) (write_set_tied b t link with_user tied);
         ended = subst NoneEnds (sym (book_of_more before f w.acts a)) (none_ends_kept b f.single.link (offers link.outbox.unwritten) (λ l e. e) h.ended);
         fit = record {
+          wanting = λ other e. cc;
           setup = λ other u e. subst (IsFit w.conn.size w.conn.boundary) (same_set after other with_user u e) (record { sound = fit.sound; size_is = fit.size_is; bound_is = fit.bound_is; within = fit.within });
           link = λ other e. cc;
           none = λ none. h.fit.none (λ other e. absurd (setting_not_ready w.conn.life link other with_user life e));
@@ -184,6 +188,16 @@ write_set_shown before f w link with_user life can h =
     setting_not_ready : (life : Life) (link other : LinkState) (u : Bool) → life ≡ SettingUp link u → life ≡ Ready other → ⊥
     setting_not_ready life link other u e r = let no : SettingUp link u ≡ Ready other = sym e ∙ r in cc
 
+-- what follows a front of nothing is nothing
+none_behind : (xs ys : List ℕ) → xs ++ ys ≡ [] → ys ≡ []
+none_behind [] ys e = e
+none_behind (x ∷ xs) ys e = cc
+
+-- a link on which nothing has started has nothing to offer
+none_offered : (l : Ledger) (link : LinkState) → TiedLink (λ (p : ℕ). owner.Setup) l link → l.starts ≡ [] → can_offer link.outbox ≡ false
+none_offered l link tied none =
+    ap (λ (bs : List ℕ). not (length bs == 0) && (link.outbox.offered == 0)) (none_behind l.taken link.outbox.unwritten (tied.sent ∙ ap joined none))
+
 -- the link's one write
 pub written_holds : (before : List Action) (f : Core) (w : Work) → HasMoved before f w → HasWritten before f (written w)
 written_holds before f w h = by_life w.conn.life refl
@@ -194,6 +208,11 @@ written_holds before f w h = by_life w.conn.life refl
     by_life : (life : Life) → w.conn.life ≡ life → HasWritten before f (written w)
     by_life Dialing e = subst (λ (x : Life). HasWritten before f (written_at w x)) (sym e) (record { moved = h; offered = can_not Dialing e refl })
     by_life (Ended y) e = subst (λ (x : Life). HasWritten before f (written_at w x)) (sym e) (record { moved = h; offered = can_not (Ended y) e refl })
+    by_life (Wanting link) e =
+        let l = (book (trace_of_acts before f w.acts)).link f.single.link in
+        let tied : TiedLink (λ (p : ℕ). owner.Setup) l link = subst (λ (x : Life). TiedLink (carried x w.conn.requests) l (whole_link x)) e (h.holds.tied.link (ap has_ended e)) in
+        let said = subst (HasSaid l h.started) e h.holds.tied.setup.said in
+        subst (λ (x : Life). HasWritten before f (written_at w x)) (sym e) (record { moved = h; offered = can_not (Wanting link) e (none_offered l link tied said.0) })
     by_life (SettingUp link with_user) e =
         subst (λ (x : Life). HasWritten before f (written_at w x)) (sym e)
         (chosen (HasWritten before f) (can_offer link.outbox) (acted (with_setup w (offered_of link) with_user) (act.Write link.outbox.unwritten)) w
@@ -212,6 +231,7 @@ up_offered b t h offered up = is_offered (carried t.life t.requests) (b.link t.l
   where
     alive : (life : Life) → TiedLife (b.link t.link) b.created life → has_ended life ≡ false
     alive Dialing k = refl
+    alive (Wanting link) k = refl
     alive (SettingUp link with_user) k = refl
     alive (Ready link) k = refl
     alive (Ended y) k = absurd (not_both (b.link t.link).up k.0 up)

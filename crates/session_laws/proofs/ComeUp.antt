@@ -1,0 +1,309 @@
+-- A link comes up: it is ready, or what is said to its server first is to start.
+use Rattle.std.specs.List.{AllByRecursion}
+use Rattle.std.proofs.Common.{inl, inr, length, ◌==◌, ◌≡◌, ℕ, ◌+◌, true, false, ◌&&◌, ◌||◌, List, [], ◌∷◌, ◌++◌, Option, None, refl, sym, ap, ◌∙◌, subst, arith, ◌≢◌, Some}
+use Rattle.containers.proofs.Choices.{chosen, left_if, not_both}
+use Rattle.driver_model.specs.declared.action.Action.{Action}
+use Rattle.driver_model.specs.declared.action.Action.TheVariants as action
+use Rattle.driver_model.specs.declared.action.Owner.{Owner}
+use Rattle.driver_model.specs.declared.action.WaitKind.{WaitKind}
+use Rattle.driver_model.specs.declared.action.WaitKind.TheVariants as wait
+use Rattle.driver_model.specs.declared.event.EventKind.{EventKind}
+use Rattle.driver_model.specs.News.{News, news_of}
+use Rattle.connection_info.specs.declared.address.RedisConnectionInfo.{RedisConnectionInfo}
+use Rattle.connection_setup.specs.Setup.{setup}
+use Rattle.driver_model.specs.Setup.{says_nothing}
+use Rattle.link_core.specs.declared.message.Queued.{Queued}
+use Rattle.link_core.specs.declared.message.Entry.{Entry}
+use Rattle.link_core.specs.Link.{LinkState, enqueued}
+use Rattle.link_laws.proofs.TiedLink.{TiedLink, enqueued_tied}
+use Rattle.link_laws.specs.Settles.{wanted, awaited_ids}
+use Rattle.mux_conn.specs.declared.life.Life.{Life}
+use Rattle.mux_conn.specs.declared.life.Life.TheVariants.{Dialing, Wanting, SettingUp, Ready, Ended}
+use Rattle.mux_conn.specs.Requests.{is_waiting_at}
+use Rattle.mux_conn.specs.Effects.{all_fresh, come_up, made_ready, sets_up, setup_queued, steps_of, numbers_of}
+use Rattle.mux_conn.specs.Turn.{early_wait}
+use Rattle.mux_conn.specs.Connection.{Work, is_ready}
+use Rattle.mux_conn.specs.declared.connection.MultiplexedConnection.{MultiplexedConnection}
+use Rattle.mux_conn.specs.declared.request.Request.{Request}
+use Rattle.mux_conn.specs.declared.request.Waiting.{Waiting}
+use Rattle.shared_session.specs.declared.core_state.Core.{Core}
+use Rattle.shared_session.specs.Turn.{with_work, is_bad}
+use Rattle.legal_trace.specs.Ledger.{Ledger, Heard, ending, ending_unready, ending_up, is_ready as is_ready_link, lacks_credentials, setup_after, setup_count, setup_steps}
+use Rattle.legal_trace.specs.Book.{Book, blank_book, book, entered}
+use Rattle.legal_trace.specs.Story.{Story}
+use Rattle.legal_trace.specs.Legal.{AllStand, MayBeCreated, is_heard}
+use Rattle.legal_trace.proofs.Setups.{ends_where_set, silent_is_set}
+use Rattle.session_laws.proofs.Tied.{AreSetups, AreQueued, HasCredentials, IsEntry, IsQueued, IsSettingUp, IsSetupDue, IsSetUp, Inner, Tied, TiedCreds, TiedLines, TiedPushes, TiedWaits, has_ended, inner, link_in, no_link, owner_of, queue_ids, shown_wait, waiting_ids}
+use Rattle.session_laws.proofs.States.{Between, HasApplied, IsFit}
+use Rattle.session_laws.proofs.Creds.{has_credentials}
+use Rattle.session_laws.proofs.Said.{PushesOf, ending_setting}
+use Rattle.session_laws.proofs.Entered.{all_stand-append, book_more, sound_more}
+use Rattle.session_laws.proofs.Owes.{none_owed}
+use Rattle.session_laws.proofs.Settle.{Tells, seen, trace_of_acts}
+use Rattle.session_laws.proofs.InLine.{kept_ids}
+use Rattle.session_laws.proofs.Numbers.{IsIn, Rising, rising_right}
+use Rattle.session_laws.proofs.Announce.{IsNewsKind, comes_as, heard_book, heard_is, heard_starts, heard_tied, may_turn, turn_of, turned}
+use Rattle.session_laws.proofs.Heard.{book_kind, book_news, fresh_applied, heard_by, none_ends}
+use Rattle.session_laws.proofs.Ahead.{waiting_open}
+
+-- the waits
+--
+-- a link without messages has the lines of one that isn't up
+bare_lines : (story : ℕ → Story) (requests : List Request) (link : LinkState) (waiting admitted : List Waiting) (started : List ℕ) → link.queue ≡ [] → link.row ≡ [] → TiedLines story requests no_link waiting admitted [] started → TiedLines story requests link waiting admitted [] started
+bare_lines story requests link waiting admitted started queue row h = record {
+  line = subst (λ (qs : List Queued). Rising 0 (started ++ (queue_ids qs ++ kept_ids admitted waiting)) (length requests)) (sym queue) h.line;
+  queued = subst (AllByRecursion (IsQueued story requests)) (sym queue) tt;
+  entries = subst (AllByRecursion (IsEntry requests)) (sym row) tt;
+  packs = h.packs;
+  packed_in = h.packed_in;
+  there = λ p e. elim (h.there p e) [ inl i ↦ absurd i | inr k ↦ inr k ];
+}
+
+-- the numbers of those that wait
+numbers_is : (ws : List Waiting) → numbers_of ws ≡ waiting_ids ws
+numbers_is [] = refl
+numbers_is (w ∷ ws) = ap (λ ns. w.number ∷ ns) (numbers_is ws)
+
+-- who waits for the connection is one of them
+bare_waits : (b : Book) (t : Inner) (p : ℕ) → Tied b t → t.pending ≡ [] → t.admitted ≡ [] → link_in t.life ≡ no_link → is_waiting_at t.requests p ≡ true → IsIn p (waiting_ids t.waiting)
+bare_waits b t p h none nobody e w =
+    elim (h.lines.there p (waiting_open t.requests p w)) [
+      | inl i ↦ absurd (subst (λ (x : LinkState). IsIn p ([] ++ (wanted x.row ++ awaited_ids x.queue))) e (subst (λ ns. IsIn p (ns ++ (wanted (link_in t.life).row ++ awaited_ids (link_in t.life).queue))) none i))
+      | inr k ↦ elim k [ inl a ↦ absurd (subst (λ ws. IsIn p (waiting_ids ws)) nobody a.1) | inr x ↦ x.1 ]
+    ]
+
+-- those that wait, in line
+fresh_rises : (b : Book) (t : Inner) → Tied b t → Rising 0 (numbers_of t.waiting) (length t.requests)
+fresh_rises b t h =
+    let queue = queue_ids (link_in t.life).queue in
+    let last = waiting_ids t.waiting in
+    subst (λ ns. Rising 0 ns (length t.requests)) (sym (numbers_is t.waiting))
+    (rising_right 0 (waiting_ids t.admitted) last (length t.requests) (rising_right 0 queue (kept_ids t.admitted t.waiting) (length t.requests) (rising_right 0 t.started (queue ++ kept_ids t.admitted t.waiting) (length t.requests) h.lines.line)))
+
+-- where no wait is to be shown, who waits for the connection has shown what it waits for
+shown_early : (b : Book) (t : Inner) (p : ℕ) (life : Life) → Tied b t → t.fresh ≡ [] → t.life ≡ life → is_ready life ≡ false → has_ended life ≡ false → is_waiting_at t.requests p ≡ true → shown_wait b.story t.requests p ≡ Some (early_wait life)
+shown_early b t p Dialing h none e f g w = elim (h.waits.connect p w e) [ inl i ↦ absurd (subst (IsIn p) none i) | inr s ↦ s ]
+shown_early b t p (Wanting link) h none e f g w = elim (h.waits.creds p link w e) [ inl i ↦ absurd (subst (IsIn p) none i) | inr s ↦ s ]
+shown_early b t p (SettingUp link with_user) h none e f g w = elim (h.waits.setup p link with_user w e) [ inl i ↦ absurd (subst (IsIn p) none i) | inr s ↦ s ]
+shown_early b t p (Ready link) h none e f g w = cc
+shown_early b t p (Ended x) h none e f g w = cc
+
+-- one wait is no other
+same_kind : (a b : WaitKind) → ◌≡◌ {A = Option WaitKind} (Some a) (Some b) → a ≡ b
+same_kind a b e = cc
+
+-- the waits in a life in which something else is waited for, where all that waited are to show theirs anew
+pub fresh_waits : (b : Book) (t : Inner) (life after : Life) → Tied b t → t.pending ≡ [] → t.admitted ≡ [] → t.fresh ≡ [] → t.life ≡ life → link_in life ≡ no_link → is_ready life ≡ false → has_ended life ≡ false → early_wait life ≢ early_wait after
+    → (link_in after).queue ≡ [] → TiedWaits b.story t.requests after (numbers_of t.waiting) t.moved
+fresh_waits b t life after h none nobody no_fresh e bare f g other queue = record {
+  early = h.waits.early;
+  connect = λ p w d. inl (here p w);
+  creds = λ p x w d. inl (here p w);
+  setup = λ p x u w d. inl (here p w);
+  permit = λ p x w d. inl (here p w);
+  place = h.waits.place;
+  room = λ p i. absurd (subst (λ (qs : List Queued). IsIn p (awaited_ids qs)) queue i);
+  newer = fresh_rises b t h;
+  rising = h.waits.rising;
+  no_connect = λ p i w d. anew p w wait.Connect (ap early_wait d);
+  no_creds = λ p x i w d. anew p w wait.Creds (ap early_wait d);
+  no_setup = λ p x u i w d. anew p w wait.Setup (ap early_wait d);
+  no_permit = λ p x i w d. anew p w wait.Permit (ap early_wait d);
+  no_place = h.waits.no_place;
+  no_room = λ p i r. absurd (subst (λ (qs : List Queued). IsIn p (awaited_ids qs)) queue r);
+}
+  where
+    here : (p : ℕ) → is_waiting_at t.requests p ≡ true → IsIn p (numbers_of t.waiting)
+    here p w = subst (IsIn p) (sym (numbers_is t.waiting)) (bare_waits b t p h none nobody (ap link_in e ∙ bare) w)
+
+    anew : (p : ℕ) → is_waiting_at t.requests p ≡ true → (k : WaitKind) → early_wait after ≡ k → shown_wait b.story t.requests p ≢ Some k
+    anew p w k is shown = other (same_kind (early_wait life) k (sym (shown_early b t p life h no_fresh e f g w) ∙ shown) ∙ sym is)
+
+-- a link is ready
+--
+-- it is up and set up, and has no messages
+pub record IsMade (l : Ledger) (created : ℕ) (requests : List Request) (link : LinkState) : Type 0 where
+  pub asked : l.asked ≡ true
+  pub up : l.up ≡ true
+  pub alive : l.end ≡ None
+  pub unshown : created ≡ 0
+  pub said : IsSetUp l
+  pub tied : TiedLink (owner_of requests) l link
+  pub queue : link.queue ≡ []
+  pub row : link.row ≡ []
+
+-- which is shown
+pub record IsShownReady (front : List Action) (f : Core) (w : Work) (l : Ledger) (untold : List Heard) (started : List ℕ) : Type 0 where
+  pub holds : Tells front f w untold [] started
+  pub ledger : (book (trace_of_acts front f w.acts)).link f.single.link ≡ l
+
+-- the life of a connection whose link isn't ready, and has not ended
+pub record IsEarly (life : Life) (after : WaitKind) : Type 0 where
+  pub bare : link_in life ≡ no_link
+  pub unready : is_ready life ≡ false
+  pub alive : has_ended life ≡ false
+  pub other : early_wait life ≢ after
+
+-- where it wasn't before, and this is said to its server
+pub makes_ready : (before : List Action) (c : Core) (started : List ℕ) (word : ℕ) (kind : EventKind) (n : News) (info : RedisConnectionInfo) (link : LinkState) (untold : List Heard) → Between before c started → is_bad c kind ≡ false → IsNewsKind c.timers kind
+    → news_of c.timers c.sources c.single.link kind ≡ n → IsEarly c.single.connection.life wait.Permit
+    → (let l = heard_by (book before) c n in (l.info ≡ info) × AreSetups l × TiedCreds l.creds c.single.connection.wants (Ready link) × IsMade l (book before).created c.single.connection.requests link
+    × TiedPushes (is_heard (book before)) c.single.connection.hears l.pushes l.told l.end l.parted untold false)
+    → IsShownReady (before ++ turn_of c word kind ∷ []) (turned c kind) (made_ready (record { conn = record c.single.connection { info = info }; acts = [] }) link) (heard_by (book before) c n) untold started
+makes_ready before c started word kind n info link untold h good k is early facts =
+    let b = book before in
+    let h0 = h.sound.tied in
+    let conn = c.single.connection in
+    let l = heard_by b c n in
+    let made : IsMade l b.created conn.requests link = facts.3 in
+    let now = heard_book b c.turns word kind in
+    let front = before ++ turn_of c word kind ∷ [] in
+    let ns = numbers_of conn.waiting in
+    let shown = action.Created None in
+    let t = record (seen (turned c kind) [] (comes_as c info (Ready link) ns) [] started) { untold = untold } in
+    let nobody = h.fit.none (λ x r. not_both (is_ready conn.life) early.unready (ap is_ready r)) in
+    let own : now.link c.single.link ≡ l = ap (heard_by b c) (book_news b c started kind n h0 is) in
+    let tied : Tied (entered now shown) t = heard_tied b c started word (b.created + 1) kind info (Ready link) ns [] untold l h0 good own
+    (record {
+      starts = heard_starts (b.link c.single.link) c.turns n;
+      lived = (made.asked, made.up, made.alive, λ z. absurd (omega arith));
+      creds = facts.2;
+      said = record { info_is = facts.0; sent = facts.1; said = made.said };
+      linked = λ z. made.tied;
+      lines = bare_lines b.story conn.requests link conn.waiting conn.admitted started made.queue made.row (subst (λ (x : LinkState). TiedLines b.story conn.requests x conn.waiting conn.admitted [] started) early.bare h0.lines);
+      told = λ z m told none. absurd (let q = subst (λ (x : LinkState). AreQueued b.story conn.requests x) early.bare (h0.told early.alive) m told none in q.3);
+      waits = fresh_waits b (inner c started) conn.life (Ready link) h0 refl nobody h.fresh refl early.bare early.unready early.alive early.other made.queue;
+      pushes = facts.4;
+    }) in
+    let may : MayBeCreated now = record {
+      l = c.single.link;
+      ready = ap is_ready_link own ∙ (λ i. made.up i && made.said.well i);
+      once = made.unshown;
+      answered = λ m asked on. none_owed (entered now shown) t tied refl refl m asked;
+    } in
+    let book_is : book front ≡ now = book_more before (turn_of c word kind) ∙ heard_is b c.turns word kind (book_kind b c kind h0.numbers.timers k) in
+    let all : AllStand blank_book front = all_stand-append before (turn_of c word kind ∷ []) h.sound.stands (may_turn before c started word kind h good, tt) in
+    record {
+      holds = sound_more front shown t all (subst MayBeCreated (sym book_is) may) (subst (λ (x : Book). Tied (entered x shown) t) (sym book_is) tied);
+      ledger = ap (λ (x : Book). x.link c.single.link) (book_more front shown ∙ ap (λ (x : Book). entered x shown) book_is) ∙ own;
+    }
+
+-- so the event has had its effect, where the link need not end
+pub ready_applied : (front : List Action) (f : Core) (conn : MultiplexedConnection) (link : LinkState) (l : Ledger) (started : List ℕ) → f.turns ≢ 0 → conn.moved ≡ [] → IsFit conn.size conn.boundary link → ending l ≡ None
+    → IsShownReady front f (made_ready (record { conn = conn; acts = [] }) link) l [] started → HasApplied front (with_work (record { core = f; acts = [] }) (made_ready (record { conn = conn; acts = [] }) link)) started
+ready_applied front f conn link l started began none_moved fit none h =
+    let w = made_ready (record { conn = conn; acts = [] }) link in
+    record {
+      sound = h.holds;
+      ended = none_ends (book (trace_of_acts front f w.acts)) (seen f w.acts w.conn [] started) h.holds.tied (ap ending h.ledger ∙ none);
+      began = began;
+      moved = none_moved;
+      fit = record {
+        wanting = λ x e. cc;
+        setup = λ x u e. cc;
+        link = λ x e. (let same : link ≡ x = cc in subst (IsFit conn.size conn.boundary) same fit);
+        none = λ none. absurd (none link refl);
+      };
+    }
+
+-- a link is up
+--
+-- that has no messages, and whose server is told this
+pub record IsUpNow (l : Ledger) (created : ℕ) (c : MultiplexedConnection) (info : RedisConnectionInfo) (started : List ℕ) (link : LinkState) : Type 0 where
+  pub asked : l.asked ≡ true
+  pub up : l.up ≡ true
+  pub alive : l.end ≡ None
+  pub unshown : created ≡ 0
+  pub info_is : l.info ≡ info
+  pub wanted_is : l.creds.wanted ≡ c.wants
+  pub sent : AreSetups l
+  pub starts : l.starts ≡ []
+  pub none : started ≡ []
+  pub tied : (name : ℕ → Owner) → TiedLink name l link
+  pub queue : link.queue ≡ []
+  pub row : link.row ≡ []
+  pub fit : IsFit c.size c.boundary link
+
+-- what is to be said is the same for the session and the ledger
+says_same : (l : Ledger) (info : RedisConnectionInfo) → l.info ≡ info → says_nothing (setup_steps l 0) ≡ says_nothing (setup info true)
+says_same l info is = ap (λ (x : RedisConnectionInfo). says_nothing (setup x true)) is
+
+-- nothing is to be said: it is ready
+comes_ready : (before : List Action) (c : Core) (started : List ℕ) (word : ℕ) (kind : EventKind) (n : News) (info : RedisConnectionInfo) (link : LinkState) → Between before c started → is_bad c kind ≡ false → IsNewsKind c.timers kind → news_of c.timers c.sources c.single.link kind ≡ n
+    → IsEarly c.single.connection.life wait.Permit
+    → (let l = heard_by (book before) c n in IsUpNow l (book before).created c.single.connection info started link → HasCredentials l.creds → PushesOf (is_heard (book before)) c.single.connection.hears l → ending_up l n ≡ None
+    → says_nothing (setup info true) ≡ true
+    → HasApplied (before ++ turn_of c word kind ∷ []) (with_work (record { core = turned c kind; acts = [] }) (made_ready (record { conn = record c.single.connection { info = info }; acts = [] }) link)) started)
+comes_ready before c started word kind n info link h good k is early u has pushes calm nothing =
+    let conn = record c.single.connection { info = info } in
+    let l = heard_by (book before) c n in
+    let silent : says_nothing (setup_steps l 0) ≡ true = says_same l info u.info_is ∙ nothing in
+    let said : IsSetUp l = record { well = silent_is_set l (has_credentials l.creds has) silent; none = λ t. ap setup_count u.starts } in
+    let made : IsMade l (book before).created conn.requests link = record { asked = u.asked; up = u.up; alive = u.alive; unshown = u.unshown; said = said; tied = u.tied (owner_of conn.requests); queue = u.queue; row = u.row } in
+    ready_applied (before ++ turn_of c word kind ∷ []) (turned c kind) conn link l started (λ z. absurd (omega arith)) h.moved u.fit (ends_where_set l u.up said.well ∙ calm)
+    (makes_ready before c started word kind n info link [] h good k is early (u.info_is, u.sent, record { wanted_is = u.wanted_is; sought = has }, made, pushes))
+
+-- or its setup is to start
+comes_to_say : (before : List Action) (c : Core) (started : List ℕ) (word : ℕ) (kind : EventKind) (n : News) (info : RedisConnectionInfo) (link : LinkState) → Between before c started → is_bad c kind ≡ false → IsNewsKind c.timers kind → news_of c.timers c.sources c.single.link kind ≡ n
+    → IsEarly c.single.connection.life wait.Setup
+    → (let l = heard_by (book before) c n in IsUpNow l (book before).created c.single.connection info started link → HasCredentials l.creds → PushesOf (is_heard (book before)) c.single.connection.hears l → ending_unready l n ≡ None
+    → says_nothing (setup info true) ≡ false
+    → HasApplied (before ++ turn_of c word kind ∷ []) (with_work (record { core = turned c kind; acts = [] }) (sets_up (all_fresh (record { conn = record c.single.connection { info = info }; acts = [] })) link true)) started)
+comes_to_say before c started word kind n info link h good k is early u has pushes calm something =
+    let b = book before in
+    let h0 = h.sound.tied in
+    let conn = c.single.connection in
+    let l = heard_by b c n in
+    let q = setup_queued (setup info true) true in
+    let next = enqueued link q in
+    let life = SettingUp next true in
+    let given : lacks_credentials l ≡ false = has_credentials l.creds has in
+    let says : says_nothing (setup_steps l 0) ≡ false = says_same l info u.info_is ∙ something in
+    let count : setup_count l.starts ≡ 0 = ap setup_count u.starts in
+    let nobody = h.fit.none (λ x r. not_both (is_ready conn.life) early.unready (ap is_ready r)) in
+    let due : IsSetupDue l next true = record {
+      due = subst (λ m. setup_after l m ≡ Some m) (sym count) (left_if (lacks_credentials l || says_nothing (setup_steps l 0)) None (Some 0) (λ i. given i || says i));
+      user = subst (λ m. true ≡ (m == 0)) (sym count) refl;
+      queue = ap (λ (qs : List Queued). qs ++ q ∷ []) u.queue
+          ∙ subst (λ m. q ∷ [] ≡ setup_queued (setup_steps l m) true ∷ []) (sym count) (ap (λ (x : RedisConnectionInfo). setup_queued (setup x true) true ∷ []) (sym u.info_is));
+      row = u.row;
+    } in
+    let said : IsSettingUp l next true = record { says = says; stage = inl due; awaited = subst (AllByRecursion (λ (e : Entry). e.awaited ≡ true)) (sym u.row) tt } in
+    let some = h0.numbers.settings.some in
+    let fits : IsFit conn.size conn.boundary next = record {
+      sound = u.fit.sound;
+      size_is = u.fit.size_is;
+      bound_is = u.fit.bound_is;
+      within = (let one : length (link.queue ++ q ∷ []) ≡ 1 = ap (λ (qs : List Queued). length (qs ++ q ∷ [])) u.queue in omega (arith, some, one));
+    } in
+    fresh_applied before c started word kind n info life (numbers_of conn.waiting) h good k is
+    (record {
+      starts = heard_starts (b.link c.single.link) c.turns n;
+      lived = (u.asked, u.up, u.alive, u.unshown);
+      creds = record { wanted_is = u.wanted_is; sought = has };
+      said = record { info_is = u.info_is; sent = u.sent; said = (u.none, said) };
+      linked = λ z. enqueued_tied _ l link q (u.tied _);
+      lines = subst (λ (x : LinkState). TiedLines b.story conn.requests x conn.waiting conn.admitted [] started) early.bare h0.lines;
+      told = λ z. subst (λ (x : LinkState). AreQueued b.story conn.requests x) early.bare (h0.told early.alive);
+      waits = fresh_waits b (inner c started) conn.life life h0 refl nobody h.fresh refl early.bare early.unready early.alive early.other refl;
+      pushes = pushes;
+    })
+    (ending_setting l next true u.up said ∙ calm)
+    (record {
+      wanting = λ x same. cc;
+      setup = λ x w same. (let one : next ≡ x = cc in subst (IsFit conn.size conn.boundary) one fits);
+      link = λ x same. cc;
+      none = λ z. nobody;
+    })
+
+-- so it comes up
+pub comes_up : (before : List Action) (c : Core) (started : List ℕ) (word : ℕ) (kind : EventKind) (n : News) (info : RedisConnectionInfo) (link : LinkState) → Between before c started → is_bad c kind ≡ false → IsNewsKind c.timers kind → news_of c.timers c.sources c.single.link kind ≡ n
+    → IsEarly c.single.connection.life wait.Permit → IsEarly c.single.connection.life wait.Setup
+    → (let l = heard_by (book before) c n in IsUpNow l (book before).created c.single.connection info started link → HasCredentials l.creds → PushesOf (is_heard (book before)) c.single.connection.hears l → (ending_up l n ≡ None) × (ending_unready l n ≡ None)
+    → HasApplied (before ++ turn_of c word kind ∷ []) (with_work (record { core = turned c kind; acts = [] }) (come_up (record { conn = record c.single.connection { info = info }; acts = [] }) link)) started)
+comes_up before c started word kind n info link h good k is ready setting u has pushes calm =
+    let w : Work = record { conn = record c.single.connection { info = info }; acts = [] } in
+    chosen (λ (x : Work). HasApplied (before ++ turn_of c word kind ∷ []) (with_work (record { core = turned c kind; acts = [] }) x) started) (says_nothing (steps_of w.conn true))
+    (made_ready w link) (sets_up (all_fresh w) link true)
+    (λ t. comes_ready before c started word kind n info link h good k is ready u has pushes calm.0 t)
+    (λ f. comes_to_say before c started word kind n info link h good k is setting u has pushes calm.1 f)

@@ -1,0 +1,116 @@
+-- Bytes come on a link whose setup waits for credentials: they answer nothing, and those that begin no value end it.
+use Rattle.std.proofs.Common.{◌≡◌, ℕ, Bool, true, false, List, [], ◌∷◌, ◌++◌, Some, None, sym, ap, ◌∙◌, subst}
+use Rattle.containers.proofs.Choices.{chosen, taken_if, left_if}
+use Rattle.redis_error.specs.declared.redis_error.RedisError.TheVariants as error
+use Rattle.resp_read.specs.Values.{is_spoiled}
+use Rattle.resp_read.specs.Items.{items}
+use Rattle.driver_model.specs.declared.action.Action.{Action}
+use Rattle.driver_model.specs.declared.action.Owner.{Owner}
+use Rattle.driver_model.specs.declared.action.Owner.TheVariants as owner
+use Rattle.driver_model.specs.declared.event.EventKind.{EventKind}
+use Rattle.driver_model.specs.declared.news.LinkFault.TheVariants as fault
+use Rattle.driver_model.specs.News.{came, news_of}
+use Rattle.link_core.specs.Dealing.{Dealing, dealt_each}
+use Rattle.link_core.specs.Link.{LinkState}
+use Rattle.link_laws.proofs.Pushes.{heard_none}
+use Rattle.link_laws.proofs.TiedLink.{TiedLink, deals, has_read, has_heard, heard_is, read_tied}
+use Rattle.mux_conn.specs.declared.life.Life.{Life}
+use Rattle.mux_conn.specs.declared.life.Life.TheVariants.{Wanting}
+use Rattle.mux_conn.specs.Connection.{Work, with_wanting}
+use Rattle.mux_conn.specs.Effects.{failed_at, read_wanting}
+use Rattle.shared_session.specs.declared.core_state.Core.{Core}
+use Rattle.shared_session.specs.Turn.{with_work, is_bad}
+use Rattle.legal_trace.specs.Ledger.{Ledger, by_opening, ending, is_set_up}
+use Rattle.legal_trace.specs.Book.{Book, book}
+use Rattle.legal_trace.specs.Legal.{is_heard}
+use Rattle.session_laws.proofs.Tied.{AreQueued, TiedCreds, TiedLife, TiedLines, TiedSetup, TiedWaits, has_ended, inner, link_in}
+use Rattle.session_laws.proofs.Creds.{asked_sourced, lacking_undecided}
+use Rattle.session_laws.proofs.States.{Between, HasApplied}
+use Rattle.session_laws.proofs.Said.{PushesOf, ending_wanting}
+use Rattle.session_laws.proofs.Failing.{Fails, setup_failed}
+use Rattle.session_laws.proofs.Announce.{IsNewsKind, turn_of, turned}
+use Rattle.session_laws.proofs.Heard.{heard_by, quiet_applied, wanting_fit, wanting_waits}
+use Rattle.session_laws.proofs.End.{IsWanting, wanting_tied, wanting_unready}
+use Rattle.session_laws.proofs.ReadSetup.{dealt_none, heard_pushes}
+
+-- the event has its effect
+pub wanting_read : (before : List Action) (c : Core) (started : List ℕ) (word : ℕ) (kind : EventKind) (piece : List ℕ) (link : LinkState) → Between before c started → is_bad c kind ≡ false → IsNewsKind c.timers kind → news_of c.timers c.sources c.single.link kind ≡ came piece
+    → c.single.connection.life ≡ Wanting link
+    → HasApplied (before ++ turn_of c word kind ∷ []) (with_work (record { core = turned c kind; acts = [] }) (read_wanting (record { conn = c.single.connection; acts = [] }) (record { link = has_read link piece; out = (deals link piece).out }))) started
+wanting_read before c started word kind piece link h good k is e =
+    chosen applied read.broken (failed_at v fault.Parse v.conn.life) v ends_so goes_on
+  where
+    b : Book
+    b = book before
+
+    l : Ledger
+    l = b.link c.single.link
+
+    after : Ledger
+    after = has_heard l piece
+
+    read : LinkState
+    read = has_read link piece
+
+    v : Work
+    v = with_wanting (record { conn = c.single.connection; acts = [] }) read
+
+    name : ℕ → Owner
+    name = λ p. owner.Setup
+
+    applied : Work → Type 0
+    applied x = HasApplied (before ++ turn_of c word kind ∷ []) (with_work (record { core = turned c kind; acts = [] }) x) started
+
+    s : IsWanting l b.created started link
+    s = wanting_tied b (inner c started) link e h.sound.tied
+
+    same : heard_by b c (came piece) ≡ after
+    same = heard_is l c.turns piece s.up
+
+    tied : TiedLink name after read
+    tied = read_tied name l link piece s.alive s.tied
+
+    spoiled : (x : Bool) → read.broken ≡ x → is_spoiled after.rest ≡ x
+    spoiled x t = ap is_spoiled tied.rest ∙ sym tied.broken ∙ t
+
+    unready : is_set_up after ≡ false
+    unready = (lacking_undecided after s.lacks).unwell
+
+    -- no push is to be told
+    quiet : PushesOf (is_heard b) c.single.connection.hears after
+    quiet = heard_pushes l piece (is_heard b) c.single.connection.hears [] (λ y. sym (heard_none l piece (λ i x less at. (h.sound.tied.setup.sent i x less at).1) unready)) h.sound.tied.pushes
+
+    -- nothing takes items
+    row : read.row ≡ []
+    row = ap (λ (x : Dealing). x.row) (ap (λ r. dealt_each (record { row = r; out = [] }) (items (link.rest ++ piece))) s.row ∙ dealt_none [] (items (link.rest ++ piece)))
+
+    ends_so : read.broken ≡ true → applied (failed_at v fault.Parse v.conn.life)
+    ends_so t =
+        setup_failed before c started word kind (came piece) error.Closed h good k is (wanting_unready b (inner c started) link e h.sound.tied)
+        (subst (λ (y : Ledger). Fails y c.single.connection.info c.single.connection.wants (is_heard b) c.single.connection.hears error.Closed) (sym same) (record {
+          alive = s.alive;
+          unready = unready;
+          must = ending_wanting after s.up s.lacks ∙ taken_if (is_spoiled after.rest) (Some (by_opening error.Closed)) None (spoiled true t);
+          info_is = h.sound.tied.setup.info_is;
+          wanted_is = h.sound.tied.creds.wanted_is;
+          sourced = asked_sourced after s.sought.1;
+          sent = h.sound.tied.setup.sent;
+          pushes = quiet;
+        }))
+
+    goes_on : read.broken ≡ false → applied v
+    goes_on f =
+        let fit = h.fit.wanting link e in
+        quiet_applied before c started word kind (came piece) (Wanting read) h good k is
+        (record {
+          lived = subst (λ (y : Ledger). TiedLife y b.created (Wanting read)) (sym same) (s.asked, s.up, s.alive, s.unshown);
+          creds = subst (λ (y : Ledger). TiedCreds y.creds c.single.connection.wants (Wanting read)) (sym same) (record { wanted_is = h.sound.tied.creds.wanted_is; sought = s.sought });
+          said = subst (λ (y : Ledger). TiedSetup y c.single.connection.info started (Wanting read)) (sym same) (record { info_is = h.sound.tied.setup.info_is; sent = h.sound.tied.setup.sent; said = (s.starts, s.none, s.queue, row) });
+          linked = λ z. subst (λ (y : Ledger). TiedLink name y read) (sym same) tied;
+          lines = subst (λ (x : Life). TiedLines b.story c.single.connection.requests (link_in x) c.single.connection.waiting c.single.connection.admitted [] started) e h.sound.tied.lines;
+          told = λ z. subst (λ (x : Life). AreQueued b.story c.single.connection.requests (link_in x)) e (h.sound.tied.told (ap has_ended e));
+          waits = wanting_waits b.story c.single.connection.requests link read c.single.connection.fresh c.single.connection.moved (subst (λ (x : Life). TiedWaits b.story c.single.connection.requests x c.single.connection.fresh c.single.connection.moved) e h.sound.tied.waits);
+          pushes = subst (λ (y : Ledger). PushesOf (is_heard b) c.single.connection.hears y) (sym same) quiet;
+        })
+        (ap ending same ∙ ending_wanting after s.up s.lacks ∙ left_if (is_spoiled after.rest) (Some (by_opening error.Closed)) None (spoiled false f))
+        (wanting_fit c.single.connection link read e h.fit (record { sound = f; size_is = fit.size_is; bound_is = fit.bound_is; within = fit.within }))
