@@ -37,6 +37,7 @@ stand_rises (action.Connect l host port ∷ xs) b stand =
     (omega (arith, next), rises_from (b.links + 1) (suc l) (connects_in xs) (omega (arith, next)) (stand_rises xs (entered b (action.Connect l host port)) stand.1))
 stand_rises (action.Timer t ms what ∷ xs) b stand = stand_rises xs (entered b (action.Timer t ms what)) stand.1
 stand_rises (action.Took who l count ∷ xs) b stand = stand_rises xs (entered b (action.Took who l count)) stand.1
+stand_rises (action.NeedCreds c l ∷ xs) b stand = stand_rises xs (entered b (action.NeedCreds c l)) stand.1
 stand_rises (action.Push l info ∷ xs) b stand = stand_rises xs (entered b (action.Push l info)) stand.1
 stand_rises (action.Close l ∷ xs) b stand = stand_rises xs (entered b (action.Close l)) stand.1
 stand_rises (action.Write l bytes ∷ xs) b stand = stand_rises xs (entered b (action.Write l bytes)) stand.1

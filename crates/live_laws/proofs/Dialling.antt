@@ -67,6 +67,7 @@ noted_picks a (action.Close l) done asks h =
 noted_picks a (action.Write l bytes) done asks h = picks_nothing done a.dials asks h
 noted_picks a (action.Took who l count) done asks h = picks_nothing done a.dials asks h
 noted_picks a (action.Push l info) done asks h = picks_nothing done a.dials asks h
+noted_picks a (action.NeedCreds c l) done asks h = picks_nothing done a.dials asks h
 noted_picks a (action.Start l message who count len) done asks h = picks_nothing done a.dials asks h
 noted_picks a (action.Wait who kind) done asks h = picks_nothing done a.dials asks h
 noted_picks a (action.Created e) done asks h = picks_nothing done a.dials asks h

@@ -5,11 +5,12 @@ use Rattle.containers.proofs.Choices.{chosen, if_true, not_both}
 use Rattle.redis_error.specs.declared.redis_error.RedisError.TheVariants as error
 use Rattle.driver_model.specs.declared.action.Purpose.{Purpose}
 use Rattle.driver_model.specs.declared.action.Purpose.TheVariants as purpose
+use Rattle.driver_model.specs.declared.action.SourceUse.{SourceUse}
 use Rattle.driver_model.specs.declared.event.EventKind.{EventKind}
 use Rattle.driver_model.specs.declared.event.EventKind.TheVariants as event
 use Rattle.driver_model.specs.declared.news.LinkFault.TheVariants as fault
-use Rattle.driver_model.specs.News.{News, silence, connected, refused, overdue, took, came, failed, shut, for_link, of_timer, news_of}
-use Rattle.legal_trace.specs.Ledger.{Ledger, Line, hears, offers, noted, noted_each, is_over, dials, refused_in, bytes_came}
+use Rattle.driver_model.specs.News.{News, silence, connected, refused, overdue, took, came, failed, authorized, denied, deserted, shut, for_link, of_timer, is_source_of, news_of}
+use Rattle.legal_trace.specs.Ledger.{Ledger, Line, hears, offers, noted, noted_each, is_over, dials, refused_in, bytes_came, awaits_credentials, authorized_by}
 use Rattle.legal_trace.specs.Book.{if_mine}
 use Rattle.live_laws.specs.Taken.{IsNoWrote}
 
@@ -33,6 +34,10 @@ hears_stays g turn overdue quiet = (λ u. u, refl, refl)
 hears_stays g turn (took count) quiet = absurd quiet
 hears_stays g turn (came piece) quiet = chosen (λ (m : Ledger). Stays g (record m { heard = came piece })) g.up (bytes_came g piece) g (λ t. (λ u. u, refl, refl)) (λ f. (λ u. u, refl, refl))
 hears_stays g turn (failed f) quiet = (λ u. u, refl, refl)
+hears_stays g turn (authorized c) quiet =
+    chosen (λ (m : Ledger). Stays g (record m { heard = authorized c })) (awaits_credentials g) (authorized_by g c) g (λ t. (λ u. u, refl, refl)) (λ f. (λ u. u, refl, refl))
+hears_stays g turn (denied text) quiet = (λ u. u, refl, refl)
+hears_stays g turn deserted quiet = (λ u. u, refl, refl)
 hears_stays g turn shut quiet = (λ u. u, refl, refl)
 
 not_took : (mine : Bool) (news : News) → IsNoTook news → IsNoTook (for_link mine news)
@@ -43,19 +48,22 @@ timer_not_took n None = tt
 timer_not_took n (Some (purpose.Connect l)) = not_took (l == n) overdue tt
 timer_not_took n (Some (purpose.Response who)) = tt
 
-pub event_not_took : (timers : List Purpose) (n : ℕ) (kind : EventKind) → IsNoWrote kind → IsNoTook (news_of timers n kind)
-event_not_took timers n (event.Connected l) quiet = not_took (l == n) connected tt
-event_not_took timers n (event.Refused l f) quiet = not_took (l == n) (refused f) tt
-event_not_took timers n (event.Wrote l count) quiet = absurd quiet
-event_not_took timers n (event.Bytes l piece) quiet = not_took (l == n) (came piece) tt
-event_not_took timers n (event.Ended l) quiet = not_took (l == n) (failed fault.Ended) tt
-event_not_took timers n (event.ReadFault l kind) quiet = not_took (l == n) (failed (fault.Io kind)) tt
-event_not_took timers n (event.WriteFault l kind) quiet = not_took (l == n) (failed (fault.Io kind)) tt
-event_not_took timers n (event.Fired t) quiet = timer_not_took n (slice_get timers t)
-event_not_took timers n (event.Timeout ms) quiet = tt
-event_not_took timers n event.Shutdown quiet = tt
-event_not_took timers n (event.Submit s) quiet = tt
-event_not_took timers n (event.Cancel s) quiet = tt
+pub event_not_took : (timers : List Purpose) (sources : List SourceUse) (n : ℕ) (kind : EventKind) → IsNoWrote kind → IsNoTook (news_of timers sources n kind)
+event_not_took timers sources n (event.Connected l) quiet = not_took (l == n) connected tt
+event_not_took timers sources n (event.Refused l f) quiet = not_took (l == n) (refused f) tt
+event_not_took timers sources n (event.Wrote l count) quiet = absurd quiet
+event_not_took timers sources n (event.Bytes l piece) quiet = not_took (l == n) (came piece) tt
+event_not_took timers sources n (event.Ended l) quiet = not_took (l == n) (failed fault.Ended) tt
+event_not_took timers sources n (event.ReadFault l kind) quiet = not_took (l == n) (failed (fault.Io kind)) tt
+event_not_took timers sources n (event.WriteFault l kind) quiet = not_took (l == n) (failed (fault.Io kind)) tt
+event_not_took timers sources n (event.Fired t) quiet = timer_not_took n (slice_get timers t)
+event_not_took timers sources n (event.Timeout ms) quiet = tt
+event_not_took timers sources n (event.Creds c auth) quiet = not_took (is_source_of n (slice_get sources c)) (authorized auth) tt
+event_not_took timers sources n (event.CredsError c text) quiet = not_took (is_source_of n (slice_get sources c)) (denied text) tt
+event_not_took timers sources n (event.CredsEnd c) quiet = not_took (is_source_of n (slice_get sources c)) deserted tt
+event_not_took timers sources n event.Shutdown quiet = tt
+event_not_took timers sources n (event.Submit s) quiet = tt
+event_not_took timers sources n (event.Cancel s) quiet = tt
 
 -- an offer of another link is taken
 pub other_stays : (mine : Bool) (g : Ledger) (turn count : ℕ) → mine ≡ false → Stays g (noted g (hears turn (for_link mine (took count))))

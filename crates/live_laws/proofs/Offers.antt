@@ -79,6 +79,8 @@ noted_ties a b (action.Push l info) quiet may h =
     (λ n. mine_keeps (Stays (b.link n)) (l == n) (b.link n) (push_line info.kind)
     (λ t. push_noted (Stays (b.link n)) (b.link n) info.kind (λ u. u, refl, refl) (λ u. u, refl, refl)) (stays_same (b.link n))) h
 noted_ties a b (action.Took who l count) quiet may h = all_stay b (entered b (action.Took who l count)) a.links (λ n. stays_same (b.link n)) h
+noted_ties a b (action.NeedCreds c l) quiet may h =
+    all_stay b (entered b (action.NeedCreds c l)) a.links (λ n. mine_keeps (Stays (b.link n)) (l == n) (b.link n) _ (λ t. (λ u. u, refl, refl)) (stays_same (b.link n))) h
 noted_ties a b (action.Wait who kind) quiet may h = all_stay b (entered b (action.Wait who kind)) a.links (λ n. stays_same (b.link n)) h
 noted_ties a b (action.Created e) quiet may h = all_stay b (entered b (action.Created e)) a.links (λ n. stays_same (b.link n)) h
 noted_ties a b (action.Outcome n o) quiet may h = all_stay b (entered b (action.Outcome n o)) a.links (λ n. stays_same (b.link n)) h

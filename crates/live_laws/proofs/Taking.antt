@@ -11,7 +11,7 @@ use Rattle.driver_model.specs.declared.event.EventKind.{EventKind}
 use Rattle.mux_conn.specs.declared.act.LinkAct.{LinkAct}
 use Rattle.mux_conn.specs.declared.act.LinkAct.TheVariants as act
 use Rattle.shared_session.specs.declared.core_state.Core.{Core}
-use Rattle.shared_session.specs.Turn.{actions_of, next_turn, shown, shown_each, timer_of}
+use Rattle.shared_session.specs.Turn.{actions_of, next_turn, shown, shown_each, timer_of, source_of}
 use Rattle.shared_session.specs.Replay.{connect_asked, opening_actions, opening_core, trace_of, turns_on}
 use Rattle.legal_trace.specs.Ledger.{Ledger}
 use Rattle.legal_trace.specs.Book.{Book, push_line, blank_book, book, entered, entered_each}
@@ -28,7 +28,7 @@ abbrev pub taken_of : Book → ℕ → List ℕ
 taken_of b n = (b.link n).taken
 
 pub turn_stays : (b : Book) (number word n : ℕ) (kind : EventKind) → IsNoWrote kind → Stays (b.link n) ((entered b (turn_of number word kind)).link n)
-turn_stays b number word n kind quiet = hears_stays (b.link n) number (news_of b.timers n kind) (event_not_took b.timers n kind quiet)
+turn_stays b number word n kind quiet = hears_stays (b.link n) number (news_of b.timers b.sources n kind) (event_not_took b.timers b.sources n kind quiet)
 
 pub action_taken : (b : Book) (x : Action) (n : ℕ) → IsNoTurn x → taken_of (entered b x) n ≡ taken_of b n
 action_taken b (action.Turn number c) n quiet = absurd quiet
@@ -40,19 +40,22 @@ action_taken b (action.Push l info) n quiet =
 action_taken b (action.Close l) n quiet = mine_keeps (λ (g : Ledger). g.taken ≡ (b.link n).taken) (l == n) (b.link n) _ (λ t. refl) refl
 action_taken b (action.Write l bytes) n quiet = mine_keeps (λ (g : Ledger). g.taken ≡ (b.link n).taken) (l == n) (b.link n) _ (λ t. refl) refl
 action_taken b (action.Start l message who count len) n quiet = mine_keeps (λ (g : Ledger). g.taken ≡ (b.link n).taken) (l == n) (b.link n) _ (λ t. refl) refl
+action_taken b (action.NeedCreds c l) n quiet = mine_keeps (λ (g : Ledger). g.taken ≡ (b.link n).taken) (l == n) (b.link n) _ (λ t. refl) refl
 action_taken b (action.Wait who kind) n quiet = refl
 action_taken b (action.Created e) n quiet = refl
 action_taken b (action.Outcome m o) n quiet = refl
 
-acts_taken : (l t : ℕ) (acts : List LinkAct) (b : Book) (n : ℕ) → taken_of (entered_each b (shown_each l t acts)) n ≡ taken_of b n
-acts_taken l t [] b n = refl
-acts_taken l t (x ∷ acts) b n = acts_taken l (t + length (timer_of x)) acts (entered b (shown l t x)) n ∙ action_taken b (shown l t x) n (no_turn l t x)
+acts_taken : (l t c : ℕ) (acts : List LinkAct) (b : Book) (n : ℕ) → taken_of (entered_each b (shown_each l t c acts)) n ≡ taken_of b n
+acts_taken l t c [] b n = refl
+acts_taken l t c (x ∷ acts) b n =
+    let y = shown l t c x in
+    acts_taken l (t + length (timer_of x)) (c + length (source_of l x)) acts (entered b y) n ∙ action_taken b y n (no_turn l t c x)
 
 -- a turn of another event
 pub turn_taken : (c : Core) (e : Event) (b : Book) (n : ℕ) → IsNoWrote e.kind → taken_of (entered_each b (actions_of c e)) n ≡ taken_of b n
 turn_taken c e b n quiet =
-    acts_taken c.single.link (length c.timers) (next_turn c e.kind).acts (entered b (action.Turn c.turns (cause.Event e))) n
-    ∙ (hears_stays (b.link n) c.turns (news_of b.timers n e.kind) (event_not_took b.timers n e.kind quiet)).2
+    acts_taken c.single.link (length c.timers) (length c.sources) (next_turn c e.kind).acts (entered b (action.Turn c.turns (cause.Event e))) n
+    ∙ (hears_stays (b.link n) c.turns (news_of b.timers b.sources n e.kind) (event_not_took b.timers b.sources n e.kind quiet)).2
 
 turns_taken : (c : Core) (es : List Event) (b : Book) (n : ℕ) → AreUnwritten es → taken_of (entered_each b (turns_on c es)) n ≡ taken_of b n
 turns_taken c [] b n quiet = refl

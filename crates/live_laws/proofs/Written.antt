@@ -13,7 +13,7 @@ use Rattle.outside.specs.declared.world.LinkGot.TheVariants as got
 use Rattle.outside.specs.declared.world.LinkPut.TheVariants as put
 use Rattle.mux_conn.specs.declared.act.LinkAct.{LinkAct}
 use Rattle.shared_session.specs.declared.core_state.Core.{Core}
-use Rattle.shared_session.specs.Turn.{next_turn, shown, shown_each, timer_of}
+use Rattle.shared_session.specs.Turn.{next_turn, shown, shown_each, timer_of, source_of}
 use Rattle.shared_session.specs.Replay.{turns_on}
 use Rattle.legal_trace.specs.Book.{Book, entered, entered_each}
 use Rattle.legal_trace.specs.Legal.{AllStand}
@@ -38,6 +38,7 @@ early_noted a (action.Close l) =
 early_noted a (action.Write l bytes) = refl
 early_noted a (action.Took who l count) = refl
 early_noted a (action.Push l info) = refl
+early_noted a (action.NeedCreds c l) = refl
 early_noted a (action.Start l message who count len) = refl
 early_noted a (action.Wait who kind) = refl
 early_noted a (action.Created e) = refl
@@ -59,6 +60,7 @@ links_none a (action.Close l) none =
 links_none a (action.Write l bytes) none = ap (offered l bytes) none
 links_none a (action.Took who l count) none = none
 links_none a (action.Push l info) none = none
+links_none a (action.NeedCreds c l) none = none
 links_none a (action.Start l message who count len) none = none
 links_none a (action.Wait who kind) none = none
 links_none a (action.Created e) none = none
@@ -74,12 +76,12 @@ pub record Took (b : Book) (a : Agenda) (n : ℕ) (bytes : List ℕ) : Type 0 wh
   pub ties : Ties b a.links
   pub took : taken_of b n ≡ bytes
 
-acts_took : (l t : ℕ) (acts : List LinkAct) (b : Book) (a : Agenda) (n : ℕ) (bytes : List ℕ) → AllStand b (shown_each l t acts) → Took b a n bytes → Took (entered_each b (shown_each l t acts)) (noted_each a (shown_each l t acts)) n bytes
-acts_took l t [] b a n bytes stand h = h
-acts_took l t (x ∷ acts) b a n bytes stand h =
-    let y = shown l t x in
-    let quiet = no_turn l t x in
-    acts_took l (t + length (timer_of x)) acts (entered b y) (noted a y) n bytes stand.1
+acts_took : (l t c : ℕ) (acts : List LinkAct) (b : Book) (a : Agenda) (n : ℕ) (bytes : List ℕ) → AllStand b (shown_each l t c acts) → Took b a n bytes → Took (entered_each b (shown_each l t c acts)) (noted_each a (shown_each l t c acts)) n bytes
+acts_took l t c [] b a n bytes stand h = h
+acts_took l t c (x ∷ acts) b a n bytes stand h =
+    let y = shown l t c x in
+    let quiet = no_turn l t c x in
+    acts_took l (t + length (timer_of x)) (c + length (source_of l x)) acts (entered b y) (noted a y) n bytes stand.1
     (record { early = early_noted a y ∙ h.early; ties = noted_ties a b y quiet stand.0 h.ties; took = action_taken b y n quiet ∙ h.took })
 
 -- once the turn of an answer began, if it has one
@@ -95,9 +97,9 @@ Told b a actions n bytes = AllStand b actions → Took (entered_each b actions) 
 heard_told : (b : Book) (a : Agenda) (core : Core) (word : ℕ) (kinds : List EventKind) (n : ℕ) (bytes : List ℕ) → Hears b a core.turns word kinds n bytes → Told b a (turns_on core (made word kinds)) n bytes
 heard_told b a core word [] n bytes h = λ stand. h
 heard_told b a core word (kind ∷ []) n bytes h =
-    let acts = shown_each core.single.link (length core.timers) (next_turn core kind).acts in
+    let acts = shown_each core.single.link (length core.timers) (length core.sources) (next_turn core kind).acts in
     λ stand. subst (λ (xs : List Action). Told (entered b (turn_of core.turns word kind)) a xs n bytes) (sym (append-nil acts))
-    (λ stands. acts_took core.single.link (length core.timers) (next_turn core kind).acts (entered b (turn_of core.turns word kind)) a n bytes stands h) stand.1
+    (λ stands. acts_took core.single.link (length core.timers) (length core.sources) (next_turn core kind).acts (entered b (turn_of core.turns word kind)) a n bytes stands h) stand.1
 heard_told b a core word (kind ∷ next ∷ more) n bytes h = absurd h
 
 module _ (a : Agenda) (b : Book) (number word n : ℕ) (bytes : List ℕ) (h : Took b a n bytes) where

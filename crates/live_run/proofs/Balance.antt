@@ -55,6 +55,7 @@ held_noted n a (action.Write l bytes) = refl
 held_noted n a (action.Turn number c) = refl
 held_noted n a (action.Took who l count) = refl
 held_noted n a (action.Push l info) = refl
+held_noted n a (action.NeedCreds c l) = refl
 held_noted n a (action.Start l message who count len) = refl
 held_noted n a (action.Wait who kind) = refl
 held_noted n a (action.Created e) = refl

@@ -12,7 +12,7 @@ use Rattle.outside.specs.declared.world.LinkPut.TheVariants as put
 use Rattle.mux_conn.specs.declared.act.LinkAct.{LinkAct}
 use Rattle.mux_conn.specs.declared.act.LinkAct.TheVariants as act
 use Rattle.shared_session.specs.declared.core_state.Core.{Core}
-use Rattle.shared_session.specs.Turn.{next_turn, shown, shown_each, timer_of}
+use Rattle.shared_session.specs.Turn.{next_turn, shown, shown_each, timer_of, source_of}
 use Rattle.shared_session.specs.Replay.{turns_on}
 use Rattle.legal_trace.specs.Book.{Book, entered, entered_each}
 use Rattle.legal_trace.specs.Legal.{AllStand}
@@ -27,22 +27,24 @@ use Rattle.live_run.proofs.Hearing.{IsNoTurn, IsNoWrote, turn_grows, turn_of}
 use Rattle.live_run.proofs.Standing.{IsKnown, IsKnownLink, Knows, known_grown, noted_known, wrote_known}
 
 -- no act of a connection begins a turn
-pub no_turn : (l t : ℕ) (x : LinkAct) → IsNoTurn (shown l t x)
-no_turn l t (act.Created e) = tt
-no_turn l t (act.Took n count) = tt
-no_turn l t (act.Timer n ms) = tt
-no_turn l t (act.SetUp message need len) = tt
-no_turn l t (act.Push info) = tt
-no_turn l t act.Close = tt
-no_turn l t (act.Write bytes) = tt
-no_turn l t (act.Wait n kind) = tt
-no_turn l t (act.Start message n need len) = tt
-no_turn l t (act.Outcome n o) = tt
+pub no_turn : (l t c : ℕ) (x : LinkAct) → IsNoTurn (shown l t c x)
+no_turn l t c (act.Created e) = tt
+no_turn l t c (act.Took n count) = tt
+no_turn l t c (act.Timer n ms) = tt
+no_turn l t c (act.SetUp message need len) = tt
+no_turn l t c (act.Push info) = tt
+no_turn l t c act.Close = tt
+no_turn l t c (act.Write bytes) = tt
+no_turn l t c (act.Wait n kind) = tt
+no_turn l t c act.NeedCreds = tt
+no_turn l t c (act.Start message n need len) = tt
+no_turn l t c (act.Outcome n o) = tt
 
-acts_known : (l t : ℕ) (acts : List LinkAct) (b : Book) (a : Agenda) → AllStand b (shown_each l t acts) → Knows b a → Knows (entered_each b (shown_each l t acts)) (noted_each a (shown_each l t acts))
-acts_known l t [] b a stand h = h
-acts_known l t (x ∷ acts) b a stand h =
-    acts_known l (t + length (timer_of x)) acts (entered b (shown l t x)) (noted a (shown l t x)) stand.1 (noted_known a b (shown l t x) (no_turn l t x) stand.0 h)
+acts_known : (l t c : ℕ) (acts : List LinkAct) (b : Book) (a : Agenda) → AllStand b (shown_each l t c acts) → Knows b a → Knows (entered_each b (shown_each l t c acts)) (noted_each a (shown_each l t c acts))
+acts_known l t c [] b a stand h = h
+acts_known l t c (x ∷ acts) b a stand h =
+    let y = shown l t c x in
+    acts_known l (t + length (timer_of x)) (c + length (source_of l x)) acts (entered b y) (noted a y) stand.1 (noted_known a b y (no_turn l t c x) stand.0 h)
 
 -- what is known once the turn of an answer began, if it has one
 abbrev Hears : Book → Agenda → ℕ → ℕ → List EventKind → Type 0
@@ -57,9 +59,9 @@ Told b a actions = AllStand b actions → Knows (entered_each b actions) (noted_
 heard_told : (b : Book) (a : Agenda) (core : Core) (word : ℕ) (kinds : List EventKind) → Hears b a core.turns word kinds → Told b a (turns_on core (made word kinds))
 heard_told b a core word [] h = λ stand. h
 heard_told b a core word (kind ∷ []) h =
-    let acts = shown_each core.single.link (length core.timers) (next_turn core kind).acts in
+    let acts = shown_each core.single.link (length core.timers) (length core.sources) (next_turn core kind).acts in
     λ stand. subst (Told (entered b (turn_of core.turns word kind)) a) (sym (append-nil acts))
-    (λ stands. acts_known core.single.link (length core.timers) (next_turn core kind).acts (entered b (turn_of core.turns word kind)) a stands h) stand.1
+    (λ stands. acts_known core.single.link (length core.timers) (length core.sources) (next_turn core kind).acts (entered b (turn_of core.turns word kind)) a stands h) stand.1
 heard_told b a core word (kind ∷ next ∷ more) h = absurd h
 
 module _ (a : Agenda) (b : Book) (number word : ℕ) (h : Knows b a) where

@@ -7,13 +7,14 @@ use Rattle.driver_model.specs.declared.action.Action.TheVariants as action
 use Rattle.driver_model.specs.declared.action.Cause.TheVariants as cause
 use Rattle.driver_model.specs.declared.action.Purpose.{Purpose}
 use Rattle.driver_model.specs.declared.action.Purpose.TheVariants as purpose
+use Rattle.driver_model.specs.declared.action.SourceUse.{SourceUse}
 use Rattle.driver_model.specs.declared.event.EventKind.{EventKind}
 use Rattle.driver_model.specs.declared.event.EventKind.TheVariants as event
 use Rattle.driver_model.specs.declared.news.LinkFault.TheVariants as fault
 use Rattle.resp_value.specs.declared.push_kind.PushKind.{PushKind}
 use Rattle.driver_model.specs.Push.{is_disconnection}
-use Rattle.driver_model.specs.News.{News, silence, connected, refused, overdue, took, came, failed, shut, for_link, of_timer, news_of}
-use Rattle.legal_trace.specs.Ledger.{Ledger, Line, hears, offers, tells, parts, noted, is_over, dials, refused_in, bytes_came}
+use Rattle.driver_model.specs.News.{News, silence, connected, refused, overdue, took, came, failed, authorized, denied, deserted, shut, for_link, of_timer, is_source_of, news_of}
+use Rattle.legal_trace.specs.Ledger.{Ledger, Line, hears, offers, tells, parts, noted, is_over, dials, refused_in, bytes_came, awaits_credentials, authorized_by}
 use Rattle.legal_trace.specs.Book.{Book, push_line, entered}
 use Rattle.legal_trace.specs.Legal.{MayStand}
 use Rattle.legal_trace.proofs.Ledgers.{mine_keeps}
@@ -35,6 +36,10 @@ hears_keeps l turn overdue quiet = λ going. (going, omega arith)
 hears_keeps l turn (took count) quiet = absurd quiet
 hears_keeps l turn (came piece) quiet = chosen (λ (m : Ledger). Keeps l (record m { heard = came piece })) l.up (bytes_came l piece) l (λ t going. (going, omega arith)) (λ f going. (going, omega arith))
 hears_keeps l turn (failed f) quiet = λ going. (going, omega arith)
+hears_keeps l turn (authorized c) quiet =
+    chosen (λ (m : Ledger). Keeps l (record m { heard = authorized c })) (awaits_credentials l) (authorized_by l c) l (λ t going. (going, omega arith)) (λ f going. (going, omega arith))
+hears_keeps l turn (denied text) quiet = λ going. (going, omega arith)
+hears_keeps l turn deserted quiet = λ going. (going, omega arith)
 hears_keeps l turn shut quiet = λ going. (going, omega arith)
 
 -- an offer of another link is taken
@@ -54,19 +59,22 @@ timer_not_took n None = tt
 timer_not_took n (Some (purpose.Connect l)) = not_took (l == n) overdue tt
 timer_not_took n (Some (purpose.Response who)) = tt
 
-event_not_took : (timers : List Purpose) (n : ℕ) (kind : EventKind) → IsNoWrote kind → IsNoTook (news_of timers n kind)
-event_not_took timers n (event.Connected l) quiet = not_took (l == n) connected tt
-event_not_took timers n (event.Refused l f) quiet = not_took (l == n) (refused f) tt
-event_not_took timers n (event.Wrote l count) quiet = absurd quiet
-event_not_took timers n (event.Bytes l piece) quiet = not_took (l == n) (came piece) tt
-event_not_took timers n (event.Ended l) quiet = not_took (l == n) (failed fault.Ended) tt
-event_not_took timers n (event.ReadFault l kind) quiet = not_took (l == n) (failed (fault.Io kind)) tt
-event_not_took timers n (event.WriteFault l kind) quiet = not_took (l == n) (failed (fault.Io kind)) tt
-event_not_took timers n (event.Fired t) quiet = timer_not_took n (slice_get timers t)
-event_not_took timers n (event.Timeout ms) quiet = tt
-event_not_took timers n event.Shutdown quiet = tt
-event_not_took timers n (event.Submit s) quiet = tt
-event_not_took timers n (event.Cancel s) quiet = tt
+event_not_took : (timers : List Purpose) (sources : List SourceUse) (n : ℕ) (kind : EventKind) → IsNoWrote kind → IsNoTook (news_of timers sources n kind)
+event_not_took timers sources n (event.Connected l) quiet = not_took (l == n) connected tt
+event_not_took timers sources n (event.Refused l f) quiet = not_took (l == n) (refused f) tt
+event_not_took timers sources n (event.Wrote l count) quiet = absurd quiet
+event_not_took timers sources n (event.Bytes l piece) quiet = not_took (l == n) (came piece) tt
+event_not_took timers sources n (event.Ended l) quiet = not_took (l == n) (failed fault.Ended) tt
+event_not_took timers sources n (event.ReadFault l kind) quiet = not_took (l == n) (failed (fault.Io kind)) tt
+event_not_took timers sources n (event.WriteFault l kind) quiet = not_took (l == n) (failed (fault.Io kind)) tt
+event_not_took timers sources n (event.Fired t) quiet = timer_not_took n (slice_get timers t)
+event_not_took timers sources n (event.Timeout ms) quiet = tt
+event_not_took timers sources n (event.Creds c auth) quiet = not_took (is_source_of n (slice_get sources c)) (authorized auth) tt
+event_not_took timers sources n (event.CredsError c text) quiet = not_took (is_source_of n (slice_get sources c)) (denied text) tt
+event_not_took timers sources n (event.CredsEnd c) quiet = not_took (is_source_of n (slice_get sources c)) deserted tt
+event_not_took timers sources n event.Shutdown quiet = tt
+event_not_took timers sources n (event.Submit s) quiet = tt
+event_not_took timers sources n (event.Cancel s) quiet = tt
 
 -- more links and timers were asked for, or as many, and each link is kept
 pub record Grows (b c : Book) : Type 0 where
@@ -82,7 +90,7 @@ pub turn_grows : (b : Book) (number word : ℕ) (kind : EventKind) → IsNoWrote
 turn_grows b number word kind quiet = record {
   links = omega arith;
   timers = omega arith;
-  keeps = λ n. hears_keeps (b.link n) number (news_of b.timers n kind) (event_not_took b.timers n kind quiet);
+  keeps = λ n. hears_keeps (b.link n) number (news_of b.timers b.sources n kind) (event_not_took b.timers b.sources n kind quiet);
 }
 
 abbrev pub IsNoTurn : Action → Type 0
@@ -120,6 +128,8 @@ action_grows b (action.Took who l count) quiet may = stays b (entered b (action.
 action_grows b (action.Push l info) quiet may =
     stays b (entered b (action.Push l info)) (omega arith) (omega arith) (λ n. mine_keeps (Keeps (b.link n)) (l == n) (b.link n) (push_line info.kind)
     (λ t. push_noted (Keeps (b.link n)) (b.link n) info.kind (same_keeps (b.link n)) (same_keeps (b.link n))) (same_keeps (b.link n)))
+action_grows b (action.NeedCreds c l) quiet may =
+    stays b (entered b (action.NeedCreds c l)) (omega arith) (omega arith) (λ n. mine_keeps (Keeps (b.link n)) (l == n) (b.link n) _ (λ t going. (going, omega arith)) (same_keeps (b.link n)))
 action_grows b (action.Wait who kind) quiet may = stays b (entered b (action.Wait who kind)) (omega arith) (omega arith) (λ n. same_keeps (b.link n))
 action_grows b (action.Created e) quiet may = stays b (entered b (action.Created e)) (omega arith) (omega arith) (λ n. same_keeps (b.link n))
 action_grows b (action.Outcome n o) quiet may = stays b (entered b (action.Outcome n o)) (omega arith) (omega arith) (λ m. same_keeps (b.link m))

@@ -39,6 +39,9 @@ untimed (event.Ended link) = event.Ended link ∷ []
 untimed (event.ReadFault link fault) = event.ReadFault link fault ∷ []
 untimed (event.WriteFault link fault) = event.WriteFault link fault ∷ []
 untimed (event.Timeout ms) = event.Timeout ms ∷ []
+untimed (event.Creds source auth) = event.Creds source auth ∷ []
+untimed (event.CredsError source text) = event.CredsError source text ∷ []
+untimed (event.CredsEnd source) = event.CredsEnd source ∷ []
 untimed event.Shutdown = event.Shutdown ∷ []
 
 -- the kinds of events, those of timers left out, in order

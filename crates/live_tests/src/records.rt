@@ -23,6 +23,16 @@ shutdown
 end
 ";
 
+/// The history of a session whose credentials come of a source.
+const CREDENTIALS: &[u8] = b"config single url=redis://h:6379 connect=none creds=on lib=off
+connected 0
+submit cmd GET a
+creds 0 u p%20%FF
+creds-err 0 none%20now
+creds-end 0
+end
+";
+
 /// The history of a session to which nothing has happened.
 const OPENING: &[u8] = b"config single url=redis://h connect=none\nend\n";
 
@@ -85,11 +95,17 @@ fn has_record(alloc: Global, session: &Session, wanted: &[u8]) -> bool {
     }
 }
 
+/// Whether the record of the session that a script leads to is the script.
+fn is_own_record(alloc: Global, text: &[u8]) -> Result<bool, AllocError> {
+    let session = replayed(alloc, text)?;
+    Ok(has_record(alloc, &session, text))
+}
+
 #[test]
 fn a_record_is_the_script_of_its_history(rt: HostRuntime) -> Result<(), AllocError> {
-    let session = replayed(rt.alloc(), HISTORY)?;
-    let same = has_record(rt.alloc(), &session, HISTORY);
-    assert!(rt; same);
+    for text in [HISTORY, CREDENTIALS] {
+        assert!(rt; is_own_record(rt.alloc(), text)?);
+    }
     Ok(())
 }
 

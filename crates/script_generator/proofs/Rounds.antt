@@ -34,11 +34,11 @@ room_in t k table rs row outbox few short =
 -- what an event does to a session whose link is up, from its turn
 steps_up : (e : Event) (table : List (Option Pending)) (rs : List Request) (link : LinkState) (core' : ℕ → Core) (acts : List LinkAct)
     → ((t : ℕ) → next_turn (up told t table rs link) e.kind ≡ turning_with (core' (t + 1)) acts) → ((t : ℕ) → is_bad (up told t table rs link) e.kind ≡ false) → ((t : ℕ) → has_run_out (core' t) ≡ false)
-    → Steps (λ t. up told t table rs link) core' e (shown_each 0 0 acts)
+    → Steps (λ t. up told t table rs link) core' e (shown_each 0 0 0 acts)
 steps_up e table rs link core' acts next good room = record {
   turns = λ t. refl;
   next = λ t. ap (λ (u : Turning). u.core) (next t);
-  acts = λ t. ap (λ (u : Turning). action.Turn t (cause.Event e) ∷ shown_each 0 0 u.acts) (next t);
+  acts = λ t. ap (λ (u : Turning). action.Turn t (cause.Event e) ∷ shown_each 0 0 0 u.acts) (next t);
   good = good;
   room = room;
 }

@@ -22,7 +22,7 @@ use Rattle.mux_conn.specs.Connection.{Work, work_with}
 use Rattle.mux_conn.specs.Requests.{if_there, is_waiting, is_admitted, is_placed}
 use Rattle.mux_conn.specs.Passes.{passed, admitted, admitted_at, still_waiting, seated, started}
 use Rattle.mux_conn.specs.Turn.{flushed, wait_shown, waits_shown, fresh_shown}
-use Rattle.shared_session.specs.Turn.{turning_with, counted, effect, asked_for, refused_with, moved_on, timed, with_work, next_turn, pending}
+use Rattle.shared_session.specs.Turn.{turning_with, counted, effect, asked_for, refused_with, moved_on, numbered, with_work, next_turn, pending}
 use Rattle.script_generator.proofs.Lasts.{get_last, come_to, name_last, progress_last, permits_last}
 use Rattle.script_generator.proofs.Sessions.{link_with, no_bytes, connection_with, still, up}
 
@@ -92,6 +92,6 @@ submit_turn info turns k table rs args some =
     let t = counted (up info turns table rs (link_with [] k no_bytes)) in
     let has : effect t (event.Submit what) ≡ asked_for t what =
     ap (λ b. if b then refused_with t error.EmptyCommand else asked_for t what) some in
-    ap (λ u. timed (moved_on u)) has
-    ∙ ap (λ w. timed (with_work (asked_for t what) (flushed w))) (moved info (length table) k rs (pack args))
-    ∙ ap (λ w. timed (with_work (asked_for t what) w)) (shown info (length table) (k + 1) rs (pack args) (act.Start k (length table) 1 (length (pack args))) some)
+    ap (λ u. numbered (moved_on u)) has
+    ∙ ap (λ w. numbered (with_work (asked_for t what) (flushed w))) (moved info (length table) k rs (pack args))
+    ∙ ap (λ w. numbered (with_work (asked_for t what) w)) (shown info (length table) (k + 1) rs (pack args) (act.Start k (length table) 1 (length (pack args))) some)

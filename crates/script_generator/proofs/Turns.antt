@@ -32,7 +32,7 @@ use Rattle.mux_conn.specs.Requests.{if_there, is_open, permits_or_none, name_at,
 use Rattle.mux_conn.specs.Effects.{new_link, all_fresh, made_ready, sets_up, cancelled_in, read_to}
 use Rattle.shared_session.specs.declared.core_state.Core.{Core}
 use Rattle.shared_session.specs.Replay.{opening_core}
-use Rattle.shared_session.specs.Turn.{Turning, turning_with, work_of, counted, left_by, moved_on, timed, with_work, next_turn, pending}
+use Rattle.shared_session.specs.Turn.{Turning, turning_with, work_of, counted, left_by, moved_on, numbered, with_work, next_turn, pending}
 use Rattle.script_generator.specs.Script.{generated_config, reply}
 use Rattle.script_generator.proofs.Lasts.{get_last, come_to, name_last, permits_last}
 use Rattle.script_generator.proofs.Sessions.{link_with, no_bytes, still, session_with, up}
@@ -53,7 +53,7 @@ unfolding next_turn
 connected_turn word =
     let t = counted (opening_core generated_config word) in
     let w = work_of t in
-    ap (λ b. timed (moved_on (with_work t (if b then made_ready w (new_link w.conn) else sets_up (all_fresh w) (new_link w.conn) true)))) nothing_said
+    ap (λ b. numbered (moved_on (with_work t (if b then made_ready w (new_link w.conn) else sets_up (all_fresh w) (new_link w.conn) true)))) nothing_said
 
 drop_all : (bs : List ℕ) → drop (length bs) bs ≡ []
 drop_all [] = refl
@@ -64,7 +64,7 @@ pub wrote_turn : (info : RedisConnectionInfo) (turns k : ℕ) (table : List (Opt
     next_turn (up info turns table rs (link_with row k (all_of packed))) (event.Wrote 0 (length packed)) ≡ turning_with (up info (turns + 1) table rs (link_with row k no_bytes)) []
 unfolding next_turn
 wrote_turn info turns k table rs row packed =
-    ap (λ bs. timed (moved_on (turning_with (up info (turns + 1) table rs (link_with row k (record { unwritten = bs; offered = 0 }))) []))) (drop_all packed)
+    ap (λ bs. numbered (moved_on (turning_with (up info (turns + 1) table rs (link_with row k (record { unwritten = bs; offered = 0 }))) []))) (drop_all packed)
 
 -- the caller of the last request goes
 pub cancel_turn : (info : RedisConnectionInfo) (turns k n : ℕ) (table : List (Option Pending)) (rs : List Request) →
@@ -77,10 +77,10 @@ cancel_turn info turns k n table rs =
     let e = entry p true in
     let life = Ready (link_with (e ∷ []) k no_bytes) in
     let conn = still info life (rs ++ come_to n progress.Placed ∷ []) in
-    let over : MultiplexedConnection → Turning = λ c. timed (moved_on (turning_with (session_with (turns + 1) all c) [])) in
+    let over : MultiplexedConnection → Turning = λ c. numbered (moved_on (turning_with (session_with (turns + 1) all c) [])) in
     let gone : List Request → Option Request → Bool → Turning =
     λ requests o same. over (record (still info (Ready (link_with (if same then silent e ∷ [] else e ∷ []) k no_bytes)) requests) { free = min 0 (0 + permits_or_none o) }) in
-    let found = ap (λ o. timed (moved_on (left_by (turning_with (session_with (turns + 1) all conn) []) o))) (get_last table (Some (pending p))) in
+    let found = ap (λ o. numbered (moved_on (left_by (turning_with (session_with (turns + 1) all conn) []) o))) (get_last table (Some (pending p))) in
     let leaves = ap (λ o. over (if if_there is_open o then record (closed conn p) { life = cancelled_in life p } else conn)) (get_last rs (come_to n progress.Placed)) in
     found ∙ leaves ∙ (λ i. gone (permits_last rs n progress.Placed progress.Closed i) (get_last rs (come_to n progress.Placed) i) (eq_test p p refl i))
 
@@ -106,7 +106,7 @@ answer_turn info turns k n table rs =
     let placed = rs ++ come_to n progress.Placed ∷ [] in
     let w = work_with (still info (Ready (link_with (entry p true ∷ []) k no_bytes)) placed) [] in
     let bare = still info (Ready (link_with [] k no_bytes)) placed in
-    let over : Work → Turning = λ v. timed (moved_on (turning_with (session_with (turns + 1) table v.conn) v.acts)) in
+    let over : Work → Turning = λ v. numbered (moved_on (turning_with (session_with (turns + 1) table v.conn) v.acts)) in
     let done : List Request → Option Request → ℕ → Turning =
     λ requests o name. over (work_with (record (still info (Ready (link_with [] k no_bytes)) requests) { free = min 0 (0 + permits_or_none o) }) (act.Outcome name answer ∷ [])) in
     ap (λ s. over (read_to w [] s)) (dealt p k true)
@@ -119,7 +119,7 @@ pub unheard_turn : (info : RedisConnectionInfo) (turns k p : ℕ) (table : List 
 unfolding next_turn
 unheard_turn info turns k p table rs =
     let w = work_with (still info (Ready (link_with (entry p false ∷ []) k no_bytes)) rs) [] in
-    let over : Work → Turning = λ v. timed (moved_on (turning_with (session_with (turns + 1) table v.conn) v.acts)) in
+    let over : Work → Turning = λ v. numbered (moved_on (turning_with (session_with (turns + 1) table v.conn) v.acts)) in
     ap (λ s. over (read_to w [] s)) (dealt p k false)
 
 -- everything is closed

@@ -43,7 +43,7 @@ at_server = refl
 
 -- nothing of the configuration is refused
 pub generated_sound : IsSound generated_config
-generated_sound = ap (λ a. fault_in a None 50) at_server
+generated_sound = ap (λ a. fault_in a false None 50) at_server
 
 -- the first event
 abbrev first : Event
@@ -55,7 +55,7 @@ first_trace =
     trace_of-more generated_config generated_word [] first
     ∙ (λ i. trace_of-none generated_config generated_word i ++ actions_of (state_after-none generated_config generated_word i) first)
     ∙ ap (λ a. begins ∷ connect_asked a None ++ actions_of (opening_core generated_config generated_word) first) at_server
-    ∙ ap (λ (u : Turning). begins ∷ action.Connect 0 (codes "h") 6379 ∷ turn 1 (event.Connected 0) ∷ shown_each 0 0 u.acts) (connected_turn generated_word)
+    ∙ ap (λ (u : Turning). begins ∷ action.Connect 0 (codes "h") 6379 ∷ turn 1 (event.Connected 0) ∷ shown_each 0 0 0 u.acts) (connected_turn generated_word)
 
 pub connected_next : IsNext [] first
 unfolding is_bad spends

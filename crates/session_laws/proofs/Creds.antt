@@ -41,15 +41,16 @@ lacking_undue l lacks none = ap (λ (ss : List Start). setup_after l (setup_coun
 pub wanting_awaits : (l : Ledger) (link : LinkState) → l.up ≡ true → AreSought l.creds (Wanting link) → awaits_credentials l ≡ true
 wanting_awaits l link up h = λ i. up i && h.1 i && wanting_lacks l.creds link h i
 
+-- what is false at its end is false
+last_false : (a b : Bool) → (a && b && false) ≡ false
+last_false true true = refl
+last_false true false = refl
+last_false false true = refl
+last_false false false = refl
+
 -- no other link does
 pub none_awaited : (l : Ledger) → lacks_credentials l ≡ false → awaits_credentials l ≡ false
-none_awaited l given = ap (λ x. l.up && l.creds.asked && x) given ∙ none_of l.up l.creds.asked
-  where
-    none_of : (a b : Bool) → (a && b && false) ≡ false
-    none_of true true = refl
-    none_of true false = refl
-    none_of false true = refl
-    none_of false false = refl
+none_awaited l given = ap (λ x. l.up && l.creds.asked && x) given ∙ last_false l.up l.creds.asked
 
 -- nor one that isn't up
 pub down_unawaited : (l : Ledger) → l.up ≡ false → awaits_credentials l ≡ false
@@ -71,13 +72,7 @@ unwanted_sourced l unwanted = ap (λ w. l.up && w && not l.creds.asked) unwanted
 
 -- and where it was asked for
 pub asked_sourced : (l : Ledger) → l.creds.asked ≡ true → source_due l ≡ false
-asked_sourced l asked = ap (λ a. l.up && l.creds.wanted && not a) asked ∙ none_of l.up l.creds.wanted
-  where
-    none_of : (a b : Bool) → (a && b && false) ≡ false
-    none_of true true = refl
-    none_of true false = refl
-    none_of false true = refl
-    none_of false false = refl
+asked_sourced l asked = ap (λ a. l.up && l.creds.wanted && not a) asked ∙ last_false l.up l.creds.wanted
 
 -- on a link that has its credentials
 pub has_sourced : (l : Ledger) → HasCredentials l.creds → source_due l ≡ false

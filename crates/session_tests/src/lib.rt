@@ -10,4 +10,6 @@ mod pushes;
 #[cfg(test)]
 mod sessions;
 #[cfg(test)]
+mod sources;
+#[cfg(test)]
 mod threads;

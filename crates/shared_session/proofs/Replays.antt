@@ -1,6 +1,6 @@
 -- One more event of a history.
 use Rattle.std.proofs.Common.{◌≡◌, ◌==◌, ℕ, ◌+◌, ◌-◌, ◌^◌, ◌<◌, ◌≤◌, List, [], ◌∷◌, ◌++◌, length, refl, sym, ◌∙◌, ap, append_assoc, false, ◌⊎◌, inl, inr, arith, length-append}
-use Rattle.std.specs.Prelude.{Option, Some, None, slice_get, take, true, nat_le}
+use Rattle.std.specs.Prelude.{Option, Some, None, slice_get, take, true, nat_le, ◌||◌}
 use Rattle.std.proofs.lemmas.List.{append-nil, length-take-le}
 use Rattle.connection_info.specs.declared.address.ConnectionInfo.{ConnectionInfo}
 use Rattle.driver_model.specs.declared.action.Action.{Action}
@@ -68,9 +68,7 @@ told_shown link (act.Outcome n o ∷ more) os t c = told_shown link more _ _ _
 told_shown link (act.Created e ∷ more) os t c = told_shown link more os _ _
 told_shown link (act.Took n count ∷ more) os t c = told_shown link more os _ _
 told_shown link (act.Timer n ms ∷ more) os t c = told_shown link more os _ _
-told_shown link (act.RenewalTimer k ms ∷ more) os t c = told_shown link more os _ _
 told_shown link (act.NeedCreds ∷ more) os t c = told_shown link more os _ _
-told_shown link (act.Renewed message need len ∷ more) os t c = told_shown link more os _ _
 told_shown link (act.Push info ∷ more) os t c = told_shown link more os _ _
 told_shown link (act.Close ∷ more) os t c = told_shown link more os _ _
 told_shown link (act.Write bytes ∷ more) os t c = told_shown link more os _ _
@@ -118,8 +116,6 @@ fired_turns : (t : Turning) (slot : Option Purpose) → (fired_by t slot).core.t
 fired_turns t None = refl
 fired_turns t (Some (purpose.Connect l)) = refl
 fired_turns t (Some (purpose.Response owner.Setup)) = refl
-fired_turns t (Some (purpose.Response owner.Auth)) = refl
-fired_turns t (Some (purpose.Renewal l k)) = refl
 fired_turns t (Some (purpose.Response (owner.Try n round))) = late_turns t (slice_get t.core.table n)
 
 requested_turns : (t : Turning) (kind : EventKind) → (requested t kind).core.turns ≡ t.core.turns
@@ -235,14 +231,15 @@ actions_told config word es e old told new t s =
     s ∙ ap (λ (acts : List Action). acts ++ effects_of (state_after config word es) e) (t ∙ ap (λ (m : ℕ). old ++ action.Turn m (cause.Event e) ∷ []) n)
     ∙ append_assoc old (action.Turn (state_after config word es).turns (cause.Event e) ∷ []) (effects_of (state_after config word es) e)
 
-few_timers : (timeout : Option ℕ) → nat_le (2 ^ 32) (length (connect_timers timeout)) ≡ false
-few_timers None = refl
-few_timers (Some ms) = refl
+-- the opening asks for one timer at most, and for no source of credentials
+few_numbers : (timeout : Option ℕ) → (nat_le (2 ^ 32) (length (connect_timers timeout)) || nat_le (2 ^ 32) 0) ≡ false
+few_numbers None = refl
+few_numbers (Some ms) = refl
 
 -- no number has run out at the opening
 pub unspent_opening : (core : Core) (config : Config) (word : ℕ) → core ≡ opening_core config word → has_run_out core ≡ false
 unfolding has_run_out
-unspent_opening core config word c = rw c (few_timers (connect_timeout config))
+unspent_opening core config word c = rw c (few_numbers (connect_timeout config))
 
 -- what a replay keeps from event to event: the session has taken those events, and their turns were shown
 pub record Kept (config : Config) (word : ℕ) (taken : List Event) (before : List Action) (s : History) (after : List Action) : Type 0 where
