@@ -193,14 +193,17 @@ step_told b shown (action.Turn k (cause.Event e)) may h told = still_told b show
 step_told b shown (action.Connect m host port) may h told = still_told b shown (action.Connect m host port) (connect_shows_none b m host port) may h told
 step_told b shown (action.Timer t ms what) may h told = still_told b shown (action.Timer t ms what) (unchanged b (action.Timer t ms what) refl refl (λ s l m h q. q)) may h told
 step_told b shown (action.Took owner.Setup l count) may h told = absurd may
+step_told b shown (action.Took owner.Auth l count) may h told = absurd may
 step_told b shown (action.Took (owner.Try n round) l count) may h told = still_told b shown (action.Took (owner.Try n round) l count) (unchanged b (action.Took (owner.Try n round) l count) refl refl (λ s j m h q. q)) may h told
 step_told b shown (action.Push m info) may h told = still_told b shown (action.Push m info) (push_shows_none b m info) may h told
 step_told b shown (action.NeedCreds c m) may h told = still_told b shown (action.NeedCreds c m) (need_shows_none b c m) may h told
 step_told b shown (action.Close m) may h told = still_told b shown (action.Close m) (close_shows_none b m) may h told
 step_told b shown (action.Write m bytes) may h told = still_told b shown (action.Write m bytes) (write_shows_none b m bytes) may h told
 step_told b shown (action.Wait owner.Setup kind) may h told = absurd may
+step_told b shown (action.Wait owner.Auth kind) may h told = absurd may
 step_told b shown (action.Wait (owner.Try n round) kind) may h told = still_told b shown (action.Wait (owner.Try n round) kind) (unchanged b (action.Wait (owner.Try n round) kind) refl refl (λ s l m h q. q)) may h told
 step_told b shown (action.Start m k owner.Setup count len) may h told = still_told b shown (action.Start m k owner.Setup count len) (setup_shows_none b m k count len) may h told
+step_told b shown (action.Start m k owner.Auth count len) may h told = still_told b shown (action.Start m k owner.Auth count len) (setup_shows_none b m k count len) may h told
 step_told b shown (action.Start m k (owner.Try n round) count len) may h told = still_told b shown (action.Start m k (owner.Try n round) count len) (start_shows_none b m k n round count len) may h told
 step_told b shown (action.Outcome n o) may h told = still_told b shown (action.Outcome n o) (unchanged b (action.Outcome n o) refl refl (λ s l m h q. q)) may h told
 

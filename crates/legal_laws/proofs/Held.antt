@@ -1,5 +1,5 @@
 -- What is done stays done while messages start, are written and wait.
-use Rattle.std.proofs.Common.{◌≡◌, ◌≢◌, ℕ, ◌==◌, true, false, List, [], ◌∷◌, ◌++◌, Option, Some, None, refl, sym, ◌∙◌, ap, subst}
+use Rattle.std.proofs.Common.{◌≡◌, ◌≢◌, ℕ, ◌==◌, true, false, List, [], ◌∷◌, ◌++◌, Option, Some, None, refl, sym, ◌∙◌, ap, subst, ◌≤◌, ◌&&◌, ◌||◌}
 use Rattle.containers.proofs.Choices.{chosen, eq_from, eq_test, if_true, not_both}
 use Rattle.driver_model.specs.declared.action.Action.{Action}
 use Rattle.driver_model.specs.declared.action.Action.TheVariants as action
@@ -8,12 +8,12 @@ use Rattle.driver_model.specs.declared.action.Owner.TheVariants as owner
 use Rattle.driver_model.specs.declared.action.Purpose.{Purpose}
 use Rattle.driver_model.specs.declared.action.WaitKind.{WaitKind}
 use Rattle.driver_model.specs.declared.outcome.Outcome.{Outcome}
-use Rattle.legal_trace.specs.Ledger.{Ledger, Line, Start, begins, offers, noted_each, is_of_setup, is_set_up, is_ready, is_cut, setup_due, source_due, ending, failure_in, next_push}
+use Rattle.legal_trace.specs.Ledger.{Ledger, Line, Start, begins, offers, noted_each, is_of_setup, is_set_up, is_ready, is_cut, setup_due, source_due, ending, failure_in, next_push, renewals_asked, times, renewal_due}
 use Rattle.legal_trace.specs.Story.{Story, Try, is_open, is_unstarted, shape, holds, clocked, tried, waits, answered}
 use Rattle.legal_trace.specs.Steps.{is_due, is_held_back, permits_in, permits_on, permits_held, is_in_line, line_before, next_step}
 use Rattle.legal_trace.specs.Owed.{owed_to_message, owed_to_try}
-use Rattle.legal_trace.specs.Book.{Book, entered, if_mine, message_of, is_clock_of}
-use Rattle.legal_trace.specs.Legal.{MayTell, MayStart, MaySetUp, link_of, NoneIsOwed, IsApplied, IsBegun, IsMoved, IsWritten}
+use Rattle.legal_trace.specs.Book.{Book, entered, if_mine, message_of, is_clock_of, is_renewal_of}
+use Rattle.legal_trace.specs.Legal.{MayTell, MayStart, MaySetUp, link_of, NoneIsOwed, IsApplied, IsBegun, IsMoved, IsWritten, MayRenew, CanRenew}
 use Rattle.legal_trace.proofs.Ledgers.{mine_keeps}
 use Rattle.legal_trace.proofs.Setups.{set_begins, ends_where_set, begun_undecided, setup_stays}
 use Rattle.legal_trace.proofs.Moves.{mover_is_up, mover_is_ready, ready_is_up, ready_is_set, starter_moves, step_of, line_alike, permits_alike}
@@ -70,6 +70,14 @@ ready_begins l s request ready none =
     let set : is_set_up l ≡ true = ready_is_set l ready in
     ends_where_set (record l { starts = l.starts ++ s ∷ [] }) (ready_is_up l ready) (set_begins l s request set) ∙ (sym (ends_where_set l (ready_is_up l ready) set) ∙ none)
 
+-- where a message leaves it as it is whether a link is set up, no further source is to be asked for
+source_begins : (l : Ledger) (s : Start) → is_set_up (record l { starts = l.starts ++ s ∷ [] }) ≡ is_set_up l → source_due l ≡ false → source_due (record l { starts = l.starts ++ s ∷ [] }) ≡ false
+source_begins l s same none = ap (λ set. l.up && l.creds.wanted && ((l.creds.asked == 0) || (set && (l.creds.asked == 1)))) same ∙ none
+
+-- so where one starts on a link that is set up
+set_sources : (l : Ledger) (s : Start) → is_of_setup s.owner ≡ false → is_set_up l ≡ true → source_due l ≡ false → source_due (record l { starts = l.starts ++ s ∷ [] }) ≡ false
+set_sources l s other set none = source_begins l s (set_begins l s other set ∙ sym set) none
+
 -- where a fault ended a link, this was told
 abbrev IsToldOver : Ledger → Type 0
 IsToldOver l = is_cut l.end ≡ true → l.parted ≡ true
@@ -90,6 +98,28 @@ start_applied b l k m round count len may h = record {
   sourced = λ j. mine_keeps (λ x. source_due x ≡ false) (l == j) (b.link j) (begins (message_of b l (owner.Try m round))) (λ t. may.begun.applied.sourced j) (may.begun.applied.sourced j);
   timed = may.begun.applied.timed;
 }
+
+-- new credentials that are told leave it so
+pub renew_applied : (b : Book) (l k count len : ℕ) → MayRenew b l k count len → Sound b → IsApplied (entered b (action.Start l k owner.Auth count len))
+renew_applied b l k count len may h =
+    let set : is_set_up (b.link l) ≡ true = renewal_is_set (b.link l) may.credentials (h.shaped l) may.due in
+    let ready : is_ready (b.link l) ≡ true = up_and_set (b.link l) (renewal_is_up (b.link l) may.credentials may.due) set in
+    let s : Start = message_of b l owner.Auth in
+    record {
+      answered = λ n o. others_owed b l k owner.Auth count len h n (may.begun.applied.answered n o);
+      ended = λ j. mine_keeps (λ x. ending x ≡ None) (l == j) (b.link j) (begins s)
+          (λ t. ready_begins (b.link j) s refl (subst (λ i. is_ready (b.link i) ≡ true) (eq_from l j t) ready) (may.begun.applied.ended j)) (may.begun.applied.ended j);
+      created = record {
+        asked = may.begun.applied.created.asked;
+        shown = λ j. mine_keeps (λ (x : Ledger). is_ready x ≡ true → b.created ≢ 0) (l == j) (b.link j) (begins s) (λ t other. may.begun.applied.created.shown l ready) (may.begun.applied.created.shown j);
+        failed = λ j e. mine_keeps (λ (x : Ledger). failure_in x.end ≡ Some e → b.created ≢ 0) (l == j) (b.link j) (begins s) (λ t. may.begun.applied.created.failed j e) (may.begun.applied.created.failed j e);
+      };
+      pushed = λ j heard. mine_keeps (λ x. next_push x ≡ None) (l == j) (b.link j) (begins s) (λ t. may.begun.applied.pushed j heard) (may.begun.applied.pushed j heard);
+      parted = λ j heard. mine_keeps IsToldOver (l == j) (b.link j) (begins s) (λ t. may.begun.applied.parted j heard) (may.begun.applied.parted j heard);
+      sourced = λ j. mine_keeps (λ x. source_due x ≡ false) (l == j) (b.link j) (begins s)
+          (λ t. set_sources (b.link j) s refl (ready_is_set (b.link j) (subst (λ i. is_ready (b.link i) ≡ true) (eq_from l j t) ready)) (may.begun.applied.sourced j)) (may.begun.applied.sourced j);
+      timed = may.begun.applied.timed;
+    }
 
 -- a setup leaves the event applied
 pub setup_applied : (b : Book) (l k count len : ℕ) → MaySetUp b l k count len → Sound b → IsApplied (entered b (action.Start l k owner.Setup count len))
@@ -153,17 +183,27 @@ write_begun : (b : Book) (l : ℕ) (bytes : List ℕ) → IsBegun b → IsBegun 
 write_begun b l bytes done = record {
   applied = write_applied b l bytes done.applied;
   setups = λ j k. mine_keeps (λ x. setup_due x ≡ Some k → is_held_back b x ≡ true) (l == j) (b.link j) (offers bytes) (λ t. done.setups j k) (done.setups j k);
+  timed = λ j set. mine_keeps (λ (x : Ledger). renewals_asked x ≤ x.creds.timed) (l == j) (b.link j) (offers bytes) (λ t. done.timed j set) (done.timed j set);
 }
 
 -- a write leaves each submission its next step
 written_step : (b : Book) (l n : ℕ) (bytes : List ℕ) → next_step (entered b (action.Write l bytes)) n ≡ next_step b n
 written_step b l n bytes = mine_keeps (λ x. step_of b.config (b.story n) (line_before (permits_in b.config) b.story (b.story n).link n) (permits_held b.story (b.story n).link b.submissions) x ≡ next_step b n) (l == (b.story n).link) (link_of b n) (offers bytes) (λ t. refl) refl
 
+-- no new credentials are to be told on a link with this ledger, or it is held back
+abbrev RenewsNone : Book → Ledger → Type 0
+RenewsNone b x = (c : Credentials) → renewal_due x ≡ Some c → is_held_back b x ≡ false → ⊥
+
+-- so it is where none can be told
+renews_none : (b : Book) (l : ℕ) → (CanRenew b l → ⊥) → RenewsNone b (b.link l)
+renews_none b l none c due free = none (record { credentials = c; due = due; free = free })
+
 -- so nothing moves behind a write that couldn't before
 pub write_moved : (b : Book) (l : ℕ) (bytes : List ℕ) → IsMoved b → IsMoved (entered b (action.Write l bytes))
 write_moved b l bytes done = record {
   begun = write_begun b l bytes done.begun;
   moved = λ n m. done.moved n (record { unstarted = m.unstarted; due = sym (ap is_due (written_step b l n bytes)) ∙ m.due });
+  renewed = λ j can. mine_keeps (RenewsNone b) (l == j) (b.link j) (offers bytes) (λ t. renews_none b j (done.renewed j)) (renews_none b j (done.renewed j)) can.credentials can.due can.free;
 }
 
 -- so do permits that are taken
@@ -179,6 +219,14 @@ take_applied b m round l count done = record {
   sourced = done.sourced;
   timed = done.timed;
 }
+
+-- a timer for new credentials is nothing to what is owed
+times_owed : (b : Book) (t ms : ℕ) (what : Purpose) (n : ℕ) → owed_story b (b.story n) ≡ None → owed_story (entered b (action.Timer t ms what)) (b.story n) ≡ None
+times_owed b t ms what n none = owed_again b (entered b (action.Timer t ms what)) (b.story n) (
+  λ e. mine_keeps (λ (x : Ledger). x.end ≡ None) (is_renewal_of (b.story n).link what) (b.link (b.story n).link) times (λ u. e) e,
+  λ u last e. mine_keeps (λ x. owed_to_message x u.message (shape (b.story n)) ≡ None) (is_renewal_of u.link what) (b.link u.link) times (λ mine. e) e,
+)
+    none
 
 -- and a timer
 pub ask_applied : (b : Book) (t ms : ℕ) (what : Purpose) → IsApplied b → IsApplied (entered b (action.Timer t ms what))
@@ -240,6 +288,7 @@ wait_written b m round kind done = record {
       unstarted = sym (wait_unstarted b m round kind n) ∙ p.unstarted;
       due = sym (ap is_due (wait_step b m round kind n)) ∙ p.due;
     });
+    renewed = λ l can. done.moved.renewed l (record { credentials = can.credentials; due = can.due; free = can.free });
   };
   offered = done.offered;
 }

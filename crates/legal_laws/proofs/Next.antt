@@ -19,14 +19,15 @@ use Rattle.driver_model.specs.declared.outcome.Outcome.TheVariants as outcome
 use Rattle.resp_value.specs.declared.value.Value.TheVariants.{Nil}
 use Rattle.resp_value.specs.declared.push_kind.PushKind.{PushKind}
 use Rattle.resp_value.specs.declared.push_kind.PushKind.TheVariants.{Disconnection}
+use Rattle.credentials.specs.Credentials.{Credentials}
 use Rattle.driver_model.specs.Push.{is_disconnection}
 use Rattle.driver_model.specs.declared.push_info.PushInfo.{PushInfo}
-use Rattle.legal_trace.specs.Ledger.{Heard, IsOffered, is_over, is_cut, unwritten, ending, failure_in, next_push, setup_due, setup_message, source_due}
+use Rattle.legal_trace.specs.Ledger.{Heard, IsOffered, is_over, is_cut, unwritten, ending, failure_in, next_push, setup_due, setup_message, source_due, renewal_due, renewal_message, renewals_asked}
 use Rattle.legal_trace.specs.Story.{shape, bytes_of}
 use Rattle.legal_trace.specs.Owed.{owed}
 use Rattle.legal_trace.specs.Book.{Book, book}
 use Rattle.legal_trace.specs.Steps.{Step, waits, takes, asks, tells, starts, nothing, is_held_back, next_step}
-use Rattle.legal_trace.specs.Legal.{MayStand, MayConnect, MayTimeConnect, MayTime, MayTake, MayTimer, MayNeed, MayTellPush, MayPart, MayPushBy, MayClose, MayBeCreated, MayFail, MayShowCreation, MayAnswer, MayTell, MayStart, MaySetUp, MayWrite, MayWait, IsOpen, IsWaiting, link_of, CanMove}
+use Rattle.legal_trace.specs.Legal.{MayStand, MayConnect, MayTimeConnect, MayTime, MayTake, MayTimer, MayNeed, MayTellPush, MayPart, MayPushBy, MayClose, MayBeCreated, MayFail, MayShowCreation, MayAnswer, MayTell, MayStart, MaySetUp, MayWrite, MayWait, IsOpen, IsWaiting, link_of, CanMove, MayTimeRenewal, MayRenew, CanRenew, IsFirstToMove}
 use Rattle.legal_laws.specs.Next.{BothAnnounce, OneIsNext, OneIsNextBehind}
 use Rattle.legal_trace.proofs.Moves.{teller_moves, starter_moves, taker_moves, asker_moves, same_kind}
 use Rattle.legal_laws.proofs.Ranks.{answer_rank, creation_rank, push_rank, rank, same_rank, outcome_rank, timer_rank, not_offered, not_shown}
@@ -150,6 +151,10 @@ setup_is b l message count len may =
     ap (λ x. action.Start l x owner.Setup count len) may.next
     ∙ (ap (λ x. action.Start l (length (b.link l).starts) owner.Setup x len) may.needs_its_items
     ∙ ap (λ x. action.Start l (length (b.link l).starts) owner.Setup (need_of (setup_message (b.link l) may.k).shape) x) may.long_as_its_bytes)
+setup_is b l message count len may =
+    ap (λ x. action.Start l x owner.Auth count len) may.next
+    ∙ (ap (λ x. action.Start l (length (b.link l).starts) owner.Auth x len) may.needs_its_items
+    ∙ ap (λ x. action.Start l (length (b.link l).starts) owner.Auth (need_of (setup_message (b.link l) may.k).shape) x) may.long_as_its_bytes) = 
 
 -- a setup is to start on that link, which isn't held back
 abbrev pub IsSettingUp : Book → ℕ → Type 0
@@ -303,6 +308,7 @@ of_rank b (action.Start l k owner.Setup count len) may = (l, k, count, len, refl
 of_rank b (action.Start l k (owner.Try n round) count len) may = subst (λ r. IsMoving b (action.Start l k (owner.Try n r) count len)) (sym may.0) (start_moving b l k n count len may.1)
 of_rank b (action.Write l bytes) may = (l, bytes, refl, may)
 of_rank b (action.Wait owner.Setup kind) may = absurd may
+of_rank b (action.Wait owner.Auth kind) may = absurd may
 of_rank b (action.Wait (owner.Try n round) kind) may = (n, kind, ap (λ r. action.Wait (owner.Try n r) kind) may.0, may.1)
 of_rank b (action.Turn k (cause.Event e)) may = (k, e, refl, may.next)
 
@@ -351,6 +357,16 @@ beside_verdict b n o y h e p (inr (inr (inr q))) = absurd (need_or_answer b q.0 
 beside_answer : (b : Book) (n : ℕ) (o : Outcome) (y : Action) (over : Bool) → Sound b → is_over (link_of b n) ≡ over → MayAnswer b n o → OfRank (answer_rank over) b y → AreOne (action.Outcome n o) y
 beside_answer b n o y false h e p q = beside_verdict b n o y h e p q
 beside_answer b n o y true h e p q = inl (one_answer b n q.0 o q.1 true e q.3 p q.4 ∙ sym q.2)
+
+-- beside a step of a submission
+beside_moving : (b : Book) (x y : Action) → IsMoving b x → OfRank 11 b y → AreOne x y
+beside_moving b x y p (inl q) = inl (one_moving b x y p q)
+beside_moving b x y p (inr q) = absurd (move_or_renew b x y p q)
+
+-- beside new credentials
+beside_renewal : (b : Book) (l k count len : ℕ) (y : Action) → MayRenew b l k count len → OfRank 11 b y → AreOne (action.Start l k owner.Auth count len) y
+beside_renewal b l k count len y p (inl q) = absurd (move_or_renew b y (action.Start l k owner.Auth count len) q (l, k, count, len, refl, p))
+beside_renewal b l k count len y p (inr q) = inl (one_renewal b l q.0 k q.1 count q.2 len q.3 p q.5 ∙ sym q.4)
 
 -- beside any outcome
 beside_outcome : (b : Book) (n : ℕ) (o : Outcome) (y : Action) (p : MayAnswer b n o ⊎ MayTell b n o) → Sound b → OfRank (outcome_rank b n o p) b y → AreOne (action.Outcome n o) y
@@ -409,6 +425,7 @@ beside b (action.Start l k owner.Setup count len) y p h q = inl (one_setup b l q
 beside b (action.Start l k (owner.Try n round) count len) y p h q = subst (λ r. AreOne (action.Start l k (owner.Try n r) count len) y) (sym p.0) (inl (one_moving b (action.Start l k (owner.Try n 0) count len) y (start_moving b l k n count len p.1) q))
 beside b (action.Write l bytes) y p h q = inl (one_write b l q.0 bytes q.1 p q.3 ∙ sym q.2)
 beside b (action.Wait owner.Setup kind) y p h q = absurd p
+beside b (action.Wait owner.Auth kind) y p h q = absurd p
 beside b (action.Wait (owner.Try n round) kind) y p h q = subst (λ r. AreOne (action.Wait (owner.Try n r) kind) y) (sym p.0) (inl (one_wait b n q.0 kind q.1 p.1 q.3 ∙ sym q.2))
 beside b (action.Turn j (cause.Event e)) y p h q = subst (AreOne (action.Turn j (cause.Event e))) (sym q.2) (inr (p.next ∙ sym q.3, tt))
 

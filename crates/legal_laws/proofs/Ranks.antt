@@ -12,18 +12,18 @@ use Rattle.driver_model.specs.declared.action.WaitKind.{WaitKind}
 use Rattle.driver_model.specs.Config.{connect_timeout}
 use Rattle.driver_model.specs.Push.{is_disconnection}
 use Rattle.driver_model.specs.declared.push_info.PushInfo.{PushInfo}
-use Rattle.legal_trace.specs.Ledger.{End, Ending, by_shutdown, by_fault, by_opening, failure_of, failure_in, is_fault, is_cut, is_over, IsOffered, ending, next_push, source_due}
+use Rattle.legal_trace.specs.Ledger.{End, Ending, by_shutdown, by_fault, by_opening, failure_of, failure_in, is_fault, is_cut, is_over, IsOffered, ending, next_push, source_due, renewals_asked}
 use Rattle.legal_trace.specs.Story.{Try, last_of}
 use Rattle.legal_trace.specs.Book.{Book}
 use Rattle.legal_trace.specs.Steps.{is_held_back, next_step}
-use Rattle.legal_trace.specs.Legal.{MayStand, MayTimer, MayNeed, MayAnswer, MayTell, MayWrite, MayWait, MayShowCreation, MayPushBy, IsOpen, link_of, NoneIsOwed, VerdictsAreShown, NoneEnds, FailuresAreShown, ReadyIsShown, PushesAreTold, SourcesAreAsked, EndsAreTold, SetupsAreStarted, IsTimed, IsApplied, IsBegun, IsMoved, IsWritten, IsSettled, IsStarted, IsWaiting, CanMove}
+use Rattle.legal_trace.specs.Legal.{MayStand, MayTimer, MayNeed, MayAnswer, MayTell, MayWrite, MayWait, MayShowCreation, MayPushBy, IsOpen, link_of, NoneIsOwed, VerdictsAreShown, NoneEnds, FailuresAreShown, ReadyIsShown, PushesAreTold, SourcesAreAsked, EndsAreTold, SetupsAreStarted, IsTimed, IsApplied, IsBegun, IsMoved, IsWritten, IsSettled, IsStarted, IsWaiting, CanMove, CanRenew, RenewalsAreTimed, answer_time}
 use Rattle.legal_trace.proofs.Moves.{teller_moves, starter_moves, taker_moves, asker_moves, same_kind, ready_is_up}
 use Rattle.legal_laws.proofs.Numbers.{up_is_numbered, over_is_numbered, open_is_numbered, unasked_stays}
 use Rattle.legal_laws.proofs.Opens.{still_stays}
 use Rattle.legal_laws.proofs.Quiet.{failed_is_over}
 use Rattle.legal_trace.specs.Owed.{owed}
 use Rattle.legal_trace.proofs.Plain.{not_none}
-use Rattle.legal_trace.proofs.Sources.{source_is_up}
+use Rattle.legal_trace.proofs.Renewals.{source_is_up}
 use Rattle.legal_laws.proofs.Told.{none_unless}
 use Rattle.legal_laws.proofs.Sound.{Sound}
 
@@ -93,6 +93,10 @@ pub record IsTold (b : Book) : Type 0 where
   pub created : ReadyIsShown b
   pub sourced : SourcesAreAsked b
   pub pushed : PushesAreTold b
+
+-- no submission makes a step, and no new credentials are to be told
+abbrev pub NoneMoves : Book → Type 0
+NoneMoves b = ((n : ℕ) → CanMove b n → ⊥) × ((l : ℕ) → CanRenew b l → ⊥)
 
 -- what is done once nothing of this rank is due
 abbrev pub Step : ℕ → Book → Type 0
@@ -179,6 +183,7 @@ not_done b (action.Start l k owner.Setup count len) may h = not_both (is_held_ba
 not_done b (action.Start l k (owner.Try n round) count len) may h = h n (starter_moves b l k n count len may.1)
 not_done b (action.Write l bytes) may h = not_offered b l bytes may (h l may.up)
 not_done b (action.Wait owner.Setup kind) may h = absurd may
+not_done b (action.Wait owner.Auth kind) may h = absurd may
 not_done b (action.Wait (owner.Try n round) kind) may h = not_gone b n kind may.1 (h n may.1.asked)
 not_done b (action.Turn k (cause.Event e)) may h = h
 
@@ -340,15 +345,18 @@ reached b (action.Connect l host port) may h = (λ e. not_none b.running (cause.
 reached b (action.Outcome n o) may h = outcome_reached b n o may h
 reached b (action.Timer t ms what) may h = timer_reached b t ms what may h
 reached b (action.Took owner.Setup l count) may h = absurd may
+reached b (action.Took owner.Auth l count) may h = absurd may
 reached b (action.Took (owner.Try n round) l count) may h = begun_all b h may.1.begun
 reached b (action.Push l info) may h = push_reached b l info (is_disconnection info.kind) may h
 reached b (action.NeedCreds c l) may h = need_reached b c l may h
 reached b (action.Close l) may h = (record { answered = may.answered; created = may.created; sourced = may.sourced; pushed = may.pushed }, end_is_begun b l may.why h may.ends)
 reached b (action.Created e) may h = creation_reached b e may h
 reached b (action.Start l k owner.Setup count len) may h = applied b h may.applied
+reached b (action.Start l k owner.Auth count len) may h = begun_all b h may.begun
 reached b (action.Start l k (owner.Try n round) count len) may h = begun_all b h may.1.begun
 reached b (action.Write l bytes) may h = moved b h may.moved
 reached b (action.Wait owner.Setup kind) may h = absurd may
+reached b (action.Wait owner.Auth kind) may h = absurd may
 reached b (action.Wait (owner.Try n round) kind) may h = written b h may.1.written
 reached b (action.Turn k (cause.Event e)) may h = settled b h may.is_for.1
 

@@ -176,6 +176,7 @@ seated_kept b (action.Connect l host port) may sound holders h = kept_by b (acti
 seated_kept b (action.Timer w ms what) may sound holders h =
     kept_by b (action.Timer w ms what) may refl (unchanged b (action.Timer w ms what) (λ n. chosen (λ s. is_told s ≡ true → is_told (b.story n) ≡ true) (is_clock_of n (Some what)) (clocked (b.story n) w) (b.story n) (λ e t. t) (λ f t. t))) h
 seated_kept b (action.Took owner.Setup l count) may sound holders h = absurd may
+seated_kept b (action.Took owner.Auth l count) may sound holders h = absurd may
 seated_kept b (action.Took (owner.Try m round) l count) may sound holders h =
     kept_by b (action.Took (owner.Try m round) l count) may refl (unchanged b (action.Took (owner.Try m round) l count) (λ n. chosen (λ s. is_told s ≡ true → is_told (b.story n) ≡ true) (m == n) (holds (b.story n) count) (b.story n) (λ e t. t) (λ f t. t))) h
 seated_kept b (action.Push l info) may sound holders h = kept_by b (action.Push l info) may refl (unchanged b (action.Push l info) (λ n t. t)) h
@@ -183,9 +184,11 @@ seated_kept b (action.NeedCreds c l) may sound holders h = kept_by b (action.Nee
 seated_kept b (action.Close l) may sound holders h = kept_by b (action.Close l) may refl (unchanged b (action.Close l) (λ n t. t)) h
 seated_kept b (action.Write l bytes) may sound holders h = kept_by b (action.Write l bytes) may refl (unchanged b (action.Write l bytes) (λ n t. t)) h
 seated_kept b (action.Wait owner.Setup kind) may sound holders h = absurd may
+seated_kept b (action.Wait owner.Auth kind) may sound holders h = absurd may
 seated_kept b (action.Wait (owner.Try m round) kind) may sound holders h =
     kept_by b (action.Wait (owner.Try m round) kind) may refl (unchanged b (action.Wait (owner.Try m round) kind) (λ n. chosen (λ s. is_told s ≡ true → is_told (b.story n) ≡ true) (m == n) (waits (b.story n) kind) (b.story n) (λ e t. t) (λ f t. t))) h
 seated_kept b (action.Start l k owner.Setup count len) may sound holders h = kept_by b (action.Start l k owner.Setup count len) may refl (unchanged b (action.Start l k owner.Setup count len) (λ n t. t)) h
+seated_kept b (action.Start l k owner.Auth count len) may sound holders h = kept_by b (action.Start l k owner.Auth count len) may refl (unchanged b (action.Start l k owner.Auth count len) (λ n t. t)) h
 seated_kept b (action.Start l k (owner.Try m round) count len) may sound holders h =
     kept_by b (action.Start l k (owner.Try m round) count len) may refl (unchanged b (action.Start l k (owner.Try m round) count len) (λ n. chosen (λ s. is_told s ≡ true → is_told (b.story n) ≡ true) (m == n) (tried (b.story n) l k) (b.story n) (λ e t. t) (λ f t. t))) h
 seated_kept b (action.Created e) may sound holders h = kept_by b (action.Created e) may refl (unchanged b (action.Created e) (λ n t. t)) h
@@ -240,6 +243,7 @@ gains b (action.Turn k (cause.Event e)) may n = event_gains b n e.kind
 gains b (action.Connect l host port) may n = λ i. inl i
 gains b (action.Timer t ms what) may n = chosen (Gains b n) (is_clock_of n (Some what)) (clocked (b.story n) t) (b.story n) (λ e i. inl i) (λ f i. inl i)
 gains b (action.Took owner.Setup l count) may n = absurd may
+gains b (action.Took owner.Auth l count) may n = absurd may
 gains b (action.Took (owner.Try m round) l count) may n = chosen (Gains b n) (m == n) (holds (b.story n) count) (b.story n)
     (λ t i. inr (subst (TakesNow b) (eq_from m n t) (l, count, may.1))) (λ f i. inl i)
 gains b (action.Push l info) may n = λ i. inl i
@@ -247,8 +251,10 @@ gains b (action.NeedCreds c l) may n = λ i. inl i
 gains b (action.Close l) may n = λ i. inl i
 gains b (action.Write l bytes) may n = λ i. inl i
 gains b (action.Wait owner.Setup kind) may n = absurd may
+gains b (action.Wait owner.Auth kind) may n = absurd may
 gains b (action.Wait (owner.Try m round) kind) may n = chosen (Gains b n) (m == n) (waits (b.story n) kind) (b.story n) (λ t i. inl i) (λ f i. inl i)
 gains b (action.Start l k owner.Setup count len) may n = λ i. inl i
+gains b (action.Start l k owner.Auth count len) may n = λ i. inl i
 gains b (action.Start l k (owner.Try m round) count len) may n = chosen (Gains b n) (m == n) (tried (b.story n) l k) (b.story n) (λ t i. inl i) (λ f i. inl i)
 gains b (action.Created e) may n = λ i. inl i
 gains b (action.Outcome m o) may n = chosen (Gains b n) (m == n) (answered (b.story n) o) (b.story n) (λ t i. absurd (omega (arith, i))) (λ f i. inl i)

@@ -1,5 +1,5 @@
 -- Submissions whose messages haven't started: what they have, and what it tells that they make a step next, or wait.
-use Rattle.std.proofs.Common.{◌≡◌, ◌⊎◌, inl, inr, ℕ, zero, suc, ◌+◌, ◌-◌, ◌<◌, ◌≤◌, ◌==◌, nat_lt, nat_le, min, Bool, true, false, ◌&&◌, ◌||◌, length, Option, None, Some, is_none, is_some, if◌then◌else◌, [], refl, sym, ◌∙◌, ap, subst, arith}
+use Rattle.std.proofs.Common.{◌≡◌, ◌⊎◌, inl, inr, ℕ, zero, suc, ◌+◌, ◌-◌, ◌<◌, ◌≤◌, ◌==◌, nat_lt, nat_le, min, Bool, true, false, ◌&&◌, ◌||◌, not, length, Option, None, Some, is_none, is_some, if◌then◌else◌, [], refl, sym, ◌∙◌, ap, subst, arith}
 use Rattle.std.proofs.lemmas.List.{nil_from_length}
 use Rattle.containers.proofs.Choices.{by_test, both_left, both_right, eq_from, not_both, not_lt_from}
 use Rattle.driver_model.specs.declared.action.Purpose.{Purpose}
@@ -10,9 +10,9 @@ use Rattle.driver_model.specs.Config.{buffer_size, boundary}
 use Rattle.driver_model.specs.Shape.{permits_for}
 use Rattle.driver_model.specs.declared.outcome.Outcome.{Outcome}
 use Rattle.legal_trace.specs.Ledger.{Ledger, dials, is_ready, is_set_up}
-use Rattle.legal_trace.specs.Story.{Story, is_open, is_told, is_awaited, is_unstarted, shape}
+use Rattle.legal_trace.specs.Story.{Story, has_place, is_open, is_told, is_awaited, is_unstarted, shape}
 use Rattle.legal_trace.specs.Book.{Book}
-use Rattle.legal_trace.specs.Steps.{Step, waits, takes, asks, tells, starts, nothing, is_due, configured, is_held, is_held_back, permits_in, permits_on, permits_held, free_permits, is_let_in, is_in_line, line_before, is_outside, unready_wait, starts_or_waits, step_placed, step_timed, step_taking, step_holding, step_open, step_ready, next_step}
+use Rattle.legal_trace.specs.Steps.{Step, waits, takes, asks, tells, starts, nothing, is_due, configured, is_held, is_held_back, renewals_in_line, permits_in, permits_on, permits_held, free_permits, is_let_in, is_in_line, line_before, is_outside, unready_wait, starts_or_waits, step_placed, step_timed, step_taking, step_holding, step_open, step_ready, next_step}
 use Rattle.legal_trace.specs.Legal.{MayTell, MayStart, MayTime, MayTake, CanMove, link_of}
 
 -- one of two holds
@@ -28,6 +28,10 @@ has_no_tries s h = nil_from_length s.tries (eq_from (length s.tries) 0 (both_lef
 pub open_or_told : (s : Story) → is_unstarted s ≡ true → (is_open s ≡ true) ⊎ (is_told s ≡ true)
 open_or_told s h = one_holds (is_open s) (is_told s) (both_right (length s.tries == 0) (is_open s || is_told s) h)
 
+-- it has no place, where so many stand in line before it
+abbrev pub is_outside_of : Option Config → Story → ℕ → Ledger → Bool
+is_outside_of config s line l = not (has_place s) && nat_le (configured buffer_size config) (renewals_in_line l + line)
+
 -- the next step of such a submission: what the configuration is, its story, how many stand in line before it, how many permits
 -- are held, and its link
 abbrev pub step_of : Option Config → Story → ℕ → ℕ → Ledger → Step
@@ -35,7 +39,7 @@ step_of config s line held l =
     if dials l then waits wait.Connect
     else if l.up then (if is_set_up l then step_open (is_told s) (is_held (configured boundary config) l)
     (step_holding (permits_in config) s.permits (λ limit. step_taking (limit - held) (permits_for (shape s) limit))
-    (step_timed s.timeout s.clock (step_placed (nat_le (configured buffer_size config) line) (is_awaited s) (is_held (configured boundary config) l)))) else waits (unready_wait l))
+    (step_timed s.timeout s.clock (step_placed (is_outside_of config s line l) (is_awaited s) (is_held (configured boundary config) l)))) else waits (unready_wait l))
     else nothing
 
 -- where the same stand in line, as many do
