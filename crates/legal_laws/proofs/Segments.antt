@@ -35,7 +35,8 @@ outcome_done b n o (inr told) = tell_applied b n o told
 -- behind a timer
 timer_done : (b : Book) (t ms : ℕ) (what : Purpose) (may : MayTimer b t ms what) → DoneIn (timer_in b t ms what may) (entered b (action.Timer t ms what))
 timer_done b t ms what (inl may) = tt
-timer_done b t ms what (inr may) = ask_applied b t ms what may.begun.applied
+timer_done b t ms what (inr (inl may)) = ask_applied b t ms what may.begun.applied
+timer_done b t ms what (inr (inr may)) = ask_applied b t ms what may.applied
 
 -- behind each action
 done_behind : (b : Book) (a : Action) (may : MayStand b a) → Sound b → DoneIn (segment b a may) (entered b a)
@@ -57,7 +58,7 @@ done_behind b (action.Start l k (owner.Try n round) count len) may h = start_app
 done_behind b (action.Write l bytes) may h = write_moved b l bytes may.moved
 done_behind b (action.Wait owner.Setup kind) may h = absurd may
 done_behind b (action.Wait owner.Auth kind) may h = absurd may
-done_behind b (action.Wait (owner.Try n round) kind) may h = wait_written b n round kind may.1.written
+done_behind b (action.Wait (owner.Try n round) kind) may h = wait_written b n round kind may.1 may.1.written
 
 -- from the fourth segment on all is written
 written_from : (b : Book) (k : ℕ) → 4 ≤ k → DoneIn k b → IsWritten b
@@ -89,14 +90,14 @@ effect_early b a may k h done r = by_test (nat_le k 1) (k ≤ 1) (le_from k 1)
     (λ f. absurd (not_done b a may (step_of b (rank b a may) 8 r (applied b h (applied_from b k (not_le_from k 1 f) done)))))
 
 -- nothing of the second comes behind the third
-pass_early : (b : Book) (a : Action) (may : MayStand b a) (k : ℕ) → Sound b → DoneIn k b → rank b a may < 10 → k ≤ 2
+pass_early : (b : Book) (a : Action) (may : MayStand b a) (k : ℕ) → Sound b → DoneIn k b → rank b a may < 12 → k ≤ 2
 pass_early b a may k h done r = by_test (nat_le k 2) (k ≤ 2) (le_from k 2)
-    (λ f. absurd (not_done b a may (step_of b (rank b a may) 10 r (moved b h (moved_from b k (not_le_from k 2 f) done)))))
+    (λ f. absurd (not_done b a may (step_of b (rank b a may) 12 r (moved b h (moved_from b k (not_le_from k 2 f) done)))))
 
 -- nothing of the third comes behind the fourth
-write_early : (b : Book) (a : Action) (may : MayStand b a) (k : ℕ) → Sound b → DoneIn k b → rank b a may < 11 → k ≤ 3
+write_early : (b : Book) (a : Action) (may : MayStand b a) (k : ℕ) → Sound b → DoneIn k b → rank b a may < 13 → k ≤ 3
 write_early b a may k h done r = by_test (nat_le k 3) (k ≤ 3) (le_from k 3)
-    (λ f. absurd (not_done b a may (step_of b (rank b a may) 11 r (written b h (written_from b k (not_le_from k 3 f) done)))))
+    (λ f. absurd (not_done b a may (step_of b (rank b a may) 13 r (written b h (written_from b k (not_le_from k 3 f) done)))))
 
 -- there is none behind the fourth
 at_most_four : (b : Book) (k : ℕ) → DoneIn k b → k ≤ 4
@@ -115,7 +116,8 @@ outcome_early b n o (inr told) k h done = pass_early b (action.Outcome n o) (inr
 -- and a timer
 timer_early : (b : Book) (t ms : ℕ) (what : Purpose) (may : MayTimer b t ms what) (k : ℕ) → Sound b → DoneIn k b → k ≤ timer_in b t ms what may
 timer_early b t ms what (inl may) k h done = effect_early b (action.Timer t ms what) (inl may) k h done (omega arith)
-timer_early b t ms what (inr may) k h done = pass_early b (action.Timer t ms what) (inr may) k h done (omega arith)
+timer_early b t ms what (inr (inl may)) k h done = pass_early b (action.Timer t ms what) (inr (inl may)) k h done (omega arith)
+timer_early b t ms what (inr (inr may)) k h done = pass_early b (action.Timer t ms what) (inr (inr may)) k h done (omega arith)
 
 -- so does each action that may stand
 comes : (b : Book) (a : Action) (may : MayStand b a) (k : ℕ) → Sound b → DoneIn k b → MayCome k b a may

@@ -1,6 +1,6 @@
 -- The setups that started on a link take what their commands are answered with, and nothing starts on it too early.
-use Rattle.std.proofs.Common.{◌≡◌, ℕ, ◌-◌, ◌==◌, ◌||◌, ◌&&◌, not, Bool, true, false, List, [], ◌++◌, take, Some, None, if◌then◌else◌, refl, sym, ap, ◌∙◌, subst, arith}
-use Rattle.containers.proofs.Choices.{chosen, eq_from, not_both, taken_if}
+use Rattle.std.proofs.Common.{◌≡◌, ◌≢◌, ℕ, ◌-◌, ◌==◌, ◌||◌, ◌&&◌, not, Bool, true, false, List, [], ◌++◌, take, Some, None, if◌then◌else◌, refl, sym, ap, ◌∙◌, subst, arith, slice_get}
+use Rattle.containers.proofs.Choices.{chosen, eq_from, not_both, both_left, taken_if}
 use Rattle.redis_error.specs.declared.redis_error.RedisError.TheVariants as error
 use Rattle.connection_info.specs.declared.address.RedisConnectionInfo.{RedisConnectionInfo}
 use Rattle.credentials.specs.Credentials.{Credentials}
@@ -16,12 +16,14 @@ use Rattle.legal_trace.specs.Legal.{MayStand}
 use Rattle.legal_trace.proofs.Ledgers.{mine_keeps}
 use Rattle.legal_trace.proofs.Moves.{mover_is_ready, ready_is_set, ready_is_up, starter_moves}
 use Rattle.legal_trace.proofs.Plain.{not_none}
-use Rattle.legal_trace.proofs.Sources.{awaits_lacks, awaits_unset, renewal_came, renewal_is_up}
+use Rattle.legal_trace.proofs.Sources.{awaits_lacks, awaits_unset}
+use Rattle.legal_trace.proofs.Renewals.{renewal_came, renewal_is_up}
 use Rattle.legal_trace.proofs.Setups.{SetupsOf, due_is_up, set_is_given, setups_request, setups_setup, set_begins, set_came, set_is_undue}
 use Rattle.legal_laws.proofs.Numbers.{HasLinks, up_is_asked}
 use Rattle.legal_laws.proofs.Pushed.{push_keeps}
 
--- nothing starts on a link that was not asked for, or lacks credentials, and its setups take what they are to
+-- nothing starts on a link that was not asked for, or lacks credentials; its setups take what they are to; and where new
+-- credentials came for it, it is set up
 pub record IsShaped (l : Ledger) : Type 0 where
   pub none : l.asked ≡ false → l.starts ≡ []
   pub are : SetupsOf l.info l.starts
@@ -44,16 +46,16 @@ authorized_shaped l c waits h = record {
 
 -- a link of which new credentials may come is set up
 renewed_set : (l : Ledger) → may_renew l ≡ true → is_set_up l ≡ true
-renewed_set l h = ready_is_set l (both_left (is_ready l) (nat_lt 1 l.creds.asked) (both_left (is_ready l && nat_lt 1 l.creds.asked) (not l.creds.over) h))
+renewed_set l h = ready_is_set l (both_left (is_ready l) l.creds.renews (both_left (is_ready l && l.creds.renews) (not l.creds.over) h))
 
 -- it stays so with news
 news_shaped : (l : Ledger) (turn : ℕ) (news : News) → IsShaped l → IsShaped (with_news l turn news)
 news_shaped l turn silence h = h
-news_shaped l turn connected h = chosen IsShaped (is_over l) l (record l { up = true }) (λ t. h) (λ e. record { none = h.none; are = h.are; bare = h.bare })
-news_shaped l turn (refused f) h = chosen IsShaped (dials l) (refused_in l turn (error.Io f)) l (λ t. record { none = h.none; are = h.are; bare = h.bare }) (λ e. h)
+news_shaped l turn connected h = chosen IsShaped (is_over l) l (record l { up = true }) (λ t. h) (λ e. record { none = h.none; are = h.are; bare = h.bare; ready = h.ready })
+news_shaped l turn (refused f) h = chosen IsShaped (dials l) (refused_in l turn (error.Io f)) l (λ t. record { none = h.none; are = h.are; bare = h.bare; ready = h.ready }) (λ e. h)
 news_shaped l turn overdue h = h
-news_shaped l turn (took count) h = chosen IsShaped l.up (record l { taken = l.taken ++ take count l.offer; offer = [] }) l (λ t. record { none = h.none; are = h.are; bare = h.bare }) (λ e. h)
-news_shaped l turn (came piece) h = chosen IsShaped l.up (bytes_came l piece) l (λ t. record { none = h.none; are = h.are; bare = h.bare }) (λ e. h)
+news_shaped l turn (took count) h = chosen IsShaped l.up (record l { taken = l.taken ++ take count l.offer; offer = [] }) l (λ t. record { none = h.none; are = h.are; bare = h.bare; ready = h.ready }) (λ e. h)
+news_shaped l turn (came piece) h = chosen IsShaped l.up (bytes_came l piece) l (λ t. record { none = h.none; are = h.are; bare = h.bare; ready = λ some. set_came l piece h.are (h.ready some) }) (λ e. h)
 news_shaped l turn (failed f) h = h
 news_shaped l turn (authorized c) h = chosen IsShaped (awaits_credentials l) (authorized_by l c) l (λ t. authorized_shaped l c t h) (λ e. h)
 news_shaped l turn (denied text) h = h
@@ -65,7 +67,7 @@ news_shaped l turn shut h = h
 
 -- so with a turn
 hears_shaped : (l : Ledger) (turn : ℕ) (news : News) → IsShaped l → IsShaped (noted l (hears turn news))
-hears_shaped l turn news h = let m = news_shaped l turn news h in record { none = m.none; are = m.are; bare = m.bare }
+hears_shaped l turn news h = let m = news_shaped l turn news h in record { none = m.none; are = m.are; bare = m.bare; ready = m.ready }
 
 -- with the connect of a link that was not asked for
 asks_shaped : (l : Ledger) (info : RedisConnectionInfo) (wanted : Bool) → l.asked ≡ false → IsShaped l → IsShaped (noted l (asks info wanted))
@@ -83,6 +85,14 @@ due_is_given l k h due lacks =
     let nothing : setup_after l 0 ≡ None = ap (λ x. if x || says_nothing (setup_steps l 0) then None else Some 0) lacks in
     not_none (setup_after l 0) k nothing first
 
+-- a list with something in it isn't empty
+some_there : (cs : List Credentials) (k : ℕ) (c : Credentials) → slice_get cs k ≡ Some c → cs ≢ []
+some_there cs k c e none = not_none (slice_get cs k) c (ap (λ (ds : List Credentials). slice_get ds k) none) e
+
+-- a link on which new credentials are to be told is set up
+pub renewal_is_set : (l : Ledger) (c : Credentials) → IsShaped l → renewal_due l ≡ Some c → is_set_up l ≡ true
+renewal_is_set l c h due = h.ready (some_there l.creds.renewals (renewal_count l.starts) c (renewal_came l c due))
+
 -- with a message that is no setup, on a link that was asked for and is set up
 begins_shaped : (l : Ledger) (s : Start) → is_of_setup s.owner ≡ false → l.asked ≡ true → is_set_up l ≡ true → IsShaped l → IsShaped (noted l (begins s))
 begins_shaped l s other asked set h = record {
@@ -98,14 +108,14 @@ shaped_kept b (action.Turn k (cause.Opening config word)) l may links h = h
 shaped_kept b (action.Turn k (cause.Event e)) l may links h = hears_shaped (b.link l) k (news_of b.timers b.sources l e.kind) h
 shaped_kept b (action.Connect m host port) l may links h = mine_keeps IsShaped (m == l) (b.link l) (asks (info_in b.config) (wanted_in b.config))
     (λ t. let same : m ≡ l = eq_from m l t in let next : m ≡ b.links = may.next in asks_shaped (b.link l) (info_in b.config) (wanted_in b.config) (links.unasked l (omega (arith, same, next))).0 h) h
-shaped_kept b (action.Timer t ms what) l may links h = h
+shaped_kept b (action.Timer t ms what) l may links h = mine_keeps IsShaped (is_renewal_of l what) (b.link l) times (λ t. record { none = h.none; are = h.are; bare = h.bare; ready = h.ready }) h
 shaped_kept b (action.Took owner.Setup m count) l may links h = absurd may
 shaped_kept b (action.Took owner.Auth m count) l may links h = absurd may
 shaped_kept b (action.Took (owner.Try n round) m count) l may links h = h
-shaped_kept b (action.Push m info) l may links h = push_keeps IsShaped (m == l) info.kind (b.link l) (record { none = h.none; are = h.are; bare = h.bare }) (record { none = h.none; are = h.are; bare = h.bare }) h
-shaped_kept b (action.NeedCreds c m) l may links h = mine_keeps IsShaped (m == l) (b.link l) sources (λ t. record { none = h.none; are = h.are; bare = h.bare }) h
-shaped_kept b (action.Close m) l may links h = mine_keeps IsShaped (m == l) (b.link l) (ends (b.turns - 1)) (λ t. record { none = h.none; are = h.are; bare = h.bare }) h
-shaped_kept b (action.Write m bytes) l may links h = mine_keeps IsShaped (m == l) (b.link l) (offers bytes) (λ t. record { none = h.none; are = h.are; bare = h.bare }) h
+shaped_kept b (action.Push m info) l may links h = push_keeps IsShaped (m == l) info.kind (b.link l) (record { none = h.none; are = h.are; bare = h.bare; ready = h.ready }) (record { none = h.none; are = h.are; bare = h.bare; ready = h.ready }) h
+shaped_kept b (action.NeedCreds c m) l may links h = mine_keeps IsShaped (m == l) (b.link l) sources (λ t. record { none = h.none; are = h.are; bare = h.bare; ready = h.ready }) h
+shaped_kept b (action.Close m) l may links h = mine_keeps IsShaped (m == l) (b.link l) (ends (b.turns - 1)) (λ t. record { none = h.none; are = h.are; bare = h.bare; ready = h.ready }) h
+shaped_kept b (action.Write m bytes) l may links h = mine_keeps IsShaped (m == l) (b.link l) (offers bytes) (λ t. record { none = h.none; are = h.are; bare = h.bare; ready = h.ready }) h
 shaped_kept b (action.Wait owner.Setup kind) l may links h = absurd may
 shaped_kept b (action.Wait owner.Auth kind) l may links h = absurd may
 shaped_kept b (action.Wait (owner.Try n round) kind) l may links h = h
