@@ -16,9 +16,9 @@ use Rattle.driver_model.specs.declared.action.Purpose.TheVariants as purpose
 use Rattle.driver_model.specs.declared.action.SourceUse.{SourceUse}
 use Rattle.driver_model.specs.declared.action.SourceUse.TheVariants as source
 use Rattle.driver_model.specs.News.{News, silence, connected, refused, overdue, took, came, failed, authorized, denied, deserted, renewed, unrenewed, late, news_of, of_timer, of_source}
-use Rattle.legal_trace.specs.Ledger.{Ledger, Line, asks, begins, offers, ends, is_over, IsWithin, MayNote, AllNoted, sources}
+use Rattle.legal_trace.specs.Ledger.{Ledger, Line, asks, begins, offers, ends, is_over, IsWithin, MayNote, AllNoted, sources, times}
 use Rattle.legal_trace.specs.Story.{is_awaited, is_no_error, bytes_of}
-use Rattle.legal_trace.specs.Book.{Book, blank_book, entered, lines_of, lines_of_each, if_mine, push_line, info_in, message_of, wanted_in}
+use Rattle.legal_trace.specs.Book.{Book, blank_book, entered, lines_of, lines_of_each, if_mine, push_line, info_in, message_of, wanted_in, is_renewal_of}
 use Rattle.legal_trace.specs.Events.{is_bad_event, is_no_link}
 use Rattle.legal_trace.specs.Legal.{MayStand, MayStart, AllStand, Legal, MayTimer}
 use Rattle.legal_laws.specs.Links.{LinksAreLegal, TakesInOrder, lines_for}

@@ -66,8 +66,7 @@ quiet_stays b (action.Start m k owner.Setup count len) may h some l q =
     mine_keeps (IsQuiet []) (m == l) (b.link l) (begins (message_of b m owner.Setup))
     (λ t. absurd (let due : setup_due (b.link l) ≡ Some may.k = ap (λ j. setup_due (b.link j)) (sym (eq_from m l t)) ∙ may.due in set_is_undue (b.link l) may.k (q.quiet.1 (due_is_up (b.link l) may.k due)) due)) q
 quiet_stays b (action.Start m k owner.Auth count len) may h some l q =
-    mine_keeps (IsQuiet []) (m == l) (b.link l) (begins (message_of b m owner.Auth))
-    (λ t. absurd (let due : setup_due (b.link l) ≡ Some may.k = ap (λ j. setup_due (b.link j)) (sym (eq_from m l t)) ∙ may.due in set_is_undue (b.link l) may.k (q.quiet.1 (due_is_up (b.link l) may.k due)) due)) q
+    mine_keeps (IsQuiet []) (m == l) (b.link l) (begins (message_of b m owner.Auth)) (λ t. begins_quiet [] (b.link l) (message_of b m owner.Auth) refl q) q
 quiet_stays b (action.Start m k (owner.Try n round) count len) may h some l q =
     mine_keeps (IsQuiet []) (m == l) (b.link l) (begins (message_of b m (owner.Try n round))) (λ t. begins_quiet [] (b.link l) (message_of b m (owner.Try n round)) refl q) q
 quiet_stays b (action.Created e) may h some l q = q
@@ -102,7 +101,8 @@ asker_on_a_link b t ms what h may =
 -- the timer that is asked for now
 new_clock : (b : Book) (t ms : ℕ) (what : Purpose) (n : ℕ) → Sound b → MayTimer b t ms what → is_clock_of n (Some what) ≡ true → IsOnALink b n
 new_clock b t ms what n h (inl may) e = absurd (let x : false ≡ true = sym (ap (λ p. is_clock_of n (Some p)) may.is_for) ∙ e in cc x)
-new_clock b t ms what n h (inr may) e = subst (IsOnALink b) (eq_from may.n n (sym (ap (λ p. is_clock_of n (Some p)) may.is_for) ∙ e)) (asker_on_a_link b t ms what h may)
+new_clock b t ms what n h (inr (inr may)) e = absurd (let x : false ≡ true = sym (ap (λ p. is_clock_of n (Some p)) may.is_for) ∙ e in cc x)
+new_clock b t ms what n h (inr (inl may)) e = subst (IsOnALink b) (eq_from may.n n (sym (ap (λ p. is_clock_of n (Some p)) may.is_for) ∙ e)) (asker_on_a_link b t ms what h may)
 
 -- where a timer was asked for, it was before, or is now
 clock_before : (b : Book) (a : Action) → MayStand b a → Sound b → TimesRun b → (n : ℕ) → HasClock n (entered b a).timers → IsOnALink b n

@@ -19,6 +19,7 @@ use Rattle.legal_trace.specs.Ledger.{Ledger, Line, End, Ending, by_opening, asks
 use Rattle.legal_trace.specs.Book.{Book, blank_book, book, entered, entered_each, push_line, info_in, message_of, lines_of_each, wanted_in, is_renewal_of}
 use Rattle.legal_trace.specs.Legal.{MayStand, MayAnswer, MayTell, MayPart, AllStand, is_heard, is_heard_in, Legal}
 use Rattle.legal_trace.proofs.Books.{stand_front, stand_behind}
+use Rattle.legal_trace.proofs.Renewals.{renewal_is_up}
 use Rattle.legal_trace.proofs.Sources.{awaits_up}
 use Rattle.legal_trace.proofs.Ledgers.{each_keeps, mine_keeps, UpIsNotOver, up_keeps, dials_from}
 use Rattle.legal_trace.proofs.Moves.{mover_is_up, starter_moves, teller_moves}
@@ -257,7 +258,7 @@ set_kept b l (action.Wait (owner.Try n round) kind) may s h = h
 set_kept b l (action.Start m k owner.Setup count len) may s h = mine_keeps CutIsSet (m == l) (b.link l) (begins (message_of b m owner.Setup))
     (λ t cut. absurd (lives_uncut (b.link l) (s.up l (subst (λ j. (b.link j).up ≡ true) (eq_from m l t) (due_is_up (b.link m) may.k may.due))) cut)) h
 set_kept b l (action.Start m k owner.Auth count len) may s h = mine_keeps CutIsSet (m == l) (b.link l) (begins (message_of b m owner.Auth))
-    (λ t cut. absurd (lives_uncut (b.link l) (s.up l (subst (λ j. (b.link j).up ≡ true) (eq_from m l t) (due_is_up (b.link m) may.k may.due))) cut)) h
+    (λ t cut. absurd (lives_uncut (b.link l) (s.up l (subst (λ j. (b.link j).up ≡ true) (eq_from m l t) (renewal_is_up (b.link m) may.credentials may.due))) cut)) h
 set_kept b l (action.Start m k (owner.Try n round) count len) may s h = mine_keeps CutIsSet (m == l) (b.link l) (begins (message_of b m (owner.Try n round)))
     (λ t cut. absurd (lives_uncut (b.link l) (s.up l (subst (λ j. (b.link j).up ≡ true) (sym may.1.on_its_link ∙ eq_from m l t) (mover_is_up b n (starter_moves b m k n count len may.1)))) cut)) h
 set_kept b l (action.Created e) may s h = h

@@ -181,6 +181,7 @@ none_held b l sound none = ap (permits_held b.story l) (sound.opens.no_submissio
 -- whoever takes permits does so where they are counted
 counted_where_taken : (config : Config) (b : Book) (who : Owner) (l count : ℕ) → IsReady config b → MayStand b (action.Took who l count) → config.limit ≡ None → ⊥
 counted_where_taken config b owner.Setup l count ready may none = absurd may
+counted_where_taken config b owner.Auth l count ready may none = absurd may
 counted_where_taken config b (owner.Try n round) l count ready may none =
     let t = takes_mean b n count may.1.takes in
     not_none (permits_in b.config) t.2.0 (ap permits_in (ready.configured (applied_began b ready.sound may.1.begun.applied)) ∙ none) t.2.1

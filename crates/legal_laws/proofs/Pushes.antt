@@ -59,9 +59,9 @@ hears_on l turn (failed f) = same_pushes l _ refl refl
 hears_on l turn (authorized c) = chosen (λ (x : Ledger). GoesOn l (record x { heard = authorized c })) (awaits_credentials l) (authorized_by l c) l (λ t. same_pushes l _ refl refl) (λ e. same_pushes l _ refl refl)
 hears_on l turn (denied text) = same_pushes l _ refl refl
 hears_on l turn deserted = same_pushes l _ refl refl
-hears_on l turn (renewed c) = chosen (λ (x : Ledger). GoesOn l (record x { heard = took count })) (may_renew l) (renewed_by l c) l (λ t. same_pushes l _ refl refl) (λ e. same_pushes l _ refl refl)
-hears_on l turn unrenewed = chosen (λ (x : Ledger). GoesOn l (record x { heard = took count })) l.up (unrenewed_by l) l (λ t. same_pushes l _ refl refl) (λ e. same_pushes l _ refl refl)
-hears_on l turn (late k) = chosen (λ (x : Ledger). GoesOn l (record x { heard = took count })) (l.up && is_renewal_open l k) (lost_by l) l (λ t. same_pushes l _ refl refl) (λ e. same_pushes l _ refl refl)
+hears_on l turn (renewed c) = chosen (λ (x : Ledger). GoesOn l (record x { heard = renewed c })) (may_renew l) (renewed_by l c) l (λ t. same_pushes l _ refl refl) (λ e. same_pushes l _ refl refl)
+hears_on l turn unrenewed = chosen (λ (x : Ledger). GoesOn l (record x { heard = unrenewed })) l.up (unrenewed_by l) l (λ t. same_pushes l _ refl refl) (λ e. same_pushes l _ refl refl)
+hears_on l turn (late k) = chosen (λ (x : Ledger). GoesOn l (record x { heard = late k })) (l.up && is_renewal_open l k) (lost_by l) l (λ t. same_pushes l _ refl refl) (λ e. same_pushes l _ refl refl)
 hears_on l turn shut = same_pushes l _ refl refl
 
 -- an action tells no push of link l, which goes on

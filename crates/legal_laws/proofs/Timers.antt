@@ -30,7 +30,14 @@ ask_of b t ms n round (inl may) = absurd (let x : false ≡ true = ap is_respons
     is_response : Purpose → Bool
     is_response (purpose.Connect l) = true
     is_response (purpose.Response who) = false
-ask_of b t ms n round (inr may) = (may, same_owner may.n n round may.is_for)
+    is_response (purpose.Renewal l k) = true
+ask_of b t ms n round (inr (inr may)) = absurd (let x : false ≡ true = ap is_renewal may.is_for in cc x)
+  where
+    is_renewal : Purpose → Bool
+    is_renewal (purpose.Connect l) = false
+    is_renewal (purpose.Response who) = false
+    is_renewal (purpose.Renewal l k) = true
+ask_of b t ms n round (inr (inl may)) = (may, same_owner may.n n round may.is_for)
   where
     same_owner : (m n round : ℕ) → purpose.Response (owner.Try n round) ≡ purpose.Response (owner.Try m 0) → m ≡ n
     same_owner m n round e = cc e

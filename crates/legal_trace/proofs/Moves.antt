@@ -17,7 +17,7 @@ use Rattle.legal_trace.specs.Steps.{Step, waits, takes, asks, tells, starts, not
 use Rattle.legal_trace.specs.Legal.{MayTell, MayStart, MayTime, MayTake, CanMove, link_of}
 
 -- one of two holds
-one_holds : (p q : Bool) → (p || q) ≡ true → (p ≡ true) ⊎ (q ≡ true)
+pub one_holds : (p q : Bool) → (p || q) ≡ true → (p ≡ true) ⊎ (q ≡ true)
 one_holds true q e = inl refl
 one_holds false q e = inr e
 
