@@ -163,7 +163,7 @@ pub taken_out_of_order : NoneBeginsIn (permits_alone 2) (λ config word. both_in
 unfolding digits url_on_literals utf8_lossy utf8_valid_len
 taken_out_of_order word events after h =
     let m = may_stand (permits_alone 2) word events (both_in_wait (permits_alone 2) word (command 72)) after (action.Took (owner.Try 1 0) 0 1) h in
-    m.1.in_order.before 0 (omega arith) (record { unstarted = refl; due = refl })
+    m.1.in_order 0 (omega arith) (record { unstarted = refl; due = refl })
 
 -- a timer of the first submission is asked for where this is its step
 asked_by_the_first : (b : Book) (t ms : ℕ) → MayTimer b t ms (purpose.Response (owner.Try 0 0)) → next_step b 0 ≡ asks ms
