@@ -22,7 +22,7 @@ use Rattle.connection_info.specs.declared.address.ConnectionInfo.{ConnectionInfo
 use Rattle.redis_error.specs.declared.redis_error.RedisError.{RedisError}
 use Rattle.driver_model.specs.Shape.{need_of}
 use Rattle.credentials.specs.Credentials.{Credentials}
-use Rattle.legal_trace.specs.Ledger.{Heard, Ending, is_cut, is_full_by, is_ready, next_push, setup_count, setup_due, setup_message, source_due, renewal_due, renewal_message, renewals_asked, is_over, ending, failure_in, unwritten}
+use Rattle.legal_trace.specs.Ledger.{Heard, Ending, is_cut, is_full_by, is_ready, next_push, setup_count, setup_due, setup_message, source_due, renewal_due, renewals_asked, is_over, ending, failure_in, unwritten}
 use Rattle.legal_trace.specs.Story.{Try, last_of, is_open, is_unstarted, bytes_of, shape}
 use Rattle.legal_trace.specs.Book.{Book, blank_book, book, current, renewal_in, entered, entered_each}
 use Rattle.legal_trace.specs.Steps.{is_held_back, takes, asks, tells, starts, next_step}
