@@ -171,7 +171,11 @@ asked_by_the_first b t ms (inl may) = absurd (of_a_connect (current b) may.is_fo
   where
     of_a_connect : (l : ℕ) → purpose.Response (owner.Try 0 0) ≡ purpose.Connect l → ⊥
     of_a_connect l e = cc e
-asked_by_the_first b t ms (inr may) = subst (λ n. next_step b n ≡ asks ms) (the_first may.n may.is_for) may.asks
+asked_by_the_first b t ms (inr (inr may)) = absurd (of_a_renewal may.l (b.link may.l).creds.timed may.is_for)
+  where
+    of_a_renewal : (l k : ℕ) → purpose.Response (owner.Try 0 0) ≡ purpose.Renewal l k → ⊥
+    of_a_renewal l k e = cc e
+asked_by_the_first b t ms (inr (inl may)) = subst (λ n. next_step b n ≡ asks ms) (the_first may.n may.is_for) may.asks
   where
     the_first : (n : ℕ) → purpose.Response (owner.Try 0 0) ≡ purpose.Response (owner.Try n 0) → n ≡ 0
     the_first n e = cc e
