@@ -19,10 +19,10 @@ use Rattle.link_core.specs.declared.message.PushAt.{PushAt}
 use Rattle.link_core.specs.declared.message.Settled.{Settled}
 use Rattle.link_core.specs.Dealing.{Dealing, with_item, settled_by, dealt_to, dealt, dealt_each, value_dealt, push_behind, pushes_each}
 use Rattle.link_core.specs.Link.{LinkState, pushes_came, pushes_of}
-use Rattle.legal_trace.specs.Ledger.{Ledger, Start, Heard, items_came, value_came, heard_at, heard_each, is_full, is_set_up, is_well, last_result, reach, result_of, setup_count, setup_steps}
+use Rattle.legal_trace.specs.Ledger.{Ledger, Start, Heard, items_came, value_came, heard_at, heard_each, is_full, is_set_up, is_well, lacks_credentials, last_result, reach, result_of, setup_count, setup_steps}
 use Rattle.legal_trace.proofs.Ledgers.{reach_alike}
 use Rattle.legal_trace.proofs.Plain.{same_some}
-use Rattle.legal_trace.proofs.Setups.{AreSetups, bare_is_set, result_same, set_more, start_at}
+use Rattle.legal_trace.proofs.Setups.{AreSetups, bare_is_set, result_same, set_is_given, set_more, setup_said, start_at}
 use Rattle.link_laws.specs.Settles.{StandsAs}
 use Rattle.link_laws.specs.Pushes.{SayTheSame, AreApart}
 use Rattle.link_laws.proofs.Choices.{chosen_both, lt_test, not_lt_test}
@@ -203,9 +203,9 @@ StaysSetUp l = (more : List Data) → is_set_up (record l { dealt = l.dealt ++ m
 pub set_stays : (l : Ledger) → AreSetups l → is_set_up l ≡ true → StaysSetUp l
 set_stays l shaped set more = set_more l l.rest more shaped set
 
--- and one to whose server nothing is to be said
-pub bare_stays : (l : Ledger) → l.info ≡ bare_info → StaysSetUp l
-bare_stays l bare more = bare_is_set (record l { dealt = l.dealt ++ more }) bare
+-- and one to whose server nothing is to be said, and which wants no credentials
+pub bare_stays : (l : Ledger) → l.info ≡ bare_info → l.creds.wanted ≡ false → StaysSetUp l
+bare_stays l bare unasked more = bare_is_set (record l { dealt = l.dealt ++ more }) bare unasked
 
 -- it hears all
 heard_all : (l : Ledger) (vs : List Data) → StaysSetUp l → heard_each l vs ≡ pushes_after l.starts l.dealt vs
@@ -542,11 +542,11 @@ pub record IsLastSetup (l : Ledger) (k : ℕ) : Type 0 where
   pub long : length l.starts ≡ suc k
   pub earlier : (j : ℕ) → j < k → is_full l j ≡ true
 
--- whether a link is set up hangs on its last setup
-set_by_last : (l : Ledger) (k : ℕ) (ds : List Data) → setup_count l.starts ≡ suc k → says_nothing (setup_steps l 0) ≡ false → is_set_up (record l { dealt = ds }) ≡ is_well (result_of (record l { dealt = ds }) k)
-set_by_last l k ds count says =
+-- whether a link is set up that has its credentials hangs on its last setup
+set_by_last : (l : Ledger) (k : ℕ) (ds : List Data) → setup_count l.starts ≡ suc k → lacks_credentials l ≡ false → says_nothing (setup_steps l 0) ≡ false → is_set_up (record l { dealt = ds }) ≡ is_well (result_of (record l { dealt = ds }) k)
+set_by_last l k ds count given says =
     let m : Ledger = record l { dealt = ds } in
-    ap is_well (left_if (says_nothing (setup_steps l 0)) (Some result.Ready) (last_result m (setup_count l.starts)) says ∙ ap (last_result m) count)
+    ap is_well (setup_said m given ∙ left_if (says_nothing (setup_steps l 0)) (Some result.Ready) (last_result m (setup_count l.starts)) says ∙ ap (last_result m) count)
 
 -- where that is well behind all these items, the link is set up from its last item on
 set_from : (l : Ledger) (k : ℕ) (all : List Data) → setup_count l.starts ≡ suc k → length l.starts ≡ suc k → says_nothing (setup_steps l 0) ≡ false → AreSetups l → is_set_up (record l { dealt = all }) ≡ true
@@ -556,13 +556,14 @@ set_from l k all count long says shaped set more later e =
     let m : Ledger = record l { dealt = some } in
     let far = reach (take (suc k) l.starts) all in
     let last = start_at l.starts k (omega (arith, long)) in
+    let given : lacks_credentials l ≡ false = set_is_given (record l { dealt = all }) set in
     let full_is : is_full m k ≡ nat_le far (length some) = ap (λ n. nat_le (reach (take n l.starts) some) (length some)) (add-one k) ∙ ap (λ n. nat_le n (length some)) (reach_alike (take (suc k) l.starts) some all) in
-    set_by_last l k some count says
+    set_by_last l k some count given says
     ∙ by_test (is_full m k) (is_well (result_of m k) ≡ nat_le far (length some))
     (λ t.
     let same : result_of (record l { dealt = all }) k ≡ result_of m k =
     ap (λ (ds : List Data). result_of (record l { dealt = ds }) k) (sym e) ∙ result_same m l.rest later k last.0 last.1 (shaped k last.0 (omega (arith, count)) last.1) t in
-    let well : is_well (result_of m k) ≡ true = sym (ap is_well same) ∙ sym (set_by_last l k all count says) ∙ set in
+    let well : is_well (result_of m k) ≡ true = sym (ap is_well same) ∙ sym (set_by_last l k all count given says) ∙ set in
     well ∙ sym t ∙ full_is)
     (λ f. ap is_well (left_if (is_full m k) _ None f) ∙ sym f ∙ full_is)
 

@@ -46,9 +46,10 @@ told_more l lines more h may = record {
   stands = may_append blank_ledger lines more h.stands (subst (λ (x : Ledger). AllNoted x more) (sym h.told) may);
 }
 
--- a link that is up, to whose server nothing is to be said, has not ended, and reads on
+-- a link that is up, to whose server nothing is to be said, which wants no credentials, has not ended, and reads on
 record Lives (l : Ledger) : Type 0 where
   pub bare : l.info ≡ bare_info
+  pub unasked : l.creds.wanted ≡ false
   pub up : l.up ≡ true
   pub lives : l.end ≡ None
   pub unspoiled : is_spoiled l.rest ≡ false
@@ -80,11 +81,11 @@ fresh_sound : (name : ℕ → Owner) (size boundary : ℕ) → Sound name (fresh
 fresh_sound name size boundary = inl (
   refl,
   (
-    noted (noted blank_ledger (asks bare_info)) (hears 1 connected),
+    noted (noted blank_ledger (asks bare_info false)) (hears 1 connected),
     record {
       told = record { told = refl; stands = (refl, (tt, tt)) };
-      lives = record { bare = refl; up = refl; lives = refl; unspoiled = values-empty.2 };
-      tied = connected_tied name (noted blank_ledger (asks bare_info)) (fresh size boundary) 1 (asked_tied name blank_ledger bare_info (fresh size boundary) (fresh_tied name size boundary));
+      lives = record { bare = refl; unasked = refl; up = refl; lives = refl; unspoiled = values-empty.2 };
+      tied = connected_tied name (noted blank_ledger (asks bare_info false)) (fresh size boundary) 1 (asked_tied name blank_ledger bare_info false (fresh size boundary) (fresh_tied name size boundary));
       packed = tt;
       cuts = tt;
       none = refl;
@@ -98,7 +99,7 @@ fresh_sound name size boundary = inl (
 heard_live : (name : ℕ → Owner) (l : Ledger) (r : Run) → IsLive name l r → IsLive name (noted l (hears (r.turn + 1) silence)) (heard r silence)
 heard_live name l r h = record {
   told = told_more l r.lines (hears (r.turn + 1) silence ∷ []) h.told (tt, tt);
-  lives = record { bare = h.lives.bare; up = h.lives.up; lives = h.lives.lives; unspoiled = h.lives.unspoiled };
+  lives = record { bare = h.lives.bare; unasked = h.lives.unasked; up = h.lives.up; lives = h.lives.lives; unspoiled = h.lives.unspoiled };
   tied = told_tied name l r.link l.asked l.up silence h.tied;
   packed = h.packed;
   cuts = h.cuts;
@@ -148,7 +149,7 @@ withdrawn_live name l r id h = record {
 -- a link lives on where messages start
 begins_live : (name : ℕ → Owner) (l : Ledger) (qs : List Queued) → Lives l → Lives (noted_each l (begins_each name qs))
 begins_live name l [] h = h
-begins_live name l (q ∷ qs) h = begins_live name (noted l (begins (start_from name q))) qs (record { bare = h.bare; up = h.up; lives = h.lives; unspoiled = h.unspoiled })
+begins_live name l (q ∷ qs) h = begins_live name (noted l (begins (start_from name q))) qs (record { bare = h.bare; unasked = h.unasked; up = h.up; lives = h.lives; unspoiled = h.unspoiled })
 
 -- and what was settled keeps its cuts
 begins_cuts : (name : ℕ → Owner) (l : Ledger) (qs : List Queued) (out : List Settled) → AreCuts name l.starts l.dealt out
@@ -186,7 +187,7 @@ offered_live name l r goes_on h =
         noted l (offers r.link.outbox.unwritten),
         record {
           told = told_more l r.lines (offers r.link.outbox.unwritten ∷ []) h.told (offer_stands name l r.link h.lives.up t h.tied, tt);
-          lives = record { bare = h.lives.bare; up = h.lives.up; lives = h.lives.lives; unspoiled = h.lives.unspoiled };
+          lives = record { bare = h.lives.bare; unasked = h.lives.unasked; up = h.lives.up; lives = h.lives.lives; unspoiled = h.lives.unspoiled };
           tied = offered_tied name l r.link h.tied;
           packed = h.packed;
           cuts = h.cuts;
@@ -198,7 +199,7 @@ offered_live name l r goes_on h =
 
 -- what a link that is up keeps when bytes are taken
 taken_lives : (l : Ledger) (turn n : ℕ) → Lives l → Lives (noted l (hears turn (took n)))
-taken_lives l turn n h = if_true (λ (x : Ledger). Lives (record x { heard = took n })) l.up _ l h.up (record { bare = h.bare; up = h.up; lives = h.lives; unspoiled = h.unspoiled })
+taken_lives l turn n h = if_true (λ (x : Ledger). Lives (record x { heard = took n })) l.up _ l h.up (record { bare = h.bare; unasked = h.unasked; up = h.up; lives = h.lives; unspoiled = h.unspoiled })
 
 -- what was settled keeps its cuts
 taken_cuts : (name : ℕ → Owner) (l : Ledger) (turn n : ℕ) (out : List Settled) → l.up ≡ true → AreCuts name l.starts l.dealt out → AreCuts name (noted l (hears turn (took n))).starts (noted l (hears turn (took n))).dealt out
@@ -262,7 +263,7 @@ closed_sound name l r ends_by h = over_sound name l r (row_closed r.link.row) by
 
 -- news that ends a link that is up, to whose server nothing is to be said
 ends_up : (l : Ledger) (news : News) (why : Ending) → Lives l → ending_up l news ≡ Some why → ending (record l { heard = news }) ≡ Some why
-ends_up l news why lives e = ends_where_set (record l { heard = news }) lives.up (bare_is_set (record l { heard = news }) lives.bare) ∙ e
+ends_up l news why lives e = ends_where_set (record l { heard = news }) lives.up (bare_is_set (record l { heard = news }) lives.bare lives.unasked) ∙ e
 
 -- a fault is told, and ends the link
 failed_sound : (name : ℕ → Owner) (l : Ledger) (r : Run) (f : LinkFault) → IsLive name l r → Sound name (over_with (heard r (failed f)) (faulted (settling r) f))
@@ -295,7 +296,7 @@ read_ending name l r piece h =
 
 -- bytes that begin no value end a link that is up
 breaks_up : (l : Ledger) (piece : List ℕ) → Lives l → is_spoiled (has_heard l piece).rest ≡ true → ending (has_heard l piece) ≡ Some (by_fault fault.Parse)
-breaks_up l piece lives spoiled = ends_where_set (has_heard l piece) lives.up (bare_is_set (has_heard l piece) lives.bare) ∙ taken_if (is_spoiled (has_heard l piece).rest) (Some (by_fault fault.Parse)) None spoiled
+breaks_up l piece lives spoiled = ends_where_set (has_heard l piece) lives.up (bare_is_set (has_heard l piece) lives.bare lives.unasked) ∙ taken_if (is_spoiled (has_heard l piece).rest) (Some (by_fault fault.Parse)) None spoiled
 
 -- and then ends where they begin no value
 parse_sound : (name : ℕ → Owner) (l : Ledger) (r : Run) (piece : List ℕ) → r.over ≡ false → IsLive name l r → Sound name (or_parse (after_read r piece))
@@ -310,7 +311,7 @@ parse_sound name l r piece goes_on h =
         has_heard l piece,
         record {
           told = e.told;
-          lives = record { bare = h.lives.bare; up = h.lives.up; lives = h.lives.lives; unspoiled = sym spoils ∙ f };
+          lives = record { bare = h.lives.bare; unasked = h.lives.unasked; up = h.lives.up; lives = h.lives.lives; unspoiled = sym spoils ∙ f };
           tied = e.tied;
           packed = h.packed;
           cuts = e.cuts;
@@ -405,7 +406,7 @@ read_told name P l r piece h whole over =
 live_pushes : (name : ℕ → Owner) (l : Ledger) (r : Run) (piece : List ℕ) → r.over ≡ false → IsLive name l r → PushesAreHeard name r piece
 live_pushes name l r piece goes_on h =
     let sound : r.link.broken ≡ false = h.tied.broken ∙ ap is_spoiled (sym h.tied.rest) ∙ h.lives.unspoiled in
-    let set = bare_stays l h.lives.bare in
+    let set = bare_stays l h.lives.bare h.lives.unasked in
     let new = heard_each l (values (l.rest ++ piece)) in
     let given = pushes_came r.link piece in
     let out = (piece_dealt (record { link = r.link; out = [] }) piece).out in

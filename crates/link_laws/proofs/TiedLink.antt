@@ -9,10 +9,11 @@ use Rattle.resp_read.specs.Values.{left_over, is_spoiled}
 use Rattle.resp_read.specs.Items.{items}
 use Rattle.resp_read.proofs.ValueLaws.{values-empty, left_over-settled}
 use Rattle.connection_info.specs.declared.address.RedisConnectionInfo.{RedisConnectionInfo}
+use Rattle.credentials.specs.Credentials.{Credentials}
 use Rattle.driver_model.specs.declared.action.Owner.{Owner}
 use Rattle.redis_error.specs.declared.fault_kind.FaultKind.{FaultKind}
 use Rattle.redis_error.specs.declared.redis_error.RedisError.TheVariants as error
-use Rattle.driver_model.specs.News.{News, silence, connected, refused, overdue, took, came, failed, shut}
+use Rattle.driver_model.specs.News.{News, silence, connected, refused, overdue, took, came, failed, authorized, denied, deserted, shut}
 use Rattle.link_core.specs.declared.message.Entry.{Entry}
 use Rattle.link_core.specs.declared.message.Queued.{Queued}
 use Rattle.link_core.specs.declared.message.Settled.{Settled}
@@ -22,7 +23,7 @@ use Rattle.link_core.specs.Link.{LinkState, Starting, Settling, fresh, entry_of,
 use Rattle.link_core.specs.Outbox.{can_offer}
 use Rattle.link_core.specs.Row.{silent, silenced}
 use Rattle.link_core.specs.Waiting.{without}
-use Rattle.legal_trace.specs.Ledger.{Start, End, Ledger, ended, asks, hears, begins, offers, ends, blank_ledger, is_over, dials, refused_in, reach, bytes_came, noted, noted_each, joined, unwritten, IsOffered, MayNote, AllNoted}
+use Rattle.legal_trace.specs.Ledger.{Start, End, Ledger, Sourced, unsourced, ended, asks, hears, begins, offers, sources, ends, authorized_by, awaits_credentials, blank_ledger, is_over, dials, refused_in, reach, bytes_came, noted, noted_each, joined, unwritten, IsOffered, MayNote, AllNoted}
 use Rattle.legal_trace.proofs.Ledgers.{joined_more}
 use Rattle.link_laws.specs.Starts.{start_from, begun, starting, begins_each}
 use Rattle.link_laws.proofs.Choices.{chosen_both}
@@ -86,9 +87,9 @@ retied name other l s asked up end news queue row h rows = record {
 pub told_tied : (name : ℕ → Owner) (l : Ledger) (s : LinkState) (asked up : Bool) (news : News) → TiedLink name l s → TiedLink name (record l { asked = asked; up = up; heard = news }) s
 told_tied name l s asked up news h = retied name name l s asked up l.end news s.queue s.row h h.row
 
--- its connect is asked for
-pub asked_tied : (name : ℕ → Owner) (l : Ledger) (info : RedisConnectionInfo) (s : LinkState) → TiedLink name l s → TiedLink name (noted l (asks info)) s
-asked_tied name l info s h = record {
+-- what is to be said to its server, and what is known of its credentials
+pub said_tied : (name : ℕ → Owner) (l : Ledger) (s : LinkState) (info : RedisConnectionInfo) (creds : Sourced) (news : News) → TiedLink name l s → TiedLink name (record l { info = info; creds = creds; heard = news }) s
+said_tied name l s info creds news h = record {
   sent = h.sent;
   offer = h.offer;
   bound = h.bound;
@@ -99,6 +100,22 @@ asked_tied name l info s h = record {
   bytes = h.bytes;
   row = h.row;
 }
+
+-- a source of credentials is asked for
+pub sourced_tied : (name : ℕ → Owner) (l : Ledger) (s : LinkState) → TiedLink name l s → TiedLink name (noted l sources) s
+sourced_tied name l s h = said_tied name l s l.info (record l.creds { asked = true }) l.heard h
+
+-- credentials come
+pub authorized_tied : (name : ℕ → Owner) (l : Ledger) (s : LinkState) (turn : ℕ) (c : Credentials) → TiedLink name l s → TiedLink name (noted l (hears turn (authorized c))) s
+authorized_tied name l s turn c h =
+    let m = authorized_by l c in
+    chosen (λ (x : Ledger). TiedLink name (record x { heard = authorized c }) s) (awaits_credentials l) m l
+    (λ t. said_tied name l s m.info m.creds (authorized c) h)
+    (λ f. told_tied name l s l.asked l.up (authorized c) h)
+
+-- its connect is asked for
+pub asked_tied : (name : ℕ → Owner) (l : Ledger) (info : RedisConnectionInfo) (wanted : Bool) (s : LinkState) → TiedLink name l s → TiedLink name (noted l (asks info wanted)) s
+asked_tied name l info wanted s h = told_tied name (record l { info = info; creds = unsourced wanted }) s true l.up l.heard (said_tied name l s info (unsourced wanted) l.heard h)
 
 -- and succeeds
 pub connected_tied : (name : ℕ → Owner) (l : Ledger) (s : LinkState) (turn : ℕ) → TiedLink name l s → TiedLink name (noted l (hears turn connected)) s
@@ -128,6 +145,9 @@ unheard_tied name l s turn overdue f h = told_tied name l s l.asked l.up overdue
 unheard_tied name l s turn (took count) f h = if_false (λ (x : Ledger). TiedLink name (record x { heard = took count }) s) l.up _ l f (told_tied name l s l.asked l.up (took count) h)
 unheard_tied name l s turn (came piece) f h = if_false (λ (x : Ledger). TiedLink name (record x { heard = came piece }) s) l.up _ l f (told_tied name l s l.asked l.up (came piece) h)
 unheard_tied name l s turn (failed why) f h = told_tied name l s l.asked l.up (failed why) h
+unheard_tied name l s turn (authorized c) f h = authorized_tied name l s turn c h
+unheard_tied name l s turn (denied text) f h = told_tied name l s l.asked l.up (denied text) h
+unheard_tied name l s turn deserted f h = told_tied name l s l.asked l.up deserted h
 unheard_tied name l s turn shut f h = told_tied name l s l.asked l.up shut h
 
 -- what changes the link alone

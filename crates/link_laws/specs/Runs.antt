@@ -40,7 +40,7 @@ pub record Run : Type 0 where
 
 -- a link is asked for in turn 0, and its connect succeeds in turn 1
 abbrev pub fresh_run : ℕ → ℕ → Run
-fresh_run size boundary = record { link = fresh size boundary; over = false; turn = 1; lines = asks bare_info ∷ hears 1 connected ∷ []; settled = []; unstarted = [] }
+fresh_run size boundary = record { link = fresh size boundary; over = false; turn = 1; lines = asks bare_info false ∷ hears 1 connected ∷ []; settled = []; unstarted = [] }
 
 -- a turn, with this news for the link
 abbrev pub heard : Run → News → Run

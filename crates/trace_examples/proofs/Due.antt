@@ -1,7 +1,7 @@
 -- A trace whose steps are tested one by one is legal: each action stands where it may, since it is the next that is due.
-use Rattle.std.proofs.Common.{◌≡◌, ◌⊎◌, ℕ, ◌<◌, ◌==◌, nat_lt, Bool, true, false, ◌&&◌, not, List, [], ◌∷◌, length, Option, Some, None, is_some, refl, sym, ap, subst, ◌∙◌, inl, inr, arith}
+use Rattle.std.proofs.Common.{◌≡◌, ◌⊎◌, ℕ, ◌==◌, Bool, true, false, ◌&&◌, not, List, [], ◌∷◌, length, Option, Some, None, is_some, refl, sym, ap, subst, ◌∙◌, inl, inr, arith}
 use Rattle.std.proofs.lemmas.Bool.{not-true}
-use Rattle.containers.proofs.Choices.{eq_from, ne_from, lt_from, both_left, both_right, not_both}
+use Rattle.containers.proofs.Choices.{eq_from, ne_from, both_left, both_right, not_both}
 use Rattle.resp_value.specs.declared.value.Value.TheVariants.{Nil}
 use Rattle.driver_model.specs.declared.action.Action.{Action}
 use Rattle.driver_model.specs.declared.action.Action.TheVariants as action
@@ -15,24 +15,23 @@ use Rattle.driver_model.specs.declared.outcome.Outcome.{Outcome}
 use Rattle.driver_model.specs.declared.outcome.Outcome.TheVariants as outcome
 use Rattle.driver_model.specs.declared.action.Purpose.{Purpose}
 use Rattle.driver_model.specs.declared.action.Purpose.TheVariants as purpose
-use Rattle.credentials.specs.Credentials.{Credentials}
 use Rattle.driver_model.specs.Push.{is_disconnection}
 use Rattle.driver_model.specs.declared.push_info.PushInfo.{PushInfo}
 use Rattle.driver_model.specs.Config.{address, connect_timeout, first_fault}
 use Rattle.connection_info.specs.declared.address.ConnectionInfo.{ConnectionInfo}
 use Rattle.redis_error.specs.declared.redis_error.RedisError.{RedisError}
 use Rattle.driver_model.specs.Shape.{need_of}
-use Rattle.legal_trace.specs.Ledger.{Heard, Ending, is_cut, is_full_by, is_ready, next_push, setup_count, setup_due, setup_message, source_due, renewal_due, renewal_message, renewals_asked, is_over, ending, failure_in, unwritten}
+use Rattle.legal_trace.specs.Ledger.{Heard, Ending, is_cut, is_full_by, is_ready, next_push, setup_count, setup_due, setup_message, source_due, is_over, ending, failure_in, unwritten}
 use Rattle.legal_trace.specs.Story.{Try, last_of, is_open, is_unstarted, bytes_of, shape}
-use Rattle.legal_trace.specs.Book.{Book, blank_book, book, current, renewal_in, entered, entered_each}
-use Rattle.legal_trace.specs.Steps.{is_ahead, is_held_back, takes, asks, tells, starts, next_step}
+use Rattle.legal_trace.specs.Book.{Book, blank_book, book, current, entered, entered_each}
+use Rattle.legal_trace.specs.Steps.{is_held_back, takes, asks, tells, starts, next_step}
 use Rattle.legal_trace.specs.Owed.{owed}
 use Rattle.legal_trace.specs.Events.{is_bad_event}
-use Rattle.legal_trace.specs.Legal.{IsOpen, IsWaiting, IsBefore, is_heard, link_of, MayTellPush, MayPart, MayPushBy, MayTurn, MayConnect, MayTimeConnect, MayTime, MayTimeRenewal, MayNeed, MayRenew, MayTake, MayTimer, answer_time, MayClose, MaySetUp, MayBeCreated, MayFail, MayAnswer, MayTell, MayStart, MayWrite, MayWait, MayStand, AllStand, causes, event_causes, Legal}
+use Rattle.legal_trace.specs.Legal.{IsOpen, IsWaiting, IsBefore, is_heard, link_of, MayTellPush, MayPart, MayPushBy, MayTurn, MayConnect, MayTimeConnect, MayTime, MayNeed, MayTake, MayTimer, MayClose, MaySetUp, MayBeCreated, MayFail, MayAnswer, MayTell, MayStart, MayWrite, MayWait, MayStand, AllStand, causes, event_causes, Legal}
 use Rattle.legal_trace.proofs.Setups.{due_count}
 use Rattle.trace_examples.proofs.Bounded.{IsBounded, is_of_first, still_bounded, blank_bounded}
 use Rattle.trace_examples.proofs.Checks.{holds_if, held, is_empty, empty_from, filled_from, each_below, below, same_step, step_from, is_other_wait, other_wait}
-use Rattle.trace_examples.proofs.Settled.{is_quiet, quiet, all_shown, verdicts_are_shown, none_ends, no_end, failure_shown, failures_are_shown, pushes_told, pushes_are_told, end_told, ends_are_told, of_open, is_applied, applied, ready_shown, ready_is_shown, is_to_set_up, are_set_up, setups_have_started, is_begun, has_begun, can_renew, is_first, first_to_move, none_ahead, ahead_stay, all_quiet, none_is_owed, is_moved, moved, is_written, written, wait_holds, holds, is_waiting, waiting, is_settled, settled}
+use Rattle.trace_examples.proofs.Settled.{is_quiet, quiet, all_shown, verdicts_are_shown, none_ends, no_end, failure_shown, failures_are_shown, pushes_told, pushes_are_told, end_told, ends_are_told, of_open, is_applied, applied, ready_shown, ready_is_shown, sources_asked, sources_are_asked, is_to_set_up, is_begun, has_begun, all_stay, none_before, is_moved, moved, is_written, written, wait_holds, holds, is_waiting, waiting, is_settled, settled}
 
 -- a turn
 abbrev pub turn_due : Book → ℕ → Cause → Bool
@@ -48,14 +47,14 @@ turn_stands b k (cause.Event e) bounded t = record {
 
 -- a close of the first link
 abbrev pub close_due : Book → ℕ → Bool
-close_due b l = (l == 0) && is_some (ending (b.link l)) && all_shown b && ready_shown b && pushes_told b
+close_due b l = (l == 0) && is_some (ending (b.link l)) && all_shown b && ready_shown b && sources_asked b && pushes_told b
 
 close_stands : (b : Book) (l : ℕ) → IsBounded b → close_due b l ≡ true → MayClose b l
 close_stands b l bounded e = of_ending (ending (b.link l)) refl (search (both_left, both_right))
   where
     of_ending : (x : Option Ending) → ending (b.link l) ≡ x → is_some x ≡ true → MayClose b l
     of_ending None same t = cc t
-    of_ending (Some why) same t = record { why = why; ends = same; in_order = λ m below. let first = eq_from l 0 (search (both_left, both_right)) in absurd (omega arith); answered = verdicts_are_shown b bounded (search (both_left, both_right)); created = ready_is_shown b bounded (search (both_left, both_right)); pushed = pushes_are_told b bounded (search (both_left, both_right)) }
+    of_ending (Some why) same t = record { why = why; ends = same; in_order = λ m below. let first = eq_from l 0 (search (both_left, both_right)) in absurd (omega arith); answered = verdicts_are_shown b bounded (search (both_left, both_right)); created = ready_is_shown b bounded (search (both_left, both_right)); sourced = sources_are_asked b bounded (search (both_left, both_right)); pushed = pushes_are_told b bounded (search (both_left, both_right)) }
 
 -- its last message was full before this push came
 abbrev pub try_before : Book → Heard → Option Try → Bool
@@ -84,7 +83,7 @@ answers_first b p n = is_open (b.story n) && is_before b n p
 -- the next push of the first link; what it says is left to be said
 abbrev pub tell_due : Book → ℕ → Option Heard → Bool
 tell_due b l None = false
-tell_due b l (Some p) = is_heard b && (l == 0) && ready_shown b && each_below (λ n. not (answers_first b p n)) b.submissions
+tell_due b l (Some p) = is_heard b && (l == 0) && ready_shown b && sources_asked b && each_below (λ n. not (answers_first b p n)) b.submissions
 
 -- the push says what came
 abbrev pub IsPushOf : PushInfo → Option Heard → Type 0
@@ -108,13 +107,14 @@ tell_stands b l info bounded e said = of_push (next_push (b.link l)) refl e said
       says = s;
       in_order = λ m below. let first = eq_from l 0 (search (both_left, both_right)) in absurd (omega arith);
       created = ready_is_shown b bounded (search (both_left, both_right));
+      sourced = sources_are_asked b bounded (search (both_left, both_right));
       answered = λ n o on before. of_open b ⊥ n bounded
           (λ i. not_before b n p (second_of (is_open (b.story n)) (is_before b n p) (not-true (answers_first b p n) (below (λ m. not (answers_first b p m)) b.submissions n (search (both_left, both_right)) i)) o) before) o;
     }
 
 -- that a fault ended the first link; that it says no more is left to be said
 abbrev pub part_due : Book → ℕ → Bool
-part_due b l = is_heard b && (l == 0) && is_cut (b.link l).end && not (b.link l).parted && none_ends b && all_shown b
+part_due b l = is_heard b && (l == 0) && is_cut (b.link l).end && not (b.link l).parted && none_ends b && all_shown b && sources_asked b
 
 -- what this says
 part_stands : (b : Book) (l : ℕ) (info : PushInfo) → IsBounded b → part_due b l ≡ true → info.parts ≡ [] → MayPart b l info
@@ -126,6 +126,7 @@ part_stands b l info bounded e bare = record {
   in_order = λ m below. let first = eq_from l 0 (search (both_left, both_right)) in absurd (omega arith);
   closed = no_end b bounded (search (both_left, both_right));
   answered = verdicts_are_shown b bounded (search (both_left, both_right));
+  sourced = sources_are_asked b bounded (search (both_left, both_right));
 }
 
 -- any push
@@ -182,7 +183,7 @@ wait_stands b n kind bounded e = record {
 -- a message of the first try
 abbrev pub start_due : Book → ℕ → ℕ → ℕ → ℕ → ℕ → Bool
 start_due b l k n count len =
-    (is_begun b && is_unstarted (b.story n) && same_step (next_step b n) starts && is_first b n) &&
+    (is_begun b && is_unstarted (b.story n) && same_step (next_step b n) starts && all_stay b n) &&
     ((l == (b.story n).link) && (k == length (b.link l).starts) && (count == need_of (shape (b.story n))) && (len == length (bytes_of (b.story n))))
 
 start_stands : (b : Book) (l k n count len : ℕ) → IsBounded b → start_due b l k n count len ≡ true → MayStart b l k n count len
@@ -190,7 +191,7 @@ start_stands b l k n count len bounded e = record {
   begun = has_begun b bounded (search (both_left, both_right));
   unstarted = search (both_left, both_right);
   starts = step_from (next_step b n) starts (search (both_left, both_right));
-  in_order = first_to_move b n bounded (search (both_left, both_right));
+  in_order = none_before b n (search (both_left, both_right));
   on_its_link = eq_from l (b.story n).link (search (both_left, both_right));
   next = eq_from k (length (b.link l).starts) (search (both_left, both_right));
   needs_its_items = eq_from count (need_of (shape (b.story n))) (search (both_left, both_right));
@@ -199,7 +200,7 @@ start_stands b l k n count len bounded e = record {
 
 -- permits that are taken
 abbrev pub take_due : Book → ℕ → ℕ → ℕ → Bool
-take_due b n l count = is_begun b && is_unstarted (b.story n) && same_step (next_step b n) (takes count) && is_first b n && (l == (b.story n).link)
+take_due b n l count = is_begun b && is_unstarted (b.story n) && same_step (next_step b n) (takes count) && all_stay b n && (l == (b.story n).link)
 
 -- what this says
 take_stands : (b : Book) (n l count : ℕ) → IsBounded b → take_due b n l count ≡ true → MayTake b n l count
@@ -207,13 +208,13 @@ take_stands b n l count bounded e = record {
   begun = has_begun b bounded (search (both_left, both_right));
   unstarted = search (both_left, both_right);
   takes = step_from (next_step b n) (takes count) (search (both_left, both_right));
-  in_order = first_to_move b n bounded (search (both_left, both_right));
+  in_order = none_before b n (search (both_left, both_right));
   on_its_link = eq_from l (b.story n).link (search (both_left, both_right));
 }
 
 -- the timer of a submission
 abbrev pub ask_due : Book → ℕ → ℕ → ℕ → Bool
-ask_due b t ms n = is_begun b && is_unstarted (b.story n) && same_step (next_step b n) (asks ms) && is_first b n && (t == length b.timers)
+ask_due b t ms n = is_begun b && is_unstarted (b.story n) && same_step (next_step b n) (asks ms) && all_stay b n && (t == length b.timers)
 
 -- what this says
 ask_stands : (b : Book) (t ms n : ℕ) → IsBounded b → ask_due b t ms n ≡ true → MayTime b t ms (purpose.Response (owner.Try n 0))
@@ -222,82 +223,15 @@ ask_stands b t ms n bounded e = record {
   begun = has_begun b bounded (search (both_left, both_right));
   unstarted = search (both_left, both_right);
   asks = step_from (next_step b n) (asks ms) (search (both_left, both_right));
-  in_order = first_to_move b n bounded (search (both_left, both_right));
+  in_order = none_before b n (search (both_left, both_right));
   next = eq_from t (length b.timers) (search (both_left, both_right));
   is_for = refl;
 }
 
--- the timer of new credentials on the first link; for how long is left to be said
-abbrev pub renewal_time_due : Book → ℕ → ℕ → ℕ → Bool
-renewal_time_due b t l k = are_set_up b && (l == 0) && (k == (b.link 0).creds.timed) && nat_lt (b.link 0).creds.timed (renewals_asked (b.link 0)) && (t == length b.timers)
-
--- what this says
-renewal_time_stands : (b : Book) (t ms l k : ℕ) → IsBounded b → renewal_time_due b t l k ≡ true → answer_time b.config ≡ Some ms → MayTimeRenewal b t ms (purpose.Renewal l k)
-renewal_time_stands b t ms l k bounded e within =
-    let first : l ≡ 0 = eq_from l 0 (search (both_left, both_right)) in
-    record {
-      applied = applied b bounded (both_left (is_applied b) (not (is_to_set_up b)) (search (both_left, both_right)));
-      setups = setups_have_started b bounded (search (both_left, both_right));
-      l = l;
-      within = within;
-      asked = subst (λ j. (b.link j).creds.timed < renewals_asked (b.link j)) (sym first) (lt_from (b.link 0).creds.timed (renewals_asked (b.link 0)) (search (both_left, both_right)));
-      in_order = λ m below. absurd (omega (arith, first, below));
-      next = eq_from t (length b.timers) (search (both_left, both_right));
-      is_for = ap (purpose.Renewal l) (eq_from k (b.link 0).creds.timed (search (both_left, both_right)) ∙ ap (λ j. (b.link j).creds.timed) (sym first));
-    }
-
--- a source of credentials for the first link
-abbrev pub need_due : Book → ℕ → ℕ → Bool
-need_due b c l = (l == 0) && source_due (b.link l) && (c == length b.sources) && all_quiet b && none_ends b && ready_shown b && pushes_told b
-
--- what this says
-need_stands : (b : Book) (c l : ℕ) → IsBounded b → need_due b c l ≡ true → MayNeed b c l
-need_stands b c l bounded e = record {
-  due = search (both_left, both_right);
-  next = eq_from c (length b.sources) (search (both_left, both_right));
-  in_order = λ m below. let first = eq_from l 0 (search (both_left, both_right)) in absurd (omega arith);
-  answered = none_is_owed b bounded (search (both_left, both_right));
-  ended = no_end b bounded (search (both_left, both_right));
-  created = ready_is_shown b bounded (search (both_left, both_right));
-  pushed = pushes_are_told b bounded (search (both_left, both_right));
-}
-
--- new credentials on the first link
-abbrev pub renew_due : Book → ℕ → ℕ → ℕ → ℕ → Bool
-renew_due b l message count len =
-    is_begun b && (l == 0) && can_renew b && none_ahead b && (message == length (b.link l).starts) && (count == 1) &&
-    (len == length (renewal_in (renewal_due (b.link l))).bytes)
-
--- what this says
-renew_stands : (b : Book) (l message count len : ℕ) → IsBounded b → renew_due b l message count len ≡ true → MayRenew b l message count len
-renew_stands b l message count len bounded e =
-    of_due (renewal_due (b.link 0)) refl (both_left (is_some (renewal_due (b.link 0))) (not (is_held_back b (b.link 0))) (search (both_left, both_right)))
-  where
-    of_due : (o : Option Credentials) → renewal_due (b.link 0) ≡ o → is_some o ≡ true → MayRenew b l message count len
-    of_due None same t = cc t
-    of_due (Some c) same t =
-        let first : l ≡ 0 = eq_from l 0 (search (both_left, both_right)) in
-        let due : renewal_due (b.link l) ≡ Some c = ap (λ j. renewal_due (b.link j)) first ∙ same in
-        record {
-          begun = has_begun b bounded (search (both_left, both_right));
-          can = record {
-            credentials = c;
-            due = due;
-            free = ap (λ j. is_held_back b (b.link j)) first ∙ not-true (is_held_back b (b.link 0)) (both_right (is_some (renewal_due (b.link 0))) (not (is_held_back b (b.link 0))) (search (both_left, both_right)));
-          };
-          behind = λ n can ahead. ahead_stay b bounded (search (both_left, both_right)) n can (subst (λ j. is_ahead (b.link j) (b.story n) ≡ true) first ahead.1);
-          in_order = λ m below. absurd (omega (arith, first, below));
-          next = eq_from message (length (b.link l).starts) (search (both_left, both_right));
-          needs_its_item = eq_from count 1 (search (both_left, both_right));
-          long_as_its_bytes = eq_from len (length (renewal_in (renewal_due (b.link l))).bytes) (search (both_left, both_right)) ∙ ap (λ o. length (renewal_in o).bytes) due;
-        }
-
--- the timer of the opening, of which is left to be said for how long and for what; or that of a submission, or of credentials
+-- the timer of the opening, of which is left to be said for how long and for what; or that of a submission
 abbrev pub timer_due : Book → ℕ → ℕ → Purpose → Bool
 timer_due b t ms (purpose.Connect l) = not (b.links == 0) && is_empty b.timers && (t == length b.timers)
 timer_due b t ms (purpose.Response owner.Setup) = false
-timer_due b t ms (purpose.Response owner.Auth) = false
-timer_due b t ms (purpose.Renewal l k) = renewal_time_due b t l k
 timer_due b t ms (purpose.Response (owner.Try n round)) = (round == 0) && ask_due b t ms n
 
 -- that a connect may take so long, and is what the timer is for
@@ -306,11 +240,10 @@ IsTime b None ms what = ⊥
 IsTime b (Some (cause.Event e)) ms what = ⊥
 IsTime b (Some (cause.Opening config word)) ms what = (connect_timeout config ≡ Some ms) × (what ≡ purpose.Connect (current b))
 
--- this is left to be said of the timer of a connect, or of credentials
+-- this is left to be said of the timer of a connect
 abbrev pub IsTimeOf : Book → ℕ → Purpose → Type 0
 IsTimeOf b ms (purpose.Connect l) = IsTime b b.running ms (purpose.Connect l)
 IsTimeOf b ms (purpose.Response who) = Unit {0}
-IsTimeOf b ms (purpose.Renewal l k) = answer_time b.config ≡ Some ms
 
 -- so the timer of a connect may stand
 connect_timer_stands : (b : Book) (t ms l : ℕ) → timer_due b t ms (purpose.Connect l) ≡ true → IsTime b b.running ms (purpose.Connect l) → MayTimeConnect b t ms (purpose.Connect l)
@@ -334,14 +267,12 @@ connect_timer_stands b t ms l e said = of_cause b.running refl said
 timer_stands : (b : Book) (t ms : ℕ) (what : Purpose) → IsBounded b → timer_due b t ms what ≡ true → IsTimeOf b ms what → MayTimer b t ms what
 timer_stands b t ms (purpose.Connect l) bounded e said = inl (connect_timer_stands b t ms l e said)
 timer_stands b t ms (purpose.Response owner.Setup) bounded e said = cc e
-timer_stands b t ms (purpose.Response owner.Auth) bounded e said = cc e
-timer_stands b t ms (purpose.Renewal l k) bounded e said = inr (inr (renewal_time_stands b t ms l k bounded e said))
 timer_stands b t ms (purpose.Response (owner.Try n round)) bounded e said =
-    inr (inl (subst (λ r. MayTime b t ms (purpose.Response (owner.Try n r))) (sym (eq_from round 0 (both_left (round == 0) (ask_due b t ms n) e))) (ask_stands b t ms n bounded (both_right (round == 0) (ask_due b t ms n) e))))
+    inr (subst (λ r. MayTime b t ms (purpose.Response (owner.Try n r))) (sym (eq_from round 0 (both_left (round == 0) (ask_due b t ms n) e))) (ask_stands b t ms n bounded (both_right (round == 0) (ask_due b t ms n) e)))
 
 -- a creation that failed; with which error is left to be said
 abbrev pub failure_due : Book → Bool
-failure_due b = (b.created == 0) && none_ends b && all_shown b
+failure_due b = (b.created == 0) && none_ends b && all_shown b && sources_asked b
 
 failure_stands : (b : Book) (e : RedisError) → IsBounded b → failure_due b ≡ true → failure_in (b.link 0).end ≡ Some e → MayFail b e
 failure_stands b e bounded t fails = record {
@@ -351,6 +282,21 @@ failure_stands b e bounded t fails = record {
   once = eq_from b.created 0 (search (both_left, both_right));
   ended = no_end b bounded (search (both_left, both_right));
   answered = verdicts_are_shown b bounded (search (both_left, both_right));
+  sourced = sources_are_asked b bounded (search (both_left, both_right));
+}
+
+-- a source of credentials for the first link
+abbrev pub need_due : Book → ℕ → ℕ → Bool
+need_due b c l = (l == 0) && source_due (b.link l) && (c == length b.sources) && all_shown b && ready_shown b
+
+-- what this says
+need_stands : (b : Book) (c l : ℕ) → IsBounded b → need_due b c l ≡ true → MayNeed b c l
+need_stands b c l bounded e = record {
+  due = search (both_left, both_right);
+  next = eq_from c (length b.sources) (search (both_left, both_right));
+  in_order = λ m below. let first = eq_from l 0 (search (both_left, both_right)) in absurd (omega arith);
+  answered = verdicts_are_shown b bounded (search (both_left, both_right));
+  created = ready_is_shown b bounded (search (both_left, both_right));
 }
 
 -- the creation
@@ -405,8 +351,8 @@ before_next b n (Some q) p e same = before_from b n p (ap (λ o. is_before_next 
 
 -- an outcome: what is owed, or where nothing is, the Nil of a command whose reply nobody awaits; which it is is left to be said
 abbrev pub outcome_due : Book → ℕ → Option Outcome → Bool
-outcome_due b n (Some o) = each_below (λ m. is_quiet b m) n && holds_if (is_heard b) (is_before_next b n (next_push (link_of b n))) && holds_if (is_over (link_of b n)) (none_ends b && all_shown b && failure_shown b && end_told b)
-outcome_due b n None = is_begun b && is_unstarted (b.story n) && same_step (next_step b n) tells && is_first b n
+outcome_due b n (Some o) = each_below (λ m. is_quiet b m) n && holds_if (is_heard b) (is_before_next b n (next_push (link_of b n))) && holds_if (is_over (link_of b n)) (none_ends b && all_shown b && failure_shown b && end_told b && sources_asked b)
+outcome_due b n None = is_begun b && is_unstarted (b.story n) && same_step (next_step b n) tells && all_stay b n
 
 -- what is said is what is owed, or Nil
 abbrev pub IsSaid : Outcome → Option Outcome → Type 0
@@ -427,19 +373,22 @@ outcome_stands b n o bounded e said = of_owed (owed b n) refl (both_right (is_op
       after_pushes = λ heard p waits.
           before_next b n (next_push (link_of b n)) p (held (is_heard b) (is_before_next b n (next_push (link_of b n))) (search (both_left, both_right)) heard) waits;
       after_closes = λ over.
-          let done = held (is_over (link_of b n)) (none_ends b && all_shown b && failure_shown b && end_told b) (search (both_left, both_right)) over in (
+          let done = held (is_over (link_of b n)) (none_ends b && all_shown b && failure_shown b && end_told b && sources_asked b) (search (both_left, both_right)) over in (
             no_end b bounded (search (both_left, both_right)),
             verdicts_are_shown b bounded (search (both_left, both_right)),
             failures_are_shown b bounded (search (both_left, both_right)),
             ends_are_told b bounded (search (both_left, both_right)),
           );
+      after_sources = λ over.
+          let done = held (is_over (link_of b n)) (none_ends b && all_shown b && failure_shown b && end_told b && sources_asked b) (search (both_left, both_right)) over in
+          sources_are_asked b bounded (search (both_left, both_right));
     })
     of_owed None same t s = inr (record {
       begun = has_begun b bounded (search (both_left, both_right));
       asked = open_still;
       unstarted = search (both_left, both_right);
       tells = step_from (next_step b n) tells (search (both_left, both_right));
-      in_order = first_to_move b n bounded (search (both_left, both_right));
+      in_order = none_before b n (search (both_left, both_right));
       nil = s;
     })
 
@@ -449,17 +398,14 @@ due b (action.Turn k c) = turn_due b k c
 due b (action.Connect l host port) = (b.links == 0) && (l == 0)
 due b (action.Timer t ms what) = timer_due b t ms what
 due b (action.Took owner.Setup l count) = false
-due b (action.Took owner.Auth l count) = false
 due b (action.Took (owner.Try n round) l count) = (round == 0) && take_due b n l count
 due b (action.Push l info) = push_due (is_disconnection info.kind) b l
 due b (action.NeedCreds c l) = need_due b c l
 due b (action.Close l) = close_due b l
 due b (action.Write l bytes) = write_due b l bytes
 due b (action.Wait owner.Setup kind) = false
-due b (action.Wait owner.Auth kind) = false
 due b (action.Wait (owner.Try n round) kind) = (round == 0) && wait_due b n kind
 due b (action.Start l k owner.Setup count len) = set_up_due b l k count len
-due b (action.Start l k owner.Auth count len) = renew_due b l k count len
 due b (action.Start l k (owner.Try n round) count len) = (round == 0) && start_due b l k n count len
 due b (action.Created None) = created_due b
 due b (action.Created (Some e)) = failure_due b
@@ -528,7 +474,6 @@ first_stands b (action.Turn k c) more bounded e said = (turn_stands b k c bounde
 first_stands b (action.Connect l host port) more bounded e said = (connect_stands b l host port e said.0, said.1)
 first_stands b (action.Timer t ms what) more bounded e said = (timer_stands b t ms what bounded e said.0, said.1)
 first_stands b (action.Took owner.Setup l count) more bounded e said = absurd (cc e)
-first_stands b (action.Took owner.Auth l count) more bounded e said = absurd (cc e)
 first_stands b (action.Took (owner.Try n round) l count) more bounded e said =
     ((eq_from round 0 (both_left (round == 0) (take_due b n l count) e), take_stands b n l count bounded (both_right (round == 0) (take_due b n l count) e)), said)
 first_stands b (action.Push l info) more bounded e said = (push_stands (is_disconnection info.kind) b l info bounded e said.0, said.1)
@@ -536,11 +481,9 @@ first_stands b (action.NeedCreds c l) more bounded e said = (need_stands b c l b
 first_stands b (action.Close l) more bounded e said = (close_stands b l bounded e, said)
 first_stands b (action.Write l bytes) more bounded e said = (write_stands b l bytes bounded e said.0, said.1)
 first_stands b (action.Wait owner.Setup kind) more bounded e said = absurd (cc e)
-first_stands b (action.Wait owner.Auth kind) more bounded e said = absurd (cc e)
 first_stands b (action.Wait (owner.Try n round) kind) more bounded e said =
     ((eq_from round 0 (both_left (round == 0) (wait_due b n kind) e), wait_stands b n kind bounded (both_right (round == 0) (wait_due b n kind) e)), said)
 first_stands b (action.Start l k owner.Setup count len) more bounded e said = (set_up_stands b l k count len bounded e, said)
-first_stands b (action.Start l k owner.Auth count len) more bounded e said = (renew_stands b l k count len bounded e, said)
 first_stands b (action.Start l k (owner.Try n round) count len) more bounded e said =
     ((eq_from round 0 (both_left (round == 0) (start_due b l k n count len) e), start_stands b l k n count len bounded (both_right (round == 0) (start_due b l k n count len) e)), said)
 first_stands b (action.Created None) more bounded e said = (created_stands b bounded e, said)

@@ -1,5 +1,5 @@
 -- Actions that stand where they may not: whatever comes after these fronts, no trace that begins so is legal.
-use Rattle.std.proofs.Common.{length, ap, ◌∙◌, ◌≡◌, ◌≢◌, ℕ, ◌+◌, ◌<◌, nat_le, Bool, true, false, List, ◌∷◌, ◌++◌, nat_lt, ◌&&◌, ◌||◌, Option, Some, None, is_none, refl, sym, inl, inr, arith}
+use Rattle.std.proofs.Common.{length, ap, ◌∙◌, ◌≡◌, ◌≢◌, ℕ, ◌<◌, nat_le, Bool, true, false, List, ◌∷◌, ◌++◌, nat_lt, ◌&&◌, ◌||◌, Option, Some, None, is_none, refl, sym, inl, inr, arith}
 use Rattle.containers.proofs.Choices.{not_both, not_le_from, not_le_test}
 use Rattle.std.specs.Fmt.{digits}
 use Rattle.resp_value.specs.declared.value.Value.TheVariants.{Nil}
@@ -23,9 +23,9 @@ use Rattle.legal_trace.specs.Events.{is_bad_event}
 use Rattle.legal_trace.specs.Ledger.{dials, is_ready}
 use Rattle.legal_trace.specs.Story.{is_told, is_awaited}
 use Rattle.legal_trace.specs.Book.{Book}
-use Rattle.legal_trace.specs.Steps.{tells, starts, permits_in, line_before, is_outside, is_held_back, is_behind_renewal, is_kept_back, renewals_in_line, is_due, next_step}
+use Rattle.legal_trace.specs.Steps.{tells, starts, permits_in, line_before, is_outside, is_held_back, is_due, next_step}
 use Rattle.legal_trace.specs.Legal.{link_of, MayTurn, Legal}
-use Rattle.legal_trace.proofs.Moves.{is_timed, neither_holds, starts_mean, tells_mean, placed_is_awaited, free_is_due}
+use Rattle.legal_trace.proofs.Moves.{is_timed, starts_mean, tells_mean, placed_is_awaited, free_is_due}
 use Rattle.trace_examples.specs.Parts.{turn, command, unawaited, one_nameless, nameless_atomic, nameless_skipped}
 use Rattle.trace_examples.specs.Traces.{taken_in_part, came_up, arrived, started_one, started_unoffered, held_back, spoiled, cut_off, left_untold, left_out, both_left_out, up_in_wait, both_in_wait, first_of_both, ended}
 use Rattle.legal_trace.proofs.Setups.{silent_is_set}
@@ -66,7 +66,7 @@ started_untold config word events after h =
     untold_starts (book_of (left_untold config word)) 0 refl refl m.1.starts
 
 -- where the second of two that came before the connect has its place, the first is to make a step
-pub first_is_due : (b : Book) → dials (link_of b 0) ≡ false → is_ready (link_of b 0) ≡ true → is_kept_back b (b.story 0) ≡ false → is_told (b.story 0) ≡ false → permits_in b.config ≡ None → is_outside b 0 ≡ false → is_due (next_step b 0) ≡ true
+pub first_is_due : (b : Book) → dials (link_of b 0) ≡ false → is_ready (link_of b 0) ≡ true → is_held_back b (link_of b 0) ≡ false → is_told (b.story 0) ≡ false → permits_in b.config ≡ None → is_outside b 0 ≡ false → is_due (next_step b 0) ≡ true
 first_is_due b d u h t limit o = free_is_due b 0 d u h t (ap (λ x. is_none x || nat_lt 0 (b.story 0).permits) limit) o
 
 -- the Nil of a command whose reply nobody awaits, before the start of an earlier one
@@ -79,7 +79,7 @@ told_out_of_order config word events after h =
       | inl answer ↦ cc answer.owes
       | inr tell ↦
           let t = tells_uncounted b 1 refl tell.tells in
-          tell.in_order.before 0 (omega arith) (record { unstarted = refl; due = first_is_due b refl (tells_mean b 1 tell.tells).1 refl refl t.0 (room_for_one (buffer_size config) (renewals_in_line (b.link 0) + line_before config.limit b.story 0 1) t.1) })
+          tell.in_order 0 (omega arith) (record { unstarted = refl; due = first_is_due b refl (tells_mean b 1 tell.tells).1 refl refl t.0 (room_for_one (buffer_size config) (line_before config.limit b.story 0 1) t.1) })
     ]
 
 -- and before the creation
@@ -131,8 +131,7 @@ offered_before_a_start config word events after bytes free h =
     let b = book_of (first_of_both config word) in
     let silent = both_up_silent config word events (command 72) (action.Start 0 0 (owner.Try 0 0) 1 11 ∷ action.Write 0 bytes ∷ after) h in
     let given = both_up_given config word events (command 72) (action.Start 0 0 (owner.Try 0 0) 1 11 ∷ action.Write 0 bytes ∷ after) h in
-    let kept = neither_holds (is_held_back b (link_of b 1)) (is_behind_renewal (link_of b 1) (b.story 1)) (not_le_test (boundary config) 11 free) refl in
-    m.moved.moved 1 (record { unstarted = refl; due = free_is_due b 1 refl (silent_is_set (link_of b 1) given silent) kept refl (ap (λ x. is_none x || false) s.0) s.1 })
+    m.moved.moved 1 (record { unstarted = refl; due = free_is_due b 1 refl (silent_is_set (link_of b 1) given silent) (not_le_test (boundary config) 11 free) refl (ap (λ x. is_none x || false) s.0) s.1 })
 
 -- bytes that are offered twice
 pub offered_twice : (config : Config) (word : ℕ) (events : List Event) (after : List Action)

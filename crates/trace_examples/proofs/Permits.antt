@@ -163,7 +163,7 @@ pub taken_out_of_order : NoneBeginsIn (permits_alone 2) (λ config word. both_in
 unfolding digits url_on_literals utf8_lossy utf8_valid_len
 taken_out_of_order word events after h =
     let m = may_stand (permits_alone 2) word events (both_in_wait (permits_alone 2) word (command 72)) after (action.Took (owner.Try 1 0) 0 1) h in
-    m.1.in_order.before 0 (omega arith) (record { unstarted = refl; due = refl })
+    m.1.in_order 0 (omega arith) (record { unstarted = refl; due = refl })
 
 -- a timer of the first submission is asked for where this is its step
 asked_by_the_first : (b : Book) (t ms : ℕ) → MayTimer b t ms (purpose.Response (owner.Try 0 0)) → next_step b 0 ≡ asks ms
@@ -171,11 +171,7 @@ asked_by_the_first b t ms (inl may) = absurd (of_a_connect (current b) may.is_fo
   where
     of_a_connect : (l : ℕ) → purpose.Response (owner.Try 0 0) ≡ purpose.Connect l → ⊥
     of_a_connect l e = cc e
-asked_by_the_first b t ms (inr (inr may)) = absurd (of_a_renewal may.l (b.link may.l).creds.timed may.is_for)
-  where
-    of_a_renewal : (l k : ℕ) → purpose.Response (owner.Try 0 0) ≡ purpose.Renewal l k → ⊥
-    of_a_renewal l k e = cc e
-asked_by_the_first b t ms (inr (inl may)) = subst (λ n. next_step b n ≡ asks ms) (the_first may.n may.is_for) may.asks
+asked_by_the_first b t ms (inr may) = subst (λ n. next_step b n ≡ asks ms) (the_first may.n may.is_for) may.asks
   where
     the_first : (n : ℕ) → purpose.Response (owner.Try 0 0) ≡ purpose.Response (owner.Try n 0) → n ≡ 0
     the_first n e = cc e

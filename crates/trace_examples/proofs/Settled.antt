@@ -1,23 +1,22 @@
 -- Tests of a book, and what each says: what holds of all submissions and all links is tested of those that were given out.
-use Rattle.std.proofs.Common.{◌≡◌, ◌≢◌, ◌⊎◌, ℕ, ◌+◌, ◌<◌, ◌≤◌, ◌==◌, nat_lt, nat_le, Bool, true, false, ◌&&◌, ◌||◌, not, List, length, Option, Some, None, is_some, if◌then◌else◌, refl, sym, ap, ◌∙◌, subst, inl, inr, arith}
+use Rattle.std.proofs.Common.{◌≡◌, ◌≢◌, ◌⊎◌, ℕ, ◌<◌, ◌==◌, nat_lt, Bool, true, false, ◌&&◌, ◌||◌, not, List, length, Option, Some, None, is_some, refl, sym, ap, ◌∙◌, subst, inl, inr, arith}
 use Rattle.std.specs.Option.{is_none}
 use Rattle.std.specs.Prelude.{slice_get}
 use Rattle.std.proofs.lemmas.Bool.{not-true}
-use Rattle.containers.proofs.Choices.{by_test, not_both, eq_from, ne_from, le_from, lt_from, not_lt_from, left_if, both_left, both_right}
+use Rattle.containers.proofs.Choices.{by_test, not_both, eq_from, ne_from, lt_from, not_lt_from, left_if, both_left, both_right}
 use Rattle.redis_error.specs.declared.redis_error.RedisError.{RedisError}
 use Rattle.driver_model.specs.Config.{connect_timeout}
 use Rattle.driver_model.specs.declared.action.Cause.{Cause}
 use Rattle.driver_model.specs.declared.action.Cause.TheVariants as cause
 use Rattle.driver_model.specs.declared.action.WaitKind.{WaitKind}
 use Rattle.driver_model.specs.declared.event.Submission.{Submission}
-use Rattle.legal_trace.specs.Ledger.{Ledger, Start, Heard, IsOffered, is_over, is_cut, ending, next_push, failure_in, unwritten, is_full, is_ready, is_set_up, is_taken, last_renewal, renewal_count, renewal_due, renewals_asked, setup_due, source_due}
+use Rattle.legal_trace.specs.Ledger.{Ledger, Heard, IsOffered, is_over, is_cut, ending, next_push, failure_in, unwritten, is_full, is_ready, is_set_up, setup_due, source_due}
 use Rattle.legal_trace.specs.Story.{Try, last_of, is_open, is_told, is_unstarted, is_awaited, is_no_error, awaited_in}
 use Rattle.legal_trace.specs.Book.{Book}
-use Rattle.legal_trace.specs.Steps.{waits, is_ahead, is_due, next_step, is_held_back}
-use Rattle.legal_trace.proofs.Moves.{both_hold}
+use Rattle.legal_trace.specs.Steps.{waits, is_due, next_step, is_held_back}
 use Rattle.legal_trace.proofs.Setups.{due_is_up}
 use Rattle.legal_trace.specs.Owed.{owed}
-use Rattle.legal_trace.specs.Legal.{IsOpen, link_of, NoneIsOwed, VerdictsAreShown, NoneEnds, FailuresAreShown, IsTimed, IsApplied, CanMove, CanRenew, IsAhead, IsFirstToMove, IsMoved, SourcesAreAsked, RenewalsAreTimed, answer_time, IsWritten, WaitHolds, IsStarted, IsWaiting, IsSettled, ReadyIsShown, PushesAreTold, EndsAreTold, IsBegun, SetupsAreStarted, is_heard}
+use Rattle.legal_trace.specs.Legal.{IsOpen, link_of, NoneIsOwed, VerdictsAreShown, NoneEnds, FailuresAreShown, IsTimed, IsApplied, CanMove, IsMoved, IsWritten, WaitHolds, IsStarted, IsWaiting, IsSettled, ReadyIsShown, SourcesAreAsked, PushesAreTold, EndsAreTold, IsBegun, is_heard}
 use Rattle.trace_examples.proofs.Bounded.{IsBounded, IsIdle}
 use Rattle.trace_examples.proofs.Checks.{holds_if, held, none_from, is_empty, empty_from, filled_from, each_below, below, same_step, step_from}
 
@@ -155,17 +154,16 @@ ends_are_told b bounded t l heard = first_and_idle b (λ m. is_cut (b.link m).en
     (λ cut. held (is_cut (b.link 0).end) (b.link 0).parted (held (is_heard b) (holds_if (is_cut (b.link 0).end) (b.link 0).parted) t heard) cut)
     (λ idle cut. absurd (idle_uncut (b.link l) idle cut))
 
--- the sources of credentials of the link were asked for that are to be
+-- the source of credentials of the link was asked for, if one is to be
 abbrev pub sources_asked : Book → Bool
 sources_asked b = not (source_due (b.link 0))
 
 -- for an idle link none is to be
 idle_unsourced : (l : Ledger) → IsIdle l → source_due l ≡ false
-idle_unsourced l idle = and_false (l.up && l.creds.wanted) ((l.creds.asked == 0) || (is_set_up l && (l.creds.asked == 1))) (and_false l.up l.creds.wanted idle.down)
+idle_unsourced l idle = and_false (l.up && l.creds.wanted) (not l.creds.asked) (and_false l.up l.creds.wanted idle.down)
 
 pub sources_are_asked : (b : Book) → IsBounded b → sources_asked b ≡ true → SourcesAreAsked b
-sources_are_asked b bounded t l = first_and_idle b (λ m. source_due (b.link m) ≡ false) l bounded
-    (not-true (source_due (b.link 0)) t) (idle_unsourced (b.link l))
+sources_are_asked b bounded t l = first_and_idle b (λ m. source_due (b.link m) ≡ false) l bounded (not-true (source_due (b.link 0)) t) (idle_unsourced (b.link l))
 
 -- the event has had its own effect
 abbrev pub is_applied : Book → Bool
@@ -194,38 +192,9 @@ is_to_set_up b = is_some (setup_due (b.link 0)) && not (is_held_back b (b.link 0
 idle_undue : (l : Ledger) (k : ℕ) → IsIdle l → setup_due l ≡ Some k → ⊥
 idle_undue l k idle due = not_both l.up idle.down (due_is_up l k due)
 
--- the event has had its effect, and setups have started
-abbrev pub are_set_up : Book → Bool
-are_set_up b = is_applied b && not (is_to_set_up b)
-
--- the new credentials of the link have their timers, where they are to have some
-abbrev pub renewals_timed : Book → Bool
-renewals_timed b = holds_if (is_some (answer_time b.config)) (nat_le (renewals_asked (b.link 0)) (b.link 0).creds.timed)
-
--- setups have started, and new credentials have their timers
+-- setups have started
 abbrev pub is_begun : Book → Bool
-is_begun b = are_set_up b && renewals_timed b
-
--- no new credentials are to be told on an idle link
-idle_unrenewed : (l : Ledger) → IsIdle l → renewal_due l ≡ None
-idle_unrenewed l idle = left_if (l.up && not l.creds.lost && is_taken l (last_renewal l.starts 0 None)) (slice_get l.creds.renewals (renewal_count l.starts)) None
-    (and_false (l.up && not l.creds.lost) (is_taken l (last_renewal l.starts 0 None)) (and_false l.up (not l.creds.lost) idle.down))
-
--- nor were any
-pub idle_unasked : (l : Ledger) → IsIdle l → renewals_asked l ≡ 0
-idle_unasked l idle =
-    ap (λ o. renewal_count l.starts + (if is_some o then 1 else 0)) (idle_unrenewed l idle)
-    ∙ ap (λ (ss : List Start). renewal_count ss + 0) idle.quiet
-
--- what isn't none is some
-some_of : (o : Option ℕ) → o ≢ None → is_some o ≡ true
-some_of None n = absurd (n refl)
-some_of (Some x) n = refl
-
-pub renewals_are_timed : (b : Book) → IsBounded b → renewals_timed b ≡ true → RenewalsAreTimed b
-renewals_are_timed b bounded t l set = first_and_idle b (λ m. renewals_asked (b.link m) ≤ (b.link m).creds.timed) l bounded
-    (le_from (renewals_asked (b.link 0)) (b.link 0).creds.timed (held (is_some (answer_time b.config)) (nat_le (renewals_asked (b.link 0)) (b.link 0).creds.timed) t (some_of (answer_time b.config) set)))
-    (λ idle. let none : renewals_asked (b.link l) ≡ 0 = idle_unasked (b.link l) idle in omega (arith, none))
+is_begun b = is_applied b && not (is_to_set_up b)
 
 -- what doesn't hold with another
 second_fails : (p q : Bool) → (p && not q) ≡ false → p ≡ true → q ≡ true
@@ -233,17 +202,12 @@ second_fails true true e t = refl
 second_fails true false e t = cc e
 second_fails false q e t = cc t
 
--- so they have
-pub setups_have_started : (b : Book) → IsBounded b → are_set_up b ≡ true → SetupsAreStarted b
-setups_have_started b bounded e l k = first_and_idle b (λ m. setup_due (b.link m) ≡ Some k → is_held_back b (b.link m) ≡ true) l bounded
-    (λ due. second_fails (is_some (setup_due (b.link 0))) (is_held_back b (b.link 0)) (not-true (is_to_set_up b) (both_right (is_applied b) (not (is_to_set_up b)) e)) (ap is_some due))
-    (λ idle due. absurd (idle_undue (b.link l) k idle due))
-
 pub has_begun : (b : Book) → IsBounded b → is_begun b ≡ true → IsBegun b
 has_begun b bounded e = record {
-  applied = applied b bounded (both_left (is_applied b) (not (is_to_set_up b)) (both_left (are_set_up b) (renewals_timed b) e));
-  setups = setups_have_started b bounded (both_left (are_set_up b) (renewals_timed b) e);
-  timed = renewals_are_timed b bounded (both_right (are_set_up b) (renewals_timed b) e);
+  applied = applied b bounded (both_left (is_applied b) (not (is_to_set_up b)) e);
+  setups = λ l k. first_and_idle b (λ m. setup_due (b.link m) ≡ Some k → is_held_back b (b.link m) ≡ true) l bounded
+      (λ due. second_fails (is_some (setup_due (b.link 0))) (is_held_back b (b.link 0)) (not-true (is_to_set_up b) (both_right (is_applied b) (not (is_to_set_up b)) e)) (ap is_some due))
+      (λ idle due. absurd (idle_undue (b.link l) k idle due));
 }
 
 -- its message has not started, and it makes a step
@@ -280,54 +244,15 @@ absent_stays b n e can = elim (open_or_told (is_open (b.story n)) (is_told (b.st
     open_or_told true q t = inl refl
     open_or_told false q t = inr t
 
--- new credentials are to be told on the link, which isn't held back
-abbrev pub can_renew : Book → Bool
-can_renew b = is_some (renewal_due (b.link 0)) && not (is_held_back b (b.link 0))
-
--- what this says
-renews : (b : Book) → CanRenew b 0 → can_renew b ≡ true
-renews b can = both_hold (is_some (renewal_due (b.link 0))) (not (is_held_back b (b.link 0))) (ap is_some can.due) (ap not can.free)
-
--- on an idle link none are
-idle_stays : (b : Book) (l : ℕ) → IsIdle (b.link l) → CanRenew b l → ⊥
-idle_stays b l idle can = let x : None ≡ Some can.credentials = sym (idle_unrenewed (b.link l) idle) ∙ can.due in cc x
-
--- no submission before n makes a step, and it is ahead of new credentials that are to be told, if there are some
-abbrev pub is_first : Book → ℕ → Bool
-is_first b n = all_stay b n && holds_if (can_renew b) (((b.story n).link == 0) && is_ahead (b.link 0) (b.story n))
-
-pub first_to_move : (b : Book) (n : ℕ) → IsBounded b → is_first b n ≡ true → IsFirstToMove b n
-first_to_move b n bounded e = record {
-  before = none_before b n (both_left (all_stay b n) (holds_if (can_renew b) (((b.story n).link == 0) && is_ahead (b.link 0) (b.story n))) e);
-  renewals = λ l can. first_and_idle b (λ m. CanRenew b m → IsAhead b m n) l bounded
-      (λ first. let both = held (can_renew b) (((b.story n).link == 0) && is_ahead (b.link 0) (b.story n)) (both_right (all_stay b n) (holds_if (can_renew b) (((b.story n).link == 0) && is_ahead (b.link 0) (b.story n))) e) (renews b first) in
-      (eq_from (b.story n).link 0 (both_left ((b.story n).link == 0) (is_ahead (b.link 0) (b.story n)) both), both_right ((b.story n).link == 0) (is_ahead (b.link 0) (b.story n)) both))
-      (λ idle other. absurd (idle_stays b l idle other)) can;
-}
-
--- none that is ahead of new credentials makes a step
-abbrev pub none_ahead : Book → Bool
-none_ahead b = each_below (λ n. not (can_move b n && is_ahead (b.link 0) (b.story n))) b.submissions
-
--- what this says
-pub ahead_stay : (b : Book) → IsBounded b → none_ahead b ≡ true → (n : ℕ) → CanMove b n → is_ahead (b.link 0) (b.story n) ≡ true → ⊥
-ahead_stay b bounded e n can ahead = by_test (nat_lt n b.submissions) ⊥
-    (λ l. not_both (can_move b n && is_ahead (b.link 0) (b.story n)) (not-true (can_move b n && is_ahead (b.link 0) (b.story n)) (below (λ m. not (can_move b m && is_ahead (b.link 0) (b.story m))) b.submissions n e (lt_from n b.submissions l)))
-    (both_hold (can_move b n) (is_ahead (b.link 0) (b.story n)) (both_hold (is_unstarted (b.story n)) (is_due (next_step b n)) can.unstarted can.due) ahead))
-    (λ l. absent_stays b n (bounded.absent n (not_lt_from n b.submissions l)) can)
-
 -- all steps that may be made were made
 abbrev pub is_moved : Book → Bool
-is_moved b = is_begun b && all_stay b b.submissions && not (can_renew b)
+is_moved b = is_begun b && all_stay b b.submissions
 
 pub moved : (b : Book) → IsBounded b → is_moved b ≡ true → IsMoved b
 moved b bounded e = record {
-  begun = has_begun b bounded (search (both_left, both_right));
-  moved = λ n can. by_test (nat_lt n b.submissions) ⊥ (λ l. none_before b b.submissions (search (both_left, both_right)) n (lt_from n b.submissions l) can)
+  begun = has_begun b bounded (both_left (is_begun b) (all_stay b b.submissions) e);
+  moved = λ n can. by_test (nat_lt n b.submissions) ⊥ (λ l. none_before b b.submissions (both_right (is_begun b) (all_stay b b.submissions) e) n (lt_from n b.submissions l) can)
       (λ l. absent_stays b n (bounded.absent n (not_lt_from n b.submissions l)) can);
-  renewed = λ l can. first_and_idle b (λ m. CanRenew b m → ⊥) l bounded
-      (λ first. not_both (can_renew b) (not-true (can_renew b) (search (both_left, both_right))) (renews b first))
-      (λ idle other. idle_stays b l idle other) can;
 }
 
 -- a link is offered its bytes

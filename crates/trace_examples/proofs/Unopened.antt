@@ -1,6 +1,6 @@
 -- Actions around an opening that fails, where they may not stand: whatever comes after these fronts, no trace that begins so
 -- is legal.
-use Rattle.std.proofs.Common.{◌≡◌, ◌≢◌, ℕ, ◌<◌, Option, Some, None, refl, inl, inr, sym, ◌∙◌, ap, arith}
+use Rattle.std.proofs.Common.{◌≡◌, ◌≢◌, ℕ, Option, Some, None, refl, inl, inr, sym, ◌∙◌, ap, arith}
 use Rattle.std.specs.Fmt.{digits}
 use Rattle.redis_error.specs.declared.fault_kind.FaultKind.TheVariants.{Reset}
 use Rattle.redis_error.specs.declared.redis_error.RedisError.{RedisError}
@@ -13,15 +13,15 @@ use Rattle.driver_model.specs.declared.action.Purpose.{Purpose}
 use Rattle.driver_model.specs.declared.config.Config.{Config}
 use Rattle.driver_model.specs.declared.outcome.Outcome.{Outcome}
 use Rattle.driver_model.specs.declared.outcome.Outcome.TheVariants as outcome
-use Rattle.legal_trace.specs.Book.{Book, blank_book}
-use Rattle.legal_trace.specs.Ledger.{failure_in, renewals_asked}
+use Rattle.legal_trace.specs.Book.{blank_book}
+use Rattle.legal_trace.specs.Ledger.{failure_in}
 use Rattle.legal_trace.specs.Legal.{MayTurn, MayShowCreation}
 use Rattle.trace_examples.specs.Traces.{opening}
 use Rattle.trace_examples.specs.Openings.{connect_refused, refusal_shown, overdue, timed_out}
 use Rattle.trace_examples.specs.Claims.{NoneBegins, NoneBeginsIn}
 use Rattle.trace_examples.proofs.Bounded.{IsBounded, blank_bounded, bounded_behind}
 use Rattle.trace_examples.proofs.Misplaced.{same_config}
-use Rattle.trace_examples.proofs.Settled.{first_and_idle, failed_idle, idle_unasked}
+use Rattle.trace_examples.proofs.Settled.{first_and_idle, failed_idle}
 use Rattle.trace_examples.proofs.Stood.{book_of, may_stand, answer, none_is_ready}
 
 -- a command that waited, answered with the closed connection
@@ -81,19 +81,13 @@ another_error config word events after h =
 pub closed_when_refused : NoneBegins connect_refused (action.Close 0)
 closed_when_refused config word events after h = cc (may_stand config word events (connect_refused config word) after (action.Close 0) h).ends
 
--- where no new credentials are to be told on the first link, a timer for some is asked for nowhere
-unrenewed : (b : Book) (l : ℕ) → IsBounded b → renewals_asked (b.link 0) ≡ 0 → (b.link l).creds.timed < renewals_asked (b.link l) → ⊥
-unrenewed b l bounded none asked = first_and_idle b (λ m. (b.link m).creds.timed < renewals_asked (b.link m) → ⊥) l bounded
-    (λ i. omega (arith, i, none)) (λ idle i. let zero_is : renewals_asked (b.link l) ≡ 0 = idle_unasked (b.link l) idle in omega (arith, i, zero_is)) asked
-
 -- a timer of a connect that may take any time
 pub timer_unasked : (config : Config) (t ms : ℕ) (what : Purpose) → connect_timeout config ≡ None → NoneBeginsIn config opening (action.Timer t ms what)
 timer_unasked config t ms what none word events after h = elim (may_stand config word events (opening config word) after (action.Timer t ms what) h) [
   | inl m ↦
       let same : config ≡ m.config = same_config config m.config word m.word m.opens in
       let both : ◌≡◌ {A = Option ℕ} None (Some ms) = sym none ∙ (ap connect_timeout same ∙ m.bounded) in cc both
-  | inr (inl m) ↦ cc m.unstarted
-  | inr (inr m) ↦ unrenewed (book_of (opening config word)) m.l (bounded_behind blank_book (opening config word) refl blank_bounded) refl m.asked
+  | inr m ↦ cc m.unstarted
 ]
 
 -- a turn behind an opening without a timer, where the time of the connect is bounded

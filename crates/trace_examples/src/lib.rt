@@ -2,7 +2,7 @@
 #![tactic(auto)]
 
 ghost use Rattle.std.specs.Prelude.{◌≡◌, ◌≢◌, ◌<◌, ℕ, List, [], ◌∷◌, ◌++◌, Option, Some, None};
-ghost use Rattle.std.specs.Prelude.{codes, drop, pos, true, false};
+ghost use Rattle.std.specs.Prelude.{drop, pos, true, false};
 ghost use Rattle.redis_error.specs.declared.fault_kind.FaultKind.{FaultKind};
 ghost use Rattle.redis_error.specs.declared.fault_kind.FaultKind.TheVariants.{Reset, TimedOut};
 ghost use Rattle.redis_error.specs.declared.redis_error.RedisError.{RedisError};
@@ -27,11 +27,11 @@ ghost use Rattle.driver_model.specs.declared.outcome.Outcome.{Outcome};
 ghost use Rattle.driver_model.specs.declared.outcome.Outcome.TheVariants as outcome;
 ghost use Rattle.driver_model.specs.Request.{packed_bytes};
 ghost use Rattle.trace_examples.specs.Parts.{turn, command, unawaited, two_together, one_atomic};
-ghost use Rattle.trace_examples.specs.Parts.{unbounded, bounded, one_skipped, one_nameless};
-ghost use Rattle.trace_examples.specs.Parts.{nameless_atomic, nameless_skipped, reply, an_error};
-ghost use Rattle.trace_examples.specs.Parts.{one_reply, replies, a_reply_and_more, spoiled_behind};
-ghost use Rattle.trace_examples.specs.Parts.{okay_line, refusals, multi_refused, exec_refused};
-ghost use Rattle.trace_examples.specs.Parts.{executed, limited_to, plain, held_for};
+ghost use Rattle.trace_examples.specs.Parts.{unbounded, bounded};
+ghost use Rattle.trace_examples.specs.Parts.{one_skipped, one_nameless, nameless_atomic};
+ghost use Rattle.trace_examples.specs.Parts.{nameless_skipped, reply, an_error, one_reply, replies};
+ghost use Rattle.trace_examples.specs.Parts.{a_reply_and_more, spoiled_behind, okay_line, refusals};
+ghost use Rattle.trace_examples.specs.Parts.{multi_refused, exec_refused, executed};
 ghost use Rattle.trace_examples.specs.Traces.{came_up, arrived, started_one, answered_both};
 ghost use Rattle.trace_examples.specs.Traces.{answered_first, answered_alike, left_alone};
 ghost use Rattle.trace_examples.specs.Traces.{cut_off_alone, spoiled, both_cut_off};
@@ -41,7 +41,6 @@ ghost use Rattle.trace_examples.specs.Traces.{refused_at_once, committed, half_f
 ghost use Rattle.trace_examples.specs.Traces.{told_first, left_out, both_left_out, shut_down};
 ghost use Rattle.trace_examples.specs.Traces.{shut_in_wait, up_in_wait, both_in_wait};
 ghost use Rattle.trace_examples.specs.Traces.{first_of_both, too_late, heard_early, said_nothing};
-ghost use Rattle.trace_examples.specs.Traces.{opening};
 ghost use Rattle.trace_examples.specs.Fronts.{EachStands, answered_fronts, unanswered_fronts};
 ghost use Rattle.trace_examples.specs.Fronts.{ended_fronts, waiting_fronts, begun_fronts};
 ghost use Rattle.trace_examples.specs.Fronts.{refused_fronts, overdue_fronts};
@@ -49,38 +48,39 @@ ghost use Rattle.trace_examples.specs.Openings.{timed_opening, connect_refused, 
 ghost use Rattle.trace_examples.specs.Openings.{refused_at_first, overdue, timed_out};
 ghost use Rattle.trace_examples.specs.Places.{narrow, one_at_a_time, third_held, third_came};
 ghost use Rattle.trace_examples.specs.Places.{queue_full, second_unshown, place_fronts};
+ghost use Rattle.trace_examples.specs.Parts.{limited_to, plain, held_for};
 ghost use Rattle.trace_examples.specs.Permits.{one_permit, permits_alone, permit_taken};
 ghost use Rattle.trace_examples.specs.Permits.{timer_asked, second_came, time_is_over};
 ghost use Rattle.trace_examples.specs.Permits.{permit_is_free, replied_late, two_taken};
 ghost use Rattle.trace_examples.specs.Permits.{unawaited_first, second_timer, three_timers};
 ghost use Rattle.trace_examples.specs.Permits.{connect_left_standing, permit_fronts};
-ghost use Rattle.trace_examples.specs.Setups.{secured, secured_in_time, of_a_user, of_a_library};
-ghost use Rattle.trace_examples.specs.Setups.{of_all, password_line, wrong_password, refusal};
-ghost use Rattle.trace_examples.specs.Setups.{other_arguments, unknown_command, all_well, unsaid};
-ghost use Rattle.trace_examples.specs.Setups.{setup_begun, secret_sent, came_during, answered_well};
-ghost use Rattle.trace_examples.specs.Setups.{set_up, password_refused, closed_by_refusal};
-ghost use Rattle.trace_examples.specs.Setups.{refusal_told, counted_otherwise, said_again};
-ghost use Rattle.trace_examples.specs.Setups.{library_said, all_said, cut_off_during, shut_during};
+ghost use Rattle.trace_examples.specs.Setups.{secured, secured_in_time, of_a_user};
+ghost use Rattle.trace_examples.specs.Setups.{of_a_library, of_all, password_line};
+ghost use Rattle.trace_examples.specs.Setups.{wrong_password, refusal, other_arguments};
+ghost use Rattle.trace_examples.specs.Setups.{unknown_command, all_well, unsaid, setup_begun};
+ghost use Rattle.trace_examples.specs.Setups.{secret_sent, came_during, answered_well, set_up};
+ghost use Rattle.trace_examples.specs.Setups.{password_refused, closed_by_refusal, refusal_told};
+ghost use Rattle.trace_examples.specs.Setups.{counted_otherwise, said_again, library_said};
+ghost use Rattle.trace_examples.specs.Setups.{all_said, cut_off_during, shut_during};
 ghost use Rattle.trace_examples.specs.Setups.{by_default, of_a_held_user, counted_early};
-ghost use Rattle.trace_examples.specs.Setups.{said_later, named_in_time, overdue_during};
-ghost use Rattle.trace_examples.specs.Setups.{waited_for_both, setup_fronts};
+ghost use Rattle.trace_examples.specs.Setups.{said_later, named_in_time};
+ghost use Rattle.trace_examples.specs.Setups.{overdue_during, waited_for_both, setup_fronts};
 ghost use Rattle.trace_examples.specs.Pushes.{heard, unheard, get, subscribe, invalid_between};
 ghost use Rattle.trace_examples.specs.Pushes.{invalidation, subscription, subscribed};
-ghost use Rattle.trace_examples.specs.Pushes.{disconnection, pushed_early, cut_off_early};
-ghost use Rattle.trace_examples.specs.Pushes.{invalid_while_asked, first_told, invalid_told};
-ghost use Rattle.trace_examples.specs.Pushes.{pushed_alone, confirmed, cut_off_asked, end_told};
-ghost use Rattle.trace_examples.specs.Pushes.{push_fronts};
-ghost use Rattle.trace_examples.specs.Creds.{untimed, timed, held_sourced, of_letter, told_letter};
-ghost use Rattle.trace_examples.specs.Creds.{needed, deserted_first, denied_first, renewal_taken};
-ghost use Rattle.trace_examples.specs.Creds.{waits_for_creds, first_taken, needed_again};
-ghost use Rattle.trace_examples.specs.Creds.{renewal_came, renewal_sent, second_renewal};
-ghost use Rattle.trace_examples.specs.Creds.{renewal_refused, answered_late, behind_a_place};
-ghost use Rattle.trace_examples.specs.Creds.{before_a_place, creds_fronts, once_set_up};
+ghost use Rattle.trace_examples.specs.Pushes.{disconnection};
+ghost use Rattle.trace_examples.specs.Pushes.{pushed_early, cut_off_early, invalid_while_asked};
+ghost use Rattle.trace_examples.specs.Pushes.{first_told, invalid_told, pushed_alone, confirmed};
+ghost use Rattle.trace_examples.specs.Pushes.{cut_off_asked, end_told, push_fronts};
+ghost use Rattle.trace_examples.specs.Creds.{sourced, user_and_password, no_credentials};
+ghost use Rattle.trace_examples.specs.Creds.{source_error, needed, came_meanwhile, credentials_taken};
+ghost use Rattle.trace_examples.specs.Creds.{started_behind, deserted_first, closed_by_denial};
+ghost use Rattle.trace_examples.specs.Creds.{spoiled_meanwhile, source_fronts};
 ghost use Rattle.driver_model.specs.declared.push_info.PushInfo.{PushInfo};
+ghost use Rattle.trace_examples.specs.Traces.{opening};
 ghost use Rattle.trace_examples.specs.Calls.{of_third, call_of_c, hello_well, confirmation};
 ghost use Rattle.trace_examples.specs.Calls.{denied_line, denial, called};
-ghost use Rattle.trace_examples.specs.Claims.{IsTraceOf, IsTraceIn, NoneBegins, NoneBeginsIn};
-ghost use Rattle.trace_examples.specs.Claims.{NoneIs};
+ghost use Rattle.trace_examples.specs.Claims.{IsTraceOf, IsTraceIn};
+ghost use Rattle.trace_examples.specs.Claims.{NoneBegins, NoneBeginsIn, NoneIs};
 
 /// Does nothing. Its contract: these traces are legal. A transaction is aborted by the error of its
 /// command; a command whose reply nobody awaits is answered at its place, and its item is not given
@@ -714,83 +714,59 @@ pub fn nor_are_these_pushes()
         → NoneBeginsIn heard pushed_alone (action.Turn number c) }
 {}
 
-/// Does nothing. Its contract: these are legal too. The first credentials of a source are those of
-/// the setup, and later ones are told by AUTH, one after another, each once those before are taken;
-/// after a refusal, or an answer that came too late, none is told. Where the first source ends, or
-/// could give none, the opening fails. A command waits for credentials and then for the setup; one
-/// that has its place starts before credentials that came later, and one that came later behind
-/// them.
-pub fn these_renew_credentials()
-    ensures set_up_and_renewed { IsTraceIn untimed
-        (once_set_up (event.Creds 1 (of_letter 113) ∷ event.CredsEnd 1 ∷ []))
-        renewal_sent (turn 6 (event.CredsEnd 1) ∷ []) }
-    ensures ended_first { IsTraceIn untimed (event.Connected 0 ∷ event.CredsEnd 0 ∷ [])
+/// Does nothing. Its contract: these are legal too. Where credentials come of a source it is asked
+/// for when the link is up; a command waits for the first that it gives, and then for the setup in
+/// which they are said, and starts behind the creation. What the source says later changes nothing.
+/// Where it ends, or could give none, the link is closed, and the opening fails, by what the source
+/// says; a reply that comes meanwhile answers nothing, and bytes that begin no value fail the
+/// opening by the closed connection.
+pub fn these_take_credentials()
+    ensures said_in_the_setup { IsTraceIn sourced
+        (event.Connected 0 ∷ event.Submit (command 71) ∷ event.Creds 0 user_and_password
+        ∷ event.Wrote 0 28 ∷ event.Bytes 0 okay_line ∷ []) credentials_taken
+        (action.Start 0 1 (owner.Try 0 0) 1 11 ∷ action.Write 0 (packed_bytes (command 71)) ∷ []) }
+    ensures asked_no_more { IsTraceIn sourced
+        (event.Connected 0 ∷ event.Submit (command 71) ∷ event.Creds 0 user_and_password
+        ∷ event.Wrote 0 28 ∷ event.Bytes 0 okay_line ∷ event.Creds 0 user_and_password
+        ∷ event.CredsError 0 no_credentials ∷ event.CredsEnd 0 ∷ []) started_behind
+        (turn 6 (event.Creds 0 user_and_password) ∷ turn 7 (event.CredsError 0 no_credentials)
+        ∷ turn 8 (event.CredsEnd 0) ∷ []) }
+    ensures ended_first { IsTraceIn sourced (event.Connected 0 ∷ event.CredsEnd 0 ∷ [])
         deserted_first (action.Close 0 ∷ action.Created (Some (error.AuthFailed [])) ∷ []) }
-    ensures failed_first { IsTraceIn untimed
-        (event.Connected 0 ∷ event.CredsError 0 (codes "no") ∷ []) denied_first
-        (action.Close 0 ∷ action.Created (Some (error.Credentials (codes "no"))) ∷ []) }
-    ensures waits_for_both { IsTraceIn untimed
-        (event.Connected 0 ∷ event.Submit (command 71) ∷ event.Creds 0 (of_letter 112) ∷ [])
-        waits_for_creds
-        (turn 3 (event.Creds 0 (of_letter 112)) ∷ action.Start 0 0 owner.Setup 1 28
-        ∷ action.Write 0 (told_letter 112) ∷ action.Wait (owner.Try 0 0) wait.Setup ∷ []) }
-    ensures one_after_another { IsTraceIn untimed
-        (once_set_up (event.Creds 1 (of_letter 113) ∷ event.Creds 1 (of_letter 114)
-        ∷ event.Wrote 0 28 ∷ event.Bytes 0 okay_line ∷ []))
-        renewal_taken (action.Start 0 2 owner.Auth 1 28 ∷ action.Write 0 (told_letter 114) ∷ []) }
-    ensures none_after_a_refusal { IsTraceIn untimed
-        (once_set_up (event.Creds 1 (of_letter 113) ∷ event.Creds 1 (of_letter 114)
-        ∷ event.Wrote 0 28 ∷ event.Bytes 0 wrong_password ∷ [])) renewal_refused [] }
-    ensures none_after_its_time { IsTraceIn timed
-        (once_set_up (event.Creds 1 (of_letter 113) ∷ event.Wrote 0 28 ∷ event.Fired 0
-        ∷ event.Bytes 0 okay_line ∷ event.Creds 1 (of_letter 114) ∷ [])) answered_late [] }
-    ensures place_before_credentials { IsTraceIn held_sourced
-        (once_set_up (event.Submit (command 71) ∷ event.Submit (command 72)
-        ∷ event.Creds 1 (of_letter 113) ∷ event.Wrote 0 11 ∷ event.Wrote 0 11 ∷ []))
-        behind_a_place
-        (action.Start 0 2 (owner.Try 1 0) 1 11 ∷ action.Write 0 (packed_bytes (command 72))
-        ∷ turn 9 (event.Wrote 0 11) ∷ action.Start 0 3 owner.Auth 1 28
-        ∷ action.Write 0 (told_letter 113) ∷ []) }
-    ensures credentials_before_place { IsTraceIn held_sourced
-        (once_set_up (event.Submit (command 71) ∷ event.Creds 1 (of_letter 113)
-        ∷ event.Submit (command 72) ∷ event.Wrote 0 11 ∷ event.Wrote 0 28 ∷ []))
-        before_a_place
-        (action.Start 0 2 owner.Auth 1 28 ∷ action.Write 0 (told_letter 113)
-        ∷ turn 9 (event.Wrote 0 28) ∷ action.Start 0 3 (owner.Try 1 0) 1 11
-        ∷ action.Write 0 (packed_bytes (command 72)) ∷ []) }
+    ensures failed_first { IsTraceIn sourced
+        (event.Connected 0 ∷ event.Submit (command 71) ∷ event.CredsError 0 no_credentials ∷ [])
+        closed_by_denial
+        (action.Created (Some source_error) ∷ action.Outcome 0 (outcome.Fault source_error) ∷ []) }
+    ensures spoiled_first { IsTraceIn sourced
+        (event.Connected 0 ∷ event.Bytes 0 okay_line ∷ event.Bytes 0 spoiled_behind ∷ [])
+        spoiled_meanwhile (action.Close 0 ∷ action.Created (Some error.Closed) ∷ []) }
 {}
 
-/// Does nothing. Its contract: no trace that begins so is legal, whatever comes after: AUTH without
-/// credentials that came, before the one before is taken, after that was refused or answered too
-/// late, before its timer, or before a message that had its place; a message that came later,
-/// before them; a source that is asked for twice, three times or too soon; a creation or a setup
-/// without credentials; credentials of a source that was never asked for; and a turn that begins
-/// while one is to be. Each action of their fronts stands where it may.
+/// Does nothing. Its contract: no trace that begins so is legal, whatever its events were and
+/// whatever comes after: a setup that starts, or a creation that is shown, before credentials came;
+/// a source that is asked for twice, or once more when they were taken, or before the connect is
+/// answered, or where none is wanted; a wait for the setup while credentials are waited for; a
+/// creation that is shown before the close where the source ended; an opening that fails with
+/// another error than what its source says; credentials of a source that was never asked for; and
+/// a turn that begins while one is to be. Each action of the fronts stands where it may.
 pub fn nor_are_these_credentials()
-    ensures fronts { (word : ℕ) → EachStands (creds_fronts word) }
-    ensures told_nothing { (k count len : ℕ)
-        → NoneBeginsIn untimed needed_again (action.Start 0 k owner.Auth count len) }
-    ensures told_two_at_once { (k count len : ℕ)
-        → NoneBeginsIn untimed second_renewal (action.Start 0 k owner.Auth count len) }
-    ensures told_after_a_refusal { (k count len : ℕ)
-        → NoneBeginsIn untimed renewal_refused (action.Start 0 k owner.Auth count len) }
-    ensures told_after_its_time { (k count len : ℕ)
-        → NoneBeginsIn timed answered_late (action.Start 0 k owner.Auth count len) }
-    ensures told_untimed { (k count len : ℕ)
-        → NoneBeginsIn timed renewal_came (action.Start 0 k owner.Auth count len) }
-    ensures told_before_a_place { (k count len : ℕ)
-        → NoneBeginsIn held_sourced behind_a_place (action.Start 0 k owner.Auth count len) }
-    ensures started_before_credentials { (l k round count len : ℕ)
-        → NoneBeginsIn held_sourced before_a_place (action.Start l k (owner.Try 1 round) count len) }
-    ensures needed_twice { (c : ℕ) → NoneBeginsIn untimed needed (action.NeedCreds c 0) }
-    ensures needed_three_times { (c : ℕ)
-        → NoneBeginsIn untimed needed_again (action.NeedCreds c 0) }
-    ensures needed_too_soon { (c : ℕ) → NoneBeginsIn untimed first_taken (action.NeedCreds c 0) }
-    ensures created_without { NoneBeginsIn untimed needed (action.Created None) }
-    ensures set_up_without { (k count len : ℕ)
-        → NoneBeginsIn untimed needed (action.Start 0 k owner.Setup count len) }
-    ensures given_unasked { NoneBeginsIn untimed needed
-        (turn 2 (event.Creds 1 (of_letter 112))) }
+    ensures fronts { (word : ℕ) → EachStands (source_fronts word) }
+    ensures said_without { (k count len : ℕ)
+        → NoneBeginsIn sourced needed (action.Start 0 k owner.Setup count len) }
+    ensures created_without { NoneBeginsIn sourced needed (action.Created None) }
+    ensures needed_twice { (c : ℕ) → NoneBeginsIn sourced needed (action.NeedCreds c 0) }
+    ensures needed_when_taken { (c : ℕ)
+        → NoneBeginsIn sourced credentials_taken (action.NeedCreds c 0) }
+    ensures needed_too_soon { (c : ℕ) → NoneBegins opening (action.NeedCreds c 0) }
+    ensures needed_unwanted { (c : ℕ) → NoneBeginsIn secured unsaid (action.NeedCreds c 0) }
+    ensures setup_meanwhile { NoneBeginsIn sourced came_meanwhile
+        (action.Wait (owner.Try 0 0) wait.Setup) }
+    ensures failed_before_the_close { (e : Option RedisError)
+        → NoneBeginsIn sourced deserted_first (action.Created e) }
+    ensures another_denial { (e : RedisError) → e ≢ source_error
+        → NoneBeginsIn sourced closed_by_denial (action.Created (Some e)) }
+    ensures given_unasked { NoneBeginsIn sourced needed
+        (turn 2 (event.Creds 1 user_and_password)) }
     ensures source_left_out { (number : ℕ) (c : Cause)
-        → NoneBeginsIn untimed unsaid (action.Turn number c) }
+        → NoneBeginsIn sourced unsaid (action.Turn number c) }
 {}
