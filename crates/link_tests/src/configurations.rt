@@ -112,13 +112,14 @@ fn one_name_is_refused_first(rt: HostRuntime) -> Result<(), AllocError> {
 }
 
 /// How long a connect and a reply may take, how many permits there are, the size of the queue, the boundary, whether somebody
-/// hears pushes, and whether the server is told which library speaks.
+/// hears pushes, whether credentials come of a source, and whether the server is told which library speaks.
 type Settings = (
     Option<u64>,
     Option<u64>,
     Option<u32>,
     u32,
     u64,
+    bool,
     bool,
     Option<bool>,
 );
@@ -131,6 +132,7 @@ fn settings(config: &Config) -> Settings {
         config.buffer_size(),
         config.boundary(),
         config.hears_pushes(),
+        config.wants_credentials(),
         config.lib,
     )
 }
@@ -140,7 +142,7 @@ fn has(config: &Config, url: &[u8], wanted: Settings) -> bool {
     config.url.as_slice() == url && settings(config) == wanted
 }
 
-const NOTHING_GIVEN: Settings = (Some(1000), Some(500), None, 50, 8192, false, None);
+const NOTHING_GIVEN: Settings = (Some(1000), Some(500), None, 50, 8192, false, false, None);
 
 /// Whether a configuration of which only the address is given has these settings.
 fn plain_has(alloc: Global, wanted: Settings) -> Result<bool, AllocError> {
@@ -154,7 +156,7 @@ fn what_is_not_given_has_a_value(rt: HostRuntime) -> Result<(), AllocError> {
     Ok(())
 }
 
-const ALL_GIVEN: Settings = (Some(5), None, Some(3), 7, 0, true, Some(false));
+const ALL_GIVEN: Settings = (Some(5), None, Some(3), 7, 0, true, true, Some(false));
 
 /// A configuration of which all is given.
 fn full(alloc: Global) -> Result<Config, AllocError> {
@@ -165,6 +167,7 @@ fn full(alloc: Global) -> Result<Config, AllocError> {
     config.buffer = Some(7);
     config.boundary = Some(0);
     config.push = Some(true);
+    config.creds = Some(true);
     config.lib = Some(false);
     Ok(config)
 }

@@ -1,3 +1,5 @@
+use containers::Bytes;
+use credentials::BasicAuth;
 use driver_model::{Event, EventKind, Submission};
 use redis_error::FaultKind;
 use resp_write::{Cmd, cmd};
@@ -40,7 +42,7 @@ fn commands_are_submitted(rt: HostRuntime) -> Result<(), AllocError> {
     Ok(())
 }
 
-/// Which kind of event it is, and of which link or submission.
+/// Which kind of event it is, and of which link, submission, timer or source of credentials.
 fn seen(event: &Event) -> (&'static str, u32) {
     match &event.kind {
         EventKind::Submit { submission: _ } => ("submit", 0),
@@ -53,6 +55,9 @@ fn seen(event: &Event) -> (&'static str, u32) {
         EventKind::ReadFault { link, fault: _ } => ("read-fault", *link),
         EventKind::WriteFault { link, fault: _ } => ("write-fault", *link),
         EventKind::Fired { timer } => ("fired", *timer),
+        EventKind::Creds { source, auth: _ } => ("creds", *source),
+        EventKind::CredsError { source, text: _ } => ("creds-err", *source),
+        EventKind::CredsEnd { source } => ("creds-end", *source),
         EventKind::Timeout { ms: Some(_) } => ("timeout", 1),
         EventKind::Timeout { ms: None } => ("timeout none", 0),
         EventKind::Shutdown => ("shutdown", 0),
@@ -71,8 +76,29 @@ enum Call {
     ReadFault(u32, FaultKind),
     WriteFault(u32, FaultKind),
     Fired(u32),
+    Creds(u32, &'static [u8], &'static [u8]),
+    CredsError(u32, &'static [u8]),
+    CredsEnd(u32),
     Timeout(Option<u64>),
     Shutdown,
+}
+
+/// The event that this user name and this password came of a source.
+fn creds(
+    alloc: Global,
+    source: u32,
+    username: &[u8],
+    password: &[u8],
+) -> Result<Event, AllocError> {
+    let username = Bytes::from_slice(alloc, username)?;
+    let password = Bytes::from_slice(alloc, password)?;
+    Ok(Event::creds(source, BasicAuth::new(username, password)))
+}
+
+/// The event that a source says why there are none.
+fn creds_error(alloc: Global, source: u32, text: &[u8]) -> Result<Event, AllocError> {
+    let text = Bytes::from_slice(alloc, text)?;
+    Ok(Event::creds_error(source, text))
 }
 
 /// The event that a call makes.
@@ -87,13 +113,16 @@ fn event(alloc: Global, call: Call) -> Result<Event, AllocError> {
         Call::ReadFault(link, fault) => Ok(Event::read_fault(link, fault)),
         Call::WriteFault(link, fault) => Ok(Event::write_fault(link, fault)),
         Call::Fired(timer) => Ok(Event::fired(timer)),
+        Call::Creds(source, username, password) => creds(alloc, source, username, password),
+        Call::CredsError(source, text) => creds_error(alloc, source, text),
+        Call::CredsEnd(source) => Ok(Event::creds_end(source)),
         Call::Timeout(ms) => Ok(Event::timeout(ms)),
         Call::Shutdown => Ok(Event::shutdown()),
     }
 }
 
-/// Calls, each with the kind of the event and with its link or submission.
-const EVENTS: [(Call, &str, u32); 12] = [
+/// Calls, each with the kind of the event and with its link, submission, timer or source of credentials.
+const EVENTS: [(Call, &str, u32); 15] = [
     (Call::Cancel(4), "cancel", 4),
     (Call::Connected(1), "connected", 1),
     (Call::Refused(6, FaultKind::Refused), "refused", 6),
@@ -103,12 +132,15 @@ const EVENTS: [(Call, &str, u32); 12] = [
     (Call::ReadFault(6, FaultKind::Reset), "read-fault", 6),
     (Call::WriteFault(7, FaultKind::Reset), "write-fault", 7),
     (Call::Fired(8), "fired", 8),
+    (Call::Creds(9, b"u", b"p"), "creds", 9),
+    (Call::CredsError(10, b"expired"), "creds-err", 10),
+    (Call::CredsEnd(11), "creds-end", 11),
     (Call::Timeout(Some(9)), "timeout", 1),
     (Call::Timeout(None), "timeout none", 0),
     (Call::Shutdown, "shutdown", 0),
 ];
 
-/// Whether a call makes an event of that kind, of that link or submission.
+/// Whether a call makes an event of that kind, with that number.
 fn makes(alloc: Global, call: Call, kind: &'static str, place: u32) -> Result<bool, AllocError> {
     let event = event(alloc, call)?;
     Ok(seen(&event) == (kind, place))

@@ -29,6 +29,9 @@ kind_allowed word (event.Ended l) form = tt
 kind_allowed word (event.ReadFault l f) form = tt
 kind_allowed word (event.WriteFault l f) form = tt
 kind_allowed word (event.Fired t) form = tt
+kind_allowed word (event.Creds c auth) form = tt
+kind_allowed word (event.CredsError c text) form = tt
+kind_allowed word (event.CredsEnd c) form = tt
 kind_allowed word (event.Timeout ms) form = tt
 kind_allowed word event.Shutdown form = tt
 
