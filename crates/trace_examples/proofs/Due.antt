@@ -1,7 +1,7 @@
 -- A trace whose steps are tested one by one is legal: each action stands where it may, since it is the next that is due.
-use Rattle.std.proofs.Common.{◌≡◌, ◌⊎◌, ℕ, ◌==◌, Bool, true, false, ◌&&◌, not, List, [], ◌∷◌, length, Option, Some, None, is_some, refl, sym, ap, subst, ◌∙◌, inl, inr, arith}
+use Rattle.std.proofs.Common.{◌≡◌, ◌⊎◌, ℕ, ◌<◌, ◌==◌, nat_lt, Bool, true, false, ◌&&◌, not, List, [], ◌∷◌, length, Option, Some, None, is_some, refl, sym, ap, subst, ◌∙◌, inl, inr, arith}
 use Rattle.std.proofs.lemmas.Bool.{not-true}
-use Rattle.containers.proofs.Choices.{eq_from, ne_from, both_left, both_right, not_both}
+use Rattle.containers.proofs.Choices.{eq_from, ne_from, lt_from, both_left, both_right, not_both}
 use Rattle.resp_value.specs.declared.value.Value.TheVariants.{Nil}
 use Rattle.driver_model.specs.declared.action.Action.{Action}
 use Rattle.driver_model.specs.declared.action.Action.TheVariants as action
@@ -21,17 +21,18 @@ use Rattle.driver_model.specs.Config.{address, connect_timeout, first_fault}
 use Rattle.connection_info.specs.declared.address.ConnectionInfo.{ConnectionInfo}
 use Rattle.redis_error.specs.declared.redis_error.RedisError.{RedisError}
 use Rattle.driver_model.specs.Shape.{need_of}
-use Rattle.legal_trace.specs.Ledger.{Heard, Ending, is_cut, is_full_by, is_ready, next_push, setup_count, setup_due, setup_message, source_due, is_over, ending, failure_in, unwritten}
+use Rattle.credentials.specs.Credentials.{Credentials}
+use Rattle.legal_trace.specs.Ledger.{Heard, Ending, is_cut, is_full_by, is_ready, next_push, setup_count, setup_due, setup_message, source_due, renewal_due, renewals_asked, is_over, ending, failure_in, unwritten}
 use Rattle.legal_trace.specs.Story.{Try, last_of, is_open, is_unstarted, bytes_of, shape}
-use Rattle.legal_trace.specs.Book.{Book, blank_book, book, current, entered, entered_each}
+use Rattle.legal_trace.specs.Book.{Book, blank_book, book, current, renewal_in, entered, entered_each}
 use Rattle.legal_trace.specs.Steps.{is_held_back, takes, asks, tells, starts, next_step}
 use Rattle.legal_trace.specs.Owed.{owed}
 use Rattle.legal_trace.specs.Events.{is_bad_event}
-use Rattle.legal_trace.specs.Legal.{IsOpen, IsWaiting, IsBefore, is_heard, link_of, MayTellPush, MayPart, MayPushBy, MayTurn, MayConnect, MayTimeConnect, MayTime, MayNeed, MayTake, MayTimer, MayClose, MaySetUp, MayBeCreated, MayFail, MayAnswer, MayTell, MayStart, MayWrite, MayWait, MayStand, AllStand, causes, event_causes, Legal}
+use Rattle.legal_trace.specs.Legal.{IsOpen, IsWaiting, IsBefore, is_heard, link_of, MayTellPush, MayPart, MayPushBy, MayTurn, MayConnect, MayTimeConnect, MayTime, MayTimeRenewal, MayNeed, MayRenew, MayTake, MayTimer, answer_time, MayClose, MaySetUp, MayBeCreated, MayFail, MayAnswer, MayTell, MayStart, MayWrite, MayWait, MayStand, AllStand, causes, event_causes, Legal}
 use Rattle.legal_trace.proofs.Setups.{due_count}
 use Rattle.trace_examples.proofs.Bounded.{IsBounded, is_of_first, still_bounded, blank_bounded}
 use Rattle.trace_examples.proofs.Checks.{holds_if, held, is_empty, empty_from, filled_from, each_below, below, same_step, step_from, is_other_wait, other_wait}
-use Rattle.trace_examples.proofs.Settled.{is_quiet, quiet, all_shown, verdicts_are_shown, none_ends, no_end, failure_shown, failures_are_shown, pushes_told, pushes_are_told, end_told, ends_are_told, of_open, is_applied, applied, ready_shown, ready_is_shown, sources_asked, sources_are_asked, is_to_set_up, is_begun, has_begun, all_stay, none_before, is_moved, moved, is_written, written, wait_holds, holds, is_waiting, waiting, is_settled, settled}
+use Rattle.trace_examples.proofs.Settled.{is_quiet, quiet, all_shown, verdicts_are_shown, none_ends, no_end, failure_shown, failures_are_shown, pushes_told, pushes_are_told, end_told, ends_are_told, of_open, is_applied, applied, ready_shown, ready_is_shown, sources_asked, sources_are_asked, is_to_set_up, are_set_up, setups_have_started, renewals_timed, renewals_are_timed, can_renew, is_begun, has_begun, all_stay, none_before, is_moved, moved, is_written, written, wait_holds, holds, is_waiting, waiting, is_settled, settled}
 
 -- a turn
 abbrev pub turn_due : Book → ℕ → Cause → Bool
@@ -228,10 +229,31 @@ ask_stands b t ms n bounded e = record {
   is_for = refl;
 }
 
--- the timer of the opening, of which is left to be said for how long and for what; or that of a submission
+-- the timer of new credentials on the first link; for how long is left to be said
+abbrev pub renewal_time_due : Book → ℕ → ℕ → ℕ → Bool
+renewal_time_due b t l k = are_set_up b && (l == 0) && (k == (b.link 0).creds.timed) && nat_lt (b.link 0).creds.timed (renewals_asked (b.link 0)) && (t == length b.timers)
+
+-- what this says
+renewal_time_stands : (b : Book) (t ms l k : ℕ) → IsBounded b → renewal_time_due b t l k ≡ true → answer_time b.config ≡ Some ms → MayTimeRenewal b t ms (purpose.Renewal l k)
+renewal_time_stands b t ms l k bounded e within =
+    let first : l ≡ 0 = eq_from l 0 (search (both_left, both_right)) in
+    record {
+      applied = applied b bounded (both_left (is_applied b) (not (is_to_set_up b)) (search (both_left, both_right)));
+      setups = setups_have_started b bounded (search (both_left, both_right));
+      l = l;
+      within = within;
+      asked = subst (λ j. (b.link j).creds.timed < renewals_asked (b.link j)) (sym first) (lt_from (b.link 0).creds.timed (renewals_asked (b.link 0)) (search (both_left, both_right)));
+      in_order = λ m below. absurd (omega (arith, first, below));
+      next = eq_from t (length b.timers) (search (both_left, both_right));
+      is_for = ap (purpose.Renewal l) (eq_from k (b.link 0).creds.timed (search (both_left, both_right)) ∙ ap (λ j. (b.link j).creds.timed) (sym first));
+    }
+
+-- the timer of the opening, of which is left to be said for how long and for what; or that of a submission, or of new credentials
 abbrev pub timer_due : Book → ℕ → ℕ → Purpose → Bool
 timer_due b t ms (purpose.Connect l) = not (b.links == 0) && is_empty b.timers && (t == length b.timers)
 timer_due b t ms (purpose.Response owner.Setup) = false
+timer_due b t ms (purpose.Response owner.Auth) = false
+timer_due b t ms (purpose.Renewal l k) = renewal_time_due b t l k
 timer_due b t ms (purpose.Response (owner.Try n round)) = (round == 0) && ask_due b t ms n
 
 -- that a connect may take so long, and is what the timer is for
@@ -240,10 +262,11 @@ IsTime b None ms what = ⊥
 IsTime b (Some (cause.Event e)) ms what = ⊥
 IsTime b (Some (cause.Opening config word)) ms what = (connect_timeout config ≡ Some ms) × (what ≡ purpose.Connect (current b))
 
--- this is left to be said of the timer of a connect
+-- this is left to be said of the timer of a connect, or of new credentials
 abbrev pub IsTimeOf : Book → ℕ → Purpose → Type 0
 IsTimeOf b ms (purpose.Connect l) = IsTime b b.running ms (purpose.Connect l)
 IsTimeOf b ms (purpose.Response who) = Unit {0}
+IsTimeOf b ms (purpose.Renewal l k) = answer_time b.config ≡ Some ms
 
 -- so the timer of a connect may stand
 connect_timer_stands : (b : Book) (t ms l : ℕ) → timer_due b t ms (purpose.Connect l) ≡ true → IsTime b b.running ms (purpose.Connect l) → MayTimeConnect b t ms (purpose.Connect l)
@@ -267,8 +290,10 @@ connect_timer_stands b t ms l e said = of_cause b.running refl said
 timer_stands : (b : Book) (t ms : ℕ) (what : Purpose) → IsBounded b → timer_due b t ms what ≡ true → IsTimeOf b ms what → MayTimer b t ms what
 timer_stands b t ms (purpose.Connect l) bounded e said = inl (connect_timer_stands b t ms l e said)
 timer_stands b t ms (purpose.Response owner.Setup) bounded e said = cc e
+timer_stands b t ms (purpose.Response owner.Auth) bounded e said = cc e
+timer_stands b t ms (purpose.Renewal l k) bounded e said = inr (inr (renewal_time_stands b t ms l k bounded e said))
 timer_stands b t ms (purpose.Response (owner.Try n round)) bounded e said =
-    inr (subst (λ r. MayTime b t ms (purpose.Response (owner.Try n r))) (sym (eq_from round 0 (both_left (round == 0) (ask_due b t ms n) e))) (ask_stands b t ms n bounded (both_right (round == 0) (ask_due b t ms n) e)))
+    inr (inl (subst (λ r. MayTime b t ms (purpose.Response (owner.Try n r))) (sym (eq_from round 0 (both_left (round == 0) (ask_due b t ms n) e))) (ask_stands b t ms n bounded (both_right (round == 0) (ask_due b t ms n) e))))
 
 -- a creation that failed; with which error is left to be said
 abbrev pub failure_due : Book → Bool
@@ -339,6 +364,35 @@ set_up_stands b l message count len bounded e =
           long_as_its_bytes = eq_from len (length (setup_message (b.link l) (setup_count (b.link l).starts)).bytes) (search (both_left, both_right)) ∙ ap (λ n. length (setup_message (b.link l) n).bytes) number;
         }
 
+-- new credentials on the first link
+abbrev pub renew_due : Book → ℕ → ℕ → ℕ → ℕ → Bool
+renew_due b l message count len =
+    are_set_up b && renewals_timed b && (l == 0) && can_renew b && (message == length (b.link l).starts) &&
+    ((count == need_of (renewal_in (renewal_due (b.link l))).shape) && (len == length (renewal_in (renewal_due (b.link l))).bytes))
+
+-- what this says
+renew_stands : (b : Book) (l message count len : ℕ) → IsBounded b → renew_due b l message count len ≡ true → MayRenew b l message count len
+renew_stands b l message count len bounded e =
+    of_due (renewal_due (b.link 0)) refl (both_left (is_some (renewal_due (b.link 0))) (not (is_held_back b (b.link 0))) (search (both_left, both_right)))
+  where
+    of_due : (o : Option Credentials) → renewal_due (b.link 0) ≡ o → is_some o ≡ true → MayRenew b l message count len
+    of_due None same t = cc t
+    of_due (Some c) same t =
+        let first : l ≡ 0 = eq_from l 0 (search (both_left, both_right)) in
+        let due : renewal_due (b.link l) ≡ Some c = ap (λ j. renewal_due (b.link j)) first ∙ same in
+        record {
+          applied = applied b bounded (both_left (is_applied b) (not (is_to_set_up b)) (search (both_left, both_right)));
+          setups = setups_have_started b bounded (search (both_left, both_right));
+          timed = renewals_are_timed b bounded (search (both_left, both_right));
+          credentials = c;
+          due = due;
+          free = ap (λ j. is_held_back b (b.link j)) first ∙ not-true (is_held_back b (b.link 0)) (both_right (is_some (renewal_due (b.link 0))) (not (is_held_back b (b.link 0))) (search (both_left, both_right)));
+          in_order = λ m other below. absurd (omega (arith, first, below));
+          next = eq_from message (length (b.link l).starts) (search (both_left, both_right));
+          needs_its_items = eq_from count (need_of (renewal_in (renewal_due (b.link l))).shape) (search (both_left, both_right)) ∙ ap (λ o. need_of (renewal_in o).shape) due;
+          long_as_its_bytes = eq_from len (length (renewal_in (renewal_due (b.link l))).bytes) (search (both_left, both_right)) ∙ ap (λ o. length (renewal_in o).bytes) due;
+        }
+
 -- its message was full before the next push of its link came, if one waits
 abbrev pub is_before_next : Book → ℕ → Option Heard → Bool
 is_before_next b n None = true
@@ -398,14 +452,17 @@ due b (action.Turn k c) = turn_due b k c
 due b (action.Connect l host port) = (b.links == 0) && (l == 0)
 due b (action.Timer t ms what) = timer_due b t ms what
 due b (action.Took owner.Setup l count) = false
+due b (action.Took owner.Auth l count) = false
 due b (action.Took (owner.Try n round) l count) = (round == 0) && take_due b n l count
 due b (action.Push l info) = push_due (is_disconnection info.kind) b l
 due b (action.NeedCreds c l) = need_due b c l
 due b (action.Close l) = close_due b l
 due b (action.Write l bytes) = write_due b l bytes
 due b (action.Wait owner.Setup kind) = false
+due b (action.Wait owner.Auth kind) = false
 due b (action.Wait (owner.Try n round) kind) = (round == 0) && wait_due b n kind
 due b (action.Start l k owner.Setup count len) = set_up_due b l k count len
+due b (action.Start l k owner.Auth count len) = renew_due b l k count len
 due b (action.Start l k (owner.Try n round) count len) = (round == 0) && start_due b l k n count len
 due b (action.Created None) = created_due b
 due b (action.Created (Some e)) = failure_due b
@@ -474,6 +531,7 @@ first_stands b (action.Turn k c) more bounded e said = (turn_stands b k c bounde
 first_stands b (action.Connect l host port) more bounded e said = (connect_stands b l host port e said.0, said.1)
 first_stands b (action.Timer t ms what) more bounded e said = (timer_stands b t ms what bounded e said.0, said.1)
 first_stands b (action.Took owner.Setup l count) more bounded e said = absurd (cc e)
+first_stands b (action.Took owner.Auth l count) more bounded e said = absurd (cc e)
 first_stands b (action.Took (owner.Try n round) l count) more bounded e said =
     ((eq_from round 0 (both_left (round == 0) (take_due b n l count) e), take_stands b n l count bounded (both_right (round == 0) (take_due b n l count) e)), said)
 first_stands b (action.Push l info) more bounded e said = (push_stands (is_disconnection info.kind) b l info bounded e said.0, said.1)
@@ -481,9 +539,11 @@ first_stands b (action.NeedCreds c l) more bounded e said = (need_stands b c l b
 first_stands b (action.Close l) more bounded e said = (close_stands b l bounded e, said)
 first_stands b (action.Write l bytes) more bounded e said = (write_stands b l bytes bounded e said.0, said.1)
 first_stands b (action.Wait owner.Setup kind) more bounded e said = absurd (cc e)
+first_stands b (action.Wait owner.Auth kind) more bounded e said = absurd (cc e)
 first_stands b (action.Wait (owner.Try n round) kind) more bounded e said =
     ((eq_from round 0 (both_left (round == 0) (wait_due b n kind) e), wait_stands b n kind bounded (both_right (round == 0) (wait_due b n kind) e)), said)
 first_stands b (action.Start l k owner.Setup count len) more bounded e said = (set_up_stands b l k count len bounded e, said)
+first_stands b (action.Start l k owner.Auth count len) more bounded e said = (renew_stands b l k count len bounded e, said)
 first_stands b (action.Start l k (owner.Try n round) count len) more bounded e said =
     ((eq_from round 0 (both_left (round == 0) (start_due b l k n count len) e), start_stands b l k n count len bounded (both_right (round == 0) (start_due b l k n count len) e)), said)
 first_stands b (action.Created None) more bounded e said = (created_stands b bounded e, said)

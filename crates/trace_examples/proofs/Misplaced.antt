@@ -1,5 +1,5 @@
 -- Actions that stand where they may not: whatever comes after these fronts, no trace that begins so is legal.
-use Rattle.std.proofs.Common.{length, ap, ◌∙◌, ◌≡◌, ◌≢◌, ℕ, ◌<◌, nat_le, Bool, true, false, List, ◌∷◌, ◌++◌, nat_lt, ◌&&◌, ◌||◌, Option, Some, None, is_none, refl, sym, inl, inr, arith}
+use Rattle.std.proofs.Common.{length, ap, ◌∙◌, ◌≡◌, ◌≢◌, ℕ, ◌+◌, ◌<◌, nat_le, Bool, true, false, List, ◌∷◌, ◌++◌, nat_lt, ◌&&◌, ◌||◌, Option, Some, None, is_none, refl, sym, inl, inr, arith}
 use Rattle.containers.proofs.Choices.{not_both, not_le_from, not_le_test}
 use Rattle.std.specs.Fmt.{digits}
 use Rattle.resp_value.specs.declared.value.Value.TheVariants.{Nil}
@@ -23,7 +23,7 @@ use Rattle.legal_trace.specs.Events.{is_bad_event}
 use Rattle.legal_trace.specs.Ledger.{dials, is_ready}
 use Rattle.legal_trace.specs.Story.{is_told, is_awaited}
 use Rattle.legal_trace.specs.Book.{Book}
-use Rattle.legal_trace.specs.Steps.{tells, starts, permits_in, line_before, is_outside, is_held_back, is_due, next_step}
+use Rattle.legal_trace.specs.Steps.{tells, starts, permits_in, line_before, is_outside, is_held_back, renewals_in_line, is_due, next_step}
 use Rattle.legal_trace.specs.Legal.{link_of, MayTurn, Legal}
 use Rattle.legal_trace.proofs.Moves.{is_timed, starts_mean, tells_mean, placed_is_awaited, free_is_due}
 use Rattle.trace_examples.specs.Parts.{turn, command, unawaited, one_nameless, nameless_atomic, nameless_skipped}
@@ -79,7 +79,7 @@ told_out_of_order config word events after h =
       | inl answer ↦ cc answer.owes
       | inr tell ↦
           let t = tells_uncounted b 1 refl tell.tells in
-          tell.in_order 0 (omega arith) (record { unstarted = refl; due = first_is_due b refl (tells_mean b 1 tell.tells).1 refl refl t.0 (room_for_one (buffer_size config) (line_before config.limit b.story 0 1) t.1) })
+          tell.in_order 0 (omega arith) (record { unstarted = refl; due = first_is_due b refl (tells_mean b 1 tell.tells).1 refl refl t.0 (room_for_one (buffer_size config) (renewals_in_line (b.link 0) + line_before config.limit b.story 0 1) t.1) })
     ]
 
 -- and before the creation

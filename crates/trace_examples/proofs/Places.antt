@@ -1,5 +1,5 @@
 -- Places and room: traces that can be relied on, and actions that stand where they may not.
-use Rattle.std.proofs.Common.{◌≡◌, ℕ, drop, [], ◌∷◌, ◌++◌, Some, refl, inl, inr, arith}
+use Rattle.std.proofs.Common.{◌≡◌, ℕ, ◌+◌, drop, [], ◌∷◌, ◌++◌, Some, refl, inl, inr, arith}
 use Rattle.std.specs.Fmt.{digits}
 use Rattle.resp_value.specs.declared.value.Value.TheVariants.{Nil}
 use Rattle.redis_error.specs.declared.fault_kind.FaultKind.TheVariants.{Reset}
@@ -17,7 +17,7 @@ use Rattle.driver_model.specs.declared.outcome.Outcome.TheVariants as outcome
 use Rattle.driver_model.specs.Config.{buffer_size}
 use Rattle.driver_model.specs.Request.{packed_bytes}
 use Rattle.legal_trace.specs.Events.{is_bad_event}
-use Rattle.legal_trace.specs.Steps.{waits, line_before}
+use Rattle.legal_trace.specs.Steps.{waits, line_before, renewals_in_line}
 use Rattle.legal_trace.specs.Legal.{MayTurn}
 use Rattle.legal_trace.proofs.Moves.{starts_mean}
 use Rattle.trace_examples.specs.Parts.{turn, command, unawaited, two_together}
@@ -153,4 +153,4 @@ second_before_the_first config word events after h =
     let b = book_of (both_in_wait config word (command 72)) in
     let m = may_stand config word events (both_in_wait config word (command 72)) after (action.Start 0 0 (owner.Try 1 0) 1 11) h in
     let s = starts_uncounted b 1 refl refl m.1.starts in
-    m.1.in_order 0 (omega arith) (record { unstarted = refl; due = first_is_due b refl (starts_mean b 1 m.1.starts).1 refl refl s.0 (room_for_one (buffer_size config) (line_before config.limit b.story 0 1) s.1) })
+    m.1.in_order 0 (omega arith) (record { unstarted = refl; due = first_is_due b refl (starts_mean b 1 m.1.starts).1 refl refl s.0 (room_for_one (buffer_size config) (renewals_in_line (b.link 0) + line_before config.limit b.story 0 1) s.1) })
