@@ -68,7 +68,9 @@ told_shown link (act.Outcome n o ∷ more) os t c = told_shown link more _ _ _
 told_shown link (act.Created e ∷ more) os t c = told_shown link more os _ _
 told_shown link (act.Took n count ∷ more) os t c = told_shown link more os _ _
 told_shown link (act.Timer n ms ∷ more) os t c = told_shown link more os _ _
+told_shown link (act.RenewalTimer k ms ∷ more) os t c = told_shown link more os _ _
 told_shown link (act.NeedCreds ∷ more) os t c = told_shown link more os _ _
+told_shown link (act.Renewed message need len ∷ more) os t c = told_shown link more os _ _
 told_shown link (act.Push info ∷ more) os t c = told_shown link more os _ _
 told_shown link (act.Close ∷ more) os t c = told_shown link more os _ _
 told_shown link (act.Write bytes ∷ more) os t c = told_shown link more os _ _
@@ -116,6 +118,8 @@ fired_turns : (t : Turning) (slot : Option Purpose) → (fired_by t slot).core.t
 fired_turns t None = refl
 fired_turns t (Some (purpose.Connect l)) = refl
 fired_turns t (Some (purpose.Response owner.Setup)) = refl
+fired_turns t (Some (purpose.Response owner.Auth)) = refl
+fired_turns t (Some (purpose.Renewal l k)) = refl
 fired_turns t (Some (purpose.Response (owner.Try n round))) = late_turns t (slice_get t.core.table n)
 
 requested_turns : (t : Turning) (kind : EventKind) → (requested t kind).core.turns ≡ t.core.turns

@@ -13,9 +13,9 @@ use Rattle.mux_conn.specs.declared.act.LinkAct.{LinkAct}
 use Rattle.mux_conn.specs.declared.request.Pending.{Pending}
 use Rattle.driver_model.specs.declared.event.EventKind.{EventKind}
 use Rattle.mux_conn.specs.declared.errors.ConnectionError.{ConnectionError}
-use Rattle.mux_conn.specs.Connection.{is_spent_in}
+use Rattle.mux_conn.specs.Connection.{is_used_up, uses_up}
 use Rattle.mux_conn.specs.Passes.{passed}
-use Rattle.mux_conn.proofs.Spent.{flushed_count}
+use Rattle.mux_conn.proofs.Spent.{spent_flushed}
 use Rattle.shared_session.specs.declared.core_state.Core.{Core}
 use Rattle.shared_session.specs.Turn.{Turning, work_of, counted, moved_on, heard, submitted, left_by, late_by, fired_by, requested, whole_effect, timers_of, sources_of, numbered, next_turn, has_run_out}
 
@@ -32,18 +32,18 @@ unfolding has_run_out
 room_left c h =
     let table = nat_le (2 ^ 32) (length c.table) in
     let others = nat_le (2 ^ 32) (length c.timers) || nat_le (2 ^ 32) (length c.sources) in
-    lower (length c.table) (or_left table others (or_right (is_spent_in c.single.connection.life) (table || others) h))
+    lower (length c.table) (or_left table others (or_right (is_used_up c.single.connection) (table || others) h))
 
-spent_moving : (t : Turning) → is_spent_in (passed (work_of t)).conn.life ≡ true → has_run_out (moved_on t).core ≡ true
+spent_moving : (t : Turning) → uses_up (passed (work_of t)) ≡ true → has_run_out (moved_on t).core ≡ true
 unfolding has_run_out
-spent_moving t h = or_true _ _ (ap (λ (n : ℕ). nat_le (2 ^ 32) n) (flushed_count (passed (work_of t))) ∙ h)
+spent_moving t h = or_true _ _ (spent_flushed (passed (work_of t)) h)
 
 none_spent : (failure : Option ConnectionError) (e : ConnectionError) → failure ≡ None → failure ≡ Some e → ⊥
 none_spent failure e none some = let no : ◌≡◌ {A = Option ConnectionError} None (Some e) = sym none ∙ some in cc
 
 -- of a connection that hasn't failed
 pub spent_in_run : (t u v : Turning) (kind : EventKind) (failure : Option ConnectionError) (e : ConnectionError) → u ≡ heard t kind → v ≡ requested u kind → failure ≡ None
-    → (failure ≡ Some e) ⊎ (is_spent_in (passed (work_of v)).conn.life ≡ true) → has_run_out (whole_effect t kind).core ≡ true
+    → (failure ≡ Some e) ⊎ (uses_up (passed (work_of v)) ≡ true) → has_run_out (whole_effect t kind).core ≡ true
 spent_in_run t u v kind failure e first second none (inl some) = absurd (none_spent failure e none some)
 spent_in_run t u v kind failure e first second none (inr spent) =
     subst (λ (x : Turning). has_run_out (moved_on x).core ≡ true) (second ∙ ap (λ (x : Turning). requested x kind) first) (spent_moving v spent)
@@ -67,6 +67,8 @@ fired_numbers : (t : Turning) (slot : Option Purpose) → SameNumbers (fired_by 
 fired_numbers t None = same_numbers t
 fired_numbers t (Some (purpose.Connect l)) = same_numbers t
 fired_numbers t (Some (purpose.Response owner.Setup)) = same_numbers t
+fired_numbers t (Some (purpose.Response owner.Auth)) = same_numbers t
+fired_numbers t (Some (purpose.Renewal l k)) = same_numbers t
 fired_numbers t (Some (purpose.Response (owner.Try n round))) = late_numbers t (slice_get t.core.table n)
 
 left_numbers : (t : Turning) (slot : Option (Option Pending)) → SameNumbers (left_by t slot) t
@@ -114,7 +116,7 @@ timers_left c h =
     let table = nat_le (2 ^ 32) (length c.table) in
     let timers = nat_le (2 ^ 32) (length c.timers) in
     let sources = nat_le (2 ^ 32) (length c.sources) in
-    lower (length c.timers) (or_left timers sources (or_right table (timers || sources) (or_right (is_spent_in c.single.connection.life) (table || (timers || sources)) h)))
+    lower (length c.timers) (or_left timers sources (or_right table (timers || sources) (or_right (is_used_up c.single.connection) (table || (timers || sources)) h)))
 
 -- and fewer sources
 sources_left : (c : Core) → has_run_out c ≡ false → length c.sources < 2 ^ 32
@@ -123,35 +125,41 @@ sources_left c h =
     let table = nat_le (2 ^ 32) (length c.table) in
     let timers = nat_le (2 ^ 32) (length c.timers) in
     let sources = nat_le (2 ^ 32) (length c.sources) in
-    lower (length c.sources) (or_right timers sources (or_right table (timers || sources) (or_right (is_spent_in c.single.connection.life) (table || (timers || sources)) h)))
+    lower (length c.sources) (or_right timers sources (or_right table (timers || sources) (or_right (is_used_up c.single.connection) (table || (timers || sources)) h)))
 
 -- a turn whose timers have got their numbers gave each of them one
-pub few_in_turn : (c d : Core) (kind : EventKind) (acts : List LinkAct) → ◌≡◌ {A = Turning} (record { core = d; acts = acts }) (next_turn c kind) → has_run_out d ≡ false → length c.timers + length (timers_of acts) < 2 ^ 32
+pub few_in_turn : (c d : Core) (kind : EventKind) (acts : List LinkAct) → ◌≡◌ {A = Turning} (record { core = d; acts = acts }) (next_turn c kind) → has_run_out d ≡ false → length c.timers + length (timers_of c.single.link acts) < 2 ^ 32
 unfolding next_turn
 few_in_turn c d kind acts is free =
     let w = whole_effect (counted c) kind in
-    let all : d.timers ≡ w.core.timers ++ timers_of w.acts = ap (λ (t : Turning). t.core.timers) is in
+    let l = c.single.link in
+    let all : d.timers ≡ w.core.timers ++ timers_of w.core.single.link w.acts = ap (λ (t : Turning). t.core.timers) is in
+    let link : w.core.single.link ≡ l = effect_link (counted c) kind in
     let same : acts ≡ w.acts = ap (λ (t : Turning). t.acts) is in
     let before : w.core.timers ≡ c.timers = effect_timers (counted c) kind in
-    let n : length d.timers ≡ length (w.core.timers) + length (timers_of w.acts) = ap length all ∙ length-append w.core.timers (timers_of w.acts) in
-    let m : length (timers_of acts) ≡ length (timers_of w.acts) = ap (λ (xs : List LinkAct). length (timers_of xs)) same in
+    let n : length d.timers ≡ length (w.core.timers) + length (timers_of w.core.single.link w.acts) = ap length all ∙ length-append w.core.timers (timers_of w.core.single.link w.acts) in
+    let m : length (timers_of l acts) ≡ length (timers_of w.core.single.link w.acts) = ap (λ (xs : List LinkAct). length (timers_of l xs)) same ∙ ap (λ (x : ℕ). length (timers_of x w.acts)) (sym link) in
     let k : length w.core.timers ≡ length c.timers = ap length before in
     omega (arith, timers_left d free, n, m, k)
 
 -- and each of its sources
 pub few_sources_in_turn : (c d : Core) (kind : EventKind) (acts : List LinkAct) → ◌≡◌ {A = Turning} (record { core = d; acts = acts }) (next_turn c kind) → has_run_out d ≡ false
-    → length c.sources + length (sources_of c.single.link acts) < 2 ^ 32
+    → length c.sources + length (sources_of c.single.link (length c.sources) acts) < 2 ^ 32
 unfolding next_turn
 few_sources_in_turn c d kind acts is free =
     let w = whole_effect (counted c) kind in
     let l = c.single.link in
-    let new = sources_of w.core.single.link w.acts in
+    let s = length c.sources in
+    let new = sources_of w.core.single.link (length w.core.sources) w.acts in
     let all : d.sources ≡ w.core.sources ++ new = ap (λ (t : Turning). t.core.sources) is in
     let link : w.core.single.link ≡ l = effect_link (counted c) kind in
     let same : acts ≡ w.acts = ap (λ (t : Turning). t.acts) is in
-    let k : length w.core.sources ≡ length c.sources = ap length (effect_sources (counted c) kind) in
+    let k : length w.core.sources ≡ s = ap length (effect_sources (counted c) kind) in
     let n : length d.sources ≡ length w.core.sources + length new = ap length all ∙ length-append w.core.sources new in
-    let m : length (sources_of l acts) ≡ length new = ap (λ (xs : List LinkAct). length (sources_of l xs)) same ∙ ap (λ (x : ℕ). length (sources_of x w.acts)) (sym link) in
+    let m : length (sources_of l s acts) ≡ length new =
+    ap (λ (xs : List LinkAct). length (sources_of l s xs)) same
+    ∙ ap (λ (x : ℕ). length (sources_of x s w.acts)) (sym link)
+    ∙ ap (λ (x : ℕ). length (sources_of w.core.single.link x w.acts)) (sym k) in
     omega (arith, sources_left d free, n, m, k)
 
 higher : (n m : ℕ) → n ≤ m → nat_le (2 ^ 32) n ≡ true → nat_le (2 ^ 32) m ≡ true
@@ -168,9 +176,9 @@ or_either false false false s false r f g h = g h
 spent_numbered : (t : Turning) → has_run_out t.core ≡ true → has_run_out (numbered t).core ≡ true
 unfolding has_run_out
 spent_numbered t h =
-    let timers = timers_of t.acts in
-    let sources = sources_of t.core.single.link t.acts in
-    or_either (is_spent_in t.core.single.connection.life) (nat_le (2 ^ 32) (length t.core.table)) (nat_le (2 ^ 32) (length t.core.timers)) (nat_le (2 ^ 32) (length t.core.sources)) (nat_le (2 ^ 32) (length (t.core.timers ++ timers))) (nat_le (2 ^ 32) (length (t.core.sources ++ sources)))
+    let timers = timers_of t.core.single.link t.acts in
+    let sources = sources_of t.core.single.link (length t.core.sources) t.acts in
+    or_either (is_used_up t.core.single.connection) (nat_le (2 ^ 32) (length t.core.table)) (nat_le (2 ^ 32) (length t.core.timers)) (nat_le (2 ^ 32) (length t.core.sources)) (nat_le (2 ^ 32) (length (t.core.timers ++ timers))) (nat_le (2 ^ 32) (length (t.core.sources ++ sources)))
     (higher (length t.core.timers) (length (t.core.timers ++ timers)) (omega (arith, length-append t.core.timers timers)))
     (higher (length t.core.sources) (length (t.core.sources ++ sources)) (omega (arith, length-append t.core.sources sources))) h
 

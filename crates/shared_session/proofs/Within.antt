@@ -4,9 +4,11 @@ use Rattle.std.specs.Prelude.{slice_get}
 use Rattle.containers.proofs.Choices.{not_le_from, not_lt_from, or_right}
 use Rattle.driver_model.specs.declared.action.Purpose.{Purpose}
 use Rattle.driver_model.specs.declared.action.Purpose.TheVariants as purpose
+use Rattle.driver_model.specs.declared.action.SourceUse.{SourceUse}
+use Rattle.driver_model.specs.declared.action.SourceUse.TheVariants as source
 use Rattle.driver_model.specs.declared.event.EventKind.{EventKind}
 use Rattle.driver_model.specs.declared.event.EventKind.TheVariants as event
-use Rattle.driver_model.specs.News.{News, silence, connected, refused, overdue, took, came, failed, authorized, denied, deserted, shut, for_link, of_timer, is_source_of, news_of}
+use Rattle.driver_model.specs.News.{News, silence, connected, refused, overdue, took, came, failed, authorized, denied, deserted, renewed, unrenewed, late, shut, for_link, of_timer, of_source, news_of}
 use Rattle.mux_conn.specs.declared.life.Life.{Life}
 use Rattle.mux_conn.specs.declared.life.Life.TheVariants.{Dialing, Wanting, SettingUp, Ready, Ended}
 use Rattle.mux_conn.specs.Effects.{IsWithin, CanTake}
@@ -32,6 +34,12 @@ timer_within : (life : Life) (n : ℕ) (slot : Option Purpose) → IsWithin life
 timer_within life n None = tt
 timer_within life n (Some (purpose.Connect l)) = either_news (l == n) life overdue tt
 timer_within life n (Some (purpose.Response who)) = tt
+timer_within life n (Some (purpose.Renewal l k)) = either_news (l == n) life (late k) tt
+
+source_within : (life : Life) (n : ℕ) (slot : Option SourceUse) (first later : News) → IsWithin life first → IsWithin life later → IsWithin life (of_source n slot first later)
+source_within life n None first later h k = tt
+source_within life n (Some (source.Setup l)) first later h k = either_news (l == n) life first h
+source_within life n (Some (source.Renewal l)) first later h k = either_news (l == n) life later k
 
 pub news_within : (c : Core) (kind : EventKind) → is_bad c kind ≡ false → IsWithin c.single.connection.life (news_of c.timers c.sources c.single.link kind)
 unfolding is_bad
@@ -41,9 +49,9 @@ news_within c (event.Connected l) good = either_news (l == c.single.link) c.sing
 news_within c (event.Refused l f) good = either_news (l == c.single.link) c.single.connection.life (refused f) tt
 news_within c (event.Fired t) good = timer_within c.single.connection.life c.single.link (slice_get c.timers t)
 news_within c (event.Timeout ms) good = tt
-news_within c (event.Creds n auth) good = either_news (is_source_of c.single.link (slice_get c.sources n)) c.single.connection.life (authorized auth) tt
-news_within c (event.CredsError n text) good = either_news (is_source_of c.single.link (slice_get c.sources n)) c.single.connection.life (denied text) tt
-news_within c (event.CredsEnd n) good = either_news (is_source_of c.single.link (slice_get c.sources n)) c.single.connection.life deserted tt
+news_within c (event.Creds n auth) good = source_within c.single.connection.life c.single.link (slice_get c.sources n) (authorized auth) (renewed auth) tt tt
+news_within c (event.CredsError n text) good = source_within c.single.connection.life c.single.link (slice_get c.sources n) (denied text) silence tt tt
+news_within c (event.CredsEnd n) good = source_within c.single.connection.life c.single.link (slice_get c.sources n) deserted unrenewed tt tt
 news_within c (event.Wrote l count) good = own_take (l == c.single.link) c.single.connection.life count (or_right (is_no_link c l) _ good)
 news_within c (event.Bytes l piece) good = either_news (l == c.single.link) c.single.connection.life (came piece) tt
 news_within c (event.Ended l) good = either_news (l == c.single.link) c.single.connection.life (failed _) tt

@@ -4,4 +4,4 @@ use Rattle.shared_session.proofs.core_state.note_timers.Given as goal
 
 -- what is kept and what is left are the whole
 abbrev pub invariant-loop-act : goal.invariant-loop-act
-invariant-loop-act l = l.timers ++ timers_of (drop l.act-index l.acts) ≡ l.fn.timers ++ timers_of l.acts
+invariant-loop-act l = l.timers ++ timers_of l.link (drop l.act-index l.acts) ≡ l.fn.timers ++ timers_of l.link l.acts
