@@ -14,7 +14,7 @@ use Rattle.shared_session.specs.Replay.{IsSound}
 use Rattle.live_run.specs.declared.ending.Ending.{Ending}
 use Rattle.live_run.specs.Agenda.{agenda_of}
 use Rattle.live_run.specs.Closing.{close_calls, times}
-use Rattle.live_run.specs.Deeds.{IsGood, actions_in, calls_in, traced}
+use Rattle.live_run.specs.Deeds.{IsGood, IsUnspent, actions_in, calls_in, traced}
 use Rattle.live_run.specs.Driven.{Driven}
 use Rattle.live_laws.specs.Dials.{IsPicked, Rises, connects_in, dials_in}
 use Rattle.live_laws.specs.Laws.{calls_of}
@@ -46,8 +46,8 @@ stand_rises (action.Wait who kind ∷ xs) b stand = stand_rises xs (entered b (a
 stand_rises (action.Created e ∷ xs) b stand = stand_rises xs (entered b (action.Created e)) stand.1
 stand_rises (action.Outcome n o ∷ xs) b stand = stand_rises xs (entered b (action.Outcome n o)) stand.1
 
-pub connects_rise : (s : History) → IsSound s.config → IsGood s → Rises 0 (connects_in (traced s))
-connects_rise s sound good = stand_rises (traced s) blank_book (replay_legal s.config s.word s.events sound good).each
+pub connects_rise : (s : History) → IsSound s.config → IsGood s → IsUnspent s → Rises 0 (connects_in (traced s))
+connects_rise s sound good unspent = stand_rises (traced s) blank_book (replay_legal s.config s.word s.events sound good unspent).each
 
 pub run_picked : {old new : Option (List Call)} {before after : History} {count : ℕ} {ending : Ending} (run : Driven (traced before) old new before after count ending) → IsPicked (dials_in (calls_of run)) (connects_in (traced after))
 run_picked {before} {after} run =
@@ -61,8 +61,8 @@ run_picked {before} {after} run =
     (subst (IsPicked (dials_in (calls_in run.deeds))) (sym connects) (picked_more (dials_in (calls_in run.deeds)) (asks ++ connects_in (actions_in run.deeds)) (connects_in (ends run)) picked))
 
 -- so none is dialled twice
-pub dialled_once : {old new : Option (List Call)} {before after : History} {count : ℕ} {ending : Ending} (n : ℕ) → IsSound before.config → IsGood before → (run : Driven (traced before) old new before after count ending)
+pub dialled_once : {old new : Option (List Call)} {before after : History} {count : ℕ} {ending : Ending} (n : ℕ) → IsSound before.config → IsGood before → IsUnspent before → (run : Driven (traced before) old new before after count ending)
     → times n (dials_in (calls_of run)) ≤ 1
-dialled_once {before} {after} n sound good run =
-    let rises = connects_rise after (subst IsSound (sym run.config_after) sound) (run.good good) in
+dialled_once {before} {after} n sound good unspent run =
+    let rises = connects_rise after (subst IsSound (sym run.config_after) sound) (run.good good) (run.unspent unspent) in
     times_once n 0 (dials_in (calls_of run)) (rises_picked 0 (dials_in (calls_of run)) (connects_in (traced after)) (run_picked run) rises)

@@ -1,5 +1,5 @@
 -- What a link hears, and what it leaves of what it has taken and is offered.
-use Rattle.std.proofs.Common.{◌≡◌, ℕ, ◌==◌, if◌then◌else◌, Bool, true, false, List, [], ◌++◌, take, Option, Some, None, slice_get, refl, sym, ap}
+use Rattle.std.proofs.Common.{◌≡◌, ℕ, ◌==◌, if◌then◌else◌, Bool, true, false, ◌&&◌, List, [], ◌++◌, take, Option, Some, None, slice_get, refl, sym, ap}
 use Rattle.std.proofs.lemmas.List.{append-nil}
 use Rattle.containers.proofs.Choices.{chosen, if_true, not_both}
 use Rattle.redis_error.specs.declared.redis_error.RedisError.TheVariants as error
@@ -9,8 +9,8 @@ use Rattle.driver_model.specs.declared.action.SourceUse.{SourceUse}
 use Rattle.driver_model.specs.declared.event.EventKind.{EventKind}
 use Rattle.driver_model.specs.declared.event.EventKind.TheVariants as event
 use Rattle.driver_model.specs.declared.news.LinkFault.TheVariants as fault
-use Rattle.driver_model.specs.News.{News, silence, connected, refused, overdue, took, came, failed, authorized, denied, deserted, shut, for_link, of_timer, is_source_of, news_of}
-use Rattle.legal_trace.specs.Ledger.{Ledger, Line, hears, offers, noted, noted_each, is_over, dials, refused_in, bytes_came, awaits_credentials, authorized_by}
+use Rattle.driver_model.specs.News.{News, silence, connected, refused, overdue, took, came, failed, authorized, denied, deserted, renewed, unrenewed, late, shut, for_link, of_timer, of_source, is_source_of, renews, news_of}
+use Rattle.legal_trace.specs.Ledger.{Ledger, Line, hears, offers, noted, noted_each, is_over, dials, refused_in, bytes_came, awaits_credentials, authorized_by, may_renew, renewed_by, unrenewed_by, is_renewal_open, lost_by}
 use Rattle.legal_trace.specs.Book.{if_mine}
 use Rattle.live_laws.specs.Taken.{IsNoWrote}
 
@@ -38,6 +38,10 @@ hears_stays g turn (authorized c) quiet =
     chosen (λ (m : Ledger). Stays g (record m { heard = authorized c })) (awaits_credentials g) (authorized_by g c) g (λ t. (λ u. u, refl, refl)) (λ f. (λ u. u, refl, refl))
 hears_stays g turn (denied text) quiet = (λ u. u, refl, refl)
 hears_stays g turn deserted quiet = (λ u. u, refl, refl)
+hears_stays g turn (renewed c) quiet = chosen (λ (m : Ledger). Stays g (record m { heard = renewed c })) (may_renew g) (renewed_by g c) g (λ t. (λ u. u, refl, refl)) (λ f. (λ u. u, refl, refl))
+hears_stays g turn unrenewed quiet = chosen (λ (m : Ledger). Stays g (record m { heard = unrenewed })) g.up (unrenewed_by g) g (λ t. (λ u. u, refl, refl)) (λ f. (λ u. u, refl, refl))
+hears_stays g turn (late k) quiet =
+    chosen (λ (m : Ledger). Stays g (record m { heard = late k })) (g.up && is_renewal_open g k) (lost_by g) g (λ t. (λ u. u, refl, refl)) (λ f. (λ u. u, refl, refl))
 hears_stays g turn shut quiet = (λ u. u, refl, refl)
 
 not_took : (mine : Bool) (news : News) → IsNoTook news → IsNoTook (for_link mine news)
@@ -47,6 +51,10 @@ timer_not_took : (n : ℕ) (what : Option Purpose) → IsNoTook (of_timer n what
 timer_not_took n None = tt
 timer_not_took n (Some (purpose.Connect l)) = not_took (l == n) overdue tt
 timer_not_took n (Some (purpose.Response who)) = tt
+timer_not_took n (Some (purpose.Renewal l k)) = not_took (l == n) (late k) tt
+
+source_not_took : (n : ℕ) (what : Option SourceUse) (first later : News) → IsNoTook first → IsNoTook later → IsNoTook (of_source n what first later)
+source_not_took n what first later h k = chosen IsNoTook (is_source_of n what) first (for_link (renews n what) later) (λ t. h) (λ f. not_took (renews n what) later k)
 
 pub event_not_took : (timers : List Purpose) (sources : List SourceUse) (n : ℕ) (kind : EventKind) → IsNoWrote kind → IsNoTook (news_of timers sources n kind)
 event_not_took timers sources n (event.Connected l) quiet = not_took (l == n) connected tt
@@ -58,9 +66,9 @@ event_not_took timers sources n (event.ReadFault l kind) quiet = not_took (l == 
 event_not_took timers sources n (event.WriteFault l kind) quiet = not_took (l == n) (failed (fault.Io kind)) tt
 event_not_took timers sources n (event.Fired t) quiet = timer_not_took n (slice_get timers t)
 event_not_took timers sources n (event.Timeout ms) quiet = tt
-event_not_took timers sources n (event.Creds c auth) quiet = not_took (is_source_of n (slice_get sources c)) (authorized auth) tt
-event_not_took timers sources n (event.CredsError c text) quiet = not_took (is_source_of n (slice_get sources c)) (denied text) tt
-event_not_took timers sources n (event.CredsEnd c) quiet = not_took (is_source_of n (slice_get sources c)) deserted tt
+event_not_took timers sources n (event.Creds c auth) quiet = source_not_took n (slice_get sources c) (authorized auth) (renewed auth) tt tt
+event_not_took timers sources n (event.CredsError c text) quiet = source_not_took n (slice_get sources c) (denied text) silence tt tt
+event_not_took timers sources n (event.CredsEnd c) quiet = source_not_took n (slice_get sources c) deserted unrenewed tt tt
 event_not_took timers sources n event.Shutdown quiet = tt
 event_not_took timers sources n (event.Submit s) quiet = tt
 event_not_took timers sources n (event.Cancel s) quiet = tt

@@ -5,8 +5,8 @@ use Rattle.driver_model.specs.declared.action.Action.{Action}
 use Rattle.driver_model.specs.declared.action.Action.TheVariants as action
 use Rattle.driver_model.specs.declared.event.EventKind.{EventKind}
 use Rattle.driver_model.specs.declared.event.EventKind.TheVariants as event
-use Rattle.legal_trace.specs.Book.{Book, push_line, entered}
-use Rattle.legal_trace.specs.Ledger.{ends, offers}
+use Rattle.legal_trace.specs.Book.{Book, push_line, is_renewal_of, entered}
+use Rattle.legal_trace.specs.Ledger.{ends, offers, times}
 use Rattle.legal_trace.specs.Legal.{MayStand}
 use Rattle.legal_trace.proofs.Ledgers.{mine_keeps}
 use Rattle.live_run.specs.Agenda.{noted, offer_of, offered, removed, stands, undialled, without}
@@ -61,7 +61,9 @@ pub noted_ties : (a : Agenda) (b : Book) (x : Action) → IsNoTurn x → MayStan
 noted_ties a b (action.Turn number c) quiet may h = absurd quiet
 noted_ties a b (action.Connect l host port) quiet may h =
     all_stay b (entered b (action.Connect l host port)) a.links (λ n. mine_keeps (Stays (b.link n)) (l == n) (b.link n) _ (λ t. (λ u. u, refl, refl)) (stays_same (b.link n))) h
-noted_ties a b (action.Timer t ms what) quiet may h = all_stay b (entered b (action.Timer t ms what)) a.links (λ n. stays_same (b.link n)) h
+noted_ties a b (action.Timer t ms what) quiet may h =
+    all_stay b (entered b (action.Timer t ms what)) a.links
+    (λ n. mine_keeps (Stays (b.link n)) (is_renewal_of n what) (b.link n) times (λ own. (λ u. u, refl, refl)) (stays_same (b.link n))) h
 noted_ties a b (action.Close l) quiet may h =
     let c = entered b (action.Close l) in
     let d : Agenda = record a { links = without l a.links; dials = undialled l a.dials } in

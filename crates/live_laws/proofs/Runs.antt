@@ -18,7 +18,7 @@ use Rattle.shared_session.proofs.Replays.{trace_of-more}
 use Rattle.live_run.specs.declared.ending.Ending.{Ending}
 use Rattle.live_run.specs.Agenda.{agenda_of}
 use Rattle.live_run.specs.Closing.{close_calls}
-use Rattle.live_run.specs.Deeds.{AllMay, AreShown, Deed, IsGood, actions_in, after, calls_in, events_in, events_of, traced}
+use Rattle.live_run.specs.Deeds.{AllMay, AreShown, Deed, IsGood, IsUnspent, actions_in, after, calls_in, events_in, events_of, traced}
 use Rattle.live_run.specs.Driven.{Driven, shutdown}
 use Rattle.live_run.proofs.Shown.{shown_whole, turns_gained}
 use Rattle.live_laws.specs.Laws.{calls_of, taken_in}
@@ -80,13 +80,13 @@ module _ {early : List Action} {old new : Option (List Call)} {before after : Hi
   pub trace_whole : traced after ≡ (traced before ++ actions_in run.deeds) ++ ends
   trace_whole = trace_passed ∙ ap (λ (xs : List Action). xs ++ ends) (shown_whole before.config before.word before.events run.deeds run.shown)
 
-  pub run_legal : IsSound before.config → IsGood before → AllStand blank_book (traced after)
-  run_legal sound good = (replay_legal after.config after.word after.events (subst IsSound (sym run.config_after) sound) (run.good good)).each
+  pub run_legal : IsSound before.config → IsGood before → IsUnspent before → AllStand blank_book (traced after)
+  run_legal sound good unspent = (replay_legal after.config after.word after.events (subst IsSound (sym run.config_after) sound) (run.good good) (run.unspent unspent)).each
 
-  pub run_taken : (n : ℕ) → IsSound before.config → IsGood before → taken_in after n ≡ taken_in before n ++ taken n (calls_of run)
-  run_taken n sound good =
+  pub run_taken : (n : ℕ) → IsSound before.config → IsGood before → IsUnspent before → taken_in after n ≡ taken_in before n ++ taken n (calls_of run)
+  run_taken n sound good unspent =
       let b = book (trace_of before.config before.word passed) in
-      let stand = stand_front blank_book (traced before ++ actions_in run.deeds) ends (subst (AllStand blank_book) trace_whole (run_legal sound good)) in
+      let stand = stand_front blank_book (traced before ++ actions_in run.deeds) ends (subst (AllStand blank_book) trace_whole (run_legal sound good unspent)) in
       let all : taken n (calls_of run) ≡ taken n (calls_in run.deeds) =
       taken_append n (calls_in run.deeds) (call.Word run.word ∷ close_calls run.closes) ∙ ap (λ (xs : List ℕ). taken n (calls_in run.deeds) ++ xs) (closes_taken n run.closes) ∙ append-nil (taken n (calls_in run.deeds)) in
       ap (λ (xs : List Action). taken_of (book xs) n) trace_passed
@@ -96,8 +96,8 @@ module _ {early : List Action} {old new : Option (List Call)} {before after : Hi
       ∙ ap (λ (xs : List ℕ). taken_in before n ++ xs) (sym all)
 
   -- where nothing was taken before
-  pub run_takes_all : (n : ℕ) → IsSound before.config → IsGood before → AreUnwritten before.events → taken_in after n ≡ taken n (calls_of run)
-  run_takes_all n sound good quiet = run_taken n sound good ∙ ap (λ (xs : List ℕ). xs ++ taken n (calls_of run)) (none_taken before.config before.word before.events n quiet)
+  pub run_takes_all : (n : ℕ) → IsSound before.config → IsGood before → IsUnspent before → AreUnwritten before.events → taken_in after n ≡ taken n (calls_of run)
+  run_takes_all n sound good unspent quiet = run_taken n sound good unspent ∙ ap (λ (xs : List ℕ). xs ++ taken n (calls_of run)) (none_taken before.config before.word before.events n quiet)
 
 -- what a world told in a run are the calls of the run
 pub run_told : {early : List Action} {before after : History} {count : ℕ} {ending : Ending} (told calls : List Call) (run : Driven early (Some told) (Some (told ++ calls)) before after count ending) → calls_of run ≡ calls

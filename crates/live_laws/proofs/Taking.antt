@@ -13,8 +13,8 @@ use Rattle.mux_conn.specs.declared.act.LinkAct.TheVariants as act
 use Rattle.shared_session.specs.declared.core_state.Core.{Core}
 use Rattle.shared_session.specs.Turn.{actions_of, next_turn, shown, shown_each, timer_of, source_of}
 use Rattle.shared_session.specs.Replay.{connect_asked, opening_actions, opening_core, trace_of, turns_on}
-use Rattle.legal_trace.specs.Ledger.{Ledger}
-use Rattle.legal_trace.specs.Book.{Book, push_line, blank_book, book, entered, entered_each}
+use Rattle.legal_trace.specs.Ledger.{Ledger, times}
+use Rattle.legal_trace.specs.Book.{Book, push_line, is_renewal_of, blank_book, book, entered, entered_each}
 use Rattle.legal_trace.proofs.Books.{entered_append}
 use Rattle.legal_trace.proofs.Ledgers.{mine_keeps}
 use Rattle.driver_model.specs.News.{news_of}
@@ -33,7 +33,7 @@ turn_stays b number word n kind quiet = hears_stays (b.link n) number (news_of b
 pub action_taken : (b : Book) (x : Action) (n : ℕ) → IsNoTurn x → taken_of (entered b x) n ≡ taken_of b n
 action_taken b (action.Turn number c) n quiet = absurd quiet
 action_taken b (action.Connect l host port) n quiet = mine_keeps (λ (g : Ledger). g.taken ≡ (b.link n).taken) (l == n) (b.link n) _ (λ t. refl) refl
-action_taken b (action.Timer t ms what) n quiet = refl
+action_taken b (action.Timer t ms what) n quiet = mine_keeps (λ (g : Ledger). g.taken ≡ (b.link n).taken) (is_renewal_of n what) (b.link n) times (λ t. refl) refl
 action_taken b (action.Took who l count) n quiet = refl
 action_taken b (action.Push l info) n quiet =
     mine_keeps (λ (g : Ledger). g.taken ≡ (b.link n).taken) (l == n) (b.link n) (push_line info.kind) (λ t. push_noted (λ (g : Ledger). g.taken ≡ (b.link n).taken) (b.link n) info.kind refl refl) refl
@@ -49,7 +49,7 @@ acts_taken : (l t c : ℕ) (acts : List LinkAct) (b : Book) (n : ℕ) → taken_
 acts_taken l t c [] b n = refl
 acts_taken l t c (x ∷ acts) b n =
     let y = shown l t c x in
-    acts_taken l (t + length (timer_of x)) (c + length (source_of l x)) acts (entered b y) n ∙ action_taken b y n (no_turn l t c x)
+    acts_taken l (t + length (timer_of l x)) (c + length (source_of l c x)) acts (entered b y) n ∙ action_taken b y n (no_turn l t c x)
 
 -- a turn of another event
 pub turn_taken : (c : Core) (e : Event) (b : Book) (n : ℕ) → IsNoWrote e.kind → taken_of (entered_each b (actions_of c e)) n ≡ taken_of b n

@@ -11,7 +11,7 @@ use Rattle.shared_session.specs.Replay.{IsSound}
 use Rattle.live_run.specs.declared.ending.Ending.{Ending}
 use Rattle.live_run.specs.declared.ending.Ending.TheVariants.{Full}
 use Rattle.live_run.specs.Closing.{close_calls, times}
-use Rattle.live_run.specs.Deeds.{IsGood, calls_in, traced}
+use Rattle.live_run.specs.Deeds.{IsGood, IsUnspent, calls_in, traced}
 use Rattle.live_run.specs.Driven.{Driven}
 use Rattle.live_run.specs.Endings.{most_events}
 use Rattle.live_laws.specs.Taken.{taken, AreUnwritten}
@@ -33,28 +33,28 @@ taken_in s l = (link_in s l).taken
 abbrev pub TakesWhatWasWritten : Type 0
 TakesWhatWasWritten =
     (early : List Action) (old new : Option (List Call)) (before after : History) (count : ℕ) (ending : Ending) (l : ℕ)
-    → IsSound before.config → IsGood before → (run : Driven early old new before after count ending)
+    → IsSound before.config → IsGood before → IsUnspent before → (run : Driven early old new before after count ending)
     → taken_in after l ≡ taken_in before l ++ taken l (calls_of run)
 
 -- the same of the calls that the world told in the run
 abbrev pub TakesWhatWasTold : Type 0
 TakesWhatWasTold =
     (early : List Action) (told calls : List Call) (before after : History) (count : ℕ) (ending : Ending) (l : ℕ)
-    → IsSound before.config → IsGood before → Driven early (Some told) (Some (told ++ calls)) before after count ending
+    → IsSound before.config → IsGood before → IsUnspent before → Driven early (Some told) (Some (told ++ calls)) before after count ending
     → taken_in after l ≡ taken_in before l ++ taken l calls
 
 -- where no event before the run told of bytes that were taken, it is what its writes took in the run
 abbrev pub TakesAll : Type 0
 TakesAll =
     (early : List Action) (old new : Option (List Call)) (before after : History) (count : ℕ) (ending : Ending) (l : ℕ)
-    → IsSound before.config → IsGood before → AreUnwritten before.events → (run : Driven early old new before after count ending)
+    → IsSound before.config → IsGood before → IsUnspent before → AreUnwritten before.events → (run : Driven early old new before after count ending)
     → taken_in after l ≡ taken l (calls_of run)
 
 -- then this, with what the link is still offered behind it, is the front of the messages that were started on it
 abbrev pub TakesFront : Type 0
 TakesFront =
     (early : List Action) (old new : Option (List Call)) (before after : History) (count : ℕ) (ending : Ending) (l : ℕ)
-    → IsSound before.config → IsGood before → AreUnwritten before.events → (run : Driven early old new before after count ending)
+    → IsSound before.config → IsGood before → IsUnspent before → AreUnwritten before.events → (run : Driven early old new before after count ending)
     → IsPrefix (taken l (calls_of run) ++ (link_in after l).offer) (joined (link_in after l).starts)
 
 -- a run that ends since its history is full holds just so many events before its shutdown, if it began with no more
@@ -81,11 +81,11 @@ DialsTold =
 
 -- the numbers of the connects of a session rise
 abbrev pub ConnectsRise : Type 0
-ConnectsRise = (s : History) → IsSound s.config → IsGood s → Rises 0 (connects_in (traced s))
+ConnectsRise = (s : History) → IsSound s.config → IsGood s → IsUnspent s → Rises 0 (connects_in (traced s))
 
 -- no link is dialled twice
 abbrev pub DialsOnce : Type 0
 DialsOnce =
     (old new : Option (List Call)) (before after : History) (count : ℕ) (ending : Ending) (n : ℕ)
-    → IsSound before.config → IsGood before → (run : Driven (traced before) old new before after count ending)
+    → IsSound before.config → IsGood before → IsUnspent before → (run : Driven (traced before) old new before after count ending)
     → times n (dials_in (calls_of run)) ≤ 1

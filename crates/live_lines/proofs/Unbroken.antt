@@ -6,7 +6,7 @@ use Rattle.driver_model.specs.declared.config.Config.{Config}
 use Rattle.outside.specs.declared.world.Call.{Call}
 use Rattle.session_laws.proofs.Legality.{bad_of_the_book, replay_legal}
 use Rattle.shared_session.specs.History.{History}
-use Rattle.shared_session.specs.Replay.{AreGood, IsSound, trace_of}
+use Rattle.shared_session.specs.Replay.{AreGood, AreUnspent, IsSound, trace_of}
 use Rattle.shared_session.specs.declared.errors.StepError.{StepError}
 use Rattle.shared_session.specs.declared.errors.StepError.TheVariants.{BadEvent}
 use Rattle.live_run.specs.Agenda.{agenda_of}
@@ -21,7 +21,9 @@ none_broke {old} {new} plan word lines numbers actions error before later sound 
     let config : plan.config ≡ before.config = sym submitted.config.0 in
     let same_word : word ≡ before.word = sym submitted.config.1 in
     let good : AreGood before.config before.word before.events = subst (λ (w : ℕ). AreGood before.config w before.events) same_word (subst (λ (c : Config). AreGood c word before.events) config submitted.good) in
+    let unspent : AreUnspent before.config before.word before.events = subst (λ (w : ℕ). AreUnspent before.config w before.events) same_word (subst (λ (c : Config). AreUnspent c word before.events) config submitted.unspent) in
     let all : actions ≡ trace_of before.config before.word before.events = asked ∙ (λ i. trace_of (config i) (same_word i) before.events) in
     let still_sound : IsSound before.config = subst IsSound config sound in
-    breaks_good before later (λ es still_good. replay_legal before.config before.word es still_sound still_good) (λ es e still_good. bad_of_the_book before.config before.word es e still_sound still_good) good
+    breaks_good before later (λ es still_good still_unspent. replay_legal before.config before.word es still_sound still_good still_unspent)
+    (λ es e still_good still_unspent. bad_of_the_book before.config before.word es e still_sound still_good still_unspent) good unspent
     (subst (λ (xs : List Action). Broke BadEvent old new before later (agenda_of xs)) all (subst (λ (e : StepError). Broke e old new before later (agenda_of actions)) is broke))

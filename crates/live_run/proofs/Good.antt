@@ -10,7 +10,7 @@ use Rattle.outside.specs.declared.world.Call.TheVariants as call
 use Rattle.outside.specs.declared.world.Dialed.TheVariants as dialed
 use Rattle.outside.specs.declared.world.LinkGot.TheVariants as got
 use Rattle.outside.specs.declared.world.LinkPut.TheVariants as put
-use Rattle.shared_session.specs.Replay.{trace_of, AreGood, is_bad_after}
+use Rattle.shared_session.specs.Replay.{trace_of, AreGood, AreUnspent, is_bad_after}
 use Rattle.legal_trace.specs.Ledger.{is_over}
 use Rattle.legal_trace.specs.Book.{Book, blank_book, book}
 use Rattle.legal_trace.specs.Events.{is_bad_event}
@@ -22,7 +22,7 @@ use Rattle.live_run.specs.declared.links.Link.{Link}
 use Rattle.live_run.specs.Agenda.{agenda_of, offer_of}
 use Rattle.shared_session.specs.History.{History}
 use Rattle.shared_session.specs.declared.errors.StepError.TheVariants.{BadEvent}
-use Rattle.live_run.specs.Deeds.{Broke, IsGood, Deed, IsFirstOf, answer_of, events_in, actions_in, after_each, MayCall, AllMay, MayStep, of_call, of_timer, of_end, AreShown}
+use Rattle.live_run.specs.Deeds.{Broke, IsGood, IsUnspent, Deed, IsFirstOf, answer_of, events_in, actions_in, after_each, MayCall, AllMay, MayStep, of_call, of_timer, of_end, AreShown}
 use Rattle.live_run.proofs.Shown.{shown_whole}
 use Rattle.live_run.proofs.Agendas.{due, first_dialled, offering, up, each_as}
 use Rattle.live_run.proofs.Standing.{IsKnownLink, Knows}
@@ -93,15 +93,18 @@ no_bad_step config word opened deeds e legal by_book shown may step bad =
 
 -- so no run breaks off for one
 pub breaks_good : {old new : Option (List Call)} (before later : History)
-    → ((es : List Event) → AreGood before.config before.word es → Legal before.config before.word es (trace_of before.config before.word es))
-    → ((es : List Event) (e : Event) → AreGood before.config before.word es → is_bad_after before.config before.word es e ≡ is_bad_event (book (trace_of before.config before.word es)) e.kind) → IsGood before
+    → ((es : List Event) → AreGood before.config before.word es → AreUnspent before.config before.word es → Legal before.config before.word es (trace_of before.config before.word es))
+    → ((es : List Event) (e : Event) → AreGood before.config before.word es → AreUnspent before.config before.word es → is_bad_after before.config before.word es e ≡ is_bad_event (book (trace_of before.config before.word es)) e.kind)
+    → IsGood before → IsUnspent before
     → Broke BadEvent old new before later (agenda_of (trace_of before.config before.word before.events)) → ⊥
-breaks_good before later legal by_book good broke =
+breaks_good before later legal by_book good unspent broke =
     let last = broke.last in
     let went = broke.went in
     let whole = before.events ++ events_in broke.deeds in
     let still_good : AreGood before.config before.word whole = subst (λ (es : List Event). AreGood before.config before.word es) went.grown
     (subst (λ (word : ℕ). AreGood before.config word last.events) went.word (subst (λ (config : Config). AreGood config last.word last.events) went.config (went.good good))) in
+    let still_unspent : AreUnspent before.config before.word whole = subst (λ (es : List Event). AreUnspent before.config before.word es) went.grown
+    (subst (λ (word : ℕ). AreUnspent before.config word last.events) went.word (subst (λ (config : Config). AreUnspent config last.word last.events) went.config (went.unspent unspent))) in
     let e = broke.why.0 in
     let bad : is_bad_after before.config before.word whole e ≡ true = (λ i. is_bad_after (sym went.config i) (sym went.word i) (sym went.grown i) e) ∙ broke.why.2 in
-    no_bad_step before.config before.word before.events broke.deeds e (legal whole still_good) (by_book whole e still_good) broke.shown broke.may broke.why.1 bad
+    no_bad_step before.config before.word before.events broke.deeds e (legal whole still_good still_unspent) (by_book whole e still_good still_unspent) broke.shown broke.may broke.why.1 bad

@@ -1,5 +1,5 @@
 -- What a book knows of links and timers only grows, but for an offer that is taken.
-use Rattle.std.proofs.Common.{◌≡◌, ℕ, ◌≤◌, ◌==◌, Bool, true, false, List, [], ◌∷◌, length, Option, Some, None, slice_get, refl, ap, subst, arith, length-append}
+use Rattle.std.proofs.Common.{◌≡◌, ℕ, ◌≤◌, ◌==◌, Bool, true, false, ◌&&◌, List, [], ◌∷◌, length, Option, Some, None, slice_get, refl, ap, subst, arith, length-append}
 use Rattle.containers.proofs.Choices.{chosen, eq_from, not_both}
 use Rattle.redis_error.specs.declared.redis_error.RedisError.TheVariants as error
 use Rattle.driver_model.specs.declared.action.Action.{Action}
@@ -13,9 +13,9 @@ use Rattle.driver_model.specs.declared.event.EventKind.TheVariants as event
 use Rattle.driver_model.specs.declared.news.LinkFault.TheVariants as fault
 use Rattle.resp_value.specs.declared.push_kind.PushKind.{PushKind}
 use Rattle.driver_model.specs.Push.{is_disconnection}
-use Rattle.driver_model.specs.News.{News, silence, connected, refused, overdue, took, came, failed, authorized, denied, deserted, shut, for_link, of_timer, is_source_of, news_of}
-use Rattle.legal_trace.specs.Ledger.{Ledger, Line, hears, offers, tells, parts, noted, is_over, dials, refused_in, bytes_came, awaits_credentials, authorized_by}
-use Rattle.legal_trace.specs.Book.{Book, push_line, entered}
+use Rattle.driver_model.specs.News.{News, silence, connected, refused, overdue, took, came, failed, authorized, denied, deserted, renewed, unrenewed, late, shut, for_link, of_timer, of_source, is_source_of, renews, news_of}
+use Rattle.legal_trace.specs.Ledger.{Ledger, Line, hears, offers, tells, times, parts, noted, is_over, dials, refused_in, bytes_came, awaits_credentials, authorized_by, may_renew, renewed_by, unrenewed_by, is_renewal_open, lost_by}
+use Rattle.legal_trace.specs.Book.{Book, push_line, is_renewal_of, entered}
 use Rattle.legal_trace.specs.Legal.{MayStand}
 use Rattle.legal_trace.proofs.Ledgers.{mine_keeps}
 
@@ -40,6 +40,10 @@ hears_keeps l turn (authorized c) quiet =
     chosen (λ (m : Ledger). Keeps l (record m { heard = authorized c })) (awaits_credentials l) (authorized_by l c) l (λ t going. (going, omega arith)) (λ f going. (going, omega arith))
 hears_keeps l turn (denied text) quiet = λ going. (going, omega arith)
 hears_keeps l turn deserted quiet = λ going. (going, omega arith)
+hears_keeps l turn (renewed c) quiet = chosen (λ (m : Ledger). Keeps l (record m { heard = renewed c })) (may_renew l) (renewed_by l c) l (λ t going. (going, omega arith)) (λ f going. (going, omega arith))
+hears_keeps l turn unrenewed quiet = chosen (λ (m : Ledger). Keeps l (record m { heard = unrenewed })) l.up (unrenewed_by l) l (λ t going. (going, omega arith)) (λ f going. (going, omega arith))
+hears_keeps l turn (late k) quiet =
+    chosen (λ (m : Ledger). Keeps l (record m { heard = late k })) (l.up && is_renewal_open l k) (lost_by l) l (λ t going. (going, omega arith)) (λ f going. (going, omega arith))
 hears_keeps l turn shut quiet = λ going. (going, omega arith)
 
 -- an offer of another link is taken
@@ -58,6 +62,10 @@ timer_not_took : (n : ℕ) (what : Option Purpose) → IsNoTook (of_timer n what
 timer_not_took n None = tt
 timer_not_took n (Some (purpose.Connect l)) = not_took (l == n) overdue tt
 timer_not_took n (Some (purpose.Response who)) = tt
+timer_not_took n (Some (purpose.Renewal l k)) = not_took (l == n) (late k) tt
+
+source_not_took : (n : ℕ) (what : Option SourceUse) (first later : News) → IsNoTook first → IsNoTook later → IsNoTook (of_source n what first later)
+source_not_took n what first later h k = chosen IsNoTook (is_source_of n what) first (for_link (renews n what) later) (λ t. h) (λ f. not_took (renews n what) later k)
 
 event_not_took : (timers : List Purpose) (sources : List SourceUse) (n : ℕ) (kind : EventKind) → IsNoWrote kind → IsNoTook (news_of timers sources n kind)
 event_not_took timers sources n (event.Connected l) quiet = not_took (l == n) connected tt
@@ -69,9 +77,9 @@ event_not_took timers sources n (event.ReadFault l kind) quiet = not_took (l == 
 event_not_took timers sources n (event.WriteFault l kind) quiet = not_took (l == n) (failed (fault.Io kind)) tt
 event_not_took timers sources n (event.Fired t) quiet = timer_not_took n (slice_get timers t)
 event_not_took timers sources n (event.Timeout ms) quiet = tt
-event_not_took timers sources n (event.Creds c auth) quiet = not_took (is_source_of n (slice_get sources c)) (authorized auth) tt
-event_not_took timers sources n (event.CredsError c text) quiet = not_took (is_source_of n (slice_get sources c)) (denied text) tt
-event_not_took timers sources n (event.CredsEnd c) quiet = not_took (is_source_of n (slice_get sources c)) deserted tt
+event_not_took timers sources n (event.Creds c auth) quiet = source_not_took n (slice_get sources c) (authorized auth) (renewed auth) tt tt
+event_not_took timers sources n (event.CredsError c text) quiet = source_not_took n (slice_get sources c) (denied text) silence tt tt
+event_not_took timers sources n (event.CredsEnd c) quiet = source_not_took n (slice_get sources c) deserted unrenewed tt tt
 event_not_took timers sources n event.Shutdown quiet = tt
 event_not_took timers sources n (event.Submit s) quiet = tt
 event_not_took timers sources n (event.Cancel s) quiet = tt
@@ -113,7 +121,8 @@ action_grows b (action.Turn number c) quiet may = absurd quiet
 action_grows b (action.Connect l host port) quiet may =
     stays b (entered b (action.Connect l host port)) (omega arith) (omega arith) (λ n. mine_keeps (Keeps (b.link n)) (l == n) (b.link n) _ (λ t going. (going, omega arith)) (same_keeps (b.link n)))
 action_grows b (action.Timer t ms what) quiet may =
-    stays b (entered b (action.Timer t ms what)) (omega arith) (omega (arith, length-append b.timers (what ∷ []))) (λ n. same_keeps (b.link n))
+    stays b (entered b (action.Timer t ms what)) (omega arith) (omega (arith, length-append b.timers (what ∷ [])))
+    (λ n. mine_keeps (Keeps (b.link n)) (is_renewal_of n what) (b.link n) times (λ t going. (going, omega arith)) (same_keeps (b.link n)))
 action_grows b (action.Close l) quiet may =
     stays b (entered b (action.Close l)) (omega arith) (omega arith) (λ n. mine_keeps (Keeps (b.link n)) (l == n) (b.link n) _ (λ t going. absurd (not_both true going refl)) (same_keeps (b.link n)))
 action_grows b (action.Write l bytes) quiet may =

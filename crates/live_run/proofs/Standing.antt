@@ -47,7 +47,8 @@ known_grown {targets} {ups} {pendings} {b} {c} g h = record {
 
 timer_next : (b : Book) (t ms : ℕ) (what : Purpose) → MayTimer b t ms what → t ≡ length b.timers
 timer_next b t ms what (inl opens) = opens.next
-timer_next b t ms what (inr asks) = asks.next
+timer_next b t ms what (inr (inl asks)) = asks.next
+timer_next b t ms what (inr (inr renews)) = renews.next
 
 mine_offers : (mine : Bool) (g : Ledger) (bytes : List ℕ) → mine ≡ true → (noted_each g (if_mine mine (offers bytes))).offer ≡ bytes
 mine_offers true g bytes t = refl

@@ -23,13 +23,15 @@ shutdown
 end
 ";
 
-/// The history of a session whose credentials come of a source.
+/// The history of a session whose credentials come of sources.
 const CREDENTIALS: &[u8] = b"config single url=redis://h:6379 connect=none creds=on lib=off
 connected 0
 submit cmd GET a
 creds 0 u p%20%FF
 creds-err 0 none%20now
 creds-end 0
+bytes 0 +OK%0D%0A
+creds 1 u q
 end
 ";
 

@@ -29,7 +29,7 @@ use Rattle.script_generator.proofs.Fronts.{Steps}
 pub room_in : (t k : ℕ) (table : List (Option Pending)) (rs : List Request) (row : List Entry) (outbox : Outbox) → k < 2 ^ 32 → length table < 2 ^ 32 → has_run_out (up told t table rs (link_with row k outbox)) ≡ false
 unfolding has_run_out
 room_in t k table rs row outbox few short =
-    ap (λ b. b || (nat_le (2 ^ 32) (length table) || false)) (not_le_test (2 ^ 32) k few) ∙ ap (λ b. b || false) (not_le_test (2 ^ 32) (length table) short)
+    ap (λ b. (b || false) || (nat_le (2 ^ 32) (length table) || false)) (not_le_test (2 ^ 32) k few) ∙ ap (λ b. b || false) (not_le_test (2 ^ 32) (length table) short)
 
 -- what an event does to a session whose link is up, from its turn
 steps_up : (e : Event) (table : List (Option Pending)) (rs : List Request) (link : LinkState) (core' : ℕ → Core) (acts : List LinkAct)
@@ -83,12 +83,12 @@ cancel_steps i k n table rs long few short =
     (λ t. not_le_test (length (table ++ Some (pending (length rs)) ∷ [])) i (omega arith))
     (λ t. room_in t k _ _ _ _ few (omega arith))
 
-answer_steps : (k n : ℕ) (table : List (Option Pending)) (rs : List Request) → k < 2 ^ 32 → length table < 2 ^ 32 →
+answer_steps : (k n : ℕ) (table : List (Option Pending)) (rs : List Request) → k < 2 ^ 32 → length table < 2 ^ 32 → length rs < 2 ^ 32 →
     Steps (λ t. up told t table (rs ++ come_to n progress.Placed ∷ []) (link_with (entry (length rs) true ∷ []) k no_bytes)) (λ t. up told t table (rs ++ come_to n progress.Closed ∷ []) (link_with [] k no_bytes))
     replies (action.Outcome n answer ∷ [])
 unfolding is_bad
-answer_steps k n table rs few short =
-    steps_up replies _ _ _ _ _ (λ t. answer_turn told t k n table rs) (λ t. refl) (λ t. room_in t k _ _ _ _ few short)
+answer_steps k n table rs few short own =
+    steps_up replies _ _ _ _ _ (λ t. answer_turn told t k n table rs own) (λ t. refl) (λ t. room_in t k _ _ _ _ few short)
 
 unheard_steps : (k p : ℕ) (table : List (Option Pending)) (rs : List Request) → k < 2 ^ 32 → length table < 2 ^ 32 →
     Steps (λ t. up told t table rs (link_with (entry p false ∷ []) k no_bytes)) (λ t. up told t table rs (link_with [] k no_bytes)) replies []
@@ -119,6 +119,11 @@ lists (suc i) = asked (lists i) progress.Closed
 pub long : (i : ℕ) → length (lists i).table ≡ i
 long zero = refl
 long (suc i) = length-append (lists i).table (Some (pending (length (lists i).requests)) ∷ []) ∙ (let e : length (lists i).table ≡ i = long i in omega arith)
+
+-- so many requests in all
+asked_for : (i : ℕ) → length (lists i).requests ≡ i
+asked_for zero = refl
+asked_for (suc i) = length-append (lists i).requests (come_to (length (lists i).table) progress.Closed ∷ []) ∙ (let e : length (lists i).requests ≡ i = asked_for i in omega arith)
 
 -- a session of these requests, over a link of this row, of so many messages that started, and with these bytes to be written
 abbrev pub over : Lists → List Entry → ℕ → Outbox → ℕ → Core
@@ -152,7 +157,10 @@ pub cancels_on : (i : ℕ) → i < 200000 → Steps (waiting i) (unheard i) (can
 cancels_on i few = let l = long i in cancel_steps i (i + 1) (length (lists i).table) (lists i).table (lists i).requests (long i) (omega arith) (omega arith)
 
 pub answers_on : (i : ℕ) → i < 200000 → Steps (waiting i) (over (lists (suc i)) [] (i + 1) no_bytes) replies (action.Outcome (length (lists i).table) answer ∷ [])
-answers_on i few = let l = longer i in answer_steps (i + 1) (length (lists i).table) (asked (lists i) progress.Placed).table (lists i).requests (omega arith) (omega arith)
+answers_on i few =
+    let l = longer i in
+    let r = asked_for i in
+    answer_steps (i + 1) (length (lists i).table) (asked (lists i) progress.Placed).table (lists i).requests (omega arith) (omega arith) (omega arith)
 
 pub drops_on : (i : ℕ) → i < 200000 → Steps (unheard i) (over (lists (suc i)) [] (i + 1) no_bytes) replies []
 drops_on i few = let l = longer i in unheard_steps (i + 1) (length (lists i).requests) (asked (lists i) progress.Placed).table (asked (lists i) progress.Closed).requests (omega arith) (omega arith)

@@ -10,6 +10,7 @@ use Rattle.mux_conn.specs.declared.life.Life.TheVariants.{Ready}
 use Rattle.mux_conn.specs.declared.request.Pending.{Pending}
 use Rattle.mux_conn.specs.declared.request.Request.{Request}
 use Rattle.mux_conn.specs.declared.request.Waiting.{Waiting}
+use Rattle.mux_conn.specs.Renewals.{no_renewal}
 use Rattle.shared_session.specs.declared.core_state.Core.{Core}
 
 -- a link without queue, of these messages that take items, of so many that started, with these bytes to be written
@@ -29,7 +30,7 @@ connection_with info life requests waiting fresh moved = record {
   free = 0;
   hears = false;
   info = info;
-  wants = false;
+  renewal = no_renewal false None;
   life = life;
   requests = requests;
   waiting = waiting;

@@ -1,9 +1,9 @@
 -- The other turns of the generated script.
-use Rattle.std.proofs.Common.{◌≡◌, ℕ, ◌+◌, Bool, true, false, List, [], ◌∷◌, ◌++◌, length, drop, min, Option, Some, None, refl, ap, ◌∙◌, if◌then◌else◌}
+use Rattle.std.proofs.Common.{◌≡◌, ℕ, ◌+◌, ◌^◌, ◌<◌, ◌==◌, Bool, true, false, List, [], ◌∷◌, ◌++◌, length, drop, min, Option, Some, None, refl, ap, ◌∙◌, arith, if◌then◌else◌}
 use Rattle.std.specs.Fmt.{digits}
 use Rattle.std.specs.Str.Lossy.{utf8_lossy, utf8_valid_len}
 use Rattle.url.proofs.OnLiterals.{url_on_literals}
-use Rattle.containers.proofs.Choices.{eq_test}
+use Rattle.containers.proofs.Choices.{eq_test, ne_test}
 use Rattle.resp_value.specs.Data.{simple}
 use Rattle.resp_read.specs.Grammar.{max_depth}
 use Rattle.resp_read.specs.Values.{values, left_over, is_spoiled}
@@ -28,7 +28,8 @@ use Rattle.mux_conn.specs.declared.request.Pending.{Pending}
 use Rattle.mux_conn.specs.declared.request.Progress.TheVariants as progress
 use Rattle.mux_conn.specs.declared.request.Request.{Request}
 use Rattle.mux_conn.specs.Connection.{Work, work_with, acted}
-use Rattle.mux_conn.specs.Requests.{if_there, is_open, permits_or_none, name_at, closed}
+use Rattle.mux_conn.specs.Requests.{if_there, is_open, permits_or_none, name_at, closed, answered}
+use Rattle.mux_conn.specs.Renewals.{renewal_id, renewing, replied, is_done}
 use Rattle.mux_conn.specs.Effects.{new_link, all_fresh, made_ready, sets_up, cancelled_in, read_to}
 use Rattle.shared_session.specs.declared.core_state.Core.{Core}
 use Rattle.shared_session.specs.Replay.{opening_core}
@@ -97,11 +98,11 @@ abbrev pub answer : Outcome
 answer = outcome_of (verdict_of Single (simple (118 ∷ []) ∷ []))
 
 -- the last request is answered
-pub answer_turn : (info : RedisConnectionInfo) (turns k n : ℕ) (table : List (Option Pending)) (rs : List Request) →
+pub answer_turn : (info : RedisConnectionInfo) (turns k n : ℕ) (table : List (Option Pending)) (rs : List Request) → length rs < 2 ^ 32 →
     next_turn (up info turns table (rs ++ come_to n progress.Placed ∷ []) (link_with (entry (length rs) true ∷ []) k no_bytes)) (event.Bytes 0 reply)
     ≡ turning_with (up info (turns + 1) table (rs ++ come_to n progress.Closed ∷ []) (link_with [] k no_bytes)) (act.Outcome n answer ∷ [])
 unfolding next_turn
-answer_turn info turns k n table rs =
+answer_turn info turns k n table rs few =
     let p = length rs in
     let placed = rs ++ come_to n progress.Placed ∷ [] in
     let w = work_with (still info (Ready (link_with (entry p true ∷ []) k no_bytes)) placed) [] in
@@ -109,7 +110,10 @@ answer_turn info turns k n table rs =
     let over : Work → Turning = λ v. numbered (moved_on (turning_with (session_with (turns + 1) table v.conn) v.acts)) in
     let done : List Request → Option Request → ℕ → Turning =
     λ requests o name. over (work_with (record (still info (Ready (link_with [] k no_bytes)) requests) { free = min 0 (0 + permits_or_none o) }) (act.Outcome name answer ∷ [])) in
+    let own : (p == renewal_id) ≡ false = ne_test p renewal_id (λ e. omega (arith, few, e)) in
+    let taken = work_with bare [] in
     ap (λ s. over (read_to w [] s)) (dealt p k true)
+    ∙ ap (λ b. over (if b then renewing taken (replied bare.renewal (is_done (verdict_of Single (simple (118 ∷ []) ∷ [])))) else answered taken p answer)) own
     ∙ ap (λ o. over (if if_there is_open o then acted (work_with (closed bare p) []) (act.Outcome (name_at placed p) answer) else work_with bare [])) (get_last rs (come_to n progress.Placed))
     ∙ (λ i. done (permits_last rs n progress.Placed progress.Closed i) (get_last rs (come_to n progress.Placed) i) (name_last rs n progress.Placed i))
 

@@ -1,6 +1,6 @@
 use containers::Bytes;
 use credentials::BasicAuth;
-use driver_model::{Action, Config, Event};
+use driver_model::{Action, Config, Event, Owner};
 use shared_session::Session;
 use std::alloc::{AllocError, Global};
 
@@ -8,10 +8,10 @@ use std::alloc::{AllocError, Global};
 #[derive(Clone, Copy)]
 enum Told {
     Connected,
-    /// The credentials of user u come of the first source.
-    Creds,
+    /// Credentials of user u, with this password, come of the source of this number.
+    Creds(u32, &'static str),
     /// It ends.
-    CredsEnd,
+    CredsEnd(u32),
     Wrote(u64),
     Came(&'static str),
 }
@@ -19,12 +19,12 @@ enum Told {
 fn event(alloc: Global, told: Told) -> Result<Event, AllocError> {
     match told {
         Told::Connected => Ok(Event::connected(0)),
-        Told::Creds => {
+        Told::Creds(source, password) => {
             let user = Bytes::from_slice(alloc, b"u")?;
-            let password = Bytes::from_slice(alloc, b"p")?;
-            Ok(Event::creds(0, BasicAuth::new(user, password)))
+            let password = Bytes::from_slice(alloc, password.as_bytes())?;
+            Ok(Event::creds(source, BasicAuth::new(user, password)))
         }
-        Told::CredsEnd => Ok(Event::creds_end(0)),
+        Told::CredsEnd(source) => Ok(Event::creds_end(source)),
         Told::Wrote(count) => Ok(Event::wrote(0, count)),
         Told::Came(text) => Event::bytes(alloc, 0, text.as_bytes()),
     }
@@ -34,8 +34,14 @@ fn event(alloc: Global, told: Told) -> Result<Event, AllocError> {
 fn word(action: &Action) -> &'static str {
     match action {
         Action::Turn { .. } => "turn",
-        Action::NeedCreds { .. } => "need-creds",
-        Action::Start { .. } => "start",
+        Action::NeedCreds { source, link: _ } => needed(*source),
+        Action::Start {
+            link: _,
+            message: _,
+            owner,
+            need: _,
+            len: _,
+        } => started(owner),
         Action::Write { link: _, bytes } => written(bytes.as_slice()),
         Action::Close { .. } => "close",
         Action::Created { error } => {
@@ -49,10 +55,31 @@ fn word(action: &Action) -> &'static str {
     }
 }
 
+/// Which source is asked for.
+fn needed(source: u32) -> &'static str {
+    match source {
+        0 => "need-creds 0",
+        1 => "need-creds 1",
+        _ => "need-creds",
+    }
+}
+
+/// Whose message starts.
+fn started(owner: &Owner) -> &'static str {
+    match owner {
+        Owner::Setup => "start setup",
+        Owner::Auth => "start auth",
+        Owner::Try { .. } => "start try",
+    }
+}
+
 /// What is written.
 fn written(bytes: &[u8]) -> &'static str {
     if bytes == b"*3\r\n$4\r\nAUTH\r\n$1\r\nu\r\n$1\r\np\r\n".as_slice() {
         return "write AUTH u p";
+    }
+    if bytes == b"*3\r\n$4\r\nAUTH\r\n$1\r\nu\r\n$1\r\nq\r\n".as_slice() {
+        return "write AUTH u q";
     }
     "write"
 }
@@ -69,7 +96,7 @@ fn are_words(actions: &[Action], words: &[&str]) -> bool {
     true
 }
 
-/// A session whose credentials come of a source.
+/// A session whose credentials come of sources.
 fn begin(alloc: Global, actions: &mut Vec<Action>) -> Result<Session, AllocError> {
     let mut config = Config::new(Bytes::from_slice(alloc, b"redis://h:6379")?);
     config.connect = Some(None);
@@ -108,22 +135,33 @@ fn all_show(alloc: Global, rows: &[(Told, &[&str])]) -> Result<bool, AllocError>
     Ok(true)
 }
 
-/// The credentials that come are said in the setup.
-const TOLD: [(Told, &[&str]); 4] = [
-    (Told::Connected, &["turn", "need-creds"]),
-    (Told::Creds, &["turn", "start", "write AUTH u p"]),
+/// The credentials that come first are said in the setup, and those of a second source are told by AUTH.
+const TOLD: [(Told, &[&str]); 6] = [
+    (Told::Connected, &["turn", "need-creds 0"]),
+    (
+        Told::Creds(0, "p"),
+        &["turn", "start setup", "write AUTH u p"],
+    ),
     (Told::Wrote(28), &["turn"]),
-    (Told::Came("+OK\r\n"), &["turn", "created ok"]),
+    (
+        Told::Came("+OK\r\n"),
+        &["turn", "created ok", "need-creds 1"],
+    ),
+    (
+        Told::Creds(1, "q"),
+        &["turn", "start auth", "write AUTH u q"],
+    ),
+    (Told::CredsEnd(1), &["turn"]),
 ];
 
 /// Where none come, the opening fails.
 const ENDED: [(Told, &[&str]); 2] = [
-    (Told::Connected, &["turn", "need-creds"]),
-    (Told::CredsEnd, &["turn", "close", "created err"]),
+    (Told::Connected, &["turn", "need-creds 0"]),
+    (Told::CredsEnd(0), &["turn", "close", "created err"]),
 ];
 
 #[test]
-fn credentials_come_of_a_source(rt: HostRuntime) -> Result<(), AllocError> {
+fn credentials_come_of_sources(rt: HostRuntime) -> Result<(), AllocError> {
     assert!(rt; all_show(rt.alloc(), &TOLD)?);
     assert!(rt; all_show(rt.alloc(), &ENDED)?);
     Ok(())

@@ -10,6 +10,6 @@ pub returns : goal.returns
 returns c = record {
   done = λ old new before after count ending run. run_picked run;
   told = λ told calls before after count ending run. subst (λ (xs : List Call). IsPicked (dials_in xs) (connects_in (traced after))) (run_told told calls run) (run_picked run);
-  once = λ old new before after count ending n sound good run. dialled_once n sound good run;
+  once = λ old new before after count ending n sound good unspent run. dialled_once n sound good unspent run;
   rise = connects_rise;
 }

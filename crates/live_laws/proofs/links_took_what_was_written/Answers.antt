@@ -8,8 +8,8 @@ use Rattle.live_laws.proofs.links_took_what_was_written.Goals as goal
 
 pub returns : goal.returns
 returns c = record {
-  done = λ early old new before after count ending l sound good run. run_taken run l sound good;
-  told = λ early told calls before after count ending l sound good run. run_taken run l sound good ∙ ap (λ (xs : List Call). taken_in before l ++ taken l xs) (run_told told calls run);
-  all = λ early old new before after count ending l sound good quiet run. run_takes_all run l sound good quiet;
-  front = λ early old new before after count ending l sound good quiet run. run_front run l sound good quiet;
+  done = λ early old new before after count ending l sound good unspent run. run_taken run l sound good unspent;
+  told = λ early told calls before after count ending l sound good unspent run. run_taken run l sound good unspent ∙ ap (λ (xs : List Call). taken_in before l ++ taken l xs) (run_told told calls run);
+  all = λ early old new before after count ending l sound good unspent quiet run. run_takes_all run l sound good unspent quiet;
+  front = λ early old new before after count ending l sound good unspent quiet run. run_front run l sound good unspent quiet;
 }
