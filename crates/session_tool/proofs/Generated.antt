@@ -7,7 +7,7 @@ use Rattle.program_ends.specs.Sides.{Side, Fails}
 use Rattle.program_ends.specs.declared.status.Status.{Status}
 use Rattle.program_ends.specs.declared.status.Status.TheVariants as status
 use Rattle.script_generator.specs.Script.{generated_config, generated_word, generated_events}
-use Rattle.script_generator.proofs.Whole.{generated_sound, all_good}
+use Rattle.script_generator.proofs.Whole.{generated_sound, all_good, all_unspent}
 use Rattle.session_tool.specs.declared.command.Command.{Command}
 use Rattle.session_tool.specs.declared.command.Command.TheVariants.{Replay, Generate, Help, Version, Unknown}
 use Rattle.session_tool.specs.Does.{Does, generated_line}
@@ -127,7 +127,7 @@ front_does n source sink sink' part fails = record {
 pub generated_holds : (n : ℕ) → n ≤ 200000 → HeadlineOf generated_config generated_word (generated_events n)
 generated_holds n few =
     let good = all_good n few in
-    headline_of generated_config generated_word (generated_events n) (generated_fits n few) (good_forms generated_config generated_word (generated_events n) good) generated_sound good
+    headline_of generated_config generated_word (generated_events n) (generated_fits n few) (good_forms generated_config generated_word (generated_events n) good) generated_sound good (all_unspent n few)
 
 -- the line, or its front, was written
 pub print_does : (n : ℕ) (line line' : List ℕ) (s : Status) (source sink sink' : Side) → n ≤ 200000 → line ≡ generated_line n → line' ≡ line → Prints status.Done line' s sink sink' → Does (Generate n) s source source sink sink'

@@ -6,7 +6,7 @@ use Rattle.driver_model.specs.declared.config.Config.{Config}
 use Rattle.driver_model.specs.declared.event.Event.{Event}
 use Rattle.script_text.specs.Script.{script_of}
 use Rattle.script_text.specs.declared.script.Script.{Script}
-use Rattle.shared_session.specs.Replay.{trace_of, AreGood, IsSound}
+use Rattle.shared_session.specs.Replay.{trace_of, AreGood, AreUnspent, IsSound}
 use Rattle.legal_trace.specs.Ledger.{Ledger, stream, joined}
 use Rattle.legal_trace.specs.Legal.{Legal}
 use Rattle.legal_laws.specs.Links.{IsPrefix}
@@ -37,13 +37,13 @@ own_text config word events fits forms =
 
 -- the turns of events that were taken are legal
 pub legal_up_to : (script : Script) (index : ℕ) → AreTaken script.config script.word script.events index → IsLegalUpTo script index
-legal_up_to script index taken = replay_legal script.config script.word (take index script.events) taken.sound taken.good
+legal_up_to script index taken = replay_legal script.config script.word (take index script.events) taken.sound taken.good taken.unspent
 
 -- what holds of the trace of a history
-pub headline_of : (config : Config) (word : ℕ) (events : List Event) → FitsHistory config word events → HaveForms events → IsSound config → AreGood config word events → HeadlineOf config word events
-headline_of config word events fits forms sound good =
+pub headline_of : (config : Config) (word : ℕ) (events : List Event) → FitsHistory config word events → HaveForms events → IsSound config → AreGood config word events → AreUnspent config word events → HeadlineOf config word events
+headline_of config word events fits forms sound good unspent =
     let trace = trace_of config word events in
-    let h = replay_legal config word events sound good in
+    let h = replay_legal config word events sound good unspent in
     record {
       legal = h;
       in_order = takes_in_order config word events trace h;
@@ -55,7 +55,7 @@ headline_of config word events fits forms sound good =
     }
 
 -- a text of bytes is kept of all that is read, which says the same script
-pub headline : (kept bytes : List ℕ) (script : Script) → AreBytes kept → script_of kept ≡ Ok script → script_of bytes ≡ Ok script → IsSound script.config → AreGood script.config script.word script.events → Headline bytes
-headline kept bytes script small reads says sound good =
+pub headline : (kept bytes : List ℕ) (script : Script) → AreBytes kept → script_of kept ≡ Ok script → script_of bytes ≡ Ok script → IsSound script.config → AreGood script.config script.word script.events → AreUnspent script.config script.word script.events → Headline bytes
+headline kept bytes script small reads says sound good unspent =
     let said = script_fits kept script small reads in
-    record { script = script; reads = says; of = headline_of script.config script.word script.events said.0 said.1 sound good }
+    record { script = script; reads = says; of = headline_of script.config script.word script.events said.0 said.1 sound good unspent }

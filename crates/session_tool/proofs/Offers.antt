@@ -1,9 +1,8 @@
 -- What a second replay keeps, which looks for the bad event.
-use Rattle.std.proofs.Common.{◌≡◌, ◌==◌, ℕ, Bool, false, List, [], ◌∷◌, ◌++◌, Option, Some, None, ◌∙◌, sym, ap, subst}
+use Rattle.std.proofs.Common.{◌≡◌, ◌+◌, ◌==◌, ◌&&◌, ℕ, Bool, true, false, List, [], ◌∷◌, ◌++◌, Option, Some, None, ◌∙◌, sym, ap, subst, if◌then◌else◌}
 use Rattle.std.specs.Prelude.{slice_get}
 use Rattle.containers.proofs.Choices.{chosen}
-use Rattle.credentials.specs.Credentials.{Credentials}
-use Rattle.driver_model.specs.News.{News, news_of, of_timer, for_link, is_source_of, overdue, silence, authorized, denied, deserted}
+use Rattle.driver_model.specs.News.{News, news_of, of_timer, of_source, overdue, silence, authorized, denied, deserted, renewed, unrenewed, late}
 use Rattle.resp_value.specs.declared.push_kind.PushKind.{PushKind}
 use Rattle.driver_model.specs.declared.push_info.PushInfo.{PushInfo}
 use Rattle.driver_model.specs.Push.{is_disconnection}
@@ -15,10 +14,11 @@ use Rattle.driver_model.specs.declared.action.SourceUse.{SourceUse}
 use Rattle.driver_model.specs.declared.action.SourceUse.TheVariants as source
 use Rattle.driver_model.specs.declared.event.EventKind.{EventKind}
 use Rattle.driver_model.specs.declared.event.EventKind.TheVariants as event
-use Rattle.legal_trace.specs.Ledger.{Ledger, Line, tells, parts, sources, noted, noted_each, with_news, authorized_by, awaits_credentials}
+use Rattle.connection_info.specs.declared.address.RedisConnectionInfo.{RedisConnectionInfo}
+use Rattle.legal_trace.specs.Ledger.{Ledger, Sourced, Line, tells, parts, sources, times, noted, noted_each, with_news, awaits_credentials, may_renew, is_renewal_open}
 use Rattle.driver_model.specs.declared.config.Config.{Config}
 use Rattle.driver_model.specs.declared.event.Event.{Event}
-use Rattle.legal_trace.specs.Book.{Book, book, entered, entered_each, if_mine, push_line}
+use Rattle.legal_trace.specs.Book.{Book, book, entered, entered_each, if_mine, is_renewal_of, push_line}
 use Rattle.legal_trace.proofs.Ledgers.{mine_keeps}
 use Rattle.legal_trace.proofs.Books.{book_append}
 use Rattle.shared_session.specs.declared.session.Failure.TheVariants.{Sound}
@@ -30,23 +30,27 @@ use Rattle.session_tool.specs.declared.offer.Offer.{Offer}
 use Rattle.session_tool.specs.Offers.{IsOfferIn, IsOfferOf}
 use Rattle.session_tool.proofs.Traces.{kept_next}
 
--- that a timer fires changes nothing of an offer
+-- what concerns credentials alone changes nothing of an offer
+creds_in : (o : Offer) (l : Ledger) (info : RedisConnectionInfo) (s : Sourced) → IsOfferIn o l → IsOfferIn o (record l { info = info; creds = s })
+creds_in o l info s h = record { asked = h.asked; up = h.up; over = h.over; count = h.count }
+
+either_in : (o : Offer) (l : Ledger) (some : Bool) (info : RedisConnectionInfo) (s : Sourced) → IsOfferIn o l → IsOfferIn o (if some then record l { info = info; creds = s } else l)
+either_in o l some info s h = chosen (IsOfferIn o) some (record l { info = info; creds = s }) l (λ t. creds_in o l info s h) (λ f. h)
+
+-- nor does that a timer fires
 timer_in : (o : Offer) (l : Ledger) (turn : ℕ) (asked : Option Purpose) → IsOfferIn o l → IsOfferIn o (with_news l turn (of_timer 0 asked))
 timer_in o l turn None h = h
 timer_in o l turn (Some (purpose.Connect k)) h = chosen (λ news. IsOfferIn o (with_news l turn news)) (k == 0) overdue silence (λ t. h) (λ f. h)
 timer_in o l turn (Some (purpose.Response who)) h = h
+timer_in o l turn (Some (purpose.Renewal k n)) h =
+    chosen (λ news. IsOfferIn o (with_news l turn news)) (k == 0) (late n) silence (λ t. either_in o l (l.up && is_renewal_open l n) l.info (record l.creds { lost = true }) h) (λ f. h)
 
--- nor does what comes of a source
-source_in : (o : Offer) (l : Ledger) (turn : ℕ) (asked : Option SourceUse) (news : News) → IsOfferIn o l → IsOfferIn o (with_news l turn news)
-    → IsOfferIn o (with_news l turn (for_link (is_source_of 0 asked) news))
-source_in o l turn None news h after = h
-source_in o l turn (Some (source.Setup k)) news h after = chosen (λ x. IsOfferIn o (with_news l turn x)) (k == 0) news silence (λ t. after) (λ f. h)
-
-given_in : (o : Offer) (l : Ledger) (auth : Credentials) → IsOfferIn o l → IsOfferIn o (authorized_by l auth)
-given_in o l auth h = record { asked = h.asked; up = h.up; over = h.over; count = h.count }
-
-authorized_in : (o : Offer) (l : Ledger) (turn : ℕ) (auth : Credentials) → IsOfferIn o l → IsOfferIn o (with_news l turn (authorized auth))
-authorized_in o l turn auth h = chosen (IsOfferIn o) (awaits_credentials l) (authorized_by l auth) l (λ t. given_in o l auth h) (λ f. h)
+-- nor what comes of a source
+source_in : (o : Offer) (l : Ledger) (turn : ℕ) (asked : Option SourceUse) (first later : News) → IsOfferIn o l → IsOfferIn o (with_news l turn first) → IsOfferIn o (with_news l turn later)
+    → IsOfferIn o (with_news l turn (of_source 0 asked first later))
+source_in o l turn None first later h f g = h
+source_in o l turn (Some (source.Setup k)) first later h f g = chosen (λ news. IsOfferIn o (with_news l turn news)) (k == 0) first silence (λ t. f) (λ t. h)
+source_in o l turn (Some (source.Renewal k)) first later h f g = chosen (λ news. IsOfferIn o (with_news l turn news)) (k == 0) later silence (λ t. g) (λ t. h)
 
 -- so whatever timers and sources there are
 pub other_news : (o : Offer) (l : Ledger) (turn : ℕ) (timers : List Purpose) (uses : List SourceUse) (kind : EventKind) → IsOfferIn o (with_news l turn (news_of [] [] 0 kind))
@@ -61,9 +65,12 @@ other_news o l turn timers uses (event.Ended k) h = h
 other_news o l turn timers uses (event.ReadFault k f) h = h
 other_news o l turn timers uses (event.WriteFault k f) h = h
 other_news o l turn timers uses (event.Fired t) h = timer_in o l turn (slice_get timers t) h
-other_news o l turn timers uses (event.Creds c auth) h = source_in o l turn (slice_get uses c) (authorized auth) h (authorized_in o l turn auth h)
-other_news o l turn timers uses (event.CredsError c text) h = source_in o l turn (slice_get uses c) (denied text) h h
-other_news o l turn timers uses (event.CredsEnd c) h = source_in o l turn (slice_get uses c) deserted h h
+other_news o l turn timers uses (event.Creds c auth) h =
+    source_in o l turn (slice_get uses c) (authorized auth) (renewed auth) h
+    (either_in o l (awaits_credentials l) (record l.info { username = Some auth.username; password = Some auth.password }) (record l.creds { given = true }) h)
+    (either_in o l (may_renew l) l.info (record l.creds { renewals = l.creds.renewals ++ auth ∷ [] }) h)
+other_news o l turn timers uses (event.CredsError c text) h = source_in o l turn (slice_get uses c) (denied text) silence h h h
+other_news o l turn timers uses (event.CredsEnd c) h = source_in o l turn (slice_get uses c) deserted unrenewed h h (either_in o l l.up l.info (record l.creds { over = true }) h)
 other_news o l turn timers uses (event.Timeout ms) h = h
 other_news o l turn timers uses event.Shutdown h = h
 
@@ -78,12 +85,21 @@ pub push_offer : (o : Offer) (b : Book) (x : Action) (l : ℕ) (info : PushInfo)
 push_offer o b x l info is h =
     subst (λ (a : Action). IsOfferOf o (entered b a)) (sym is) (record { links = h.links; first = push_in o (b.link 0) (l == 0) info.kind h.first })
 
--- nor does that a source is asked for
+-- nor does a line that tells of credentials alone
+line_in : (o : Offer) (l : Ledger) (mine : Bool) (x : Line) → IsOfferIn o (noted l x) → IsOfferIn o l → IsOfferIn o (noted_each l (if_mine mine x))
+line_in o l mine x after h = mine_keeps (IsOfferIn o) mine l x (λ t. after) h
+
+pub timed_offer : (o : Offer) (b : Book) (x : Action) (t ms : ℕ) (what : Purpose) → x ≡ action.Timer t ms what → IsOfferOf o b → IsOfferOf o (entered b x)
+timed_offer o b x t ms what is h =
+    let l = b.link 0 in
+    subst (λ (a : Action). IsOfferOf o (entered b a)) (sym is)
+    (record { links = h.links; first = line_in o l (is_renewal_of 0 what) times (creds_in o l l.info (record l.creds { timed = l.creds.timed + 1 }) h.first) h.first })
+
 pub sourced_offer : (o : Offer) (b : Book) (x : Action) (c k : ℕ) → x ≡ action.NeedCreds c k → IsOfferOf o b → IsOfferOf o (entered b x)
 sourced_offer o b x c k is h =
     let l = b.link 0 in
-    let after : IsOfferIn o (noted l sources) = record { asked = h.first.asked; up = h.first.up; over = h.first.over; count = h.first.count } in
-    subst (λ (a : Action). IsOfferOf o (entered b a)) (sym is) (record { links = h.links; first = mine_keeps (IsOfferIn o) (k == 0) l sources (λ t. after) h.first })
+    subst (λ (a : Action). IsOfferOf o (entered b a)) (sym is)
+    (record { links = h.links; first = line_in o l (k == 0) sources (creds_in o l l.info (record l.creds { asked = true; renews = l.creds.asked }) h.first) h.first })
 
 -- the session has taken these events, and the offer is that of their trace
 pub record Follows (config : Config) (word : ℕ) (taken : List Event) (s : History) (o : Offer) : Type 0 where

@@ -25,7 +25,7 @@ done_does source source' sink sink' kept script decides reads small gained sound
     replay_does status.Done source source' sink sink' (λ bytes told.
     let says = decides.same bytes told ∙ reads in (
       record { script = script; reads = says; ended = decides.ended bytes told script reads; trace = gained; sound = sound; good = good; unspent = unspent },
-      headline kept bytes script small reads says sound good,
+      headline kept bytes script small reads says sound good unspent,
     ))
 
 -- the configuration is refused

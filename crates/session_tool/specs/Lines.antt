@@ -46,6 +46,6 @@ help_text =
     ++ codes "The time of a request is 500 ms, or what response=MS or response=none says there; limit=COUNT sets how many permits there are.\n"
     ++ codes "The queue of a link holds 50 messages, or what buffer=COUNT says there, and none starts while 8192 bytes or more, or what boundary=BYTES says, are unwritten.\n"
     ++ codes "Pushes are heard where push=on stands there, on a URL with ?protocol=3: each is an action, and so is the end of a link.\n"
-    ++ codes "Credentials come of a source where creds=on stands there: need-creds asks for it when the link is up, and its setup waits for the first that come.\n"
+    ++ codes "Credentials come of sources where creds=on stands there: need-creds asks for a first source when the link is up, and for a second when it is set up.\n"
     ++ codes "A fault is refused, reset, aborted, not-connected, broken-pipe, eof, timed-out, interrupted, denied or other.\n"
     ++ codes "Status: 0 done, 1 no command, 2 no script, 3 refused configuration, 4 bad event, 5 no memory, 6 no input, 7 no output, 8 no more numbers.\n"

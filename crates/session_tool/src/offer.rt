@@ -81,6 +81,9 @@ impl Offer {
             LinkNews::Authorized { auth: _ } => self,
             LinkNews::Denied { text: _ } => self,
             LinkNews::Deserted => self,
+            LinkNews::Renewed { auth: _ } => self,
+            LinkNews::Unrenewed => self,
+            LinkNews::Late { number: _ } => self,
             LinkNews::Shut => self,
         }
     }
@@ -127,7 +130,7 @@ impl Offer {
     }
 
     /// After one more action.
-    #[tactic(auto, using(crate::proofs::Offers::push_offer, crate::proofs::Offers::sourced_offer))]
+    #[tactic(auto, using(crate::proofs::Offers::push_offer, crate::proofs::Offers::timed_offer, crate::proofs::Offers::sourced_offer))]
     fn after(self, action: &Action) -> Offer
         ensures { (b : Book) → IsOfferOf self b → IsOfferOf result (entered b action.now) }
     {
@@ -152,6 +155,11 @@ impl Offer {
                 }
             }
             Action::Push { link: _, info: _ } => self,
+            Action::Timer {
+                timer: _,
+                ms: _,
+                purpose: _,
+            } => self,
             Action::NeedCreds { source: _, link: _ } => self,
             Action::Close { link } => {
                 if *link == FIRST_LINK {

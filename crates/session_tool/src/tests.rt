@@ -54,7 +54,7 @@ The time of the connect is 1000 ms, or what connect=MS or connect=none says in t
 The time of a request is 500 ms, or what response=MS or response=none says there; limit=COUNT sets how many permits there are.
 The queue of a link holds 50 messages, or what buffer=COUNT says there, and none starts while 8192 bytes or more, or what boundary=BYTES says, are unwritten.
 Pushes are heard where push=on stands there, on a URL with ?protocol=3: each is an action, and so is the end of a link.
-Credentials come of a source where creds=on stands there: need-creds asks for it when the link is up, and its setup waits for the first that come.
+Credentials come of sources where creds=on stands there: need-creds asks for a first source when the link is up, and for a second when it is set up.
 A fault is refused, reset, aborted, not-connected, broken-pipe, eof, timed-out, interrupted, denied or other.
 Status: 0 done, 1 no command, 2 no script, 3 refused configuration, 4 bad event, 5 no memory, 6 no input, 7 no output, 8 no more numbers.
 ";

@@ -31,12 +31,14 @@ no_causes l t c [] = refl
 no_causes l t c (act.Created error ∷ more) = no_causes l (t + 0) (c + 0) more
 no_causes l t c (act.Took n count ∷ more) = no_causes l (t + 0) (c + 0) more
 no_causes l t c (act.Timer n ms ∷ more) = no_causes l (t + 1) (c + 0) more
+no_causes l t c (act.RenewalTimer k ms ∷ more) = no_causes l (t + 1) (c + 0) more
 no_causes l t c (act.NeedCreds ∷ more) = no_causes l (t + 0) (c + 1) more
 no_causes l t c (act.Close ∷ more) = no_causes l (t + 0) (c + 0) more
 no_causes l t c (act.Push info ∷ more) = no_causes l (t + 0) (c + 0) more
 no_causes l t c (act.Write bytes ∷ more) = no_causes l (t + 0) (c + 0) more
 no_causes l t c (act.Wait n kind ∷ more) = no_causes l (t + 0) (c + 0) more
 no_causes l t c (act.SetUp message need len ∷ more) = no_causes l (t + 0) (c + 0) more
+no_causes l t c (act.Renewed message need len ∷ more) = no_causes l (t + 0) (c + 0) more
 no_causes l t c (act.Start message n need len ∷ more) = no_causes l (t + 0) (c + 0) more
 no_causes l t c (act.Outcome n o ∷ more) = no_causes l (t + 0) (c + 0) more
 

@@ -335,8 +335,8 @@ const EVENTS: [(Deed, &str); 21] = [
     ),
 ];
 
-/// Starts, permits, times, waits, pushes, a source, and how requests end.
-const REQUESTS: [(Deed, &str); 20] = [
+/// Starts, permits, times, waits, pushes, sources, and how requests end.
+const REQUESTS: [(Deed, &str); 22] = [
     (
         Deed::Start(7, Owner::Setup, 3, 4_294_967_296),
         "start 7 0 setup 3 4294967296\n",
@@ -356,6 +356,11 @@ const REQUESTS: [(Deed, &str); 20] = [
     (Deed::Wait(FIRST, WaitKind::Setup), "wait s0.0 setup\n"),
     (Deed::Wait(FIRST, WaitKind::Creds), "wait s0.0 creds\n"),
     (Deed::NeedCreds(1, u32::MAX), "need-creds 1 4294967295\n"),
+    (
+        Deed::Timer(4, 500, Purpose::Renewal { link: 7, number: 3 }),
+        "timer 4 500 response auth\n",
+    ),
+    (Deed::Start(7, Owner::Auth, 1, 28), "start 7 0 auth 1 28\n"),
     (
         Deed::Push(u32::MAX, b"a b"),
         "push 4294967295 >3%0D%0A$7%0D%0Amessage%0D%0A$3%0D%0Aa%20b%0D%0A:7%0D%0A\n",
