@@ -1,5 +1,5 @@
--- Credentials of a link that come of a source: what they say of it.
-use Rattle.std.proofs.Common.{◌≡◌, true, ◌&&◌, not}
+-- Credentials of a link that come of sources: what they say of it.
+use Rattle.std.proofs.Common.{◌≡◌, true, ◌&&◌, ◌||◌, not}
 use Rattle.containers.proofs.Choices.{both_left, both_right, not_both}
 use Rattle.legal_trace.specs.Ledger.{Ledger, awaits_credentials, lacks_credentials, is_set_up, source_due}
 use Rattle.legal_trace.proofs.Setups.{set_is_given}
@@ -18,4 +18,4 @@ awaits_unset l h set = not_both (lacks_credentials l) (set_is_given l set) (awai
 
 -- a link for which a source is to be asked for is up
 pub source_is_up : (l : Ledger) → source_due l ≡ true → l.up ≡ true
-source_is_up l h = both_left l.up l.creds.wanted (both_left (l.up && l.creds.wanted) (not l.creds.asked) h)
+source_is_up l h = both_left l.up l.creds.wanted (both_left (l.up && l.creds.wanted) (not l.creds.asked || (is_set_up l && not l.creds.renews)) h)
