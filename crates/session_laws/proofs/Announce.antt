@@ -235,8 +235,8 @@ heard_is b number word event.Shutdown k = still_as_many b number word event.Shut
 tries_by : (l after : Ledger) (story : ℕ → Story) (requests : List Request) (link : ℕ) (started : List ℕ) → after.starts ≡ l.starts → TiedTries l story requests link started → TiedTries after story requests link started
 tries_by l after story requests link started e h = record {
   owners = subst (λ (ss : List Start). owners_of ss ≡ setup_owners (setup_count ss) (owners_each requests started)) (sym e) h.owners;
-  shapes = λ k p s i j. h.shapes k p s i (ap (λ (ss : List Start). slice_get ss (setup_count ss + k)) (sym e) ∙ j);
-  tried = λ k p i. h.tried k p i ∙ ap (λ (ss : List Start). record { link = link; message = setup_count ss + k } ∷ []) (sym e);
+  shapes = λ k p s w i j. h.shapes k p s w i (ap (λ (ss : List Start). slice_get ss (setup_count ss + k)) (sym e) ∙ j);
+  tried = λ k p w i. h.tried k p w i ∙ ap (λ (ss : List Start). record { link = link; message = setup_count ss + k } ∷ []) (sym e);
   untried = h.untried;
 }
 

@@ -32,8 +32,7 @@ use Rattle.legal_trace.specs.Owed.{owed, owed_unstarted, unstarted_error}
 use Rattle.legal_trace.specs.Legal.{MayClose, MayPart}
 use Rattle.session_laws.proofs.Numbers.{IsIn, in_left, in_right, Rising, rising_in, rising_within, rising_right, rising_tail}
 use Rattle.session_laws.proofs.Tied.{Inner, no_link, link_in, owner_of, queue_ids, waiting_ids, IsKept, TiedLines, TiedWaits, Tied, relined, FailureIsShown, TiedLife, has_ended}
-use Rattle.session_laws.proofs.Creds.{sources_asked}
-use Rattle.session_laws.proofs.Said.{ready_shown}
+use Rattle.session_laws.proofs.Said.{ready_shown, sources_asked}
 use Rattle.session_laws.proofs.States.{HasApplied}
 use Rattle.session_laws.proofs.InLine.{kept_ids, kept_in, line_of, IsInLine, awaited_rises}
 use Rattle.session_laws.proofs.Owes.{in_time, none_owed, in_line, later_unstarted, owed_none_started, settled_owed, pushes_told, lives}

@@ -124,8 +124,8 @@ tries_closed l story requests link p closed started c h =
     let still = name_with requests p progress.Closed 0 in
     record {
       owners = h.owners ∙ ap (setup_owners (setup_count l.starts)) (sym (owners_each_still requests p started));
-      shapes = λ k q s i j. h.shapes k q s i j ∙ ap shape_in (sym (closed_submission story requests p closed (name_at requests q) (c (name_at requests q)))) ∙ ap (λ n. shape (after n)) (sym (still q));
-      tried = λ k q i. ap (λ n. (after n).tries) (still q) ∙ closed_tries story requests p closed (name_at requests q) (c (name_at requests q)) ∙ h.tried k q i;
+      shapes = λ k q s w i j. h.shapes k q s (subst (λ n. q < n) (length_with requests p progress.Closed 0) w) i j ∙ ap shape_in (sym (closed_submission story requests p closed (name_at requests q) (c (name_at requests q)))) ∙ ap (λ n. shape (after n)) (sym (still q));
+      tried = λ k q w i. ap (λ n. (after n).tries) (still q) ∙ closed_tries story requests p closed (name_at requests q) (c (name_at requests q)) ∙ h.tried k q (subst (λ n. q < n) (length_with requests p progress.Closed 0) w) i;
       untried = λ q r i not_started.
           let w = was_with requests p progress.Closed 0 q r i in
           closed_tries story requests p closed r.name (c r.name) ∙ ap (λ n. (story n).tries) (sym w.2) ∙ h.untried q w.0 w.1 not_started;

@@ -29,7 +29,7 @@ use Rattle.session_laws.proofs.Numbers.{IsIn}
 use Rattle.session_laws.proofs.Tied.{AreSetups, IsUnknown, inner, link_in, no_link, TiedLines, Tied}
 use Rattle.session_laws.proofs.States.{Between, HasApplied}
 use Rattle.session_laws.proofs.Entered.{all_stand-append, shown_more}
-use Rattle.session_laws.proofs.Creds.{down_sourced, sources_asked}
+use Rattle.session_laws.proofs.Creds.{down_sourced}
 use Rattle.session_laws.proofs.Names.{get_some, name_of_some, open_within}
 use Rattle.session_laws.proofs.Owes.{in_time, not_empty, open_request, request_story, get_behind}
 use Rattle.session_laws.proofs.Kept.{mine_noted, others_kept}
@@ -38,7 +38,7 @@ use Rattle.session_laws.proofs.Settle.{seen, sound_act, trace_of_acts, Holds, bo
 use Rattle.session_laws.proofs.Close.{ended_applied, ended_waits, waiting_ends, waiting_leaves}
 use Rattle.session_laws.proofs.Announce.{turn_of, turned, IsNewsKind, first_book, heard_book, heard_is, heard_starts, heard_tied_by, may_turn, others_heard, uses_on}
 use Rattle.session_laws.proofs.Heard.{heard_by, book_kind, book_news}
-use Rattle.session_laws.proofs.Said.{PushesOf}
+use Rattle.session_laws.proofs.Said.{PushesOf, sources_asked}
 
 -- the failure is shown
 --

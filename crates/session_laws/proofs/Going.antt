@@ -19,7 +19,7 @@ use Rattle.legal_trace.specs.Legal.{AllStand, CanMove, IsApplied, IsBegun, IsFir
 use Rattle.legal_trace.specs.Steps.{Step, is_due, is_held_back, next_step, nothing, starts_or_waits, step_ready, unready_wait, waits}
 use Rattle.session_laws.proofs.Ahead.{IsRunning, creds_step, full_step, held_by, permit_step, queue_step, ready_alive, running_of, setup_step}
 use Rattle.session_laws.proofs.Behind.{alive_behind}
-use Rattle.session_laws.proofs.Creds.{lacking_undue, sources_asked, wanting_lacks}
+use Rattle.session_laws.proofs.Creds.{lacking_undue, wanting_lacks}
 use Rattle.session_laws.proofs.Entered.{book_more, sound_more}
 use Rattle.session_laws.proofs.InLine.{first_is_least, kept_ids, kept_in}
 use Rattle.session_laws.proofs.Moves.{IsLater, later_of, unstarted_alive}
@@ -29,6 +29,7 @@ use Rattle.session_laws.proofs.Owes.{created_is, ends_told, none_open, none_owed
 use Rattle.session_laws.proofs.SetUp.{down_undue, none_due, sent_undue, set_up_undue}
 use Rattle.session_laws.proofs.States.{IsFit}
 use Rattle.session_laws.proofs.Tied.{AreSought, HasSaid, Inner, IsSetUp, Sound, Tied, TiedLife, carried, has_ended, link_in, queue_ids, waiting_ids, whole_link, IsToldIn}
+use Rattle.session_laws.proofs.Said.{sources_asked}
 
 -- nothing must end
 pub record IsGoing (trace : List Action) (t : Inner) : Type 0 where

@@ -155,7 +155,7 @@ opening_names = record { named = λ p r e. cc; kept = λ n p e. cc; rising = λ 
 
 -- its tries
 opening_tries : (l : Ledger) → l.starts ≡ [] → TiedTries l (λ n. blank_story) [] first_link []
-opening_tries l none = record { owners = ap owners_of none ∙ ap (λ (ss : List Start). setup_owners (setup_count ss) []) (sym none); shapes = λ k p s e i. cc; tried = λ k p e. cc; untried = λ p r e out. cc }
+opening_tries l none = record { owners = ap owners_of none ∙ ap (λ (ss : List Start). setup_owners (setup_count ss) []) (sym none); shapes = λ k p s w e i. cc; tried = λ k p w e. cc; untried = λ p r e out. cc }
 
 -- the session is tied to it
 opening_tied : (config : Config) (word : ℕ) (info : ConnectionInfo) (timeout : Option ℕ) → IsSized config.limit (buffer_size config) → connect_timeout config ≡ timeout → Tied (opened config word info (connect_timers timeout)) (inner (opened_core config (connect_timers timeout)) [])

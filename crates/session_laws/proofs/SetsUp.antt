@@ -97,8 +97,8 @@ no_tries l story requests link (p ∷ ps) none h = cc
 tries_set : (l : Ledger) (s : Start) (story : ℕ → Story) (requests : List Request) (link : ℕ) (started : List ℕ) → s.owner ≡ owner.Setup → started ≡ [] → TiedTries l story requests link started → TiedTries (noted l (begins s)) story requests link started
 tries_set l s story requests link [] mine none h = record {
   owners = owners-append l.starts (s ∷ []) ∙ (λ i. h.owners i ++ mine i ∷ []) ∙ setup_owners-push (setup_count l.starts) ∙ ap (λ n. setup_owners n []) (sym (count_next l.starts (setup_count l.starts) s h.owners mine));
-  shapes = λ k p x i j. cc;
-  tried = λ k p i. cc;
+  shapes = λ k p x w i j. cc;
+  tried = λ k p w i. cc;
   untried = h.untried;
 }
 tries_set l s story requests link (p ∷ ps) mine none h = cc

@@ -1,6 +1,6 @@
 -- Those that are to be answered are, one after another.
 use Rattle.std.proofs.lemmas.List.{append-nil}
-use Rattle.std.proofs.Common.{Bool, ◌+◌, append_assoc, is_some, ◌≡◌, inl, ℕ, suc, true, false, List, [], ◌∷◌, ◌++◌, length, Option, Some, refl, sym, ap, ◌∙◌, subst, arith}
+use Rattle.std.proofs.Common.{Bool, ◌==◌, if◌then◌else◌, ◌+◌, append_assoc, is_some, ◌≡◌, inl, ℕ, suc, true, false, List, [], ◌∷◌, ◌++◌, length, Option, Some, refl, sym, ap, ◌∙◌, subst, arith}
 use Rattle.std.specs.List.{AllByRecursion}
 use Rattle.containers.proofs.Choices.{chosen, not_both}
 use Rattle.redis_error.specs.declared.redis_error.RedisError.{RedisError}
@@ -21,14 +21,16 @@ use Rattle.mux_conn.specs.declared.request.Request.{Request}
 use Rattle.mux_conn.specs.declared.request.Waiting.{Waiting}
 use Rattle.mux_conn.specs.Connection.{Work}
 use Rattle.mux_conn.specs.Requests.{is_open, is_open_at, name_at, closed, answered}
-use Rattle.mux_conn.specs.Effects.{settled_each, failed_each}
+use Rattle.mux_conn.specs.declared.renewal.Renewal.{Renewal}
+use Rattle.mux_conn.specs.Renewals.{is_done, renewal_id, renewing, replied}
+use Rattle.mux_conn.specs.Effects.{settled_each, settled_one, failed_each}
 use Rattle.shared_session.specs.declared.core_state.Core.{Core}
 use Rattle.shared_session.specs.Turn.{shown, shown_each, source_of, sources_of, timer_of, timers_of}
 use Rattle.legal_trace.specs.Ledger.{Ledger, is_over, Heard, next_push}
 use Rattle.legal_trace.specs.Book.{Book, blank_book, book, entered}
 use Rattle.legal_trace.specs.Owed.{owed}
 use Rattle.legal_trace.specs.Legal.{AllStand, MayStand, MayAnswer, IsBefore, is_heard}
-use Rattle.session_laws.proofs.Numbers.{Rising, rising_from}
+use Rattle.session_laws.proofs.Numbers.{Rising, requests_in, rising_from}
 use Rattle.session_laws.proofs.Tied.{Inner, link_in, TiedLife, Tied, Sound, waiting_ids, has_ended}
 use Rattle.session_laws.proofs.Entered.{book_more, quiet_sources, quiet_timers, sound_more, shown_more, sources_more, timers_more}
 use Rattle.session_laws.proofs.Names.{open_within, name_with, length_with, with_then}
@@ -42,8 +44,8 @@ seen f acts conn pending started = record {
   turns = f.turns;
   links = f.links;
   link = f.single.link;
-  timers = f.timers ++ timers_of acts;
-  sources = f.sources ++ sources_of f.single.link acts;
+  timers = f.timers ++ timers_of f.single.link acts;
+  sources = f.sources ++ sources_of f.single.link (length f.sources) acts;
   shut = f.shut;
   table = f.table;
   timeout = f.timeout;
@@ -55,7 +57,7 @@ seen f acts conn pending started = record {
   untold = [];
   parting = false;
   info = conn.info;
-  wants = conn.wants;
+  renewal = conn.renewal;
   life = conn.life;
   requests = conn.requests;
   waiting = conn.waiting;
@@ -66,6 +68,10 @@ seen f acts conn pending started = record {
   pending = pending;
   started = started;
 }
+
+-- the number of the source that the next act asks for, if it asks for one
+abbrev pub next_source : Core → List LinkAct → ℕ
+next_source f acts = length f.sources + length (sources_of f.single.link (length f.sources) acts)
 
 -- the trace up to the last act
 abbrev pub trace_of_acts : List Action → Core → List LinkAct → List Action
@@ -85,7 +91,7 @@ Parts before f w parting pending started = Sound (trace_of_acts before f w.acts)
 
 -- what one more act shows
 abbrev pub shown_now : Core → List LinkAct → LinkAct → Action
-shown_now f acts a = shown f.single.link (length f.timers + length (timers_of acts)) (length f.sources + length (sources_of f.single.link acts)) a
+shown_now f acts a = shown f.single.link (length f.timers + length (timers_of f.single.link acts)) (next_source f acts) a
 
 -- these, and then those
 abbrev pub added : {X : Type 0} → List X → List X → List X
@@ -101,25 +107,25 @@ add_is xs (y ∷ ys) = refl
 abbrev pub seen_more : Core → List LinkAct → LinkAct → MultiplexedConnection → List ℕ → List ℕ → Inner
 seen_more f acts a conn pending started =
     let l = f.single.link in
-    record (seen f acts conn pending started) { timers = added (f.timers ++ timers_of acts) (timer_of a); sources = added (f.sources ++ sources_of l acts) (source_of l a) }
+    record (seen f acts conn pending started) { timers = added (f.timers ++ timers_of f.single.link acts) (timer_of f.single.link a); sources = added (f.sources ++ sources_of l (length f.sources) acts) (source_of l (next_source f acts) a) }
 
 -- it is the session with that act
 seen_is : (f : Core) (acts : List LinkAct) (a : LinkAct) (conn : MultiplexedConnection) (pending started : List ℕ) → seen_more f acts a conn pending started ≡ seen f (acts ++ a ∷ []) conn pending started
 seen_is f acts a conn pending started =
     let l = f.single.link in
-    let ts = add_is (f.timers ++ timers_of acts) (timer_of a) ∙ append_assoc f.timers (timers_of acts) (timer_of a) ∙ ap (λ ts. f.timers ++ ts) (sym (timers_more acts a)) in
-    let ss = add_is (f.sources ++ sources_of l acts) (source_of l a) ∙ append_assoc f.sources (sources_of l acts) (source_of l a) ∙ ap (λ ss. f.sources ++ ss) (sym (sources_more l acts a)) in
+    let ts = add_is (f.timers ++ timers_of f.single.link acts) (timer_of f.single.link a) ∙ append_assoc f.timers (timers_of f.single.link acts) (timer_of f.single.link a) ∙ ap (λ ts. f.timers ++ ts) (sym (timers_more l acts a)) in
+    let ss = add_is (f.sources ++ sources_of l (length f.sources) acts) (source_of l (next_source f acts) a) ∙ append_assoc f.sources (sources_of l (length f.sources) acts) (source_of l (next_source f acts) a) ∙ ap (λ ss. f.sources ++ ss) (sym (sources_more l (length f.sources) acts a)) in
     λ i. record (seen f acts conn pending started) { timers = ts i; sources = ss i }
 
 -- a session with what acts have asked for
 abbrev pub asked_by : Core → Inner → List LinkAct → Inner
-asked_by f t acts = record t { timers = f.timers ++ timers_of acts; sources = f.sources ++ sources_of f.single.link acts }
+asked_by f t acts = record t { timers = f.timers ++ timers_of f.single.link acts; sources = f.sources ++ sources_of f.single.link (length f.sources) acts }
 
 -- an act that asks for no timer and for no source leaves it
-pub quiet_asks : (f : Core) (t : Inner) (acts : List LinkAct) (a : LinkAct) → timer_of a ≡ [] → source_of f.single.link a ≡ [] → asked_by f t acts ≡ asked_by f t (acts ++ a ∷ [])
+pub quiet_asks : (f : Core) (t : Inner) (acts : List LinkAct) (a : LinkAct) → timer_of f.single.link a ≡ [] → source_of f.single.link (next_source f acts) a ≡ [] → asked_by f t acts ≡ asked_by f t (acts ++ a ∷ [])
 quiet_asks f t acts a timers sources =
-    let ts = quiet_timers acts a timers in
-    let ss = quiet_sources f.single.link acts a sources in
+    let ts = quiet_timers f.single.link acts a timers in
+    let ss = quiet_sources f.single.link (length f.sources) acts a sources in
     sym (λ i. record t { timers = f.timers ++ ts i; sources = f.sources ++ ss i })
 
 -- also where these pushes are still to be told, and the end of the link is
@@ -233,12 +239,53 @@ IsDue owes name was s = was s.id ≡ true → owes (name s.id) ≡ Some (outcome
 abbrev pub IsDueError : (ℕ → Option Outcome) → (ℕ → ℕ) → (ℕ → Bool) → RedisError → Waiting → Type 0
 IsDueError owes name was e q = was q.number ≡ true → owes (name q.number) ≡ Some (outcome.Fault e)
 
--- each that was settled is answered
+-- what replies that are settled make of new credentials
+--
+abbrev pub replied_each : Renewal → List Settled → Renewal
+replied_each r [] = r
+replied_each r (s ∷ ss) = replied_each (if s.id == renewal_id then replied r (is_done s.verdict) else r) ss
+
+-- an answer to a request leaves them
+pub answered_renewal : (w : Work) (p : ℕ) (o : Outcome) → (answered w p o).conn.renewal ≡ w.conn.renewal
+answered_renewal w p o = chosen (λ (x : Work). x.conn.renewal ≡ w.conn.renewal) (is_open_at w.conn.requests p) _ w (λ t. refl) (λ f. refl)
+
+-- also where they come to these
+answered_renewing : (w : Work) (p : ℕ) (o : Outcome) (r : Renewal) → answered (renewing w r) p o ≡ renewing (answered w p o) r
+answered_renewing w p o r = by_open (is_open_at w.conn.requests p)
+  where
+    done : Work
+    done = record { conn = closed w.conn p; acts = w.acts ++ act.Outcome (name_at w.conn.requests p) o ∷ [] }
+
+    by_open : (b : Bool) → (if b then renewing done r else renewing w r) ≡ renewing (if b then done else w) r
+    by_open true = refl
+    by_open false = refl
+
+-- each that was settled is answered; AUTH's reply is of no account for requests
 pub settled_holds : (before : List Action) (f : Core) (ledger : Ledger) (owes : ℕ → Option Outcome) (name : ℕ → ℕ) (was : ℕ → Bool) (w : Work) (ss : List Settled) (pending started : List ℕ) → AllByRecursion (IsDue owes name was) ss
-    → IsAnswering before f ledger owes name was w (settled_ids ss ++ pending) started → IsAnswering before f ledger owes name was (settled_each w ss) pending started
+    → IsAnswering before f ledger owes name was (renewing w (replied_each w.conn.renewal ss)) (requests_in (settled_ids ss) ++ pending) started → IsAnswering before f ledger owes name was (settled_each w ss) pending started
 settled_holds before f ledger owes name was w [] pending started due h = h
-settled_holds before f ledger owes name was w (s ∷ ss) pending started due h =
-    settled_holds before f ledger owes name was (answered w s.id (outcome_of s.verdict)) ss pending started due.1 (answered_holds before f ledger owes name was w s.id (outcome_of s.verdict) (settled_ids ss ++ pending) started due.0 h)
+settled_holds before f ledger owes name was w (s ∷ ss) pending started due h = by_kind (s.id == renewal_id) h
+  where
+    o : Outcome
+    o = outcome_of s.verdict
+
+    ids : List ℕ
+    ids = requests_in (settled_ids ss)
+
+    next : Renewal
+    next = replied w.conn.renewal (is_done s.verdict)
+
+    rest : Renewal
+    rest = replied_each w.conn.renewal ss
+
+    by_kind : (b : Bool) → IsAnswering before f ledger owes name was (renewing w (replied_each (if b then next else w.conn.renewal) ss)) ((if b then ids else s.id ∷ ids) ++ pending) started
+        → IsAnswering before f ledger owes name was (settled_each (if b then renewing w next else answered w s.id o) ss) pending started
+    by_kind true k = settled_holds before f ledger owes name was (renewing w next) ss pending started due.1 k
+    by_kind false k =
+        let done = answered_holds before f ledger owes name was (renewing w rest) s.id o (ids ++ pending) started due.0 k in
+        settled_holds before f ledger owes name was (answered w s.id o) ss pending started due.1
+        (subst (λ r. IsAnswering before f ledger owes name was (renewing (answered w s.id o) (replied_each r ss)) (ids ++ pending) started) (sym (answered_renewal w s.id o))
+        (subst (λ (x : Work). IsAnswering before f ledger owes name was x (ids ++ pending) started) (answered_renewing w s.id o rest) done))
 
 -- each of these requests is answered with this error
 pub failed_holds : (before : List Action) (f : Core) (ledger : Ledger) (owes : ℕ → Option Outcome) (name : ℕ → ℕ) (was : ℕ → Bool) (w : Work) (e : RedisError) (qs : List Waiting) (pending started : List ℕ) → AllByRecursion (IsDueError owes name was e) qs
@@ -280,12 +327,19 @@ leaves_on u v w h k = record {
 pub answered_leaves : (w : Work) (p : ℕ) (o : Outcome) → Leaves w (answered w p o)
 answered_leaves w p o = chosen (Leaves w) (is_open_at w.conn.requests p) _ w (λ t. record { size = refl; boundary = refl; life = refl; waiting = refl; admitted = refl; fresh = refl; moved = refl; hears = refl }) (λ f. leaves_all w)
 
+-- so does what one settled message comes to
+pub one_leaves : (w : Work) (s : Settled) → Leaves w (settled_one w s)
+one_leaves w s =
+    chosen (Leaves w) (s.id == renewal_id) (renewing w (replied w.conn.renewal (is_done s.verdict))) (answered w s.id (outcome_of s.verdict))
+    (λ t. record { size = refl; boundary = refl; life = refl; waiting = refl; admitted = refl; fresh = refl; moved = refl; hears = refl })
+    (λ f. answered_leaves w s.id (outcome_of s.verdict))
+
 -- so do the answers to what was settled
 pub settled_leaves : (w : Work) (ss : List Settled) → Leaves w (settled_each w ss)
 settled_leaves w [] = leaves_all w
 settled_leaves w (s ∷ ss) =
-    let v = answered w s.id (outcome_of s.verdict) in
-    leaves_on w v (settled_each v ss) (answered_leaves w s.id (outcome_of s.verdict)) (settled_leaves v ss)
+    let v = settled_one w s in
+    leaves_on w v (settled_each v ss) (one_leaves w s) (settled_leaves v ss)
 
 -- and those to what waited
 pub failed_leaves : (w : Work) (e : RedisError) (qs : List Waiting) → Leaves w (failed_each w e qs)

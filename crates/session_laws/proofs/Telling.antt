@@ -33,8 +33,7 @@ use Rattle.legal_trace.specs.Owed.{owed, owed_to_message, owed_to_try, owed_unst
 use Rattle.legal_trace.specs.Legal.{IsBefore, IsOpen, MayPush, MayPushBy}
 use Rattle.session_laws.proofs.Numbers.{IsIn, Rising, in_either, in_left, in_right}
 use Rattle.session_laws.proofs.Tied.{Inner, Tied, has_ended, link_in, owner_of, queue_ids}
-use Rattle.session_laws.proofs.Creds.{sources_asked}
-use Rattle.session_laws.proofs.Said.{ready_shown}
+use Rattle.session_laws.proofs.Said.{ready_shown, sources_asked}
 use Rattle.session_laws.proofs.Names.{length_with, name_with, open_within, with_then}
 use Rattle.session_laws.proofs.InLine.{IsInLine, awaited_in, kept_ids, kept_in, line_of, wanted_in}
 use Rattle.session_laws.proofs.Owes.{lives, open_request, row_link, stands_started, wanted_entry}
