@@ -6,6 +6,7 @@ pub mod SetUp
 pub mod Said
 pub mod Entered
 pub mod Names
+pub mod Renewals
 pub mod Permits
 pub mod InLine
 pub mod Behind
