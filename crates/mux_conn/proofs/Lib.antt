@@ -1,3 +1,4 @@
+pub mod Kept
 pub mod Spent
 pub mod Entries
 pub mod Threads
