@@ -228,6 +228,7 @@ answer_apart b t p pending o l apart told h =
       pushes = h.pushes;
       life = h.life;
       creds = h.creds;
+      count = h.count;
       renewal = h.renewal;
       setup = h.setup;
       link = λ up. carried_tied t.life t.requests (with_permits t.requests p progress.Closed 0) (b.link t.link) (sym (owners_with t.requests p progress.Closed 0)) (h.link up);

@@ -1,6 +1,6 @@
 -- The line that open requests stand in: those to be answered, those whose messages take items, those in the queue, and
 -- those that wait for a place.
-use Rattle.std.proofs.Common.{◌≡◌, inl, inr, ℕ, zero, suc, ◌≤◌, ◌==◌, refl, Bool, true, false, List, [], ◌∷◌, ◌++◌, length, Some, slice_get, if◌then◌else◌, sym, subst, append_assoc, arith}
+use Rattle.std.proofs.Common.{◌≡◌, inl, inr, ℕ, zero, suc, ◌≤◌, ◌==◌, Bool, true, false, List, [], ◌∷◌, ◌++◌, length, Some, slice_get, if◌then◌else◌, sym, subst, append_assoc, arith}
 use Rattle.legal_trace.specs.Story.{Story}
 use Rattle.link_core.specs.declared.message.Entry.{Entry}
 use Rattle.link_core.specs.declared.message.Queued.{Queued}
@@ -84,29 +84,28 @@ chosen_rises : (b : Bool) (lo n : ℕ) (ys : List ℕ) (hi : ℕ) → (lo ≤ n)
 chosen_rises true lo n ys hi h = h
 chosen_rises false lo n ys hi h = rising_from (suc n) lo ys hi (omega (arith, h.0)) h.1
 
+-- where AUTH's number is left out
+asked_rises : (b : Bool) (lo n : ℕ) (ids rest ys : List ℕ) (hi : ℕ) → ((low : ℕ) → Rising low (ids ++ ys) hi → Rising low (rest ++ ys) hi) → Rising lo ((if b then ids else n ∷ ids) ++ ys) hi → Rising lo ((if b then rest else n ∷ rest) ++ ys) hi
+asked_rises true lo n ids rest ys hi f h = f lo h
+asked_rises false lo n ids rest ys hi f h = (h.0, f (suc n) h.1)
+
+-- or any
+left_rises : (b : Bool) (lo n : ℕ) (ids rest ys : List ℕ) (hi : ℕ) → ((low : ℕ) → Rising low (ids ++ ys) hi → Rising low (rest ++ ys) hi) → Rising lo ((if b then ids else n ∷ ids) ++ ys) hi → Rising lo (rest ++ ys) hi
+left_rises true lo n ids rest ys hi f h = f lo h
+left_rises false lo n ids rest ys hi f h = rising_from (suc n) lo (rest ++ ys) hi (let l : lo ≤ n = h.0 in omega arith) (f (suc n) h.1)
+
+-- as one is awaited or not
+by_awaited : (a : Bool) (lo n : ℕ) (ids ws ys : List ℕ) (hi : ℕ) → ((low : ℕ) → Rising low (ids ++ ys) hi → Rising low (requests_in ws ++ ys) hi) → Rising lo ((if n == renewal_id then ids else n ∷ ids) ++ ys) hi
+    → Rising lo (requests_in ((if a then n ∷ [] else []) ++ ws) ++ ys) hi
+by_awaited true lo n ids ws ys hi f h = asked_rises (n == renewal_id) lo n ids (requests_in ws) ys hi f h
+by_awaited false lo n ids ws ys hi f h = left_rises (n == renewal_id) lo n ids (requests_in ws) ys hi f h
+
 -- the wanted of a row
 pub wanted_rises : (lo : ℕ) (row : List Entry) (ys : List ℕ) (hi : ℕ) → Rising lo (requests_in (row_ids row) ++ ys) hi → Rising lo (requests_in (wanted row) ++ ys) hi
 wanted_rises lo [] ys hi h = h
 wanted_rises lo (e ∷ es) ys hi h =
-    by_awaited e.awaited (e.id == renewal_id) h refl
-  where
-    ids : List ℕ
-    ids = requests_in (row_ids es)
-
-    rest : List ℕ
-    rest = requests_in (wanted es)
-
-    by_kind : (b : Bool) → Rising lo ((if b then ids else e.id ∷ ids) ++ ys) hi → Rising lo ((if b then rest else e.id ∷ rest) ++ ys) hi
-    by_kind true k = wanted_rises lo es ys hi k
-    by_kind false k = (k.0, wanted_rises (suc e.id) es ys hi k.1)
-
-    unwanted : (b : Bool) → Rising lo ((if b then ids else e.id ∷ ids) ++ ys) hi → Rising lo (rest ++ ys) hi
-    unwanted true k = wanted_rises lo es ys hi k
-    unwanted false k = rising_from (suc e.id) lo (rest ++ ys) hi (let l : lo ≤ e.id = k.0 in omega arith) (wanted_rises (suc e.id) es ys hi k.1)
-
-    by_awaited : (a b : Bool) → Rising lo ((if b then ids else e.id ∷ ids) ++ ys) hi → (e.id == renewal_id) ≡ b → Rising lo (requests_in ((if a then e.id ∷ [] else []) ++ wanted es) ++ ys) hi
-    by_awaited true b k is = subst (λ (c : Bool). Rising lo ((if c then rest else e.id ∷ rest) ++ ys) hi) (sym is) (by_kind b k)
-    by_awaited false b k is = unwanted b k
+    let rest : (low : ℕ) → Rising low (requests_in (row_ids es) ++ ys) hi → Rising low (requests_in (wanted es) ++ ys) hi = λ low k. wanted_rises low es ys hi k in
+    by_awaited e.awaited lo e.id (requests_in (row_ids es)) (wanted es) ys hi rest h
 
 -- the awaited of a queue
 pub awaited_rises : (lo : ℕ) (queue : List Queued) (ys : List ℕ) (hi : ℕ) → Rising lo (queue_ids queue ++ ys) hi → Rising lo (awaited_ids queue ++ ys) hi
@@ -133,15 +132,8 @@ places_rise lo xs k [] ys hi all h = rising_right lo (requests_in xs) ys hi h
 places_rise lo [] k (n ∷ ids) ys hi all h = absurd (cc all.0)
 places_rise lo (x ∷ xs) zero (n ∷ ids) ys hi all h =
     let same : x ≡ n = let e = all.0 in cc in
-    subst (λ m. Rising lo (requests_in (m ∷ ids) ++ ys) hi) same (by_kind (x == renewal_id) h)
-  where
-    by_kind : (b : Bool) → Rising lo ((if b then requests_in xs else x ∷ requests_in xs) ++ ys) hi → Rising lo ((if b then requests_in ids else x ∷ requests_in ids) ++ ys) hi
-    by_kind true k = places_rise lo xs zero ids ys hi (places_behind x xs zero ids all.1) k
-    by_kind false k = (k.0, places_rise (suc x) xs zero ids ys hi (places_behind x xs zero ids all.1) k.1)
-places_rise lo (x ∷ xs) (suc k) (n ∷ ids) ys hi all h = by_kind (x == renewal_id) h
-  where
-    by_kind : (b : Bool) → Rising lo ((if b then requests_in xs else x ∷ requests_in xs) ++ ys) hi → Rising lo (requests_in (n ∷ ids) ++ ys) hi
-    by_kind true r = places_rise lo xs k (n ∷ ids) ys hi (all.0, places_behind x xs (suc k) ids all.1) r
-    by_kind false r =
-        let l : lo ≤ x = r.0 in
-        rising_from (suc x) lo (requests_in (n ∷ ids) ++ ys) hi (omega arith) (places_rise (suc x) xs k (n ∷ ids) ys hi (all.0, places_behind x xs (suc k) ids all.1) r.1)
+    let rest : (low : ℕ) → Rising low (requests_in xs ++ ys) hi → Rising low (requests_in ids ++ ys) hi = λ low k. places_rise low xs zero ids ys hi (places_behind x xs zero ids all.1) k in
+    subst (λ m. Rising lo (requests_in (m ∷ ids) ++ ys) hi) same (asked_rises (x == renewal_id) lo x (requests_in xs) (requests_in ids) ys hi rest h)
+places_rise lo (x ∷ xs) (suc k) (n ∷ ids) ys hi all h =
+    let rest : (low : ℕ) → Rising low (requests_in xs ++ ys) hi → Rising low (requests_in (n ∷ ids) ++ ys) hi = λ low r. places_rise low xs k (n ∷ ids) ys hi (all.0, places_behind x xs (suc k) ids all.1) r in
+    left_rises (x == renewal_id) lo x (requests_in xs) (requests_in (n ∷ ids)) ys hi rest h

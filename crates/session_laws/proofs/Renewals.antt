@@ -12,16 +12,34 @@ use Rattle.mux_conn.specs.declared.life.Life.TheVariants.{Dialing, Wanting, Sett
 use Rattle.mux_conn.specs.declared.renewal.Renewal.{Renewal}
 use Rattle.mux_conn.specs.Connection.{are_some, in_front, is_due}
 use Rattle.mux_conn.specs.Renewals.{asked_next, told_next}
-use Rattle.legal_trace.specs.Ledger.{Ledger, Start, begins, cut, is_done, is_full, is_of_renewal, is_taken, last_renewal, noted, reach, renewal_count, renewal_due, renewals_asked, times}
+use Rattle.legal_trace.specs.Ledger.{Ledger, Start, begins, cut, is_done, is_full, is_of_renewal, is_taken, last_renewal, noted, reach, renewal_count, renewal_due, renewals_asked, times, Sourced}
 use Rattle.legal_trace.specs.Steps.{renewals_in_line}
 use Rattle.legal_trace.proofs.Ledgers.{reach_more, takes_one}
 use Rattle.legal_trace.proofs.Renewals.{last_told, taken_begins}
 use Rattle.session_laws.proofs.Names.{get_more}
 use Rattle.containers.proofs.Places.{get_within}
-use Rattle.session_laws.proofs.Tied.{AreFullBefore, AreRenewed, IsLost, IsTold, NoneRenewed, TiedRenewal, timed_of}
+use Rattle.legal_trace.specs.Book.{Book}
+use Rattle.session_laws.proofs.Tied.{AreFullBefore, AreRenewed, Inner, Tied, TiedLife, IsLost, IsTold, NoneRenewed, TiedRenewal, timed_of}
 
 -- what is told next
 --
+-- where some are to be told, those before were answered, and none were lost
+pub due_well : (r : Renewal) → is_due r ≡ true → (r.unanswered ≡ false) × (r.lost ≡ false)
+due_well r due = by_cases r.unanswered r.lost due
+  where
+    by_cases : (a b : Bool) → (not (a || b) && are_some r.waiting) ≡ true → (a ≡ false) × (b ≡ false)
+    by_cases true b e = cc
+    by_cases false true e = cc
+    by_cases false false e = (refl, refl)
+
+-- where some are to be told, some wait
+pub some_wait : (r : Renewal) → is_due r ≡ true → are_some r.waiting ≡ true
+some_wait r due = by_cases (not (r.unanswered || r.lost)) due
+  where
+    by_cases : (a : Bool) → (a && are_some r.waiting) ≡ true → are_some r.waiting ≡ true
+    by_cases true e = e
+    by_cases false e = cc
+
 -- where some were lost, nothing is
 lost_undue : (l : Ledger) → IsLost l → renewal_due l ≡ None
 lost_undue l (inl lost) =
@@ -90,17 +108,8 @@ due_first l r c cs up h due waits =
     dropped_is (x ∷ xs) zero e = cc
     dropped_is (x ∷ xs) (suc n) e = dropped_is xs n e
 
--- where some are to be told, those before were answered, and none were lost
-pub due_well : (r : Renewal) → is_due r ≡ true → (r.unanswered ≡ false) × (r.lost ≡ false)
-due_well r due = by_cases r.unanswered r.lost due
-  where
-    by_cases : (a b : Bool) → (not (a || b) && are_some r.waiting) ≡ true → (a ≡ false) × (b ≡ false)
-    by_cases true b e = cc
-    by_cases false true e = cc
-    by_cases false false e = (refl, refl)
-
 -- none are on a link that isn't set up
-pub none_renewed_due : (l : Ledger) (r : Renewal) → NoneRenewed l.creds r → renewal_due l ≡ None
+pub none_renewed_due : (l : Ledger) (r : Renewal) → NoneRenewed l r → renewal_due l ≡ None
 none_renewed_due l r h =
     chosen (λ (o : Option Credentials). o ≡ None) (l.up && not l.creds.lost && is_taken l (last_renewal l.starts 0 None)) (slice_get l.creds.renewals (renewal_count l.starts)) None
     (λ t. ap (λ (cs : List Credentials). slice_get cs (renewal_count l.starts)) h.came ∙ empty (renewal_count l.starts)) (λ f. refl)
@@ -117,6 +126,10 @@ down_renewed_due l down =
 -- as many of them stand in line
 pub due_in_line : (l : Ledger) (r : Renewal) → l.up ≡ true → AreRenewed l r → renewals_in_line l ≡ in_front r
 due_in_line l r up h = ap (λ (b : Bool). if b then 1 else 0) (due_is l r up h)
+
+-- of a session
+pub due_in : (b : Book) (t : Inner) (link : LinkState) → Tied b t → t.life ≡ Ready link → renewals_in_line (b.link t.link) ≡ in_front t.renewal
+due_in b t link h e = due_in_line (b.link t.link) t.renewal (subst (TiedLife (b.link t.link) b.created) e h.life).1 (subst (TiedRenewal (b.link t.link) t.renewal) e h.renewal)
 
 -- where those that are have their timer, all have
 pub all_timed : (l : Ledger) (r : Renewal) (ms : ℕ) → l.up ≡ true → AreRenewed l r → r.within ≡ Some ms → (is_due r ≡ true → r.pending ≡ true) → renewals_asked l ≤ l.creds.timed
@@ -155,29 +168,79 @@ alike_rebuild l m r h = record {
 pub renewed_alike : (l m : Ledger) (r : Renewal) → m.creds ≡ l.creds → m.starts ≡ l.starts → m.dealt ≡ l.dealt → AreRenewed l r → AreRenewed m r
 renewed_alike l m r creds starts dealt h = subst (λ (x : Ledger). AreRenewed x r) (λ i. record m { creds = sym creds i; starts = sym starts i; dealt = sym dealt i }) (alike_rebuild l m r h)
 
+-- also where none came
+pub none_alike : (l m : Ledger) (r : Renewal) → m.creds ≡ l.creds → m.starts ≡ l.starts → NoneRenewed l r → NoneRenewed m r
+none_alike l m r creds starts h = record {
+  over_is = ap (λ (c : Sourced). c.over) creds ∙ h.over_is;
+  came = ap (λ (c : Sourced). c.renewals) creds ∙ h.came;
+  waits = h.waits;
+  untimed = ap (λ (c : Sourced). c.timed) creds ∙ h.untimed;
+  unstarted = ap renewal_count starts ∙ h.unstarted;
+  unasked = h.unasked;
+  unpending = h.unpending;
+  told = h.told;
+  kept = ap (λ (c : Sourced). c.lost) creds ∙ h.kept;
+  found = h.found;
+}
+
 -- by how far the link has come
 pub renewal_alike : (l m : Ledger) (r : Renewal) (life : Life) → m.creds ≡ l.creds → m.starts ≡ l.starts → m.dealt ≡ l.dealt → TiedRenewal l r life → TiedRenewal m r life
-renewal_alike l m r Dialing creds starts dealt h = subst (λ c. NoneRenewed c r) (sym creds) h
-renewal_alike l m r (Wanting link) creds starts dealt h = subst (λ c. NoneRenewed c r) (sym creds) h
-renewal_alike l m r (SettingUp link with_user) creds starts dealt h = subst (λ c. NoneRenewed c r) (sym creds) h
+renewal_alike l m r Dialing creds starts dealt h = none_alike l m r creds starts h
+renewal_alike l m r (Wanting link) creds starts dealt h = none_alike l m r creds starts h
+renewal_alike l m r (SettingUp link with_user) creds starts dealt h = none_alike l m r creds starts h
 renewal_alike l m r (Ready link) creds starts dealt h = renewed_alike l m r creds starts dealt h
-renewal_alike l m r (Ended e) creds starts dealt h = tt
+renewal_alike l m r (Ended e) creds starts dealt h = λ some. let few = h some in let same = ap renewal_count starts in let timed = ap (λ (c : Sourced). c.timed) creds in omega (arith, few, same, timed)
+
+-- once the link has ended, a timer was asked for all that were told
+pub renewed_ended : (l m : Ledger) (r : Renewal) → m.creds ≡ l.creds → m.starts ≡ l.starts → AreRenewed l r → (r.within ≢ None) → renewal_count m.starts ≤ m.creds.timed
+renewed_ended l m r creds starts h some =
+    let same = ap renewal_count starts in
+    let timed = ap (λ (c : Sourced). c.timed) creds in
+    let told : renewal_count l.starts ≤ l.creds.timed = by_time r.within refl in
+    omega (arith, told, same, timed)
+  where
+    by_time : (o : Option ℕ) → r.within ≡ o → renewal_count l.starts ≤ l.creds.timed
+    by_time None e = absurd (some e)
+    by_time (Some ms) e = let timed = h.timed_is ∙ ap (λ o. timed_of o r.asked) e in let asked = h.asked_is in omega (arith, timed, asked)
+
+-- by how far it had come
+pub renewal_ended : (l m : Ledger) (r : Renewal) (life : Life) → m.creds ≡ l.creds → m.starts ≡ l.starts → TiedRenewal l r life → (r.within ≢ None) → renewal_count m.starts ≤ m.creds.timed
+renewal_ended l m r Dialing creds starts h some = let none = ap renewal_count starts ∙ h.unstarted in omega (arith, none)
+renewal_ended l m r (Wanting link) creds starts h some = let none = ap renewal_count starts ∙ h.unstarted in omega (arith, none)
+renewal_ended l m r (SettingUp link with_user) creds starts h some = let none = ap renewal_count starts ∙ h.unstarted in omega (arith, none)
+renewal_ended l m r (Ready link) creds starts h some = renewed_ended l m r creds starts h some
+renewal_ended l m r (Ended e) creds starts h some = let few = h some in let same = ap renewal_count starts in let timed = ap (λ (c : Sourced). c.timed) creds in omega (arith, few, same, timed)
+
+-- where none tells new credentials, none of these does
+none_counted : (ss : List Start) (k : ℕ) (s : Start) → renewal_count ss ≡ 0 → slice_get ss k ≡ Some s → is_of_renewal s.owner ≡ false
+none_counted [] k s e at = cc
+none_counted (x ∷ ss) zero s e at =
+    let same : x ≡ s = cc in
+    by_test (is_of_renewal s.owner) (is_of_renewal s.owner ≡ false)
+    (λ t. absurd (let no = sym (taken_if (is_of_renewal x.owner) (suc (renewal_count ss)) (renewal_count ss) (ap (λ (y : Start). is_of_renewal y.owner) same ∙ t)) ∙ e in omega (arith, no)))
+    (λ f. f)
+none_counted (x ∷ ss) (suc k) s e at = none_counted ss k s
+    (by_test (is_of_renewal x.owner) (renewal_count ss ≡ 0)
+    (λ t. absurd (let no = sym (taken_if (is_of_renewal x.owner) (suc (renewal_count ss)) (renewal_count ss) t) ∙ e in omega (arith, no)))
+    (λ f. sym (left_if (is_of_renewal x.owner) (suc (renewal_count ss)) (renewal_count ss) f) ∙ e)) at
 
 -- where no new ones came, they are none of a link that is set up then
-pub renewed_first : (l : Ledger) (r : Renewal) → ((k : ℕ) (s : Start) → slice_get l.starts k ≡ Some s → is_of_renewal s.owner ≡ false) → NoneRenewed l.creds r → AreRenewed l r
-renewed_first l r none h = record {
-  over_is = h.over_is;
-  waits = h.waits ∙ sym (ap (drop (renewal_count l.starts)) h.came ∙ dropped (renewal_count l.starts));
-  asked_is = h.unasked ∙ sym (λ i. counted l.starts none i + (if h.unpending i then 1 else 0));
-  timed_is = h.untimed ∙ sym (ap (timed_of r.within) h.unasked ∙ no_time r.within);
-  next = λ p. absurd (not_both r.pending h.unpending p);
-  shaped = λ k s at is. absurd (not_both (is_of_renewal s.owner) (none k s at) is);
-  answered = λ u j s below at is. absurd (not_both (is_of_renewal s.owner) (none j s at) is);
-  unanswered = λ u. absurd (not_both r.unanswered h.told u);
-  kept = λ k. h.kept;
-  taken = λ k u. ap (is_taken l) (none_last l.starts none 0);
-  lost = λ x. absurd (not_both r.lost h.found x);
-}
+pub renewed_first : (l : Ledger) (r : Renewal) → NoneRenewed l r → AreRenewed l r
+renewed_first l r h =
+    let none : (k : ℕ) (s : Start) → slice_get l.starts k ≡ Some s → is_of_renewal s.owner ≡ false = λ k s at. none_counted l.starts k s h.unstarted at in
+    record {
+      over_is = h.over_is;
+      waits = h.waits ∙ sym (ap (drop (renewal_count l.starts)) h.came ∙ dropped (renewal_count l.starts));
+      asked_is = h.unasked ∙ sym (λ i. h.unstarted i + (if h.unpending i then 1 else 0));
+      timed_is = h.untimed ∙ sym (ap (timed_of r.within) h.unasked ∙ no_time r.within);
+      next = λ p. absurd (not_both r.pending h.unpending p);
+      shaped = λ k s at is. absurd (not_both (is_of_renewal s.owner) (none k s at) is);
+      answered = λ u j s below at is. absurd (not_both (is_of_renewal s.owner) (none j s at) is);
+      unanswered = λ u. absurd (not_both r.unanswered h.told u);
+      kept = λ k. h.kept;
+      taken = λ k u. ap (is_taken l) (none_last l.starts none 0);
+      lost = λ x. absurd (not_both r.lost h.found x);
+    }
   where
     dropped : (n : ℕ) → ◌≡◌ {A = List Credentials} (drop n []) []
     dropped zero = refl
@@ -186,10 +249,6 @@ renewed_first l r none h = record {
     no_time : (o : Option ℕ) → timed_of o 0 ≡ 0
     no_time None = refl
     no_time (Some ms) = refl
-
-    counted : (ss : List Start) → ((k : ℕ) (s : Start) → slice_get ss k ≡ Some s → is_of_renewal s.owner ≡ false) → renewal_count ss ≡ 0
-    counted [] none = refl
-    counted (s ∷ ss) none = left_if (is_of_renewal s.owner) (suc (renewal_count ss)) (renewal_count ss) (none 0 s refl) ∙ counted ss (λ k x. none (suc k) x)
 
     none_last : (ss : List Start) → ((k : ℕ) (s : Start) → slice_get ss k ≡ Some s → is_of_renewal s.owner ≡ false) → (n : ℕ) → last_renewal ss n None ≡ None
     none_last [] none n = refl
@@ -357,14 +416,6 @@ asked_renewed l r none due within h = record {
   taken = h.taken;
   lost = h.lost;
 }
-
--- where some are to be told, some wait
-pub some_wait : (r : Renewal) → is_due r ≡ true → are_some r.waiting ≡ true
-some_wait r due = by_cases (not (r.unanswered || r.lost)) due
-  where
-    by_cases : (a : Bool) → (a && are_some r.waiting) ≡ true → are_some r.waiting ≡ true
-    by_cases true e = e
-    by_cases false e = cc
 
 -- with the timer
 pub timed_renewed : (l : Ledger) (r : Renewal) (ms : ℕ) → r.pending ≡ false → is_due r ≡ true → r.within ≡ Some ms → AreRenewed l r → AreRenewed (noted l times) (asked_next r)

@@ -260,32 +260,28 @@ answered_renewing w p o r = by_open (is_open_at w.conn.requests p)
     by_open true = refl
     by_open false = refl
 
+-- one that was settled is answered, where the others behind it are
+one_settled : (before : List Action) (f : Core) (ledger : Ledger) (owes : ℕ → Option Outcome) (name : ℕ → ℕ) (was : ℕ → Bool) (w : Work) (s : Settled) (ss : List Settled) (pending started : List ℕ) (auth : Bool) → IsDue owes name was s
+    → (let r = w.conn.renewal in let ids = requests_in (settled_ids ss) in IsAnswering before f ledger owes name was (renewing w (replied_each (if auth then replied r (is_done s.verdict) else r) ss)) ((if auth then ids else s.id ∷ ids) ++ pending) started)
+    → ((v : Work) → IsAnswering before f ledger owes name was (renewing v (replied_each v.conn.renewal ss)) (requests_in (settled_ids ss) ++ pending) started → IsAnswering before f ledger owes name was (settled_each v ss) pending started)
+    → IsAnswering before f ledger owes name was (settled_each (if auth then renewing w (replied w.conn.renewal (is_done s.verdict)) else answered w s.id (outcome_of s.verdict)) ss) pending started
+one_settled before f ledger owes name was w s ss pending started true due h rest = rest (renewing w (replied w.conn.renewal (is_done s.verdict))) h
+one_settled before f ledger owes name was w s ss pending started false due h rest =
+    let o = outcome_of s.verdict in
+    let ids = requests_in (settled_ids ss) in
+    let come = replied_each w.conn.renewal ss in
+    let done = answered_holds before f ledger owes name was (renewing w come) s.id o (ids ++ pending) started due h in
+    rest (answered w s.id o)
+    (subst (λ r. IsAnswering before f ledger owes name was (renewing (answered w s.id o) (replied_each r ss)) (ids ++ pending) started) (sym (answered_renewal w s.id o))
+    (subst (λ (x : Work). IsAnswering before f ledger owes name was x (ids ++ pending) started) (answered_renewing w s.id o come) done))
+
 -- each that was settled is answered; AUTH's reply is of no account for requests
 pub settled_holds : (before : List Action) (f : Core) (ledger : Ledger) (owes : ℕ → Option Outcome) (name : ℕ → ℕ) (was : ℕ → Bool) (w : Work) (ss : List Settled) (pending started : List ℕ) → AllByRecursion (IsDue owes name was) ss
     → IsAnswering before f ledger owes name was (renewing w (replied_each w.conn.renewal ss)) (requests_in (settled_ids ss) ++ pending) started → IsAnswering before f ledger owes name was (settled_each w ss) pending started
 settled_holds before f ledger owes name was w [] pending started due h = h
-settled_holds before f ledger owes name was w (s ∷ ss) pending started due h = by_kind (s.id == renewal_id) h
-  where
-    o : Outcome
-    o = outcome_of s.verdict
-
-    ids : List ℕ
-    ids = requests_in (settled_ids ss)
-
-    next : Renewal
-    next = replied w.conn.renewal (is_done s.verdict)
-
-    rest : Renewal
-    rest = replied_each w.conn.renewal ss
-
-    by_kind : (b : Bool) → IsAnswering before f ledger owes name was (renewing w (replied_each (if b then next else w.conn.renewal) ss)) ((if b then ids else s.id ∷ ids) ++ pending) started
-        → IsAnswering before f ledger owes name was (settled_each (if b then renewing w next else answered w s.id o) ss) pending started
-    by_kind true k = settled_holds before f ledger owes name was (renewing w next) ss pending started due.1 k
-    by_kind false k =
-        let done = answered_holds before f ledger owes name was (renewing w rest) s.id o (ids ++ pending) started due.0 k in
-        settled_holds before f ledger owes name was (answered w s.id o) ss pending started due.1
-        (subst (λ r. IsAnswering before f ledger owes name was (renewing (answered w s.id o) (replied_each r ss)) (ids ++ pending) started) (sym (answered_renewal w s.id o))
-        (subst (λ (x : Work). IsAnswering before f ledger owes name was x (ids ++ pending) started) (answered_renewing w s.id o rest) done))
+settled_holds before f ledger owes name was w (s ∷ ss) pending started due h =
+    one_settled before f ledger owes name was w s ss pending started (s.id == renewal_id) due.0 h
+    (λ v k. settled_holds before f ledger owes name was v ss pending started due.1 k)
 
 -- each of these requests is answered with this error
 pub failed_holds : (before : List Action) (f : Core) (ledger : Ledger) (owes : ℕ → Option Outcome) (name : ℕ → ℕ) (was : ℕ → Bool) (w : Work) (e : RedisError) (qs : List Waiting) (pending started : List ℕ) → AllByRecursion (IsDueError owes name was e) qs
