@@ -1,5 +1,5 @@
 -- A turn of an event: where it may stand, and what its link and the others hear.
-use Rattle.std.proofs.Common.{◌≡◌, ◌≢◌, ◌⊎◌, inl, inr, ℕ, zero, suc, ◌+◌, ◌<◌, ◌≤◌, ◌==◌, nat_lt, nat_le, false, ◌&&◌, ◌||◌, not, is_some, List, [], ◌∷◌, ◌++◌, length, slice_get, Some, refl, sym, ap, ◌∙◌, subst, arith, length-take, None, Option}
+use Rattle.std.proofs.Common.{◌≡◌, ◌≢◌, ◌⊎◌, inl, inr, ℕ, zero, suc, ◌+◌, ◌<◌, ◌≤◌, ◌==◌, nat_lt, nat_le, false, ◌&&◌, ◌||◌, not, is_some, List, [], ◌∷◌, ◌++◌, length, slice_get, Some, refl, sym, ap, ◌∙◌, subst, arith, length-take, None, Option, if◌then◌else◌, true}
 use Rattle.std.proofs.lemmas.List.{append-nil}
 use Rattle.containers.proofs.Choices.{by_test, chosen, taken_if, left_if, eq_test, ne_test, not_le_from, or_left}
 use Rattle.redis_error.specs.declared.redis_error.RedisError.TheVariants as error
@@ -379,6 +379,23 @@ sources_hear l turn (renewed c) = chosen (λ (x : Ledger). sources_asked_in x.cr
 sources_hear l turn unrenewed = chosen (λ (x : Ledger). sources_asked_in x.creds ≡ sources_asked_in l.creds) l.up (unrenewed_by l) l (λ t. refl) (λ f. refl)
 sources_hear l turn (late k) = chosen (λ (x : Ledger). sources_asked_in x.creds ≡ sources_asked_in l.creds) (l.up && is_renewal_open l k) (lost_by l) l (λ t. refl) (λ f. refl)
 sources_hear l turn shut = refl
+
+-- nor for a second one
+pub renews_hear : (l : Ledger) (turn : ℕ) (n : News) → (noted l (hears turn n)).creds.renews ≡ l.creds.renews
+renews_hear l turn silence = refl
+renews_hear l turn overdue = refl
+renews_hear l turn connected = chosen (λ (x : Ledger). x.creds.renews ≡ l.creds.renews) (is_over l) l (record l { up = true }) (λ t. refl) (λ f. refl)
+renews_hear l turn (refused f) = chosen (λ (x : Ledger). x.creds.renews ≡ l.creds.renews) (dials l) (refused_in l turn (error.Io f)) l (λ t. refl) (λ d. refl)
+renews_hear l turn (took count) = chosen (λ (x : Ledger). x.creds.renews ≡ l.creds.renews) l.up _ l (λ t. refl) (λ f. refl)
+renews_hear l turn (came piece) = chosen (λ (x : Ledger). x.creds.renews ≡ l.creds.renews) l.up (bytes_came l piece) l (λ t. refl) (λ f. refl)
+renews_hear l turn (failed f) = refl
+renews_hear l turn (authorized c) = chosen (λ (x : Ledger). x.creds.renews ≡ l.creds.renews) (awaits_credentials l) (authorized_by l c) l (λ t. refl) (λ f. refl)
+renews_hear l turn (denied text) = refl
+renews_hear l turn deserted = refl
+renews_hear l turn (renewed c) = chosen (λ (x : Ledger). x.creds.renews ≡ l.creds.renews) (may_renew l) (renewed_by l c) l (λ t. refl) (λ f. refl)
+renews_hear l turn unrenewed = chosen (λ (x : Ledger). x.creds.renews ≡ l.creds.renews) l.up (unrenewed_by l) l (λ t. refl) (λ f. refl)
+renews_hear l turn (late k) = chosen (λ (x : Ledger). x.creds.renews ≡ l.creds.renews) (l.up && is_renewal_open l k) (lost_by l) l (λ t. refl) (λ f. refl)
+renews_hear l turn shut = refl
 
 -- with none more there are as many
 pub counted_on : (sources : List SourceUse) (c : Sourced) → length sources ≡ sources_asked_in c → length (sources ++ []) ≡ sources_asked_in c

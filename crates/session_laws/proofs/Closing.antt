@@ -248,6 +248,7 @@ waits_closed table story requests p closed life after fresh moved names l dials 
       no_setup = λ q link with_user i w s e. let k = waits q w in let x = sets link with_user s in h.no_setup q x.0 with_user i k.1 x.1 (sym (same q k.0 (there_within is_waiting requests q k.1)) ∙ e);
       no_permit = λ q link i w r e. let k = waits q w in let x = ready link r in h.no_permit q x.0 i k.1 x.1 (sym (same q k.0 (there_within is_waiting requests q k.1)) ∙ e);
       no_place = λ q i a e. let k = admits q a in h.no_place q i k.1 (sym (same q k.0 (there_within is_admitted requests q k.1)) ∙ e);
+      seatless = λ q a e. let k = admits q a in h.seatless q k.1 (sym (same q k.0 (there_within is_admitted requests q k.1)) ∙ e);
       no_room = λ q i r e. let k = others q r in h.no_room q i k.2 (sym (same q k.0 k.1) ∙ e);
     }
 

@@ -138,6 +138,7 @@ opening_waits = record {
   no_setup = λ p link u i. absurd i;
   no_permit = λ p link i. absurd i;
   no_place = λ p i. absurd i;
+  seatless = λ p a e. cc a;
   no_room = λ p i. absurd i;
 }
 

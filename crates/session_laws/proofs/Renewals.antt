@@ -10,7 +10,7 @@ use Rattle.link_core.specs.Link.{LinkState}
 use Rattle.mux_conn.specs.declared.life.Life.{Life}
 use Rattle.mux_conn.specs.declared.life.Life.TheVariants.{Dialing, Wanting, SettingUp, Ready, Ended}
 use Rattle.mux_conn.specs.declared.renewal.Renewal.{Renewal}
-use Rattle.mux_conn.specs.Connection.{are_some, in_front, is_due}
+use Rattle.mux_conn.specs.Connection.{are_some, in_front, is_due, is_ready}
 use Rattle.mux_conn.specs.Renewals.{asked_next, told_next}
 use Rattle.legal_trace.specs.Ledger.{Ledger, Start, begins, cut, is_done, is_full, is_of_renewal, is_taken, last_renewal, noted, reach, renewal_count, renewal_due, renewals_asked, times, Sourced}
 use Rattle.legal_trace.specs.Steps.{renewals_in_line}
@@ -19,7 +19,7 @@ use Rattle.legal_trace.proofs.Renewals.{last_told, taken_begins}
 use Rattle.session_laws.proofs.Names.{get_more}
 use Rattle.containers.proofs.Places.{get_within}
 use Rattle.legal_trace.specs.Book.{Book}
-use Rattle.session_laws.proofs.Tied.{AreFullBefore, AreRenewed, Inner, Tied, TiedLife, IsLost, IsTold, NoneRenewed, TiedRenewal, timed_of}
+use Rattle.session_laws.proofs.Tied.{AreFullBefore, AreRenewed, Inner, Tied, TiedLife, IsLost, IsTold, NoneRenewed, TiedRenewal, timed_of, has_ended}
 
 -- what is told next
 --
@@ -211,6 +211,14 @@ renewal_ended l m r (SettingUp link with_user) creds starts h some = let none = 
 renewal_ended l m r (Ready link) creds starts h some = renewed_ended l m r creds starts h some
 renewal_ended l m r (Ended e) creds starts h some = let few = h some in let same = ap renewal_count starts in let timed = ap (λ (c : Sourced). c.timed) creds in omega (arith, few, same, timed)
 
+-- a link that isn't set up has none
+pub early_renewal : (l : Ledger) (r : Renewal) (life : Life) → is_ready life ≡ false → has_ended life ≡ false → TiedRenewal l r life → NoneRenewed l r
+early_renewal l r Dialing unready alive h = h
+early_renewal l r (Wanting link) unready alive h = h
+early_renewal l r (SettingUp link with_user) unready alive h = h
+early_renewal l r (Ready link) unready alive h = cc
+early_renewal l r (Ended e) unready alive h = cc
+
 -- where none tells new credentials, none of these does
 none_counted : (ss : List Start) (k : ℕ) (s : Start) → renewal_count ss ≡ 0 → slice_get ss k ≡ Some s → is_of_renewal s.owner ≡ false
 none_counted [] k s e at = cc
@@ -298,7 +306,7 @@ full_begins l s k less = ap (λ (ts : List Start). nat_le (reach ts l.dealt) (le
 
 -- and so does what it took
 cut_begins : (l : Ledger) (s : Start) (k : ℕ) → k < length l.starts → cut (noted l (begins s)) k Confirmation ≡ cut l k Confirmation
-cut_begins l s k less = ap (λ (ts : List Start). cut (record l { starts = ts ++ drop k l.starts }) k Confirmation) refl ∙ by_take (take-append-le k l.starts (s ∷ []) (omega arith))
+cut_begins l s k less = by_take (take-append-le k l.starts (s ∷ []) (omega arith))
   where
     by_take : take k (l.starts ++ s ∷ []) ≡ take k l.starts → cut (noted l (begins s)) k Confirmation ≡ cut l k Confirmation
     by_take e = ap (λ (ts : List Start). take 1 (drop (reach ts l.dealt) l.dealt)) e
@@ -330,6 +338,21 @@ last_taken_begins l s other h = ap (is_taken (noted l (begins s))) (last_other l
     by_last : (o : Option ℕ) → last_renewal l.starts 0 None ≡ o → is_taken (noted l (begins s)) o ≡ is_taken l o
     by_last None e = refl
     by_last (Some k) e = taken_begins l s k (last_is_within l k e)
+
+-- a setup starts
+pub none_begins : (l : Ledger) (r : Renewal) (s : Start) → is_of_renewal s.owner ≡ false → NoneRenewed l r → NoneRenewed (noted l (begins s)) r
+none_begins l r s other h = record {
+  over_is = h.over_is;
+  came = h.came;
+  waits = h.waits;
+  untimed = h.untimed;
+  unstarted = count_other l.starts s other ∙ h.unstarted;
+  unasked = h.unasked;
+  unpending = h.unpending;
+  told = h.told;
+  kept = h.kept;
+  found = h.found;
+}
 
 -- a message of a request starts
 pub begins_renewed : (l : Ledger) (r : Renewal) (s : Start) → is_of_renewal s.owner ≡ false → AreRenewed l r → AreRenewed (noted l (begins s)) r
@@ -392,7 +415,7 @@ auth_renewed l r s c cs owned shaped within due pending waits h =
       answered = λ u. cc u;
       unanswered = λ u. record {
           k = length l.starts;
-          last = last_auth l.starts s 0 None is;
+          last = last_auth l.starts s 0 None is ∙ ap Some (let e : 0 + length l.starts ≡ length l.starts = omega arith in e);
           open_is = just_open l s within;
           earlier = before_begins l s (length l.starts) (omega arith) (h.answered well.0);
         };

@@ -141,6 +141,14 @@ setup_recredited l asked renews renewals over timed lost info started link h = r
   said = record { well = well_recredited l asked renews renewals over timed lost ∙ h.said.well; none = h.said.none };
 }
 
+-- a ledger of which one source more is known, where credentials come of sources
+abbrev pub readied : Bool → Ledger → Ledger
+readied wanted l = recredited l (if wanted then true else l.creds.asked) (if wanted then l.creds.asked else l.creds.renews) l.creds.renewals l.creds.over l.creds.timed l.creds.lost
+
+-- it is set up as it was
+pub well_readied : (wanted : Bool) (l : Ledger) → is_set_up (readied wanted l) ≡ is_set_up l
+well_readied wanted l = well_recredited l (if wanted then true else l.creds.asked) (if wanted then l.creds.asked else l.creds.renews) l.creds.renewals l.creds.over l.creds.timed l.creds.lost
+
 -- news that bring neither bytes nor credentials leave it
 abbrev pub BringsNothing : News → Type 0
 BringsNothing (came piece) = ⊥

@@ -1,6 +1,6 @@
 -- Those that are to be answered are, one after another.
 use Rattle.std.proofs.lemmas.List.{append-nil}
-use Rattle.std.proofs.Common.{Bool, ◌==◌, if◌then◌else◌, ◌+◌, append_assoc, is_some, ◌≡◌, inl, ℕ, suc, true, false, List, [], ◌∷◌, ◌++◌, length, Option, Some, refl, sym, ap, ◌∙◌, subst, arith}
+use Rattle.std.proofs.Common.{Bool, ◌==◌, if◌then◌else◌, ◌+◌, append_assoc, is_some, ◌≡◌, inl, ℕ, suc, true, false, List, [], ◌∷◌, ◌++◌, length, Option, Some, refl, sym, ap, ◌∙◌, subst, arith, ◌≢◌, ◌≤◌, None}
 use Rattle.std.specs.List.{AllByRecursion}
 use Rattle.containers.proofs.Choices.{chosen, not_both}
 use Rattle.redis_error.specs.declared.redis_error.RedisError.{RedisError}
@@ -26,12 +26,12 @@ use Rattle.mux_conn.specs.Renewals.{is_done, renewal_id, renewing, replied}
 use Rattle.mux_conn.specs.Effects.{settled_each, settled_one, failed_each}
 use Rattle.shared_session.specs.declared.core_state.Core.{Core}
 use Rattle.shared_session.specs.Turn.{shown, shown_each, source_of, sources_of, timer_of, timers_of}
-use Rattle.legal_trace.specs.Ledger.{Ledger, is_over, Heard, next_push}
+use Rattle.legal_trace.specs.Ledger.{Ledger, is_over, Heard, next_push, renewal_count}
 use Rattle.legal_trace.specs.Book.{Book, blank_book, book, entered}
 use Rattle.legal_trace.specs.Owed.{owed}
 use Rattle.legal_trace.specs.Legal.{AllStand, MayStand, MayAnswer, IsBefore, is_heard}
 use Rattle.session_laws.proofs.Numbers.{Rising, requests_in, rising_from}
-use Rattle.session_laws.proofs.Tied.{Inner, link_in, TiedLife, Tied, Sound, waiting_ids, has_ended}
+use Rattle.session_laws.proofs.Tied.{Inner, link_in, TiedLife, Tied, Sound, waiting_ids, has_ended, TiedRenewal}
 use Rattle.session_laws.proofs.Entered.{book_more, quiet_sources, quiet_timers, sound_more, shown_more, sources_more, timers_more}
 use Rattle.session_laws.proofs.Names.{open_within, name_with, length_with, with_then}
 use Rattle.session_laws.proofs.InLine.{line_of, IsInLine, open_in_line, first_is_least}
@@ -244,6 +244,58 @@ IsDueError owes name was e q = was q.number ≡ true → owes (name q.number) �
 abbrev pub replied_each : Renewal → List Settled → Renewal
 replied_each r [] = r
 replied_each r (s ∷ ss) = replied_each (if s.id == renewal_id then replied r (is_done s.verdict) else r) ss
+
+-- neither the time nor whether they come of sources
+pub replied_keeps : (r : Renewal) (ss : List Settled) → ((replied_each r ss).within ≡ r.within) × ((replied_each r ss).wanted ≡ r.wanted)
+replied_keeps r [] = (refl, refl)
+replied_keeps r (s ∷ ss) =
+    let next = if s.id == renewal_id then replied r (is_done s.verdict) else r in
+    let rest = replied_keeps next ss in
+    let one : (next.within ≡ r.within) × (next.wanted ≡ r.wanted) = chosen (λ (x : Renewal). (x.within ≡ r.within) × (x.wanted ≡ r.wanted)) (s.id == renewal_id) (replied r (is_done s.verdict)) r (λ t. (refl, refl)) (λ f. (refl, refl)) in
+    (rest.0 ∙ one.0, rest.1 ∙ one.1)
+
+-- a session is tied with other new credentials where its link is
+pub renewal_tied : (b : Book) (t : Inner) (r : Renewal) → r.within ≡ t.renewal.within → r.wanted ≡ t.renewal.wanted → TiedRenewal (b.link t.link) r t.life → Tied b t → Tied b (record t { renewal = r })
+renewal_tied b t r within wanted tied h = record {
+  numbers = record {
+    turns = h.numbers.turns;
+    links = h.numbers.links;
+    timers = h.numbers.timers;
+    sources = h.numbers.sources;
+    uses = h.numbers.uses;
+    aims = h.numbers.aims;
+    timed = h.numbers.timed;
+    submissions = h.numbers.submissions;
+    timeout = h.numbers.timeout;
+    shut = h.numbers.shut;
+    within = h.numbers.within ∙ sym within;
+    few = h.numbers.few;
+    settings = record { size_is = h.numbers.settings.size_is; bound_is = h.numbers.settings.bound_is; limit_is = h.numbers.settings.limit_is; some = h.numbers.settings.some; limited = h.numbers.settings.limited };
+    one = h.numbers.one;
+    only = h.numbers.only;
+  };
+  others = h.others;
+  pushes = h.pushes;
+  life = h.life;
+  creds = record { wanted_is = h.creds.wanted_is ∙ sym wanted; sought = h.creds.sought };
+  count = h.count;
+  renewal = tied;
+  setup = h.setup;
+  link = h.link;
+  names = h.names;
+  story = h.story;
+  tries = h.tries;
+  lines = h.lines;
+  told = h.told;
+  waits = h.waits;
+  permits = h.permits;
+  late = h.late;
+}
+
+-- on a link that has ended it is so with any
+pub renewal_over : (b : Book) (t : Inner) (r : Renewal) (e : RedisError) → r.within ≡ t.renewal.within → r.wanted ≡ t.renewal.wanted → t.life ≡ Ended e → Tied b t → Tied b (record t { renewal = r })
+renewal_over b t r e within wanted over h =
+    renewal_tied b t r within wanted (subst (TiedRenewal (b.link t.link) r) (sym over) (subst (λ o. (o ≢ None) → renewal_count (b.link t.link).starts ≤ (b.link t.link).creds.timed) (sym within) (subst (TiedRenewal (b.link t.link) t.renewal) over h.renewal))) h
 
 -- an answer to a request leaves them
 pub answered_renewal : (w : Work) (p : ℕ) (o : Outcome) → (answered w p o).conn.renewal ≡ w.conn.renewal
