@@ -380,7 +380,24 @@ sources_hear l turn unrenewed = chosen (λ (x : Ledger). sources_asked_in x.cred
 sources_hear l turn (late k) = chosen (λ (x : Ledger). sources_asked_in x.creds ≡ sources_asked_in l.creds) (l.up && is_renewal_open l k) (lost_by l) l (λ t. refl) (λ f. refl)
 sources_hear l turn shut = refl
 
--- nor for a second one
+-- nor for a timer
+pub timed_hear : (l : Ledger) (turn : ℕ) (n : News) → (noted l (hears turn n)).creds.timed ≡ l.creds.timed
+timed_hear l turn silence = refl
+timed_hear l turn overdue = refl
+timed_hear l turn connected = chosen (λ (x : Ledger). x.creds.timed ≡ l.creds.timed) (is_over l) l (record l { up = true }) (λ t. refl) (λ f. refl)
+timed_hear l turn (refused f) = chosen (λ (x : Ledger). x.creds.timed ≡ l.creds.timed) (dials l) (refused_in l turn (error.Io f)) l (λ t. refl) (λ d. refl)
+timed_hear l turn (took count) = chosen (λ (x : Ledger). x.creds.timed ≡ l.creds.timed) l.up _ l (λ t. refl) (λ f. refl)
+timed_hear l turn (came piece) = chosen (λ (x : Ledger). x.creds.timed ≡ l.creds.timed) l.up (bytes_came l piece) l (λ t. refl) (λ f. refl)
+timed_hear l turn (failed f) = refl
+timed_hear l turn (authorized c) = chosen (λ (x : Ledger). x.creds.timed ≡ l.creds.timed) (awaits_credentials l) (authorized_by l c) l (λ t. refl) (λ f. refl)
+timed_hear l turn (denied text) = refl
+timed_hear l turn deserted = refl
+timed_hear l turn (renewed c) = chosen (λ (x : Ledger). x.creds.timed ≡ l.creds.timed) (may_renew l) (renewed_by l c) l (λ t. refl) (λ f. refl)
+timed_hear l turn unrenewed = chosen (λ (x : Ledger). x.creds.timed ≡ l.creds.timed) l.up (unrenewed_by l) l (λ t. refl) (λ f. refl)
+timed_hear l turn (late k) = chosen (λ (x : Ledger). x.creds.timed ≡ l.creds.timed) (l.up && is_renewal_open l k) (lost_by l) l (λ t. refl) (λ f. refl)
+timed_hear l turn shut = refl
+
+-- nor for a second source
 pub renews_hear : (l : Ledger) (turn : ℕ) (n : News) → (noted l (hears turn n)).creds.renews ≡ l.creds.renews
 renews_hear l turn silence = refl
 renews_hear l turn overdue = refl

@@ -346,6 +346,17 @@ makes_ready before c started word kind n info link untold h good k is other earl
 pub made_conn : (w : Work) (link : LinkState) → (made_ready w link).conn ≡ (with_link (all_fresh w) link).conn
 made_conn w link = chosen (λ (x : Work). x.conn ≡ (with_link (all_fresh w) link).conn) w.conn.renewal.wanted (acted (acted (with_link (all_fresh w) link) (act.Created None)) act.NeedCreds) (acted (with_link (all_fresh w) link) (act.Created None)) (λ t. refl) (λ f. refl)
 
+-- but for what it shows
+pub made_is : (w : Work) (link : LinkState) → made_ready w link ≡ record { conn = (with_link (all_fresh w) link).conn; acts = (made_ready w link).acts }
+made_is w link = by_wanted w.conn.renewal.wanted
+  where
+    v : Work
+    v = acted (with_link (all_fresh w) link) (act.Created None)
+
+    by_wanted : (b : Bool) → (if b then acted v act.NeedCreds else v) ≡ record { conn = v.conn; acts = (if b then acted v act.NeedCreds else v).acts }
+    by_wanted true = refl
+    by_wanted false = refl
+
 -- so the event has had its effect, where the link need not end
 pub ready_applied : (front : List Action) (f : Core) (conn : MultiplexedConnection) (link : LinkState) (l : Ledger) (started : List ℕ) → f.turns ≢ 0 → conn.moved ≡ [] → IsFit conn.size conn.boundary link → ending l ≡ None
     → IsShownReady front f (made_ready (record { conn = conn; acts = [] }) link) l [] started → HasApplied front (with_work (record { core = f; acts = [] }) (made_ready (record { conn = conn; acts = [] }) link)) started

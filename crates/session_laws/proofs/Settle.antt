@@ -302,7 +302,7 @@ pub answered_renewal : (w : Work) (p : ℕ) (o : Outcome) → (answered w p o).c
 answered_renewal w p o = chosen (λ (x : Work). x.conn.renewal ≡ w.conn.renewal) (is_open_at w.conn.requests p) _ w (λ t. refl) (λ f. refl)
 
 -- also where they come to these
-answered_renewing : (w : Work) (p : ℕ) (o : Outcome) (r : Renewal) → answered (renewing w r) p o ≡ renewing (answered w p o) r
+pub answered_renewing : (w : Work) (p : ℕ) (o : Outcome) (r : Renewal) → answered (renewing w r) p o ≡ renewing (answered w p o) r
 answered_renewing w p o r = by_open (is_open_at w.conn.requests p)
   where
     done : Work

@@ -33,7 +33,7 @@ use Rattle.legal_trace.specs.Owed.{owed, owed_to_message, owed_to_try, owed_unst
 use Rattle.legal_trace.specs.Legal.{IsBefore, IsOpen, MayPush, MayPushBy}
 use Rattle.session_laws.proofs.Numbers.{IsIn, Rising, in_either, in_left, in_right, requests_in, request_of}
 use Rattle.session_laws.proofs.Tied.{Inner, Tied, has_ended, link_in, owner_of, queue_ids}
-use Rattle.session_laws.proofs.Said.{ready_shown, sources_asked}
+use Rattle.session_laws.proofs.Said.{ready_shown, sources_asked, readied}
 use Rattle.session_laws.proofs.Names.{length_with, name_with, open_within, with_then}
 use Rattle.session_laws.proofs.InLine.{IsInLine, awaited_in, kept_ids, kept_in, line_of, wanted_in}
 use Rattle.session_laws.proofs.Owes.{lives, open_request, row_link, stands_started, wanted_entry}
@@ -178,6 +178,11 @@ late_now l now told name requests push p is named d =
 pub record IsHeard (l : Ledger) (h : Heard) : Type 0 where
   pub kind_is : is_disconnection h.info.kind ≡ false
   pub within : h.after ≤ length l.dealt
+
+-- also where one source more is known
+pub heard_readied : (more : Bool) (l : Ledger) (hs : List Heard) → AllByRecursion (IsHeard l) hs → AllByRecursion (IsHeard (readied more l)) hs
+heard_readied more l [] all = tt
+heard_readied more l (h ∷ hs) all = (record { kind_is = all.0.kind_is; within = all.0.within }, heard_readied more l hs all.1)
 
 -- a line that tells it
 tells_line : (l : Ledger) (kind : Bool) → kind ≡ false → noted l (if kind then parts else tells) ≡ retells l (l.told + 1) l.parted
