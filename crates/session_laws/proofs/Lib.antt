@@ -26,6 +26,7 @@ pub mod LetIn
 pub mod SetsUp
 pub mod Close
 pub mod Telling
+pub mod Replies
 pub mod Announce
 pub mod Heard
 pub mod Failing
