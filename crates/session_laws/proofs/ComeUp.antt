@@ -307,8 +307,8 @@ makes_ready before c started word kind n info link untold h good k is other earl
         let renews : l.creds.renews ≡ false = renews_hear (b.link mine) c.turns n ∙ once in
         let created = entered now shown in
         let uses = c.sources ++ use_after mine count ∷ [] in
-        let use = use_for created mine in
-        let use_is : use ≡ use_after mine count = ap (λ (x : Ledger). if x.creds.asked then source.Renewal mine else source.Setup mine) own ∙ second_use l.creds mine count asked renews (next ∙ h0.count ∙ sym (sources_hear (b.link mine) c.turns n)) in
+        let what = use_for created mine in
+        let what_is : what ≡ use_after mine count = ap (λ (x : Ledger). if x.creds.asked then source.Renewal mine else source.Setup mine) own ∙ second_use l.creds mine count asked renews (next ∙ h0.count ∙ sym (sources_hear (b.link mine) c.turns n)) in
         let others = others_heard b c started kind h0 good in
         let links : ℕ → Ledger = λ m. noted_each (now.link m) (if_mine (mine == m) sources) in
         let after = noted l sources in
@@ -318,8 +318,8 @@ makes_ready before c started word kind n info link untold h good k is other earl
         let counted : length uses ≡ sources_asked_in after.creds =
         length_push c.sources (use_after mine count) ∙ ap (λ m. m + 1) (h0.count ∙ sym (sources_hear (b.link mine) c.turns n) ∙ (λ i. (if asked i then 1 else 0) + (if renews i then 1 else 0))) ∙ ap (λ (x : Bool). 1 + (if x then 1 else 0)) (sym asked) in
         let tied : Tied (entered created needs) t =
-        heard_tied_by b c started word (b.created + 1) kind info (Ready link) ns [] untold links after (b.sources ++ use ∷ []) uses h0 (others_kept now mine sources others) ledger_is
-        (λ i. h0.numbers.sources i ++ use_is i ∷ []) (subst (λ m. AreUses (c.sources ++ use_after mine m ∷ []) mine) (sym next) (uses_more c.sources mine h0.numbers.uses)) counted comes in
+        heard_tied_by b c started word (b.created + 1) kind info (Ready link) ns [] untold links after (b.sources ++ what ∷ []) uses h0 (others_kept now mine sources others) ledger_is
+        (λ i. h0.numbers.sources i ++ what_is i ∷ []) (subst (λ m. AreUses (c.sources ++ use_after mine m ∷ []) mine) (sym next) (uses_more c.sources mine h0.numbers.uses)) counted comes in
         let need : MayNeed created count mine = record {
           due = ap source_due own ∙ (λ i. facts.made.up i && wanted i && (not (asked i) || (facts.made.said.well i && not (renews i))));
           next = next ∙ ap length (sym h0.numbers.sources);

@@ -157,17 +157,17 @@ connected_wants before c started word kind h good k is e wants =
     let links : ℕ → Ledger = λ m. noted_each (now.link m) (if_mine (mine == m) sources) in
     let after = noted l sources in
     let asked : links mine ≡ after = mine_noted (now.link mine) mine sources ∙ ap (λ (y : Ledger). noted y sources) own in
-    let use = use_for now mine in
+    let what = use_for now mine in
     let next = use_after mine (length c.sources) in
     let uses = c.sources ++ next ∷ [] in
     let none_asked : length c.sources ≡ 0 = h0.count ∙ (λ i. (if sought.0 i then 1 else 0) + (if sought.2 i then 1 else 0)) in
-    let use_is : use ≡ next =
+    let what_is : what ≡ next =
     ap (λ (x : Ledger). if x.creds.asked then source.Renewal mine else source.Setup mine) own ∙ left_if l.creds.asked (source.Renewal mine) (source.Setup mine) unasked ∙ ap (use_after mine) (sym none_asked) in
     let counted : length uses ≡ sources_asked_in after.creds = length_push c.sources next ∙ ap (λ m. m + 1) none_asked ∙ ap (λ (x : Bool). 1 + (if x then 1 else 0)) (sym unasked) in
     let none = none_hears l0 c.turns connected conn.renewal (λ x. x) (early_renewal l0 conn.renewal conn.life early.unready early.alive h0.renewal) in
     let t = record (seen f [] (comes_as c conn.info life ns) [] started) { sources = uses } in
-    let tied : Tied (entered now shown) t = heard_tied_by b c started word b.created kind conn.info life ns [] [] links after (b.sources ++ use ∷ []) uses h0
-    (others_kept now mine sources others) asked (λ i. h0.numbers.sources i ++ use_is i ∷ []) (uses_more c.sources mine h0.numbers.uses) counted
+    let tied : Tied (entered now shown) t = heard_tied_by b c started word b.created kind conn.info life ns [] [] links after (b.sources ++ what ∷ []) uses h0
+    (others_kept now mine sources others) asked (λ i. h0.numbers.sources i ++ what_is i ∷ []) (uses_more c.sources mine h0.numbers.uses) counted
     (record {
       starts = heard_starts l0 c.turns connected;
       lived = (u.asked, u.up, u.alive, u.unshown);
