@@ -12,13 +12,13 @@ use Rattle.legal_trace.specs.Ledger.{unwritten}
 use Rattle.legal_trace.specs.Story.{is_no_error}
 use Rattle.legal_trace.specs.Book.{Book, blank_book, book}
 use Rattle.legal_trace.specs.Steps.{configured, queue_size, permits_in, line_before, is_outside}
-use Rattle.legal_trace.specs.Legal.{MayStand, MayAnswer, MayTell, MayStart, AllStand, IsApplied, event_causes, Legal}
+use Rattle.legal_trace.specs.Legal.{MayStand, MayAnswer, MayTell, MayStart, AllStand, CanMove, IsApplied, event_causes, Legal}
 use Rattle.legal_trace.proofs.Books.{stand_front, stand_behind}
 use Rattle.legal_laws.specs.Starts.{IsStart, HasPlace, StaysWithin}
 use Rattle.legal_laws.proofs.Configured.{configured_behind}
-use Rattle.legal_trace.proofs.Moves.{starts_mean, tells_mean, starter_moves}
+use Rattle.legal_trace.proofs.Moves.{inside_has_room, starts_mean, tells_mean, starter_moves, teller_moves}
 use Rattle.legal_laws.proofs.Numbers.{mover_is_numbered}
-use Rattle.legal_laws.proofs.Seated.{IsSeated, seated_behind}
+use Rattle.legal_laws.proofs.Seated.{IsSeated, seated_behind, told_place}
 use Rattle.legal_laws.proofs.Sound.{Sound, sound_behind}
 use Rattle.legal_laws.proofs.Tales.{unstarted_gets_a_fault}
 
@@ -47,17 +47,23 @@ start_bounds config b l k n count len c may =
     subst (λ j. (length (unwritten (b.link j)) ≡ 0) ⊎ (length (unwritten (b.link j)) < boundary config)) (sym may.on_its_link)
     (subst (λ bound. (length (unwritten (b.link (b.story n).link)) ≡ 0) ⊎ (length (unwritten (b.link (b.story n).link)) < bound)) (ap (configured boundary) c) free)
 
--- whoever starts isn't outside
-pub starter_inside : (b : Book) (l k n count len : ℕ) → Sound b → IsSeated b → MayStart b l k n count len → is_outside b n ≡ false
-starter_inside b l k n count len sound seated may = elim ((starts_mean b n may.starts).3) [
-  | inl told ↦ (seated.told n (mover_is_numbered b n sound.stories (starter_moves b l k n count len may)) may.unstarted told).inside
-  | inr placed ↦ placed.1
+-- whoever makes a step and isn't outside finds fewer in line before it than the queue holds
+mover_has_room : (b : Book) (n : ℕ) → Sound b → IsSeated b → CanMove b n → is_outside b n ≡ false → line_before (permits_in b.config) b.story (b.story n).link n < queue_size b
+mover_has_room b n sound seated moves inside = elim (inside_has_room b n inside) [
+  | inl place ↦ (seated.kept n (mover_is_numbered b n sound.stories moves) moves.unstarted place).room
+  | inr room ↦ room
 ]
 
--- whoever isn't outside has a place
-has_place : (config : Config) (b : Book) (n : ℕ) → b.config ≡ Some config → is_outside b n ≡ false → HasPlace config b n
-has_place config b n c e =
-    subst (λ o. line_before (permits_in o) b.story (b.story n).link n < configured buffer_size o) c (not_le_from (queue_size b) (line_before (permits_in b.config) b.story (b.story n).link n) e)
+-- so does whoever starts
+pub starter_has_room : (b : Book) (l k n count len : ℕ) → Sound b → IsSeated b → MayStart b l k n count len → line_before (permits_in b.config) b.story (b.story n).link n < queue_size b
+starter_has_room b l k n count len sound seated may = elim ((starts_mean b n may.starts).3) [
+  | inl told ↦ (seated.kept n (mover_is_numbered b n sound.stories (starter_moves b l k n count len may)) may.unstarted (told_place (b.story n) told)).room
+  | inr placed ↦ mover_has_room b n sound seated (starter_moves b l k n count len may) placed.1
+]
+
+-- which is a place in the queue of a configuration
+in_place : (config : Config) (b : Book) (n : ℕ) → b.config ≡ Some config → line_before (permits_in b.config) b.story (b.story n).link n < queue_size b → HasPlace config b n
+in_place config b n c room = subst (λ o. line_before (permits_in o) b.story (b.story n).link n < configured buffer_size o) c room
 
 -- where the event was applied, a turn began
 pub applied_began : (b : Book) → Sound b → IsApplied b → b.turns ≢ 0
@@ -98,10 +104,10 @@ stays_within config word events trace h = record {
       let legal : Legal config word events (front ++ a ∷ more) = subst (Legal config word events) is h in
       let ready = ready_behind config word events front (a ∷ more) legal in
       let m = start_of (book front) a l n (next_may config word events front more a legal) s in
-      has_place config (book front) n (ready.configured (applied_began (book front) ready.sound m.3.begun.applied)) (starter_inside (book front) l m.0 n m.1 m.2 ready.sound ready.seated m.3);
+      in_place config (book front) n (ready.configured (applied_began (book front) ready.sound m.3.begun.applied)) (starter_has_room (book front) l m.0 n m.1 m.2 ready.sound ready.seated m.3);
   tells = λ front more n o is none good.
       let legal : Legal config word events (front ++ action.Outcome n o ∷ more) = subst (Legal config word events) is h in
       let ready = ready_behind config word events front (action.Outcome n o ∷ more) legal in
       let m = tell_of (book front) n o (next_may config word events front more (action.Outcome n o) legal) none good in
-      has_place config (book front) n (ready.configured (applied_began (book front) ready.sound m.begun.applied)) (tells_mean (book front) n m.tells).3;
+      in_place config (book front) n (ready.configured (applied_began (book front) ready.sound m.begun.applied)) (mover_has_room (book front) n ready.sound ready.seated (teller_moves (book front) n o m) (tells_mean (book front) n m.tells).3);
 }

@@ -7,14 +7,15 @@ use Rattle.driver_model.specs.declared.action.Action.{Action}
 use Rattle.driver_model.specs.declared.action.Action.TheVariants as action
 use Rattle.driver_model.specs.declared.action.Cause.TheVariants as cause
 use Rattle.driver_model.specs.declared.action.Owner.TheVariants as owner
+use Rattle.driver_model.specs.declared.action.Purpose.{Purpose}
 use Rattle.driver_model.specs.declared.config.Config.{Config}
 use Rattle.driver_model.specs.declared.event.Event.{Event}
 use Rattle.driver_model.specs.declared.outcome.Outcome.{Outcome}
 use Rattle.driver_model.specs.declared.push_info.PushInfo.{PushInfo}
 use Rattle.driver_model.specs.declared.outcome.Outcome.TheVariants as outcome
-use Rattle.legal_trace.specs.Ledger.{Ledger, End, Ending, by_shutdown, by_fault, by_opening, begins, offers, sources, ends, failure_of, failure_in, is_set_up, setup_due}
+use Rattle.legal_trace.specs.Ledger.{Ledger, End, Ending, by_shutdown, by_fault, by_opening, begins, offers, sources, ends, failure_of, failure_in, is_set_up, setup_due, times}
 use Rattle.legal_trace.specs.Story.{Try, bytes_of, last_of}
-use Rattle.legal_trace.specs.Book.{Book, blank_book, book, entered, entered_each, lines_of, message_of}
+use Rattle.legal_trace.specs.Book.{Book, blank_book, book, entered, entered_each, lines_of, message_of, is_renewal_of}
 use Rattle.legal_trace.specs.Owed.{owed, owed_to_try, owed_unstarted, unstarted_error}
 use Rattle.legal_trace.specs.Legal.{MayStand, MayAnswer, MayTell, MaySetUp, MayBeCreated, MayFail, MayShowCreation, AllStand, link_of, Legal}
 use Rattle.legal_trace.proofs.Books.{stand_front, stand_behind}
@@ -160,6 +161,11 @@ need_shows_none : (b : Book) (c m : ℕ) → ShowsNone b (action.NeedCreds c m)
 need_shows_none b c m = unchanged b (action.NeedCreds c m) refl refl
     (λ shown l may h q. mine_keeps (IsQuiet shown) (m == l) (b.link l) sources (λ t. record { quiet = q.quiet; tells = q.tells }) q)
 
+-- a timer
+timer_shows_none : (b : Book) (t ms : ℕ) (what : Purpose) → ShowsNone b (action.Timer t ms what)
+timer_shows_none b t ms what = unchanged b (action.Timer t ms what) refl refl
+    (λ shown l may h q. mine_keeps (IsQuiet shown) (is_renewal_of l what) (b.link l) times (λ e. record { quiet = q.quiet; tells = q.tells }) q)
+
 -- a write
 write_shows_none : (b : Book) (m : ℕ) (bytes : List ℕ) → ShowsNone b (action.Write m bytes)
 write_shows_none b m bytes = unchanged b (action.Write m bytes) refl refl
@@ -169,6 +175,11 @@ write_shows_none b m bytes = unchanged b (action.Write m bytes) refl refl
 start_shows_none : (b : Book) (m k n round count len : ℕ) → ShowsNone b (action.Start m k (owner.Try n round) count len)
 start_shows_none b m k n round count len = unchanged b (action.Start m k (owner.Try n round) count len) refl refl
     (λ shown l may h q. mine_keeps (IsQuiet shown) (m == l) (b.link l) (begins (message_of b m (owner.Try n round))) (λ t. begins_quiet shown (b.link l) (message_of b m (owner.Try n round)) refl q) q)
+
+-- new credentials
+renew_shows_none : (b : Book) (m k count len : ℕ) → ShowsNone b (action.Start m k owner.Auth count len)
+renew_shows_none b m k count len = unchanged b (action.Start m k owner.Auth count len) refl refl
+    (λ shown l may h q. mine_keeps (IsQuiet shown) (m == l) (b.link l) (begins (message_of b m owner.Auth)) (λ t. begins_quiet shown (b.link l) (message_of b m owner.Auth) refl q) q)
 
 -- a setup, which starts where none is over
 setup_shows_none : (b : Book) (m k count len : ℕ) → ShowsNone b (action.Start m k owner.Setup count len)
@@ -191,16 +202,19 @@ step_told b shown (action.Created e) may h told =
 step_told b shown (action.Turn k (cause.Opening config word)) may h told = still_told b shown (action.Turn k (cause.Opening config word)) (unchanged b (action.Turn k (cause.Opening config word)) refl refl (λ s l m h q. q)) may h told
 step_told b shown (action.Turn k (cause.Event e)) may h told = still_told b shown (action.Turn k (cause.Event e)) (turn_shows_none b k e) may h told
 step_told b shown (action.Connect m host port) may h told = still_told b shown (action.Connect m host port) (connect_shows_none b m host port) may h told
-step_told b shown (action.Timer t ms what) may h told = still_told b shown (action.Timer t ms what) (unchanged b (action.Timer t ms what) refl refl (λ s l m h q. q)) may h told
+step_told b shown (action.Timer t ms what) may h told = still_told b shown (action.Timer t ms what) (timer_shows_none b t ms what) may h told
 step_told b shown (action.Took owner.Setup l count) may h told = absurd may
+step_told b shown (action.Took owner.Auth l count) may h told = absurd may
 step_told b shown (action.Took (owner.Try n round) l count) may h told = still_told b shown (action.Took (owner.Try n round) l count) (unchanged b (action.Took (owner.Try n round) l count) refl refl (λ s j m h q. q)) may h told
 step_told b shown (action.Push m info) may h told = still_told b shown (action.Push m info) (push_shows_none b m info) may h told
 step_told b shown (action.NeedCreds c m) may h told = still_told b shown (action.NeedCreds c m) (need_shows_none b c m) may h told
 step_told b shown (action.Close m) may h told = still_told b shown (action.Close m) (close_shows_none b m) may h told
 step_told b shown (action.Write m bytes) may h told = still_told b shown (action.Write m bytes) (write_shows_none b m bytes) may h told
 step_told b shown (action.Wait owner.Setup kind) may h told = absurd may
+step_told b shown (action.Wait owner.Auth kind) may h told = absurd may
 step_told b shown (action.Wait (owner.Try n round) kind) may h told = still_told b shown (action.Wait (owner.Try n round) kind) (unchanged b (action.Wait (owner.Try n round) kind) refl refl (λ s l m h q. q)) may h told
 step_told b shown (action.Start m k owner.Setup count len) may h told = still_told b shown (action.Start m k owner.Setup count len) (setup_shows_none b m k count len) may h told
+step_told b shown (action.Start m k owner.Auth count len) may h told = still_told b shown (action.Start m k owner.Auth count len) (renew_shows_none b m k count len) may h told
 step_told b shown (action.Start m k (owner.Try n round) count len) may h told = still_told b shown (action.Start m k (owner.Try n round) count len) (start_shows_none b m k n round count len) may h told
 step_told b shown (action.Outcome n o) may h told = still_told b shown (action.Outcome n o) (unchanged b (action.Outcome n o) refl refl (λ s l m h q. q)) may h told
 

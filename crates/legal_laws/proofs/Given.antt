@@ -1,5 +1,5 @@
 -- Nothing starts on a link before the credentials for its setup have come.
-use Rattle.std.proofs.Common.{◌≡◌, ◌⊎◌, inl, inr, ℕ, ◌<◌, ◌-◌, ◌==◌, Bool, true, false, ◌&&◌, not, List, [], ◌∷◌, ◌++◌, take, Option, Some, None, slice_get, refl, sym, ap, ◌∙◌, subst, arith}
+use Rattle.std.proofs.Common.{◌≡◌, ◌⊎◌, inl, inr, ℕ, ◌<◌, ◌-◌, ◌==◌, Bool, true, false, ◌&&◌, not, if◌then◌else◌, List, [], ◌∷◌, ◌++◌, take, Option, Some, None, slice_get, refl, sym, ap, ◌∙◌, subst, arith}
 use Rattle.std.proofs.lemmas.List.{append_assoc}
 use Rattle.containers.proofs.Choices.{by_test, chosen, eq_from, not_both}
 use Rattle.redis_error.specs.declared.redis_error.RedisError.TheVariants as error
@@ -18,31 +18,37 @@ use Rattle.driver_model.specs.declared.event.Event.{Event}
 use Rattle.driver_model.specs.declared.event.EventKind.{EventKind}
 use Rattle.driver_model.specs.declared.event.EventKind.TheVariants as event
 use Rattle.driver_model.specs.declared.news.LinkFault.TheVariants as fault
-use Rattle.driver_model.specs.News.{News, silence, connected, refused, overdue, took, came, failed, authorized, denied, deserted, shut, news_of, for_link, of_timer, is_source_of}
-use Rattle.legal_trace.specs.Ledger.{Ledger, asks, hears, begins, offers, sources, ends, noted, with_news, refused_in, bytes_came, is_over, dials, lacks_credentials, awaits_credentials, authorized_by}
-use Rattle.legal_trace.specs.Book.{Book, blank_book, book, entered, info_in, wanted_in, message_of}
+use Rattle.driver_model.specs.News.{News, silence, connected, refused, overdue, took, came, failed, authorized, denied, deserted, renewed, unrenewed, late, shut, news_of, for_link, of_timer, of_source, is_source_of, renews}
+use Rattle.legal_trace.specs.Ledger.{Ledger, asks, hears, begins, offers, sources, ends, noted, with_news, refused_in, bytes_came, is_over, dials, lacks_credentials, awaits_credentials, authorized_by, times, may_renew, renewed_by, unrenewed_by, is_renewal_open, lost_by}
+use Rattle.legal_trace.specs.Book.{Book, blank_book, book, entered, info_in, wanted_in, message_of, use_for, is_renewal_of}
 use Rattle.legal_trace.specs.Legal.{MayStand, AllStand, Legal}
 use Rattle.legal_trace.proofs.Books.{Grows, book_more, of_each_front, stand_front}
 use Rattle.legal_trace.proofs.Ledgers.{mine_keeps, hears_past}
 use Rattle.legal_trace.proofs.Moves.{ready_is_set, ready_is_up}
 use Rattle.legal_trace.proofs.Plain.{item_behind}
+use Rattle.legal_trace.proofs.Renewals.{renewal_is_up}
 use Rattle.legal_trace.proofs.Setups.{due_is_up, set_is_given}
 use Rattle.legal_laws.specs.Sources.{StartsNoneLacking, StartsOn, IsAskedFor, IsAuthorized, StartsAuthorized}
 use Rattle.legal_laws.proofs.Bounds.{ready_behind, next_may}
 use Rattle.legal_laws.proofs.Held.{starts_ready}
 use Rattle.legal_laws.proofs.Numbers.{up_is_asked, up_is_numbered}
 use Rattle.legal_laws.proofs.Pushed.{push_keeps}
-use Rattle.legal_laws.proofs.Shaped.{due_is_given}
+use Rattle.legal_laws.proofs.Shaped.{due_is_given, renewal_is_set}
 use Rattle.legal_laws.proofs.Sound.{Sound, sound_behind}
 
 -- a source of this use is for that link
 source_for : (l : ℕ) (o : Option SourceUse) → is_source_of l o ≡ true → o ≡ Some (source.Setup l)
 source_for l None e = absurd (cc e)
 source_for l (Some (source.Setup m)) e = ap (λ j. Some (source.Setup j)) (eq_from m l e)
+source_for l (Some (source.Renewal m)) e = absurd (cc e)
 
 -- a use says its link
 same_use : (l m : ℕ) → source.Setup l ≡ source.Setup m → l ≡ m
 same_use l m e = cc e
+
+-- so does one that is asked for now
+use_is_for : (b : Book) (m l : ℕ) → use_for b m ≡ source.Setup l → m ≡ l
+use_is_for b m l = chosen (λ u. u ≡ source.Setup l → m ≡ l) (b.link m).creds.asked (source.Renewal m) (source.Setup m) (λ t e. absurd (cc e)) (λ f e. same_use m l e)
 
 -- each source of a front was asked for in it
 abbrev SourcesWereAsked : List Action → Type 0
@@ -62,9 +68,9 @@ AddsSources b a = (c l : ℕ) → slice_get (entered b a).sources c ≡ Some (so
 
 -- so does each that may stand
 adds_sources : (b : Book) (a : Action) → MayStand b a → AddsSources b a
-adds_sources b (action.NeedCreds d m) may c l e = elim (item_behind b.sources (source.Setup m) (source.Setup l) c e) [
+adds_sources b (action.NeedCreds d m) may c l e = elim (item_behind b.sources (use_for b m) (source.Setup l) c e) [
   | inl before ↦ inl before
-  | inr new ↦ let same : d ≡ c = may.next ∙ sym new.0 in let mine : m ≡ l = same_use m l new.1 in inr cc
+  | inr new ↦ let same : d ≡ c = may.next ∙ sym new.0 in let mine : m ≡ l = use_is_for b m l new.1 in inr cc
 ]
 adds_sources b (action.Turn k (cause.Opening config word)) may c l e = inl e
 adds_sources b (action.Turn k (cause.Event event)) may c l e = inl e
@@ -102,16 +108,21 @@ not_of_timer : (l : ℕ) (what : Option Purpose) (c : Credentials) → of_timer 
 not_of_timer l None c e = cc e
 not_of_timer l (Some (purpose.Connect m)) c e = not_for_link (m == l) overdue c (λ x. cc x) e
 not_of_timer l (Some (purpose.Response who)) c e = cc e
+not_of_timer l (Some (purpose.Renewal m k)) c e = not_for_link (m == l) (late k) c (λ x. cc x) e
+
+-- nor what comes of a source, where it is none for its setup or its renewals
+not_of_source : (l : ℕ) (o : Option SourceUse) (first later : News) (c : Credentials) → (first ≡ authorized c → ⊥) → (later ≡ authorized c → ⊥) → of_source l o first later ≡ authorized c → ⊥
+not_of_source l o first later c one two = chosen (λ x. x ≡ authorized c → ⊥) (is_source_of l o) first (for_link (renews l o) later) (λ t. one) (λ f. not_for_link (renews l o) later c two)
 
 -- an event gives a link these credentials: it says them, of a source that was asked for, for that link
 abbrev GivesTo : List SourceUse → ℕ → EventKind → Credentials → Type 0
 GivesTo uses l kind c = (s : ℕ) × (kind ≡ event.Creds s c) × (slice_get uses s ≡ Some (source.Setup l))
 
 -- what a source says
-said_by : (l s : ℕ) (o : Option SourceUse) (given c : Credentials) → for_link (is_source_of l o) (authorized given) ≡ authorized c → (given ≡ c) × (o ≡ Some (source.Setup l))
+said_by : (l s : ℕ) (o : Option SourceUse) (given c : Credentials) → of_source l o (authorized given) (renewed given) ≡ authorized c → (given ≡ c) × (o ≡ Some (source.Setup l))
 said_by l s o given c e = by_test (is_source_of l o) ((given ≡ c) × (o ≡ Some (source.Setup l)))
-    (λ t. let same : authorized given ≡ authorized c = sym (ap (λ mine. for_link mine (authorized given)) t) ∙ e in (cc same, source_for l o t))
-    (λ f. absurd (let none : silence ≡ authorized c = sym (ap (λ mine. for_link mine (authorized given)) f) ∙ e in cc none))
+    (λ t. let same : authorized given ≡ authorized c = sym (ap (λ mine. if mine then authorized given else for_link (renews l o) (renewed given)) t) ∙ e in (cc same, source_for l o t))
+    (λ f. let none : for_link (renews l o) (renewed given) ≡ authorized c = sym (ap (λ mine. if mine then authorized given else for_link (renews l o) (renewed given)) f) ∙ e in absurd (not_for_link (renews l o) (renewed given) c (λ x. cc x) none))
 
 -- only such an event is credentials for a link
 gives_from : (timers : List Purpose) (uses : List SourceUse) (l : ℕ) (kind : EventKind) (c : Credentials) → news_of timers uses l kind ≡ authorized c → GivesTo uses l kind c
@@ -124,8 +135,8 @@ gives_from timers uses l (event.Ended m) c e = absurd (not_for_link (m == l) (fa
 gives_from timers uses l (event.ReadFault m kind) c e = absurd (not_for_link (m == l) (failed (fault.Io kind)) c (λ x. cc x) e)
 gives_from timers uses l (event.WriteFault m kind) c e = absurd (not_for_link (m == l) (failed (fault.Io kind)) c (λ x. cc x) e)
 gives_from timers uses l (event.Fired t) c e = absurd (not_of_timer l (slice_get timers t) c e)
-gives_from timers uses l (event.CredsError s text) c e = absurd (not_for_link (is_source_of l (slice_get uses s)) (denied text) c (λ x. cc x) e)
-gives_from timers uses l (event.CredsEnd s) c e = absurd (not_for_link (is_source_of l (slice_get uses s)) deserted c (λ x. cc x) e)
+gives_from timers uses l (event.CredsError s text) c e = absurd (not_of_source l (slice_get uses s) (denied text) silence c (λ x. cc x) (λ x. cc x) e)
+gives_from timers uses l (event.CredsEnd s) c e = absurd (not_of_source l (slice_get uses s) deserted unrenewed c (λ x. cc x) (λ x. cc x) e)
 gives_from timers uses l (event.Timeout ms) c e = absurd (cc e)
 gives_from timers uses l event.Shutdown c e = absurd (cc e)
 gives_from timers uses l (event.Submit s) c e = absurd (cc e)
@@ -151,6 +162,9 @@ hears_given l turn (failed f) = λ e. inl (e, refl)
 hears_given l turn (authorized c) = chosen (AreGiven l (authorized c)) (awaits_credentials l) (authorized_by l c) l (λ t e. inr (c, refl, refl)) (λ f e. inl (e, refl))
 hears_given l turn (denied text) = λ e. inl (e, refl)
 hears_given l turn deserted = λ e. inl (e, refl)
+hears_given l turn (renewed c) = chosen (AreGiven l (renewed c)) (may_renew l) (renewed_by l c) l (λ t e. inl (e, refl)) (λ f e. inl (e, refl))
+hears_given l turn unrenewed = chosen (AreGiven l unrenewed) l.up (unrenewed_by l) l (λ t e. inl (e, refl)) (λ f e. inl (e, refl))
+hears_given l turn (late k) = chosen (AreGiven l (late k)) (l.up && is_renewal_open l k) (lost_by l) l (λ t e. inl (e, refl)) (λ f e. inl (e, refl))
 hears_given l turn shut = λ e. inl (e, refl)
 
 -- an action gives link l credentials: it is the turn of such an event, and they are what is to be said then
@@ -182,7 +196,7 @@ gives_by : (b : Book) (a : Action) (l : ℕ) → GivenBy b a l
 gives_by b (action.Turn k (cause.Opening config word)) l e = inl (e, refl)
 gives_by b (action.Turn k (cause.Event event)) l e = turn_gives b k event l e
 gives_by b (action.Connect m host port) l e = inl (mine_keeps (WereGiven (b.link l)) (m == l) (b.link l) (asks (info_in b.config) (wanted_in b.config)) (λ t new. absurd (cc new)) (λ old. (old, refl)) e)
-gives_by b (action.Timer t ms what) l e = inl (e, refl)
+gives_by b (action.Timer t ms what) l e = inl (mine_keeps (WereGiven (b.link l)) (is_renewal_of l what) (b.link l) times (λ t old. (old, refl)) (λ old. (old, refl)) e)
 gives_by b (action.Took who m count) l e = inl (e, refl)
 gives_by b (action.Push m info) l e = inl (push_keeps (WereGiven (b.link l)) (m == l) info.kind (b.link l) (λ old. (old, refl)) (λ old. (old, refl)) (λ old. (old, refl)) e)
 gives_by b (action.NeedCreds c m) l e = inl (mine_keeps (WereGiven (b.link l)) (m == l) (b.link l) sources (λ t old. (old, refl)) (λ old. (old, refl)) e)
@@ -262,6 +276,9 @@ hears_wanted l turn (failed f) = refl
 hears_wanted l turn (authorized c) = chosen (λ (x : Ledger). x.creds.wanted ≡ l.creds.wanted) (awaits_credentials l) (authorized_by l c) l (λ t. refl) (λ f. refl)
 hears_wanted l turn (denied text) = refl
 hears_wanted l turn deserted = refl
+hears_wanted l turn (renewed c) = chosen (λ (x : Ledger). x.creds.wanted ≡ l.creds.wanted) (may_renew l) (renewed_by l c) l (λ t. refl) (λ f. refl)
+hears_wanted l turn unrenewed = chosen (λ (x : Ledger). x.creds.wanted ≡ l.creds.wanted) l.up (unrenewed_by l) l (λ t. refl) (λ f. refl)
+hears_wanted l turn (late k) = chosen (λ (x : Ledger). x.creds.wanted ≡ l.creds.wanted) (l.up && is_renewal_open l k) (lost_by l) l (λ t. refl) (λ f. refl)
 hears_wanted l turn shut = refl
 
 -- so does a turn
@@ -280,7 +297,7 @@ want_kept b (action.Turn k (cause.Opening config word)) may sound h l =
     λ asked. absurd (not_both (b.link l).asked unasked asked)
 want_kept b (action.Turn k (cause.Event e)) may sound h l = turn_wanted (wanted_in b.config) (b.link l) k (news_of b.timers b.sources l e.kind) (h l)
 want_kept b (action.Connect m host port) may sound h l = mine_keeps (Wants (wanted_in b.config)) (m == l) (b.link l) (asks (info_in b.config) (wanted_in b.config)) (λ t asked. refl) (h l)
-want_kept b (action.Timer t ms what) may sound h l = h l
+want_kept b (action.Timer t ms what) may sound h l = mine_keeps (Wants (wanted_in b.config)) (is_renewal_of l what) (b.link l) times (λ t. h l) (h l)
 want_kept b (action.Took who m count) may sound h l = h l
 want_kept b (action.Push m info) may sound h l = push_keeps (Wants (wanted_in b.config)) (m == l) info.kind (b.link l) (h l) (h l) (h l)
 want_kept b (action.NeedCreds c m) may sound h l = mine_keeps (Wants (wanted_in b.config)) (m == l) (b.link l) sources (λ t. h l) (h l)
@@ -306,6 +323,8 @@ want_behind front all = of_each_front WantsIn front want_grows all (λ l asked. 
 start_is_given : (b : Book) (a : Action) (l : ℕ) → MayStand b a → Sound b → StartsOn l a → ((b.link l).up ≡ true) × (lacks_credentials (b.link l) ≡ false)
 start_is_given b (action.Start m k owner.Setup count len) l may sound on = subst (λ j. ((b.link j).up ≡ true) × (lacks_credentials (b.link j) ≡ false)) on
     (due_is_up (b.link m) may.k may.due, by_test (lacks_credentials (b.link m)) (lacks_credentials (b.link m) ≡ false) (λ t. absurd (due_is_given (b.link m) may.k (sound.shaped m) may.due t)) (λ f. f))
+start_is_given b (action.Start m k owner.Auth count len) l may sound on = subst (λ j. ((b.link j).up ≡ true) × (lacks_credentials (b.link j) ≡ false)) on
+    (renewal_is_up (b.link m) may.credentials may.due, set_is_given (b.link m) (renewal_is_set (b.link m) may.credentials (sound.shaped m) may.due))
 start_is_given b (action.Start m k (owner.Try n round) count len) l may sound on =
     let ready = starts_ready b m k n count len may.1 in
     subst (λ j. ((b.link j).up ≡ true) × (lacks_credentials (b.link j) ≡ false)) on (ready_is_up (b.link m) ready, set_is_given (b.link m) (ready_is_set (b.link m) ready))

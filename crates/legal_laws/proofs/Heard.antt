@@ -1,5 +1,5 @@
 -- The pushes that a link hears stand in order among the items that are dealt.
-use Rattle.std.proofs.Common.{◌≡◌, ◌⊎◌, inl, inr, ℕ, zero, suc, ◌+◌, ◌-◌, ◌≤◌, min, true, List, [], ◌∷◌, ◌++◌, length, take, Some, refl, sym, ◌∙◌, ap, subst, arith, length-append}
+use Rattle.std.proofs.Common.{◌≡◌, ◌⊎◌, inl, inr, ℕ, zero, suc, ◌+◌, ◌-◌, ◌≤◌, min, true, ◌&&◌, List, [], ◌∷◌, ◌++◌, length, take, Some, refl, sym, ◌∙◌, ap, subst, arith, length-append}
 use Rattle.std.proofs.lemmas.List.{length-take}
 use Rattle.std.specs.Prelude.{slice_get}
 use Rattle.containers.proofs.Choices.{by_test, chosen, taken_if, left_if}
@@ -8,8 +8,8 @@ use Rattle.resp_value.specs.Data.{Data, push, list_of}
 use Rattle.resp_read.specs.Values.{values}
 use Rattle.resp_read.specs.Items.{items, items_among, is_item}
 use Rattle.driver_model.specs.declared.action.Action.{Action}
-use Rattle.driver_model.specs.News.{News, silence, connected, refused, overdue, took, came, failed, shut, authorized, denied, deserted}
-use Rattle.legal_trace.specs.Ledger.{Ledger, Heard, Line, asks, hears, begins, offers, tells, ends, parts, blank_ledger, noted, with_news, refused_in, bytes_came, items_came, value_came, heard_at, heard_each, is_over, is_set_up, dials, reach, sources, awaits_credentials, authorized_by}
+use Rattle.driver_model.specs.News.{News, silence, connected, refused, overdue, took, came, failed, shut, authorized, denied, deserted, renewed, unrenewed, late}
+use Rattle.legal_trace.specs.Ledger.{Ledger, Heard, Line, asks, hears, begins, offers, tells, ends, parts, blank_ledger, noted, with_news, refused_in, bytes_came, items_came, value_came, heard_at, heard_each, is_over, is_set_up, dials, reach, sources, awaits_credentials, authorized_by, times, may_renew, renewed_by, unrenewed_by, is_renewal_open, lost_by}
 use Rattle.legal_trace.specs.Book.{book}
 use Rattle.legal_trace.proofs.Ledgers.{each_keeps, reach_alike, FewAreDealt, few_keeps}
 use Rattle.legal_trace.proofs.Plain.{same_some}
@@ -143,6 +143,9 @@ rises_hears l turn (failed f) h = h.rise
 rises_hears l turn (authorized c) h = chosen Rises (awaits_credentials l) (authorized_by l c) l (λ t. h.rise) (λ e. h.rise)
 rises_hears l turn (denied text) h = h.rise
 rises_hears l turn deserted h = h.rise
+rises_hears l turn (renewed c) h = chosen Rises (may_renew l) (renewed_by l c) l (λ t. h.rise) (λ e. h.rise)
+rises_hears l turn unrenewed h = chosen Rises l.up (unrenewed_by l) l (λ t. h.rise) (λ e. h.rise)
+rises_hears l turn (late k) h = chosen Rises (l.up && is_renewal_open l k) (lost_by l) l (λ t. h.rise) (λ e. h.rise)
 rises_hears l turn shut h = h.rise
 
 -- and with any line
@@ -154,6 +157,7 @@ rises_keeps l (offers bytes) h = h.rise
 rises_keeps l tells h = h.rise
 rises_keeps l (ends turn) h = h.rise
 rises_keeps l sources h = h.rise
+rises_keeps l times h = h.rise
 rises_keeps l parts h = h.rise
 
 row_keeps : (l : Ledger) (x : Line) → InRow l → InRow (noted l x)
@@ -201,6 +205,9 @@ beyond_hears count l turn (failed f) h = h
 beyond_hears count l turn (authorized c) h = chosen (IsBeyond count) (awaits_credentials l) (authorized_by l c) l (λ t. record { dealt = h.dealt; waits = h.waits }) (λ e. h)
 beyond_hears count l turn (denied text) h = h
 beyond_hears count l turn deserted h = h
+beyond_hears count l turn (renewed c) h = chosen (IsBeyond count) (may_renew l) (renewed_by l c) l (λ t. record { dealt = h.dealt; waits = h.waits }) (λ e. h)
+beyond_hears count l turn unrenewed h = chosen (IsBeyond count) l.up (unrenewed_by l) l (λ t. record { dealt = h.dealt; waits = h.waits }) (λ e. h)
+beyond_hears count l turn (late k) h = chosen (IsBeyond count) (l.up && is_renewal_open l k) (lost_by l) l (λ t. record { dealt = h.dealt; waits = h.waits }) (λ e. h)
 beyond_hears count l turn shut h = h
 
 -- and with any line
@@ -212,4 +219,5 @@ beyond_keeps count l (offers bytes) h = record { dealt = h.dealt; waits = h.wait
 beyond_keeps count l tells h = record { dealt = h.dealt; waits = λ i p told at. h.waits i p (omega (arith, told)) at }
 beyond_keeps count l (ends turn) h = record { dealt = h.dealt; waits = h.waits }
 beyond_keeps count l sources h = record { dealt = h.dealt; waits = h.waits }
+beyond_keeps count l times h = record { dealt = h.dealt; waits = h.waits }
 beyond_keeps count l parts h = record { dealt = h.dealt; waits = h.waits }

@@ -1,5 +1,5 @@
 -- What is done stays done while messages start, are written and wait.
-use Rattle.std.proofs.Common.{◌≡◌, ◌≢◌, ℕ, ◌==◌, true, false, List, [], ◌∷◌, ◌++◌, Option, Some, None, refl, sym, ◌∙◌, ap, subst}
+use Rattle.std.proofs.Common.{◌≡◌, ◌≢◌, ℕ, ◌==◌, true, false, List, [], ◌∷◌, ◌++◌, Option, Some, None, refl, sym, ◌∙◌, ap, subst, ◌≤◌, ◌&&◌, ◌||◌, not}
 use Rattle.containers.proofs.Choices.{chosen, eq_from, eq_test, if_true, not_both}
 use Rattle.driver_model.specs.declared.action.Action.{Action}
 use Rattle.driver_model.specs.declared.action.Action.TheVariants as action
@@ -8,15 +8,19 @@ use Rattle.driver_model.specs.declared.action.Owner.TheVariants as owner
 use Rattle.driver_model.specs.declared.action.Purpose.{Purpose}
 use Rattle.driver_model.specs.declared.action.WaitKind.{WaitKind}
 use Rattle.driver_model.specs.declared.outcome.Outcome.{Outcome}
-use Rattle.legal_trace.specs.Ledger.{Ledger, Line, Start, begins, offers, noted_each, is_of_setup, is_set_up, is_ready, is_cut, setup_due, source_due, ending, failure_in, next_push}
+use Rattle.legal_trace.specs.Ledger.{Ledger, Line, Start, begins, offers, noted_each, is_of_setup, is_set_up, is_ready, is_cut, setup_due, source_due, ending, failure_in, next_push, renewals_asked, times, renewal_due}
 use Rattle.legal_trace.specs.Story.{Story, Try, is_open, is_unstarted, shape, holds, clocked, tried, waits, answered}
 use Rattle.legal_trace.specs.Steps.{is_due, is_held_back, permits_in, permits_on, permits_held, is_in_line, line_before, next_step}
+use Rattle.legal_trace.specs.Steps.{waits as shows}
 use Rattle.legal_trace.specs.Owed.{owed_to_message, owed_to_try}
-use Rattle.legal_trace.specs.Book.{Book, entered, if_mine, message_of, is_clock_of}
-use Rattle.legal_trace.specs.Legal.{MayTell, MayStart, MaySetUp, link_of, NoneIsOwed, IsApplied, IsBegun, IsMoved, IsWritten}
+use Rattle.legal_trace.specs.Book.{Book, entered, if_mine, message_of, is_clock_of, is_renewal_of}
+use Rattle.legal_trace.specs.Legal.{MayTell, MayStart, MaySetUp, link_of, NoneIsOwed, IsApplied, IsBegun, IsMoved, IsWritten, MayRenew, MayWait}
 use Rattle.legal_trace.proofs.Ledgers.{mine_keeps}
-use Rattle.legal_trace.proofs.Setups.{set_begins, ends_where_set, begun_undecided, setup_stays}
-use Rattle.legal_trace.proofs.Moves.{mover_is_up, mover_is_ready, ready_is_up, ready_is_set, starter_moves, step_of, line_alike, permits_alike}
+use Rattle.legal_trace.proofs.Setups.{set_begins, ends_where_set, begun_undecided, due_is_unset, setup_stays}
+use Rattle.legal_trace.proofs.Renewals.{renewal_is_up}
+use Rattle.legal_laws.proofs.Shaped.{renewal_is_set}
+use Rattle.credentials.specs.Credentials.{Credentials}
+use Rattle.legal_trace.proofs.Moves.{shown_alike, up_and_set, mover_is_up, mover_is_ready, ready_is_up, ready_is_set, starter_moves, step_of, line_alike, permits_alike}
 use Rattle.legal_laws.proofs.Tales.{open_has_none, last_behind}
 use Rattle.legal_laws.proofs.Owes.{owed_story, owed_again, owed_by_last, begins_keeps, new_is_owed_nothing}
 use Rattle.legal_trace.proofs.Plain.{not_empty}
@@ -70,6 +74,14 @@ ready_begins l s request ready none =
     let set : is_set_up l ≡ true = ready_is_set l ready in
     ends_where_set (record l { starts = l.starts ++ s ∷ [] }) (ready_is_up l ready) (set_begins l s request set) ∙ (sym (ends_where_set l (ready_is_up l ready) set) ∙ none)
 
+-- where a message leaves it as it is whether a link is set up, no further source is to be asked for
+source_begins : (l : Ledger) (s : Start) → is_set_up (record l { starts = l.starts ++ s ∷ [] }) ≡ is_set_up l → source_due l ≡ false → source_due (record l { starts = l.starts ++ s ∷ [] }) ≡ false
+source_begins l s same none = ap (λ set. l.up && l.creds.wanted && (not l.creds.asked || (set && not l.creds.renews))) same ∙ none
+
+-- so where one starts on a link that is set up
+set_sources : (l : Ledger) (s : Start) → is_of_setup s.owner ≡ false → is_set_up l ≡ true → source_due l ≡ false → source_due (record l { starts = l.starts ++ s ∷ [] }) ≡ false
+set_sources l s other set none = source_begins l s (set_begins l s other set ∙ sym set) none
+
 -- where a fault ended a link, this was told
 abbrev IsToldOver : Ledger → Type 0
 IsToldOver l = is_cut l.end ≡ true → l.parted ≡ true
@@ -87,9 +99,32 @@ start_applied b l k m round count len may h = record {
   };
   pushed = λ j heard. mine_keeps (λ x. next_push x ≡ None) (l == j) (b.link j) (begins (message_of b l (owner.Try m round))) (λ t. may.begun.applied.pushed j heard) (may.begun.applied.pushed j heard);
   parted = λ j heard. mine_keeps IsToldOver (l == j) (b.link j) (begins (message_of b l (owner.Try m round))) (λ t. may.begun.applied.parted j heard) (may.begun.applied.parted j heard);
-  sourced = λ j. mine_keeps (λ x. source_due x ≡ false) (l == j) (b.link j) (begins (message_of b l (owner.Try m round))) (λ t. may.begun.applied.sourced j) (may.begun.applied.sourced j);
+  sourced = λ j. mine_keeps (λ x. source_due x ≡ false) (l == j) (b.link j) (begins (message_of b l (owner.Try m round)))
+      (λ t. set_sources (b.link j) (message_of b l (owner.Try m round)) refl (ready_is_set (b.link j) (subst (λ i. is_ready (b.link i) ≡ true) (eq_from l j t) (starts_ready b l k m count len may))) (may.begun.applied.sourced j)) (may.begun.applied.sourced j);
   timed = may.begun.applied.timed;
 }
+
+-- new credentials that are told leave it so
+pub renew_applied : (b : Book) (l k count len : ℕ) → MayRenew b l k count len → Sound b → IsApplied (entered b (action.Start l k owner.Auth count len))
+renew_applied b l k count len may h =
+    let set : is_set_up (b.link l) ≡ true = renewal_is_set (b.link l) may.credentials (h.shaped l) may.due in
+    let ready : is_ready (b.link l) ≡ true = up_and_set (b.link l) (renewal_is_up (b.link l) may.credentials may.due) set in
+    let s : Start = message_of b l owner.Auth in
+    record {
+      answered = λ n o. others_owed b l k owner.Auth count len h n (may.applied.answered n o);
+      ended = λ j. mine_keeps (λ x. ending x ≡ None) (l == j) (b.link j) (begins s)
+          (λ t. ready_begins (b.link j) s refl (subst (λ i. is_ready (b.link i) ≡ true) (eq_from l j t) ready) (may.applied.ended j)) (may.applied.ended j);
+      created = record {
+        asked = may.applied.created.asked;
+        shown = λ j. mine_keeps (λ (x : Ledger). is_ready x ≡ true → b.created ≢ 0) (l == j) (b.link j) (begins s) (λ t other. may.applied.created.shown l ready) (may.applied.created.shown j);
+        failed = λ j e. mine_keeps (λ (x : Ledger). failure_in x.end ≡ Some e → b.created ≢ 0) (l == j) (b.link j) (begins s) (λ t. may.applied.created.failed j e) (may.applied.created.failed j e);
+      };
+      pushed = λ j heard. mine_keeps (λ x. next_push x ≡ None) (l == j) (b.link j) (begins s) (λ t. may.applied.pushed j heard) (may.applied.pushed j heard);
+      parted = λ j heard. mine_keeps IsToldOver (l == j) (b.link j) (begins s) (λ t. may.applied.parted j heard) (may.applied.parted j heard);
+      sourced = λ j. mine_keeps (λ x. source_due x ≡ false) (l == j) (b.link j) (begins s)
+          (λ t. set_sources (b.link j) s refl (ready_is_set (b.link j) (subst (λ i. is_ready (b.link i) ≡ true) (eq_from l j t) ready)) (may.applied.sourced j)) (may.applied.sourced j);
+      timed = may.applied.timed;
+    }
 
 -- a setup leaves the event applied
 pub setup_applied : (b : Book) (l k count len : ℕ) → MaySetUp b l k count len → Sound b → IsApplied (entered b (action.Start l k owner.Setup count len))
@@ -106,7 +141,9 @@ setup_applied b l k count len may h = record {
   };
   pushed = λ j heard. mine_keeps (λ x. next_push x ≡ None) (l == j) (b.link j) (begins (message_of b l owner.Setup)) (λ t. may.applied.pushed j heard) (may.applied.pushed j heard);
   parted = λ j heard. mine_keeps IsToldOver (l == j) (b.link j) (begins (message_of b l owner.Setup)) (λ t. may.applied.parted j heard) (may.applied.parted j heard);
-  sourced = λ j. mine_keeps (λ x. source_due x ≡ false) (l == j) (b.link j) (begins (message_of b l owner.Setup)) (λ t. may.applied.sourced j) (may.applied.sourced j);
+  sourced = λ j. mine_keeps (λ x. source_due x ≡ false) (l == j) (b.link j) (begins (message_of b l owner.Setup))
+      (λ t. subst (λ i. source_due (record (b.link i) { starts = (b.link i).starts ++ message_of b l owner.Setup ∷ [] }) ≡ false) (eq_from l j t)
+      (source_begins (b.link l) (message_of b l owner.Setup) ((begun_undecided (b.link l) (message_of b l owner.Setup) may.k refl may.due (h.few l)).unwell ∙ sym (due_is_unset (b.link l) may.k may.due)) (may.applied.sourced l))) (may.applied.sourced j);
   timed = may.applied.timed;
 }
 
@@ -148,11 +185,13 @@ write_applied b l bytes done = record {
   timed = done.timed;
 }
 
--- setups stay started
+-- setups stay started, and so do new credentials
 write_begun : (b : Book) (l : ℕ) (bytes : List ℕ) → IsBegun b → IsBegun (entered b (action.Write l bytes))
 write_begun b l bytes done = record {
   applied = write_applied b l bytes done.applied;
   setups = λ j k. mine_keeps (λ x. setup_due x ≡ Some k → is_held_back b x ≡ true) (l == j) (b.link j) (offers bytes) (λ t. done.setups j k) (done.setups j k);
+  timed = λ j set. mine_keeps (λ (x : Ledger). renewals_asked x ≤ x.creds.timed) (l == j) (b.link j) (offers bytes) (λ t. done.timed j set) (done.timed j set);
+  renewed = λ j c. mine_keeps (λ x. renewal_due x ≡ Some c → is_held_back b x ≡ true) (l == j) (b.link j) (offers bytes) (λ t. done.renewed j c) (done.renewed j c);
 }
 
 -- a write leaves each submission its next step
@@ -180,17 +219,29 @@ take_applied b m round l count done = record {
   timed = done.timed;
 }
 
+-- a timer for new credentials is nothing to what is owed
+times_owed : (b : Book) (t ms : ℕ) (what : Purpose) (n : ℕ) → owed_story b (b.story n) ≡ None → owed_story (entered b (action.Timer t ms what)) (b.story n) ≡ None
+times_owed b t ms what n none = owed_again b (entered b (action.Timer t ms what)) (b.story n) (
+  λ e. mine_keeps (λ (x : Ledger). x.end ≡ None) (is_renewal_of (b.story n).link what) (b.link (b.story n).link) times (λ u. e) e,
+  λ u last e. mine_keeps (λ x. owed_to_message x u.message (shape (b.story n)) ≡ None) (is_renewal_of u.link what) (b.link u.link) times (λ mine. e) e,
+)
+    none
+
 -- and a timer
 pub ask_applied : (b : Book) (t ms : ℕ) (what : Purpose) → IsApplied b → IsApplied (entered b (action.Timer t ms what))
 ask_applied b t ms what done = record {
   answered = λ n. chosen (λ (s : Story). is_open s ≡ true → owed_story (entered b (action.Timer t ms what)) s ≡ None) (is_clock_of n (Some what)) (clocked (b.story n) t) (b.story n)
-      (λ e o. owed_again b (entered b (action.Timer t ms what)) (b.story n) (λ x. x, λ u last x. x) (done.answered n o))
-      (λ f o. owed_again b (entered b (action.Timer t ms what)) (b.story n) (λ x. x, λ u last x. x) (done.answered n o));
-  ended = done.ended;
-  created = record { asked = done.created.asked; shown = done.created.shown; failed = done.created.failed };
-  pushed = done.pushed;
-  parted = done.parted;
-  sourced = done.sourced;
+      (λ e o. times_owed b t ms what n (done.answered n o))
+      (λ f o. times_owed b t ms what n (done.answered n o));
+  ended = λ j. mine_keeps (λ x. ending x ≡ None) (is_renewal_of j what) (b.link j) times (λ t. done.ended j) (done.ended j);
+  created = record {
+    asked = done.created.asked;
+    shown = λ j. mine_keeps (λ (x : Ledger). is_ready x ≡ true → b.created ≢ 0) (is_renewal_of j what) (b.link j) times (λ t. done.created.shown j) (done.created.shown j);
+    failed = λ j e. mine_keeps (λ (x : Ledger). failure_in x.end ≡ Some e → b.created ≢ 0) (is_renewal_of j what) (b.link j) times (λ t. done.created.failed j e) (done.created.failed j e);
+  };
+  pushed = λ j heard. mine_keeps (λ x. next_push x ≡ None) (is_renewal_of j what) (b.link j) times (λ t. done.pushed j heard) (done.pushed j heard);
+  parted = λ j heard. mine_keeps IsToldOver (is_renewal_of j what) (b.link j) times (λ t. done.parted j heard) (done.parted j heard);
+  sourced = λ j. mine_keeps (λ x. source_due x ≡ false) (is_renewal_of j what) (b.link j) times (λ t. done.sourced j) (done.sourced j);
   timed = λ config word opens bounded none. not_empty b.timers what none;
 }
 
@@ -217,28 +268,33 @@ wait_permits : (b : Book) (m round : ℕ) (kind : WaitKind) (l k : ℕ) → perm
 wait_permits b m round kind l k = chosen (λ s. permits_on l s ≡ permits_on l (b.story k)) (m == k) (waits (b.story k) kind) (b.story k) (λ t. refl) (λ f. refl)
 
 -- and its next step
-wait_step : (b : Book) (m round : ℕ) (kind : WaitKind) (n : ℕ) → next_step (entered b (action.Wait (owner.Try m round) kind)) n ≡ next_step b n
-wait_step b m round kind n =
+wait_step : (b : Book) (m round : ℕ) (kind : WaitKind) → MayWait b m kind → (n : ℕ) → next_step (entered b (action.Wait (owner.Try m round) kind)) n ≡ next_step b n
+wait_step b m round kind may n =
     let c : Book = entered b (action.Wait (owner.Try m round) kind) in
-    let line : line_before (permits_in b.config) c.story (b.story n).link n ≡ line_before (permits_in b.config) b.story (b.story n).link n = line_alike (permits_in b.config) c.story b.story (wait_lines b m round kind) (b.story n).link n in
-    let held : permits_held c.story (b.story n).link b.submissions ≡ permits_held b.story (b.story n).link b.submissions = permits_alike c.story b.story (wait_permits b m round kind) (b.story n).link b.submissions in
-    let e : step_of b.config (b.story n) (line_before (permits_in b.config) c.story (b.story n).link n) (permits_held c.story (b.story n).link b.submissions) (link_of b n) ≡ next_step b n =
-    ap (λ x. step_of b.config (b.story n) x (permits_held c.story (b.story n).link b.submissions) (link_of b n)) line
-    ∙ ap (λ x. step_of b.config (b.story n) (line_before (permits_in b.config) b.story (b.story n).link n) x (link_of b n)) held in
-    chosen (λ s. step_of b.config s (line_before (permits_in b.config) c.story s.link n) (permits_held c.story s.link b.submissions) (b.link s.link) ≡ next_step b n) (m == n) (waits (b.story n) kind) (b.story n) (λ t. e) (λ f. e)
+    let before : ℕ = line_before (permits_in b.config) b.story (b.story n).link n in
+    let taken : ℕ = permits_held b.story (b.story n).link b.submissions in
+    let line : line_before (permits_in b.config) c.story (b.story n).link n ≡ before = line_alike (permits_in b.config) c.story b.story (wait_lines b m round kind) (b.story n).link n in
+    let held : permits_held c.story (b.story n).link b.submissions ≡ taken = permits_alike c.story b.story (wait_permits b m round kind) (b.story n).link b.submissions in
+    let same : (s : Story) → step_of b.config s (line_before (permits_in b.config) c.story (b.story n).link n) (permits_held c.story (b.story n).link b.submissions) (link_of b n) ≡ step_of b.config s before taken (link_of b n) =
+    λ s. ap (λ x. step_of b.config s x (permits_held c.story (b.story n).link b.submissions) (link_of b n)) line ∙ ap (λ x. step_of b.config s before x (link_of b n)) held in
+    chosen (λ s. step_of b.config s (line_before (permits_in b.config) c.story s.link n) (permits_held c.story s.link b.submissions) (b.link s.link) ≡ next_step b n) (m == n) (waits (b.story n) kind) (b.story n)
+    (λ t.
+    let holds : next_step b n ≡ shows kind = subst (λ i. next_step b i ≡ shows kind) (eq_from m n t) may.holds in
+    same (waits (b.story n) kind) ∙ (shown_alike b.config (b.story n) before taken (link_of b n) kind holds ∙ sym holds))
+    (λ f. same (b.story n))
 
 -- and leaves unstarted what is
 wait_unstarted : (b : Book) (m round : ℕ) (kind : WaitKind) (n : ℕ) → is_unstarted ((entered b (action.Wait (owner.Try m round) kind)).story n) ≡ is_unstarted (b.story n)
 wait_unstarted b m round kind n = chosen (λ s. is_unstarted s ≡ is_unstarted (b.story n)) (m == n) (waits (b.story n) kind) (b.story n) (λ t. refl) (λ f. refl)
 
 -- so all stays written behind a wait
-pub wait_written : (b : Book) (m round : ℕ) (kind : WaitKind) → IsWritten b → IsWritten (entered b (action.Wait (owner.Try m round) kind))
-wait_written b m round kind done = record {
+pub wait_written : (b : Book) (m round : ℕ) (kind : WaitKind) → MayWait b m kind → IsWritten b → IsWritten (entered b (action.Wait (owner.Try m round) kind))
+wait_written b m round kind may done = record {
   moved = record {
-    begun = record { applied = wait_applied b m round kind done.moved.begun.applied; setups = done.moved.begun.setups };
+    begun = record { applied = wait_applied b m round kind done.moved.begun.applied; setups = done.moved.begun.setups; timed = done.moved.begun.timed; renewed = done.moved.begun.renewed };
     moved = λ n p. done.moved.moved n (record {
       unstarted = sym (wait_unstarted b m round kind n) ∙ p.unstarted;
-      due = sym (ap is_due (wait_step b m round kind n)) ∙ p.due;
+      due = sym (ap is_due (wait_step b m round kind may n)) ∙ p.due;
     });
   };
   offered = done.offered;

@@ -167,6 +167,7 @@ follows b (action.Turn k (cause.Event e)) may n i = event_follows b n e.kind i
 follows b (action.Connect l host port) may n i = same_story (permits_in b.config) (b.story n)
 follows b (action.Timer t ms what) may n i = chosen (Follows (permits_in b.config) (b.story n)) (is_clock_of n (Some what)) (clocked (b.story n) t) (b.story n) (λ e. clocked_follows (permits_in b.config) (b.story n) t) (λ f. same_story (permits_in b.config) (b.story n))
 follows b (action.Took owner.Setup l count) may n i = absurd may
+follows b (action.Took owner.Auth l count) may n i = absurd may
 follows b (action.Took (owner.Try m round) l count) may n i = chosen (Follows (permits_in b.config) (b.story n)) (m == n) (holds (b.story n) count) (b.story n)
     (λ t. subst (λ j. Follows (permits_in b.config) (b.story j) (holds (b.story j) count)) (eq_from m n t) (holds_follows b m l count may.1)) (λ f. same_story (permits_in b.config) (b.story n))
 follows b (action.Push l info) may n i = same_story (permits_in b.config) (b.story n)
@@ -174,9 +175,11 @@ follows b (action.NeedCreds c l) may n i = same_story (permits_in b.config) (b.s
 follows b (action.Close l) may n i = same_story (permits_in b.config) (b.story n)
 follows b (action.Write l bytes) may n i = same_story (permits_in b.config) (b.story n)
 follows b (action.Wait owner.Setup kind) may n i = absurd may
+follows b (action.Wait owner.Auth kind) may n i = absurd may
 follows b (action.Wait (owner.Try m round) kind) may n i = chosen (Follows (permits_in b.config) (b.story n)) (m == n) (waits (b.story n) kind) (b.story n)
     (λ t. record { link = refl; unstarted = λ u. u; told = λ u e. e; stays = λ u e. e; holds = λ u e j. j }) (λ f. same_story (permits_in b.config) (b.story n))
 follows b (action.Start l k owner.Setup count len) may n i = same_story (permits_in b.config) (b.story n)
+follows b (action.Start l k owner.Auth count len) may n i = same_story (permits_in b.config) (b.story n)
 follows b (action.Start l k (owner.Try m round) count len) may n i = chosen (Follows (permits_in b.config) (b.story n)) (m == n) (tried (b.story n) l k) (b.story n) (λ t. tried_follows (permits_in b.config) (b.story n) l k) (λ f. same_story (permits_in b.config) (b.story n))
 follows b (action.Created e) may n i = same_story (permits_in b.config) (b.story n)
 follows b (action.Outcome m o) may n i = chosen (Follows (permits_in b.config) (b.story n)) (m == n) (answered (b.story n) o) (b.story n)

@@ -13,15 +13,18 @@ use Rattle.driver_model.specs.declared.event.EventKind.TheVariants as event
 use Rattle.driver_model.specs.declared.news.LinkFault.TheVariants as fault
 use Rattle.driver_model.specs.declared.action.Purpose.{Purpose}
 use Rattle.driver_model.specs.declared.action.Purpose.TheVariants as purpose
-use Rattle.driver_model.specs.News.{silence, connected, refused, overdue, took, came, failed, authorized, denied, deserted, news_of, of_timer, is_source_of}
-use Rattle.legal_trace.specs.Ledger.{Ledger, Line, asks, begins, offers, ends, is_over, IsWithin, MayNote, AllNoted, sources}
+use Rattle.driver_model.specs.declared.action.SourceUse.{SourceUse}
+use Rattle.driver_model.specs.declared.action.SourceUse.TheVariants as source
+use Rattle.driver_model.specs.News.{News, silence, connected, refused, overdue, took, came, failed, authorized, denied, deserted, renewed, unrenewed, late, news_of, of_timer, of_source}
+use Rattle.legal_trace.specs.Ledger.{Ledger, Line, asks, begins, offers, ends, is_over, IsWithin, MayNote, AllNoted, sources, times}
 use Rattle.legal_trace.specs.Story.{is_awaited, is_no_error, bytes_of}
-use Rattle.legal_trace.specs.Book.{Book, blank_book, entered, lines_of, lines_of_each, if_mine, push_line, info_in, message_of, wanted_in}
+use Rattle.legal_trace.specs.Book.{Book, blank_book, entered, lines_of, lines_of_each, if_mine, push_line, info_in, message_of, wanted_in, is_renewal_of}
 use Rattle.legal_trace.specs.Events.{is_bad_event, is_no_link}
-use Rattle.legal_trace.specs.Legal.{MayStand, MayStart, AllStand, Legal}
+use Rattle.legal_trace.specs.Legal.{MayStand, MayStart, AllStand, Legal, MayTimer}
 use Rattle.legal_laws.specs.Links.{LinksAreLegal, TakesInOrder, lines_for}
 use Rattle.legal_trace.proofs.Ledgers.{may_append}
 use Rattle.legal_trace.proofs.Setups.{due_is_up, due_has_bytes}
+use Rattle.legal_trace.proofs.Renewals.{renewal_is_up, renewal_has_bytes}
 use Rattle.legal_trace.proofs.Moves.{has_no_tries, open_or_told, mover_is_up, starter_moves}
 use Rattle.legal_laws.proofs.Streams.{takes_in_order}
 use Rattle.legal_laws.proofs.Sound.{Sound, stays_sound, blank_is_sound}
@@ -49,6 +52,13 @@ of_timer_within : (l : Ledger) (n : ℕ) (what : Option Purpose) → IsWithin l 
 of_timer_within l n None = tt
 of_timer_within l n (Some (purpose.Connect m)) = chosen (IsWithin l) (m == n) overdue silence (λ t. tt) (λ f. tt)
 of_timer_within l n (Some (purpose.Response who)) = tt
+of_timer_within l n (Some (purpose.Renewal m k)) = chosen (IsWithin l) (m == n) (late k) silence (λ t. tt) (λ f. tt)
+
+-- nor does what comes of a source
+of_source_within : (l : Ledger) (n : ℕ) (what : Option SourceUse) (first later : News) → IsWithin l first → IsWithin l later → IsWithin l (of_source n what first later)
+of_source_within l n None first later one two = tt
+of_source_within l n (Some (source.Setup m)) first later one two = chosen (IsWithin l) (m == n) first silence (λ t. one) (λ f. tt)
+of_source_within l n (Some (source.Renewal m)) first later one two = chosen (IsWithin l) (m == n) later silence (λ t. two) (λ f. tt)
 
 -- an event that isn't bad is within what was offered
 within : (b : Book) (l : ℕ) (kind : EventKind) → is_bad_event b kind ≡ false → Sound b → IsWithin (b.link l) (news_of b.timers b.sources l kind)
@@ -66,9 +76,9 @@ within b l (event.ReadFault m kind) good h = chosen (IsWithin (b.link l)) (m == 
 within b l (event.WriteFault m kind) good h = chosen (IsWithin (b.link l)) (m == l) (failed (fault.Io kind)) silence (λ t. tt) (λ f. tt)
 within b l event.Shutdown good h = tt
 within b l (event.Timeout ms) good h = tt
-within b l (event.Creds c auth) good h = chosen (IsWithin (b.link l)) (is_source_of l (slice_get b.sources c)) (authorized auth) silence (λ t. tt) (λ f. tt)
-within b l (event.CredsError c text) good h = chosen (IsWithin (b.link l)) (is_source_of l (slice_get b.sources c)) (denied text) silence (λ t. tt) (λ f. tt)
-within b l (event.CredsEnd c) good h = chosen (IsWithin (b.link l)) (is_source_of l (slice_get b.sources c)) deserted silence (λ t. tt) (λ f. tt)
+within b l (event.Creds c auth) good h = of_source_within (b.link l) l (slice_get b.sources c) (authorized auth) (renewed auth) tt tt
+within b l (event.CredsError c text) good h = of_source_within (b.link l) l (slice_get b.sources c) (denied text) silence tt tt
+within b l (event.CredsEnd c) good h = of_source_within (b.link l) l (slice_get b.sources c) deserted unrenewed tt tt
 within b l (event.Submit what) good h = tt
 within b l (event.Cancel n) good h = tt
 
@@ -83,23 +93,34 @@ starts_with_bytes b l k n count len may h = elim (open_or_told (b.story n) may.u
 connects_new : (b : Book) (l m : ℕ) → m ≡ b.links → Sound b → (m == l) ≡ true → (b.link l).asked ≡ false
 connects_new b l m next h t = let e : m ≡ l = eq_from m l t in (h.links.unasked l (omega arith)).0
 
+-- a timer of new credentials is asked for where one is to be
+timer_may : (b : Book) (l t ms : ℕ) (what : Purpose) → MayTimer b t ms what → is_renewal_of l what ≡ true → MayNote (b.link l) times
+timer_may b l t ms what (inl may) e = absurd (let x : false ≡ true = sym (ap (is_renewal_of l) may.is_for) ∙ e in cc x)
+timer_may b l t ms what (inr (inl may)) e = absurd (let x : false ≡ true = sym (ap (is_renewal_of l) may.is_for) ∙ e in cc x)
+timer_may b l t ms what (inr (inr may)) e = subst (λ j. MayNote (b.link j) times) (eq_from may.l l (sym (ap (is_renewal_of l) may.is_for) ∙ e)) may.asked
+
 -- what an action that may stand tells of a link may stand there
 pub lines_may : (b : Book) (l : ℕ) (a : Action) → MayStand b a → Sound b → AllNoted (b.link l) (lines_of b l a)
 lines_may b l (action.Turn k (cause.Opening config word)) may h = tt
 lines_may b l (action.Turn k (cause.Event e)) may h = (within b l e.kind may.is_for.2 h, tt)
 lines_may b l (action.Connect m host port) may h = may_mine (m == l) (b.link l) (asks (info_in b.config) (wanted_in b.config)) (connects_new b l m may.next h)
-lines_may b l (action.Timer t ms what) may h = tt
+lines_may b l (action.Timer t ms what) may h = may_mine (is_renewal_of l what) (b.link l) times (timer_may b l t ms what may)
 lines_may b l (action.Took owner.Setup m count) may h = absurd may
+lines_may b l (action.Took owner.Auth m count) may h = absurd may
 lines_may b l (action.Took (owner.Try n round) m count) may h = tt
 lines_may b l (action.Push m info) may h = may_mine (m == l) (b.link l) (push_line info.kind) (λ t. subst (λ j. MayNote (b.link j) (push_line info.kind)) (eq_from m l t) (push_may b m info may))
 lines_may b l (action.NeedCreds c m) may h = may_mine (m == l) (b.link l) sources (λ t. subst (λ j. MayNote (b.link j) sources) (eq_from m l t) may.due)
 lines_may b l (action.Close m) may h = may_mine (m == l) (b.link l) (ends (b.turns - 1)) (λ t. subst (λ j. MayNote (b.link j) (ends (b.turns - 1))) (eq_from m l t) (may.why, may.ends))
 lines_may b l (action.Write m bytes) may h = may_mine (m == l) (b.link l) (offers bytes) (λ t. subst (λ j. MayNote (b.link j) (offers bytes)) (eq_from m l t) (may.up, may.answered, may.all, may.some))
 lines_may b l (action.Wait owner.Setup kind) may h = absurd may
+lines_may b l (action.Wait owner.Auth kind) may h = absurd may
 lines_may b l (action.Wait (owner.Try n round) kind) may h = tt
 lines_may b l (action.Start m k owner.Setup count len) may h =
     may_mine (m == l) (b.link l) (begins (message_of b m owner.Setup))
     (λ t. (subst (λ j. (b.link j).up ≡ true) (eq_from m l t) (due_is_up (b.link m) may.k may.due), due_has_bytes (b.link m) may.k may.due))
+lines_may b l (action.Start m k owner.Auth count len) may h =
+    may_mine (m == l) (b.link l) (begins (message_of b m owner.Auth))
+    (λ t. (subst (λ j. (b.link j).up ≡ true) (eq_from m l t) (renewal_is_up (b.link m) may.credentials may.due), renewal_has_bytes (b.link m) may.credentials may.due))
 lines_may b l (action.Start m k (owner.Try n round) count len) may h =
     may_mine (m == l) (b.link l) (begins (message_of b m (owner.Try n round)))
     (λ t. (subst (λ j. (b.link j).up ≡ true) (sym may.1.on_its_link ∙ eq_from m l t) (mover_is_up b n (starter_moves b m k n count len may.1)), starts_with_bytes b m k n count len may.1 h))

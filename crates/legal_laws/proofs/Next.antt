@@ -19,14 +19,15 @@ use Rattle.driver_model.specs.declared.outcome.Outcome.TheVariants as outcome
 use Rattle.resp_value.specs.declared.value.Value.TheVariants.{Nil}
 use Rattle.resp_value.specs.declared.push_kind.PushKind.{PushKind}
 use Rattle.resp_value.specs.declared.push_kind.PushKind.TheVariants.{Disconnection}
+use Rattle.credentials.specs.Credentials.{Credentials}
 use Rattle.driver_model.specs.Push.{is_disconnection}
 use Rattle.driver_model.specs.declared.push_info.PushInfo.{PushInfo}
-use Rattle.legal_trace.specs.Ledger.{Heard, IsOffered, is_over, is_cut, unwritten, ending, failure_in, next_push, setup_due, setup_message, source_due}
+use Rattle.legal_trace.specs.Ledger.{Heard, IsOffered, is_over, is_cut, unwritten, ending, failure_in, next_push, setup_due, setup_message, source_due, renewal_due, renewal_message, renewals_asked}
 use Rattle.legal_trace.specs.Story.{shape, bytes_of}
 use Rattle.legal_trace.specs.Owed.{owed}
 use Rattle.legal_trace.specs.Book.{Book, book}
 use Rattle.legal_trace.specs.Steps.{Step, waits, takes, asks, tells, starts, nothing, is_held_back, next_step}
-use Rattle.legal_trace.specs.Legal.{MayStand, MayConnect, MayTimeConnect, MayTime, MayTake, MayTimer, MayNeed, MayTellPush, MayPart, MayPushBy, MayClose, MayBeCreated, MayFail, MayShowCreation, MayAnswer, MayTell, MayStart, MaySetUp, MayWrite, MayWait, IsOpen, IsWaiting, link_of, CanMove}
+use Rattle.legal_trace.specs.Legal.{MayStand, MayConnect, MayTimeConnect, MayTime, MayTake, MayTimer, MayNeed, MayTellPush, MayPart, MayPushBy, MayClose, MayBeCreated, MayFail, MayShowCreation, MayAnswer, MayTell, MayStart, MaySetUp, MayWrite, MayWait, IsOpen, IsWaiting, link_of, CanMove, MayTimeRenewal, MayRenew}
 use Rattle.legal_laws.specs.Next.{BothAnnounce, OneIsNext, OneIsNextBehind}
 use Rattle.legal_trace.proofs.Moves.{teller_moves, starter_moves, taker_moves, asker_moves, same_kind}
 use Rattle.legal_laws.proofs.Ranks.{answer_rank, creation_rank, push_rank, rank, same_rank, outcome_rank, timer_rank, not_offered, not_shown}
@@ -163,6 +164,40 @@ one_setup b l m message other count need len size h k =
     let same : h.k ≡ k.k = same_some h.k k.k (sym h.due ∙ (ap (λ j. setup_due (b.link j)) e ∙ k.due)) in
     setup_is b l message count len h ∙ (ap (λ j. setup_on b j h.k) e ∙ (ap (setup_on b m) same ∙ sym (setup_is b m other need size k)))
 
+-- new credentials are known by their link
+abbrev pub renewal_on : Book → ℕ → Credentials → Action
+renewal_on b l c = action.Start l (length (b.link l).starts) owner.Auth (need_of (renewal_message c).shape) (length (renewal_message c).bytes)
+
+-- they are that
+renewal_is : (b : Book) (l message count len : ℕ) (may : MayRenew b l message count len) → action.Start l message owner.Auth count len ≡ renewal_on b l may.credentials
+renewal_is b l message count len may =
+    ap (λ x. action.Start l x owner.Auth count len) may.next
+    ∙ (ap (λ x. action.Start l (length (b.link l).starts) owner.Auth x len) may.needs_its_items
+    ∙ ap (λ x. action.Start l (length (b.link l).starts) owner.Auth (need_of (renewal_message may.credentials).shape) x) may.long_as_its_bytes)
+
+-- some are to be told on that link, which isn't held back
+abbrev pub IsRenewing : Book → ℕ → Type 0
+IsRenewing b l = (c : Credentials) × (renewal_due (b.link l) ≡ Some c) × (is_held_back b (b.link l) ≡ false)
+
+-- two that are told are one
+one_renewal : (b : Book) (l m message other count need len size : ℕ) → MayRenew b l message count len → MayRenew b m other need size → action.Start l message owner.Auth count len ≡ action.Start m other owner.Auth need size
+one_renewal b l m message other count need len size h k =
+    let e : l ≡ m = least_is_one (IsRenewing b) l m (h.credentials, h.due, h.free) (k.credentials, k.due, k.free)
+    (λ j i w. not_both (is_held_back b (b.link j)) w.2 (h.in_order j w.0 i w.1)) (λ j i w. not_both (is_held_back b (b.link j)) w.2 (k.in_order j w.0 i w.1)) in
+    let same : h.credentials ≡ k.credentials = same_some h.credentials k.credentials (sym h.due ∙ (ap (λ j. renewal_due (b.link j)) e ∙ k.due)) in
+    renewal_is b l message count len h ∙ (ap (λ j. renewal_on b j h.credentials) e ∙ (ap (renewal_on b m) same ∙ sym (renewal_is b m other need size k)))
+
+-- two timers of new credentials are one
+one_renewal_timer : (b : Book) (t u ms time : ℕ) (what other : Purpose) → MayTimeRenewal b t ms what → MayTimeRenewal b u time other → action.Timer t ms what ≡ action.Timer u time other
+one_renewal_timer b t u ms time what other h k =
+    let e : h.l ≡ k.l = least_is_one (λ j. (b.link j).creds.timed < renewals_asked (b.link j)) h.l k.l h.asked k.asked
+    (λ j i w. let all : renewals_asked (b.link j) ≤ (b.link j).creds.timed = h.in_order j i in omega (arith, all, w))
+    (λ j i w. let all : renewals_asked (b.link j) ≤ (b.link j).creds.timed = k.in_order j i in omega (arith, all, w)) in
+    let i : t ≡ u = h.next ∙ sym k.next in
+    let m : ms ≡ time = same_some ms time (sym h.within ∙ k.within) in
+    let w : what ≡ other = h.is_for ∙ (ap (λ j. purpose.Renewal j (b.link j).creds.timed) e ∙ sym k.is_for) in
+    cc (i, m, w)
+
 -- two closes are one
 one_close : (b : Book) (l m : ℕ) → MayClose b l → MayClose b m → action.Close l ≡ action.Close m
 one_close b l m h k =
@@ -257,10 +292,12 @@ OfRank (suc (suc (suc (suc (suc zero))))) b y = (e : RedisError) × (y ≡ actio
 OfRank (suc (suc (suc (suc (suc (suc zero)))))) b y = (l : ℕ) × (info : PushInfo) × (y ≡ action.Push l info) × (is_disconnection info.kind ≡ true) × MayPart b l info
 OfRank (suc (suc (suc (suc (suc (suc (suc zero))))))) b y = IsAnswering b true y
 OfRank (suc (suc (suc (suc (suc (suc (suc (suc zero)))))))) b y = (l : ℕ) × (k : ℕ) × (count : ℕ) × (len : ℕ) × (y ≡ action.Start l k owner.Setup count len) × MaySetUp b l k count len
-OfRank (suc (suc (suc (suc (suc (suc (suc (suc (suc zero))))))))) b y = IsMoving b y
-OfRank (suc (suc (suc (suc (suc (suc (suc (suc (suc (suc zero)))))))))) b y = (l : ℕ) × (bytes : List ℕ) × (y ≡ action.Write l bytes) × MayWrite b l bytes
-OfRank (suc (suc (suc (suc (suc (suc (suc (suc (suc (suc (suc zero))))))))))) b y = (n : ℕ) × (kind : WaitKind) × (y ≡ action.Wait (owner.Try n 0) kind) × MayWait b n kind
-OfRank (suc (suc (suc (suc (suc (suc (suc (suc (suc (suc (suc (suc more)))))))))))) b y = (k : ℕ) × (e : Event) × (y ≡ action.Turn k (cause.Event e)) × (k ≡ b.turns)
+OfRank (suc (suc (suc (suc (suc (suc (suc (suc (suc zero))))))))) b y = (t : ℕ) × (ms : ℕ) × (what : Purpose) × (y ≡ action.Timer t ms what) × MayTimeRenewal b t ms what
+OfRank (suc (suc (suc (suc (suc (suc (suc (suc (suc (suc zero)))))))))) b y = (l : ℕ) × (k : ℕ) × (count : ℕ) × (len : ℕ) × (y ≡ action.Start l k owner.Auth count len) × MayRenew b l k count len
+OfRank (suc (suc (suc (suc (suc (suc (suc (suc (suc (suc (suc zero))))))))))) b y = IsMoving b y
+OfRank (suc (suc (suc (suc (suc (suc (suc (suc (suc (suc (suc (suc zero)))))))))))) b y = (l : ℕ) × (bytes : List ℕ) × (y ≡ action.Write l bytes) × MayWrite b l bytes
+OfRank (suc (suc (suc (suc (suc (suc (suc (suc (suc (suc (suc (suc (suc zero))))))))))))) b y = (n : ℕ) × (kind : WaitKind) × (y ≡ action.Wait (owner.Try n 0) kind) × MayWait b n kind
+OfRank (suc (suc (suc (suc (suc (suc (suc (suc (suc (suc (suc (suc (suc (suc more)))))))))))))) b y = (k : ℕ) × (e : Event) × (y ≡ action.Turn k (cause.Event e)) × (k ≡ b.turns)
 
 -- an outcome that is owed is of its rank
 answer_of_rank : (b : Book) (n : ℕ) (o : Outcome) (over : Bool) → is_over (link_of b n) ≡ over → MayAnswer b n o → OfRank (answer_rank over) b (action.Outcome n o)
@@ -285,7 +322,8 @@ push_of_rank b l info true e may = (l, info, refl, e, may)
 -- and a timer
 timer_of_rank : (b : Book) (t ms : ℕ) (what : Purpose) (may : MayTimer b t ms what) → OfRank (timer_rank b t ms what may) b (action.Timer t ms what)
 timer_of_rank b t ms what (inl may) = (t, ms, what, refl, may)
-timer_of_rank b t ms what (inr may) = ask_moving b t ms what may
+timer_of_rank b t ms what (inr (inl may)) = ask_moving b t ms what may
+timer_of_rank b t ms what (inr (inr may)) = (t, ms, what, refl, may)
 
 -- each action that may stand is of its rank
 pub of_rank : (b : Book) (y : Action) (may : MayStand b y) → OfRank (rank b y may) b y
@@ -293,6 +331,7 @@ of_rank b (action.Turn k (cause.Opening config word)) may = (k, config, word, re
 of_rank b (action.Connect l host port) may = (l, host, port, refl, may)
 of_rank b (action.Timer t ms what) may = timer_of_rank b t ms what may
 of_rank b (action.Took owner.Setup l count) may = absurd may
+of_rank b (action.Took owner.Auth l count) may = absurd may
 of_rank b (action.Took (owner.Try n round) l count) may = subst (λ r. IsMoving b (action.Took (owner.Try n r) l count)) (sym may.0) (take_moving b n l count may.1)
 of_rank b (action.Outcome n o) may = outcome_of_rank b n o may
 of_rank b (action.Push l info) may = push_of_rank b l info (is_disconnection info.kind) refl may
@@ -300,9 +339,11 @@ of_rank b (action.NeedCreds c l) may = inr (inr (inr (c, l, refl, may)))
 of_rank b (action.Close l) may = (l, refl, may)
 of_rank b (action.Created e) may = creation_of_rank b e may
 of_rank b (action.Start l k owner.Setup count len) may = (l, k, count, len, refl, may)
+of_rank b (action.Start l k owner.Auth count len) may = (l, k, count, len, refl, may)
 of_rank b (action.Start l k (owner.Try n round) count len) may = subst (λ r. IsMoving b (action.Start l k (owner.Try n r) count len)) (sym may.0) (start_moving b l k n count len may.1)
 of_rank b (action.Write l bytes) may = (l, bytes, refl, may)
 of_rank b (action.Wait owner.Setup kind) may = absurd may
+of_rank b (action.Wait owner.Auth kind) may = absurd may
 of_rank b (action.Wait (owner.Try n round) kind) may = (n, kind, ap (λ r. action.Wait (owner.Try n r) kind) may.0, may.1)
 of_rank b (action.Turn k (cause.Event e)) may = (k, e, refl, may.next)
 
@@ -391,7 +432,8 @@ beside_creation b (Some e) y p q = inl (ap (λ x. action.Created (Some x)) (one_
 -- beside a timer
 beside_timer : (b : Book) (t ms : ℕ) (what : Purpose) (y : Action) (p : MayTimer b t ms what) → OfRank (timer_rank b t ms what p) b y → AreOne (action.Timer t ms what) y
 beside_timer b t ms what y (inl p) q = inl (one_timer b t q.0 ms q.1 what q.2 p q.4 ∙ sym q.3)
-beside_timer b t ms what y (inr p) q = inl (one_moving b (action.Timer t ms what) y (ask_moving b t ms what p) q)
+beside_timer b t ms what y (inr (inl p)) q = inl (one_moving b (action.Timer t ms what) y (ask_moving b t ms what p) q)
+beside_timer b t ms what y (inr (inr p)) q = inl (one_renewal_timer b t q.0 ms q.1 what q.2 p q.4 ∙ sym q.3)
 
 -- beside each
 pub beside : (b : Book) (x y : Action) (p : MayStand b x) → Sound b → OfRank (rank b x p) b y → AreOne x y
@@ -399,6 +441,7 @@ beside b (action.Turn j (cause.Opening config word)) y p h q = subst (AreOne (ac
 beside b (action.Connect l host port) y p h q = inl (one_connect b l q.0 host q.1 port q.2 p q.4 ∙ sym q.3)
 beside b (action.Timer t ms what) y p h q = beside_timer b t ms what y p q
 beside b (action.Took owner.Setup l count) y p h q = absurd p
+beside b (action.Took owner.Auth l count) y p h q = absurd p
 beside b (action.Took (owner.Try n round) l count) y p h q = subst (λ r. AreOne (action.Took (owner.Try n r) l count) y) (sym p.0) (inl (one_moving b (action.Took (owner.Try n 0) l count) y (take_moving b n l count p.1) q))
 beside b (action.Outcome n o) y p h q = beside_outcome b n o y p h q
 beside b (action.Push l info) y p h q = beside_push b l info y (is_disconnection info.kind) h refl p q
@@ -406,9 +449,11 @@ beside b (action.NeedCreds c l) y p h q = beside_need b c l y p q
 beside b (action.Close l) y p h q = inl (one_close b l q.0 p q.2 ∙ sym q.1)
 beside b (action.Created e) y p h q = beside_creation b e y p q
 beside b (action.Start l k owner.Setup count len) y p h q = inl (one_setup b l q.0 k q.1 count q.2 len q.3 p q.5 ∙ sym q.4)
+beside b (action.Start l k owner.Auth count len) y p h q = inl (one_renewal b l q.0 k q.1 count q.2 len q.3 p q.5 ∙ sym q.4)
 beside b (action.Start l k (owner.Try n round) count len) y p h q = subst (λ r. AreOne (action.Start l k (owner.Try n r) count len) y) (sym p.0) (inl (one_moving b (action.Start l k (owner.Try n 0) count len) y (start_moving b l k n count len p.1) q))
 beside b (action.Write l bytes) y p h q = inl (one_write b l q.0 bytes q.1 p q.3 ∙ sym q.2)
 beside b (action.Wait owner.Setup kind) y p h q = absurd p
+beside b (action.Wait owner.Auth kind) y p h q = absurd p
 beside b (action.Wait (owner.Try n round) kind) y p h q = subst (λ r. AreOne (action.Wait (owner.Try n r) kind) y) (sym p.0) (inl (one_wait b n q.0 kind q.1 p.1 q.3 ∙ sym q.2))
 beside b (action.Turn j (cause.Event e)) y p h q = subst (AreOne (action.Turn j (cause.Event e))) (sym q.2) (inr (p.next ∙ sym q.3, tt))
 

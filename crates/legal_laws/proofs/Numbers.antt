@@ -11,11 +11,13 @@ use Rattle.driver_model.specs.declared.event.EventKind.TheVariants as event
 use Rattle.driver_model.specs.declared.news.LinkFault.TheVariants as fault
 use Rattle.driver_model.specs.declared.action.Purpose.{Purpose}
 use Rattle.driver_model.specs.declared.action.Purpose.TheVariants as purpose
-use Rattle.driver_model.specs.News.{News, silence, connected, refused, overdue, took, came, failed, authorized, denied, deserted, news_of, for_link, of_timer, is_source_of}
+use Rattle.driver_model.specs.declared.action.SourceUse.{SourceUse}
+use Rattle.driver_model.specs.declared.action.SourceUse.TheVariants as source
+use Rattle.driver_model.specs.News.{News, silence, connected, refused, overdue, took, came, failed, authorized, denied, deserted, renewed, unrenewed, late, news_of, for_link, of_timer, of_source}
 use Rattle.driver_model.specs.declared.outcome.Outcome.{Outcome}
-use Rattle.legal_trace.specs.Ledger.{Ledger, End, asks, begins, offers, ends, is_over, ending, ending_alive, ending_asked, noted_each, sources}
+use Rattle.legal_trace.specs.Ledger.{Ledger, End, asks, begins, offers, ends, is_over, ending, ending_alive, ending_asked, noted_each, sources, times}
 use Rattle.legal_trace.specs.Story.{Story, blank_story, is_open, is_told, handed_in, left, holds, clocked, fires, tried, waits, answered}
-use Rattle.legal_trace.specs.Book.{Book, entered, lines_of, if_mine, info_in, message_of, current, is_clock_of, after_event, submitted_by, is_unspoken, wanted_in}
+use Rattle.legal_trace.specs.Book.{Book, entered, lines_of, if_mine, info_in, message_of, current, is_clock_of, after_event, submitted_by, is_unspoken, wanted_in, is_renewal_of}
 use Rattle.legal_trace.specs.Events.{is_bad_event}
 use Rattle.legal_trace.specs.Legal.{MayAnswer, MayTell, MayTimer, MayStand, IsOpen, CanMove}
 use Rattle.legal_trace.proofs.Ledgers.{each_keeps, mine_keeps, IsAsked, asked_keeps, IsUnasked, unasked_hears}
@@ -42,6 +44,13 @@ not_of_timer : (l : ℕ) (what : Option Purpose) → of_timer l what ≡ connect
 not_of_timer l None e = cc e
 not_of_timer l (Some (purpose.Connect m)) e = not_for_link (m == l) overdue (λ x. cc x) e
 not_of_timer l (Some (purpose.Response who)) e = cc e
+not_of_timer l (Some (purpose.Renewal m k)) e = not_for_link (m == l) (late k) (λ x. cc x) e
+
+-- nor is what comes of a source
+not_of_source : (l : ℕ) (what : Option SourceUse) (first later : News) → (first ≡ connected → ⊥) → (later ≡ connected → ⊥) → of_source l what first later ≡ connected → ⊥
+not_of_source l None first later one two e = cc e
+not_of_source l (Some (source.Setup m)) first later one two e = not_for_link (m == l) first one e
+not_of_source l (Some (source.Renewal m)) first later one two e = not_for_link (m == l) later two e
 
 -- the connect of a link that was not asked for can't succeed
 not_connected : (b : Book) (l : ℕ) (kind : EventKind) → b.links ≤ l → is_bad_event b kind ≡ false → news_of b.timers b.sources l kind ≡ connected → ⊥
@@ -59,9 +68,9 @@ not_connected b l (event.ReadFault m kind) i good e = not_for_link (m == l) (fai
 not_connected b l (event.WriteFault m kind) i good e = not_for_link (m == l) (failed (fault.Io kind)) (λ x. cc x) e
 not_connected b l event.Shutdown i good e = cc e
 not_connected b l (event.Timeout ms) i good e = cc e
-not_connected b l (event.Creds c auth) i good e = not_for_link (is_source_of l (slice_get b.sources c)) (authorized auth) (λ x. cc x) e
-not_connected b l (event.CredsError c text) i good e = not_for_link (is_source_of l (slice_get b.sources c)) (denied text) (λ x. cc x) e
-not_connected b l (event.CredsEnd c) i good e = not_for_link (is_source_of l (slice_get b.sources c)) deserted (λ x. cc x) e
+not_connected b l (event.Creds c auth) i good e = not_of_source l (slice_get b.sources c) (authorized auth) (renewed auth) (λ x. cc x) (λ x. cc x) e
+not_connected b l (event.CredsError c text) i good e = not_of_source l (slice_get b.sources c) (denied text) silence (λ x. cc x) (λ x. cc x) e
+not_connected b l (event.CredsEnd c) i good e = not_of_source l (slice_get b.sources c) deserted unrenewed (λ x. cc x) (λ x. cc x) e
 not_connected b l (event.Submit s) i good e = cc e
 not_connected b l (event.Cancel s) i good e = cc e
 
@@ -77,7 +86,7 @@ unasked_kept b l (action.Connect m host port) may i h =
     let e : m ≡ b.links = may.next in
     let other : (m == l) ≡ false = ne_test m l (omega arith) in
     mine_keeps IsUnasked (m == l) (b.link l) (asks (info_in b.config) (wanted_in b.config)) (λ t. absurd (not_both (m == l) other t)) h
-unasked_kept b l (action.Timer t ms what) may i h = h
+unasked_kept b l (action.Timer t ms what) may i h = mine_keeps IsUnasked (is_renewal_of l what) (b.link l) times (λ t. h) h
 unasked_kept b l (action.Took who m count) may i h = h
 unasked_kept b l (action.Push m info) may i h = push_keeps IsUnasked (m == l) info.kind (b.link l) h h h
 unasked_kept b l (action.NeedCreds c m) may i h = mine_keeps IsUnasked (m == l) (b.link l) sources (λ t. h) h
@@ -121,14 +130,17 @@ asked_kept b l (action.Connect m host port) may h i =
     (λ f. let other : m ≢ l = ne_from m l f in mine_keeps IsAsked (m == l) (b.link l) (asks (info_in b.config) (wanted_in b.config)) (λ t. refl) (h.asked l (omega arith)))
 asked_kept b l (action.Timer t ms what) may h i = asked_stays b l (action.Timer t ms what) (h.asked l i)
 asked_kept b l (action.Took owner.Setup m count) may h i = absurd may
+asked_kept b l (action.Took owner.Auth m count) may h i = absurd may
 asked_kept b l (action.Took (owner.Try n round) m count) may h i = asked_stays b l (action.Took (owner.Try n round) m count) (h.asked l i)
 asked_kept b l (action.Push m info) may h i = asked_stays b l (action.Push m info) (h.asked l i)
 asked_kept b l (action.NeedCreds c m) may h i = asked_stays b l (action.NeedCreds c m) (h.asked l i)
 asked_kept b l (action.Close m) may h i = asked_stays b l (action.Close m) (h.asked l i)
 asked_kept b l (action.Write m bytes) may h i = asked_stays b l (action.Write m bytes) (h.asked l i)
 asked_kept b l (action.Wait owner.Setup kind) may h i = absurd may
+asked_kept b l (action.Wait owner.Auth kind) may h i = absurd may
 asked_kept b l (action.Wait (owner.Try n round) kind) may h i = asked_stays b l (action.Wait (owner.Try n round) kind) (h.asked l i)
 asked_kept b l (action.Start m k owner.Setup count len) may h i = asked_stays b l (action.Start m k owner.Setup count len) (h.asked l i)
+asked_kept b l (action.Start m k owner.Auth count len) may h i = asked_stays b l (action.Start m k owner.Auth count len) (h.asked l i)
 asked_kept b l (action.Start m k (owner.Try n round) count len) may h i = asked_stays b l (action.Start m k (owner.Try n round) count len) (h.asked l i)
 asked_kept b l (action.Created e) may h i = asked_stays b l (action.Created e) (h.asked l i)
 asked_kept b l (action.Outcome n o) may h i = asked_stays b l (action.Outcome n o) (h.asked l i)
@@ -191,7 +203,8 @@ fires_blank s e = ap fires e
 -- nor is one that is asked for
 timer_leaves_blank : (b : Book) (t ms : ℕ) (what : Purpose) (n : ℕ) → MayTimer b t ms what → HasStories b → b.submissions ≤ n → (if is_clock_of n (Some what) then clocked (b.story n) t else b.story n) ≡ blank_story
 timer_leaves_blank b t ms what n (inl may) h i = ap (λ x. if is_clock_of n (Some x) then clocked (b.story n) t else b.story n) may.is_for ∙ h n i
-timer_leaves_blank b t ms what n (inr may) h i = ap (λ x. if is_clock_of n (Some x) then clocked (b.story n) t else b.story n) may.is_for ∙ others_blank b may.n n (clocked (b.story n) t) h i (mover_is_numbered b may.n h (asker_moves b t ms what may))
+timer_leaves_blank b t ms what n (inr (inr may)) h i = ap (λ x. if is_clock_of n (Some x) then clocked (b.story n) t else b.story n) may.is_for ∙ h n i
+timer_leaves_blank b t ms what n (inr (inl may)) h i = ap (λ x. if is_clock_of n (Some x) then clocked (b.story n) t else b.story n) may.is_for ∙ others_blank b may.n n (clocked (b.story n) t) h i (mover_is_numbered b may.n h (asker_moves b t ms what may))
 
 -- an event that isn't bad is nothing to a submission that was not handed in
 event_leaves_blank : (b : Book) (n : ℕ) (kind : EventKind) → is_bad_event b kind ≡ false → HasStories b → b.submissions + submitted_by kind ≤ n → after_event b n kind ≡ blank_story
@@ -224,14 +237,17 @@ stories_kept b (action.Turn k (cause.Event e)) may h n i = event_leaves_blank b 
 stories_kept b (action.Connect l host port) may h n i = h n i
 stories_kept b (action.Timer t ms what) may h n i = timer_leaves_blank b t ms what n may h i
 stories_kept b (action.Took owner.Setup l count) may h n i = absurd may
+stories_kept b (action.Took owner.Auth l count) may h n i = absurd may
 stories_kept b (action.Took (owner.Try m round) l count) may h n i = others_blank b m n (holds (b.story n) count) h i (mover_is_numbered b m h (taker_moves b m l count may.1))
 stories_kept b (action.Push l info) may h n i = h n i
 stories_kept b (action.NeedCreds c l) may h n i = h n i
 stories_kept b (action.Close l) may h n i = h n i
 stories_kept b (action.Write l bytes) may h n i = h n i
 stories_kept b (action.Wait owner.Setup kind) may h n i = absurd may
+stories_kept b (action.Wait owner.Auth kind) may h n i = absurd may
 stories_kept b (action.Wait (owner.Try m round) kind) may h n i = others_blank b m n (waits (b.story n) kind) h i (open_is_numbered b m h may.1.asked)
 stories_kept b (action.Start l k owner.Setup count len) may h n i = h n i
+stories_kept b (action.Start l k owner.Auth count len) may h n i = h n i
 stories_kept b (action.Start l k (owner.Try m round) count len) may h n i = others_blank b m n (tried (b.story n) l k) h i (mover_is_numbered b m h (starter_moves b l k m count len may.1))
 stories_kept b (action.Created e) may h n i = h n i
 stories_kept b (action.Outcome m o) may h n i = others_blank b m n (answered (b.story n) o) h i (outcome_is_numbered b m o h may)

@@ -8,8 +8,8 @@ use Rattle.driver_model.specs.declared.action.Cause.TheVariants as cause
 use Rattle.driver_model.specs.declared.action.Owner.TheVariants as owner
 use Rattle.driver_model.specs.declared.config.Config.{Config}
 use Rattle.driver_model.specs.News.{News, silence}
-use Rattle.legal_trace.specs.Ledger.{Ledger, Ending, asks, begins, offers, is_over, ending, ending_alive, ending_asked, sources}
-use Rattle.legal_trace.specs.Book.{Book, entered, info_in, message_of, wanted_in}
+use Rattle.legal_trace.specs.Ledger.{Ledger, Ending, asks, begins, offers, is_over, ending, ending_alive, ending_asked, sources, times}
+use Rattle.legal_trace.specs.Book.{Book, entered, info_in, message_of, wanted_in, is_renewal_of}
 use Rattle.legal_trace.specs.Legal.{MayStand}
 use Rattle.legal_trace.proofs.Ledgers.{mine_keeps}
 use Rattle.legal_trace.proofs.Plain.{not_none}
@@ -61,14 +61,17 @@ opening_kept b (action.Connect l host port) may h = record {
 }
 opening_kept b (action.Timer t ms what) may h = h
 opening_kept b (action.Took owner.Setup l count) may h = absurd may
+opening_kept b (action.Took owner.Auth l count) may h = absurd may
 opening_kept b (action.Took (owner.Try n round) l count) may h = h
 opening_kept b (action.Push l info) may h = h
 opening_kept b (action.NeedCreds c l) may h = h
 opening_kept b (action.Close l) may h = h
 opening_kept b (action.Write l bytes) may h = h
 opening_kept b (action.Wait owner.Setup kind) may h = absurd may
+opening_kept b (action.Wait owner.Auth kind) may h = absurd may
 opening_kept b (action.Wait (owner.Try n round) kind) may h = h
 opening_kept b (action.Start l k owner.Setup count len) may h = h
+opening_kept b (action.Start l k owner.Auth count len) may h = h
 opening_kept b (action.Start l k (owner.Try n round) count len) may h = h
 opening_kept b (action.Created e) may h = h
 opening_kept b (action.Outcome n o) may h = h
@@ -96,16 +99,19 @@ pub still_kept : (b : Book) (a : Action) → MayStand b a → StillAtFirst b.tur
 still_kept b (action.Turn k (cause.Opening config word)) may h = λ i. h (omega arith)
 still_kept b (action.Turn k (cause.Event e)) may h = λ i. let later : b.turns ≢ 0 = may.is_for.0 in absurd (omega arith)
 still_kept b (action.Connect m host port) may h = λ i l. mine_keeps IsStill (m == l) (b.link l) (asks (info_in b.config) (wanted_in b.config)) (λ t. record { down = (h i l).down; lives = (h i l).lives; untold = (h i l).untold; mute = (h i l).mute }) (h i l)
-still_kept b (action.Timer t ms what) may h = h
+still_kept b (action.Timer t ms what) may h = λ i l. mine_keeps IsStill (is_renewal_of l what) (b.link l) times (λ t. record { down = (h i l).down; lives = (h i l).lives; untold = (h i l).untold; mute = (h i l).mute }) (h i l)
 still_kept b (action.Took owner.Setup l count) may h = absurd may
+still_kept b (action.Took owner.Auth l count) may h = absurd may
 still_kept b (action.Took (owner.Try n round) l count) may h = h
 still_kept b (action.Push m info) may h = λ i l. push_keeps IsStill (m == l) info.kind (b.link l) (record { down = (h i l).down; lives = (h i l).lives; untold = (h i l).untold; mute = (h i l).mute }) (record { down = (h i l).down; lives = (h i l).lives; untold = (h i l).untold; mute = (h i l).mute }) (h i l)
 still_kept b (action.NeedCreds c m) may h = λ i l. mine_keeps IsStill (m == l) (b.link l) sources (λ t. record { down = (h i l).down; lives = (h i l).lives; untold = (h i l).untold; mute = (h i l).mute }) (h i l)
 still_kept b (action.Close m) may h = λ i. absurd (not_none (ending (b.link m)) may.why (still_stays (b.link m) (h i m)) may.ends)
 still_kept b (action.Write m bytes) may h = λ i l. mine_keeps IsStill (m == l) (b.link l) (offers bytes) (λ t. record { down = (h i l).down; lives = (h i l).lives; untold = (h i l).untold; mute = (h i l).mute }) (h i l)
 still_kept b (action.Wait owner.Setup kind) may h = absurd may
+still_kept b (action.Wait owner.Auth kind) may h = absurd may
 still_kept b (action.Wait (owner.Try n round) kind) may h = h
 still_kept b (action.Start m k owner.Setup count len) may h = λ i l. mine_keeps IsStill (m == l) (b.link l) (begins (message_of b m owner.Setup)) (λ t. record { down = (h i l).down; lives = (h i l).lives; untold = (h i l).untold; mute = (h i l).mute }) (h i l)
+still_kept b (action.Start m k owner.Auth count len) may h = λ i l. mine_keeps IsStill (m == l) (b.link l) (begins (message_of b m owner.Auth)) (λ t. record { down = (h i l).down; lives = (h i l).lives; untold = (h i l).untold; mute = (h i l).mute }) (h i l)
 still_kept b (action.Start m k (owner.Try n round) count len) may h = λ i l. mine_keeps IsStill (m == l) (b.link l) (begins (message_of b m (owner.Try n round))) (λ t. record { down = (h i l).down; lives = (h i l).lives; untold = (h i l).untold; mute = (h i l).mute }) (h i l)
 still_kept b (action.Created e) may h = h
 still_kept b (action.Outcome n o) may h = h

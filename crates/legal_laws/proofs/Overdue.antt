@@ -10,9 +10,9 @@ use Rattle.driver_model.specs.declared.action.Owner.TheVariants as owner
 use Rattle.driver_model.specs.declared.action.Purpose.{Purpose}
 use Rattle.driver_model.specs.declared.event.EventKind.{EventKind}
 use Rattle.driver_model.specs.declared.event.EventKind.TheVariants as event
-use Rattle.legal_trace.specs.Ledger.{begins, offers, ends, failure_in, setup_due, sources}
+use Rattle.legal_trace.specs.Ledger.{begins, offers, ends, failure_in, setup_due, sources, times}
 use Rattle.legal_trace.specs.Story.{Story, is_open, handed_in, left, holds, clocked, fires, tried, waits, answered}
-use Rattle.legal_trace.specs.Book.{Book, blank_book, book, entered, entered_each, message_of, current, is_clock_of, after_event, is_unspoken}
+use Rattle.legal_trace.specs.Book.{Book, blank_book, book, entered, entered_each, message_of, current, is_clock_of, after_event, is_unspoken, is_renewal_of}
 use Rattle.legal_trace.specs.Legal.{MayTimer, MayTime, MayStand, AllStand, link_of}
 use Rattle.legal_trace.proofs.Ledgers.{mine_keeps}
 use Rattle.legal_laws.proofs.InLine.{follows, submissions_grow}
@@ -51,18 +51,22 @@ quiet_stays : (b : Book) (a : Action) → MayStand b a → Sound b → (b.submis
 quiet_stays b (action.Turn k (cause.Opening config word)) may h some l q = q
 quiet_stays b (action.Turn k (cause.Event e)) may h some l q = turn_quiet b k e [] l may h q
 quiet_stays b (action.Connect m host port) may h some l q = absurd (some (h.opens.no_submissions may.first))
-quiet_stays b (action.Timer t ms what) may h some l q = q
+quiet_stays b (action.Timer t ms what) may h some l q = mine_keeps (IsQuiet []) (is_renewal_of l what) (b.link l) times (λ t. record { quiet = q.quiet; tells = q.tells }) q
 quiet_stays b (action.Took owner.Setup m count) may h some l q = absurd may
+quiet_stays b (action.Took owner.Auth m count) may h some l q = absurd may
 quiet_stays b (action.Took (owner.Try n round) m count) may h some l q = q
 quiet_stays b (action.Push m info) may h some l q = push_keeps (IsQuiet []) (m == l) info.kind (b.link l) (record { quiet = q.quiet; tells = q.tells }) (record { quiet = q.quiet; tells = q.tells }) q
 quiet_stays b (action.NeedCreds c m) may h some l q = mine_keeps (IsQuiet []) (m == l) (b.link l) sources (λ t. record { quiet = q.quiet; tells = q.tells }) q
 quiet_stays b (action.Close m) may h some l q = mine_keeps (IsQuiet []) (m == l) (b.link l) (ends (b.turns - 1)) (λ t. ends_quiet [] (b.link l) (b.turns - 1) q) q
 quiet_stays b (action.Write m bytes) may h some l q = mine_keeps (IsQuiet []) (m == l) (b.link l) (offers bytes) (λ t. record { quiet = q.quiet; tells = q.tells }) q
 quiet_stays b (action.Wait owner.Setup kind) may h some l q = absurd may
+quiet_stays b (action.Wait owner.Auth kind) may h some l q = absurd may
 quiet_stays b (action.Wait (owner.Try n round) kind) may h some l q = q
 quiet_stays b (action.Start m k owner.Setup count len) may h some l q =
     mine_keeps (IsQuiet []) (m == l) (b.link l) (begins (message_of b m owner.Setup))
     (λ t. absurd (let due : setup_due (b.link l) ≡ Some may.k = ap (λ j. setup_due (b.link j)) (sym (eq_from m l t)) ∙ may.due in set_is_undue (b.link l) may.k (q.quiet.1 (due_is_up (b.link l) may.k due)) due)) q
+quiet_stays b (action.Start m k owner.Auth count len) may h some l q =
+    mine_keeps (IsQuiet []) (m == l) (b.link l) (begins (message_of b m owner.Auth)) (λ t. begins_quiet [] (b.link l) (message_of b m owner.Auth) refl q) q
 quiet_stays b (action.Start m k (owner.Try n round) count len) may h some l q =
     mine_keeps (IsQuiet []) (m == l) (b.link l) (begins (message_of b m (owner.Try n round))) (λ t. begins_quiet [] (b.link l) (message_of b m (owner.Try n round)) refl q) q
 quiet_stays b (action.Created e) may h some l q = q
@@ -97,7 +101,8 @@ asker_on_a_link b t ms what h may =
 -- the timer that is asked for now
 new_clock : (b : Book) (t ms : ℕ) (what : Purpose) (n : ℕ) → Sound b → MayTimer b t ms what → is_clock_of n (Some what) ≡ true → IsOnALink b n
 new_clock b t ms what n h (inl may) e = absurd (let x : false ≡ true = sym (ap (λ p. is_clock_of n (Some p)) may.is_for) ∙ e in cc x)
-new_clock b t ms what n h (inr may) e = subst (IsOnALink b) (eq_from may.n n (sym (ap (λ p. is_clock_of n (Some p)) may.is_for) ∙ e)) (asker_on_a_link b t ms what h may)
+new_clock b t ms what n h (inr (inr may)) e = absurd (let x : false ≡ true = sym (ap (λ p. is_clock_of n (Some p)) may.is_for) ∙ e in cc x)
+new_clock b t ms what n h (inr (inl may)) e = subst (IsOnALink b) (eq_from may.n n (sym (ap (λ p. is_clock_of n (Some p)) may.is_for) ∙ e)) (asker_on_a_link b t ms what h may)
 
 -- where a timer was asked for, it was before, or is now
 clock_before : (b : Book) (a : Action) → MayStand b a → Sound b → TimesRun b → (n : ℕ) → HasClock n (entered b a).timers → IsOnALink b n
@@ -145,14 +150,17 @@ over_before b (action.Turn k (cause.Event e)) n = event_over b n e.kind
 over_before b (action.Connect m host port) n = λ e. inl e
 over_before b (action.Timer t ms what) n = chosen (WasOver b n) (is_clock_of n (Some what)) (clocked (b.story n) t) (b.story n) (λ c e. inl e) (λ f e. inl e)
 over_before b (action.Took owner.Setup l count) n = λ e. inl e
+over_before b (action.Took owner.Auth l count) n = λ e. inl e
 over_before b (action.Took (owner.Try m round) l count) n = chosen (WasOver b n) (m == n) (holds (b.story n) count) (b.story n) (λ t e. inl e) (λ f e. inl e)
 over_before b (action.Push m info) n = λ e. inl e
 over_before b (action.NeedCreds c m) n = λ e. inl e
 over_before b (action.Close m) n = λ e. inl e
 over_before b (action.Write m bytes) n = λ e. inl e
 over_before b (action.Wait owner.Setup kind) n = λ e. inl e
+over_before b (action.Wait owner.Auth kind) n = λ e. inl e
 over_before b (action.Wait (owner.Try m round) kind) n = chosen (WasOver b n) (m == n) (waits (b.story n) kind) (b.story n) (λ t e. inl e) (λ f e. inl e)
 over_before b (action.Start l k owner.Setup count len) n = λ e. inl e
+over_before b (action.Start l k owner.Auth count len) n = λ e. inl e
 over_before b (action.Start l k (owner.Try m round) count len) n = chosen (WasOver b n) (m == n) (tried (b.story n) l k) (b.story n) (λ t e. inl e) (λ f e. inl e)
 over_before b (action.Created x) n = λ e. inl e
 over_before b (action.Outcome m o) n = chosen (WasOver b n) (m == n) (answered (b.story n) o) (b.story n) (λ t e. inl e) (λ f e. inl e)

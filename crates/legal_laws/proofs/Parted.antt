@@ -13,12 +13,13 @@ use Rattle.driver_model.specs.declared.config.Config.{Config}
 use Rattle.driver_model.specs.declared.event.Event.{Event}
 use Rattle.driver_model.specs.declared.outcome.Outcome.{Outcome}
 use Rattle.driver_model.specs.declared.push_info.PushInfo.{PushInfo}
-use Rattle.driver_model.specs.News.{News, silence, connected, refused, overdue, took, came, failed, shut, news_of, authorized, denied, deserted}
+use Rattle.driver_model.specs.News.{News, silence, connected, refused, overdue, took, came, failed, shut, news_of, authorized, denied, deserted, renewed, unrenewed, late}
 use Rattle.driver_model.specs.Push.{is_disconnection}
-use Rattle.legal_trace.specs.Ledger.{Ledger, Line, End, Ending, by_opening, asks, hears, begins, offers, tells, ends, parts, noted, noted_each, with_news, refused_in, bytes_came, is_over, is_fault, is_cut, is_set_up, setup_result, error_in, dials, ending, ending_alive, ending_by, ending_unready, ending_asked, ending_or_shutdown, MayNote, AllNoted, sources, lacks_credentials, awaits_credentials, authorized_by}
-use Rattle.legal_trace.specs.Book.{Book, blank_book, book, entered, entered_each, push_line, info_in, message_of, lines_of_each, wanted_in}
+use Rattle.legal_trace.specs.Ledger.{Ledger, Line, End, Ending, by_opening, asks, hears, begins, offers, tells, ends, parts, noted, noted_each, with_news, refused_in, bytes_came, is_over, is_fault, is_cut, is_set_up, setup_result, error_in, dials, ending, ending_alive, ending_by, ending_unready, ending_asked, ending_or_shutdown, MayNote, AllNoted, sources, lacks_credentials, awaits_credentials, authorized_by, times, may_renew, renewed_by, unrenewed_by, is_renewal_open, lost_by}
+use Rattle.legal_trace.specs.Book.{Book, blank_book, book, entered, entered_each, push_line, info_in, message_of, lines_of_each, wanted_in, is_renewal_of}
 use Rattle.legal_trace.specs.Legal.{MayStand, MayAnswer, MayTell, MayPart, AllStand, is_heard, is_heard_in, Legal}
 use Rattle.legal_trace.proofs.Books.{stand_front, stand_behind}
+use Rattle.legal_trace.proofs.Renewals.{renewal_is_up}
 use Rattle.legal_trace.proofs.Sources.{awaits_up}
 use Rattle.legal_trace.proofs.Ledgers.{each_keeps, mine_keeps, UpIsNotOver, up_keeps, dials_from}
 use Rattle.legal_trace.proofs.Moves.{mover_is_up, starter_moves, teller_moves}
@@ -64,6 +65,9 @@ hears_parted l turn (failed f) = refl
 hears_parted l turn (authorized c) = chosen (λ (x : Ledger). x.parted ≡ l.parted) (awaits_credentials l) (authorized_by l c) l (λ t. refl) (λ e. refl)
 hears_parted l turn (denied text) = refl
 hears_parted l turn deserted = refl
+hears_parted l turn (renewed c) = chosen (λ (x : Ledger). x.parted ≡ l.parted) (may_renew l) (renewed_by l c) l (λ t. refl) (λ e. refl)
+hears_parted l turn unrenewed = chosen (λ (x : Ledger). x.parted ≡ l.parted) l.up (unrenewed_by l) l (λ t. refl) (λ e. refl)
+hears_parted l turn (late k) = chosen (λ (x : Ledger). x.parted ≡ l.parted) (l.up && is_renewal_open l k) (lost_by l) l (λ t. refl) (λ e. refl)
 hears_parted l turn shut = refl
 
 -- the end of that link was told
@@ -79,6 +83,7 @@ parted_keeps l (offers bytes) h = h
 parted_keeps l tells h = h
 parted_keeps l (ends turn) h = h
 parted_keeps l sources h = h
+parted_keeps l times h = h
 parted_keeps l parts h = refl
 
 -- behind many actions
@@ -101,7 +106,7 @@ parted_by b l (action.Push m info) not_yet then_is =
 parted_by b l (action.Turn k (cause.Opening config word)) not_yet then_is = absurd (not_both (b.link l).parted not_yet then_is)
 parted_by b l (action.Turn k (cause.Event e)) not_yet then_is = absurd (not_both (b.link l).parted not_yet (sym (hears_parted (b.link l) k (news_of b.timers b.sources l e.kind)) ∙ then_is))
 parted_by b l (action.Connect m host port) not_yet then_is = absurd (not_both (b.link l).parted not_yet (mine_keeps (λ (x : Ledger). WasParted x → WasParted (b.link l)) (m == l) (b.link l) (asks (info_in b.config) (wanted_in b.config)) (λ t e. e) (λ e. e) then_is))
-parted_by b l (action.Timer t ms what) not_yet then_is = absurd (not_both (b.link l).parted not_yet then_is)
+parted_by b l (action.Timer t ms what) not_yet then_is = absurd (not_both (b.link l).parted not_yet (mine_keeps (λ (x : Ledger). WasParted x → WasParted (b.link l)) (is_renewal_of l what) (b.link l) times (λ t e. e) (λ e. e) then_is))
 parted_by b l (action.Took who m count) not_yet then_is = absurd (not_both (b.link l).parted not_yet then_is)
 parted_by b l (action.NeedCreds c m) not_yet then_is = absurd (not_both (b.link l).parted not_yet (mine_keeps (λ (x : Ledger). WasParted x → WasParted (b.link l)) (m == l) (b.link l) sources (λ t e. e) (λ e. e) then_is))
 parted_by b l (action.Close m) not_yet then_is = absurd (not_both (b.link l).parted not_yet (mine_keeps (λ (x : Ledger). WasParted x → WasParted (b.link l)) (m == l) (b.link l) (ends (b.turns - 1)) (λ t e. e) (λ e. e) then_is))
@@ -127,6 +132,9 @@ hears_cut l turn (failed f) = λ e. e
 hears_cut l turn (authorized c) = chosen (λ (x : Ledger). IsCut x → IsCut l) (awaits_credentials l) (authorized_by l c) l (λ t e. e) (λ f e. e)
 hears_cut l turn (denied text) = λ e. e
 hears_cut l turn deserted = λ e. e
+hears_cut l turn (renewed c) = chosen (λ (x : Ledger). IsCut x → IsCut l) (may_renew l) (renewed_by l c) l (λ t e. e) (λ f e. e)
+hears_cut l turn unrenewed = chosen (λ (x : Ledger). IsCut x → IsCut l) l.up (unrenewed_by l) l (λ t e. e) (λ f e. e)
+hears_cut l turn (late k) = chosen (λ (x : Ledger). IsCut x → IsCut l) (l.up && is_renewal_open l k) (lost_by l) l (λ t e. e) (λ f e. e)
 hears_cut l turn shut = λ e. e
 
 -- it is closed then
@@ -139,7 +147,7 @@ cut_by b l (action.Push m info) not_yet then_is = absurd (not_both (is_cut (b.li
 cut_by b l (action.Turn k (cause.Opening config word)) not_yet then_is = absurd (not_both (is_cut (b.link l).end) not_yet then_is)
 cut_by b l (action.Turn k (cause.Event e)) not_yet then_is = absurd (not_both (is_cut (b.link l).end) not_yet (hears_cut (b.link l) k (news_of b.timers b.sources l e.kind) then_is))
 cut_by b l (action.Connect m host port) not_yet then_is = absurd (not_both (is_cut (b.link l).end) not_yet (mine_keeps (λ (x : Ledger). IsCut x → IsCut (b.link l)) (m == l) (b.link l) (asks (info_in b.config) (wanted_in b.config)) (λ t e. e) (λ e. e) then_is))
-cut_by b l (action.Timer t ms what) not_yet then_is = absurd (not_both (is_cut (b.link l).end) not_yet then_is)
+cut_by b l (action.Timer t ms what) not_yet then_is = absurd (not_both (is_cut (b.link l).end) not_yet (mine_keeps (λ (x : Ledger). IsCut x → IsCut (b.link l)) (is_renewal_of l what) (b.link l) times (λ t e. e) (λ e. e) then_is))
 cut_by b l (action.Took who m count) not_yet then_is = absurd (not_both (is_cut (b.link l).end) not_yet then_is)
 cut_by b l (action.Write m bytes) not_yet then_is = absurd (not_both (is_cut (b.link l).end) not_yet (mine_keeps (λ (x : Ledger). IsCut x → IsCut (b.link l)) (m == l) (b.link l) (offers bytes) (λ t e. e) (λ e. e) then_is))
 cut_by b l (action.Wait who kind) not_yet then_is = absurd (not_both (is_cut (b.link l).end) not_yet then_is)
@@ -170,6 +178,9 @@ unready_faults_not l (failed f) = refl
 unready_faults_not l (authorized c) = refl
 unready_faults_not l (denied text) = chosen NoFault (lacks_credentials l) (Some (by_opening (error.Credentials text))) None (λ t. refl) (λ f. refl)
 unready_faults_not l deserted = chosen NoFault (lacks_credentials l) (Some (by_opening (error.AuthFailed []))) None (λ t. refl) (λ f. refl)
+unready_faults_not l (renewed c) = refl
+unready_faults_not l unrenewed = refl
+unready_faults_not l (late k) = refl
 unready_faults_not l shut = refl
 
 -- nor is what ends one whose connect isn't answered
@@ -184,6 +195,9 @@ asked_faults_not (failed f) = refl
 asked_faults_not (authorized c) = refl
 asked_faults_not (denied text) = refl
 asked_faults_not deserted = refl
+asked_faults_not (renewed c) = refl
+asked_faults_not unrenewed = refl
+asked_faults_not (late k) = refl
 asked_faults_not shut = refl
 
 -- nor is a setup that failed
@@ -219,6 +233,9 @@ hears_set l turn (failed f) up h = h
 hears_set l turn (authorized c) up h = chosen CutIsSet (awaits_credentials l) (authorized_by l c) l (λ t cut. absurd (lives_uncut l (up (awaits_up l t)) cut)) (λ e. h)
 hears_set l turn (denied text) up h = h
 hears_set l turn deserted up h = h
+hears_set l turn (renewed c) up h = chosen CutIsSet (may_renew l) (renewed_by l c) l (λ t. h) (λ e. h)
+hears_set l turn unrenewed up h = chosen CutIsSet l.up (unrenewed_by l) l (λ t. h) (λ e. h)
+hears_set l turn (late k) up h = chosen CutIsSet (l.up && is_renewal_open l k) (lost_by l) l (λ t. h) (λ e. h)
 hears_set l turn shut up h = h
 
 -- and with each action that may stand
@@ -227,17 +244,21 @@ set_kept b l (action.Turn k (cause.Opening config word)) may s h = h
 set_kept b l (action.Turn k (cause.Event e)) may s h = hears_set (b.link l) k (news_of b.timers b.sources l e.kind) (s.up l) h
 set_kept b l (action.Connect m host port) may s h = mine_keeps CutIsSet (m == l) (b.link l) (asks (info_in b.config) (wanted_in b.config))
     (λ t cut. let e : m ≡ l = eq_from m l t in let next : m ≡ b.links = may.next in absurd (lives_uncut (b.link l) (s.links.unasked l (omega (arith, e, next))).2 cut)) h
-set_kept b l (action.Timer t ms what) may s h = h
+set_kept b l (action.Timer t ms what) may s h = mine_keeps CutIsSet (is_renewal_of l what) (b.link l) times (λ t. h) h
 set_kept b l (action.Took owner.Setup m count) may s h = absurd may
+set_kept b l (action.Took owner.Auth m count) may s h = absurd may
 set_kept b l (action.Took (owner.Try n round) m count) may s h = h
 set_kept b l (action.Push m info) may s h = push_keeps CutIsSet (m == l) info.kind (b.link l) h h h
 set_kept b l (action.NeedCreds c m) may s h = mine_keeps CutIsSet (m == l) (b.link l) sources (λ t. h) h
 set_kept b l (action.Close m) may s h = mine_keeps CutIsSet (m == l) (b.link l) (ends (b.turns - 1)) (λ t cut. fault_is_set (b.link l) cut) h
 set_kept b l (action.Write m bytes) may s h = mine_keeps CutIsSet (m == l) (b.link l) (offers bytes) (λ t. h) h
 set_kept b l (action.Wait owner.Setup kind) may s h = absurd may
+set_kept b l (action.Wait owner.Auth kind) may s h = absurd may
 set_kept b l (action.Wait (owner.Try n round) kind) may s h = h
 set_kept b l (action.Start m k owner.Setup count len) may s h = mine_keeps CutIsSet (m == l) (b.link l) (begins (message_of b m owner.Setup))
     (λ t cut. absurd (lives_uncut (b.link l) (s.up l (subst (λ j. (b.link j).up ≡ true) (eq_from m l t) (due_is_up (b.link m) may.k may.due))) cut)) h
+set_kept b l (action.Start m k owner.Auth count len) may s h = mine_keeps CutIsSet (m == l) (b.link l) (begins (message_of b m owner.Auth))
+    (λ t cut. absurd (lives_uncut (b.link l) (s.up l (subst (λ j. (b.link j).up ≡ true) (eq_from m l t) (renewal_is_up (b.link m) may.credentials may.due))) cut)) h
 set_kept b l (action.Start m k (owner.Try n round) count len) may s h = mine_keeps CutIsSet (m == l) (b.link l) (begins (message_of b m (owner.Try n round)))
     (λ t cut. absurd (lives_uncut (b.link l) (s.up l (subst (λ j. (b.link j).up ≡ true) (sym may.1.on_its_link ∙ eq_from m l t) (mover_is_up b n (starter_moves b m k n count len may.1)))) cut)) h
 set_kept b l (action.Created e) may s h = h
@@ -268,6 +289,9 @@ end_hears end l turn (failed f) h = h
 end_hears end l turn (authorized c) h = chosen (EndedAs end) (awaits_credentials l) (authorized_by l c) l (λ t. h) (λ e. h)
 end_hears end l turn (denied text) h = h
 end_hears end l turn deserted h = h
+end_hears end l turn (renewed c) h = chosen (EndedAs end) (may_renew l) (renewed_by l c) l (λ t. h) (λ e. h)
+end_hears end l turn unrenewed h = chosen (EndedAs end) l.up (unrenewed_by l) l (λ t. h) (λ e. h)
+end_hears end l turn (late k) h = chosen (EndedAs end) (l.up && is_renewal_open l k) (lost_by l) l (λ t. h) (λ e. h)
 end_hears end l turn shut h = h
 
 -- nor any line that may stand
@@ -279,6 +303,7 @@ end_noted end l (offers bytes) may up h = h
 end_noted end l tells may up h = h
 end_noted end l (ends turn) may up h = absurd (not_none (ending l) may.0 (over_stays l end up h) may.1)
 end_noted end l sources may up h = h
+end_noted end l times may up h = h
 end_noted end l parts may up h = h
 
 end_stays : (end : End) (l : Ledger) (lines : List Line) → AllNoted l lines → UpIsNotOver l → EndedAs end l → EndedAs end (noted_each l lines)

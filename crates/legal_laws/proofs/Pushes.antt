@@ -12,10 +12,10 @@ use Rattle.driver_model.specs.declared.config.Config.{Config}
 use Rattle.driver_model.specs.declared.event.Event.{Event}
 use Rattle.driver_model.specs.declared.push_info.PushInfo.{PushInfo}
 use Rattle.driver_model.specs.Config.{hears_pushes}
-use Rattle.driver_model.specs.News.{News, silence, connected, refused, overdue, took, came, failed, shut, news_of, authorized, denied, deserted}
+use Rattle.driver_model.specs.News.{News, silence, connected, refused, overdue, took, came, failed, shut, news_of, authorized, denied, deserted, renewed, unrenewed, late}
 use Rattle.driver_model.specs.Push.{is_disconnection}
-use Rattle.legal_trace.specs.Ledger.{Ledger, Heard, asks, hears, begins, offers, tells, ends, parts, noted, noted_each, refused_in, bytes_came, heard_each, is_over, dials, next_push, sources, awaits_credentials, authorized_by}
-use Rattle.legal_trace.specs.Book.{Book, blank_book, book, entered, entered_each, if_mine, push_line, info_in, message_of, wanted_in}
+use Rattle.legal_trace.specs.Ledger.{Ledger, Heard, asks, hears, begins, offers, tells, ends, parts, noted, noted_each, refused_in, bytes_came, heard_each, is_over, dials, next_push, sources, awaits_credentials, authorized_by, times, may_renew, renewed_by, unrenewed_by, is_renewal_open, lost_by}
+use Rattle.legal_trace.specs.Book.{Book, blank_book, book, entered, entered_each, if_mine, push_line, info_in, message_of, wanted_in, is_renewal_of}
 use Rattle.legal_trace.specs.Legal.{MayStand, MayTellPush, MayPart, MayPush, MayPushBy, AllStand, IsSettled, is_heard, is_heard_in, Legal}
 use Rattle.legal_trace.proofs.Books.{stand_front}
 use Rattle.legal_trace.proofs.Ledgers.{mine_keeps}
@@ -59,6 +59,9 @@ hears_on l turn (failed f) = same_pushes l _ refl refl
 hears_on l turn (authorized c) = chosen (λ (x : Ledger). GoesOn l (record x { heard = authorized c })) (awaits_credentials l) (authorized_by l c) l (λ t. same_pushes l _ refl refl) (λ e. same_pushes l _ refl refl)
 hears_on l turn (denied text) = same_pushes l _ refl refl
 hears_on l turn deserted = same_pushes l _ refl refl
+hears_on l turn (renewed c) = chosen (λ (x : Ledger). GoesOn l (record x { heard = renewed c })) (may_renew l) (renewed_by l c) l (λ t. same_pushes l _ refl refl) (λ e. same_pushes l _ refl refl)
+hears_on l turn unrenewed = chosen (λ (x : Ledger). GoesOn l (record x { heard = unrenewed })) l.up (unrenewed_by l) l (λ t. same_pushes l _ refl refl) (λ e. same_pushes l _ refl refl)
+hears_on l turn (late k) = chosen (λ (x : Ledger). GoesOn l (record x { heard = late k })) (l.up && is_renewal_open l k) (lost_by l) l (λ t. same_pushes l _ refl refl) (λ e. same_pushes l _ refl refl)
 hears_on l turn shut = same_pushes l _ refl refl
 
 -- an action tells no push of link l, which goes on
@@ -121,7 +124,7 @@ step_tells b l (action.Push m info) may = by_test ((m == l) && not (is_disconnec
 step_tells b l (action.Turn k (cause.Opening config word)) may = no_push b l (action.Turn k (cause.Opening config word)) refl (same_pushes (b.link l) (b.link l) refl refl)
 step_tells b l (action.Turn k (cause.Event e)) may = no_push b l (action.Turn k (cause.Event e)) refl (hears_on (b.link l) k (news_of b.timers b.sources l e.kind))
 step_tells b l (action.Connect m host port) may = no_push b l (action.Connect m host port) refl (mine_keeps (GoesOn (b.link l)) (m == l) (b.link l) (asks (info_in b.config) (wanted_in b.config)) (λ t. same_pushes (b.link l) _ refl refl) (same_pushes (b.link l) (b.link l) refl refl))
-step_tells b l (action.Timer t ms what) may = no_push b l (action.Timer t ms what) refl (same_pushes (b.link l) (b.link l) refl refl)
+step_tells b l (action.Timer t ms what) may = no_push b l (action.Timer t ms what) refl (mine_keeps (GoesOn (b.link l)) (is_renewal_of l what) (b.link l) times (λ t. same_pushes (b.link l) _ refl refl) (same_pushes (b.link l) (b.link l) refl refl))
 step_tells b l (action.Took who m count) may = no_push b l (action.Took who m count) refl (same_pushes (b.link l) (b.link l) refl refl)
 step_tells b l (action.NeedCreds c m) may = no_push b l (action.NeedCreds c m) refl (mine_keeps (GoesOn (b.link l)) (m == l) (b.link l) sources (λ t. same_pushes (b.link l) _ refl refl) (same_pushes (b.link l) (b.link l) refl refl))
 step_tells b l (action.Close m) may = no_push b l (action.Close m) refl (mine_keeps (GoesOn (b.link l)) (m == l) (b.link l) (ends (b.turns - 1)) (λ t. same_pushes (b.link l) _ refl refl) (same_pushes (b.link l) (b.link l) refl refl))

@@ -5,9 +5,9 @@ use Rattle.containers.proofs.Choices.{by_test, chosen, taken_if, both_left, both
 use Rattle.redis_error.specs.declared.redis_error.RedisError.{RedisError}
 use Rattle.redis_error.specs.declared.redis_error.RedisError.TheVariants as error
 use Rattle.driver_model.specs.declared.news.LinkFault.TheVariants as fault
-use Rattle.driver_model.specs.News.{News, silence, connected, refused, overdue, took, came, failed, shut, authorized, denied, deserted}
+use Rattle.driver_model.specs.News.{News, silence, connected, refused, overdue, took, came, failed, shut, authorized, denied, deserted, renewed, unrenewed, late}
 use Rattle.resp_read.specs.Values.{is_spoiled}
-use Rattle.legal_trace.specs.Ledger.{Ledger, Line, Start, End, Ending, is_of_setup, is_set_up, setup_result, error_in, ending_by, ending_unready, ending_alive, by_fault, asks, hears, begins, offers, tells, ends, parts, noted, noted_each, with_news, refused_in, bytes_came, is_over, dials, ending, ending_up, ending_asked, ending_or_shutdown, failure_of, failure_in, MayNote, AllNoted, sources, awaits_credentials, authorized_by}
+use Rattle.legal_trace.specs.Ledger.{Ledger, Line, Start, End, Ending, is_of_setup, is_set_up, setup_result, error_in, ending_by, ending_unready, ending_alive, by_fault, asks, hears, begins, offers, tells, ends, parts, noted, noted_each, with_news, refused_in, bytes_came, is_over, dials, ending, ending_up, ending_asked, ending_or_shutdown, failure_of, failure_in, MayNote, AllNoted, sources, awaits_credentials, authorized_by, times, may_renew, renewed_by, unrenewed_by, is_renewal_open, lost_by}
 use Rattle.legal_trace.proofs.Ledgers.{dials_from, UpIsNotOver, up_keeps}
 use Rattle.legal_trace.proofs.Plain.{none_from, not_none}
 use Rattle.legal_trace.proofs.Setups.{AreSetups, set_came, set_begins}
@@ -31,6 +31,9 @@ quiet_hears l turn (authorized c) asked shaped h = chosen Quiet (awaits_credenti
     (λ t. let lacks : is_set_up l ≡ true → ⊥ = awaits_unset l t in absurd (lacks (h.1 (awaits_up l t)))) (λ e. h)
 quiet_hears l turn (denied text) asked shaped h = h
 quiet_hears l turn deserted asked shaped h = h
+quiet_hears l turn (renewed c) asked shaped h = chosen Quiet (may_renew l) (renewed_by l c) l (λ t. h) (λ e. h)
+quiet_hears l turn unrenewed asked shaped h = chosen Quiet l.up (unrenewed_by l) l (λ t. h) (λ e. h)
+quiet_hears l turn (late k) asked shaped h = chosen Quiet (l.up && is_renewal_open l k) (lost_by l) l (λ t. h) (λ e. h)
 quiet_hears l turn shut asked shaped h = h
 
 -- no opening fails by these
@@ -49,6 +52,9 @@ up_fails_not l (failed f) = refl
 up_fails_not l (authorized c) = refl
 up_fails_not l (denied text) = refl
 up_fails_not l deserted = refl
+up_fails_not l (renewed c) = refl
+up_fails_not l unrenewed = refl
+up_fails_not l (late k) = refl
 up_fails_not l shut = refl
 
 -- nor is what ends one whose connect is not open
@@ -83,6 +89,9 @@ tells_hears shown l turn (failed f) h = h.tells
 tells_hears shown l turn (authorized c) h = chosen (Tells shown) (awaits_credentials l) (authorized_by l c) l (λ t. h.tells) (λ e. h.tells)
 tells_hears shown l turn (denied text) h = h.tells
 tells_hears shown l turn deserted h = h.tells
+tells_hears shown l turn (renewed c) h = chosen (Tells shown) (may_renew l) (renewed_by l c) l (λ t. h.tells) (λ e. h.tells)
+tells_hears shown l turn unrenewed h = chosen (Tells shown) l.up (unrenewed_by l) l (λ t. h.tells) (λ e. h.tells)
+tells_hears shown l turn (late k) h = chosen (Tells shown) (l.up && is_renewal_open l k) (lost_by l) l (λ t. h.tells) (λ e. h.tells)
 tells_hears shown l turn shut h = h.tells
 
 -- so it stays with a turn
@@ -133,6 +142,9 @@ failed_hears e l turn (failed f) h = h
 failed_hears e l turn (authorized c) h = chosen (FailedWith e) (awaits_credentials l) (authorized_by l c) l (λ t. h) (λ f. h)
 failed_hears e l turn (denied text) h = h
 failed_hears e l turn deserted h = h
+failed_hears e l turn (renewed c) h = chosen (FailedWith e) (may_renew l) (renewed_by l c) l (λ t. h) (λ f. h)
+failed_hears e l turn unrenewed h = chosen (FailedWith e) l.up (unrenewed_by l) l (λ t. h) (λ f. h)
+failed_hears e l turn (late k) h = chosen (FailedWith e) (l.up && is_renewal_open l k) (lost_by l) l (λ t. h) (λ f. h)
 failed_hears e l turn shut h = h
 
 -- with any line that may stand
@@ -144,6 +156,7 @@ failed_noted e l (offers bytes) may up h = h
 failed_noted e l tells may up h = h
 failed_noted e l (ends turn) may up h = let over = failed_is_over l.end e h in absurd (not_none (ending l) may.0 (over_stays l over.0 up over.1) may.1)
 failed_noted e l sources may up h = h
+failed_noted e l times may up h = h
 failed_noted e l parts may up h = h
 
 -- and with many

@@ -12,11 +12,11 @@ use Rattle.driver_model.specs.declared.action.WaitKind.{WaitKind}
 use Rattle.driver_model.specs.Config.{connect_timeout}
 use Rattle.driver_model.specs.Push.{is_disconnection}
 use Rattle.driver_model.specs.declared.push_info.PushInfo.{PushInfo}
-use Rattle.legal_trace.specs.Ledger.{End, Ending, by_shutdown, by_fault, by_opening, failure_of, failure_in, is_fault, is_cut, is_over, IsOffered, ending, next_push, source_due}
+use Rattle.legal_trace.specs.Ledger.{End, Ending, by_shutdown, by_fault, by_opening, failure_of, failure_in, is_fault, is_cut, is_over, IsOffered, ending, next_push, source_due, renewals_asked}
 use Rattle.legal_trace.specs.Story.{Try, last_of}
 use Rattle.legal_trace.specs.Book.{Book}
 use Rattle.legal_trace.specs.Steps.{is_held_back, next_step}
-use Rattle.legal_trace.specs.Legal.{MayStand, MayTimer, MayNeed, MayAnswer, MayTell, MayWrite, MayWait, MayShowCreation, MayPushBy, IsOpen, link_of, NoneIsOwed, VerdictsAreShown, NoneEnds, FailuresAreShown, ReadyIsShown, PushesAreTold, SourcesAreAsked, EndsAreTold, SetupsAreStarted, IsTimed, IsApplied, IsBegun, IsMoved, IsWritten, IsSettled, IsStarted, IsWaiting, CanMove}
+use Rattle.legal_trace.specs.Legal.{MayStand, MayTimer, MayNeed, MayAnswer, MayTell, MayWrite, MayWait, MayShowCreation, MayPushBy, IsOpen, link_of, NoneIsOwed, VerdictsAreShown, NoneEnds, FailuresAreShown, ReadyIsShown, PushesAreTold, SourcesAreAsked, EndsAreTold, SetupsAreStarted, IsTimed, IsApplied, IsBegun, IsMoved, IsWritten, IsSettled, IsStarted, IsWaiting, CanMove, RenewalsAreTimed, RenewalsAreStarted, answer_time}
 use Rattle.legal_trace.proofs.Moves.{teller_moves, starter_moves, taker_moves, asker_moves, same_kind, ready_is_up}
 use Rattle.legal_laws.proofs.Numbers.{up_is_numbered, over_is_numbered, open_is_numbered, unasked_stays}
 use Rattle.legal_laws.proofs.Opens.{still_stays}
@@ -46,31 +46,33 @@ push_rank true = 6
 -- these come before one that is told at its place
 abbrev pub outcome_rank : (b : Book) (n : ℕ) (o : Outcome) → MayAnswer b n o ⊎ MayTell b n o → ℕ
 outcome_rank b n o (inl owed) = answer_rank (is_over (link_of b n))
-outcome_rank b n o (inr told) = 9
+outcome_rank b n o (inr told) = 11
 
--- the timer of the opening is of its second, and one of a submission of the passes
+-- the timer of the opening is of its second, one of a submission of the passes, and one of new credentials comes before them
 abbrev pub timer_rank : (b : Book) (t ms : ℕ) (what : Purpose) → MayTimer b t ms what → ℕ
 timer_rank b t ms what (inl opening) = 2
-timer_rank b t ms what (inr response) = 9
+timer_rank b t ms what (inr (inl response)) = 11
+timer_rank b t ms what (inr (inr renewal)) = 9
 
 -- the opening, its connect and its timer, the outcomes of links that have not ended, the creation, the sources of credentials and
 -- the pushes, the closes, the creation that failed, that links have ended, the other outcomes that are owed, the setups, the
--- passes, the writes, the waits, and the next event
+-- timers of new credentials, these, the passes, the writes, the waits, and the next event
 abbrev pub rank : (b : Book) (a : Action) → MayStand b a → ℕ
 rank b (action.Turn k (cause.Opening config word)) may = 0
 rank b (action.Connect l host port) may = 1
 rank b (action.Timer t ms what) may = timer_rank b t ms what may
-rank b (action.Took who l count) may = 9
+rank b (action.Took who l count) may = 11
 rank b (action.Outcome n o) may = outcome_rank b n o may
 rank b (action.Push l info) may = push_rank (is_disconnection info.kind)
 rank b (action.NeedCreds c l) may = 3
 rank b (action.Close l) may = 4
 rank b (action.Created e) may = creation_rank e
 rank b (action.Start l k owner.Setup count len) may = 8
-rank b (action.Start l k (owner.Try n round) count len) may = 9
-rank b (action.Write l bytes) may = 10
-rank b (action.Wait who kind) may = 11
-rank b (action.Turn k (cause.Event e)) may = 12
+rank b (action.Start l k owner.Auth count len) may = 10
+rank b (action.Start l k (owner.Try n round) count len) may = 11
+rank b (action.Write l bytes) may = 12
+rank b (action.Wait who kind) may = 13
+rank b (action.Turn k (cause.Event e)) may = 14
 
 -- an outcome that is owed comes before the passes
 pub answer_first : (over : Bool) → answer_rank over < 8
@@ -105,10 +107,12 @@ Step (suc (suc (suc (suc (suc zero))))) b = FailuresAreShown b
 Step (suc (suc (suc (suc (suc (suc zero)))))) b = EndsAreTold b
 Step (suc (suc (suc (suc (suc (suc (suc zero))))))) b = NoneIsOwed b
 Step (suc (suc (suc (suc (suc (suc (suc (suc zero)))))))) b = SetupsAreStarted b
-Step (suc (suc (suc (suc (suc (suc (suc (suc (suc zero))))))))) b = (n : ℕ) → CanMove b n → ⊥
-Step (suc (suc (suc (suc (suc (suc (suc (suc (suc (suc zero)))))))))) b = (l : ℕ) → (b.link l).up ≡ true → IsOffered (b.link l)
-Step (suc (suc (suc (suc (suc (suc (suc (suc (suc (suc (suc zero))))))))))) b = (n : ℕ) → IsOpen b n → IsStarted b n ⊎ IsWaiting b n
-Step (suc (suc (suc (suc (suc (suc (suc (suc (suc (suc (suc (suc more)))))))))))) b = ⊥
+Step (suc (suc (suc (suc (suc (suc (suc (suc (suc zero))))))))) b = RenewalsAreTimed b
+Step (suc (suc (suc (suc (suc (suc (suc (suc (suc (suc zero)))))))))) b = RenewalsAreStarted b
+Step (suc (suc (suc (suc (suc (suc (suc (suc (suc (suc (suc zero))))))))))) b = (n : ℕ) → CanMove b n → ⊥
+Step (suc (suc (suc (suc (suc (suc (suc (suc (suc (suc (suc (suc zero)))))))))))) b = (l : ℕ) → (b.link l).up ≡ true → IsOffered (b.link l)
+Step (suc (suc (suc (suc (suc (suc (suc (suc (suc (suc (suc (suc (suc zero))))))))))))) b = (n : ℕ) → IsOpen b n → IsStarted b n ⊎ IsWaiting b n
+Step (suc (suc (suc (suc (suc (suc (suc (suc (suc (suc (suc (suc (suc (suc more)))))))))))))) b = ⊥
 
 -- all below this rank is done
 abbrev pub Reached : ℕ → Book → Type 0
@@ -161,7 +165,11 @@ push_not_done b l info true may h = not_both (b.link l).parted may.once (h l may
 -- a timer that may be asked for is due
 timer_not_done : (b : Book) (t ms : ℕ) (what : Purpose) (may : MayTimer b t ms what) → Step (timer_rank b t ms what may) b → ⊥
 timer_not_done b t ms what (inl may) h = h may.config may.word may.opens (λ none. not_none (connect_timeout may.config) ms none may.bounded) may.first
-timer_not_done b t ms what (inr may) h = h may.n (asker_moves b t ms what may)
+timer_not_done b t ms what (inr (inl may)) h = h may.n (asker_moves b t ms what may)
+timer_not_done b t ms what (inr (inr may)) h =
+    let all : renewals_asked (b.link may.l) ≤ (b.link may.l).creds.timed = h may.l (λ none. not_none (answer_time b.config) ms none may.within) in
+    let some : (b.link may.l).creds.timed < renewals_asked (b.link may.l) = may.asked in
+    omega (arith, all, some)
 
 -- where an action may stand, its rank isn't done
 pub not_done : (b : Book) (a : Action) (may : MayStand b a) → Step (rank b a may) b → ⊥
@@ -169,6 +177,7 @@ not_done b (action.Turn k (cause.Opening config word)) may h = h may.is_for
 not_done b (action.Connect l host port) may h = h may.first
 not_done b (action.Timer t ms what) may h = timer_not_done b t ms what may h
 not_done b (action.Took owner.Setup l count) may h = absurd may
+not_done b (action.Took owner.Auth l count) may h = absurd may
 not_done b (action.Took (owner.Try n round) l count) may h = h n (taker_moves b n l count may.1)
 not_done b (action.Outcome n o) may h = outcome_not_done b n o may h
 not_done b (action.Push l info) may h = push_not_done b l info (is_disconnection info.kind) may h
@@ -176,9 +185,11 @@ not_done b (action.NeedCreds c l) may h = not_both (source_due (b.link l)) (h.so
 not_done b (action.Close l) may h = not_none (ending (b.link l)) may.why (h l) may.ends
 not_done b (action.Created e) may h = creation_not_done b e may h
 not_done b (action.Start l k owner.Setup count len) may h = not_both (is_held_back b (b.link l)) may.free (h l may.k may.due)
+not_done b (action.Start l k owner.Auth count len) may h = not_both (is_held_back b (b.link l)) may.free (h l may.credentials may.due)
 not_done b (action.Start l k (owner.Try n round) count len) may h = h n (starter_moves b l k n count len may.1)
 not_done b (action.Write l bytes) may h = not_offered b l bytes may (h l may.up)
 not_done b (action.Wait owner.Setup kind) may h = absurd may
+not_done b (action.Wait owner.Auth kind) may h = absurd may
 not_done b (action.Wait (owner.Try n round) kind) may h = not_gone b n kind may.1 (h n may.1.asked)
 not_done b (action.Turn k (cause.Event e)) may h = h
 
@@ -201,20 +212,20 @@ applied b h done = (
   (done.parted, (done.created.failed, (done.ended, (record { answered = verdicts b done.answered; created = done.created.shown; sourced = done.sourced; pushed = done.pushed }, (done.timed, linked b h done.created.asked))))),
 )
 
--- where setups have started
-pub begun_all : (b : Book) → Sound b → IsBegun b → Reached 9 b
-begun_all b h done = (done.setups, applied b h done.applied)
+-- where setups have started, and new credentials that have their timers
+pub begun_all : (b : Book) → Sound b → IsBegun b → Reached 11 b
+begun_all b h done = (done.renewed, (done.timed, (done.setups, applied b h done.applied)))
 
 -- where all messages have started
-pub moved : (b : Book) → Sound b → IsMoved b → Reached 10 b
+pub moved : (b : Book) → Sound b → IsMoved b → Reached 12 b
 moved b h done = (done.moved, begun_all b h done.begun)
 
 -- where all is written
-pub written : (b : Book) → Sound b → IsWritten b → Reached 11 b
+pub written : (b : Book) → Sound b → IsWritten b → Reached 13 b
 written b h done = (done.offered, moved b h done.moved)
 
 -- where the turn is settled
-pub settled : (b : Book) → Sound b → IsSettled b → Reached 12 b
+pub settled : (b : Book) → Sound b → IsSettled b → Reached 14 b
 settled b h done = (done.goes, written b h done.written)
 
 -- where a submission is open, an event came
@@ -331,7 +342,8 @@ need_reached b c l may h = up_is_begun b l h (source_is_up (b.link l) may.due)
 -- before any timer
 timer_reached : (b : Book) (t ms : ℕ) (what : Purpose) (may : MayTimer b t ms what) → Sound b → Reached (timer_rank b t ms what may) b
 timer_reached b t ms what (inl may) h = linked b h may.asked
-timer_reached b t ms what (inr may) h = begun_all b h may.begun
+timer_reached b t ms what (inr (inl may)) h = begun_all b h may.begun
+timer_reached b t ms what (inr (inr may)) h = (may.setups, applied b h may.applied)
 
 -- where an action may stand, all below its rank is done
 pub reached : (b : Book) (a : Action) (may : MayStand b a) → Sound b → Reached (rank b a may) b
@@ -340,15 +352,18 @@ reached b (action.Connect l host port) may h = (λ e. not_none b.running (cause.
 reached b (action.Outcome n o) may h = outcome_reached b n o may h
 reached b (action.Timer t ms what) may h = timer_reached b t ms what may h
 reached b (action.Took owner.Setup l count) may h = absurd may
+reached b (action.Took owner.Auth l count) may h = absurd may
 reached b (action.Took (owner.Try n round) l count) may h = begun_all b h may.1.begun
 reached b (action.Push l info) may h = push_reached b l info (is_disconnection info.kind) may h
 reached b (action.NeedCreds c l) may h = need_reached b c l may h
 reached b (action.Close l) may h = (record { answered = may.answered; created = may.created; sourced = may.sourced; pushed = may.pushed }, end_is_begun b l may.why h may.ends)
 reached b (action.Created e) may h = creation_reached b e may h
 reached b (action.Start l k owner.Setup count len) may h = applied b h may.applied
+reached b (action.Start l k owner.Auth count len) may h = (may.timed, (may.setups, applied b h may.applied))
 reached b (action.Start l k (owner.Try n round) count len) may h = begun_all b h may.1.begun
 reached b (action.Write l bytes) may h = moved b h may.moved
 reached b (action.Wait owner.Setup kind) may h = absurd may
+reached b (action.Wait owner.Auth kind) may h = absurd may
 reached b (action.Wait (owner.Try n round) kind) may h = written b h may.1.written
 reached b (action.Turn k (cause.Event e)) may h = settled b h may.is_for.1
 

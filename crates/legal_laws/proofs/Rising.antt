@@ -1,33 +1,46 @@
 -- Messages of a link start in the order of their submissions.
-use Rattle.std.proofs.Common.{◌≡◌, inl, inr, ℕ, ◌<◌, ◌≤◌, ◌==◌, nat_lt, nat_le, Bool, true, false, ◌||◌, Option, List, ◌∷◌, ◌++◌, ◌∙◌, ap, subst, arith}
-use Rattle.containers.proofs.Choices.{by_test, chosen, eq_from, ne_from, lt_from, not_lt_from, not_le_from, not_le_test, both_left, both_right}
+use Rattle.std.proofs.Common.{◌≡◌, inl, inr, ℕ, ◌+◌, ◌<◌, ◌≤◌, ◌==◌, nat_lt, nat_le, Bool, true, false, ◌&&◌, ◌||◌, not, Option, None, is_some, if◌then◌else◌, List, ◌∷◌, ◌++◌, refl, ◌∙◌, ap, subst, arith}
+use Rattle.containers.proofs.Choices.{by_test, chosen, eq_from, ne_from, lt_from, not_lt_from, not_both, not_le_test, both_left, both_right}
+use Rattle.credentials.specs.Credentials.{Credentials}
 use Rattle.driver_model.specs.declared.action.Action.{Action}
 use Rattle.driver_model.specs.declared.action.Action.TheVariants as action
 use Rattle.driver_model.specs.declared.action.Owner.TheVariants as owner
 use Rattle.driver_model.specs.declared.config.Config.{Config}
 use Rattle.driver_model.specs.declared.event.Event.{Event}
-use Rattle.legal_trace.specs.Ledger.{dials, is_ready}
-use Rattle.legal_trace.specs.Story.{is_told, is_unstarted, tried}
+use Rattle.legal_trace.specs.Ledger.{dials, is_ready, renewal_due}
+use Rattle.legal_trace.specs.Story.{has_place, is_told, is_unstarted, tried}
 use Rattle.legal_trace.specs.Book.{Book, blank_book, book, entered, entered_each}
-use Rattle.legal_trace.specs.Steps.{queue_size, is_held_back, permits_in, is_let_in, line_before, is_outside, is_due, next_step}
-use Rattle.legal_trace.specs.Legal.{MayStand, MayStart, AllStand, link_of, Legal}
+use Rattle.legal_trace.specs.Steps.{queue_size, is_held_back, permits_in, is_let_in, line_before, renewals_in_line, is_outside, is_due, next_step}
+use Rattle.legal_trace.specs.Legal.{MayStand, MayStart, AllStand, link_of, RenewalsAreStarted, Legal}
 use Rattle.legal_trace.proofs.Books.{stand_front, stand_behind}
 use Rattle.legal_trace.proofs.Plain.{not_empty}
 use Rattle.legal_laws.specs.Starts.{IsStart, StartsRise}
-use Rattle.legal_laws.proofs.Bounds.{start_of, starter_inside}
+use Rattle.legal_laws.proofs.Bounds.{start_of, starter_has_room}
 use Rattle.legal_laws.proofs.InLine.{is_to_start, submissions_grow, stays_out, starter_to_start, earlier}
 use Rattle.legal_trace.proofs.Moves.{has_no_tries, holds_some, is_timed, starts_mean, told_is_due, free_is_due, starter_moves}
 use Rattle.legal_laws.proofs.Numbers.{mover_is_numbered}
-use Rattle.legal_laws.proofs.Seated.{IsSeated, holds_like, seated_behind}
+use Rattle.legal_laws.proofs.Seated.{IsSeated, holds_like, seated_behind, told_place}
 use Rattle.legal_laws.proofs.Sound.{Sound, sound_behind}
+use Rattle.legal_laws.proofs.Told.{none_unless}
 
--- where one has a place, so has each before it on the same link
-inside_before : (b : Book) (n m : ℕ) → (b.story n).link ≡ (b.story m).link → n < m → is_outside b m ≡ false → is_outside b n ≡ false
-inside_before b n m same i e =
+-- of two the second doesn't hold
+neither_of : (p q : Bool) → q ≡ false → (p && q) ≡ false
+neither_of true q e = e
+neither_of false q e = refl
+
+-- where one has room, and no new credentials are in line, so has each before it on the same link
+inside_before : (b : Book) (n m : ℕ) → (b.story n).link ≡ (b.story m).link → n < m → renewal_due (link_of b n) ≡ None → line_before (permits_in b.config) b.story (b.story m).link m < queue_size b → is_outside b n ≡ false
+inside_before b n m same i none room =
     let limit : Option ℕ = permits_in b.config in
-    let room : line_before limit b.story (b.story m).link m < queue_size b = not_le_from (queue_size b) (line_before limit b.story (b.story m).link m) e in
+    let before : ℕ = line_before limit b.story (b.story n).link n in
     let less : line_before limit b.story (b.story m).link n ≤ line_before limit b.story (b.story m).link m = earlier limit b.story (b.story m).link n m (omega (arith, i)) in
-    ap (λ l. nat_le (queue_size b) (line_before limit b.story l n)) same ∙ not_le_test (queue_size b) (line_before limit b.story (b.story m).link n) (omega (arith, room, less))
+    let on : before ≡ line_before limit b.story (b.story m).link n = ap (λ l. line_before limit b.story l n) same in
+    let alone : renewals_in_line (link_of b n) ≡ 0 = ap (λ (o : Option Credentials). if is_some o then 1 else 0) none in
+    neither_of (not (has_place (b.story n))) (nat_le (queue_size b) (renewals_in_line (link_of b n) + before)) (not_le_test (queue_size b) (renewals_in_line (link_of b n) + before) (omega (arith, room, less, on, alone)))
+
+-- on a link that isn't held back none are
+none_in_line : (b : Book) (l : ℕ) → RenewalsAreStarted b → is_held_back b (b.link l) ≡ false → renewal_due (b.link l) ≡ None
+none_in_line b l started free = none_unless (renewal_due (b.link l)) (λ c due. not_both (is_held_back b (b.link l)) free (started l c due))
 
 -- where the first of two doesn't hold, the second does
 the_other : (p q : Bool) → p ≡ false → (p || q) ≡ true → q ≡ true
@@ -42,7 +55,7 @@ holds_before b l k m count len sound seated may n i t untold =
     elim ((starts_mean b m may.starts).3) [
       | inl told ↦
           both_left (holds_some (permits_in b.config) (b.story n).permits) (is_timed (b.story n).timeout (b.story n).clock)
-          (the_other (is_told (b.story n)) (is_let_in (permits_in b.config) (b.story n)) untold ((seated.told m numbered may.unstarted told).ahead n i t))
+          (the_other (is_told (b.story n)) (is_let_in (permits_in b.config) (b.story n)) untold ((seated.kept m numbered may.unstarted (told_place (b.story m) told)).ahead n i t))
       | inr placed ↦
           holds_like (permits_in b.config) (b.story m).permits (b.story n).permits
           (both_left (holds_some (permits_in b.config) (b.story m).permits) (is_timed (b.story m).timeout (b.story m).clock) placed.0) (seated.holders n m i numbered t untold)
@@ -53,10 +66,10 @@ first_to_start : (b : Book) (l k m count len : ℕ) → Sound b → IsSeated b �
 first_to_start b l k m count len sound seated may n i e =
     let same : (b.story n).link ≡ (b.story m).link = eq_from (b.story n).link l (both_left ((b.story n).link == l) (is_unstarted (b.story n)) e) ∙ may.on_its_link in
     let s = starts_mean b m may.starts in
-    let inside : is_outside b n ≡ false = inside_before b n m same i (starter_inside b l k m count len sound seated may) in
     let dialing : dials (link_of b n) ≡ false = ap (λ x. dials (b.link x)) same ∙ s.0 in
     let up : is_ready (link_of b n) ≡ true = ap (λ x. is_ready (b.link x)) same ∙ s.1 in
     let free : is_held_back b (link_of b n) ≡ false = ap (λ x. is_held_back b (b.link x)) same ∙ s.2 in
+    let inside : is_outside b n ≡ false = inside_before b n m same i (none_in_line b (b.story n).link may.begun.renewed free) (starter_has_room b l k m count len sound seated may) in
     let due : is_due (next_step b n) ≡ true = by_test (is_told (b.story n)) (is_due (next_step b n) ≡ true) (told_is_due b n dialing up free)
     (λ untold. free_is_due b n dialing up free untold (holds_before b l k m count len sound seated may n i (subst (λ x. is_to_start x (b.story n) ≡ true) may.on_its_link e) untold) inside) in
     may.in_order n i (record { unstarted = both_right ((b.story n).link == l) (is_unstarted (b.story n)) e; due = due })

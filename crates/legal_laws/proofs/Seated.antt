@@ -1,4 +1,4 @@
--- Whoever was told has a place until its message starts.
+-- Whoever was told, or was shown to wait for room, has a place until its message starts.
 use Rattle.std.proofs.Common.{◌≡◌, ◌⊎◌, inl, inr, ℕ, ◌<◌, ◌≤◌, ◌==◌, nat_lt, true, false, ◌&&◌, not, List, [], ◌∷◌, Option, None, Some, refl, sym, ◌∙◌, ap, subst, arith}
 use Rattle.std.specs.Prelude.{slice_get}
 use Rattle.containers.proofs.Choices.{by_test, chosen, left_if, eq_from, ne_test, lt_from, not_lt_from, not_le_from, not_le_test, not_both, both_left, both_right}
@@ -6,16 +6,18 @@ use Rattle.driver_model.specs.declared.action.Action.{Action}
 use Rattle.driver_model.specs.declared.action.Action.TheVariants as action
 use Rattle.driver_model.specs.declared.action.Cause.TheVariants as cause
 use Rattle.driver_model.specs.declared.action.Owner.TheVariants as owner
+use Rattle.driver_model.specs.declared.action.WaitKind.{WaitKind}
+use Rattle.driver_model.specs.declared.action.WaitKind.TheVariants as wait
 use Rattle.driver_model.specs.declared.event.EventKind.{EventKind}
 use Rattle.driver_model.specs.declared.event.EventKind.TheVariants as event
 use Rattle.driver_model.specs.declared.outcome.Outcome.{Outcome}
 use Rattle.driver_model.specs.Config.{buffer_size}
 use Rattle.legal_trace.specs.Ledger.{dials, is_ready}
-use Rattle.legal_trace.specs.Story.{Story, is_open, is_told, is_awaited, is_no_error, is_unstarted, handed_in, left, holds, clocked, fires, tried, waits, answered}
+use Rattle.legal_trace.specs.Story.{Story, has_place, is_room, is_open, is_told, is_awaited, is_no_error, is_unstarted, handed_in, left, holds, clocked, fires, tried, waits, answered}
 use Rattle.legal_trace.specs.Book.{Book, blank_book, book, entered, entered_each, current, is_clock_of, after_event, is_unspoken}
 use Rattle.legal_trace.specs.Steps.{configured, queue_size, permits_in, free_permits, is_let_in, is_in_line, line_before, is_outside}
-use Rattle.legal_trace.specs.Legal.{MayStand, MayAnswer, MayTell, MayTake, AllStand, CanMove, link_of}
-use Rattle.legal_trace.proofs.Moves.{lt_test, both_hold, holds_some, is_timed, tells_mean, takes_mean, holder_is_timed, rester_holds, teller_moves, taker_moves}
+use Rattle.legal_trace.specs.Legal.{MayStand, MayAnswer, MayTell, MayTake, MayWait, AllStand, CanMove, link_of}
+use Rattle.legal_trace.proofs.Moves.{lt_test, one_holds, both_hold, inside_has_room, rooms_mean, holds_some, is_timed, tells_mean, takes_mean, holder_is_timed, rester_holds, teller_moves, taker_moves}
 use Rattle.legal_laws.proofs.InLine.{is_to_start, is_admitted, Follows, first_holds, second_holds, follows, owed_is_done, to_start_before, shorter}
 use Rattle.legal_laws.proofs.Numbers.{HasStories, mover_is_numbered}
 use Rattle.legal_laws.proofs.Sound.{Sound, stays_sound, blank_is_sound}
@@ -23,12 +25,12 @@ use Rattle.legal_laws.proofs.Sound.{Sound, stays_sound, blank_is_sound}
 -- a submission has its place: fewer stand in line before it than the queue holds, and all before it that are to start on its
 -- link stand there
 pub record HasItsPlace (b : Book) (n : ℕ) : Type 0 where
-  pub inside : is_outside b n ≡ false
+  pub room : line_before (permits_in b.config) b.story (b.story n).link n < queue_size b
   pub ahead : (m : ℕ) → m < n → is_to_start (b.story n).link (b.story m) ≡ true → is_admitted (permits_in b.config) (b.story m) ≡ true
 
--- each submission that was told and has no message has its place
-abbrev pub ToldHavePlaces : Book → Type 0
-ToldHavePlaces b = (n : ℕ) → n < b.submissions → is_unstarted (b.story n) ≡ true → is_told (b.story n) ≡ true → HasItsPlace b n
+-- each submission that was told, or was shown to wait for room, and has no message has its place
+abbrev pub PlacesAreKept : Book → Type 0
+PlacesAreKept b = (n : ℕ) → n < b.submissions → is_unstarted (b.story n) ≡ true → has_place (b.story n) ≡ true → HasItsPlace b n
 
 -- before one that holds permits all hold some that are to start on its link and weren't told
 abbrev pub HoldersInOrder : Book → Type 0
@@ -56,8 +58,7 @@ line_stays b a may n i h =
     let l : ℕ = (b.story n).link in
     let less : line_before (permits_in b.config) (entered b a).story l n ≤ line_before (permits_in b.config) b.story l n = shorter (permits_in b.config) (entered b a).story b.story l n
     (λ k j e. let t : is_to_start l (b.story k) ≡ true = to_start_before b a may l k (omega (arith, i, j)) (to_start_from (permits_in b.config) l ((entered b a).story k) e) in in_line_from (permits_in b.config) l (b.story k) t (h.ahead k j t)) in
-    let room : line_before (permits_in b.config) b.story l n < queue_size b = not_le_from (queue_size b) (line_before (permits_in b.config) b.story l n) h.inside in
-    omega (arith, less, room)
+    omega (arith, less, h.room)
 
 -- so whoever has its place has it behind an action, too
 place_stays : (b : Book) (a : Action) → MayStand b a → (n : ℕ) → n < b.submissions → (entered b a).config ≡ b.config → HasItsPlace b n → HasItsPlace (entered b a) n
@@ -66,20 +67,19 @@ place_stays b a may n i same h =
     let sized : line_before (permits_in (entered b a).config) (entered b a).story (b.story n).link n < queue_size (entered b a) =
     subst (λ c. line_before (permits_in c) (entered b a).story (b.story n).link n < configured buffer_size c) (sym same) (line_stays b a may n i h) in
     record {
-      inside = not_le_test (queue_size (entered b a)) (line_before (permits_in (entered b a).config) (entered b a).story ((entered b a).story n).link n)
-          (subst (λ x. line_before (permits_in (entered b a).config) (entered b a).story x n < queue_size (entered b a)) on sized);
+      room = subst (λ x. line_before (permits_in (entered b a).config) (entered b a).story x n < queue_size (entered b a)) on sized;
       ahead = λ m j t. subst (λ c. is_admitted (permits_in c) ((entered b a).story m) ≡ true) (sym same)
           (ahead_stays b a may n i h m j (subst (λ x. is_to_start x ((entered b a).story m) ≡ true) (sym on) t));
     }
 
--- what an action tells is told in place: who is told behind it was told before, or has a place
-abbrev TellsNone : Book → Action → Type 0
-TellsNone b a = (n : ℕ) → n < b.submissions → is_unstarted ((entered b a).story n) ≡ true → is_told ((entered b a).story n) ≡ true → (is_told (b.story n) ≡ true) ⊎ HasItsPlace b n
+-- an action gives a place to none that had none: who has one behind it was said to before, or has a place
+abbrev GivesNone : Book → Action → Type 0
+GivesNone b a = (n : ℕ) → n < b.submissions → is_unstarted ((entered b a).story n) ≡ true → has_place ((entered b a).story n) ≡ true → (has_place (b.story n) ≡ true) ⊎ HasItsPlace b n
 
 -- so it is behind it
-kept_by : (b : Book) (a : Action) → MayStand b a → (entered b a).config ≡ b.config → TellsNone b a → ToldHavePlaces b
-    → (n : ℕ) → n < b.submissions → is_unstarted ((entered b a).story n) ≡ true → is_told ((entered b a).story n) ≡ true → HasItsPlace (entered b a) n
-kept_by b a may same tells h n i u t = place_stays b a may n i same (elim (tells n i u t) [ inl before ↦ h n i ((follows b a may n i).unstarted u) before | inr place ↦ place ])
+kept_by : (b : Book) (a : Action) → MayStand b a → (entered b a).config ≡ b.config → GivesNone b a → PlacesAreKept b
+    → (n : ℕ) → n < b.submissions → is_unstarted ((entered b a).story n) ≡ true → has_place ((entered b a).story n) ≡ true → HasItsPlace (entered b a) n
+kept_by b a may same gives h n i u t = place_stays b a may n i same (elim (gives n i u t) [ inl before ↦ h n i ((follows b a may n i).unstarted u) before | inr place ↦ place ])
 
 -- an event answers none
 event_outcomes : (b : Book) (n : ℕ) (kind : EventKind) → (after_event b n kind).outcomes ≡ (b.story n).outcomes
@@ -121,11 +121,49 @@ event_told b n (event.ReadFault l kind) i t = t
 event_told b n (event.WriteFault l kind) i t = t
 event_told b n event.Shutdown i t = t
 
+-- who waits for room behind an event did before
+event_rooms : (b : Book) (n : ℕ) (kind : EventKind) → is_room (after_event b n kind).waiting ≡ true → is_room (b.story n).waiting ≡ true
+event_rooms b n (event.Submit what) t = chosen (λ (s : Story). is_room s.waiting ≡ true → is_room (b.story n).waiting ≡ true) (b.submissions == n) (handed_in (b.story n) what b.shut (is_unspoken b what) (current b) b.timeout) (b.story n) (λ e u. u) (λ f u. u) t
+event_rooms b n (event.Cancel m) t = chosen (λ (s : Story). is_room s.waiting ≡ true → is_room (b.story n).waiting ≡ true) (m == n) (left (b.story n)) (b.story n)
+    (λ e. chosen (λ (s : Story). is_room s.waiting ≡ true → is_room (b.story n).waiting ≡ true) (is_open (b.story n)) (record (b.story n) { cancelled = true; permits = 0; waiting = None }) (b.story n) (λ o u. absurd (cc u)) (λ o u. u)) (λ f u. u) t
+event_rooms b n (event.Connected l) t = t
+event_rooms b n (event.Refused l f) t = t
+event_rooms b n (event.Fired w) t = chosen (λ (s : Story). is_room s.waiting ≡ true → is_room (b.story n).waiting ≡ true) (is_clock_of n (slice_get b.timers w)) (fires (b.story n)) (b.story n)
+    (λ e. chosen (λ (s : Story). is_room s.waiting ≡ true → is_room (b.story n).waiting ≡ true) (is_open (b.story n)) (record (b.story n) { overdue = true }) (b.story n) (λ o u. u) (λ o u. u)) (λ f u. u) t
+event_rooms b n (event.Timeout ms) t = t
+event_rooms b n (event.Creds c auth) t = t
+event_rooms b n (event.CredsError c text) t = t
+event_rooms b n (event.CredsEnd c) t = t
+event_rooms b n (event.Wrote l count) t = t
+event_rooms b n (event.Bytes l piece) t = t
+event_rooms b n (event.Ended l) t = t
+event_rooms b n (event.ReadFault l kind) t = t
+event_rooms b n (event.WriteFault l kind) t = t
+event_rooms b n event.Shutdown t = t
+
+-- of two stories of one submission: where the second waits for room, so does the first, and where it was told, so was the first
+place_from : (before after : Story) → (is_room after.waiting ≡ true → is_room before.waiting ≡ true) → (is_told after ≡ true → is_told before ≡ true) → has_place after ≡ true → has_place before ≡ true
+place_from before after room told h = elim (one_holds (is_room after.waiting) (is_told after) h) [
+  | inl r ↦ first_holds (is_room before.waiting) (is_told before) (room r)
+  | inr t ↦ second_holds (is_room before.waiting) (is_told before) (told t)
+]
+
+-- so no event gives a place
+event_placed : (b : Book) (n : ℕ) (kind : EventKind) → n < b.submissions → has_place (after_event b n kind) ≡ true → has_place (b.story n) ≡ true
+event_placed b n kind i h = place_from (b.story n) (after_event b n kind) (event_rooms b n kind) (event_told b n kind i) h
+
 -- what comes by an event is not told
 new_is_untold : (b : Book) (n : ℕ) (kind : EventKind) → HasStories b → b.submissions ≤ n → is_told (after_event b n kind) ≡ true → ⊥
 new_is_untold b n kind stories i t =
     let none : (after_event b n kind).outcomes ≡ [] = event_outcomes b n kind ∙ ap (λ (s : Story). s.outcomes) (stories n i) in
     let e : false ≡ true = sym (ap is_no_error none) ∙ both_right (not (is_awaited (after_event b n kind))) (is_no_error (after_event b n kind).outcomes) t in cc e
+
+-- nor has it a place
+new_is_unplaced : (b : Book) (n : ℕ) (kind : EventKind) → HasStories b → b.submissions ≤ n → has_place (after_event b n kind) ≡ true → ⊥
+new_is_unplaced b n kind stories i h = elim (one_holds (is_room (after_event b n kind).waiting) (is_told (after_event b n kind)) h) [
+  | inl r ↦ let x : false ≡ true = sym (ap (λ (s : Story). is_room s.waiting) (stories n i)) ∙ event_rooms b n kind r in cc x
+  | inr t ↦ new_is_untold b n kind stories i t
+]
 
 -- where one that holds permits comes behind one that holds some
 pub holds_like : (limit : Option ℕ) (p q : ℕ) → holds_some limit p ≡ true → (0 < p → 0 < q) → holds_some limit q ≡ true
@@ -148,51 +186,82 @@ admitted_before b n holders i d u p first m j t =
     (both_hold (holds_some (permits_in b.config) (b.story m).permits) (is_timed (b.story m).timeout (b.story m).clock) holds
     (holder_is_timed b m dialing up untold holds (λ due. first m j (record { unstarted = unstarted; due = due })))))
 
--- so one that is told at its place has it
-tell_seated : (b : Book) (m : ℕ) (o : Outcome) → Sound b → HoldersInOrder b → MayTell b m o → HasItsPlace b m
-tell_seated b m o sound holders may =
+-- so one that isn't outside has its place
+inside_seated : (b : Book) (n : ℕ) → HoldersInOrder b → PlacesAreKept b → n < b.submissions → is_unstarted (b.story n) ≡ true → dials (link_of b n) ≡ false → is_ready (link_of b n) ≡ true → is_let_in (permits_in b.config) (b.story n) ≡ true
+    → is_outside b n ≡ false → ((m : ℕ) → m < n → CanMove b m → ⊥) → HasItsPlace b n
+inside_seated b n holders kept i unstarted d u p inside first = elim (inside_has_room b n inside) [
+  | inl place ↦ kept n i unstarted place
+  | inr room ↦ record {
+    room = room;
+    ahead = admitted_before b n holders i d u (both_left (holds_some (permits_in b.config) (b.story n).permits) (is_timed (b.story n).timeout (b.story n).clock) p) first;
+  }
+]
+
+-- one that is told at its place
+tell_seated : (b : Book) (m : ℕ) (o : Outcome) → Sound b → HoldersInOrder b → PlacesAreKept b → MayTell b m o → HasItsPlace b m
+tell_seated b m o sound holders kept may =
     let t = tells_mean b m may.tells in
-    record {
-      inside = t.3;
-      ahead = admitted_before b m holders (mover_is_numbered b m sound.stories (teller_moves b m o may)) t.0 t.1 (both_left (holds_some (permits_in b.config) (b.story m).permits) (is_timed (b.story m).timeout (b.story m).clock) t.2) may.in_order;
-    }
+    inside_seated b m holders kept (mover_is_numbered b m sound.stories (teller_moves b m o may)) may.unstarted t.0 t.1 t.2 t.3 may.in_order
+
+-- it was told, so it was said to have a place
+pub told_place : (s : Story) → is_told s ≡ true → has_place s ≡ true
+told_place s t = second_holds (is_room s.waiting) (is_told s) t
+
+-- one that is shown to wait for room
+wait_seated : (b : Book) (m : ℕ) (kind : WaitKind) → HoldersInOrder b → PlacesAreKept b → MayWait b m kind → m < b.submissions → is_unstarted (b.story m) ≡ true → is_room (Some kind) ≡ true → (has_place (b.story m) ≡ true) ⊎ HasItsPlace b m
+wait_seated b m wait.Room holders kept may i unstarted e =
+    let t = rooms_mean b m may.holds in
+    elim t.2 [
+      | inl told ↦ inl (told_place (b.story m) told)
+      | inr placed ↦ inr (inside_seated b m holders kept i unstarted t.0 t.1 placed.0 placed.1 (λ k below. may.written.moved.moved k))
+    ]
+wait_seated b m _ holders kept may i unstarted e = absurd (cc e)
 
 -- an outcome tells in place
-outcome_tells : (b : Book) (m : ℕ) (o : Outcome) → Sound b → HoldersInOrder b → MayAnswer b m o ⊎ MayTell b m o → is_unstarted (answered (b.story m) o) ≡ true → HasItsPlace b m
-outcome_tells b m o sound holders (inl owes) u = absurd (owed_is_done b m o owes u)
-outcome_tells b m o sound holders (inr told) u = tell_seated b m o sound holders told
+outcome_tells : (b : Book) (m : ℕ) (o : Outcome) → Sound b → HoldersInOrder b → PlacesAreKept b → MayAnswer b m o ⊎ MayTell b m o → is_unstarted (answered (b.story m) o) ≡ true → HasItsPlace b m
+outcome_tells b m o sound holders kept (inl owes) u = absurd (owed_is_done b m o owes u)
+outcome_tells b m o sound holders kept (inr told) u = tell_seated b m o sound holders kept told
 
--- where nobody is told
-unchanged : (b : Book) (a : Action) → ((n : ℕ) → is_told ((entered b a).story n) ≡ true → is_told (b.story n) ≡ true) → TellsNone b a
+-- where nobody is told, or waits
+unchanged : (b : Book) (a : Action) → ((n : ℕ) → has_place ((entered b a).story n) ≡ true → has_place (b.story n) ≡ true) → GivesNone b a
 unchanged b a same n i u t = inl (same n t)
 
 -- each action that may stand keeps it
-seated_kept : (b : Book) (a : Action) → MayStand b a → Sound b → HoldersInOrder b → ToldHavePlaces b → ToldHavePlaces (entered b a)
+seated_kept : (b : Book) (a : Action) → MayStand b a → Sound b → HoldersInOrder b → PlacesAreKept b → PlacesAreKept (entered b a)
 seated_kept b (action.Turn k (cause.Opening config word)) may sound holders h = λ n i u t. let none : b.submissions ≡ 0 = sound.opens.no_submissions (sound.opens.no_links may.is_for) in absurd (omega (arith, none, i))
 seated_kept b (action.Turn k (cause.Event e)) may sound holders h = λ n i u t. by_test (nat_lt n b.submissions) (HasItsPlace (entered b (action.Turn k (cause.Event e))) n)
-    (λ old. kept_by b (action.Turn k (cause.Event e)) may refl (λ m j v w. inl (event_told b m e.kind j w)) h n (lt_from n b.submissions old) u t)
-    (λ new. absurd (new_is_untold b n e.kind sound.stories (not_lt_from n b.submissions new) t))
+    (λ old. kept_by b (action.Turn k (cause.Event e)) may refl (λ m j v w. inl (event_placed b m e.kind j w)) h n (lt_from n b.submissions old) u t)
+    (λ new. absurd (new_is_unplaced b n e.kind sound.stories (not_lt_from n b.submissions new) t))
 seated_kept b (action.Connect l host port) may sound holders h = kept_by b (action.Connect l host port) may refl (unchanged b (action.Connect l host port) (λ n t. t)) h
 seated_kept b (action.Timer w ms what) may sound holders h =
-    kept_by b (action.Timer w ms what) may refl (unchanged b (action.Timer w ms what) (λ n. chosen (λ s. is_told s ≡ true → is_told (b.story n) ≡ true) (is_clock_of n (Some what)) (clocked (b.story n) w) (b.story n) (λ e t. t) (λ f t. t))) h
+    kept_by b (action.Timer w ms what) may refl (unchanged b (action.Timer w ms what) (λ n. chosen (λ s. has_place s ≡ true → has_place (b.story n) ≡ true) (is_clock_of n (Some what)) (clocked (b.story n) w) (b.story n) (λ e t. t) (λ f t. t))) h
 seated_kept b (action.Took owner.Setup l count) may sound holders h = absurd may
+seated_kept b (action.Took owner.Auth l count) may sound holders h = absurd may
 seated_kept b (action.Took (owner.Try m round) l count) may sound holders h =
-    kept_by b (action.Took (owner.Try m round) l count) may refl (unchanged b (action.Took (owner.Try m round) l count) (λ n. chosen (λ s. is_told s ≡ true → is_told (b.story n) ≡ true) (m == n) (holds (b.story n) count) (b.story n) (λ e t. t) (λ f t. t))) h
+    kept_by b (action.Took (owner.Try m round) l count) may refl (unchanged b (action.Took (owner.Try m round) l count) (λ n. chosen (λ s. has_place s ≡ true → has_place (b.story n) ≡ true) (m == n) (holds (b.story n) count) (b.story n) (λ e t. t) (λ f t. t))) h
 seated_kept b (action.Push l info) may sound holders h = kept_by b (action.Push l info) may refl (unchanged b (action.Push l info) (λ n t. t)) h
 seated_kept b (action.NeedCreds c l) may sound holders h = kept_by b (action.NeedCreds c l) may refl (unchanged b (action.NeedCreds c l) (λ n t. t)) h
 seated_kept b (action.Close l) may sound holders h = kept_by b (action.Close l) may refl (unchanged b (action.Close l) (λ n t. t)) h
 seated_kept b (action.Write l bytes) may sound holders h = kept_by b (action.Write l bytes) may refl (unchanged b (action.Write l bytes) (λ n t. t)) h
 seated_kept b (action.Wait owner.Setup kind) may sound holders h = absurd may
+seated_kept b (action.Wait owner.Auth kind) may sound holders h = absurd may
 seated_kept b (action.Wait (owner.Try m round) kind) may sound holders h =
-    kept_by b (action.Wait (owner.Try m round) kind) may refl (unchanged b (action.Wait (owner.Try m round) kind) (λ n. chosen (λ s. is_told s ≡ true → is_told (b.story n) ≡ true) (m == n) (waits (b.story n) kind) (b.story n) (λ e t. t) (λ f t. t))) h
+    kept_by b (action.Wait (owner.Try m round) kind) may refl
+    (λ n i. chosen (λ s. is_unstarted s ≡ true → has_place s ≡ true → (has_place (b.story n) ≡ true) ⊎ HasItsPlace b n) (m == n) (waits (b.story n) kind) (b.story n)
+    (λ e u p. elim (one_holds (is_room (Some kind)) (is_told (b.story n)) p) [
+      | inl r ↦ wait_seated b n kind holders h (subst (λ j. MayWait b j kind) (eq_from m n e) may.1) i u r
+      | inr t ↦ inl (told_place (b.story n) t)
+    ])
+    (λ f u p. inl p)) h
 seated_kept b (action.Start l k owner.Setup count len) may sound holders h = kept_by b (action.Start l k owner.Setup count len) may refl (unchanged b (action.Start l k owner.Setup count len) (λ n t. t)) h
+seated_kept b (action.Start l k owner.Auth count len) may sound holders h = kept_by b (action.Start l k owner.Auth count len) may refl (unchanged b (action.Start l k owner.Auth count len) (λ n t. t)) h
 seated_kept b (action.Start l k (owner.Try m round) count len) may sound holders h =
-    kept_by b (action.Start l k (owner.Try m round) count len) may refl (unchanged b (action.Start l k (owner.Try m round) count len) (λ n. chosen (λ s. is_told s ≡ true → is_told (b.story n) ≡ true) (m == n) (tried (b.story n) l k) (b.story n) (λ e t. t) (λ f t. t))) h
+    kept_by b (action.Start l k (owner.Try m round) count len) may refl (unchanged b (action.Start l k (owner.Try m round) count len) (λ n. chosen (λ s. has_place s ≡ true → has_place (b.story n) ≡ true) (m == n) (tried (b.story n) l k) (b.story n) (λ e. place_from (b.story n) (tried (b.story n) l k) (λ r. absurd (cc r)) (λ t. t)) (λ f t. t))) h
 seated_kept b (action.Created e) may sound holders h = kept_by b (action.Created e) may refl (unchanged b (action.Created e) (λ n t. t)) h
 seated_kept b (action.Outcome m o) may sound holders h =
     kept_by b (action.Outcome m o) may refl
-    (λ n i. chosen (λ s. is_unstarted s ≡ true → is_told s ≡ true → (is_told (b.story n) ≡ true) ⊎ HasItsPlace b n) (m == n) (answered (b.story n) o) (b.story n)
-    (λ e u t. inr (subst (λ j. is_unstarted (answered (b.story j) o) ≡ true → HasItsPlace b j) (eq_from m n e) (outcome_tells b m o sound holders may) u))
+    (λ n i. chosen (λ s. is_unstarted s ≡ true → has_place s ≡ true → (has_place (b.story n) ≡ true) ⊎ HasItsPlace b n) (m == n) (answered (b.story n) o) (b.story n)
+    (λ e u t. inr (subst (λ j. is_unstarted (answered (b.story j) o) ≡ true → HasItsPlace b j) (eq_from m n e) (outcome_tells b m o sound holders h may) u))
     (λ f u t. inl t)) h
 
 -- submission n takes permits now
@@ -240,6 +309,7 @@ gains b (action.Turn k (cause.Event e)) may n = event_gains b n e.kind
 gains b (action.Connect l host port) may n = λ i. inl i
 gains b (action.Timer t ms what) may n = chosen (Gains b n) (is_clock_of n (Some what)) (clocked (b.story n) t) (b.story n) (λ e i. inl i) (λ f i. inl i)
 gains b (action.Took owner.Setup l count) may n = absurd may
+gains b (action.Took owner.Auth l count) may n = absurd may
 gains b (action.Took (owner.Try m round) l count) may n = chosen (Gains b n) (m == n) (holds (b.story n) count) (b.story n)
     (λ t i. inr (subst (TakesNow b) (eq_from m n t) (l, count, may.1))) (λ f i. inl i)
 gains b (action.Push l info) may n = λ i. inl i
@@ -247,8 +317,10 @@ gains b (action.NeedCreds c l) may n = λ i. inl i
 gains b (action.Close l) may n = λ i. inl i
 gains b (action.Write l bytes) may n = λ i. inl i
 gains b (action.Wait owner.Setup kind) may n = absurd may
+gains b (action.Wait owner.Auth kind) may n = absurd may
 gains b (action.Wait (owner.Try m round) kind) may n = chosen (Gains b n) (m == n) (waits (b.story n) kind) (b.story n) (λ t i. inl i) (λ f i. inl i)
 gains b (action.Start l k owner.Setup count len) may n = λ i. inl i
+gains b (action.Start l k owner.Auth count len) may n = λ i. inl i
 gains b (action.Start l k (owner.Try m round) count len) may n = chosen (Gains b n) (m == n) (tried (b.story n) l k) (b.story n) (λ t i. inl i) (λ f i. inl i)
 gains b (action.Created e) may n = λ i. inl i
 gains b (action.Outcome m o) may n = chosen (Gains b n) (m == n) (answered (b.story n) o) (b.story n) (λ t i. absurd (omega (arith, i))) (λ f i. inl i)
@@ -275,14 +347,14 @@ holders_kept b a may stories h m n i numbered t untold some =
     let was_untold : is_told (b.story m) ≡ false = untold_before (permits_in b.config) (b.story m) ((entered b a).story m) fm u untold in
     fm.holds u untold (elim gained [ inl had ↦ h m n i j before was_untold had | inr now ↦ taker_behind b m n i before was_untold now ])
 
--- what was told has its place, and who holds permits does so in order
+-- who has a place keeps it, and who holds permits does so in order
 pub record IsSeated (b : Book) : Type 0 where
-  pub told : ToldHavePlaces b
+  pub kept : PlacesAreKept b
   pub holders : HoldersInOrder b
 
 -- each action that may stand keeps it
 pub stays_seated : (b : Book) (a : Action) → MayStand b a → Sound b → IsSeated b → IsSeated (entered b a)
-stays_seated b a may sound h = record { told = seated_kept b a may sound h.holders h.told; holders = holders_kept b a may sound.stories h.holders }
+stays_seated b a may sound h = record { kept = seated_kept b a may sound h.holders h.kept; holders = holders_kept b a may sound.stories h.holders }
 
 -- and so do many
 stay_seated : (b : Book) (front : List Action) → AllStand b front → Sound b → IsSeated b → IsSeated (entered_each b front)
@@ -292,4 +364,4 @@ stay_seated b (a ∷ more) all sound h = stay_seated (entered b a) more all.1 (s
 -- so it is behind actions that may stand
 pub seated_behind : (front : List Action) → AllStand blank_book front → IsSeated (book front)
 unfolding book
-seated_behind front all = stay_seated blank_book front all blank_is_sound (record { told = λ n i u t. absurd (omega (arith, i)); holders = λ m n i j t untold some. absurd (omega (arith, j)) })
+seated_behind front all = stay_seated blank_book front all blank_is_sound (record { kept = λ n i u t. absurd (omega (arith, i)); holders = λ m n i j t untold some. absurd (omega (arith, j)) })

@@ -65,7 +65,7 @@ blank_is_sound = record {
   once = λ n. record { once = omega arith; told = λ e t. absurd (cc e) };
   starts = λ n t e. absurd (cc e);
   shut = λ s l. absurd (cc s);
-  shaped = λ l. record { none = λ e. refl; are = λ k s i. absurd (omega (arith, i)); bare = λ lacks. refl };
+  shaped = λ l. record { none = λ e. refl; are = λ k s i. absurd (omega (arith, i)); bare = λ lacks. refl; ready = λ some. absurd (cc some); second = λ none. refl; came = λ none. refl };
   waits = λ l heard. absurd (cc heard);
   goes = λ n. refl;
 }

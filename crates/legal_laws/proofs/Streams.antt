@@ -1,11 +1,11 @@
 -- The bytes that a link takes and is offered are the first of its messages.
-use Rattle.std.proofs.Common.{◌≡◌, ℕ, true, List, [], ◌∷◌, ◌++◌, length, take, drop, refl, sym, ◌∙◌, ap, subst, append_assoc}
+use Rattle.std.proofs.Common.{◌≡◌, ℕ, true, ◌&&◌, List, [], ◌∷◌, ◌++◌, length, take, drop, refl, sym, ◌∙◌, ap, subst, append_assoc}
 use Rattle.std.proofs.lemmas.List.{append-nil, take-append-drop}
 use Rattle.std.proofs.Math.Seq.{drop-append_seam}
 use Rattle.containers.proofs.Choices.{chosen}
 use Rattle.redis_error.specs.declared.redis_error.RedisError.TheVariants as error
-use Rattle.driver_model.specs.News.{News, silence, connected, refused, overdue, took, came, failed, shut, authorized, denied, deserted}
-use Rattle.legal_trace.specs.Ledger.{Ledger, Line, asks, hears, begins, offers, tells, ends, parts, blank_ledger, noted, noted_each, with_news, refused_in, bytes_came, is_over, dials, joined, stream, MayNote, AllNoted, LinkLegal, sources, awaits_credentials, authorized_by}
+use Rattle.driver_model.specs.News.{News, silence, connected, refused, overdue, took, came, failed, shut, authorized, denied, deserted, renewed, unrenewed, late}
+use Rattle.legal_trace.specs.Ledger.{Ledger, Line, asks, hears, begins, offers, tells, ends, parts, blank_ledger, noted, noted_each, with_news, refused_in, bytes_came, is_over, dials, joined, stream, MayNote, AllNoted, LinkLegal, sources, awaits_credentials, authorized_by, times, may_renew, renewed_by, unrenewed_by, is_renewal_open, lost_by}
 use Rattle.legal_trace.proofs.Ledgers.{joined_more}
 use Rattle.legal_laws.specs.Links.{IsPrefix, TakesInOrder}
 
@@ -46,6 +46,9 @@ hears_in_order l turn (failed f) h = h
 hears_in_order l turn (authorized c) h = chosen InOrder (awaits_credentials l) (authorized_by l c) l (λ t. h) (λ e. h)
 hears_in_order l turn (denied text) h = h
 hears_in_order l turn deserted h = h
+hears_in_order l turn (renewed c) h = chosen InOrder (may_renew l) (renewed_by l c) l (λ t. h) (λ e. h)
+hears_in_order l turn unrenewed h = chosen InOrder l.up (unrenewed_by l) l (λ t. h) (λ e. h)
+hears_in_order l turn (late k) h = chosen InOrder (l.up && is_renewal_open l k) (lost_by l) l (λ t. h) (λ e. h)
 hears_in_order l turn shut h = h
 
 -- so does a line that may stand
@@ -57,6 +60,7 @@ noted_in_order l (offers bytes) may h = subst (λ x. IsPrefix (l.taken ++ x) (jo
 noted_in_order l tells may h = h
 noted_in_order l (ends turn) may h = h
 noted_in_order l sources may h = h
+noted_in_order l times may h = h
 noted_in_order l parts may h = h
 
 -- so do many

@@ -1,5 +1,5 @@
 -- What a push that is told does to ledgers, and where pushes wait that aren't told.
-use Rattle.std.proofs.Common.{◌≡◌, ℕ, zero, suc, ◌+◌, ◌≤◌, ◌==◌, ◌-◌, Bool, true, false, List, [], ◌∷◌, ◌++◌, take, Option, Some, None, is_some, if◌then◌else◌, refl, ap, subst, arith}
+use Rattle.std.proofs.Common.{◌≡◌, ℕ, zero, suc, ◌+◌, ◌≤◌, ◌==◌, ◌-◌, Bool, true, false, ◌&&◌, List, [], ◌∷◌, ◌++◌, take, Option, Some, None, is_some, if◌then◌else◌, refl, ap, subst, arith}
 use Rattle.std.specs.Prelude.{slice_get}
 use Rattle.containers.proofs.Choices.{chosen}
 use Rattle.redis_error.specs.declared.redis_error.RedisError.TheVariants as error
@@ -11,10 +11,10 @@ use Rattle.driver_model.specs.declared.action.Cause.TheVariants as cause
 use Rattle.driver_model.specs.declared.action.Owner.TheVariants as owner
 use Rattle.driver_model.specs.declared.event.EventKind.{EventKind}
 use Rattle.driver_model.specs.declared.event.EventKind.TheVariants as event
-use Rattle.driver_model.specs.News.{News, silence, connected, refused, overdue, took, came, failed, shut, news_of, authorized, denied, deserted}
-use Rattle.legal_trace.specs.Ledger.{Ledger, Heard, asks, begins, offers, tells, ends, parts, noted, with_news, refused_in, bytes_came, is_over, dials, next_push, MayNote, sources, awaits_credentials, authorized_by}
+use Rattle.driver_model.specs.News.{News, silence, connected, refused, overdue, took, came, failed, shut, news_of, authorized, denied, deserted, renewed, unrenewed, late}
+use Rattle.legal_trace.specs.Ledger.{Ledger, Heard, asks, begins, offers, tells, ends, parts, noted, with_news, refused_in, bytes_came, is_over, dials, next_push, MayNote, sources, awaits_credentials, authorized_by, times, may_renew, renewed_by, unrenewed_by, is_renewal_open, lost_by}
 use Rattle.legal_trace.specs.Story.{Story, is_open, handed_in, left, holds, clocked, fires, tried, waits, answered}
-use Rattle.legal_trace.specs.Book.{Book, entered, push_line, info_in, message_of, current, is_clock_of, after_event, is_unspoken, wanted_in}
+use Rattle.legal_trace.specs.Book.{Book, entered, push_line, info_in, message_of, current, is_clock_of, after_event, is_unspoken, wanted_in, is_renewal_of}
 use Rattle.legal_trace.specs.Legal.{MayStand, MayPush, MayPushBy, is_heard}
 use Rattle.legal_trace.proofs.Ledgers.{mine_keeps}
 use Rattle.legal_trace.proofs.Plain.{not_none}
@@ -56,6 +56,9 @@ waits_hears l turn (failed f) h = h
 waits_hears l turn (authorized c) h = chosen Waits (awaits_credentials l) (authorized_by l c) l (λ t. h) (λ e. h)
 waits_hears l turn (denied text) h = h
 waits_hears l turn deserted h = h
+waits_hears l turn (renewed c) h = chosen Waits (may_renew l) (renewed_by l c) l (λ t. h) (λ e. h)
+waits_hears l turn unrenewed h = chosen Waits l.up (unrenewed_by l) l (λ t. h) (λ e. h)
+waits_hears l turn (late k) h = chosen Waits (l.up && is_renewal_open l k) (lost_by l) l (λ t. h) (λ e. h)
 waits_hears l turn shut h = h
 
 -- and where one is told
@@ -73,16 +76,19 @@ waits_kept b (action.Turn k (cause.Opening config word)) may still h = λ l hear
     absurd (not_none (next_push (b.link l)) p (ap (λ (hs : List Heard). slice_get hs (b.link l).told) (still (omega (arith, none)) l).mute) next)
 waits_kept b (action.Turn k (cause.Event e)) may still h = λ l heard. waits_hears (b.link l) k (news_of b.timers b.sources l e.kind) (h l heard)
 waits_kept b (action.Connect m host port) may still h = λ l heard. mine_keeps Waits (m == l) (b.link l) (asks (info_in b.config) (wanted_in b.config)) (λ t. h l heard) (h l heard)
-waits_kept b (action.Timer t ms what) may still h = h
+waits_kept b (action.Timer t ms what) may still h = λ l heard. mine_keeps Waits (is_renewal_of l what) (b.link l) times (λ t. h l heard) (h l heard)
 waits_kept b (action.Took owner.Setup m count) may still h = absurd may
+waits_kept b (action.Took owner.Auth m count) may still h = absurd may
 waits_kept b (action.Took (owner.Try n round) m count) may still h = h
 waits_kept b (action.Push m info) may still h = λ l heard. push_keeps Waits (m == l) info.kind (b.link l) (waits_tells (b.link l) (h l heard)) (h l heard) (h l heard)
 waits_kept b (action.NeedCreds c m) may still h = λ l heard. mine_keeps Waits (m == l) (b.link l) sources (λ t. h l heard) (h l heard)
 waits_kept b (action.Close m) may still h = λ l heard. mine_keeps Waits (m == l) (b.link l) (ends (b.turns - 1)) (λ t p next. absurd (not_none (next_push (b.link l)) p (may.pushed l heard) next)) (h l heard)
 waits_kept b (action.Write m bytes) may still h = λ l heard. mine_keeps Waits (m == l) (b.link l) (offers bytes) (λ t. h l heard) (h l heard)
 waits_kept b (action.Wait owner.Setup kind) may still h = absurd may
+waits_kept b (action.Wait owner.Auth kind) may still h = absurd may
 waits_kept b (action.Wait (owner.Try n round) kind) may still h = h
 waits_kept b (action.Start m k owner.Setup count len) may still h = λ l heard. mine_keeps Waits (m == l) (b.link l) (begins (message_of b m owner.Setup)) (λ t. h l heard) (h l heard)
+waits_kept b (action.Start m k owner.Auth count len) may still h = λ l heard. mine_keeps Waits (m == l) (b.link l) (begins (message_of b m owner.Auth)) (λ t. h l heard) (h l heard)
 waits_kept b (action.Start m k (owner.Try n round) count len) may still h = λ l heard. mine_keeps Waits (m == l) (b.link l) (begins (message_of b m (owner.Try n round))) (λ t. h l heard) (h l heard)
 waits_kept b (action.Created e) may still h = h
 waits_kept b (action.Outcome n o) may still h = h
@@ -120,14 +126,17 @@ goes_kept b (action.Turn k (cause.Event e)) one h n = event_goes b n e.kind one 
 goes_kept b (action.Connect m host port) one h n = h n
 goes_kept b (action.Timer t ms what) one h n = chosen OnFirst (is_clock_of n (Some what)) (clocked (b.story n) t) (b.story n) (λ e. h n) (λ f. h n)
 goes_kept b (action.Took owner.Setup m count) one h n = h n
+goes_kept b (action.Took owner.Auth m count) one h n = h n
 goes_kept b (action.Took (owner.Try i round) m count) one h n = chosen OnFirst (i == n) (holds (b.story n) count) (b.story n) (λ e. h n) (λ f. h n)
 goes_kept b (action.Push m info) one h n = h n
 goes_kept b (action.NeedCreds c m) one h n = h n
 goes_kept b (action.Close m) one h n = h n
 goes_kept b (action.Write m bytes) one h n = h n
 goes_kept b (action.Wait owner.Setup kind) one h n = h n
+goes_kept b (action.Wait owner.Auth kind) one h n = h n
 goes_kept b (action.Wait (owner.Try i round) kind) one h n = chosen OnFirst (i == n) (waits (b.story n) kind) (b.story n) (λ e. h n) (λ f. h n)
 goes_kept b (action.Start m k owner.Setup count len) one h n = h n
+goes_kept b (action.Start m k owner.Auth count len) one h n = h n
 goes_kept b (action.Start m k (owner.Try i round) count len) one h n = chosen OnFirst (i == n) (tried (b.story n) m k) (b.story n) (λ e. h n) (λ f. h n)
 goes_kept b (action.Created e) one h n = h n
 goes_kept b (action.Outcome i o) one h n = chosen OnFirst (i == n) (answered (b.story n) o) (b.story n) (λ e. h n) (λ f. h n)

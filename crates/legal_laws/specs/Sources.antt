@@ -17,7 +17,7 @@ StartsNoneLacking trace =
     (front more : List Action) (l : ℕ) → trace ≡ front ++ more → lacks_credentials ((book front).link l) ≡ true
     → ((book front).link l).starts ≡ []
 
--- a message starts on link l, of its setup or of a submission
+-- a message starts on link l, of its setup, of new credentials or of a submission
 abbrev pub StartsOn : ℕ → Action → Type 0
 StartsOn l (action.Start m k who count len) = m ≡ l
 StartsOn l _ = ⊥

@@ -6,11 +6,11 @@ use Rattle.resp_read.specs.Values.{values, left_over}
 use Rattle.resp_read.specs.Items.{items}
 use Rattle.resp_value.specs.Data.{Data}
 use Rattle.redis_error.specs.declared.redis_error.RedisError.TheVariants as error
-use Rattle.driver_model.specs.News.{News, silence, connected, refused, overdue, took, came, failed, authorized, denied, deserted, shut}
+use Rattle.driver_model.specs.News.{News, silence, connected, refused, overdue, took, came, failed, authorized, denied, deserted, renewed, unrenewed, late, shut}
 use Rattle.driver_model.specs.declared.outcome.Shape.{Shape}
 use Rattle.driver_model.specs.declared.outcome.Shape.TheVariants.{Single, Pipeline, Confirmation}
 use Rattle.driver_model.specs.Shape.{need_of}
-use Rattle.legal_trace.specs.Ledger.{Ledger, Line, Start, asks, hears, begins, offers, tells, sources, ends, parts, noted, noted_each, with_news, refused_in, bytes_came, heard_each, items_came, awaits_credentials, authorized_by, is_over, dials, reach, joined, AllNoted}
+use Rattle.legal_trace.specs.Ledger.{Ledger, Line, Start, asks, hears, begins, offers, tells, sources, times, ends, parts, noted, noted_each, with_news, refused_in, bytes_came, heard_each, items_came, awaits_credentials, authorized_by, may_renew, renewed_by, unrenewed_by, is_renewal_open, lost_by, is_over, dials, reach, joined, AllNoted}
 use Rattle.legal_trace.specs.Book.{if_mine}
 use Rattle.legal_trace.proofs.Plain.{none_from}
 
@@ -65,6 +65,9 @@ up_hears l turn (failed f) h = h
 up_hears l turn (authorized c) h = chosen UpIsNotOver (awaits_credentials l) (authorized_by l c) l (λ t. h) (λ e. h)
 up_hears l turn (denied text) h = h
 up_hears l turn deserted h = h
+up_hears l turn (renewed c) h = chosen UpIsNotOver (may_renew l) (renewed_by l c) l (λ t. h) (λ e. h)
+up_hears l turn unrenewed h = chosen UpIsNotOver l.up (unrenewed_by l) l (λ t. h) (λ e. h)
+up_hears l turn (late k) h = chosen UpIsNotOver (l.up && is_renewal_open l k) (lost_by l) l (λ t. h) (λ e. h)
 up_hears l turn shut h = h
 
 -- nor does any line
@@ -75,6 +78,7 @@ up_keeps l (begins s) h = h
 up_keeps l (offers bytes) h = h
 up_keeps l tells h = h
 up_keeps l sources h = h
+up_keeps l times h = h
 up_keeps l (ends turn) h = λ u. cc
 up_keeps l parts h = h
 
@@ -104,6 +108,9 @@ hears_past l turn (failed f) = same_past l
 hears_past l turn (authorized c) = chosen (SamePast l) (awaits_credentials l) (authorized_by l c) l (λ t. record { asked = refl; end = λ n. n; starts = refl }) (λ e. same_past l)
 hears_past l turn (denied text) = same_past l
 hears_past l turn deserted = same_past l
+hears_past l turn (renewed c) = chosen (SamePast l) (may_renew l) (renewed_by l c) l (λ t. record { asked = refl; end = λ n. n; starts = refl }) (λ e. same_past l)
+hears_past l turn unrenewed = chosen (SamePast l) l.up (unrenewed_by l) l (λ t. record { asked = refl; end = λ n. n; starts = refl }) (λ e. same_past l)
+hears_past l turn (late k) = chosen (SamePast l) (l.up && is_renewal_open l k) (lost_by l) l (λ t. record { asked = refl; end = λ n. n; starts = refl }) (λ e. same_past l)
 hears_past l turn shut = same_past l
 
 -- each line leaves it so
@@ -114,6 +121,7 @@ asked_keeps l (begins s) h = h
 asked_keeps l (offers bytes) h = h
 asked_keeps l tells h = h
 asked_keeps l sources h = h
+asked_keeps l times h = h
 asked_keeps l (ends turn) h = h
 asked_keeps l parts h = h
 
@@ -129,6 +137,7 @@ started_keeps k l (begins s) h = let e : length (l.starts ++ s ∷ []) ≡ lengt
 started_keeps k l (offers bytes) h = h
 started_keeps k l tells h = h
 started_keeps k l sources h = h
+started_keeps k l times h = h
 started_keeps k l (ends turn) h = h
 started_keeps k l parts h = h
 
@@ -152,6 +161,9 @@ unasked_hears l turn (failed f) not_up h = h
 unasked_hears l turn (authorized c) not_up h = chosen IsUnasked (awaits_credentials l) (authorized_by l c) l (λ t. h) (λ e. h)
 unasked_hears l turn (denied text) not_up h = h
 unasked_hears l turn deserted not_up h = h
+unasked_hears l turn (renewed c) not_up h = chosen IsUnasked (may_renew l) (renewed_by l c) l (λ t. h) (λ e. h)
+unasked_hears l turn unrenewed not_up h = chosen IsUnasked l.up (unrenewed_by l) l (λ t. h) (λ e. h)
+unasked_hears l turn (late k) not_up h = chosen IsUnasked (l.up && is_renewal_open l k) (lost_by l) l (λ t. h) (λ e. h)
 unasked_hears l turn shut not_up h = h
 
 -- the bytes of a message more
@@ -201,6 +213,9 @@ few_hears l turn (failed f) h = h
 few_hears l turn (authorized c) h = chosen FewAreDealt (awaits_credentials l) (authorized_by l c) l (λ t. h) (λ e. h)
 few_hears l turn (denied text) h = h
 few_hears l turn deserted h = h
+few_hears l turn (renewed c) h = chosen FewAreDealt (may_renew l) (renewed_by l c) l (λ t. h) (λ e. h)
+few_hears l turn unrenewed h = chosen FewAreDealt l.up (unrenewed_by l) l (λ t. h) (λ e. h)
+few_hears l turn (late k) h = chosen FewAreDealt (l.up && is_renewal_open l k) (lost_by l) l (λ t. h) (λ e. h)
 few_hears l turn shut h = h
 
 -- and with any line
@@ -211,5 +226,6 @@ few_keeps l (begins s) h = let e : reach (l.starts ++ s ∷ []) l.dealt ≡ reac
 few_keeps l (offers bytes) h = h
 few_keeps l tells h = h
 few_keeps l sources h = h
+few_keeps l times h = h
 few_keeps l (ends turn) h = h
 few_keeps l parts h = h

@@ -4,3 +4,4 @@ pub mod Books
 pub mod Moves
 pub mod Setups
 pub mod Sources
+pub mod Renewals

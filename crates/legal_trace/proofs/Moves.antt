@@ -1,7 +1,7 @@
 -- Submissions whose messages haven't started: what they have, and what it tells that they make a step next, or wait.
-use Rattle.std.proofs.Common.{◌≡◌, ◌⊎◌, inl, inr, ℕ, zero, suc, ◌+◌, ◌-◌, ◌<◌, ◌≤◌, ◌==◌, nat_lt, nat_le, min, Bool, true, false, ◌&&◌, ◌||◌, length, Option, None, Some, is_none, is_some, if◌then◌else◌, [], refl, sym, ◌∙◌, ap, subst, arith}
+use Rattle.std.proofs.Common.{◌≡◌, ◌⊎◌, inl, inr, ℕ, zero, suc, ◌+◌, ◌-◌, ◌<◌, ◌≤◌, ◌==◌, nat_lt, nat_le, min, Bool, true, false, ◌&&◌, ◌||◌, not, length, Option, None, Some, is_none, is_some, if◌then◌else◌, [], refl, sym, ◌∙◌, ap, subst, arith}
 use Rattle.std.proofs.lemmas.List.{nil_from_length}
-use Rattle.containers.proofs.Choices.{by_test, both_left, both_right, eq_from, not_both, not_lt_from}
+use Rattle.containers.proofs.Choices.{by_test, chosen, both_left, both_right, eq_from, not_both, not_lt_from, not_le_from}
 use Rattle.driver_model.specs.declared.action.Purpose.{Purpose}
 use Rattle.driver_model.specs.declared.action.WaitKind.{WaitKind}
 use Rattle.driver_model.specs.declared.action.WaitKind.TheVariants as wait
@@ -9,14 +9,15 @@ use Rattle.driver_model.specs.declared.config.Config.{Config}
 use Rattle.driver_model.specs.Config.{buffer_size, boundary}
 use Rattle.driver_model.specs.Shape.{permits_for}
 use Rattle.driver_model.specs.declared.outcome.Outcome.{Outcome}
-use Rattle.legal_trace.specs.Ledger.{Ledger, dials, is_ready, is_set_up}
-use Rattle.legal_trace.specs.Story.{Story, is_open, is_told, is_awaited, is_unstarted, shape}
+use Rattle.legal_trace.specs.Ledger.{Ledger, dials, is_ready, is_set_up, lacks_credentials}
+use Rattle.legal_trace.specs.Story.{Story, has_place, is_room, is_open, is_told, is_awaited, is_unstarted, shape}
+use Rattle.legal_trace.specs.Story.{waits as shown}
 use Rattle.legal_trace.specs.Book.{Book}
-use Rattle.legal_trace.specs.Steps.{Step, waits, takes, asks, tells, starts, nothing, is_due, configured, is_held, is_held_back, permits_in, permits_on, permits_held, free_permits, is_let_in, is_in_line, line_before, is_outside, unready_wait, starts_or_waits, step_placed, step_timed, step_taking, step_holding, step_open, step_ready, next_step}
+use Rattle.legal_trace.specs.Steps.{Step, waits, takes, asks, tells, starts, nothing, is_due, configured, is_held, is_held_back, renewals_in_line, permits_in, permits_on, permits_held, free_permits, is_let_in, is_in_line, line_before, is_outside, unready_wait, queue_size, starts_or_waits, step_placed, step_timed, step_taking, step_holding, step_open, step_ready, next_step}
 use Rattle.legal_trace.specs.Legal.{MayTell, MayStart, MayTime, MayTake, CanMove, link_of}
 
 -- one of two holds
-one_holds : (p q : Bool) → (p || q) ≡ true → (p ≡ true) ⊎ (q ≡ true)
+pub one_holds : (p q : Bool) → (p || q) ≡ true → (p ≡ true) ⊎ (q ≡ true)
 one_holds true q e = inl refl
 one_holds false q e = inr e
 
@@ -28,6 +29,10 @@ has_no_tries s h = nil_from_length s.tries (eq_from (length s.tries) 0 (both_lef
 pub open_or_told : (s : Story) → is_unstarted s ≡ true → (is_open s ≡ true) ⊎ (is_told s ≡ true)
 open_or_told s h = one_holds (is_open s) (is_told s) (both_right (length s.tries == 0) (is_open s || is_told s) h)
 
+-- it has no place, where so many stand in line before it
+abbrev pub is_outside_of : Option Config → Story → ℕ → Ledger → Bool
+is_outside_of config s line l = not (has_place s) && nat_le (configured buffer_size config) (renewals_in_line l + line)
+
 -- the next step of such a submission: what the configuration is, its story, how many stand in line before it, how many permits
 -- are held, and its link
 abbrev pub step_of : Option Config → Story → ℕ → ℕ → Ledger → Step
@@ -35,7 +40,7 @@ step_of config s line held l =
     if dials l then waits wait.Connect
     else if l.up then (if is_set_up l then step_open (is_told s) (is_held (configured boundary config) l)
     (step_holding (permits_in config) s.permits (λ limit. step_taking (limit - held) (permits_for (shape s) limit))
-    (step_timed s.timeout s.clock (step_placed (nat_le (configured buffer_size config) line) (is_awaited s) (is_held (configured boundary config) l)))) else waits (unready_wait l))
+    (step_timed s.timeout s.clock (step_placed (is_outside_of config s line l) (is_awaited s) (is_held (configured boundary config) l)))) else waits (unready_wait l))
     else nothing
 
 -- where the same stand in line, as many do
@@ -402,3 +407,120 @@ placed_is_awaited b n untold e =
       | inl told ↦ absurd (not_both (is_told (b.story n)) untold told.0)
       | inr not_told ↦ awaited_at_its_place (is_outside b n) (is_awaited (b.story n)) (is_held_back b (link_of b n)) (past_timer b n starts (inl refl) not_told.1).1
     ]
+
+-- whoever waits for room on a link that isn't set up does so for no such thing
+unready_not_room : (l : Ledger) → unready_wait l ≡ wait.Room → ⊥
+unready_not_room l e = chosen (λ kind. kind ≡ wait.Room → ⊥) (lacks_credentials l) wait.Creds wait.Setup (λ t x. cc x) (λ f x. cc x) e
+
+-- who waits for room does so on a link that is ready
+room_of : (dialing up set : Bool) (unready : WaitKind) (step : Step) → (unready ≡ wait.Room → ⊥)
+    → (if dialing then waits wait.Connect else if up then (if set then step else waits unready) else nothing) ≡ waits wait.Room → (dialing ≡ false) × ((up && set) ≡ true) × (step ≡ waits wait.Room)
+room_of true up set unready step other e = absurd (cc e)
+room_of false true true unready step other e = (refl, refl, e)
+room_of false true false unready step other e = absurd (other (same_kind (waits unready) unready wait.Room refl e))
+room_of false false set unready step other e = absurd (cc e)
+
+-- whoever takes permits, or waits for one, doesn't wait for room
+taking_no_room : (free most : ℕ) → step_taking free most ≡ waits wait.Room → ⊥
+taking_no_room zero most e = cc e
+taking_no_room (suc free) most e = cc e
+
+-- and who waits for room at its place has it
+placed_room : (outside awaited held : Bool) → step_placed outside awaited held ≡ waits wait.Room → outside ≡ false
+placed_room true awaited held e = absurd (cc e)
+placed_room false awaited held e = refl
+
+-- where a submission waits for room, its link is ready, and it was told, or was let in and has a place
+pub rooms_mean : (b : Book) (n : ℕ) → next_step b n ≡ waits wait.Room
+    → (dials (link_of b n) ≡ false) × (is_ready (link_of b n) ≡ true)
+    × ((is_told (b.story n) ≡ true) ⊎ ((is_let_in (permits_in b.config) (b.story n) ≡ true) × (is_outside b n ≡ false)))
+rooms_mean b n e =
+    let held : Bool = is_held_back b (link_of b n) in
+    let placed : Step = step_placed (is_outside b n) (is_awaited (b.story n)) held in
+    let taking : ℕ → Step = λ limit. step_taking (free_permits b (b.story n).link limit) (permits_for (shape (b.story n)) limit) in
+    let r = room_of (dials (link_of b n)) (link_of b n).up (is_set_up (link_of b n)) (unready_wait (link_of b n)) (up_step b n) (unready_not_room (link_of b n)) e in
+    elim (open_next (is_told (b.story n)) held (untold_step b n) (waits wait.Room) r.2) [
+      | inl told ↦ (r.0, r.1, inl told.0)
+      | inr not_told ↦
+          let h = holding_next (permits_in b.config) (b.story n).permits taking (step_timed (b.story n).timeout (b.story n).clock placed) (waits wait.Room)
+          (λ most. taking_no_room (free_permits b (b.story n).link most) (permits_for (shape (b.story n)) most)) not_told.1 in
+          let t = timed_next (b.story n).timeout (b.story n).clock placed (waits wait.Room) (λ ms x. cc x) h.1 in
+          (r.0, r.1, inr (both_hold (holds_some (permits_in b.config) (b.story n).permits) (is_timed (b.story n).timeout (b.story n).clock) h.0 t.0, placed_room (is_outside b n) (is_awaited (b.story n)) held t.1))
+    ]
+
+-- of two that don't both hold, where the first does, the second doesn't
+the_other : (p q : Bool) → (p && q) ≡ false → p ≡ true → q ≡ false
+the_other true q e t = e
+the_other false q e t = absurd (cc t)
+
+-- whoever isn't outside has kept its place, or fewer stand in line before it than the queue holds
+pub inside_has_room : (b : Book) (n : ℕ) → is_outside b n ≡ false → (has_place (b.story n) ≡ true) ⊎ (line_before (permits_in b.config) b.story (b.story n).link n < queue_size b)
+inside_has_room b n e =
+    let before : ℕ = line_before (permits_in b.config) b.story (b.story n).link n in
+    let full : Bool = nat_le (queue_size b) (renewals_in_line (link_of b n) + before) in
+    by_test (has_place (b.story n)) ((has_place (b.story n) ≡ true) ⊎ (before < queue_size b)) (λ t. inl t)
+    (λ f. inr (let i : renewals_in_line (link_of b n) + before < queue_size b = not_le_from (queue_size b) (renewals_in_line (link_of b n) + before) (the_other (not (has_place (b.story n))) full e (ap not f)) in omega (arith, i)))
+
+-- what the place of a submission that waits so may come to, where it is shown
+abbrev Fits : Bool → Bool → WaitKind → Type 0
+Fits before after wait.Room = after ≡ false
+Fits before after wait.Place = before ≡ true → after ≡ true
+Fits before after _ = Unit {0}
+
+-- it waits so at its place, too
+placed_alike : (before after awaited held : Bool) (kind : WaitKind) → Fits before after kind → step_placed before awaited held ≡ waits kind → step_placed after awaited held ≡ waits kind
+placed_alike true true awaited held kind fits e = e
+placed_alike false false awaited held kind fits e = e
+placed_alike true false awaited held wait.Place fits e = absurd (let x : false ≡ true = fits refl in cc x)
+placed_alike true false awaited held _ fits e = absurd (cc e)
+placed_alike false true awaited held wait.Room fits e = absurd (let x : true ≡ false = fits in cc x)
+placed_alike false true true true _ fits e = absurd (cc e)
+placed_alike false true true false _ fits e = absurd (cc e)
+placed_alike false true false held _ fits e = absurd (cc e)
+
+-- so it does behind its timer
+timed_alike : (timeout clock : Option ℕ) (next other s : Step) → (next ≡ s → other ≡ s) → step_timed timeout clock next ≡ s → step_timed timeout clock other ≡ s
+timed_alike None clock next other s alike e = alike e
+timed_alike (Some ms) None next other s alike e = e
+timed_alike (Some ms) (Some t) next other s alike e = alike e
+
+-- behind its permits
+holding_alike : (limit : Option ℕ) (permits : ℕ) (taking : ℕ → Step) (next other s : Step) → (next ≡ s → other ≡ s) → step_holding limit permits taking next ≡ s → step_holding limit permits taking other ≡ s
+holding_alike None permits taking next other s alike e = alike e
+holding_alike (Some limit) zero taking next other s alike e = e
+holding_alike (Some limit) (suc held) taking next other s alike e = alike e
+
+-- where it wasn't told
+open_alike : (told held : Bool) (next other s : Step) → (next ≡ s → other ≡ s) → step_open told held next ≡ s → step_open told held other ≡ s
+open_alike true held next other s alike e = e
+open_alike false held next other s alike e = alike e
+
+-- and on any link
+ready_alike : (dialing up set : Bool) (unready : WaitKind) (next other s : Step) → (next ≡ s → other ≡ s)
+    → (if dialing then waits wait.Connect else if up then (if set then next else waits unready) else nothing) ≡ s → (if dialing then waits wait.Connect else if up then (if set then other else waits unready) else nothing) ≡ s
+ready_alike true up set unready next other s alike e = e
+ready_alike false true true unready next other s alike e = alike e
+ready_alike false true false unready next other s alike e = e
+ready_alike false false set unready next other s alike e = e
+
+-- a place that is kept, or found full, stays so where the wait for it is shown
+shown_fits : (old told full : Bool) (kind : WaitKind) → Fits (not (old || told) && full) (not (is_room (Some kind) || told) && full) kind
+shown_fits old told full wait.Room = refl
+shown_fits true told full wait.Place = λ e. absurd (cc e)
+shown_fits false told full wait.Place = λ e. e
+shown_fits old told full _ = tt
+
+-- where the wait is shown that a submission makes next, it waits so still
+pub shown_alike : (config : Option Config) (s : Story) (line held : ℕ) (l : Ledger) (kind : WaitKind) → step_of config s line held l ≡ waits kind → step_of config (shown s kind) line held l ≡ waits kind
+shown_alike config s line held l kind e =
+    let back : Bool = is_held (configured boundary config) l in
+    let taking : ℕ → Step = λ limit. step_taking (limit - held) (permits_for (shape s) limit) in
+    let placed : Step = step_placed (is_outside_of config s line l) (is_awaited s) back in
+    let after : Step = step_placed (is_outside_of config (shown s kind) line l) (is_awaited s) back in
+    ready_alike (dials l) l.up (is_set_up l) (unready_wait l)
+    (step_open (is_told s) back (step_holding (permits_in config) s.permits taking (step_timed s.timeout s.clock placed)))
+    (step_open (is_told s) back (step_holding (permits_in config) s.permits taking (step_timed s.timeout s.clock after))) (waits kind)
+    (open_alike (is_told s) back (step_holding (permits_in config) s.permits taking (step_timed s.timeout s.clock placed)) (step_holding (permits_in config) s.permits taking (step_timed s.timeout s.clock after)) (waits kind)
+    (holding_alike (permits_in config) s.permits taking (step_timed s.timeout s.clock placed) (step_timed s.timeout s.clock after) (waits kind)
+    (timed_alike s.timeout s.clock placed after (waits kind)
+    (placed_alike (is_outside_of config s line l) (is_outside_of config (shown s kind) line l) (is_awaited s) back kind (shown_fits (is_room s.waiting) (is_told s) (nat_le (configured buffer_size config) (renewals_in_line l + line)) kind))))) e

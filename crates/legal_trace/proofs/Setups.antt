@@ -17,7 +17,7 @@ use Rattle.connection_setup.specs.Setup.{Step, choices, library, opening, openin
 use Rattle.connection_setup.specs.Judgement.{judged}
 use Rattle.driver_model.specs.Config.{bare_info}
 use Rattle.driver_model.specs.Setup.{says_nothing, setup_bytes, setup_shape}
-use Rattle.driver_model.specs.News.{News, silence, connected, refused, overdue, took, came, failed, authorized, denied, deserted, shut}
+use Rattle.driver_model.specs.News.{News, silence, connected, refused, overdue, took, came, failed, authorized, denied, deserted, renewed, unrenewed, late, shut}
 use Rattle.driver_model.specs.Shape.{need_of}
 use Rattle.legal_trace.specs.Ledger.{Ledger, Start, Ending, is_over, reach, reached, cut, bytes_came, is_full, is_of_setup, setup_count, setup_steps, result_of, last_result, lacks_credentials, setup_result, is_well, is_set_up, error_in, repeats, setup_after, setup_due, setup_message, ending, ending_up, ending_by, ending_unready, ending_alive, ending_asked}
 use Rattle.legal_trace.proofs.Ledgers.{reach_alike, reach_more, takes_one}
@@ -344,6 +344,9 @@ unready_same l s (failed f) = refl
 unready_same l s (authorized c) = refl
 unready_same l s (denied text) = refl
 unready_same l s deserted = refl
+unready_same l s (renewed c) = refl
+unready_same l s unrenewed = refl
+unready_same l s (late k) = refl
 unready_same l s shut = refl
 
 -- so the start of a setup ends no link
