@@ -84,7 +84,6 @@ fn timer_name(timer: &ConnectionTimer) -> &'static str {
     match timer {
         ConnectionTimer::Connect => "connect-timer",
         ConnectionTimer::Response { request: _ } => "timer",
-        ConnectionTimer::Renewal { number: _ } => "renewal-timer",
     }
 }
 
@@ -100,7 +99,6 @@ fn name(act: &ConnectionAct) -> &'static str {
         ConnectionAct::Write { bytes: _ } => "write",
         ConnectionAct::Wait { .. } => "wait",
         ConnectionAct::SetUp { .. } => "setup",
-        ConnectionAct::Renewed { .. } => "renewed",
         ConnectionAct::Start { .. } => "start",
         ConnectionAct::Answered { request: _ } => "answered",
     }
@@ -312,13 +310,13 @@ fn configurations_are_refused_by_name(rt: HostRuntime) -> Result<(), AllocError>
     let buffer = new.set_pipeline_buffer_size(0);
     let limit = buffer.set_concurrency_limit(0);
     let push = limit.set_push_sender();
-    let sources = new.set_credentials_provider();
+    let kind = push.set_credentials_provider();
     for (config, wanted) in [
         (new, None),
         (buffer, Some(ConfigName::Buffer)),
         (limit, Some(ConfigName::Limit)),
         (push, Some(ConfigName::Push)),
-        (sources, None),
+        (kind, Some(ConfigName::Kind)),
     ] {
         assert!(rt; refusal(rt.alloc(), &config)? == wanted);
     }

@@ -4,8 +4,9 @@ ghost use Rattle.mux_conn.specs.Effects.{CanTake, IsWithin};
 
 use connection_info::{ProtocolVersion, RedisConnectionInfo};
 use containers::Bytes;
+use credentials::BasicAuth;
 use driver_model::{LinkEvent, LinkFault, LinkNews, Outcome, Shape, WaitKind};
-use mux_conn::{Life, LinkAct, MultiplexedConnection, Pending, Renewal};
+use mux_conn::{Life, LinkAct, MultiplexedConnection, Pending};
 use redis_error::{FaultKind, RedisError};
 use resp_value::Value;
 use std::alloc::{AllocError, Global};
@@ -38,6 +39,12 @@ pub(crate) enum Call {
     Took(u64),
     Came(&'static [u8]),
     Failed(LinkFault),
+    /// This user name and this password came of the source of credentials.
+    Authorized(&'static [u8], &'static [u8]),
+    /// The source says that there are none.
+    Denied(&'static [u8]),
+    /// The source ended.
+    Deserted,
     Shut,
     /// The first part of a turn alone: the connect succeeded.
     HearConnected,
@@ -47,8 +54,8 @@ pub(crate) enum Call {
     Flush,
 }
 
-/// What a connection is made of: the size of its queue, its boundary, its permits, whether it hears pushes, and the password
-/// that it says.
+/// What a connection is made of: the size of its queue, its boundary, its permits, whether it hears pushes, the password
+/// that it says, and whether it wants credentials of a source.
 #[derive(Clone, Copy)]
 pub(crate) struct Made {
     pub(crate) size: u32,
@@ -56,6 +63,7 @@ pub(crate) struct Made {
     pub(crate) limit: Option<u32>,
     pub(crate) hears: bool,
     pub(crate) password: Option<&'static [u8]>,
+    pub(crate) wants: bool,
 }
 
 /// What is said to a server to which no more than this password is to be said.
@@ -85,7 +93,7 @@ fn connection(alloc: Global, made: &Made) -> Result<MultiplexedConnection, Alloc
         made.limit,
         made.hears,
         info,
-        Renewal::new(alloc, false, None),
+        made.wants,
     ))
 }
 
@@ -169,6 +177,27 @@ fn take(
     step(alloc, conn, LinkNews::Took { count }, acts)
 }
 
+/// These credentials.
+fn auth(alloc: Global, username: &[u8], password: &[u8]) -> Result<BasicAuth, AllocError> {
+    let username = Bytes::from_slice(alloc, username)?;
+    let password = Bytes::from_slice(alloc, password)?;
+    Ok(BasicAuth::new(username, password))
+}
+
+/// A whole turn in which these credentials come; whether it succeeded.
+fn authorize(
+    alloc: Global,
+    conn: &mut MultiplexedConnection,
+    username: &[u8],
+    password: &[u8],
+    acts: &mut Vec<LinkAct>,
+) -> bool {
+    match auth(alloc, username, password) {
+        Ok(auth) => step(alloc, conn, LinkNews::Authorized { auth: &auth }, acts),
+        Err(_) => false,
+    }
+}
+
 /// The first part of a turn alone; whether it succeeded.
 fn hear_connected(
     alloc: Global,
@@ -213,6 +242,9 @@ fn make_turn(
         Call::Took(count) => take(alloc, conn, count, acts),
         Call::Came(piece) => step(alloc, conn, LinkNews::Came { piece }, acts),
         Call::Failed(fault) => step(alloc, conn, LinkNews::Failed { fault }, acts),
+        Call::Authorized(username, password) => authorize(alloc, conn, username, password, acts),
+        Call::Denied(text) => step(alloc, conn, LinkNews::Denied { text }, acts),
+        Call::Deserted => step(alloc, conn, LinkNews::Deserted, acts),
         Call::Shut => step(alloc, conn, LinkNews::Shut, acts),
         _ => step(alloc, conn, LinkNews::Silence, acts),
     }
@@ -251,11 +283,13 @@ fn describe_value(value: &Value) -> &[u8] {
     }
 }
 
-fn describe_fault(error: &RedisError) -> &'static [u8] {
+fn describe_fault(error: &RedisError) -> &[u8] {
     match error {
         RedisError::Closed => b"closed",
         RedisError::Parse => b"parse",
         RedisError::Io { fault } => fault.name().as_bytes(),
+        RedisError::Credentials { text } => text.as_slice(),
+        RedisError::AuthFailed { text: _ } => b"auth-failed",
         _ => b"fault",
     }
 }
@@ -269,7 +303,7 @@ fn describe_outcome(outcome: &Outcome) -> &[u8] {
     }
 }
 
-fn describe_creation(error: &Option<RedisError>) -> &'static [u8] {
+fn describe_creation(error: &Option<RedisError>) -> &[u8] {
     match error {
         Some(error) => describe_fault(error),
         None => b"ok",
@@ -279,6 +313,7 @@ fn describe_creation(error: &Option<RedisError>) -> &'static [u8] {
 fn describe_wait(kind: WaitKind) -> &'static [u8] {
     match kind {
         WaitKind::Connect => b"connect",
+        WaitKind::Creds => b"creds",
         WaitKind::Setup => b"setup",
         WaitKind::Permit => b"permit",
         WaitKind::Place => b"place",
@@ -351,9 +386,6 @@ fn describe(alloc: Global, act: &LinkAct, log: &mut Vec<u8>) -> Result<(), Alloc
         }
         LinkAct::Timer { request, ms } => tell(alloc, log, b"timer", &[u64::from(*request), *ms]),
         LinkAct::NeedCreds => word(log, b"need-creds"),
-        LinkAct::RenewalTimer { number, ms } => {
-            tell(alloc, log, b"renewal timer", &[u64::from(*number), *ms])
-        }
         LinkAct::Push { info } => tell_word(log, b"push", info.kind.name()),
         LinkAct::Close => word(log, b"close"),
         LinkAct::Write { bytes } => tell_word(log, b"write", bytes.as_slice()),
@@ -368,9 +400,6 @@ fn describe(alloc: Global, act: &LinkAct, log: &mut Vec<u8>) -> Result<(), Alloc
         } => tell_start(alloc, log, *message, *request, *len),
         LinkAct::SetUp { message, need, len } => {
             tell(alloc, log, b"setup", &[u64::from(*message), *need, *len])
-        }
-        LinkAct::Renewed { message, need, len } => {
-            tell(alloc, log, b"renewed", &[u64::from(*message), *need, *len])
         }
         LinkAct::Outcome { request, outcome } => {
             tell_of(alloc, log, b"outcome", *request, describe_outcome(outcome))

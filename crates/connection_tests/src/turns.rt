@@ -5,15 +5,16 @@ use redis_error::FaultKind;
 use std::alloc::{AllocError, Global};
 
 /// What the calls show, what the connection is made of, the calls, and what it asks and tells then.
-type Row = (&'static str, Made, &'static [Call], &'static [u8]);
+pub(crate) type Row = (&'static str, Made, &'static [Call], &'static [u8]);
 
 /// What a connection is made of where nothing is asked for.
-const PLAIN: Made = Made {
+pub(crate) const PLAIN: Made = Made {
     size: 50,
     boundary: 8192,
     limit: None,
     hears: false,
     password: None,
+    wants: false,
 };
 
 /// A queue of one place, and a boundary that one byte reaches.
@@ -23,6 +24,7 @@ const NARROW: Made = Made {
     limit: None,
     hears: false,
     password: None,
+    wants: false,
 };
 
 /// The same with three permits.
@@ -32,6 +34,7 @@ const NARROW_OF_THREE: Made = Made {
     limit: Some(3),
     hears: false,
     password: None,
+    wants: false,
 };
 
 const ONE_PERMIT: Made = Made {
@@ -40,6 +43,7 @@ const ONE_PERMIT: Made = Made {
     limit: Some(1),
     hears: false,
     password: None,
+    wants: false,
 };
 
 const TWO_PERMITS: Made = Made {
@@ -48,6 +52,7 @@ const TWO_PERMITS: Made = Made {
     limit: Some(2),
     hears: false,
     password: None,
+    wants: false,
 };
 
 /// A password is said first.
@@ -57,6 +62,7 @@ const PASSWORD: Made = Made {
     limit: None,
     hears: false,
     password: Some(b"p"),
+    wants: false,
 };
 
 /// Somebody hears pushes.
@@ -66,6 +72,7 @@ const HEARS: Made = Made {
     limit: None,
     hears: true,
     password: None,
+    wants: false,
 };
 
 /// The same where a password is said first.
@@ -75,6 +82,7 @@ const HEARS_PASSWORD: Made = Made {
     limit: None,
     hears: true,
     password: Some(b"p"),
+    wants: false,
 };
 
 /// Rows in which the parts of a turn are called alone.
@@ -245,7 +253,7 @@ took 9 1 start 2 9 1 write abc ",
 ];
 
 /// The peer is gone.
-const RESET: LinkFault = LinkFault::Io {
+pub(crate) const RESET: LinkFault = LinkFault::Io {
     fault: FaultKind::Reset,
 };
 
@@ -409,7 +417,7 @@ const PUSHES: [Row; 6] = [
 ];
 
 /// The first of these connections that asks or tells something else, by what its calls show.
-fn first_other(alloc: Global, rows: &[Row]) -> Result<Option<&'static str>, AllocError> {
+pub(crate) fn first_other(alloc: Global, rows: &[Row]) -> Result<Option<&'static str>, AllocError> {
     for row in rows {
         if !give(alloc, &row.1, row.2, row.3)? {
             return Ok(Some(row.0));

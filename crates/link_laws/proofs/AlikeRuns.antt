@@ -11,13 +11,13 @@ use Rattle.link_core.specs.declared.message.Settled.{Settled}
 use Rattle.link_core.specs.Link.{LinkState, Settling, is_full, enqueued, entry_of, holds_back, started_all, offered_of, wrote_of, piece_dealt, closed_all, faulted}
 use Rattle.link_core.specs.Outbox.{can_offer}
 use Rattle.link_core.specs.Waiting.{without}
-use Rattle.legal_trace.specs.Ledger.{offers}
+use Rattle.legal_trace.specs.Ledger.{begins, offers}
 use Rattle.link_laws.specs.Alike.{SameRow, SameLink, SameSettling, others}
-use Rattle.link_laws.specs.Starts.{begun, starting, begins_each}
-use Rattle.link_laws.specs.Runs.{Operation, place, begin, offer, take_up, read, withdraw, fail, shut_down, pass, Run, fresh_run, heard, settling, over_with, begun_all, has_come, or_parse, has_read, acted, performed, performed_each, run}
+use Rattle.link_laws.specs.Starts.{begun, start_from, starting, begins_each}
+use Rattle.link_laws.specs.Runs.{Operation, place, begin, start_first, offer, take_up, read, withdraw, fail, shut_down, pass, Run, fresh_run, heard, settling, over_with, begun_all, has_come, or_parse, has_read, acted, performed, performed_each, run}
 use Rattle.link_laws.proofs.Choices.{chosen_both}
 use Rattle.link_laws.proofs.Alike.{same_row_refl}
-use Rattle.link_laws.proofs.Cancels.{cancel_stays, cancel_alike, start_alike, bytes_alike, close_alike, fault_alike}
+use Rattle.link_laws.proofs.Cancels.{cancel_stays, cancel_alike, begin_alike, start_alike, bytes_alike, close_alike, fault_alike}
 
 -- the same run, but for whether that message's verdict is wanted, and what it was
 record SameRun (id : ℕ) (a b : Run) : Type 0 where
@@ -108,6 +108,11 @@ acted_alike id name a row out (place q) h o =
     (λ t. same_with id a row out h o)
     (λ f. same_with id (record a { link = enqueued a.link q }) row out h o)
 acted_alike id name a row out begin h o = begun_alike id name a row out h o
+acted_alike id name a row out (start_first q) h o =
+    let more = a.lines ++ begins (start_from name q) ∷ [] in
+    chosen_both (SameRun id) (length q.packed == 0) a (record a { link = begun a.link q; lines = more }) (with_row a row out) (record (with_row a row out) { link = begun (re_rowed a.link row) q; lines = more })
+    (λ t. same_with id a row out h o)
+    (λ f. record { link = begin_alike id a.link (re_rowed a.link row) q (alike id a.link row h); settled = o; rest = refl })
 acted_alike id name a row out offer h o =
     let more = a.lines ++ offers a.link.outbox.unwritten ∷ [] in
     chosen_both (SameRun id) (can_offer a.link.outbox) (record a { link = offered_of a.link; lines = more }) a (record (with_row a row out) { link = offered_of (re_rowed a.link row); lines = more }) (with_row a row out)

@@ -10,7 +10,7 @@ use Rattle.link_core.specs.declared.message.Settled.{Settled}
 use Rattle.link_core.specs.declared.message.Started.{Started}
 use Rattle.link_core.specs.Dealing.{Dealing, dealt_each}
 use Rattle.link_core.specs.Ends.{row_closed, row_hit, queue_closed, hit_by, failed_by}
-use Rattle.link_core.specs.Link.{LinkState, Starting, Settling, entry_of, enqueued, holds_back, started_one, started_each, started_all, offered_of, wrote_of, cancelled, came_all, piece_dealt, emptied, closed_all, faulted}
+use Rattle.link_core.specs.Link.{LinkState, Starting, Settling, entry_of, begun, enqueued, holds_back, started_one, started_each, started_all, offered_of, wrote_of, cancelled, came_all, piece_dealt, emptied, closed_all, faulted}
 use Rattle.link_core.specs.Row.{silent, silenced}
 use Rattle.link_core.specs.Waiting.{without}
 use Rattle.link_laws.specs.Alike.{SameEntry, SameRow, SameDealing, SameLink, SameStarting, SameSettling, others}
@@ -48,6 +48,10 @@ row_behind id [] [] e h = (inl refl, tt)
 row_behind id (x ∷ xs) (y ∷ ys) e h = (h.0, row_behind id xs ys e h.1)
 row_behind id [] (y ∷ ys) e h = absurd h
 row_behind id (x ∷ xs) [] e h = absurd h
+
+-- a message starts at once
+pub begin_alike : (id : ℕ) (s t : LinkState) (q : Queued) → SameLink id s t → SameLink id (begun s q) (begun t q)
+begin_alike id s t q h = record { row = row_behind id s.row t.row (entry_of q) h.row; rest = ap (λ x. begun x q) h.rest }
 
 start_branch : (id : ℕ) (b : Bool) (x y x' y' : Starting) → SameStarting id x x' → SameStarting id y y' → SameStarting id (if b then x else y) (if b then x' else y')
 start_branch id true x y x' y' p q = p

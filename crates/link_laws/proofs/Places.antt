@@ -24,6 +24,10 @@ line_branch false x y line p q = q
 one_more : (s : Starting) (q : Queued) (qs : List Queued) → starts (started_one s q).out ++ places qs ≡ starts s.out ++ places (q ∷ qs)
 one_more s q qs = ap (λ ns. ns ++ places qs) (starts_append s.out _) ∙ append_assoc (starts s.out) (q.id ∷ []) (places qs)
 
+-- a message that starts at once stands behind those that started, and before all that wait
+pub first_in_place : (s : Starting) (q : Queued) → line_up (started_one s q) ≡ starts s.out ++ q.id ∷ places s.link.queue
+first_in_place s q = one_more s q s.link.queue
+
 each_in_place : (s : Starting) (queue : List Queued) → line_up (started_each s queue) ≡ starts s.out ++ places queue
 each_in_place s [] = refl
 each_in_place s (q ∷ qs) =

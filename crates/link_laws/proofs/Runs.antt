@@ -24,10 +24,10 @@ use Rattle.legal_trace.proofs.Setups.{bare_is_set, ends_where_set}
 use Rattle.link_laws.specs.Settles.{IsOwed, IsOwedUnstarted}
 use Rattle.link_laws.specs.Pushes.{AreApart}
 use Rattle.link_laws.specs.Laws.{PushesAreHeard}
-use Rattle.link_laws.specs.Starts.{start_from, starting, begins_each}
-use Rattle.link_laws.specs.Runs.{Operation, place, begin, offer, take_up, read, withdraw, fail, shut_down, pass, Run, fresh_run, heard, settling, over_with, placed, begun_all, offered, taken_up, has_come, or_parse, has_read, acted, performed, performed_each, run, AreOwed}
+use Rattle.link_laws.specs.Starts.{begun, start_from, starting, begins_each}
+use Rattle.link_laws.specs.Runs.{Operation, place, begin, start_first, offer, take_up, read, withdraw, fail, shut_down, pass, Run, fresh_run, heard, settling, over_with, placed, begun_all, first_begun, offered, taken_up, has_come, or_parse, has_read, acted, performed, performed_each, run, AreOwed}
 use Rattle.link_laws.proofs.Dealt.{AreCuts, cuts_stay, cuts_kept, all_append}
-use Rattle.link_laws.proofs.TiedLink.{TiedLink, IsPacked, all_push, fresh_tied, asked_tied, connected_tied, told_tied, enqueued_tied, cancelled_tied, started_tied, starting_front, starts_stand, offered_tied, offer_stands, taken_within, wrote_tied, deals, has_read as link_read, has_heard, reads_on, heard_is, dealt_alike, read_tied}
+use Rattle.link_laws.proofs.TiedLink.{TiedLink, IsPacked, all_push, fresh_tied, asked_tied, connected_tied, told_tied, enqueued_tied, cancelled_tied, begun_tied, started_tied, starting_front, starts_stand, offered_tied, offer_stands, taken_within, wrote_tied, deals, has_read as link_read, has_heard, reads_on, heard_is, dealt_alike, read_tied}
 use Rattle.link_core.specs.Row.{lack_of_row}
 use Rattle.link_laws.proofs.Pushes.{bare_stays, pushes_say, settles_apart, stand_apart}
 use Rattle.link_laws.proofs.Settles.{lacks_are, cuts_owed, row_hit_owed, row_closed_owed, queue_owed}
@@ -107,8 +107,11 @@ heard_live name l r h = record {
 }
 
 -- a message that is not turned away has bytes
+has_bytes : (bs : List ℕ) → (length bs == 0) ≡ false → bs ≢ []
+has_bytes bs f e = ne_from (length bs) 0 f (ap length e)
+
 is_packed : (full : Bool) (bs : List ℕ) → (full || (length bs == 0)) ≡ false → bs ≢ []
-is_packed full bs f e = ne_from (length bs) 0 (or_right full (length bs == 0) f) (ap length e)
+is_packed full bs f = has_bytes bs (or_right full (length bs == 0) f)
 
 -- a message takes a place
 placed_live : (name : ℕ → Owner) (l : Ledger) (r : Run) (q : Queued) → r.over ≡ false → IsLive name l r → GoesOn name (placed r q)
@@ -176,6 +179,28 @@ begun_live name l r h =
       cuts = begins_cuts name l qs r.settled h.cuts;
       none = h.none;
     }
+
+-- a message starts at once
+first_live : (name : ℕ → Owner) (l : Ledger) (r : Run) (q : Queued) → r.over ≡ false → IsLive name l r → GoesOn name (first_begun name r q)
+first_live name l r q goes_on h =
+    let start = start_from name q in
+    chosen (GoesOn name) (length q.packed == 0) r (record r { link = begun r.link q; lines = r.lines ++ begins start ∷ [] })
+    (λ t. (goes_on, (l, h)))
+    (λ f.
+    let some = has_bytes q.packed f in (
+      goes_on,
+      (
+        noted l (begins start),
+        record {
+          told = told_more l r.lines (begins start ∷ []) h.told ((h.lives.up, some), tt);
+          lives = begins_live name l (q ∷ []) h.lives;
+          tied = begun_tied name l r.link q some h.tied;
+          packed = h.packed;
+          cuts = begins_cuts name l (q ∷ []) r.settled h.cuts;
+          none = h.none;
+        },
+      ),
+    ))
 
 -- all unwritten bytes are offered
 offered_live : (name : ℕ → Owner) (l : Ledger) (r : Run) → r.over ≡ false → IsLive name l r → GoesOn name (offered r)
@@ -331,6 +356,7 @@ read_sound name l r piece goes_on h =
 acted_sound : (name : ℕ → Owner) (l : Ledger) (r : Run) (o : Operation) → r.over ≡ false → IsLive name l r → Sound name (acted name r o)
 acted_sound name l r (place q) goes_on h = inl (placed_live name l r q goes_on h)
 acted_sound name l r begin goes_on h = inl (goes_on, (noted_each l (begins_each name (starting r.link r.link.queue)), begun_live name l r h))
+acted_sound name l r (start_first q) goes_on h = inl (first_live name l r q goes_on h)
 acted_sound name l r offer goes_on h = inl (offered_live name l r goes_on h)
 acted_sound name l r (take_up n) goes_on h = inl (taken_live name l r n goes_on h)
 acted_sound name l r (read piece) goes_on h = read_sound name l r piece goes_on h

@@ -14,9 +14,10 @@ use Rattle.link_core.specs.Dealing.{Dealing, dealt_each}
 use Rattle.link_core.specs.Ends.{row_closed, row_hit, queue_closed}
 use Rattle.link_core.specs.Link.{Starting, Settling, is_full, enqueued, entry_of, holds_back, started_one, started_each, offered_of, wrote_of, piece_dealt, came_all, emptied, closed_all, faulted}
 use Rattle.link_core.specs.Outbox.{can_offer}
-use Rattle.legal_trace.specs.Ledger.{offers}
+use Rattle.legal_trace.specs.Ledger.{begins, offers}
 use Rattle.link_laws.specs.Settles.{settled_ids, wanted, awaited_ids, awaited_of}
-use Rattle.link_laws.specs.Runs.{Operation, place, begin, offer, take_up, read, withdraw, fail, shut_down, pass, Run, heard, settling, over_with, placed, has_come, or_parse, acted, performed, answered_or_wanted, wanted_by, is_withdraw}
+use Rattle.link_laws.specs.Starts.{begun, start_from}
+use Rattle.link_laws.specs.Runs.{Operation, place, begin, start_first, offer, take_up, read, withdraw, fail, shut_down, pass, Run, heard, settling, over_with, placed, first_begun, has_come, or_parse, acted, performed, answered_or_wanted, line_with, wanted_first, wanted_by, is_withdraw}
 use Rattle.link_laws.proofs.Choices.{chosen_both}
 use Rattle.link_laws.proofs.Once.{settled_ids-append, wanted-append, awaited_ids-append, items_keep, closed_ids, hit_ids}
 
@@ -83,26 +84,47 @@ placed_keeps r q =
     ∙ ap (λ ns. settled_ids r.settled ++ ns) (sym (append_assoc (wanted r.link.row) (awaited_ids r.link.queue) own))
     ∙ sym (append_assoc (settled_ids r.settled) (awaited_of r.link) own))
 
+-- the line with these at its end
+at_end : (r : Run) (last : List ℕ) → answered_or_wanted r ++ last ≡ line_with r [] last
+at_end r last =
+    append_assoc (settled_ids r.settled) (awaited_of r.link) last ∙ ap (λ ns. settled_ids r.settled ++ ns) (append_assoc (wanted r.link.row) (awaited_ids r.link.queue) last)
+
+-- and with nobody more
+as_it_was : (r : Run) → answered_or_wanted r ≡ line_with r [] []
+as_it_was r = sym (append-nil (answered_or_wanted r)) ∙ at_end r []
+
+-- a message that starts at once stands before all that wait
+first_keeps : (name : ℕ → Owner) (r : Run) (q : Queued) → answered_or_wanted (first_begun name r q) ≡ line_with r (if length q.packed == 0 then [] else (if q.awaited then q.id ∷ [] else [])) []
+first_keeps name r q =
+    let own = if q.awaited then q.id ∷ [] else [] in
+    chosen_both (λ (x : Run) (ns : List ℕ). answered_or_wanted x ≡ line_with r ns []) (length q.packed == 0) r (record r { link = begun r.link q; lines = r.lines ++ begins (start_from name q) ∷ [] }) [] own
+    (λ t. as_it_was r)
+    (λ f. ap (λ ns. settled_ids r.settled ++ ns) (one_keeps r.link.row q r.link.queue) ∙ ap (λ ns. settled_ids r.settled ++ (wanted r.link.row ++ (own ++ ns))) (sym (append-nil (awaited_ids r.link.queue))))
+
 -- each operation of a link that has not ended leaves all in line
-acted_keeps : (name : ℕ → Owner) (r : Run) (o : Operation) → r.over ≡ false → is_withdraw o ≡ false → answered_or_wanted (acted name r o) ≡ answered_or_wanted r ++ wanted_by r o
-acted_keeps name r (place q) g n = if_false (λ ns. answered_or_wanted (placed r q) ≡ answered_or_wanted r ++ ns) r.over [] (if is_full r.link || (length q.packed == 0) then [] else (if q.awaited then q.id ∷ [] else [])) g (placed_keeps r q)
-acted_keeps name r begin g n = ap (λ ns. settled_ids r.settled ++ ns) (starts_keep (record { link = r.link; out = [] }) r.link.queue) ∙ sym (append-nil (answered_or_wanted r))
-acted_keeps name r offer g n = chosen (λ (x : Run). answered_or_wanted x ≡ answered_or_wanted r ++ []) (can_offer r.link.outbox) _ _ (λ t. sym (append-nil _)) (λ f. sym (append-nil _))
-acted_keeps name r (take_up k) g n = chosen (λ (x : Run). answered_or_wanted x ≡ answered_or_wanted r ++ []) (nat_le k r.link.outbox.offered) _ _ (λ t. sym (append-nil _)) (λ f. sym (append-nil _))
-acted_keeps name r (read piece) g n = parse_keeps (has_come (heard r (came piece)) (piece_dealt (settling r) piece)) ∙ bytes_keep (settling r) piece ∙ sym (append-nil (answered_or_wanted r))
+acted_keeps : (name : ℕ → Owner) (r : Run) (o : Operation) → r.over ≡ false → is_withdraw o ≡ false → answered_or_wanted (acted name r o) ≡ line_with r (wanted_first r o) (wanted_by r o)
+acted_keeps name r (place q) g n =
+    if_false (λ ns. answered_or_wanted (placed r q) ≡ line_with r [] ns) r.over [] (if is_full r.link || (length q.packed == 0) then [] else (if q.awaited then q.id ∷ [] else [])) g (placed_keeps r q ∙ at_end r _)
+acted_keeps name r begin g n = ap (λ ns. settled_ids r.settled ++ ns) (starts_keep (record { link = r.link; out = [] }) r.link.queue) ∙ as_it_was r
+acted_keeps name r (start_first q) g n = if_false (λ ns. answered_or_wanted (first_begun name r q) ≡ line_with r ns []) r.over [] (if length q.packed == 0 then [] else (if q.awaited then q.id ∷ [] else [])) g (first_keeps name r q)
+acted_keeps name r offer g n = chosen (λ (x : Run). answered_or_wanted x ≡ line_with r [] []) (can_offer r.link.outbox) _ _ (λ t. as_it_was r) (λ f. as_it_was r)
+acted_keeps name r (take_up k) g n = chosen (λ (x : Run). answered_or_wanted x ≡ line_with r [] []) (nat_le k r.link.outbox.offered) _ _ (λ t. as_it_was r) (λ f. as_it_was r)
+acted_keeps name r (read piece) g n = parse_keeps (has_come (heard r (came piece)) (piece_dealt (settling r) piece)) ∙ bytes_keep (settling r) piece ∙ as_it_was r
 acted_keeps name r (withdraw id) g n = cc
-acted_keeps name r (fail f) g n = append-nil _ ∙ faulted_once (heard r (failed f)) f ∙ sym (append-nil (answered_or_wanted r))
-acted_keeps name r shut_down g n = append-nil _ ∙ closed_once (heard r shut) ∙ sym (append-nil (answered_or_wanted r))
-acted_keeps name r pass g n = sym (append-nil (answered_or_wanted r))
+acted_keeps name r (fail f) g n = append-nil _ ∙ faulted_once (heard r (failed f)) f ∙ as_it_was r
+acted_keeps name r shut_down g n = append-nil _ ∙ closed_once (heard r shut) ∙ as_it_was r
+acted_keeps name r pass g n = as_it_was r
 
 -- and so does each of one that has
-over_keeps : (r : Run) (o : Operation) → r.over ≡ true → answered_or_wanted r ≡ answered_or_wanted r ++ wanted_by r o
-over_keeps r (place q) g = if_true (λ ns. answered_or_wanted r ≡ answered_or_wanted r ++ ns) r.over [] _ g (sym (append-nil (answered_or_wanted r)))
-over_keeps r _ g = sym (append-nil (answered_or_wanted r))
+over_keeps : (r : Run) (o : Operation) → r.over ≡ true → answered_or_wanted r ≡ line_with r (wanted_first r o) (wanted_by r o)
+over_keeps r (place q) g = if_true (λ ns. answered_or_wanted r ≡ line_with r [] ns) r.over [] _ g (as_it_was r)
+over_keeps r (start_first q) g = if_true (λ ns. answered_or_wanted r ≡ line_with r ns []) r.over [] _ g (as_it_was r)
+over_keeps r _ g = as_it_was r
 
--- no operation but a withdrawal moves anyone out of the line, and a place in the queue is its end
-pub performed_keeps : (name : ℕ → Owner) (r : Run) (o : Operation) → is_withdraw o ≡ false → answered_or_wanted (performed name r o) ≡ answered_or_wanted r ++ wanted_by r o
-performed_keeps name r o n = chosen (λ (x : Run). answered_or_wanted x ≡ answered_or_wanted r ++ wanted_by r o) r.over r (acted name r o) (over_keeps r o) (λ g. acted_keeps name r o g n)
+-- no operation but a withdrawal moves anyone out of the line, a place in the queue is its end, and a start at once stands before
+-- all that wait
+pub performed_keeps : (name : ℕ → Owner) (r : Run) (o : Operation) → is_withdraw o ≡ false → answered_or_wanted (performed name r o) ≡ line_with r (wanted_first r o) (wanted_by r o)
+performed_keeps name r o n = chosen (λ (x : Run). answered_or_wanted x ≡ line_with r (wanted_first r o) (wanted_by r o)) r.over r (acted name r o) (over_keeps r o) (λ g. acted_keeps name r o g n)
 
 -- what an operation that ends a link settles
 --
@@ -120,6 +142,8 @@ parse_once r x g f e =
 acted_once : (name : ℕ → Owner) (r : Run) (o : Operation) → r.over ≡ false → SettlesAll r (acted name r o)
 acted_once name r (place q) g = chosen (SettlesAll r) (is_full r.link || (length q.packed == 0)) r (record r { link = enqueued r.link q }) (λ t o. absurd (not_both r.over g o)) (λ f o. absurd (not_both r.over g o))
 acted_once name r begin g = λ o. absurd (not_both r.over g o)
+acted_once name r (start_first q) g =
+    chosen (SettlesAll r) (length q.packed == 0) r (record r { link = begun r.link q; lines = r.lines ++ begins (start_from name q) ∷ [] }) (λ t o. absurd (not_both r.over g o)) (λ f o. absurd (not_both r.over g o))
 acted_once name r offer g = chosen (SettlesAll r) (can_offer r.link.outbox) (record r { link = offered_of r.link; lines = r.lines ++ offers r.link.outbox.unwritten ∷ [] }) r (λ t o. absurd (not_both r.over g o)) (λ f o. absurd (not_both r.over g o))
 acted_once name r (take_up k) g = chosen (SettlesAll r) (nat_le k r.link.outbox.offered) (record (heard r (took k)) { link = wrote_of r.link k }) r (λ t o. absurd (not_both r.over g o)) (λ f o. absurd (not_both r.over g o))
 acted_once name r (read piece) g = parse_once r (has_come (heard r (came piece)) (piece_dealt (settling r) piece)) g g (bytes_keep (settling r) piece)

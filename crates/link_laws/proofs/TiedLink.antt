@@ -13,7 +13,7 @@ use Rattle.credentials.specs.Credentials.{Credentials}
 use Rattle.driver_model.specs.declared.action.Owner.{Owner}
 use Rattle.redis_error.specs.declared.fault_kind.FaultKind.{FaultKind}
 use Rattle.redis_error.specs.declared.redis_error.RedisError.TheVariants as error
-use Rattle.driver_model.specs.News.{News, silence, connected, refused, overdue, took, came, failed, authorized, denied, deserted, shut}
+use Rattle.driver_model.specs.News.{News, silence, connected, refused, overdue, took, came, failed, authorized, denied, deserted, renewed, unrenewed, late, shut}
 use Rattle.link_core.specs.declared.message.Entry.{Entry}
 use Rattle.link_core.specs.declared.message.Queued.{Queued}
 use Rattle.link_core.specs.declared.message.Settled.{Settled}
@@ -23,7 +23,7 @@ use Rattle.link_core.specs.Link.{LinkState, Starting, Settling, fresh, entry_of,
 use Rattle.link_core.specs.Outbox.{can_offer}
 use Rattle.link_core.specs.Row.{silent, silenced}
 use Rattle.link_core.specs.Waiting.{without}
-use Rattle.legal_trace.specs.Ledger.{Start, End, Ledger, Sourced, unsourced, ended, asks, hears, begins, offers, sources, ends, authorized_by, awaits_credentials, blank_ledger, is_over, dials, refused_in, reach, bytes_came, noted, noted_each, joined, unwritten, IsOffered, MayNote, AllNoted}
+use Rattle.legal_trace.specs.Ledger.{Start, End, Ledger, Sourced, unsourced, ended, asks, hears, begins, offers, sources, times, ends, authorized_by, awaits_credentials, may_renew, renewed_by, unrenewed_by, lost_by, is_renewal_open, blank_ledger, is_over, dials, refused_in, reach, bytes_came, noted, noted_each, joined, unwritten, IsOffered, MayNote, AllNoted}
 use Rattle.legal_trace.proofs.Ledgers.{joined_more}
 use Rattle.link_laws.specs.Starts.{start_from, begun, starting, begins_each}
 use Rattle.link_laws.proofs.Choices.{chosen_both}
@@ -103,7 +103,11 @@ said_tied name l s info creds news h = record {
 
 -- a source of credentials is asked for
 pub sourced_tied : (name : ℕ → Owner) (l : Ledger) (s : LinkState) → TiedLink name l s → TiedLink name (noted l sources) s
-sourced_tied name l s h = said_tied name l s l.info (record l.creds { asked = true }) l.heard h
+sourced_tied name l s h = said_tied name l s l.info (record l.creds { asked = true; renews = l.creds.asked }) l.heard h
+
+-- and so is a timer for new ones
+pub timed_tied : (name : ℕ → Owner) (l : Ledger) (s : LinkState) → TiedLink name l s → TiedLink name (noted l times) s
+timed_tied name l s h = said_tied name l s l.info (record l.creds { timed = l.creds.timed + 1 }) l.heard h
 
 -- credentials come
 pub authorized_tied : (name : ℕ → Owner) (l : Ledger) (s : LinkState) (turn : ℕ) (c : Credentials) → TiedLink name l s → TiedLink name (noted l (hears turn (authorized c))) s
@@ -112,6 +116,25 @@ authorized_tied name l s turn c h =
     chosen (λ (x : Ledger). TiedLink name (record x { heard = authorized c }) s) (awaits_credentials l) m l
     (λ t. said_tied name l s m.info m.creds (authorized c) h)
     (λ f. told_tied name l s l.asked l.up (authorized c) h)
+
+-- where news may change what is known of the credentials alone
+creds_tied : (name : ℕ → Owner) (l : Ledger) (s : LinkState) (does : Bool) (creds : Sourced) (news : News) → TiedLink name l s → TiedLink name (record (if does then record l { creds = creds } else l) { heard = news }) s
+creds_tied name l s does creds news h =
+    chosen (λ (x : Ledger). TiedLink name (record x { heard = news }) s) does (record l { creds = creds }) l
+    (λ t. said_tied name l s l.info creds news h)
+    (λ f. told_tied name l s l.asked l.up news h)
+
+-- new ones come
+pub renewed_tied : (name : ℕ → Owner) (l : Ledger) (s : LinkState) (turn : ℕ) (c : Credentials) → TiedLink name l s → TiedLink name (noted l (hears turn (renewed c))) s
+renewed_tied name l s turn c h = creds_tied name l s (may_renew l) (renewed_by l c).creds (renewed c) h
+
+-- no more of them come
+pub unrenewed_tied : (name : ℕ → Owner) (l : Ledger) (s : LinkState) (turn : ℕ) → TiedLink name l s → TiedLink name (noted l (hears turn unrenewed)) s
+unrenewed_tied name l s turn h = creds_tied name l s l.up (unrenewed_by l).creds unrenewed h
+
+-- the time for some of them is over
+pub late_tied : (name : ℕ → Owner) (l : Ledger) (s : LinkState) (turn k : ℕ) → TiedLink name l s → TiedLink name (noted l (hears turn (late k))) s
+late_tied name l s turn k h = creds_tied name l s (l.up && is_renewal_open l k) (lost_by l).creds (late k) h
 
 -- its connect is asked for
 pub asked_tied : (name : ℕ → Owner) (l : Ledger) (info : RedisConnectionInfo) (wanted : Bool) (s : LinkState) → TiedLink name l s → TiedLink name (noted l (asks info wanted)) s
@@ -148,6 +171,9 @@ unheard_tied name l s turn (failed why) f h = told_tied name l s l.asked l.up (f
 unheard_tied name l s turn (authorized c) f h = authorized_tied name l s turn c h
 unheard_tied name l s turn (denied text) f h = told_tied name l s l.asked l.up (denied text) h
 unheard_tied name l s turn deserted f h = told_tied name l s l.asked l.up deserted h
+unheard_tied name l s turn (renewed c) f h = renewed_tied name l s turn c h
+unheard_tied name l s turn unrenewed f h = unrenewed_tied name l s turn h
+unheard_tied name l s turn (late k) f h = late_tied name l s turn k h
 unheard_tied name l s turn shut f h = told_tied name l s l.asked l.up shut h
 
 -- what changes the link alone

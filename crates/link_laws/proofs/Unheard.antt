@@ -7,10 +7,10 @@ use Rattle.driver_model.specs.News.{took, silence, failed, shut}
 use Rattle.link_core.specs.declared.message.Queued.{Queued}
 use Rattle.link_core.specs.Link.{is_full, enqueued, offered_of, wrote_of}
 use Rattle.link_core.specs.Outbox.{can_offer}
-use Rattle.legal_trace.specs.Ledger.{Ledger, Line, hears, offers, ends, blank_ledger, ledger, noted, noted_each}
+use Rattle.legal_trace.specs.Ledger.{Ledger, Line, hears, begins, offers, ends, blank_ledger, ledger, noted, noted_each}
 use Rattle.legal_trace.proofs.Ledgers.{noted_append}
-use Rattle.link_laws.specs.Starts.{starting, begins_each}
-use Rattle.link_laws.specs.Runs.{Operation, place, begin, offer, take_up, read, withdraw, fail, shut_down, pass, Run, heard, acted, performed, is_read}
+use Rattle.link_laws.specs.Starts.{begun, start_from, starting, begins_each}
+use Rattle.link_laws.specs.Runs.{Operation, place, begin, start_first, offer, take_up, read, withdraw, fail, shut_down, pass, Run, heard, acted, performed, is_read}
 
 -- a line of which no push is heard
 abbrev HearsNothing : Line → Type 0
@@ -43,6 +43,10 @@ HeardNoMore r x = (ledger x.lines).pushes ≡ (ledger r.lines).pushes
 acted_unheard : (name : ℕ → Owner) (r : Run) (o : Operation) → is_read o ≡ false → HeardNoMore r (acted name r o)
 acted_unheard name r (place q) other = chosen (HeardNoMore r) (is_full r.link || (length q.packed == 0)) r (record r { link = enqueued r.link q }) (λ t. refl) (λ f. refl)
 acted_unheard name r begin other = told_hear_nothing r.lines (begins_each name (starting r.link r.link.queue)) (begins_nothing name (starting r.link r.link.queue))
+acted_unheard name r (start_first q) other =
+    chosen (HeardNoMore r) (length q.packed == 0) r (record r { link = begun r.link q; lines = r.lines ++ begins (start_from name q) ∷ [] })
+    (λ t. refl)
+    (λ f. told_hear_nothing r.lines (begins (start_from name q) ∷ []) ((λ l. refl), tt))
 acted_unheard name r offer other =
     chosen (HeardNoMore r) (can_offer r.link.outbox) (record r { link = offered_of r.link; lines = r.lines ++ offers r.link.outbox.unwritten ∷ [] }) r
     (λ t. told_hear_nothing r.lines (offers r.link.outbox.unwritten ∷ []) ((λ l. refl), tt))

@@ -14,7 +14,7 @@ use Rattle.legal_trace.specs.Ledger.{Heard, reach, ledger}
 use Rattle.link_laws.specs.Alike.{SameLink, SameStarting, SameSettling, others}
 use Rattle.link_laws.specs.Pieces.{dealt_by}
 use Rattle.link_laws.specs.Pushes.{SayTheSame, AreApart}
-use Rattle.link_laws.specs.Runs.{Operation, read, withdraw, Run, performed, run, answered_or_wanted, wanted_by, is_withdraw, is_read}
+use Rattle.link_laws.specs.Runs.{Operation, read, withdraw, Run, performed, run, answered_or_wanted, line_with, wanted_first, wanted_by, is_withdraw, is_read}
 use Rattle.link_laws.specs.Settles.{settled_ids, awaited_of}
 
 -- links that are alike but for one message's own verdict are so after this call
@@ -39,12 +39,12 @@ LackWhatWasNotDealt r =
     r.over ≡ false
     → lack_of_row r.link.row ≡ reach (ledger r.lines).starts (ledger r.lines).dealt - length (ledger r.lines).dealt
 
--- the messages that were settled, and then those whose verdict is wanted, stand in one line: a message joins it at its end,
--- and no operation but a withdrawal moves anyone out of it
+-- the messages that were settled, and then those whose verdict is wanted, stand in one line: a message joins it at its end, or,
+-- where it starts at once, before all that wait for their start; and no operation but a withdrawal moves anyone out of it
 abbrev pub OneLine : Type 0
 OneLine =
     (name : ℕ → Owner) (r : Run) (op : Operation) → is_withdraw op ≡ false
-    → answered_or_wanted (performed name r op) ≡ answered_or_wanted r ++ wanted_by r op
+    → answered_or_wanted (performed name r op) ≡ line_with r (wanted_first r op) (wanted_by r op)
 
 -- what ends a link settles all whose verdict is wanted, in order
 abbrev pub EndSettlesAll : Type 0

@@ -11,15 +11,17 @@ use Rattle.std.specs.List.{AllByRecursion}
 use Rattle.link_core.specs.Ends.{queue_closed}
 use Rattle.link_core.specs.Link.{LinkState, Settling, fresh, is_full, enqueued, started_all, offered_of, wrote_of, cancelled, piece_dealt, closed_all, faulted}
 use Rattle.link_core.specs.Outbox.{can_offer}
-use Rattle.legal_trace.specs.Ledger.{Ledger, Line, asks, hears, offers, ends}
-use Rattle.link_laws.specs.Settles.{settled_ids, awaited_of, IsOwed, IsOwedUnstarted}
-use Rattle.link_laws.specs.Starts.{starting, begins_each}
+use Rattle.legal_trace.specs.Ledger.{Ledger, Line, asks, hears, begins, offers, ends}
+use Rattle.link_laws.specs.Settles.{settled_ids, wanted, awaited_ids, awaited_of, IsOwed, IsOwedUnstarted}
+use Rattle.link_laws.specs.Starts.{begun, start_from, starting, begins_each}
 
--- a message takes the last place of the queue; what may start does; all unwritten bytes are offered; so many of them are
--- taken; bytes come; the caller of a message goes; the link fails; everything is shut down; and a turn of something else
+-- a message takes the last place of the queue; what may start does; a message starts at once, before those in the queue; all
+-- unwritten bytes are offered; so many of them are taken; bytes come; the caller of a message goes; the link fails; everything
+-- is shut down; and a turn of something else
 pub data Operation : Type 0 where
   place : Queued → Operation
   begin : Operation
+  start_first : Queued → Operation
   offer : Operation
   take_up : ℕ → Operation
   read : List ℕ → Operation
@@ -62,6 +64,10 @@ placed r q = if is_full r.link || (length q.packed == 0) then r else record r { 
 abbrev pub begun_all : (ℕ → Owner) → Run → Run
 begun_all name r = record r { link = (started_all (record { link = r.link; out = [] })).link; lines = r.lines ++ begins_each name (starting r.link r.link.queue) }
 
+-- a message starts before all that wait; one without bytes doesn't
+abbrev pub first_begun : (ℕ → Owner) → Run → Queued → Run
+first_begun name r q = if length q.packed == 0 then r else record r { link = begun r.link q; lines = r.lines ++ begins (start_from name q) ∷ [] }
+
 -- all unwritten bytes are offered, where there are some and no offer is unanswered
 abbrev pub offered : Run → Run
 offered r = if can_offer r.link.outbox then record r { link = offered_of r.link; lines = r.lines ++ offers r.link.outbox.unwritten ∷ [] } else r
@@ -86,6 +92,7 @@ has_read r piece = or_parse (has_come (heard r (came piece)) (piece_dealt (settl
 abbrev pub acted : (ℕ → Owner) → Run → Operation → Run
 acted name r (place q) = placed r q
 acted name r begin = begun_all name r
+acted name r (start_first q) = first_begun name r q
 acted name r offer = offered r
 acted name r (take_up n) = taken_up r n
 acted name r (read piece) = has_read r piece
@@ -122,6 +129,15 @@ answered_or_wanted r = settled_ids r.settled ++ awaited_of r.link
 abbrev pub wanted_by : Run → Operation → List ℕ
 wanted_by r (place q) = if r.over then [] else (if is_full r.link || (length q.packed == 0) then [] else (if q.awaited then q.id ∷ [] else []))
 wanted_by r _ = []
+
+-- whose verdict a start before the queue makes wanted
+abbrev pub wanted_first : Run → Operation → List ℕ
+wanted_first r (start_first q) = if r.over then [] else (if length q.packed == 0 then [] else (if q.awaited then q.id ∷ [] else []))
+wanted_first r _ = []
+
+-- who was settled and whose verdict is still wanted, with these before all that wait, and with these at the end
+abbrev pub line_with : Run → List ℕ → List ℕ → List ℕ
+line_with r first last = settled_ids r.settled ++ (wanted r.link.row ++ (first ++ (awaited_ids r.link.queue ++ last)))
 
 -- whether the caller of a message goes
 abbrev pub is_withdraw : Operation → Bool

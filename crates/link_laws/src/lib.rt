@@ -7,12 +7,13 @@ ghost use Rattle.driver_model.specs.declared.action.Owner.{Owner};
 ghost use Rattle.driver_model.specs.declared.news.LinkFault.{LinkFault};
 ghost use Rattle.link_core.specs.declared.message.Queued.{Queued};
 ghost use Rattle.link_core.specs.Link.{LinkState, Starting, Settling, is_full};
-ghost use Rattle.link_core.specs.Link.{holds_back, enqueued, started_all, offered_of, wrote_of};
+ghost use Rattle.link_core.specs.Link.{holds_back, enqueued, begun, started_one, started_all};
+ghost use Rattle.link_core.specs.Link.{offered_of, wrote_of};
 ghost use Rattle.link_core.specs.Link.{cancelled, piece_dealt, closed_all, faulted};
 ghost use Rattle.link_core.specs.Waiting.{without};
 ghost use Rattle.legal_trace.specs.Ledger.{ledger, LinkLegal};
 ghost use Rattle.link_laws.specs.Alike.{SameLink};
-ghost use Rattle.link_laws.specs.Places.{places, line_up};
+ghost use Rattle.link_laws.specs.Places.{places, starts, line_up};
 ghost use Rattle.link_laws.specs.Runs.{Operation, run, AreOwed};
 ghost use Rattle.link_laws.specs.Laws.{KeepsAlike, StartsAlike, SettlesAlike};
 ghost use Rattle.link_laws.specs.Laws.{LackWhatWasNotDealt, OneLine, EndSettlesAll};
@@ -34,6 +35,7 @@ pub fn calls_keep_links_alike()
     ensures offer { KeepsAlike offered_of }
     ensures wrote { (n : ℕ) → KeepsAlike (λ s. wrote_of s n) }
     ensures cancel { (other : ℕ) → KeepsAlike (λ s. cancelled s other) }
+    ensures begin { (q : Queued) → KeepsAlike (λ s. begun s q) }
     ensures start { StartsAlike started_all }
     ensures bytes { (piece : List ℕ) → SettlesAlike (λ d. piece_dealt d piece) }
     ensures close { SettlesAlike closed_all }
@@ -41,11 +43,14 @@ pub fn calls_keep_links_alike()
 {}
 
 /// Does nothing. Its contract: a new message has the last place of the queue, and messages start
-/// from its front, in order, while all others keep their places.
+/// from its front, in order, while all others keep their places. One that starts at once stands
+/// behind those that started, and before all that wait.
 pub fn messages_start_in_the_order_of_their_places()
     ensures last { (s : LinkState) (q : Queued)
         → places (enqueued s q).queue ≡ places s.queue ++ q.id ∷ [] }
     ensures front { (s : Starting) → line_up (started_all s) ≡ line_up s }
+    ensures first { (s : Starting) (q : Queued)
+        → line_up (started_one s q) ≡ starts s.out ++ q.id ∷ places s.link.queue }
 {}
 
 /// Does nothing. Its contract: whatever is done with a link, what is told of it is legal.
@@ -66,9 +71,9 @@ pub fn what_a_link_settles_is_owed()
 {}
 
 /// Does nothing. Its contract: the messages that were settled, and then those whose verdict is
-/// wanted, stand in one line. A message joins it at its end, by its place in the queue, and no
-/// operation but a withdrawal moves anyone out of it. What ends a link settles all that it has, in
-/// order.
+/// wanted, stand in one line. A message joins it at its end, by its place in the queue, or, where
+/// it starts at once, before all that wait for their start, and no operation but a withdrawal moves
+/// anyone out of it. What ends a link settles all that it has, in order.
 pub fn an_end_answers_each_message_once()
     ensures line { OneLine }
     ensures end { EndSettlesAll }

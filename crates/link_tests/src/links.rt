@@ -130,7 +130,7 @@ fn say_number(
 }
 
 fn first(alloc: Global, link: &LinkCore, log: &mut Vec<u8>) -> Result<(), AllocError> {
-    match link.first_queued(u64::MAX) {
+    match link.first_queued() {
         Some(id) => say_number(alloc, log, "next ", i128::from(id), "; "),
         None => say(log, "nobody next; "),
     }

@@ -1,17 +1,15 @@
 -- The words that a client makes keep what its address and its configuration say.
-use Rattle.std.proofs.Common.{◌≡◌, ℕ, Bool, true, false, not, List, Option, Some, None, Result, Ok, Err, IfOk, OnOk, nat_eq, refl, sym, ap, subst, ◌∙◌, if◌then◌else◌}
+use Rattle.std.proofs.Common.{◌≡◌, ℕ, Bool, true, false, not, Option, Some, None, Result, Ok, Err, IfOk, OnOk, nat_eq, refl, sym, ap, subst, ◌∙◌, if◌then◌else◌}
 use Rattle.std.specs.Prelude.{unwrap_or, option_map}
-use Rattle.std.specs.Str.{is_utf8}
 use Rattle.std.proofs.lemmas.Str.{is_utf8-from_IsUtf8}
 use Rattle.std.proofs.lemmas.Bool.{eqb-true}
 use Rattle.connection_info.specs.declared.address.ConnectionInfo.{ConnectionInfo}
-use Rattle.connection_info.specs.declared.address.RedisConnectionInfo.{RedisConnectionInfo}
 use Rattle.connection_info.specs.declared.config.AsyncConnectionConfig.{AsyncConnectionConfig}
 use Rattle.connection_info.specs.Address.{address_of}
 use Rattle.connection_info.specs.Written.{url_of, with_library, ReadsBack}
 use Rattle.driver_model.specs.declared.config.Config.{Config}
 use Rattle.driver_model.specs.Config.{address, told_of, told_info, bare_info}
-use Rattle.mux_client.specs.Makers.{is_same, time_given, number_given, push_given, creds_given, library_given, config_of, Keeps}
+use Rattle.mux_client.specs.Makers.{time_given, number_given, push_given, library_given, config_of, Keeps}
 
 number_if : (default value : ℕ) (b : Bool) → nat_eq value default ≡ b → unwrap_or (if b then None else Some value) default ≡ value
 number_if default value true e = sym (eqb-true value default e)
@@ -53,28 +51,23 @@ hears_kept : (hears : Bool) → unwrap_or (push_given hears) false ≡ hears
 hears_kept true = refl
 hears_kept false = refl
 
--- whether credentials come of sources is what is given, or else they don't
-sources_kept : (provided : Bool) → unwrap_or (creds_given provided) false ≡ provided
-sources_kept true = refl
-sources_kept false = refl
-
-words_keep : (info : ConnectionInfo) (c : AsyncConnectionConfig) → ReadsBack info → Keeps info c (config_of info c)
-words_keep info c back = record {
+words_keep : (info : ConnectionInfo) (c : AsyncConnectionConfig) → ReadsBack info → c.credentials_provider ≡ false → Keeps info c (config_of info c)
+words_keep info c back built = record {
   said = said_kept info c back;
   connects = time_kept _ c.connection_timeout;
   answers = time_kept _ c.response_timeout;
   permits = refl;
   places = number_kept _ c.pipeline_buffer_size;
   pushes = hears_kept c.push_sender;
-  sources = sources_kept c.credentials_provider;
+  sources = sym built;
   room = number_kept _ c.write_backpressure_boundary;
 }
 
 -- so any words keep it that are these
-kept_by : (info : ConnectionInfo) (c : AsyncConnectionConfig) (words : Config) → words ≡ config_of info c → ReadsBack info → Keeps info c words
-kept_by info c words e back = subst (λ (found : Config). Keeps info c found) (sym e) (words_keep info c back)
+kept_by : (info : ConnectionInfo) (c : AsyncConnectionConfig) (words : Config) → words ≡ config_of info c → ReadsBack info → c.credentials_provider ≡ false → Keeps info c words
+kept_by info c words e back built = subst (λ (found : Config). Keeps info c found) (sym e) (words_keep info c back built)
 
 -- and so does what is made
-pub all_keep : {E : Type 0} (info : ConnectionInfo) (c : AsyncConnectionConfig) (r : Result Config E) → OnOk r (ReadsBack info) → IfOk r (λ words. words ≡ config_of info c) → IfOk r (Keeps info c)
-all_keep info c (Ok words) back e = kept_by info c words e back
-all_keep info c (Err x) back e = tt
+pub all_keep : {E : Type 0} (info : ConnectionInfo) (c : AsyncConnectionConfig) (r : Result Config E) → OnOk r (ReadsBack info) → OnOk r (c.credentials_provider ≡ false) → IfOk r (λ words. words ≡ config_of info c) → IfOk r (Keeps info c)
+all_keep info c (Ok words) back built e = kept_by info c words e back built
+all_keep info c (Err x) back built e = tt

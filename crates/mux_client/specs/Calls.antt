@@ -1,6 +1,5 @@
 -- What each call makes of a connection.
-use Rattle.std.specs.Prelude.{◌≡◌, ◌≢◌, ◌⊎◌, ⊤, ◌≤◌, ℕ, ◌+◌, ◌^◌, ◌==◌, Bool, true, false, List, [], ◌∷◌, ◌++◌, length, Option, Some, None, if◌then◌else◌}
-use Rattle.resp_write.specs.Command.{Command, CommandList}
+use Rattle.std.specs.Prelude.{◌≡◌, ◌⊎◌, ⊤, ◌≤◌, ℕ, ◌+◌, ◌^◌, ◌==◌, Bool, true, false, List, [], ◌∷◌, ◌++◌, length, Option, Some, None, if◌then◌else◌}
 use Rattle.resp_write.specs.Pack.{pack}
 use Rattle.resp_write.specs.Subscription.{action_word}
 use Rattle.resp_write.specs.declared.subscription.SubscriptionAction.{SubscriptionAction}
@@ -9,7 +8,6 @@ use Rattle.driver_model.specs.declared.outcome.Shape.{Shape}
 use Rattle.driver_model.specs.declared.outcome.Shape.TheVariants.{Single, Pipeline, Confirmation}
 use Rattle.driver_model.specs.News.{News}
 use Rattle.redis_error.specs.declared.redis_error.RedisError.TheVariants as fault
-use Rattle.mux_conn.specs.declared.errors.ConnectionError.{ConnectionError}
 use Rattle.mux_conn.specs.declared.errors.ConnectionError.TheVariants as failure
 use Rattle.mux_conn.specs.Connection.{Work, work_with}
 use Rattle.mux_conn.specs.Requests.{asked}

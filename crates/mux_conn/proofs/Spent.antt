@@ -12,7 +12,7 @@ use Rattle.link_core.specs.Outbox.{can_offer}
 use Rattle.link_core.proofs.StartLemmas.{numbers_rise}
 use Rattle.mux_conn.specs.declared.connection.MultiplexedConnection.{MultiplexedConnection}
 use Rattle.mux_conn.specs.declared.life.Life.{Life}
-use Rattle.mux_conn.specs.declared.life.Life.TheVariants.{Dialing, SettingUp, Ready, Ended}
+use Rattle.mux_conn.specs.declared.life.Life.TheVariants.{Dialing, Wanting, SettingUp, Ready, Ended}
 use Rattle.mux_conn.specs.declared.request.Waiting.{Waiting}
 use Rattle.mux_conn.specs.Connection.{Work, with_link, with_setup, admits_none, has_room, started_in, is_spent_in}
 use Rattle.mux_conn.specs.Requests.{is_open_at, is_waiting_at, is_admitted_at, answered}
@@ -40,6 +40,7 @@ set_up_same w (s ∷ ss) = set_up_same _ ss
 -- starts give no smaller numbers
 started_rises_at : (w : Work) (life : Life) → w.conn.life ≡ life → count w ≤ count (started_at w life)
 started_rises_at w Dialing e = le_refl (count w)
+started_rises_at w (Wanting link) e = le_refl (count w)
 started_rises_at w (Ended x) e = le_refl (count w)
 started_rises_at w (SettingUp link with_user) e =
     let all = started_all (record { link = link; out = [] }) in
@@ -86,6 +87,7 @@ told_count w q = count_either q.awaited (count w) w (answered w q.number (outcom
 
 placed_count : (w : Work) (q : Waiting) (life : Life) → w.conn.life ≡ life → count (placed_at w q life) ≡ count w
 placed_count w q Dialing e = refl
+placed_count w q (Wanting link) e = refl
 placed_count w q (Ended x) e = refl
 placed_count w q (SettingUp link with_user) e = refl
 placed_count w q (Ready link) e = let from : count w ≡ link.started = ap started_in e in sym from
@@ -125,6 +127,7 @@ let_in_count w q =
 
 admitted_at_rises : (w : Work) (q : Waiting) (life : Life) → count w ≤ count (admitted_at w q life)
 admitted_at_rises w q Dialing = le_refl (count w)
+admitted_at_rises w q (Wanting link) = le_refl (count w)
 admitted_at_rises w q (SettingUp link with_user) = le_refl (count w)
 admitted_at_rises w q (Ended x) = let same = answered_count w q.number (outcome.Fault x) in omega (arith, same)
 admitted_at_rises w q (Ready link) = let same = let_in_count w q in omega (arith, same, behind_rises (let_in w q) q)
@@ -186,6 +189,7 @@ fresh_count w = fresh_each_count (record w { conn = record w.conn { fresh = [] }
 
 written_count : (w : Work) (life : Life) → w.conn.life ≡ life → count (written_at w life) ≡ count w
 written_count w Dialing e = refl
+written_count w (Wanting link) e = refl
 written_count w (Ended x) e = refl
 written_count w (SettingUp link with_user) e = let from : count w ≡ link.started = ap started_in e in count_either (can_offer link.outbox) (count w) _ w (sym from) refl
 written_count w (Ready link) e = let from : count w ≡ link.started = ap started_in e in count_either (can_offer link.outbox) (count w) _ w (sym from) refl

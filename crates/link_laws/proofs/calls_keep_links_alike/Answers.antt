@@ -1,4 +1,4 @@
-use Rattle.link_laws.proofs.Cancels.{enqueue_alike, offer_alike, wrote_alike, cancel_alike, start_alike, bytes_alike, close_alike, fault_alike}
+use Rattle.link_laws.proofs.Cancels.{enqueue_alike, offer_alike, wrote_alike, cancel_alike, begin_alike, start_alike, bytes_alike, close_alike, fault_alike}
 use Rattle.link_laws.proofs.calls_keep_links_alike.Goals as goal
 
 pub returns : goal.returns
@@ -7,6 +7,7 @@ returns c = record {
   offer = offer_alike;
   wrote = λ n id s t h. wrote_alike id s t n h;
   cancel = λ other id s t h. cancel_alike id other s t h;
+  begin = λ q id s t h. begin_alike id s t q h;
   start = start_alike;
   bytes = λ piece id s t out out' h o. bytes_alike id s t out out' piece h o;
   close = close_alike;
