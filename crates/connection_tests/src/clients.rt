@@ -84,6 +84,7 @@ fn timer_name(timer: &ConnectionTimer) -> &'static str {
     match timer {
         ConnectionTimer::Connect => "connect-timer",
         ConnectionTimer::Response { request: _ } => "timer",
+        ConnectionTimer::Renewal { number: _ } => "renewal-timer",
     }
 }
 
@@ -99,6 +100,7 @@ fn name(act: &ConnectionAct) -> &'static str {
         ConnectionAct::Write { bytes: _ } => "write",
         ConnectionAct::Wait { .. } => "wait",
         ConnectionAct::SetUp { .. } => "setup",
+        ConnectionAct::Renewed { .. } => "renewed",
         ConnectionAct::Start { .. } => "start",
         ConnectionAct::Answered { request: _ } => "answered",
     }
@@ -310,13 +312,13 @@ fn configurations_are_refused_by_name(rt: HostRuntime) -> Result<(), AllocError>
     let buffer = new.set_pipeline_buffer_size(0);
     let limit = buffer.set_concurrency_limit(0);
     let push = limit.set_push_sender();
-    let kind = push.set_credentials_provider();
+    let sources = new.set_credentials_provider();
     for (config, wanted) in [
         (new, None),
         (buffer, Some(ConfigName::Buffer)),
         (limit, Some(ConfigName::Limit)),
         (push, Some(ConfigName::Push)),
-        (kind, Some(ConfigName::Kind)),
+        (sources, None),
     ] {
         assert!(rt; refusal(rt.alloc(), &config)? == wanted);
     }

@@ -6,7 +6,7 @@ use connection_info::{ProtocolVersion, RedisConnectionInfo};
 use containers::Bytes;
 use credentials::BasicAuth;
 use driver_model::{LinkEvent, LinkFault, LinkNews, Outcome, Shape, WaitKind};
-use mux_conn::{Life, LinkAct, MultiplexedConnection, Pending};
+use mux_conn::{Life, LinkAct, MultiplexedConnection, Pending, Renewal};
 use redis_error::{FaultKind, RedisError};
 use resp_value::Value;
 use std::alloc::{AllocError, Global};
@@ -45,6 +45,12 @@ pub(crate) enum Call {
     Denied(&'static [u8]),
     /// The source ended.
     Deserted,
+    /// This user name and this password came of the source of new credentials.
+    Renewed(&'static [u8], &'static [u8]),
+    /// The source of new credentials ended.
+    Unrenewed,
+    /// The time for the new credentials of this number is over.
+    Late(u32),
     Shut,
     /// The first part of a turn alone: the connect succeeded.
     HearConnected,
@@ -55,7 +61,8 @@ pub(crate) enum Call {
 }
 
 /// What a connection is made of: the size of its queue, its boundary, its permits, whether it hears pushes, the password
-/// that it says, and whether it wants credentials of a source.
+/// that it says, whether it wants credentials of sources, and within how many milliseconds new ones are to be answered, if
+/// within any.
 #[derive(Clone, Copy)]
 pub(crate) struct Made {
     pub(crate) size: u32,
@@ -64,6 +71,7 @@ pub(crate) struct Made {
     pub(crate) hears: bool,
     pub(crate) password: Option<&'static [u8]>,
     pub(crate) wants: bool,
+    pub(crate) within: Option<u64>,
 }
 
 /// What is said to a server to which no more than this password is to be said.
@@ -93,7 +101,7 @@ fn connection(alloc: Global, made: &Made) -> Result<MultiplexedConnection, Alloc
         made.limit,
         made.hears,
         info,
-        made.wants,
+        Renewal::new(alloc, made.wants, made.within),
     ))
 }
 
@@ -198,6 +206,20 @@ fn authorize(
     }
 }
 
+/// A whole turn in which these new credentials come; whether it succeeded.
+fn renew(
+    alloc: Global,
+    conn: &mut MultiplexedConnection,
+    username: &[u8],
+    password: &[u8],
+    acts: &mut Vec<LinkAct>,
+) -> bool {
+    match auth(alloc, username, password) {
+        Ok(auth) => step(alloc, conn, LinkNews::Renewed { auth: &auth }, acts),
+        Err(_) => false,
+    }
+}
+
 /// The first part of a turn alone; whether it succeeded.
 fn hear_connected(
     alloc: Global,
@@ -245,6 +267,9 @@ fn make_turn(
         Call::Authorized(username, password) => authorize(alloc, conn, username, password, acts),
         Call::Denied(text) => step(alloc, conn, LinkNews::Denied { text }, acts),
         Call::Deserted => step(alloc, conn, LinkNews::Deserted, acts),
+        Call::Renewed(username, password) => renew(alloc, conn, username, password, acts),
+        Call::Unrenewed => step(alloc, conn, LinkNews::Unrenewed, acts),
+        Call::Late(number) => step(alloc, conn, LinkNews::Late { number }, acts),
         Call::Shut => step(alloc, conn, LinkNews::Shut, acts),
         _ => step(alloc, conn, LinkNews::Silence, acts),
     }
@@ -386,6 +411,9 @@ fn describe(alloc: Global, act: &LinkAct, log: &mut Vec<u8>) -> Result<(), Alloc
         }
         LinkAct::Timer { request, ms } => tell(alloc, log, b"timer", &[u64::from(*request), *ms]),
         LinkAct::NeedCreds => word(log, b"need-creds"),
+        LinkAct::RenewalTimer { number, ms } => {
+            tell(alloc, log, b"renewal-timer", &[u64::from(*number), *ms])
+        }
         LinkAct::Push { info } => tell_word(log, b"push", info.kind.name()),
         LinkAct::Close => word(log, b"close"),
         LinkAct::Write { bytes } => tell_word(log, b"write", bytes.as_slice()),
@@ -400,6 +428,9 @@ fn describe(alloc: Global, act: &LinkAct, log: &mut Vec<u8>) -> Result<(), Alloc
         } => tell_start(alloc, log, *message, *request, *len),
         LinkAct::SetUp { message, need, len } => {
             tell(alloc, log, b"setup", &[u64::from(*message), *need, *len])
+        }
+        LinkAct::Renewed { message, need, len } => {
+            tell(alloc, log, b"renewed", &[u64::from(*message), *need, *len])
         }
         LinkAct::Outcome { request, outcome } => {
             tell_of(alloc, log, b"outcome", *request, describe_outcome(outcome))

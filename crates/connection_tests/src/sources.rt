@@ -10,6 +10,7 @@ const WANTS: Made = Made {
     hears: true,
     password: None,
     wants: true,
+    within: None,
 };
 
 /// Rows in which credentials come.
@@ -27,7 +28,7 @@ const COMING: [Row; 3] = [
             Call::Came(b"+x\r\n"),
         ],
         b"need-creds wait 7 creds setup 0 1 28 write *3\r\n$4\r\nAUTH\r\n$1\r\nu\r\n$1\r\np\r\n \
-wait 7 setup created ok start 1 7 1 write a outcome 7 x ",
+wait 7 setup created ok need-creds start 1 7 1 write a outcome 7 x ",
     ),
     (
         "what comes before them answers nothing and is not told",

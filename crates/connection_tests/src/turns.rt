@@ -15,6 +15,7 @@ pub(crate) const PLAIN: Made = Made {
     hears: false,
     password: None,
     wants: false,
+    within: None,
 };
 
 /// A queue of one place, and a boundary that one byte reaches.
@@ -25,6 +26,7 @@ const NARROW: Made = Made {
     hears: false,
     password: None,
     wants: false,
+    within: None,
 };
 
 /// The same with three permits.
@@ -35,6 +37,7 @@ const NARROW_OF_THREE: Made = Made {
     hears: false,
     password: None,
     wants: false,
+    within: None,
 };
 
 const ONE_PERMIT: Made = Made {
@@ -44,6 +47,7 @@ const ONE_PERMIT: Made = Made {
     hears: false,
     password: None,
     wants: false,
+    within: None,
 };
 
 const TWO_PERMITS: Made = Made {
@@ -53,6 +57,7 @@ const TWO_PERMITS: Made = Made {
     hears: false,
     password: None,
     wants: false,
+    within: None,
 };
 
 /// A password is said first.
@@ -63,6 +68,7 @@ const PASSWORD: Made = Made {
     hears: false,
     password: Some(b"p"),
     wants: false,
+    within: None,
 };
 
 /// Somebody hears pushes.
@@ -73,6 +79,7 @@ const HEARS: Made = Made {
     hears: true,
     password: None,
     wants: false,
+    within: None,
 };
 
 /// The same where a password is said first.
@@ -83,6 +90,7 @@ const HEARS_PASSWORD: Made = Made {
     hears: true,
     password: Some(b"p"),
     wants: false,
+    within: None,
 };
 
 /// Rows in which the parts of a turn are called alone.

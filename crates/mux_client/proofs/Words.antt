@@ -9,7 +9,7 @@ use Rattle.connection_info.specs.Address.{address_of}
 use Rattle.connection_info.specs.Written.{url_of, with_library, ReadsBack}
 use Rattle.driver_model.specs.declared.config.Config.{Config}
 use Rattle.driver_model.specs.Config.{address, told_of, told_info, bare_info}
-use Rattle.mux_client.specs.Makers.{time_given, number_given, push_given, library_given, config_of, Keeps}
+use Rattle.mux_client.specs.Makers.{time_given, number_given, push_given, creds_given, library_given, config_of, Keeps}
 
 number_if : (default value : ℕ) (b : Bool) → nat_eq value default ≡ b → unwrap_or (if b then None else Some value) default ≡ value
 number_if default value true e = sym (eqb-true value default e)
@@ -51,23 +51,28 @@ hears_kept : (hears : Bool) → unwrap_or (push_given hears) false ≡ hears
 hears_kept true = refl
 hears_kept false = refl
 
-words_keep : (info : ConnectionInfo) (c : AsyncConnectionConfig) → ReadsBack info → c.credentials_provider ≡ false → Keeps info c (config_of info c)
-words_keep info c back built = record {
+-- whether credentials come of sources is what is given, or else they don't
+sources_kept : (provided : Bool) → unwrap_or (creds_given provided) false ≡ provided
+sources_kept true = refl
+sources_kept false = refl
+
+words_keep : (info : ConnectionInfo) (c : AsyncConnectionConfig) → ReadsBack info → Keeps info c (config_of info c)
+words_keep info c back = record {
   said = said_kept info c back;
   connects = time_kept _ c.connection_timeout;
   answers = time_kept _ c.response_timeout;
   permits = refl;
   places = number_kept _ c.pipeline_buffer_size;
   pushes = hears_kept c.push_sender;
-  sources = sym built;
+  sources = sources_kept c.credentials_provider;
   room = number_kept _ c.write_backpressure_boundary;
 }
 
 -- so any words keep it that are these
-kept_by : (info : ConnectionInfo) (c : AsyncConnectionConfig) (words : Config) → words ≡ config_of info c → ReadsBack info → c.credentials_provider ≡ false → Keeps info c words
-kept_by info c words e back built = subst (λ (found : Config). Keeps info c found) (sym e) (words_keep info c back built)
+kept_by : (info : ConnectionInfo) (c : AsyncConnectionConfig) (words : Config) → words ≡ config_of info c → ReadsBack info → Keeps info c words
+kept_by info c words e back = subst (λ (found : Config). Keeps info c found) (sym e) (words_keep info c back)
 
 -- and so does what is made
-pub all_keep : {E : Type 0} (info : ConnectionInfo) (c : AsyncConnectionConfig) (r : Result Config E) → OnOk r (ReadsBack info) → OnOk r (c.credentials_provider ≡ false) → IfOk r (λ words. words ≡ config_of info c) → IfOk r (Keeps info c)
-all_keep info c (Ok words) back built e = kept_by info c words e back built
-all_keep info c (Err x) back built e = tt
+pub all_keep : {E : Type 0} (info : ConnectionInfo) (c : AsyncConnectionConfig) (r : Result Config E) → OnOk r (ReadsBack info) → IfOk r (λ words. words ≡ config_of info c) → IfOk r (Keeps info c)
+all_keep info c (Ok words) back e = kept_by info c words e back
+all_keep info c (Err x) back e = tt

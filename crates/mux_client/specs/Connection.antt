@@ -1,5 +1,5 @@
 -- A connection as its user sees it.
-use Rattle.std.specs.Prelude.{◌≡◌, ⊤, ℕ, false, ◌&&◌, not, List, [], ◌∷◌, Option, Some, None, slice_get, if◌then◌else◌}
+use Rattle.std.specs.Prelude.{◌≡◌, ⊤, ℕ, ◌&&◌, not, List, [], ◌∷◌, Option, Some, None, slice_get, if◌then◌else◌}
 use Rattle.redis_error.specs.declared.config_name.ConfigName.{ConfigName}
 use Rattle.redis_error.specs.declared.config_name.ConfigName.TheVariants as name
 use Rattle.connection_info.specs.declared.address.RedisConnectionInfo.{RedisConnectionInfo}
@@ -9,6 +9,7 @@ use Rattle.connection_info.specs.declared.open_error.OpenError.{OpenError}
 use Rattle.connection_info.specs.declared.open_error.OpenError.TheVariants as error
 use Rattle.driver_model.specs.Config.{room_fault}
 use Rattle.driver_model.specs.declared.outcome.Outcome.{Outcome}
+use Rattle.mux_conn.specs.Renewals.{no_renewal}
 use Rattle.mux_conn.specs.Turn.{dialing}
 use Rattle.mux_client.specs.declared.connection.MultiplexedConnection.{MultiplexedConnection}
 use Rattle.mux_client.specs.declared.act.ConnectionAct.{ConnectionAct}
@@ -32,19 +33,17 @@ connect_timer (Some ms) = act.Timer timer.Connect ms ∷ []
 abbrev pub opened : RedisConnectionInfo → ℕ → AsyncConnectionConfig → MultiplexedConnection
 opened info link c = record {
   link = link;
-  core = dialing c.pipeline_buffer_size c.write_backpressure_boundary c.concurrency_limit c.push_sender info false;
+  core = dialing c.pipeline_buffer_size c.write_backpressure_boundary c.concurrency_limit c.push_sender info (no_renewal c.credentials_provider c.response_timeout);
   timeout = c.response_timeout;
   outcomes = [];
   early = connect_timer c.connection_timeout;
 }
 
--- what is refused first of a connection's configuration, where this is said to its server, if anything is: credentials that
--- come while it lives, which aren't built yet; a sender of pushes on RESP2; a limit of no permits; and a queue that holds
--- nothing
+-- what is refused first of a connection's configuration, where this is said to its server, if anything is: a sender of pushes on
+-- RESP2; a limit of no permits; and a queue that holds nothing
 abbrev pub fault_of : RedisConnectionInfo → AsyncConnectionConfig → Option ConfigName
 fault_of info c =
-    if c.credentials_provider then Some name.Kind
-    else if c.push_sender && not (is_resp3 info.protocol) then Some name.Push
+    if c.push_sender && not (is_resp3 info.protocol) then Some name.Push
     else room_fault c.concurrency_limit c.pipeline_buffer_size
 
 -- either memory was wanted, or this is refused first

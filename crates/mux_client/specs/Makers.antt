@@ -29,6 +29,10 @@ number_given default value = if nat_eq value default then None else Some value
 abbrev pub push_given : Bool → Option Bool
 push_given hears = if hears then Some true else None
 
+-- that credentials come of sources is given where they do
+abbrev pub creds_given : Bool → Option Bool
+creds_given provided = if provided then Some true else None
+
 -- the library is left out where the address leaves it out
 abbrev pub library_given : Bool → Option Bool
 library_given skips = if skips then Some false else None
@@ -43,7 +47,7 @@ config_of info c = record {
   buffer = number_given default_config.pipeline_buffer_size c.pipeline_buffer_size;
   boundary = number_given default_config.write_backpressure_boundary c.write_backpressure_boundary;
   push = push_given c.push_sender;
-  creds = None;
+  creds = creds_given c.credentials_provider;
   lib = library_given info.redis.skip_set_lib_name;
 }
 
@@ -58,10 +62,8 @@ pub record Keeps (info : ConnectionInfo) (c : AsyncConnectionConfig) (words : Co
   pub sources : wants_credentials words ≡ c.credentials_provider
   pub room : boundary words ≡ c.write_backpressure_boundary
 
--- either memory was wanted; or it wants credentials, which aren't built yet; or, where it doesn't, the address can't be read
--- from the URL that is written for it
+-- either memory was wanted, or the address can't be read from the URL that is written for it
 abbrev pub RefusesMaking : ConnectionInfo → AsyncConnectionConfig → OpenError → Type 0
-RefusesMaking info c (error.Config name.Kind) = c.credentials_provider ≡ true
 RefusesMaking info c (error.Config name.Url) = ReadsBack info → ⊥
 RefusesMaking info c (error.Config other) = ⊥
 RefusesMaking info c error.Client = ⊥

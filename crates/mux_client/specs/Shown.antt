@@ -15,6 +15,7 @@ abbrev pub shown : LinkAct → ConnectionAct
 shown (link_act.Created e) = act.Created e
 shown (link_act.Took p count) = act.Took (pending p) count
 shown (link_act.Timer p ms) = act.Timer (timer.Response (pending p)) ms
+shown (link_act.RenewalTimer k ms) = act.Timer (timer.Renewal k) ms
 shown link_act.NeedCreds = act.NeedCreds
 shown (link_act.Push info) = act.Push info
 shown link_act.Close = act.Close
@@ -22,6 +23,7 @@ shown (link_act.Write bytes) = act.Write bytes
 shown (link_act.Wait p kind) = act.Wait (pending p) kind
 shown (link_act.Start message p need len) = act.Start message (pending p) need len
 shown (link_act.SetUp message need len) = act.SetUp message need len
+shown (link_act.Renewed message need len) = act.Renewed message need len
 shown (link_act.Outcome p o) = act.Answered (pending p)
 
 abbrev pub shown_each : List LinkAct → List ConnectionAct
@@ -32,7 +34,9 @@ abbrev pub kept : List (Option Outcome) → LinkAct → List (Option Outcome)
 kept os (link_act.Created e) = os
 kept os (link_act.Took p count) = os
 kept os (link_act.Timer p ms) = os
+kept os (link_act.RenewalTimer k ms) = os
 kept os link_act.NeedCreds = os
+kept os (link_act.Renewed message need len) = os
 kept os (link_act.Push info) = os
 kept os link_act.Close = os
 kept os (link_act.Write bytes) = os

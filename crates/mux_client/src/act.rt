@@ -10,6 +10,9 @@ pub enum ConnectionTimer {
     Connect,
     /// A request is to be answered. When it fires, `time_out` is called.
     Response { request: Pending },
+    /// New credentials are to be answered, the first of which have the number 0. When it fires, the next step is told
+    /// `LinkNews::Late`.
+    Renewal { number: u32 },
 }
 
 /// What a connection asks of the outside, or tells it.
@@ -24,7 +27,9 @@ pub enum ConnectionAct {
         timer: ConnectionTimer,
         ms: u64,
     },
-    /// A source of credentials is wanted, for the setup.
+    /// A source of credentials is wanted. The first is for the setup: what comes of it is told as `LinkNews::Authorized`,
+    /// `Denied` or `Deserted`. Another is for the renewals: what comes of it is told as `LinkNews::Renewed` or `Unrenewed`, and
+    /// its errors are passed over.
     NeedCreds,
     /// A request takes so many permits.
     Took {
@@ -56,6 +61,13 @@ pub enum ConnectionAct {
     },
     /// The setup starts: which message of the link it is, how many items it takes, and how many bytes it has.
     SetUp {
+        message: u32,
+        need: u64,
+        len: u64,
+    },
+    /// New credentials are told to the server: which message of the link it is, how many items it takes, and how many bytes it
+    /// has.
+    Renewed {
         message: u32,
         need: u64,
         len: u64,

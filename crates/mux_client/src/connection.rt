@@ -10,7 +10,7 @@ use crate::act::{ConnectionAct, ConnectionTimer};
 use connection_info::{AsyncConnectionConfig, OpenError, RedisConnectionInfo};
 use containers::Seq;
 use driver_model::Outcome;
-use mux_conn::{Life, MultiplexedConnection as Core, Pending};
+use mux_conn::{Life, MultiplexedConnection as Core, Pending, Renewal};
 use redis_error::ConfigName;
 use std::alloc::{AllocError, Global};
 
@@ -49,9 +49,6 @@ impl Drop for MultiplexedConnection {
 fn fault(info: &RedisConnectionInfo, config: &AsyncConnectionConfig) -> Option<ConfigName>
     ensures { result ≡ fault_of info.now config.now }
 {
-    if config.credentials_provider {
-        return Some(ConfigName::Kind);
-    }
     if config.push_sender && !info.protocol.supports_resp3() {
         return Some(ConfigName::Push);
     }
@@ -94,9 +91,10 @@ impl MultiplexedConnection {
     }
 
     /// A connection over the link of this number, whose connect isn't answered. Whoever makes it asks for the connect; the
-    /// timer of the connect stands in the acts of the first step. `Config` tells what of its configuration is refused first:
-    /// credentials that come while it lives aren't built yet (`kind`), and a sender of pushes on RESP2, a limit of no permits and
-    /// a queue that holds nothing make no connection.
+    /// timer of the connect stands in the acts of the first step. Where the configuration has a provider of credentials, the
+    /// connection asks for a source of them once it is connected, and for another once it is set up. `Config` tells what of its
+    /// configuration is refused first: a sender of pushes on RESP2, a limit of no permits and a queue that holds nothing make no
+    /// connection.
     pub fn new_with_config(
         alloc: Global,
         info: &RedisConnectionInfo,
@@ -112,6 +110,7 @@ impl MultiplexedConnection {
         }
         let told = info.clone(alloc)?;
         let early = timer(alloc, config.connection_timeout)?;
+        let renewal = Renewal::new(alloc, config.credentials_provider, config.response_timeout);
         Ok(MultiplexedConnection {
             link,
             core: Core::new(
@@ -121,7 +120,7 @@ impl MultiplexedConnection {
                 config.concurrency_limit,
                 config.push_sender,
                 told,
-                false,
+                renewal,
             ),
             timeout: config.response_timeout,
             outcomes: Seq::new(alloc),

@@ -2,7 +2,7 @@ ghost use Rattle.std.specs.Prelude.{◌≡◌, ◌⊎◌, ◌++◌, ◌<◌, ◌
 ghost use Rattle.std.specs.Prelude.{OnOk, OnErr, IfOk, IfErr, IsErrOf, option_copied};
 ghost use Rattle.resp_write.specs.Pack.{pack, pack_pipeline};
 ghost use Rattle.driver_model.specs.News.{told};
-ghost use Rattle.mux_conn.specs.Connection.{is_ready, runs_out};
+ghost use Rattle.mux_conn.specs.Connection.{is_ready, uses_up};
 ghost use Rattle.mux_conn.specs.Effects.{IsWithin};
 ghost use Rattle.mux_client.specs.Connection.{opened, outcome_of, fault_of, RefusesConnection};
 ghost use Rattle.mux_client.specs.Calls.{next_number, sent, sent_inside, shape_inside, cancelled};
@@ -71,7 +71,7 @@ pub trait ConnectionLike {
         ensures sound { OnOk result ((seen self.old).core.failure ≡ None) }
         ensures spent { IsErrOf result ConnectionError.Spent
             → ((seen self.old).core.failure ≡ Some ConnectionError.Spent)
-            ⊎ (runs_out (turn_of (seen self.old) (told event.entry.news)) ≡ true) }
+            ⊎ (uses_up (turn_of (seen self.old) (told event.entry.news)) ≡ true) }
         ensures fails { (e : ConnectionError) → IsErrOf result e
             → (seen self.new).core.failure ≡ Some e };
 

@@ -1,12 +1,12 @@
-ghost use Rattle.std.specs.Prelude.{◌≡◌, false, IfOk, IfErr, OnOk};
+ghost use Rattle.std.specs.Prelude.{◌≡◌, IfOk, IfErr, OnOk};
 ghost use Rattle.connection_info.specs.Config.{default_config};
 ghost use Rattle.connection_info.specs.Written.{ReadsBack};
-ghost use Rattle.mux_client.specs.Makers.{config_of, time_given, number_given, push_given, library_given};
+ghost use Rattle.mux_client.specs.Makers.{config_of, time_given, number_given, push_given};
+ghost use Rattle.mux_client.specs.Makers.{creds_given, library_given};
 ghost use Rattle.mux_client.specs.Makers.{Keeps, RefusesMaking};
 
 use connection_info::{AsyncConnectionConfig, Client, ConnectionInfo, OpenError};
 use driver_model::Config;
-use redis_error::ConfigName;
 use std::alloc::Global;
 
 /// A time is given where it isn't the default.
@@ -37,6 +37,13 @@ fn pushes(hears: bool) -> Option<bool>
     if hears { Some(true) } else { None }
 }
 
+/// That credentials come of sources is given where they do.
+fn sources(provided: bool) -> Option<bool>
+    ensures { result ≡ creds_given provided }
+{
+    if provided { Some(true) } else { None }
+}
+
 /// The library is left out where the address leaves it out.
 fn library(skips: bool) -> Option<bool>
     ensures { result ≡ library_given skips }
@@ -52,12 +59,8 @@ fn words(
 ) -> Result<Config, OpenError>
     ensures value { IfOk result (λ words. words ≡ config_of info.now config.now) }
     ensures read { OnOk result (ReadsBack info.now) }
-    ensures built { OnOk result (config.now.credentials_provider ≡ false) }
     ensures err { IfErr result (RefusesMaking info.now config.now) }
 {
-    if config.credentials_provider {
-        return Err(OpenError::Config(ConfigName::Kind));
-    }
     let default = AsyncConnectionConfig::new();
     let url = info.to_url(alloc)?;
     Ok(Config {
@@ -71,7 +74,7 @@ fn words(
             config.write_backpressure_boundary,
         ),
         push: pushes(config.push_sender),
-        creds: None,
+        creds: sources(config.credentials_provider),
         lib: library(info.redis.skip_set_lib_name),
     })
 }
@@ -83,9 +86,8 @@ pub trait ConnectionGetters {
     ghost info: { Self → ConnectionInfo };
 
     /// The configuration of a session over one connection that behaves as `config` says: its words are the address as a URL
-    /// and what isn't the default. `Config(Kind)` comes exactly where `config` has credentials, which aren't built yet, and
-    /// else `Config(Url)` exactly where no URL says the address. Whether a sender of pushes has RESP3 is asked when the session
-    /// is made.
+    /// and what isn't the default. `Config(Url)` comes exactly where no URL says the address. Whether a sender of pushes has
+    /// RESP3 is asked when the session is made.
     fn get_multiplexed_async_connection_with_config(
         &self,
         alloc: Global,

@@ -22,6 +22,18 @@ fn keep(outcomes: &mut Seq<Option<Outcome>>, request: u32, outcome: Outcome)
     }
 }
 
+/// A timer of a request is asked for.
+fn response_timer(request: u32, ms: u64) -> ConnectionAct
+    ensures { result ≡ ConnectionAct.Timer (ConnectionTimer.Response (pending request)) ms }
+{
+    ConnectionAct::Timer {
+        timer: ConnectionTimer::Response {
+            request: pending(request),
+        },
+        ms,
+    }
+}
+
 /// What an act of the machine shows; an outcome is kept.
 fn show(act: LinkAct, outcomes: &mut Seq<Option<Outcome>>) -> ConnectionAct
     ensures act { result ≡ shown act }
@@ -33,10 +45,9 @@ fn show(act: LinkAct, outcomes: &mut Seq<Option<Outcome>>) -> ConnectionAct
             request: pending(request),
             count,
         },
-        LinkAct::Timer { request, ms } => ConnectionAct::Timer {
-            timer: ConnectionTimer::Response {
-                request: pending(request),
-            },
+        LinkAct::Timer { request, ms } => response_timer(request, ms),
+        LinkAct::RenewalTimer { number, ms } => ConnectionAct::Timer {
+            timer: ConnectionTimer::Renewal { number },
             ms,
         },
         LinkAct::NeedCreds => ConnectionAct::NeedCreds,
@@ -59,6 +70,7 @@ fn show(act: LinkAct, outcomes: &mut Seq<Option<Outcome>>) -> ConnectionAct
             len,
         },
         LinkAct::SetUp { message, need, len } => ConnectionAct::SetUp { message, need, len },
+        LinkAct::Renewed { message, need, len } => ConnectionAct::Renewed { message, need, len },
         LinkAct::Outcome { request, outcome } => {
             keep(outcomes, request, outcome);
             ConnectionAct::Answered {

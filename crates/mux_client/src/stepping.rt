@@ -1,7 +1,7 @@
 ghost use Rattle.std.specs.Prelude.{◌≡◌, ◌⊎◌, ◌++◌, [], true, Some, None, OnOk, OnErr, IsErrOf};
 ghost use Rattle.mux_client.specs.Shown.{shown_each, kept_each};
 ghost use Rattle.driver_model.specs.News.{told};
-ghost use Rattle.mux_conn.specs.Connection.{runs_out};
+ghost use Rattle.mux_conn.specs.Connection.{uses_up};
 ghost use Rattle.mux_conn.specs.Effects.{IsWithin};
 
 use crate::act::ConnectionAct;
@@ -32,7 +32,7 @@ impl MultiplexedConnection {
         ensures sound { OnOk result (self.old.core.failure ≡ None) }
         ensures spent { IsErrOf result ConnectionError.Spent
             → (self.old.core.failure ≡ Some ConnectionError.Spent)
-            ⊎ (runs_out (turn_of self.old (told event.entry.news)) ≡ true) }
+            ⊎ (uses_up (turn_of self.old (told event.entry.news)) ≡ true) }
         ensures fails { (e : ConnectionError) → IsErrOf result e → self.new.core.failure ≡ Some e }
     {
         let mut acts = Vec::new(alloc);

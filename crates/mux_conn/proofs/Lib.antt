@@ -1,4 +1,6 @@
+pub mod Kept
 pub mod Spent
+pub mod Renewed
 pub mod Entries
 pub mod Threads
 pub mod Judged

@@ -1,5 +1,5 @@
 -- A number that has run out has run out for the rest of the turn.
-use Rattle.std.proofs.Common.{◌≡◌, ℕ, ◌^◌, ◌≤◌, nat_le, List, [], ◌∷◌, Bool, true, false, Option, None, Some, refl, sym, ap, subst, ◌∙◌, arith, if◌then◌else◌}
+use Rattle.std.proofs.Common.{◌≡◌, ℕ, ◌^◌, ◌≤◌, nat_le, List, [], ◌∷◌, Bool, true, false, ◌||◌, Option, None, Some, refl, sym, ap, subst, ◌∙◌, arith, if◌then◌else◌}
 use Rattle.std.proofs.Math.Nat.{le_refl}
 use Rattle.std.proofs.lemmas.Bool.Decides.{nat_tests}
 use Rattle.containers.proofs.Choices.{taken_if, left_if}
@@ -13,29 +13,22 @@ use Rattle.link_core.proofs.StartLemmas.{numbers_rise}
 use Rattle.mux_conn.specs.declared.connection.MultiplexedConnection.{MultiplexedConnection}
 use Rattle.mux_conn.specs.declared.life.Life.{Life}
 use Rattle.mux_conn.specs.declared.life.Life.TheVariants.{Dialing, Wanting, SettingUp, Ready, Ended}
+use Rattle.mux_conn.specs.declared.renewal.Renewal.{Renewal}
 use Rattle.mux_conn.specs.declared.request.Waiting.{Waiting}
-use Rattle.mux_conn.specs.Connection.{Work, with_link, with_setup, admits_none, has_room, started_in, is_spent_in}
+use Rattle.mux_conn.specs.Connection.{Work, with_link, with_setup, admits_none, has_room, started_in, is_spent_in, runs_out, renewals_run_out, uses_up}
 use Rattle.mux_conn.specs.Requests.{is_open_at, is_waiting_at, is_admitted_at, answered}
 use Rattle.driver_model.specs.declared.action.WaitKind.{WaitKind}
 use Rattle.driver_model.specs.News.{News}
 use Rattle.mux_conn.specs.Effects.{applied}
 use Rattle.mux_conn.specs.Passes.{shown_each, set_up_each, started, started_at, placed_at, told_at_place, seated, moved_up, moved_up_each, moved_up_all, still_admitted}
 use Rattle.mux_conn.specs.Passes.{permits_taken, took, took_shown, timer_asked, let_in, holding, put_behind, seated_or_behind, admitted_at, admitted, admitted_each, admitted_all, still_waiting, passed}
+use Rattle.mux_conn.specs.Renewals.{renewed}
+use Rattle.mux_conn.proofs.Kept.{shown_same, set_up_same, passed_kept, flushed_kept}
 use Rattle.mux_conn.specs.Turn.{written, written_at, moved_wait, fresh_wait, wait_shown, moved_each_shown, fresh_each_shown, moved_shown, fresh_shown, flushed, stepped}
 
 -- how many messages have started
 abbrev pub count : Work → ℕ
 count w = started_in w.conn.life
-
--- to show starts leaves the connection
-pub shown_same : (w : Work) (ss : List Started) → (shown_each w ss).conn ≡ w.conn
-shown_same w [] = refl
-shown_same w (s ∷ ss) = shown_same _ ss
-
--- and so it is of a setup
-pub set_up_same : (w : Work) (ss : List Started) → (set_up_each w ss).conn ≡ w.conn
-set_up_same w [] = refl
-set_up_same w (s ∷ ss) = set_up_same _ ss
 
 -- starts give no smaller numbers
 started_rises_at : (w : Work) (life : Life) → w.conn.life ≡ life → count w ≤ count (started_at w life)
@@ -105,11 +98,11 @@ moved_up_rises w q = rises_either (is_admitted_at w.conn.requests q.number) (cou
 moved_up_each_rises : (w : Work) (qs : List Waiting) → count w ≤ count (moved_up_each w qs)
 moved_up_each_rises w [] = le_refl (count w)
 moved_up_each_rises w (q ∷ qs) =
-    rises_either (has_room w.conn.life) (count w) (moved_up_each (moved_up w q) qs) (still_admitted w (q ∷ qs))
+    rises_either (has_room w.conn) (count w) (moved_up_each (moved_up w q) qs) (still_admitted w (q ∷ qs))
     (omega (arith, moved_up_rises w q, moved_up_each_rises (moved_up w q) qs)) (le_refl (count w))
 
 behind_rises : (w : Work) (q : Waiting) → count w ≤ count (seated_or_behind w q)
-behind_rises w q = rises_either (has_room w.conn.life) (count w) (seated w q) (put_behind w q) (seated_rises w q) (le_refl (count w))
+behind_rises w q = rises_either (has_room w.conn) (count w) (seated w q) (put_behind w q) (seated_rises w q) (le_refl (count w))
 
 -- permits and timers start nothing
 took_count : (w : Work) (p count_of : ℕ) (limit : Option ℕ) → count (took_shown w p count_of limit) ≡ count w
@@ -142,13 +135,13 @@ admitted_each_rises w (q ∷ qs) =
     (omega (arith, admitted_rises w q, admitted_each_rises (admitted w q) qs))
 
 -- a count that has risen past the last number stays there
-past : (n m : ℕ) → n ≤ m → nat_le (2 ^ 32) n ≡ true → nat_le (2 ^ 32) m ≡ true
+pub past : (n m : ℕ) → n ≤ m → nat_le (2 ^ 32) n ≡ true → nat_le (2 ^ 32) m ≡ true
 past n m l h = grind (arith, nat_tests, l, h)
 
 -- one of those that wait for a place runs out, and so do all
-pub spent_in_moved_up : (w v : Work) (q : Waiting) (qs : List Waiting) → has_room w.conn.life ≡ true → moved_up_each w (q ∷ qs) ≡ v → is_spent_in (moved_up w q).conn.life ≡ true → is_spent_in v.conn.life ≡ true
+pub spent_in_moved_up : (w v : Work) (q : Waiting) (qs : List Waiting) → has_room w.conn ≡ true → moved_up_each w (q ∷ qs) ≡ v → is_spent_in (moved_up w q).conn.life ≡ true → is_spent_in v.conn.life ≡ true
 spent_in_moved_up w v q qs room is h =
-    subst (λ (x : Work). is_spent_in x.conn.life ≡ true) (sym (taken_if (has_room w.conn.life) (moved_up_each (moved_up w q) qs) (still_admitted w (q ∷ qs)) room) ∙ is)
+    subst (λ (x : Work). is_spent_in x.conn.life ≡ true) (sym (taken_if (has_room w.conn) (moved_up_each (moved_up w q) qs) (still_admitted w (q ∷ qs)) room) ∙ is)
     (past (count (moved_up w q)) (count (moved_up_each (moved_up w q) qs)) (moved_up_each_rises (moved_up w q) qs) h)
 
 -- and so of those that wait for the connection
@@ -157,17 +150,46 @@ spent_in_admitted w v q qs free is h =
     subst (λ (x : Work). is_spent_in x.conn.life ≡ true) (sym (left_if (admits_none w.conn) (still_waiting w (q ∷ qs)) (admitted_each (admitted w q) qs) free) ∙ is)
     (past (count (admitted w q)) (count (admitted_each (admitted w q) qs)) (admitted_each_rises (admitted w q) qs) h)
 
+-- one of two that is true
+pub either_left : (a b : Bool) → a ≡ true → (a || b) ≡ true
+either_left true b h = refl
+either_left false b h = cc
+
+-- where one of two is true, so is one of two of which the first follows from it
+or_more : (a b c : Bool) → (a ≡ true → b ≡ true) → (a || c) ≡ true → (b || c) ≡ true
+or_more a true c f h = refl
+or_more true false c f h = f refl
+or_more false false c f h = h
+
+-- so many of both sorts of numbers have run out where as many new credentials were to be told, and no fewer messages have started
+pub uses_more : (w v : Work) → count w ≤ count v → v.conn.renewal.asked ≡ w.conn.renewal.asked → uses_up w ≡ true → uses_up v ≡ true
+uses_more w v l e h =
+    ap (λ (n : ℕ). runs_out v || nat_le (2 ^ 32) n) e ∙ or_more (runs_out w) (runs_out v) (nat_le (2 ^ 32) w.conn.renewal.asked) (past (count w) (count v) l) h
+
 -- those that take a place run out before the others are admitted
-pub spent_second : (w : Work) → is_spent_in (moved_up_all (started w)).conn.life ≡ true → is_spent_in (passed w).conn.life ≡ true
+pub spent_second : (w : Work) → is_spent_in (moved_up_all (started (renewed w))).conn.life ≡ true → uses_up (passed w) ≡ true
 spent_second w h =
-    let v = moved_up_all (started w) in
-    past (count v) (count (admitted_all v)) (admitted_each_rises (still_waiting v []) v.conn.waiting) h
+    let v = moved_up_all (started (renewed w)) in
+    either_left (runs_out (passed w)) (renewals_run_out (passed w)) (past (count v) (count (admitted_all v)) (admitted_each_rises (still_waiting v []) v.conn.waiting) h)
 
 -- starts run out before requests are moved
-pub spent_first : (w : Work) → is_spent_in (started w).conn.life ≡ true → is_spent_in (passed w).conn.life ≡ true
+pub spent_first : (w : Work) → is_spent_in (started (renewed w)).conn.life ≡ true → uses_up (passed w) ≡ true
 spent_first w h =
-    let v = started w in
+    let v = started (renewed w) in
     spent_second w (past (count v) (count (moved_up_all v)) (moved_up_each_rises (still_admitted v []) v.conn.admitted) h)
+
+-- a pass gives no smaller numbers than new credentials do
+passed_rises : (w : Work) → count (renewed w) ≤ count (passed w)
+passed_rises w =
+    let s = started (renewed w) in
+    let m = moved_up_all s in
+    let up : count s ≤ count m = moved_up_each_rises (still_admitted s []) s.conn.admitted in
+    let all : count m ≤ count (passed w) = admitted_each_rises (still_waiting m []) m.conn.waiting in
+    omega (arith, started_rises (renewed w), up, all)
+
+-- what new credentials use up is used up when requests were moved
+pub spent_renewed : (w : Work) → uses_up (renewed w) ≡ true → uses_up (passed w) ≡ true
+spent_renewed w h = uses_more (renewed w) (passed w) (passed_rises w) (ap (λ (r : Renewal). r.asked) (passed_kept w)) h
 
 wait_count : (w : Work) (p : ℕ) (kind : Option WaitKind) → count (wait_shown w p kind) ≡ count w
 wait_count w p None = refl
@@ -198,6 +220,10 @@ written_count w (Ready link) e = let from : count w ≡ link.started = ap starte
 pub flushed_count : (w : Work) → count (flushed w) ≡ count w
 flushed_count w = fresh_count (moved_shown (written w)) ∙ moved_count (written w) ∙ written_count w w.conn.life refl
 
+-- what a turn ends with leaves numbers that have run out
+pub spent_flushed : (w : Work) → uses_up w ≡ true → uses_up (flushed w) ≡ true
+spent_flushed w h = let same = flushed_count w in uses_more w (flushed w) (omega (arith, same)) (ap (λ (r : Renewal). r.asked) (flushed_kept w)) h
+
 -- a number that runs out has run out at the end of the turn
-pub spent_turn : (w : Work) (news : News) → is_spent_in (passed (applied w news)).conn.life ≡ true → is_spent_in (stepped w news).conn.life ≡ true
-spent_turn w news h = ap (λ n. nat_le (2 ^ 32) n) (flushed_count (passed (applied w news))) ∙ h
+pub spent_turn : (w : Work) (news : News) → uses_up (passed (applied w news)) ≡ true → uses_up (stepped w news) ≡ true
+spent_turn w news h = spent_flushed (passed (applied w news)) h

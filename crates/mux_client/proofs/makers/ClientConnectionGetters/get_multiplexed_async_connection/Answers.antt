@@ -10,4 +10,4 @@ returns-clause-keeps c =
     let info = c.get_connection_info.result.now in
     subst (λ (said : ConnectionInfo). IfOk c.words.result (Keeps said _)) c.get_connection_info.ensures
     (subst (λ (config : AsyncConnectionConfig). IfOk c.words.result (Keeps info config)) c.new.ensures
-    (all_keep info c.new.result c.words.result c.words.ensures.read c.words.ensures.built c.words.ensures.value))
+    (all_keep info c.new.result c.words.result c.words.ensures.read c.words.ensures.value))

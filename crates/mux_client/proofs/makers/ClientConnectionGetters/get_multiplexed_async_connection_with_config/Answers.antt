@@ -8,4 +8,4 @@ pub returns-clause-keeps : goal.returns-clause-keeps
 returns-clause-keeps c =
     let config = c.args.config.now in
     subst (λ (info : ConnectionInfo). IfOk c.words.result (Keeps info config)) c.get_connection_info.ensures
-    (all_keep c.get_connection_info.result.now config c.words.result c.words.ensures.read c.words.ensures.built c.words.ensures.value)
+    (all_keep c.get_connection_info.result.now config c.words.result c.words.ensures.read c.words.ensures.value)

@@ -7,7 +7,7 @@ use Rattle.mux_conn.proofs.Spent.{spent_in_moved_up}
 use Rattle.mux_conn.proofs.connection.MultiplexedConnection.move_up_all.Goals as goal
 
 -- where the queue has no room, all still wait
-stays : (w : Work) (qs : List Waiting) (room : Bool) → has_room w.conn.life ≡ room → room ≡ false → still_admitted w qs ≡ moved_up_each w qs
+stays : (w : Work) (qs : List Waiting) (room : Bool) → has_room w.conn ≡ room → room ≡ false → still_admitted w qs ≡ moved_up_each w qs
 stays w [] room is e = refl
 stays w (q ∷ qs) false is e = rw is refl
 stays w (q ∷ qs) true is e = cc
@@ -19,7 +19,7 @@ requests-preserved c =
     let qs = c.pop_front.new.self in
     let room = sym c.has_room.ensures ∙ c.requests-test.true in
     record {
-      work = ap (λ (x : Work). moved_up_each x qs) c.in-Ok.ensures.work ∙ sym (taken_if (has_room w.conn.life) (moved_up_each (moved_up w q) qs) (still_admitted w (q ∷ qs)) room) ∙ ap (λ (xs : List Waiting). moved_up_each w xs) (sym c.in-Some.ensures) ∙ c.requests.invariant.work;
+      work = ap (λ (x : Work). moved_up_each x qs) c.in-Ok.ensures.work ∙ sym (taken_if (has_room w.conn) (moved_up_each (moved_up w q) qs) (still_admitted w (q ∷ qs)) room) ∙ ap (λ (xs : List Waiting). moved_up_each w xs) (sym c.in-Some.ensures) ∙ c.requests.invariant.work;
       count = c.in-Ok.ensures.count ∙ c.requests.invariant.count;
       failure = c.in-Ok.ensures.failure ∙ c.requests.invariant.failure;
     }

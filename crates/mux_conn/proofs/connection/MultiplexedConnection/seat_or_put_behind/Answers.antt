@@ -7,8 +7,8 @@ use Rattle.mux_conn.specs.declared.request.Waiting.{Waiting}
 use Rattle.mux_conn.proofs.connection.MultiplexedConnection.seat_or_put_behind.Goals as goal
 
 -- where the queue has room, the request takes its place
-takes : (w : Work) (q : Waiting) → has_room w.conn.life ≡ true → seated w q ≡ seated_or_behind w q
-takes w q room = sym (taken_if (has_room w.conn.life) (seated w q) (put_behind w q) room)
+takes : (w : Work) (q : Waiting) → has_room w.conn ≡ true → seated w q ≡ seated_or_behind w q
+takes w q room = sym (taken_if (has_room w.conn) (seated w q) (put_behind w q) room)
 
 pub returns-then-has_room-clause-work : goal.returns-then-has_room-clause-work
 returns-then-has_room-clause-work c =

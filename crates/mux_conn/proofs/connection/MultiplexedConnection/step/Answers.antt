@@ -2,13 +2,13 @@ use Rattle.std.proofs.Common.{◌≡◌, ◌++◌, ◌⊎◌, List, true, Some, 
 use Rattle.driver_model.specs.News.{told}
 use Rattle.mux_conn.specs.declared.act.LinkAct.{LinkAct}
 use Rattle.mux_conn.specs.declared.errors.ConnectionError.TheVariants.{Spent}
-use Rattle.mux_conn.specs.Connection.{Work, is_spent_in}
+use Rattle.mux_conn.specs.Connection.{Work, uses_up}
 use Rattle.mux_conn.specs.Turn.{stepped}
 use Rattle.mux_conn.proofs.connection.MultiplexedConnection.step.Goals as goal
 
 pub returns-in-Err-clause-spent : goal.returns-in-Err-clause-spent
 returns-in-Err-clause-spent c is =
-    subst (λ (acts : List LinkAct). (c.args.self.now.failure ≡ Some Spent) ⊎ (is_spent_in (stepped (record { conn = c.args.self.now; acts = acts }) (told c.args.event.news)).conn.life ≡ true)) c.new-acts.ensures.items (c.in-Err.ensures.spent is)
+    subst (λ (acts : List LinkAct). (c.args.self.now.failure ≡ Some Spent) ⊎ (uses_up (stepped (record { conn = c.args.self.now; acts = acts }) (told c.args.event.news)) ≡ true)) c.new-acts.ensures.items (c.in-Err.ensures.spent is)
 
 pub returns-in-Ok-append-clause-conn : goal.returns-in-Ok-append-clause-conn
 returns-in-Ok-append-clause-conn c =

@@ -1,20 +1,17 @@
-use Rattle.std.proofs.Common.{arith, ◌<◌, ◌≤◌, rules, ap, ◌∙◌}
-use Rattle.driver_model.specs.declared.outcome.Outcome.{Outcome}
+use Rattle.std.proofs.Common.{arith, ◌<◌, ◌≤◌, rules, ◌∙◌}
 use Rattle.mux_conn.specs.Connection.{Work}
-use Rattle.mux_conn.specs.Requests.{answered}
 use Rattle.mux_conn.proofs.Told.{told_answer, told_push}
 use Rattle.mux_conn.proofs.connection.MultiplexedConnection.tell_push.Goals as goal
 
 pub behind-preserved : goal.behind-preserved
 behind-preserved c =
     let w : Work = record { conn = c.behind.self; acts = c.behind.out.items } in
-    let v : Work = record { conn = c.answer.new.self; acts = c.answer.new.out.items } in
-    let answers = c.in_ok-answer.ensures.work ∙ ap (λ (o : Outcome). answered w c.in-Some.message.id o) c.into_outcome.ensures in
+    let v : Work = record { conn = c.settle_one.new.self; acts = c.settle_one.new.out.items } in
     let less : c.behind.answered < c.args.push.settled = omega (arith, c.behind-test.true) in
     record {
-      work = λ later. told_answer w v c.behind.answered c.args.push later c.in-Some.message c.pop_front.new.self c.behind.settled less c.in-Some.ensures answers ∙ c.behind.invariant.work later;
-      count = c.in_ok-answer.ensures.count ∙ c.behind.invariant.count;
-      failure = c.in_ok-answer.ensures.failure ∙ c.behind.invariant.failure;
+      work = λ later. told_answer w v c.behind.answered c.args.push later c.in-Some.message c.pop_front.new.self c.behind.settled less c.in-Some.ensures c.in_ok-settle_one.ensures.work ∙ c.behind.invariant.work later;
+      count = c.in_ok-settle_one.ensures.count ∙ c.behind.invariant.count;
+      failure = c.in_ok-settle_one.ensures.failure ∙ c.behind.invariant.failure;
     }
 
 pub returns-clause-work : goal.returns-clause-work
