@@ -19,7 +19,7 @@ use Rattle.driver_model.specs.declared.outcome.Outcome.{Outcome}
 use Rattle.driver_model.specs.declared.outcome.Outcome.TheVariants as outcome
 use Rattle.driver_model.specs.declared.outcome.Shape.{Shape}
 use Rattle.driver_model.specs.declared.push_info.PushInfo.{PushInfo}
-use Rattle.driver_model.specs.News.{News, silence, connected, took, failed, shut, refused, overdue, authorized, denied, deserted}
+use Rattle.driver_model.specs.News.{News, silence, connected, took, failed, shut, refused, overdue, authorized, denied, deserted, renewed, unrenewed, late}
 use Rattle.driver_model.specs.News.{came}
 use Rattle.driver_model.specs.Shape.{outcome_of}
 use Rattle.link_core.specs.declared.message.Entry.{Entry}
@@ -27,7 +27,7 @@ use Rattle.link_core.specs.declared.message.PushAt.{PushAt}
 use Rattle.link_core.specs.declared.message.Settled.{Settled}
 use Rattle.link_core.specs.declared.message.Started.{Started}
 use Rattle.link_core.specs.Dealing.{heard_of}
-use Rattle.link_core.specs.Link.{LinkState, Settling, enqueued, started_all, offered_of, piece_dealt, pushes_came}
+use Rattle.link_core.specs.Link.{LinkState, Settling, enqueued, begun, start_of, holds_back, started_all, offered_of, piece_dealt, pushes_came}
 use Rattle.link_core.specs.Outbox.{can_offer}
 use Rattle.link_laws.specs.Alike.{SameRow, others}
 use Rattle.link_laws.proofs.Cancels.{start_alike, bytes_alike, close_alike, fault_alike}
@@ -39,16 +39,18 @@ use Rattle.mux_conn.specs.declared.life.Life.TheVariants.{Dialing, Wanting, Sett
 use Rattle.mux_conn.specs.declared.request.Progress.TheVariants as progress
 use Rattle.mux_conn.specs.declared.request.Request.{Request}
 use Rattle.mux_conn.specs.declared.request.Waiting.{Waiting}
-use Rattle.mux_conn.specs.Connection.{Work, acted, at_life, with_link, with_setup, has_no_permit, admits_none_at, admits_none, has_room, first_queued}
+use Rattle.mux_conn.specs.Connection.{Work, acted, at_life, with_link, with_setup, has_no_permit, admits_none_at, admits_none, has_room, has_room_at, in_front, is_due, is_ready, first_queued}
 use Rattle.mux_conn.specs.Requests.{is_open, is_waiting, is_admitted, is_placed, is_open_at, is_waiting_at, is_admitted_at, is_placed_at, name_at, permits_at, with_permits, given_back, closed, answered, waiting_of, asked}
-use Rattle.mux_conn.specs.Effects.{settled_each, failed_each, nobody_waits, waiting_failed, pushed, told_each, cut_short, all_answered, ended, parted, heard_in, opening_failed, authorized_at, connected_at, unauthorized_at, refused_at, overdue_at, taken_at, failed_at, broken_at, read_to, read_at, shut_at, applied, cancelled_in, left, timed_out}
+use Rattle.mux_conn.specs.Effects.{settled_one, settled_each, failed_each, nobody_waits, waiting_failed, pushed, told_each, cut_short, all_answered, ended, parted, heard_in, opening_failed, authorized_at, connected_at, unauthorized_at, refused_at, overdue_at, taken_at, failed_at, broken_at, read_to, read_at, shut_at, applied, cancelled_in, left, timed_out}
+use Rattle.mux_conn.specs.Renewals as renewals
+use Rattle.mux_conn.specs.Renewals.{renewing, with_renewal, expecting, expected, takes_more, late_for, is_unanswered, is_done, replied, renewal_id, renewal_queued, asked_next, told_next, renewal_act, renewal_timed, renewal_asked, renewal_told, renewal_moved}
 use Rattle.mux_conn.specs.Passes.{shown_each, starts_with, started_at, started, message_of, placed_at, told_at_place, seated, still_admitted, moved_up, moved_up_each, moved_up_all, put_behind, seated_or_behind, permits_taken, holding, took_shown, took as holds, timer_asked, let_in, admitted_at, admitted, still_waiting, admitted_each, admitted_all, passed}
 use Rattle.mux_conn.specs.Turn.{written_at, written, is_from, moved_wait, early_wait, fresh_wait, wait_shown, moved_each_shown, moved_shown, fresh_each_shown, fresh_shown, waits_shown, flushed}
 use Rattle.cancel_laws.specs.ButFor.{hushed_each, hushed_link, hushed_life}
 use Rattle.cancel_laws.proofs.Requests.{names, name_stays, progress_twice, progress_apart, progress_push, progress_count, permits_other, permits_own, permits_push, goes_apart, own_closed, closed_set, test_other, same_test, other_test}
 use Rattle.cancel_laws.proofs.Names.{IsOwn, own_name, other_name}
-use Rattle.cancel_laws.proofs.Links.{alike_hushed, none_leaves, hushed_started, hushed_came, hushed_cancelled, own_cancelled}
-use Rattle.cancel_laws.proofs.Kept.{other_act, IsPlain, At, There, answered_kept, settled_kept, telling_kept, failed_each_kept, over_kept, parted_kept, started_kept, told_kept, moved_up_kept, moved_up_all_kept, let_in_admitted, let_in_kept, admitted_kept, unlimited_kept, written_kept, wait_kept, moved_shown_kept}
+use Rattle.cancel_laws.proofs.Links.{alike_hushed, none_leaves, hushed_begun, hushed_started, hushed_came, hushed_cancelled, own_cancelled}
+use Rattle.cancel_laws.proofs.Kept.{other_act, IsPlain, At, There, answered_kept, settled_one_kept, settled_kept, telling_kept, failed_each_kept, over_kept, parted_kept, renewed_kept, started_kept, told_kept, moved_up_kept, moved_up_all_kept, let_in_admitted, let_in_kept, admitted_kept, unlimited_kept, written_kept, wait_kept, moved_shown_kept}
 use Rattle.cancel_laws.proofs.Values.{by_value, value_told, value_read, values_read, none_told, came_by_values, same_by_value}
 use Rattle.cancel_laws.proofs.Gone.{NoneQueued, NoneIs, IsGone, gone_kept, IsAway, away_kept}
 
@@ -170,12 +172,18 @@ bare_answered n p w q o h =
     ap (λ (k : ℕ). bare n p (answered w k o)) e ∙ answered_own n p w o h.own ∙ sym (closed_stays (bare n p w) p o (own_closed w.conn.requests p)) ∙ ap (λ (k : ℕ). answered (bare n p w) k o) (sym e))
     (λ f. answered_other n p w q o h.own (ne_from q p f))
 
+-- a message that the link settled
+bare_settled_one : (n p : ℕ) (w : Work) (s : Settled) → At (There (IsGone n p)) w → bare n p (settled_one w s) ≡ settled_one (bare n p w) s
+bare_settled_one n p w s h =
+    let r = replied w.conn.renewal (is_done s.verdict) in
+    let o = outcome_of s.verdict in
+    either (bare n p) (s.id == renewal_id) (renewing w r) (answered w s.id o) (renewing (bare n p w) r) (answered (bare n p w) s.id o) (λ t. refl) (λ f. bare_answered n p w s.id o h)
+
 -- what the link settled
 bare_settled : (n p : ℕ) (w : Work) (ss : List Settled) → At (There (IsGone n p)) w → bare n p (settled_each w ss) ≡ settled_each (bare n p w) ss
 bare_settled n p w [] h = refl
 bare_settled n p w (s ∷ ss) h =
-    let o = outcome_of s.verdict in
-    bare_settled n p (answered w s.id o) ss (answered_kept (gone_kept n p) w s.id o h) ∙ ap (λ (x : Work). settled_each x ss) (bare_answered n p w s.id o h)
+    bare_settled n p (settled_one w s) ss (settled_one_kept (gone_kept n p) w s h) ∙ ap (λ (x : Work). settled_each x ss) (bare_settled_one n p w s h)
 
 -- where a request is closed, what is settled for it counts for nothing
 closed_still : (w : Work) (p q : ℕ) (o : Outcome) → is_open_at w.conn.requests p ≡ false → is_open_at (answered w q o).conn.requests p ≡ false
@@ -184,22 +192,33 @@ closed_still w p q o f =
     (λ t. closed_set w.conn.requests q p progress.Closed 0 t f)
     (λ g. f)
 
--- and so for all that a link settled
-others_settled : (w : Work) (p : ℕ) (ss : List Settled) → is_open_at w.conn.requests p ≡ false → settled_each w (others p ss) ≡ settled_each w ss
-others_settled w p [] f = refl
-others_settled w p (s ∷ ss) f =
+-- so it is for what a link settled
+settled_still : (w : Work) (p : ℕ) (s : Settled) → is_open_at w.conn.requests p ≡ false → is_open_at (settled_one w s).conn.requests p ≡ false
+settled_still w p s f =
     let o = outcome_of s.verdict in
+    chosen (λ (x : Work). is_open_at x.conn.requests p ≡ false) (s.id == renewal_id) (renewing w (replied w.conn.renewal (is_done s.verdict))) (answered w s.id o) (λ t. f) (λ g. closed_still w p s.id o f)
+
+-- and what it settled for that request alone changes nothing
+own_settled : (w : Work) (p : ℕ) (s : Settled) → renewal_id ≢ p → s.id ≡ p → is_open_at w.conn.requests p ≡ false → settled_one w s ≡ w
+own_settled w p s apart e f =
+    let o = outcome_of s.verdict in
+    left_if (s.id == renewal_id) _ (answered w s.id o) (ne_test s.id renewal_id (λ is. apart (sym is ∙ e))) ∙ closed_stays w s.id o (ap (is_open_at w.conn.requests) e ∙ f)
+
+-- and so for all
+others_settled : (w : Work) (p : ℕ) (ss : List Settled) → renewal_id ≢ p → is_open_at w.conn.requests p ≡ false → settled_each w (others p ss) ≡ settled_each w ss
+others_settled w p [] apart f = refl
+others_settled w p (s ∷ ss) apart f =
     by_test (s.id == p) _
     (λ t.
-    ap (settled_each w) (taken_if (s.id == p) (others p ss) (s ∷ others p ss) t) ∙ others_settled w p ss f
-    ∙ ap (λ (x : Work). settled_each x ss) (sym (closed_stays w s.id o (ap (is_open_at w.conn.requests) (eq_from s.id p t) ∙ f))))
-    (λ g. ap (settled_each w) (left_if (s.id == p) (others p ss) (s ∷ others p ss) g) ∙ others_settled (answered w s.id o) p ss (closed_still w p s.id o f))
+    ap (settled_each w) (taken_if (s.id == p) (others p ss) (s ∷ others p ss) t) ∙ others_settled w p ss apart f
+    ∙ ap (λ (x : Work). settled_each x ss) (sym (own_settled w p s apart (eq_from s.id p t) f)))
+    (λ g. ap (settled_each w) (left_if (s.id == p) (others p ss) (s ∷ others p ss) g) ∙ others_settled (settled_one w s) p ss apart (settled_still w p s f))
 
 -- what one link settled, and what another did that settled the same for all other messages
 bare_settled_same : (n p : ℕ) (w : Work) (ss later : List Settled) → At (There (IsGone n p)) w → others p ss ≡ others p later → bare n p (settled_each w ss) ≡ settled_each (bare n p w) later
 bare_settled_same n p w ss later h e =
     let f = own_closed w.conn.requests p in
-    bare_settled n p w ss h ∙ sym (others_settled (bare n p w) p ss f) ∙ ap (settled_each (bare n p w)) e ∙ others_settled (bare n p w) p later f
+    bare_settled n p w ss h ∙ sym (others_settled (bare n p w) p ss h.apart f) ∙ ap (settled_each (bare n p w)) e ∙ others_settled (bare n p w) p later h.apart f
 
 -- requests that get an error
 bare_failed_each : (n p : ℕ) (w : Work) (e : RedisError) (qs : List Waiting) → At (There (IsGone n p)) w → bare n p (failed_each w e qs) ≡ failed_each (bare n p w) e qs
@@ -256,6 +275,14 @@ bare_given_up n p w e h = bare_opening n p (acted w act.Close) e h ∙ ap (λ (x
 
 -- news
 --
+-- whether a link is set up doesn't depend on its row
+ready_same : (p : ℕ) (life : Life) → is_ready life ≡ is_ready (hushed_life p life)
+ready_same p Dialing = refl
+ready_same p (Wanting l) = refl
+ready_same p (SettingUp l with_user) = refl
+ready_same p (Ready l) = refl
+ready_same p (Ended e) = refl
+
 -- a fault of the link
 bare_failed : (n p : ℕ) (w : Work) (f : LinkFault) (life : Life) → At (There (IsGone n p)) w → bare n p (failed_at w f life) ≡ failed_at (bare n p w) f (hushed_life p life)
 bare_failed n p w f (Ready l) h = bare_faulted n p w _ _ h (fault_alike p f l (hushed_link p l) [] [] (alike_hushed p l) refl).out
@@ -383,6 +410,18 @@ bare_shut n p w (Wanting l) h = bare_ended n p w [] [] h refl
 bare_shut n p w (SettingUp l with_user) h = bare_ended n p w [] [] h refl
 bare_shut n p w (Ended e) h = refl
 
+-- new credentials come
+bare_expecting : (p : ℕ) (c : MultiplexedConnection) (auth : Credentials) → bare_conn p (expecting c auth) ≡ expecting (bare_conn p c) auth
+bare_expecting p c auth =
+    either_by (bare_conn p) (is_ready c.life && takes_more c.renewal) (is_ready (hushed_life p c.life) && takes_more c.renewal) (with_renewal c (expected c.renewal auth)) c
+    (with_renewal (bare_conn p c) (expected c.renewal auth)) (bare_conn p c) (ap (λ (b : Bool). b && takes_more c.renewal) (ready_same p c.life)) (λ t. refl) (λ f. refl)
+
+-- the time for new credentials is over
+bare_late_for : (p : ℕ) (c : MultiplexedConnection) (k : ℕ) → bare_conn p (late_for c k) ≡ late_for (bare_conn p c) k
+bare_late_for p c k =
+    let r = record c.renewal { lost = true } in
+    either (bare_conn p) (is_unanswered c.renewal k) (with_renewal c r) c (with_renewal (bare_conn p c) r) (bare_conn p c) (λ t. refl) (λ f. refl)
+
 -- all news
 pub bare_applied : (n p : ℕ) (w : Work) (what : News) → At (There (IsGone n p)) w → bare n p (applied w what) ≡ applied (bare n p w) what
 bare_applied n p w silence h = refl
@@ -395,6 +434,9 @@ bare_applied n p w (failed f) h = bare_failed n p w f w.conn.life h
 bare_applied n p w (authorized c) h = bare_authorized n p w c w.conn.life h.none
 bare_applied n p w (denied text) h = bare_unauthorized n p w (error.Credentials text) w.conn.life h.none
 bare_applied n p w deserted h = bare_unauthorized n p w (error.AuthFailed []) w.conn.life h.none
+bare_applied n p w (renewed c) h = ap (λ (x : MultiplexedConnection). record (bare n p w) { conn = x }) (bare_expecting p w.conn c)
+bare_applied n p w unrenewed h = refl
+bare_applied n p w (late k) h = ap (λ (x : MultiplexedConnection). record (bare n p w) { conn = x }) (bare_late_for p w.conn k)
 bare_applied n p w shut h = bare_shut n p w w.conn.life h
 
 -- requests
@@ -522,6 +564,45 @@ bare_started_at n p w (Ended e) none = refl
 bare_started : (n p : ℕ) (w : Work) → At (There (IsGone n p)) w → bare n p (started w) ≡ started (bare n p w)
 bare_started n p w h = bare_started_at n p w w.conn.life h.none
 
+-- new credentials are told
+--
+-- their message starts before the queue
+bare_renewal_moved : (n p : ℕ) (w : Work) (life : Life) (cs : List Credentials) → renewal_id ≢ p → bare n p (renewal_moved w life cs) ≡ renewal_moved (bare n p w) (hushed_life p life) cs
+bare_renewal_moved n p w (Ready l) (c ∷ cs) apart =
+    let q = renewal_queued c in
+    let a = renewal_act (start_of l.started q) in
+    let d = with_link (renewing w (told_next w.conn.renewal cs)) (begun l q) in
+    either (bare n p) (holds_back l) w (renewal_told w l c cs) (bare n p w) (renewal_told (bare n p w) (hushed_link p l) c cs) (λ t. refl)
+    (λ f. bare_acted n p d a (λ m. refl) ∙ ap (λ (k : LinkState). acted (with_link (renewing (bare n p w) (told_next w.conn.renewal cs)) k) a) (hushed_begun p l q apart))
+bare_renewal_moved n p w (Ready l) [] apart = refl
+bare_renewal_moved n p w Dialing cs apart = refl
+bare_renewal_moved n p w (Wanting l) cs apart = refl
+bare_renewal_moved n p w (SettingUp l with_user) cs apart = refl
+bare_renewal_moved n p w (Ended e) cs apart = refl
+
+-- their timer
+bare_renewal_timed : (n p : ℕ) (w : Work) (number : ℕ) (within : Option ℕ) → bare n p (renewal_timed w number within) ≡ renewal_timed (bare n p w) number within
+bare_renewal_timed n p w number None = refl
+bare_renewal_timed n p w number (Some ms) = bare_acted n p w (act.RenewalTimer number ms) (λ m. refl)
+
+-- which is asked for once
+bare_renewal_asked : (n p : ℕ) (w : Work) → bare n p (renewal_asked w) ≡ renewal_asked (bare n p w)
+bare_renewal_asked n p w =
+    let r = w.conn.renewal in
+    let d = renewing w (asked_next r) in
+    either (bare n p) r.pending w (renewal_timed d r.asked r.within) (bare n p w) (renewal_timed (bare n p d) r.asked r.within) (λ t. refl) (λ f. bare_renewal_timed n p d r.asked r.within)
+
+-- so all of it
+bare_renewed : (n p : ℕ) (w : Work) → At (There (IsGone n p)) w → bare n p (renewals.renewed w) ≡ renewals.renewed (bare n p w)
+bare_renewed n p w h =
+    let r = w.conn.renewal in
+    either_by (bare n p) (is_ready w.conn.life && is_due r) (is_ready (hushed_life p w.conn.life) && is_due r) (renewal_moved (renewal_asked w) w.conn.life r.waiting) w
+    (renewal_moved (renewal_asked (bare n p w)) (hushed_life p w.conn.life) r.waiting) (bare n p w) (ap (λ (b : Bool). b && is_due r) (ready_same p w.conn.life))
+    (λ t. bare_renewal_moved n p (renewal_asked w) w.conn.life r.waiting h.apart ∙ ap (λ (x : Work). renewal_moved x (hushed_life p w.conn.life) r.waiting) (bare_renewal_asked n p w))
+    (λ f. refl)
+
+-- requests take places
+--
 -- a request takes its place
 bare_placed : (n p : ℕ) (w : Work) (q : Waiting) (l : LinkState) → q.number ≢ p → bare n p (placed_at w q (Ready l)) ≡ placed_at (bare n p w) q (Ready (hushed_link p l))
 bare_placed n p w q l o =
@@ -562,18 +643,18 @@ bare_moved_up n p w q h =
     (λ f. refl)
 
 -- whether the queue has room doesn't depend on the row
-room_same : (p : ℕ) (life : Life) → has_room life ≡ has_room (hushed_life p life)
-room_same p Dialing = refl
-room_same p (Wanting l) = refl
-room_same p (SettingUp l with_user) = refl
-room_same p (Ready l) = refl
-room_same p (Ended e) = refl
+room_same : (p count : ℕ) (life : Life) → has_room_at life count ≡ has_room_at (hushed_life p life) count
+room_same p count Dialing = refl
+room_same p count (Wanting l) = refl
+room_same p count (SettingUp l with_user) = refl
+room_same p count (Ready l) = refl
+room_same p count (Ended e) = refl
 
 -- more of them take theirs
 bare_moved_up_each : (n p : ℕ) (w : Work) (qs : List Waiting) → At (There (IsGone n p)) w → bare n p (moved_up_each w qs) ≡ moved_up_each (bare n p w) qs
 bare_moved_up_each n p w [] h = refl
 bare_moved_up_each n p w (q ∷ qs) h =
-    either_by (bare n p) (has_room w.conn.life) (has_room (hushed_life p w.conn.life)) _ _ _ _ (room_same p w.conn.life)
+    either_by (bare n p) (has_room w.conn) (has_room (bare_conn p w.conn)) _ _ _ _ (room_same p (in_front w.conn.renewal) w.conn.life)
     (λ t. bare_moved_up_each n p (moved_up w q) qs (moved_up_kept (gone_kept n p) w q h) ∙ ap (λ (x : Work). moved_up_each x qs) (bare_moved_up n p w q h))
     (λ f. refl)
 
@@ -581,7 +662,7 @@ bare_moved_up_each n p w (q ∷ qs) h =
 bare_seated_or_behind : (n p : ℕ) (w : Work) (q : Waiting) → is_admitted_at w.conn.requests q.number ≡ true → At (There (IsGone n p)) w
     → bare n p (seated_or_behind w q) ≡ seated_or_behind (bare n p w) q
 bare_seated_or_behind n p w q t h =
-    either_by (bare n p) (has_room w.conn.life) (has_room (hushed_life p w.conn.life)) (seated w q) (put_behind w q) (seated (bare n p w) q) (put_behind (bare n p w) q) (room_same p w.conn.life)
+    either_by (bare n p) (has_room w.conn) (has_room (bare_conn p w.conn)) (seated w q) (put_behind w q) (seated (bare n p w) q) (put_behind (bare n p w) q) (room_same p (in_front w.conn.renewal) w.conn.life)
     (λ u. bare_seated n p w q t h)
     (λ f. refl)
 
@@ -674,12 +755,16 @@ bare_admitted_each n p w (q ∷ qs) none h =
 -- what a turn moves, where permits aren't counted
 pub bare_passed : (n p : ℕ) (w : Work) → w.conn.limit ≡ None → At (There (IsGone n p)) w → bare n p (passed w) ≡ passed (bare n p w)
 bare_passed n p w none h =
-    let d = started w in
+    let v = renewals.renewed w in
+    let d = started v in
     let e = moved_up_all d in
-    let k : At (There (IsGone n p)) d = started_kept (gone_kept n p) w h in
-    bare_admitted_each n p (still_waiting e []) e.conn.waiting (moved_up_all_kept unlimited_kept d (started_kept unlimited_kept w none)) (moved_up_all_kept (gone_kept n p) d k)
+    let g : At (There (IsGone n p)) v = renewed_kept (gone_kept n p) w h in
+    let free = started_kept unlimited_kept v (renewed_kept unlimited_kept w none) in
+    let k : At (There (IsGone n p)) d = started_kept (gone_kept n p) v g in
+    bare_admitted_each n p (still_waiting e []) e.conn.waiting (moved_up_all_kept unlimited_kept d free) (moved_up_all_kept (gone_kept n p) d k)
     ∙ ap admitted_all (bare_moved_up_each n p (still_admitted d []) d.conn.admitted k)
-    ∙ ap (λ (x : Work). admitted_all (moved_up_all x)) (bare_started n p w h)
+    ∙ ap (λ (x : Work). admitted_all (moved_up_all x)) (bare_started n p v g)
+    ∙ ap (λ (x : Work). admitted_all (moved_up_all (started x))) (bare_renewed n p w h)
 
 -- what a turn ends with
 --
