@@ -33,7 +33,7 @@ use Rattle.cancel_laws.proofs.Names.{own_of}
 use Rattle.cancel_laws.proofs.Links.{none_from}
 use Rattle.cancel_laws.proofs.Kept.{At, There, AtCore, Unlimited, left_by_kept, passed_kept, flushed_kept, turn_kept}
 use Rattle.cancel_laws.proofs.Gone.{NoneQueued, NoneInRow, NoneIs, IsAway, away_kept, IsHushed, hushed_kept, hushed_asks, quiet_life}
-use Rattle.cancel_laws.proofs.Bare.{own_left}
+use Rattle.cancel_laws.proofs.Moved.{own_left}
 use Rattle.cancel_laws.proofs.Once.{IsOnce, silenced_once, row_once}
 use Rattle.cancel_laws.proofs.Rest.{nothing_moves, left_idle}
 use Rattle.cancel_laws.proofs.Silent.{IsSilent, silent_kept}

@@ -25,7 +25,8 @@ use Rattle.mux_conn.specs.declared.request.Progress.TheVariants as progress
 use Rattle.cancel_laws.proofs.Requests.{progress_count}
 use Rattle.cancel_laws.proofs.Kept.{other_act, At, AtCore, Unlimited, unlimited_kept, heard_kept, effect_kept, passed_kept, turn_kept}
 use Rattle.cancel_laws.proofs.Gone.{IsAway, away_kept, away_asks}
-use Rattle.cancel_laws.proofs.Bare.{bare_conn, other_acts, acts_other, bare_applied, bare_asked, bare_left, bare_late, bare_passed, bare_flushed}
+use Rattle.cancel_laws.proofs.Bare.{bare_conn, other_acts, acts_other, bare_applied}
+use Rattle.cancel_laws.proofs.Moved.{bare_asked, bare_left, bare_late, bare_passed, bare_flushed}
 
 -- all of a session, but for the number of its turns, for how far request p has come, and whether its verdict is wanted
 abbrev pub bare_core : ℕ → Core → Core
