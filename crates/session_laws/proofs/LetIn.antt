@@ -43,7 +43,7 @@ use Rattle.session_laws.proofs.Going.{IsGoing, begun_up, going_more, moves_later
 use Rattle.session_laws.proofs.InLine.{first_is_least, kept_ids}
 use Rattle.session_laws.proofs.Kept.{of_same, tries_same}
 use Rattle.session_laws.proofs.Names.{earlier_name, get_more, length_with, name_placed, name_of_some, name_with, name_within, names_with, owners_with, permits_other, permits_with, same_name, there_within, was_with, with_other, with_same}
-use Rattle.session_laws.proofs.Numbers.{IsIn, Rising, in_right, rising_in, rising_right}
+use Rattle.session_laws.proofs.Numbers.{IsIn, Rising, in_right, rising_in, rising_right, requests_in}
 use Rattle.session_laws.proofs.Owes.{request_story}
 use Rattle.session_laws.proofs.Permits.{held_changed, held_same, on_this}
 use Rattle.session_laws.proofs.Closing.{one_of}
@@ -187,7 +187,10 @@ queued_let f g requests p count (q ∷ qs) w eased all = (
 entries_let : (requests : List Request) (p count : ℕ) (row : List Entry) → is_waiting_at requests p ≡ true → AllByRecursion (IsEntry requests) row → AllByRecursion (IsEntry (with_permits requests p progress.Waiting count)) row
 entries_let requests p count [] w all = tt
 entries_let requests p count (e ∷ es) w all = (
-  record { below = subst (λ n. e.id < n) (sym (length_with requests p progress.Waiting count)) all.0.below; placed_at = λ t. test_kept is_placed requests p count e.id w ∙ all.0.placed_at t },
+  elim all.0 [
+    | inl r ↦ inl (record { below = subst (λ n. e.id < n) (sym (length_with requests p progress.Waiting count)) r.below; placed_at = λ t. test_kept is_placed requests p count e.id w ∙ r.placed_at t })
+    | inr a ↦ inr a
+  ],
   entries_let requests p count es w all.1,
 )
 
@@ -200,7 +203,7 @@ kept_let requests waiting admitted p count m w (inr v) = inr (test_kept is_waiti
 lines_let : (f g : ℕ → Story) (requests : List Request) (link : LinkState) (waiting admitted : List Waiting) (pending started : List ℕ) (p count : ℕ) → is_waiting_at requests p ≡ true → ((n : ℕ) → IsEased (f n) (g n))
     → TiedLines f requests link waiting admitted pending started → TiedLines g (with_permits requests p progress.Waiting count) link waiting admitted pending started
 lines_let f g requests link waiting admitted pending started p count w eased h = record {
-  line = subst (Rising 0 (started ++ (queue_ids link.queue ++ kept_ids admitted waiting))) (sym (length_with requests p progress.Waiting count)) h.line;
+  line = subst (Rising 0 (requests_in started ++ (queue_ids link.queue ++ kept_ids admitted waiting))) (sym (length_with requests p progress.Waiting count)) h.line;
   queued = queued_let f g requests p count link.queue w eased h.queued;
   entries = entries_let requests p count link.row w h.entries;
   packs = packs_let f g requests p count waiting eased h.packs;
@@ -238,6 +241,7 @@ waits_let f g requests life fresh moved p count w eased h =
       no_setup = λ m link u i v d e. h.no_setup m link u i (waits m v) d (sym (same m) ∙ e);
       no_permit = λ m link i v d e. h.no_permit m link i (waits m v) d (sym (same m) ∙ e);
       no_place = λ m i a e. h.no_place m i (admits m a) (sym (same m) ∙ e);
+      seatless = λ m a e. h.seatless m (admits m a) (sym (same m) ∙ e);
       no_room = λ m i j e. h.no_room m i j (sym (same m) ∙ e);
     }
 
@@ -246,10 +250,11 @@ tries_let : (l : Ledger) (f g : ℕ → Story) (requests : List Request) (link :
 tries_let l f g requests link started p count eased before =
     let h = tries_same l f g requests link started (λ n. sym (eased n).submission) (λ n. sym (eased n).tries) before in
     let still = name_with requests p progress.Waiting count in
+    let within : (m : ℕ) → m < length (with_permits requests p progress.Waiting count) → m < length requests = λ m l. subst (λ x. m < x) (length_with requests p progress.Waiting count) l in
     record {
       owners = h.owners ∙ ap (setup_owners (setup_count l.starts)) (sym (owners_let started));
-      shapes = λ k m s i j. h.shapes k m s i j ∙ ap (λ n. shape (g n)) (sym (still m));
-      tried = λ k m i. ap (λ n. (g n).tries) (still m) ∙ h.tried k m i;
+      shapes = λ k m s l i j. h.shapes k m s (within m l) i j ∙ ap (λ n. shape (g n)) (sym (still m));
+      tried = λ k m l i. ap (λ n. (g n).tries) (still m) ∙ h.tried k m (within m l) i;
       untried = λ m r i out. let x = was_with requests p progress.Waiting count m r i in ap (λ n. (g n).tries) (sym x.2) ∙ h.untried m x.0 x.1 out;
     }
   where
@@ -295,6 +300,8 @@ let_tied b t p count free g noted timers w alone eased has sum numbers h = recor
   pushes = h.pushes;
   life = h.life;
   creds = h.creds;
+  count = h.count;
+  renewal = h.renewal;
   setup = h.setup;
   link = λ e. carried_tied t.life t.requests (with_permits t.requests p progress.Waiting count) (b.link t.link) (sym (owners_with t.requests p progress.Waiting count)) (h.link e);
   names = names_with t.table t.requests p progress.Waiting count h.names;
@@ -318,7 +325,7 @@ first_early b t q rest h r still full first n before m =
     let kept = kept_ids t.admitted t.waiting in
     let l = moves_later b t n h r m in
     let stays : is_due (next_step b (name_at t.requests l.p)) ≡ false → ⊥ = λ e. not_both (is_due (next_step b n)) (ap (λ x. is_due (next_step b x)) (sym l.name) ∙ e) m.due in
-    let all = rising_right 0 (waiting_ids t.admitted) (waiting_ids t.waiting) (length t.requests) (rising_right 0 ids kept (length t.requests) (rising_right 0 t.started (ids ++ kept) (length t.requests) h.lines.line)) in
+    let all = rising_right 0 (waiting_ids t.admitted) (waiting_ids t.waiting) (length t.requests) (rising_right 0 ids kept (length t.requests) (rising_right 0 (requests_in t.started) (ids ++ kept) (length t.requests) h.lines.line)) in
     let line = subst (λ ns. Rising 0 ns (length t.requests)) first all in
     let within = rising_in 0 (q ∷ rest) (length t.requests) q line (inl refl) in
     let earlier = earlier_name t.table t.requests l.p q h.names l.within within.1 (subst (λ x. x < name_at t.requests q) (sym l.name) before) in
