@@ -11,6 +11,7 @@ use Rattle.driver_model.specs.declared.action.Action.TheVariants as action
 use Rattle.driver_model.specs.declared.action.Owner.{Owner}
 use Rattle.driver_model.specs.declared.action.Owner.TheVariants as owner
 use Rattle.link_core.specs.Link.{LinkState, entry_of}
+use Rattle.link_core.specs.declared.message.Entry.{Entry}
 use Rattle.link_core.specs.declared.message.Queued.{Queued}
 use Rattle.link_laws.proofs.Once.{wanted-append}
 use Rattle.link_laws.proofs.TiedLink.{all_push, begun_tied, queue_tied}
@@ -180,7 +181,7 @@ requests_own true n other = requests_first n [] other
 requests_own false n other = refl
 
 -- one more entry of a request whose verdict is wanted, or not
-requests_wanted : (row : List Entry) (q : Queued) → q.id ≢ renewal_id → requests_in (wanted (row ++ entry_of q ∷ [])) ≡ requests_in (wanted row) ++ (if q.awaited then q.id ∷ [] else [])
+pub requests_wanted : (row : List Entry) (q : Queued) → q.id ≢ renewal_id → requests_in (wanted (row ++ entry_of q ∷ [])) ≡ requests_in (wanted row) ++ (if q.awaited then q.id ∷ [] else [])
 requests_wanted row q other =
     let own = if q.awaited then q.id ∷ [] else [] in
     ap requests_in (wanted-append row (entry_of q ∷ []) ∙ ap (λ ns. wanted row ++ ns) (append-nil own)) ∙ requests_in-append (wanted row) own ∙ ap (λ ns. requests_in (wanted row) ++ ns) (requests_own q.awaited q.id other)
