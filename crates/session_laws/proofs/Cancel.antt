@@ -32,7 +32,7 @@ use Rattle.shared_session.specs.Turn.{with_work, heard, is_shutdown, left_by, ef
 use Rattle.legal_trace.specs.Ledger.{Ledger, Sourced, ending, hears, noted}
 use Rattle.legal_trace.specs.Story.{Story, is_open, is_told, left}
 use Rattle.legal_trace.specs.Book.{Book, after_event, book, entered, if_own, shuts, submitted_by, timeout_after}
-use Rattle.session_laws.proofs.Numbers.{IsIn, in_left, in_right, in_either, Rising, rising_from, rising_in, rising_right, rising_tail}
+use Rattle.session_laws.proofs.Numbers.{IsIn, in_left, in_right, in_either, Rising, rising_from, rising_in, rising_right, rising_tail, requests_in}
 use Rattle.session_laws.proofs.Tied.{carried, inner, no_link, link_in, owner_of, queue_ids, whole_link, IsQueued, IsEntry, AreQueued, TiedCreds, TiedLife, TiedStory, TiedNames, TiedNumbers, TiedPermits, TiedLines, TiedSetup, IsUnknown, Tied, no_opening, has_ended}
 use Rattle.session_laws.proofs.States.{IsFit, IsFitIn, Between, HasApplied}
 use Rattle.session_laws.proofs.Names.{name_within, open_within, name_of_some, owners_with, length_with, names_with, with_other, with_then}
@@ -199,8 +199,8 @@ left_lines table story requests link waiting admitted p started closed names l a
     let kept = kept_ids admitted waiting in
     record {
       line = subst (Rising 0 (started ++ (queue_ids (without link.queue p) ++ kept))) (sym (length_with requests p progress.Closed 0))
-          (rising_tail 0 started (queue ++ kept) (queue_ids (without link.queue p) ++ kept) (length requests) (λ low s. without_rises link.queue kept p low (length requests) s) h.line);
-      queued = queue_left table story requests p closed link.queue kept 0 names l asked (rising_right 0 started (queue ++ kept) (length requests) h.line) c h.queued;
+          (rising_tail 0 (requests_in started) (queue ++ kept) (queue_ids (without link.queue p) ++ kept) (length requests) (λ low s. without_rises link.queue kept p low (length requests) s) h.line);
+      queued = queue_left table story requests p closed link.queue kept 0 names l asked (rising_right 0 (requests_in started) (queue ++ kept) (length requests) h.line) c h.queued;
       entries = silenced_entries requests p 0 (length requests) link.row (queue ++ kept) r h.entries;
       packs = packs_closed story requests p closed waiting c h.packs;
       packed_in = packs_closed story requests p closed admitted c h.packed_in;
@@ -292,7 +292,7 @@ left_lines_in table story requests life waiting admitted p started closed names 
     -- a link without messages stays as it is
     bare : TiedLines story requests no_link waiting admitted [] started → TiedLines (with_closed story requests p closed) (with_permits requests p progress.Closed 0) no_link waiting admitted [] started
     bare h =
-        let k = left_lines table story requests no_link waiting admitted p started closed names l asked c (rising_right 0 started (kept_ids admitted waiting) (length requests) h.line) h in
+        let k = left_lines table story requests no_link waiting admitted p started closed names l asked c (rising_right 0 (requests_in started) (kept_ids admitted waiting) (length requests) h.line) h in
         record { line = k.line; queued = k.queued; entries = k.entries; packs = k.packs; packed_in = k.packed_in; there = k.there }
 
     by_life : (x : Life) → (has_ended x ≡ false → Rising 0 (row_ids (link_in x).row ++ (queue_ids (link_in x).queue ++ kept_ids admitted waiting)) (length requests)) → TiedLines story requests (link_in x) waiting admitted [] started
@@ -448,7 +448,7 @@ gone_tied b c started word p n h o named =
     let l = open_within conn.requests p o in
     let r = request_story b (inner c started) p h l in
     let asked = r.open_is ∙ o in
-    let line = rising_right 0 started (queue_ids (link_in conn.life).queue ++ kept_ids conn.admitted conn.waiting) (length conn.requests) h.lines.line in
+    let line = rising_right 0 (requests_in started) (queue_ids (link_in conn.life).queue ++ kept_ids conn.admitted conn.waiting) (length conn.requests) h.lines.line in
     let closed : ℕ → Story = λ m. left (b.story m) in
     let k : (m : ℕ) → Closes (b.story m) (closed m) = λ m. leave_closes (b.story m) in
     let own = name_at conn.requests p in

@@ -264,6 +264,9 @@ waits_longer table story after requests more life fresh later moved names same l
       no_creds = λ p link i w r. no_wait (shown_wait after more p) wait.Creds (next.shown p w (next.only p i)).0;
       no_setup = λ p link u i w r. no_wait (shown_wait after more p) wait.Setup (next.shown p w (next.only p i)).0;
       no_permit = λ p link i w r. no_wait (shown_wait after more p) wait.Permit (next.shown p w (next.only p i)).0;
+      seatless = λ p a. before_or_new requests more p _
+          (λ old e. h.seatless p (sym (there_longer is_admitted requests more p longer old) ∙ a) (sym (still p old) ∙ e))
+          (λ past. absurd (next.none p (inl a) past));
       no_place = λ p i a. before_or_new requests more p _
           (λ old e. h.no_place p i (sym (there_longer is_admitted requests more p longer old) ∙ a) (sym (still p old) ∙ e))
           (λ past. absurd (next.none p (inl a) past));

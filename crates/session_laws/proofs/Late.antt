@@ -36,7 +36,7 @@ use Rattle.legal_trace.specs.Owed.{owed, owed_to_try}
 use Rattle.legal_trace.specs.Story.{Story, answered, awaited_in, bytes_of, fires, is_no_error, is_open, is_told, last_of}
 use Rattle.legal_trace.specs.Book.{Book, after_event, book, entered, if_own, is_clock_of}
 use Rattle.legal_trace.specs.Legal.{NoneEnds}
-use Rattle.session_laws.proofs.Numbers.{IsIn, in_left, in_right, in_either, Rising, rising_in, rising_right, rising_tail}
+use Rattle.session_laws.proofs.Numbers.{IsIn, in_left, in_right, in_either, Rising, rising_in, rising_right, rising_tail, requests_in}
 use Rattle.session_laws.proofs.Tied.{Inner, inner, no_link, link_in, queue_ids, IsEntry, IsQueued, IsRequest, AreQueued, TiedLines, TiedPermits, TiedStory, TiedWaits, Tied, has_ended, shown_wait}
 use Rattle.session_laws.proofs.States.{Between, HasApplied}
 use Rattle.session_laws.proofs.Behind.{open_untold}
@@ -148,7 +148,7 @@ late_lines m story requests link waiting admitted p started h =
     let queue = awaited_ids (without link.queue p) in
     let kept = kept_ids admitted waiting in
     record {
-      line = rising_tail 0 started (queue_ids link.queue ++ kept) (queue_ids (without link.queue p) ++ kept) (length requests) (λ low s. without_rises link.queue kept p low (length requests) s) h.line;
+      line = rising_tail 0 (requests_in started) (queue_ids link.queue ++ kept) (queue_ids (without link.queue p) ++ kept) (length requests) (λ low s. without_rises link.queue kept p low (length requests) s) h.line;
       queued = all_without (IsQueued after requests) link.queue p (queued_same story after requests link.queue same answers h.queued);
       entries = silenced_still requests link.row p h.entries;
       packs = packed_same story after requests waiting same times h.packs;
@@ -233,6 +233,7 @@ late_waits story requests m life p ys fresh moved line h =
       no_setup = λ q link u i w r e. let x = sets link u r in h.no_setup q x.0 u i w x.1 (sym (same q) ∙ e);
       no_permit = λ q link i w r e. let x = ready link r in h.no_permit q x.0 i w x.1 (sym (same q) ∙ e);
       no_place = λ q i a e. h.no_place q i a (sym (same q) ∙ e);
+      seatless = λ q a e. h.seatless q a (sym (same q) ∙ e);
       no_room = λ q i r e. h.no_room q i (others q r).2 (sym (same q) ∙ e);
     }
 
@@ -272,7 +273,7 @@ late_tied b c started word n p h is o =
     let heard : now.link c.single.link ≡ record ledger { heard = silence } = ap (λ (x : News). noted ledger (hears c.turns x)) (q.silent c.single.link) in
     let queue = queue_ids (link_in conn.life).queue in
     let kept = kept_ids conn.admitted conn.waiting in
-    let line = rising_right 0 started (queue ++ kept) (length conn.requests) h.lines.line in
+    let line = rising_right 0 (requests_in started) (queue ++ kept) (length conn.requests) h.lines.line in
     subst (λ (story : ℕ → Story). Tied (record now { story = story }) t) stories
     (tied_by (record now { story = after }) t (record ledger { heard = silence }) heard (record {
       numbers = silent_numbers b c started word (event.Fired n) c.timeout after conn.free (cancelled_in conn.life p) conn.requests (p ∷ []) q h;

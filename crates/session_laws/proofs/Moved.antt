@@ -24,7 +24,7 @@ use Rattle.session_laws.proofs.Close.{waiting_ends}
 use Rattle.session_laws.proofs.Going.{IsGoing}
 use Rattle.session_laws.proofs.InLine.{kept_ids}
 use Rattle.session_laws.proofs.Names.{open_within, with_other, with_then}
-use Rattle.session_laws.proofs.Numbers.{IsIn, Rising, rising_right}
+use Rattle.session_laws.proofs.Numbers.{IsIn, Rising, rising_right, requests_in}
 use Rattle.session_laws.proofs.Passes.{IsDone, IsSeated, IsUp, admitted_done, moved_up_seated, moved_up_waits, moving, started_keeps, started_up, no_room}
 use Rattle.session_laws.proofs.SetsUp.{setting_begun}
 use Rattle.session_laws.proofs.Settle.{Holds, answered_leaves, failed_leaves, seen, trace_of_acts}
@@ -90,7 +90,7 @@ ready_moved before f w started link life h =
     let queue = queue_ids (link_in w.conn.life).queue in
     let v = started_at w (Ready link) in
     let keeps = started_keeps w (Ready link) in
-    let line = rising_right 0 queue kept hi (rising_right 0 started (queue ++ kept) hi h.holds.tied.lines.line) in
+    let line = rising_right 0 queue kept hi (rising_right 0 (requests_in started) (queue ++ kept) hi h.holds.tied.lines.line) in
     let going : IsGoing (trace_of_acts before f w.acts) (moving f w.acts (with_link w link).conn places waits started) = record {
       sound = subst (λ (x : Life). Sound (trace_of_acts before f w.acts) (record (seen f w.acts w.conn [] started) { life = x })) life h.holds;
       ended = h.ended;

@@ -30,7 +30,7 @@ use Rattle.session_laws.proofs.Going.{is_moved}
 use Rattle.session_laws.proofs.InLine.{awaited_in, first_is_least, kept_ids, wanted_in}
 use Rattle.session_laws.proofs.Moved.{IsReady, passed_moved}
 use Rattle.session_laws.proofs.Names.{open_within, there_within}
-use Rattle.session_laws.proofs.Numbers.{IsIn, Rising, in_left, in_right, rising_in, rising_left, rising_right}
+use Rattle.session_laws.proofs.Numbers.{IsIn, Rising, in_left, in_right, rising_in, rising_left, rising_right, requests_in}
 use Rattle.session_laws.proofs.Owes.{IsOpenRequest, lives, none_open, open_request, request_story, row_link, stands_started, wanted_entry}
 use Rattle.session_laws.proofs.Settle.{book_of_more, seen, sound_act, trace_of_acts}
 use Rattle.session_laws.proofs.States.{Between, HasApplied, IsFitIn, IsStill, trace_with}
@@ -131,7 +131,7 @@ queue_rises : (b : Book) (t : Inner) → Tied b t → Rising 0 (queue_ids (link_
 queue_rises b t h =
     let queue = queue_ids (link_in t.life).queue in
     let kept = kept_ids t.admitted t.waiting in
-    rising_left 0 queue kept (length t.requests) (rising_right 0 t.started (queue ++ kept) (length t.requests) h.lines.line)
+    rising_left 0 queue kept (length t.requests) (rising_right 0 (requests_in t.started) (queue ++ kept) (length t.requests) h.lines.line)
 
 -- who waits for a place shows that
 place_shown : (before : List Action) (f : Core) (w : Work) (p : ℕ) (ps fresh started : List ℕ) (link : LinkState) → w.conn.life ≡ Ready link → is_admitted_at w.conn.requests p ≡ true → IsShowing before f w (p ∷ ps) fresh started → IsShowing before f (wait_shown w p (Some wait.Place)) ps fresh started
@@ -245,6 +245,7 @@ down_waits b t h down none = record {
   no_setup = h.waits.no_setup;
   no_permit = h.waits.no_permit;
   no_place = λ p i. absurd i;
+  seatless = h.waits.seatless;
   no_room = λ p i. absurd i;
 }
   where

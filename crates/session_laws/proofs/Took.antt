@@ -71,6 +71,7 @@ queue_waits story requests link after fresh moved same h = record {
   no_setup = λ p x u i w d. cc;
   no_permit = λ p x i w r. h.no_permit p link i w refl;
   no_place = h.no_place;
+  seatless = h.seatless;
   no_room = λ p i r. h.no_room p i (same p r);
 }
 

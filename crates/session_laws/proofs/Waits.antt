@@ -30,7 +30,7 @@ use Rattle.session_laws.proofs.InLine.{awaited_in as in_queue, chosen_in, kept_i
 use Rattle.session_laws.proofs.Kept.{SameOutcomes, SameSubmissions, SameTimes, one_changed, packed_same, queued_same, tries_same}
 use Rattle.session_laws.proofs.Moves.{later_of, open_unstarted}
 use Rattle.session_laws.proofs.Names.{earlier_name, get_some, name_of_some, open_within, same_name, there_within}
-use Rattle.session_laws.proofs.Numbers.{IsIn, Rising, in_either, in_left, in_right, rising_apart, rising_from, rising_in, rising_right}
+use Rattle.session_laws.proofs.Numbers.{IsIn, Rising, in_either, in_left, in_right, rising_apart, rising_from, rising_in, rising_right, requests_in}
 use Rattle.session_laws.proofs.Owes.{later_unstarted, none_open, open_request, request_story, row_in_line}
 use Rattle.session_laws.proofs.Permits.{IsHolding, permits_same}
 use Rattle.session_laws.proofs.States.{IsFit}
@@ -416,7 +416,7 @@ behind_places b t p m h none up i w less =
     let queue = queue_ids (link_in t.life).queue in
     let admitted = waiting_ids t.admitted in
     let last = waiting_ids t.waiting in
-    let line = rising_right 0 t.started (queue ++ (admitted ++ last)) (length t.requests) h.lines.line in
+    let line = rising_right 0 (requests_in t.started) (queue ++ (admitted ++ last)) (length t.requests) h.lines.line in
     let all = subst (λ ns. Rising 0 ns (length t.requests)) (sym (append_assoc queue admitted last)) line in
     let there = waiting_there b t m h none w in
     let k = rising_apart 0 (queue ++ admitted) last (length t.requests) p m all i there in
@@ -446,6 +446,7 @@ moved_waits b t p kind ps h is l so =
     let back : (q : ℕ) → IsIn q ps → IsIn q t.moved = λ q i. subst (IsIn q) (sym is) (inr i) in
     let still : (q : ℕ) → is_waiting_at requests q ≡ true → shown_wait after requests q ≡ shown_wait b.story requests q = λ q w.
     shown_then b t p q kind h l (there_within is_waiting requests q w) (λ e. so.moved (ap (is_waiting_at requests) e ∙ w)) in
+    let own_place : kind ≡ wait.Place → shown_wait after requests p ≡ Some wait.Room → ⊥ = λ is_place e. (let no : ◌≡◌ {A = Option WaitKind} (Some wait.Place) (Some wait.Room) = ap Some (sym is_place) ∙ sym (shown_own b.story requests p kind) ∙ e in cc) in
     record {
       early = λ q w. one_of (shown_wait after requests q) (shown_wait b.story requests q) (still q w) (h.waits.early q w);
       connect = λ q w d. elim (h.waits.connect q w d) [ inl i ↦ inl i | inr e ↦ inr (still q w ∙ e) ];
@@ -474,6 +475,9 @@ moved_waits b t p kind ps h is l so =
       no_creds = λ q link i w r e. h.waits.no_creds q link i w r (sym (still q w) ∙ e);
       no_setup = λ q link u i w r e. h.waits.no_setup q link u i w r (sym (still q w) ∙ e);
       no_permit = λ q link i w r e. h.waits.no_permit q link i w r (sym (still q w) ∙ e);
+      seatless = λ q a. by_test (p == q) _
+          (λ t1 e. own_place (so.place (ap (is_admitted_at requests) (eq_from p q t1) ∙ a)) (subst (λ m. shown_wait after requests m ≡ Some wait.Room) (sym (eq_from p q t1)) e))
+          (λ f e. h.waits.seatless q a (sym (shown_then b t p q kind h l (there_within is_admitted requests q a) (ne_from p q f)) ∙ e));
       no_place = λ q i a e. h.waits.no_place q (back q i) a (sym (shown_then b t p q kind h l (there_within is_admitted requests q a) (above q i)) ∙ e);
       no_room = λ q i r e. h.waits.no_room q (back q i) r (sym (shown_then b t p q kind h l (queue_within b t q h (in_queue q (link_in t.life).queue r)) (above q i)) ∙ e);
     }
@@ -503,6 +507,7 @@ passed_waits b t p ps h is gone none =
       no_creds = h.waits.no_creds;
       no_setup = h.waits.no_setup;
       no_permit = h.waits.no_permit;
+      seatless = h.waits.seatless;
       no_place = λ q i a. h.waits.no_place q (back q i) a;
       no_room = λ q i r. h.waits.no_room q (back q i) r;
     }
@@ -568,6 +573,7 @@ fresh_waits b t p kind ps h is w so =
       no_creds = λ q link i v r e. h.waits.no_creds q link (back q i) v r (sym (waits q v (rest_other p q ps (length requests) line i)) ∙ e);
       no_setup = λ q link u i v r e. h.waits.no_setup q link u (back q i) v r (sym (waits q v (rest_other p q ps (length requests) line i)) ∙ e);
       no_permit = λ q link i v r e. h.waits.no_permit q link (back q i) v r (sym (waits q v (rest_other p q ps (length requests) line i)) ∙ e);
+      seatless = λ q a e. h.waits.seatless q a (sym (admitted q a) ∙ e);
       no_place = λ q i a e. h.waits.no_place q i a (sym (admitted q a) ∙ e);
       no_room = λ q i r e. h.waits.no_room q i r (sym (queued q r) ∙ e);
     }
@@ -592,6 +598,7 @@ stale_waits b t p ps h is gone =
       no_creds = λ q link i w r. h.waits.no_creds q link (back q i) w r;
       no_setup = λ q link u i w r. h.waits.no_setup q link u (back q i) w r;
       no_permit = λ q link i w r. h.waits.no_permit q link (back q i) w r;
+      seatless = h.waits.seatless;
       no_place = h.waits.no_place;
       no_room = h.waits.no_room;
     }

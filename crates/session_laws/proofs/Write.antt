@@ -43,6 +43,7 @@ write_tied b t link h =
       pushes = h.pushes;
       life = h.life;
       creds = record { wanted_is = h.creds.wanted_is; sought = h.creds.sought };
+      count = h.count;
       setup = record { info_is = h.setup.info_is; sent = h.setup.sent; said = record { well = h.setup.said.well; none = h.setup.said.none } };
       link = λ e. offered_tied (owner_of t.requests) l link (h.link refl);
       names = h.names;
@@ -66,6 +67,7 @@ write_set_tied b t link with_user h =
       pushes = h.pushes;
       life = h.life;
       creds = record { wanted_is = h.creds.wanted_is; sought = h.creds.sought };
+      count = h.count;
       setup = setup_link (noted l line) t.info t.started link (offered_of link) with_user refl refl
           (setup_on l l.asked l.up l.end l.taken link.outbox.unwritten l.rest l.heard t.info t.started (SettingUp link with_user) h.setup);
       link = λ e. offered_tied (λ (p : ℕ). owner.Setup) l link (h.link refl);
