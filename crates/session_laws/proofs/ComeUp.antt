@@ -178,7 +178,7 @@ pub record IsReadied (b : Book) (c : Core) (l : Ledger) (info : RedisConnectionI
 
 -- what the session needs of it, also where a second source is asked for
 readied_comes : (b : Book) (c : Core) (started : List ℕ) (n : News) (info : RedisConnectionInfo) (link : LinkState) (untold : List Heard) (more : Bool) → Tied b (inner c started) → IsFitIn c.single.connection → c.single.connection.fresh ≡ [] → (IsOfRenewals n → ⊥) → IsEarly c.single.connection.life wait.Permit
-    → (let l = heard_by b c n in IsReadied b c l info link untold → (l.creds.wanted ≡ true → more ≡ true) → (more ≡ true → l.creds.asked ≡ true)
+    → (let l = heard_by b c n in IsReadied b c l info link untold → l.creds.wanted ≡ more → (more ≡ true → l.creds.asked ≡ true)
     → ComesTo b c (readied more l) (b.created + 1) info (Ready link) (numbers_of c.single.connection.waiting) [] untold started)
 readied_comes b c started n info link untold more h0 fit no_fresh other early facts needs some =
     let conn = c.single.connection in
@@ -188,6 +188,7 @@ readied_comes b c started n info link untold more h0 fit no_fresh other early fa
     let renews = if more then l.creds.asked else l.creds.renews in
     let nobody = fit.none (λ x r. not_both (is_ready conn.life) early.unready (ap is_ready r)) in
     let none = none_hears (b.link c.single.link) c.turns n conn.renewal other (early_renewal (b.link c.single.link) conn.renewal conn.life early.unready early.alive h0.renewal) in
+    let once : l.creds.renews ≡ false = renews_hear (b.link c.single.link) c.turns n ∙ early_sources (b.link c.single.link).creds conn.life early.unready early.alive h0.creds.sought in
     let said = setup_recredited l asked renews l.creds.renewals l.creds.over l.creds.timed l.creds.lost info started link (record { info_is = facts.info_is; sent = facts.sent; said = made.said }) in
     record {
       starts = heard_starts (b.link c.single.link) c.turns n;
@@ -196,7 +197,7 @@ readied_comes b c started n info link untold more h0 fit no_fresh other early fa
         wanted_is = facts.wanted_is;
         sought = (
           elim facts.has [ inl unwanted ↦ inl unwanted | inr come ↦ inr (chosen (λ (x : Bool). x ≡ true) more true l.creds.asked (λ t. refl) (λ f. come.0), come.1) ],
-          λ wanted. taken_if more l.creds.asked l.creds.renews (needs wanted) ∙ some (needs wanted),
+          chosen (λ (x : Bool). x ≡ l.creds.wanted) more l.creds.asked l.creds.renews (λ t. some t ∙ sym (needs ∙ t)) (λ f. once ∙ sym (needs ∙ f)),
         );
       };
       renewal_is = renewed_first (readied more l) conn.renewal (record {
@@ -288,7 +289,7 @@ makes_ready before c started word kind n info link untold h good k is other earl
     unwanted w =
         let t = record (seen f [] (comes_as c info (Ready link) ns) [] started) { untold = untold } in
         let same : readied c.single.connection.renewal.wanted l ≡ l = ap (λ (x : Bool). readied x l) w in
-        let comes = readied_comes b c started n info link untold false h0 h.fit h.fresh other early facts (λ wanted. absurd (not_both l.creds.wanted (facts.wanted_is ∙ w) wanted)) (λ none. cc) in
+        let comes = readied_comes b c started n info link untold false h0 h.fit h.fresh other early facts (facts.wanted_is ∙ w) (λ none. cc) in
         let tied : Tied (entered now shown) t = heard_tied b c started word (b.created + 1) kind info (Ready link) ns [] untold l h0 good own comes in
         record {
           holds = sound_more front shown t all (subst MayBeCreated (sym book_is) may) (subst (λ (x : Book). Tied (entered x shown) t) (sym book_is) tied);
@@ -314,7 +315,7 @@ makes_ready before c started word kind n info link untold h good k is other earl
         let after = noted l sources in
         let ledger_is : links mine ≡ after = mine_noted (now.link mine) mine sources ∙ ap (λ (y : Ledger). noted y sources) own in
         let t = record (seen f [] (comes_as c info (Ready link) ns) [] started) { untold = untold; sources = uses } in
-        let comes = readied_comes b c started n info link untold true h0 h.fit h.fresh other early facts (λ x. refl) (λ x. asked) in
+        let comes = readied_comes b c started n info link untold true h0 h.fit h.fresh other early facts wanted (λ x. asked) in
         let counted : length uses ≡ sources_asked_in after.creds =
         length_push c.sources (use_after mine count) ∙ ap (λ m. m + 1) (h0.count ∙ sym (sources_hear (b.link mine) c.turns n) ∙ (λ i. (if asked i then 1 else 0) + (if renews i then 1 else 0))) ∙ ap (λ (x : Bool). 1 + (if x then 1 else 0)) (sym asked) in
         let tied : Tied (entered created needs) t =

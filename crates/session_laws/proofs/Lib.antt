@@ -34,6 +34,7 @@ pub mod End
 pub mod ComeUp
 pub mod Connect
 pub mod Given
+pub mod Renewed
 pub mod Took
 pub mod ReadSetup
 pub mod ReadWanting

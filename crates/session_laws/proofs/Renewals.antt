@@ -153,6 +153,7 @@ alike_rebuild : (l m : Ledger) (r : Renewal) → AreRenewed l r → AreRenewed (
 alike_rebuild l m r h = record {
   over_is = h.over_is;
   waits = h.waits;
+  some = h.some;
   asked_is = h.asked_is;
   timed_is = h.timed_is;
   next = h.next;
@@ -238,6 +239,7 @@ renewed_first l r h =
     record {
       over_is = h.over_is;
       waits = h.waits ∙ sym (ap (drop (renewal_count l.starts)) h.came ∙ dropped (renewal_count l.starts));
+      some = few_none (renewal_count l.starts) (length l.creds.renewals) h.unstarted;
       asked_is = h.unasked ∙ sym (λ i. h.unstarted i + (if h.unpending i then 1 else 0));
       timed_is = h.untimed ∙ sym (ap (timed_of r.within) h.unasked ∙ no_time r.within);
       next = λ p. absurd (not_both r.pending h.unpending p);
@@ -252,6 +254,9 @@ renewed_first l r h =
     dropped : (n : ℕ) → ◌≡◌ {A = List Credentials} (drop n []) []
     dropped zero = refl
     dropped (suc n) = refl
+
+    few_none : (n m : ℕ) → n ≡ 0 → n ≤ m
+    few_none n m e = omega arith
 
     no_time : (o : Option ℕ) → timed_of o 0 ≡ 0
     no_time None = refl
@@ -361,6 +366,7 @@ begins_renewed l r s other h =
     record {
       over_is = h.over_is;
       waits = h.waits ∙ ap (λ n. drop n l.creds.renewals) (sym count);
+      some = (let few = h.some in omega (arith, few, count));
       asked_is = h.asked_is ∙ ap (λ n. n + (if r.pending then 1 else 0)) (sym count);
       timed_is = h.timed_is;
       next = h.next;
@@ -394,6 +400,13 @@ next_dropped [] (suc n) c more e = cc
 next_dropped (x ∷ cs) zero c more e = let same : cs ≡ more = cc in sym same
 next_dropped (x ∷ cs) (suc n) c more e = next_dropped cs n c more e
 
+-- that there are some means that not all are in front
+some_dropped : (cs : List Credentials) (n : ℕ) (c : Credentials) (more : List Credentials) → drop n cs ≡ c ∷ more → n < length cs
+some_dropped [] zero c more e = cc
+some_dropped [] (suc n) c more e = cc
+some_dropped (x ∷ cs) zero c more e = omega arith
+some_dropped (x ∷ cs) (suc n) c more e = let l = some_dropped cs n c more e in omega arith
+
 -- new credentials are told: the first of those that wait
 pub auth_renewed : (l : Ledger) (r : Renewal) (s : Start) (c : Credentials) (cs : List Credentials) → s.owner ≡ owner.Auth → s.shape ≡ Confirmation → length l.dealt ≤ reach l.starts l.dealt → is_due r ≡ true → r.pending ≡ true → r.waiting ≡ c ∷ cs → AreRenewed l r
     → AreRenewed (noted l (begins s)) (told_next r cs)
@@ -404,6 +417,7 @@ auth_renewed l r s c cs owned shaped within due pending waits h =
     record {
       over_is = h.over_is;
       waits = next_dropped l.creds.renewals (renewal_count l.starts) c cs (sym h.waits ∙ waits) ∙ ap (λ n. drop n l.creds.renewals) (sym count);
+      some = (let one = some_dropped l.creds.renewals (renewal_count l.starts) c cs (sym h.waits ∙ waits) in omega (arith, one, count));
       asked_is = h.asked_is ∙ ap (λ (b : Bool). renewal_count l.starts + (if b then 1 else 0)) pending ∙ (let e : renewal_count l.starts + 1 ≡ suc (renewal_count l.starts) + 0 = omega arith in e) ∙ ap (λ n. n + 0) (sym count);
       timed_is = h.timed_is;
       next = λ p. cc p;
@@ -428,6 +442,7 @@ pub asked_renewed : (l : Ledger) (r : Renewal) → r.pending ≡ false → is_du
 asked_renewed l r none due within h = record {
   over_is = h.over_is;
   waits = h.waits;
+  some = h.some;
   asked_is = ap (λ n. n + 1) (h.asked_is ∙ ap (λ (b : Bool). renewal_count l.starts + (if b then 1 else 0)) none) ∙ (let e : renewal_count l.starts + 0 + 1 ≡ renewal_count l.starts + 1 = omega arith in e);
   timed_is = h.timed_is ∙ ap (λ o. timed_of o r.asked) within ∙ sym (ap (λ o. timed_of o (r.asked + 1)) within);
   next = λ p. ((due_well r due).0, some_wait r due);
@@ -444,6 +459,7 @@ pub timed_renewed : (l : Ledger) (r : Renewal) (ms : ℕ) → r.pending ≡ fals
 timed_renewed l r ms none due within h = record {
   over_is = h.over_is;
   waits = h.waits;
+  some = h.some;
   asked_is = ap (λ n. n + 1) (h.asked_is ∙ ap (λ (b : Bool). renewal_count l.starts + (if b then 1 else 0)) none) ∙ (let e : renewal_count l.starts + 0 + 1 ≡ renewal_count l.starts + 1 = omega arith in e);
   timed_is = ap (λ n. n + 1) (h.timed_is ∙ ap (λ o. timed_of o r.asked) within) ∙ sym (ap (λ o. timed_of o (r.asked + 1)) within);
   next = λ p. ((due_well r due).0, some_wait r due);

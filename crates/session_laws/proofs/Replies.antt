@@ -19,7 +19,7 @@ use Rattle.link_core.specs.declared.message.Settled.{Settled}
 use Rattle.link_core.specs.Dealing.{Dealing, dealt, dealt_each}
 use Rattle.link_core.specs.Link.{LinkState}
 use Rattle.link_laws.specs.Settles.{settled_ids, wanted}
-use Rattle.link_laws.proofs.Dealt.{IsCutOf, IsDealt, all_append, cut_stays, each_dealt, items_with, one_wanted, taken_item}
+use Rattle.link_laws.proofs.Dealt.{IsCutOf, IsDealt, all_append, cut_more, cut_within, each_dealt, items_with, one_wanted, taken_item}
 use Rattle.link_laws.proofs.Once.{items_keep}
 use Rattle.link_laws.proofs.Pushes.{IsNew, item_settles}
 use Rattle.link_laws.proofs.Started.{IsInRow, full_or_open, row_open}
@@ -44,10 +44,20 @@ use Rattle.session_laws.proofs.Tied.{AreFullBefore, AreRenewed, IsEntry, IsLost,
 --
 -- more items leave it settled
 new_later : (name : ℕ → Owner) (ss : List Start) (base now more : List Data) (s : Settled) → IsNew name ss base now s → IsNew name ss base (now ++ more) s
-new_later name ss base now more s h = record {
-  cut = record { of_shape = h.cut.of_shape; got = h.cut.got; cut = cut_stays ss now more (name s.id) h.cut.of_shape h.cut.got h.cut.cut; verdict_is = h.cut.verdict_is };
-  late = h.late;
-}
+new_later name ss base now more s h =
+    let c = h.cut.cut in
+    let k = c.number in
+    let far = cut_within ss now (name s.id) h.cut.of_shape k c.place c.full in
+    let next : reach (take (suc k) ss) (now ++ more) ≡ reach (take (suc k) ss) now = reach_alike (take (suc k) ss) (now ++ more) now in
+    record {
+      cut = record {
+        of_shape = h.cut.of_shape;
+        got = h.cut.got;
+        cut = record { number = k; place = c.place; full = omega (arith, next, c.full, length-append now more); cut_is = c.cut_is ∙ sym (cut_more ss now more h.cut.of_shape k far) };
+        verdict_is = h.cut.verdict_is;
+      };
+      late = h.late;
+    }
 
 -- of each
 all_later : (name : ℕ → Owner) (ss : List Start) (base now more : List Data) (out : List Settled) → AllByRecursion (IsNew name ss base now) out → AllByRecursion (IsNew name ss base (now ++ more)) out
@@ -108,7 +118,7 @@ last_at (x ∷ ss) k n old e = elim (last_at ss (suc k) n (if is_of_renewal x.ow
 -- of a link
 pub last_start : (l : Ledger) (k : ℕ) → last_renewal l.starts 0 None ≡ Some k → (s : Start) × (slice_get l.starts k ≡ Some s) × (is_of_renewal s.owner ≡ true)
 last_start l k e = elim (last_at l.starts 0 k None e) [
-  | inl no ↦ absurd (cc no)
+  | inl none ↦ absurd (cc none)
   | inr m ↦ (m.1, ap (slice_get l.starts) (let far = m.2 in let same : k ≡ m.0 = omega arith in same) ∙ m.3, m.4)
 ]
 
@@ -266,9 +276,9 @@ auth_replied requests l piece s shaped auth h =
 -- so no reply of AUTH is settled where all are answered
 none_settled : (requests : List Request) (l : Ledger) (piece : List ℕ) (out : List Settled) → ((k : ℕ) (x : Start) → slice_get l.starts k ≡ Some x → is_of_renewal x.owner ≡ true → x.shape ≡ Confirmation) → ((s : Settled) → IsReplied l piece s → ⊥)
     → AllByRecursion (IsNew (owner_of requests) l.starts l.dealt (has_heard l piece).dealt) out → (n : ℕ) → IsIn n (settled_ids out) → n ≢ renewal_id
-none_settled requests l piece [] shaped no all n i = absurd i
-none_settled requests l piece (s ∷ out) shaped no all n (inl same) = λ is. no s (auth_replied requests l piece s shaped (same ∙ is) all.0)
-none_settled requests l piece (s ∷ out) shaped no all n (inr i) = none_settled requests l piece out shaped no all.1 n i
+none_settled requests l piece [] shaped never all n i = absurd i
+none_settled requests l piece (s ∷ out) shaped never all n (inl same) = λ is. never s (auth_replied requests l piece s shaped (same ∙ is) all.0)
+none_settled requests l piece (s ∷ out) shaped never all n (inr i) = none_settled requests l piece out shaped never all.1 n i
 
 -- and each says what the last was answered
 all_say : (requests : List Request) (l : Ledger) (piece : List ℕ) (out : List Settled) (k : ℕ) → ((k : ℕ) (x : Start) → slice_get l.starts k ≡ Some x → is_of_renewal x.owner ≡ true → x.shape ≡ Confirmation) → ((s : Settled) (h : IsReplied l piece s) → h.number ≡ k)
@@ -328,7 +338,8 @@ read_renewed requests l link piece r lives tied entries few h =
         subst (AreRenewed after) (sym (none_replied r out (none_settled requests l piece out h.shaped none new))) (record {
           over_is = h.over_is;
           waits = h.waits;
-          asked_is = h.asked_is;
+          some = h.some;
+              asked_is = h.asked_is;
           timed_is = h.timed_is;
           next = h.next;
           shaped = h.shaped;
@@ -359,6 +370,7 @@ read_renewed requests l link piece r lives tied entries few h =
             subst (AreRenewed after) (sym (none_replied r out (none_settled requests l piece out h.shaped none new))) (record {
               over_is = h.over_is;
               waits = h.waits;
+              some = h.some;
               asked_is = h.asked_is;
               timed_is = h.timed_is;
               next = h.next;
@@ -370,31 +382,18 @@ read_renewed requests l link piece r lives tied entries few h =
               lost = lost_still;
             })
 
-        answered_now : r.unanswered ≡ true → (t : IsTold l) → is_full after t.k ≡ true → AreRenewed after (replied_each r out)
-        answered_now u t full =
-            let done = is_taken_so (verdict_of Confirmation (cut after t.k Confirmation)) in
-            let before = told_in_row requests l link t.k lives tied entries few t.last t.open_is in
-            let kept = items_keep (record { row = link.row; out = [] }) (items (link.rest ++ piece)) in
-            let there : IsIn renewal_id (settled_ids out) = elim (in_either renewal_id (settled_ids out) (wanted (deals link piece).row) (subst (IsIn renewal_id) (sym kept) before)) [
-              | inl i ↦ i
-              | inr i ↦ absurd (still_open t full (wanted_in renewal_id (deals link piece).row i))
-            ] in
-            subst (AreRenewed after) (sym (some_replied r done out there (all_say requests l piece out t.k h.shaped (λ s x. only_last t s x) new))) (record {
-              over_is = h.over_is;
-              waits = h.waits;
-              asked_is = h.asked_is;
-              timed_is = h.timed_is;
-              next = λ p. (refl, (h.next p).1);
-              shaped = h.shaped;
-              answered = λ w j s less at is.
-                  let most = last_behind l t.k j s t.last at is in
-                  by_test (j == t.k) (is_full after j ≡ true) (λ same. subst (λ n. is_full after n ≡ true) (sym (eq_from j t.k same)) full)
-                  (λ f. let other = ne_from j t.k f in full_after l piece j s at (t.earlier j s (omega arith) at is));
-              unanswered = λ w. cc w;
-              kept = λ k. h.kept (first_not r.lost done k);
-              taken = λ k w. ap (is_taken after) t.last ∙ (λ i. full i && second_not r.lost done k i);
-              lost = λ x. by_test r.lost (IsLost after) lost_still (λ f. inr (t.k, t.last, full, third_not r.lost done f x));
-            })
+        still_open : (t : IsTold l) → is_full after t.k ≡ true → IsIn renewal_id (row_ids (deals link piece).row) → ⊥
+        still_open t full i =
+            let rows = row_open (owner_of requests) after (has_read link piece) lives (read_tied (owner_of requests) l link piece lives tied) in
+            let w = wanted_entry (owner_of requests) after _ (has_read link piece).row renewal_id rows i in
+            let place = w.open_as.place in
+            let is : is_of_renewal place.start.owner ≡ true = ap is_of_renewal place.owned ∙ auth_name requests w.entry.id w.is in
+            let most = last_behind l t.k w.number place.start t.last place.stands is in
+            by_test (w.number == t.k) ⊥
+            (λ same. not_both (is_full after w.number) w.open_as.takes_more (subst (λ n. is_full after n ≡ true) (sym (eq_from w.number t.k same)) full))
+            (λ f.
+            let other = ne_from w.number t.k f in
+            not_both (is_full after w.number) w.open_as.takes_more (full_after l piece w.number place.start place.stands (t.earlier w.number place.start (omega arith) place.stands is)))
 
         first_not : (a b : Bool) → (a || not b) ≡ false → a ≡ false
         first_not true b e = cc
@@ -410,15 +409,29 @@ read_renewed requests l link piece r lives tied entries few h =
         third_not false true f e = cc
         third_not false false f e = refl
 
-        still_open : (t : IsTold l) → is_full after t.k ≡ true → IsIn renewal_id (row_ids (deals link piece).row) → ⊥
-        still_open t full i =
-            let rows = row_open (owner_of requests) after (has_read link piece) lives (read_tied (owner_of requests) l link piece lives tied) in
-            let w = wanted_entry (owner_of requests) after _ (has_read link piece).row renewal_id rows i in
-            let place = w.open_as.place in
-            let is : is_of_renewal place.start.owner ≡ true = ap is_of_renewal place.owned ∙ auth_name requests w.entry.id w.is in
-            let most = last_behind l t.k w.number place.start t.last place.stands is in
-            by_test (w.number == t.k) ⊥
-            (λ same. not_both (is_full after w.number) w.open_as.takes_more (subst (λ n. is_full after n ≡ true) (sym (eq_from w.number t.k same)) full))
-            (λ f.
-            let other = ne_from w.number t.k f in
-            not_both (is_full after w.number) w.open_as.takes_more (full_after l piece w.number place.start place.stands (t.earlier w.number place.start (omega arith) place.stands is)))
+        answered_now : r.unanswered ≡ true → (t : IsTold l) → is_full after t.k ≡ true → AreRenewed after (replied_each r out)
+        answered_now u t full =
+            let done = is_taken_so (verdict_of Confirmation (cut after t.k Confirmation)) in
+            let before = told_in_row requests l link t.k lives tied entries few t.last t.open_is in
+            let kept = items_keep (record { row = link.row; out = [] }) (items (link.rest ++ piece)) in
+            let there : IsIn renewal_id (settled_ids out) = elim (in_either renewal_id (settled_ids out) (wanted (deals link piece).row) (subst (IsIn renewal_id) (sym kept) before)) [
+              | inl i ↦ i
+              | inr i ↦ absurd (still_open t full (wanted_in renewal_id (deals link piece).row i))
+            ] in
+            subst (AreRenewed after) (sym (some_replied r done out there (all_say requests l piece out t.k h.shaped (λ s x. only_last t s x) new))) (record {
+              over_is = h.over_is;
+              waits = h.waits;
+              some = h.some;
+              asked_is = h.asked_is;
+              timed_is = h.timed_is;
+              next = λ p. (refl, (h.next p).1);
+              shaped = h.shaped;
+              answered = λ w j s less at is.
+                  let most = last_behind l t.k j s t.last at is in
+                  by_test (j == t.k) (is_full after j ≡ true) (λ same. subst (λ n. is_full after n ≡ true) (sym (eq_from j t.k same)) full)
+                  (λ f. let other = ne_from j t.k f in full_after l piece j s at (t.earlier j s (omega arith) at is));
+              unanswered = λ w. cc w;
+              kept = λ k. h.kept (first_not r.lost done k);
+              taken = λ k w. ap (is_taken after) t.last ∙ (λ i. full i && second_not r.lost done k i);
+              lost = λ x. by_test r.lost (IsLost after) lost_still (λ f. inr (t.k, t.last, full, third_not r.lost done f x));
+            })

@@ -289,10 +289,11 @@ none_failed l none up unready =
     by_none (error_in (setup_result l)) (ending_unready l l.heard)
     (sym (taken_if l.up (ending_alive l) _ up ∙ left_if (is_set_up l) (ending_up l l.heard) (ending_by (error_in (setup_result l)) (ending_unready l l.heard)) unready) ∙ none)
 
--- that nothing is heard, or that bytes were taken
+-- that nothing is heard, that bytes were taken, or that new credentials weren't answered in time
 abbrev pub IsMild : News → Type 0
 IsMild silence = Unit {0}
 IsMild (took count) = Unit {0}
+IsMild (late k) = Unit {0}
 IsMild _ = ⊥
 
 -- so a link that is up need not end then
@@ -317,6 +318,7 @@ mild_down l taken offer n mild down =
 pub mild_end : (l : Ledger) (taken offer : List ℕ) (n : News) → IsMild n → ending l ≡ None → ending (record l { taken = taken; offer = offer; heard = n }) ≡ None
 mild_end l taken offer silence k none = by_test l.up _ (mild_up l taken offer silence (refl, refl) none) (mild_down l taken offer silence refl)
 mild_end l taken offer (took count) k none = by_test l.up _ (mild_up l taken offer (took count) (refl, refl) none) (mild_down l taken offer (took count) refl)
+mild_end l taken offer (late m) k none = by_test l.up _ (mild_up l taken offer (late m) (refl, refl) none) (mild_down l taken offer (late m) refl)
 mild_end l taken offer _ k none = absurd k
 
 -- where a link is ready
@@ -342,7 +344,7 @@ pub life_sourced : (l : Ledger) (created : ℕ) (started : List ℕ) (life : Lif
 life_sourced l created started Dialing h s said = down_sourced l h.1
 life_sourced l created started (Wanting link) h s said = asked_sourced l s.1 (inl (lacking_undecided l (wanting_lacks l.creds link s)).unwell)
 life_sourced l created started (SettingUp link with_user) h s said = has_sourced l s.0 (not_set_up l link with_user said.1).unwell
-life_sourced l created started (Ready link) h s said = ready_sourced l s.0 s.1
+life_sourced l created started (Ready link) h s said = ready_sourced l s.0 (λ w. s.1 ∙ w)
 life_sourced l created started (Ended e) h s said = down_sourced l h.0
 
 -- of any link

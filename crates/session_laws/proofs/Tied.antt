@@ -234,7 +234,7 @@ abbrev pub AreSought : Sourced → Life → Type 0
 AreSought c Dialing = (c.asked ≡ false) × (c.given ≡ false) × (c.renews ≡ false)
 AreSought c (Wanting link) = (c.wanted ≡ true) × (c.asked ≡ true) × (c.given ≡ false) × (c.renews ≡ false)
 AreSought c (SettingUp link with_user) = HasCredentials c × (c.renews ≡ false)
-AreSought c (Ready link) = HasCredentials c × (c.wanted ≡ true → c.renews ≡ true)
+AreSought c (Ready link) = HasCredentials c × (c.renews ≡ c.wanted)
 AreSought c (Ended e) = Unit {0}
 
 -- how many sources were asked for by then
@@ -279,11 +279,12 @@ abbrev pub timed_of : Option ℕ → ℕ → ℕ
 timed_of None asked = 0
 timed_of (Some ms) asked = asked
 
--- the new credentials of a link that is set up: those that weren't told wait; so many were to be told, and have their timers;
+-- the new credentials of a link that is set up: those that weren't told wait, and as many came as were told; so many were to be told, and have their timers;
 -- those that were told are answered, but the last where it says so; and they were taken, in time, where it isn't said that some were lost
 pub record AreRenewed (l : Ledger) (r : Renewal) : Type 0 where
   pub over_is : l.creds.over ≡ r.over
   pub waits : r.waiting ≡ drop (renewal_count l.starts) l.creds.renewals
+  pub some : renewal_count l.starts ≤ length l.creds.renewals
   pub asked_is : r.asked ≡ renewal_count l.starts + (if r.pending then 1 else 0)
   pub timed_is : l.creds.timed ≡ timed_of r.within r.asked
   pub next : r.pending ≡ true → (r.unanswered ≡ false) × (are_some r.waiting ≡ true)
