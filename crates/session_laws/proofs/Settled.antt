@@ -10,7 +10,7 @@ use Rattle.link_core.specs.Link.{LinkState, first_in}
 use Rattle.link_core.specs.declared.message.Queued.{Queued}
 use Rattle.link_laws.proofs.Started.{row_open}
 use Rattle.link_laws.specs.Settles.{StandsAs, awaited_ids, wanted}
-use Rattle.mux_conn.specs.Connection.{Work, first_queued, is_ready}
+use Rattle.mux_conn.specs.Connection.{Work, first_queued, is_ready, in_front}
 use Rattle.mux_conn.specs.Passes.{passed}
 use Rattle.mux_conn.specs.Requests.{is_admitted_at, is_open_at, is_placed_at, is_waiting, is_waiting_at, name_at}
 use Rattle.mux_conn.specs.Turn.{early_wait, flushed, fresh_each_shown, fresh_wait, is_from, moved_each_shown, moved_wait, wait_shown, waits_shown}
@@ -25,7 +25,7 @@ use Rattle.legal_trace.specs.Book.{Book, book}
 use Rattle.legal_trace.specs.Ledger.{setup_count}
 use Rattle.legal_trace.specs.Legal.{IsMoved, IsSettled, IsStarted, IsWaiting, IsWritten, NoneEnds, WaitHolds}
 use Rattle.legal_trace.specs.Story.{last_of}
-use Rattle.session_laws.proofs.Ahead.{dialing_step, placed_open, setup_step, waiting_open, admitted_open, creds_step}
+use Rattle.session_laws.proofs.Ahead.{dialing_step, placed_open, setup_step, waiting_open, admitted_open, creds_step, HasSeats}
 use Rattle.session_laws.proofs.Going.{is_moved}
 use Rattle.session_laws.proofs.InLine.{awaited_in, first_is_least, kept_ids, wanted_in}
 use Rattle.session_laws.proofs.Moved.{IsReady, passed_moved}
@@ -41,6 +41,7 @@ use Rattle.session_laws.proofs.Write.{HasWritten, IsOfferedIn, is_written, writt
 -- the bytes of a turn are offered, and its waits are shown but for these: of those that were moved, and of those that came
 -- in it
 pub record IsShowing (before : List Action) (f : Core) (w : Work) (moved fresh started : List ℕ) : Type 0 where
+  pub seats : HasSeats moved (in_front w.conn.renewal) (link_in w.conn.life) w.conn.size
   pub sound : Sound (trace_of_acts before f w.acts) (with_unshown (seen f w.acts w.conn [] started) moved fresh)
   pub ended : NoneEnds (book (trace_of_acts before f w.acts))
   pub fit : IsFitIn w.conn
@@ -53,22 +54,23 @@ unshown f w moved fresh started = with_unshown (seen f w.acts w.conn [] started)
 
 -- nothing moves in it
 showing_quiet : (before : List Action) (f : Core) (w : Work) (moved fresh started : List ℕ) → IsShowing before f w moved fresh started → IsQuiet (unshown f w moved fresh started)
-showing_quiet before f w moved fresh started h = record { settled = refl; alone = refl; fit = h.fit.link; setup_fit = h.fit.setup; none = h.fit.none; setup_held = h.still.setup; held = h.still.held; full = h.still.full; waiting = h.still.waiting; gone = h.still.none_waits }
+showing_quiet before f w moved fresh started h = record { settled = refl; alone = refl; fit = h.fit.link; setup_fit = h.fit.setup; none = h.fit.none; setup_held = h.still.setup; held = h.still.held; full = h.still.full; seats = h.seats; waiting = h.still.waiting; gone = h.still.none_waits }
 
 -- and its book has all its writes
 showing_written : (before : List Action) (f : Core) (w : Work) (moved fresh started : List ℕ) → IsShowing before f w moved fresh started → IsWritten (book (trace_of_acts before f w.acts))
 showing_written before f w moved fresh started h =
     let b = book (trace_of_acts before f w.acts) in
     let t = unshown f w moved fresh started in
-    let all : IsMoved b = is_moved b t h.sound.tied refl (refl, refl) refl h.ended h.fit.link h.fit.none h.still.held h.still.full h.still.waiting h.still.none_waits h.fit.setup h.still.setup in
+    let all : IsMoved b = is_moved b t h.sound.tied refl (refl, refl) refl h.ended h.fit.link h.fit.none h.still.held h.still.full h.still.waiting h.still.none_waits h.fit.setup h.still.setup h.seats h.still.renewed in
     is_written b t h.sound.tied all h.offered
 
 -- other waits are still to be shown
-retied : (before : List Action) (f : Core) (w : Work) (moved fresh started later newer : List ℕ) → IsShowing before f w moved fresh started → TiedWaits (book (trace_of_acts before f w.acts)).story w.conn.requests w.conn.life newer later → IsShowing before f w later newer started
-retied before f w moved fresh started later newer h waits =
+retied : (before : List Action) (f : Core) (w : Work) (moved fresh started later newer : List ℕ) → ((p : ℕ) → IsIn p later → IsIn p moved) → IsShowing before f w moved fresh started → TiedWaits (book (trace_of_acts before f w.acts)).story w.conn.requests w.conn.life newer later → IsShowing before f w later newer started
+retied before f w moved fresh started later newer fewer h waits =
     let b = book (trace_of_acts before f w.acts) in
     let t = unshown f w moved fresh started in
     record {
+      seats = λ p i. h.seats p (fewer p i);
       sound = record { stands = h.sound.stands; tied = relined b t t.waiting t.admitted newer later [] h.sound.tied h.sound.tied.lines waits h.sound.tied.late };
       ended = h.ended;
       fit = h.fit;
@@ -77,12 +79,12 @@ retied before f w moved fresh started later newer h waits =
     }
 
 -- one wait is shown
-one_shown : (before : List Action) (f : Core) (w : Work) (p : ℕ) (kind : WaitKind) (moved fresh started later newer : List ℕ) (h : IsShowing before f w moved fresh started) → has_ended w.conn.life ≡ false → is_open_at w.conn.requests p ≡ true
+one_shown : (before : List Action) (f : Core) (w : Work) (p : ℕ) (kind : WaitKind) (moved fresh started later newer : List ℕ) (h : IsShowing before f w moved fresh started) → ((q : ℕ) → IsIn q later → IsIn q moved) → has_ended w.conn.life ≡ false → is_open_at w.conn.requests p ≡ true
     → (let t = unshown f w moved fresh started in let b = book (trace_of_acts before f w.acts) in
     IsPlacedOrKept t p × ((b.story (name_at w.conn.requests p)).waiting ≢ Some kind) × WaitHolds b (name_at w.conn.requests p) kind × ((m : ℕ) → m < p → IsIn m moved → ⊥) × ((m : ℕ) → m < p → is_waiting_at w.conn.requests m ≡ true → IsIn m fresh → ⊥))
     → TiedWaits (waits_at (name_at w.conn.requests p) kind (book (trace_of_acts before f w.acts)).story) w.conn.requests w.conn.life newer later
     → IsShowing before f (wait_shown w p (Some kind)) later newer started
-one_shown before f w p kind moved fresh started later newer h up o may waits =
+one_shown before f w p kind moved fresh started later newer h fewer up o may waits =
     let trace = trace_of_acts before f w.acts in
     let b = book trace in
     let t = unshown f w moved fresh started in
@@ -91,6 +93,7 @@ one_shown before f w p kind moved fresh started later newer h up o may waits =
     let stands = wait_may b t p kind h.sound.tied (showing_quiet before f w moved fresh started h) up (showing_written before f w moved fresh started h) o may.0 may.1 may.2 may.3 may.4 in
     let tied = wait_tied b t p kind later newer (open_within w.conn.requests p o) h.sound.tied waits in
     record {
+      seats = λ q i. h.seats q (fewer q i);
       sound = sound_act before f w.acts a (record w.conn { moved = later; fresh = newer }) [] started h.sound.stands (refl, stands) tied;
       ended = subst NoneEnds (sym (book_of_more before f w.acts a)) h.ended;
       fit = h.fit;
@@ -142,7 +145,7 @@ place_shown before f w p ps fresh started link e a h =
     let o = (admitted_open w.conn.requests p a).0 in
     let i = admitted_there b t p h.sound.tied refl a in
     let queue = queue_ids (link_in w.conn.life).queue in
-    one_shown before f w p wait.Place (p ∷ ps) fresh started ps fresh h (ap has_ended e) o (
+    one_shown before f w p wait.Place (p ∷ ps) fresh started ps fresh h (λ m j. inr j) (ap has_ended e) o (
       inr (inl (a, i)),
       h.sound.tied.waits.no_place p (inl refl) a,
       place_holds b t p link h.sound.tied q e a i,
@@ -160,7 +163,7 @@ room_shown before f w p ps fresh started link e placed i h =
     let q = showing_quiet before f w (p ∷ ps) fresh started h in
     let o = placed_open w.conn.requests p placed in
     let queue = (link_in w.conn.life).queue in
-    one_shown before f w p wait.Room (p ∷ ps) fresh started ps fresh h (ap has_ended e) o (
+    one_shown before f w p wait.Room (p ∷ ps) fresh started ps fresh h (λ m j. inr j) (ap has_ended e) o (
       inl i,
       h.sound.tied.waits.no_room p (inl refl) i,
       room_holds b t p link h.sound.tied q e (awaited_in p queue i),
@@ -185,7 +188,7 @@ moved_shown_up before f w p ps fresh started link e h =
     let has = both_left placed from r in
     let i = placed_there b t p h.sound.tied refl (ap has_ended e) (placed_open w.conn.requests p has) has (sym first_is ∙ both_right placed from r) in
     room_shown before f w p ps fresh started link e has i h)
-    (λ n. retied before f w (p ∷ ps) fresh started ps fresh h (passed_waits b t p ps h.sound.tied refl no_place (λ i.
+    (λ n. retied before f w (p ∷ ps) fresh started ps fresh (λ m j. inr j) h (passed_waits b t p ps h.sound.tied refl no_place (λ i.
     let queue = (link_in w.conn.life).queue in
     let has = awaited_placed b.story w.conn.requests queue p h.sound.tied.lines.queued i in
     let behind = first_is ∙ from_first queue 0 (length w.conn.requests) p (queue_rises b t h.sound.tied) (awaited_in p queue i) in
@@ -450,7 +453,7 @@ row_goes b t n h written link life r i =
     let up : l.up ≡ true = (subst (λ (x : Life). TiedLife l b.created x) life h.life).1 in
     record {
       try = record { link = t.link; message = w.number };
-      last = ap (λ m. last_of (b.story m).tries) (sym r.named) ∙ ap last_of (h.tries.tried stands.0 r.number stands.2 ∙ ap (λ m. record { link = t.link; message = m } ∷ []) {x = setup_count l.starts + stands.0} (sym {b = setup_count l.starts + stands.0} stands.1));
+      last = ap (λ m. last_of (b.story m).tries) (sym r.named) ∙ ap last_of (h.tries.tried stands.0 r.number within stands.2 ∙ ap (λ m. record { link = t.link; message = m } ∷ []) {x = setup_count l.starts + stands.0} (sym {b = setup_count l.starts + stands.0} stands.1));
       up = up;
       takes_more = w.open_as.takes_more;
       offered = written.offered t.link up;
