@@ -334,10 +334,10 @@ fresh_shown_one before f w p ps started h =
     let o = waiting_open w.conn.requests p v in
     let up = waiting_alive b t p h.sound.tied q v in
     let may = early_holds b t p ps h.sound.tied q refl up v in
-    one_shown before f w p kind [] (p ∷ ps) started [] ps h up o
+    one_shown before f w p kind [] (p ∷ ps) started [] ps h (λ m i. i) up o
     (inr (inr (v, waiting_there b t p h.sound.tied refl v)), may.new, may.holds, (λ m l i. i), (λ m l u i. behind_first p ps (length w.conn.requests) m h.sound.tied.waits.newer l i))
     (fresh_waits b t p kind ps h.sound.tied refl v (early_kind t up)))
-    (λ n. retied before f w [] (p ∷ ps) started [] ps h (stale_waits b t p ps h.sound.tied refl n))
+    (λ n. retied before f w [] (p ∷ ps) started [] ps (λ m i. i) h (stale_waits b t p ps h.sound.tied refl n))
 
 -- and so do all
 fresh_each : (before : List Action) (f : Core) (w : Work) (fresh started : List ℕ) → IsShowing before f w [] fresh started → IsShowing before f (fresh_each_shown w fresh) [] [] started
@@ -369,26 +369,28 @@ none_fresh w = record w { conn = record w.conn { fresh = [] } }
 -- it is the same but for those
 showing_unmoved : (before : List Action) (f : Core) (w : Work) (moved fresh started : List ℕ) → IsShowing before f w moved fresh started → IsShowing before f (none_moved w) moved fresh started
 showing_unmoved before f w moved fresh started h = record {
+  seats = h.seats;
   sound = h.sound;
   ended = h.ended;
   fit = record { wanting = h.fit.wanting; setup = h.fit.setup; link = h.fit.link; none = h.fit.none };
-  still = record { setup = h.still.setup; held = h.still.held; full = h.still.full; waiting = h.still.waiting; none_waits = h.still.none_waits };
+  still = record { setup = h.still.setup; held = h.still.held; full = h.still.full; renewed = h.still.renewed; waiting = h.still.waiting; none_waits = h.still.none_waits };
   offered = h.offered;
 }
 
 -- in either way
 showing_unfresh : (before : List Action) (f : Core) (w : Work) (moved fresh started : List ℕ) → IsShowing before f w moved fresh started → IsShowing before f (none_fresh w) moved fresh started
 showing_unfresh before f w moved fresh started h = record {
+  seats = h.seats;
   sound = h.sound;
   ended = h.ended;
   fit = record { wanting = h.fit.wanting; setup = h.fit.setup; link = h.fit.link; none = h.fit.none };
-  still = record { setup = h.still.setup; held = h.still.held; full = h.still.full; waiting = h.still.waiting; none_waits = h.still.none_waits };
+  still = record { setup = h.still.setup; held = h.still.held; full = h.still.full; renewed = h.still.renewed; waiting = h.still.waiting; none_waits = h.still.none_waits };
   offered = h.offered;
 }
 
 -- it begins
 showing : (before : List Action) (f : Core) (w : Work) (h : HasWritten before f w) → IsShowing before f (none_moved w) w.conn.moved w.conn.fresh h.moved.started
-showing before f w h = showing_unmoved before f w w.conn.moved w.conn.fresh h.moved.started (record { sound = h.moved.holds; ended = h.moved.ended; fit = h.moved.fit; still = h.moved.still; offered = h.offered })
+showing before f w h = showing_unmoved before f w w.conn.moved w.conn.fresh h.moved.started (record { seats = h.moved.seats; sound = h.moved.holds; ended = h.moved.ended; fit = h.moved.fit; still = h.moved.still; offered = h.offered })
 
 -- where those that were moved are shown, the others are too
 shown_early : (before : List Action) (f : Core) (v : Work) (started : List ℕ) → v.conn.moved ≡ [] → IsShowing before f v [] v.conn.fresh started → HasShown before f (fresh_each_shown (none_fresh v) v.conn.fresh)
@@ -423,7 +425,7 @@ waits_hold before f w h = by_life w.conn.life refl
 
     down : is_ready w.conn.life ≡ false → ((p : ℕ) → is_admitted_at w.conn.requests p ≡ false) → HasShown before f (waits_shown w)
     down off none =
-        let settled = retied before f (none_moved w) w.conn.moved w.conn.fresh started [] w.conn.fresh first (down_waits b t first.sound.tied off none) in
+        let settled = retied before f (none_moved w) w.conn.moved w.conn.fresh started [] w.conn.fresh (λ p i. absurd i) first (down_waits b t first.sound.tied off none) in
         subst last (sym (unmoved (none_moved w) w.conn.moved off none)) (shown_early before f (none_moved w) started refl settled)
 
     by_life : (life : Life) → w.conn.life ≡ life → HasShown before f (waits_shown w)
@@ -492,7 +494,7 @@ shown_between before f w began h =
     let t = seen f w.acts w.conn [] h.started in
     let s = h.showing in
     let sound : Sound trace t = subst (λ ns. Sound trace (with_unshown t ns w.conn.fresh)) (sym h.moved) (subst (λ ns. Sound trace (with_unshown t [] ns)) (sym h.fresh) s.sound) in
-    let quiet : IsQuiet t = record { settled = refl; alone = refl; fit = s.fit.link; setup_fit = s.fit.setup; none = s.fit.none; setup_held = s.still.setup; held = s.still.held; full = s.still.full; waiting = s.still.waiting; gone = s.still.none_waits } in
+    let quiet : IsQuiet t = record { settled = refl; alone = refl; fit = s.fit.link; setup_fit = s.fit.setup; none = s.fit.none; setup_held = s.still.setup; held = s.still.held; full = s.still.full; seats = λ p i. absurd (subst (IsIn p) h.moved i); waiting = s.still.waiting; gone = s.still.none_waits } in
     record {
       started = h.started;
       between = record {
