@@ -57,7 +57,7 @@ use Rattle.session_laws.proofs.Failing.{unstarted_owed}
 -- a link without messages has the lines of one that isn't up
 bare_lines : (story : ℕ → Story) (requests : List Request) (link : LinkState) (waiting admitted : List Waiting) (started : List ℕ) → link.queue ≡ [] → link.row ≡ [] → TiedLines story requests no_link waiting admitted [] started → TiedLines story requests link waiting admitted [] started
 bare_lines story requests link waiting admitted started queue row h = record {
-  line = subst (λ (qs : List Queued). Rising 0 (started ++ (queue_ids qs ++ kept_ids admitted waiting)) (length requests)) (sym queue) h.line;
+  line = subst (λ (qs : List Queued). Rising 0 (requests_in started ++ (queue_ids qs ++ kept_ids admitted waiting)) (length requests)) (sym queue) h.line;
   queued = subst (AllByRecursion (IsQueued story requests)) (sym queue) tt;
   entries = subst (AllByRecursion (IsEntry requests)) (sym row) tt;
   packs = h.packs;
@@ -333,7 +333,7 @@ makes_ready before c started word kind n info link untold h good k is other earl
         let same : readied c.single.connection.renewal.wanted l ≡ after = ap (λ (x : Bool). readied x l) w in
         record {
           holds = record {
-            stands = all_stand-append front both all (subst MayBeCreated (sym book_is) may, subst (λ (x : Book). MayNeed (entered x shown) count mine) (sym book_is) need, tt);
+            stands = all_stand-append front both all (subst MayBeCreated (sym book_is) may, (subst (λ (x : Book). MayNeed (entered x shown) count mine) (sym book_is) need, tt));
             tied = subst (λ (x : Book). Tied x t) (sym last) tied;
           };
           ledger = ap (λ (x : Book). x.link mine) last ∙ ledger_is ∙ sym same;

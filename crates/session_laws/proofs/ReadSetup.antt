@@ -63,7 +63,7 @@ use Rattle.session_laws.proofs.Announce.{turn_of, turned, IsNewsKind}
 use Rattle.session_laws.proofs.Heard.{heard_by, quiet_applied, setting_fit, setting_waits, none_ends, none_hears}
 use Rattle.session_laws.proofs.Failing.{Fails, setup_failed}
 use Rattle.session_laws.proofs.End.{IsSetting, fault_ends, setting_tied, setting_unready}
-use Rattle.session_laws.proofs.ComeUp.{IsEarly, IsMade, makes_ready, IsReadied, IsShownReady, made_is}
+use Rattle.session_laws.proofs.ComeUp.{IsEarly, IsMade, makes_ready, IsReadied, IsShownReady, made_is, made_conn}
 use Rattle.session_laws.proofs.Creds.{has_credentials, has_sourced}
 use Rattle.legal_trace.specs.Legal.{is_heard}
 use Rattle.session_laws.proofs.Told.{retells, well_told}
@@ -681,7 +681,9 @@ setup_read before c started word kind piece link with_user h good k is e = by_ou
         (λ f. done)
 
     by_result : (x : Settled) (xs : List Settled) → (deals link piece).out ≡ x ∷ xs → IsAnswered l link piece with_user x → (r : SetupResult) → judged_by (setup info with_user) x.verdict ≡ r → setup_result after ≡ Some r → applied (broken_at read.broken (heard_on (set_up_by w read r) behind))
-    by_result x xs some a result.Ready j r = ready x xs some a r
+    by_result x xs some a result.Ready j r =
+        let v = made_ready w read in
+        subst (λ (z : Work). applied (broken_at read.broken z)) (sym (taken_if (is_ready v.conn.life) (pushed_each v behind) v (ap (λ (y : MultiplexedConnection). is_ready y.life) (made_conn w read)))) (ready x xs some a r)
     by_result x xs some a result.RepeatWithoutUser j r = again x a r j
     by_result x xs some a (result.Failed y) j r =
         let u = acted (at_life (acted w act.Close) (Ended y)) (act.Created (Some y)) in

@@ -56,7 +56,7 @@ ready_renewal : (before : List Action) (c : Core) (started : List ℕ) (word : �
     → (let l = (book before).link c.single.link in let m = recredited l l.creds.asked l.creds.renews renewals over l.creds.timed lost in
     heard_by (book before) c n ≡ record m { heard = n } → AreRenewed (record m { heard = n }) r → ending_up (record m { heard = n }) n ≡ None
     → HasApplied (before ++ turn_of c word kind ∷ []) (with_work (record { core = turned c kind; acts = [] }) (record { conn = with_renewal c.single.connection r; acts = [] })) started)
-ready_renewal before c started word kind n link renewals over lost r h good k is e within wanted same renewed calm =
+ready_renewal before c started word kind n link renewals over lost r h good k is e within wanted same are calm =
     let b = book before in
     let h0 = h.sound.tied in
     let conn = c.single.connection in
@@ -76,7 +76,7 @@ ready_renewal before c started word kind n link renewals over lost r h good k is
       starts = refl;
       lived = subst (λ (x : Life). TiedLife after b.created x) (sym e) (u.asked, u.up, u.alive, u.shown);
       creds = subst (λ (x : Life). TiedCreds after.creds r.wanted x) (sym e) (record { wanted_is = h0.creds.wanted_is ∙ sym wanted; sought = sought });
-      renewal_is = subst (λ (x : Life). TiedRenewal after r x) (sym e) renewed;
+      renewal_is = subst (λ (x : Life). TiedRenewal after r x) (sym e) are;
       said = subst (λ (x : Life). TiedSetup after conn.info started x) (sym e) said;
       linked = λ z. said_tied (carried conn.life conn.requests) l (whole_link conn.life) l.info m.creds n (h0.link z);
       lines = h0.lines;
@@ -110,10 +110,10 @@ early_second c life n unready alive h count two = few_sources c.asked c.renews n
     once (Ended e) unready alive h = cc
 
     few_sources : (a b : Bool) (n : ℕ) → b ≡ false → n ≡ (if a then 1 else 0) + (if b then 1 else 0) → 2 ≤ n → ⊥
-    few_sources true true n no count two = cc
-    few_sources false true n no count two = cc
-    few_sources true false n no count two = omega arith
-    few_sources false false n no count two = omega arith
+    few_sources true true n none_so count two = cc
+    few_sources false true n none_so count two = cc
+    few_sources true false n none_so count two = omega arith
+    few_sources false false n none_so count two = omega arith
 
 -- where there is one, it renews
 renews_so : (c : Sourced) (n : ℕ) → n ≡ sources_asked_in c → 2 ≤ n → c.renews ≡ true
@@ -188,10 +188,10 @@ renewed_applied before c started word kind a h good k is two = by_life c.single.
 
     -- where it isn't ready
     unready : (x : Life) → conn.life ≡ x → is_ready x ≡ false → done conn → done (expecting conn a)
-    unready x e no d = subst done (sym (left_if (is_ready conn.life && takes_more conn.renewal) (with_renewal conn (expected conn.renewal a)) conn (ap (λ y. y && takes_more conn.renewal) (ap is_ready e ∙ no)))) d
+    unready x e none_so d = subst done (sym (left_if (is_ready conn.life && takes_more conn.renewal) (with_renewal conn (expected conn.renewal a)) conn (ap (λ y. y && takes_more conn.renewal) (ap is_ready e ∙ none_so)))) d
 
     early : (x : Life) → conn.life ≡ x → is_ready x ≡ false → has_ended x ≡ false → done (expecting conn a)
-    early x e no alive = absurd (early_second l.creds conn.life (length c.sources) (ap is_ready e ∙ no) (ap has_ended e ∙ alive) h.sound.tied.creds.sought h.sound.tied.count two)
+    early x e none_so alive = absurd (early_second l.creds conn.life (length c.sources) (ap is_ready e ∙ none_so) (ap has_ended e ∙ alive) h.sound.tied.creds.sought h.sound.tied.count two)
 
     ready : (link : LinkState) → conn.life ≡ Ready link → done (expecting conn a)
     ready link e =
@@ -252,7 +252,7 @@ unrenewed_applied before c started word kind h good k is two = by_life c.single.
     done x = HasApplied (before ++ turn_of c word kind ∷ []) (with_work (record { core = turned c kind; acts = [] }) (record { conn = x; acts = [] })) started
 
     early : (x : Life) → conn.life ≡ x → is_ready x ≡ false → has_ended x ≡ false → done (none_follow conn)
-    early x e no alive = absurd (early_second l.creds conn.life (length c.sources) (ap is_ready e ∙ no) (ap has_ended e ∙ alive) h.sound.tied.creds.sought h.sound.tied.count two)
+    early x e none_so alive = absurd (early_second l.creds conn.life (length c.sources) (ap is_ready e ∙ none_so) (ap has_ended e ∙ alive) h.sound.tied.creds.sought h.sound.tied.count two)
 
     by_life : (x : Life) → conn.life ≡ x → done (none_follow conn)
     by_life Dialing e = early Dialing e refl refl
