@@ -381,7 +381,7 @@ all_ends before f w ids row queue started h =
     let later = all_waiting_due c s error.Closed tied h.early owed_end in
     let come = replied_each w.conn.renewal out in
     let kept = replied_keeps w.conn.renewal out in
-    let come_tied : Tied c (record s { renewal = come }) = renewal_over c s come error.Closed kept.0 kept.1 h.over tied in
+    let come_tied : Tied c (record s { renewal = come }) = renewal_over c s come error.Closed kept.0 kept.1 kept.2 h.over tied in
     let held : Holds before f (renewing w come) ns started = record { stands = h.holds.stands; tied = come_tied } in
     let a = answering before f (renewing w come) (ns ++ []) started (subst (λ ms. Holds before f (renewing w come) ms started) (sym (append-nil ns)) held) (subst (IsInLine w.conn.requests (link_in w.conn.life) w.conn.admitted w.conn.waiting) (sym (append-nil ns)) line) in
     let u = settled_each w out in

@@ -126,7 +126,7 @@ renewals_timed b t h renewed m some = by_test (m == t.link) _
         by_within t.renewal.within refl r up link e
     by_life (Ended x) e =
         let k = undue_asked l (down_renewed_due l (subst (TiedLife l b.created) e h.life).0) in
-        let kept = subst (TiedRenewal l t.renewal) e h.renewal (λ none. some (h.numbers.within ∙ none)) in
+        let kept = (subst (TiedRenewal l t.renewal) e h.renewal).0 (λ none. some (h.numbers.within ∙ none)) in
         omega arith
 
 -- and those that are to be told next wait for their link, which is held back

@@ -50,6 +50,7 @@ pub mod Moved
 pub mod Write
 pub mod Waits
 pub mod Settled
+pub mod Grown
 pub mod Legality
 pub mod Opening
 pub mod Outcomes

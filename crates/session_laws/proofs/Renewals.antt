@@ -190,11 +190,19 @@ renewal_alike l m r Dialing creds starts dealt h = none_alike l m r creds starts
 renewal_alike l m r (Wanting link) creds starts dealt h = none_alike l m r creds starts h
 renewal_alike l m r (SettingUp link with_user) creds starts dealt h = none_alike l m r creds starts h
 renewal_alike l m r (Ready link) creds starts dealt h = renewed_alike l m r creds starts dealt h
-renewal_alike l m r (Ended e) creds starts dealt h = λ some. let few = h some in let same = ap renewal_count starts in let timed = ap (λ (c : Sourced). c.timed) creds in omega (arith, few, same, timed)
+renewal_alike l m r (Ended e) creds starts dealt h =
+    let same = ap renewal_count starts in
+    let timed = ap (λ (c : Sourced). c.timed) creds in
+    let asked = h.1 in
+    ((λ some. let few = h.0 some in omega (arith, few, same, timed)), omega (arith, asked, same))
 
--- once the link has ended, a timer was asked for all that were told
-pub renewed_ended : (l m : Ledger) (r : Renewal) → m.creds.timed ≡ l.creds.timed → m.starts ≡ l.starts → AreRenewed l r → (r.within ≢ None) → renewal_count m.starts ≤ m.creds.timed
-renewed_ended l m r timed starts h some =
+-- once the link has ended, no more were told than were to be
+asked_ended : (l m : Ledger) (r : Renewal) → m.starts ≡ l.starts → AreRenewed l r → renewal_count m.starts ≤ r.asked
+asked_ended l m r starts h = let same = ap renewal_count starts in let asked = h.asked_is in omega (arith, same, asked)
+
+-- and a timer was asked for all of them
+timed_ended : (l m : Ledger) (r : Renewal) → m.creds.timed ≡ l.creds.timed → m.starts ≡ l.starts → AreRenewed l r → (r.within ≢ None) → renewal_count m.starts ≤ m.creds.timed
+timed_ended l m r timed starts h some =
     let same = ap renewal_count starts in
     let told : renewal_count l.starts ≤ l.creds.timed = by_time r.within refl in
     omega (arith, told, same, timed)
@@ -203,13 +211,20 @@ renewed_ended l m r timed starts h some =
     by_time None e = absurd (some e)
     by_time (Some ms) e = let timed = h.timed_is ∙ ap (λ o. timed_of o r.asked) e in let asked = h.asked_is in omega (arith, timed, asked)
 
+-- none were, where none came
+none_ended : (l m : Ledger) (r : Renewal) → m.starts ≡ l.starts → NoneRenewed l r → ((r.within ≢ None) → renewal_count m.starts ≤ m.creds.timed) × (renewal_count m.starts ≤ r.asked)
+none_ended l m r starts h = let none = ap renewal_count starts ∙ h.unstarted in ((λ some. omega (arith, none)), omega (arith, none))
+
 -- by how far it had come
-pub renewal_ended : (l m : Ledger) (r : Renewal) (life : Life) → m.creds.timed ≡ l.creds.timed → m.starts ≡ l.starts → TiedRenewal l r life → (r.within ≢ None) → renewal_count m.starts ≤ m.creds.timed
-renewal_ended l m r Dialing timed starts h some = let none = ap renewal_count starts ∙ h.unstarted in omega (arith, none)
-renewal_ended l m r (Wanting link) timed starts h some = let none = ap renewal_count starts ∙ h.unstarted in omega (arith, none)
-renewal_ended l m r (SettingUp link with_user) timed starts h some = let none = ap renewal_count starts ∙ h.unstarted in omega (arith, none)
-renewal_ended l m r (Ready link) timed starts h some = renewed_ended l m r timed starts h some
-renewal_ended l m r (Ended e) timed starts h some = let few = h some in let same = ap renewal_count starts in omega (arith, few, same, timed)
+pub renewal_ended : (l m : Ledger) (r : Renewal) (life : Life) → m.creds.timed ≡ l.creds.timed → m.starts ≡ l.starts → TiedRenewal l r life → ((r.within ≢ None) → renewal_count m.starts ≤ m.creds.timed) × (renewal_count m.starts ≤ r.asked)
+renewal_ended l m r Dialing timed starts h = none_ended l m r starts h
+renewal_ended l m r (Wanting link) timed starts h = none_ended l m r starts h
+renewal_ended l m r (SettingUp link with_user) timed starts h = none_ended l m r starts h
+renewal_ended l m r (Ready link) timed starts h = (timed_ended l m r timed starts h, asked_ended l m r starts h)
+renewal_ended l m r (Ended e) timed starts h =
+    let same = ap renewal_count starts in
+    let asked = h.1 in
+    ((λ some. let few = h.0 some in omega (arith, few, same, timed)), omega (arith, asked, same))
 
 -- a link that isn't set up has none
 pub early_renewal : (l : Ledger) (r : Renewal) (life : Life) → is_ready life ≡ false → has_ended life ≡ false → TiedRenewal l r life → NoneRenewed l r

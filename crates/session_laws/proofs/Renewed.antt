@@ -36,12 +36,12 @@ use Rattle.session_laws.proofs.Tied.{AreRenewed, AreSought, IsLost, IsTold, None
 -- a link that has ended
 --
 -- the event has had its effect also where new credentials came to this
-over_renewal : (front : List Action) (f : Core) (conn : MultiplexedConnection) (r : Renewal) (e : RedisError) (started : List ℕ) → conn.life ≡ Ended e → r.within ≡ conn.renewal.within → r.wanted ≡ conn.renewal.wanted
+over_renewal : (front : List Action) (f : Core) (conn : MultiplexedConnection) (r : Renewal) (e : RedisError) (started : List ℕ) → conn.life ≡ Ended e → r.within ≡ conn.renewal.within → r.wanted ≡ conn.renewal.wanted → r.asked ≡ conn.renewal.asked
     → HasApplied front (with_work (record { core = f; acts = [] }) (record { conn = conn; acts = [] })) started → HasApplied front (with_work (record { core = f; acts = [] }) (record { conn = with_renewal conn r; acts = [] })) started
-over_renewal front f conn r e started over within wanted h =
+over_renewal front f conn r e started over within wanted asked h =
     let t = with_work (record { core = f; acts = [] }) (record { conn = conn; acts = [] }) in
     record {
-      sound = record { stands = h.sound.stands; tied = renewal_over (book (trace_with front t)) (inner (numbered t).core started) r e within wanted over h.sound.tied };
+      sound = record { stands = h.sound.stands; tied = renewal_over (book (trace_with front t)) (inner (numbered t).core started) r e within wanted asked over h.sound.tied };
       ended = h.ended;
       began = h.began;
       moved = h.moved;
@@ -262,7 +262,7 @@ unrenewed_applied before c started word kind h good k is two = by_life c.single.
         let u = up_tied (book before) (inner c started) link e h.sound.tied in
         let tied : AreRenewed l conn.renewal = subst (λ (x : Life). TiedRenewal l conn.renewal x) e h.sound.tied.renewal in
         ready_renewal before c started word kind unrenewed link l.creds.renewals true l.creds.lost over h good k is e refl refl (ap (λ (x : Ledger). record x { heard = unrenewed }) (taken_if l.up (unrenewed_by l) l u.up)) (none_follows l conn.renewal unrenewed tied) refl
-    by_life (Ended x) e = over_renewal (before ++ turn_of c word kind ∷ []) (turned c kind) conn over x started e refl refl (ended_quiet before c started word kind unrenewed x h good k is e)
+    by_life (Ended x) e = over_renewal (before ++ turn_of c word kind ∷ []) (turned c kind) conn over x started e refl refl refl (ended_quiet before c started word kind unrenewed x h good k is e)
 
 -- some are not answered in time
 --
@@ -396,4 +396,4 @@ renewal_late before c started word kind m h good k is = by_life c.single.connect
     by_life (Ready link) e = ready link e
     by_life (Ended x) e =
         let quiet = ended_quiet before c started word kind (late m) x h good k is e in
-        chosen done (is_unanswered conn.renewal m) (with_renewal conn gone) conn (λ t. over_renewal (before ++ turn_of c word kind ∷ []) (turned c kind) conn gone x started e refl refl quiet) (λ f. quiet)
+        chosen done (is_unanswered conn.renewal m) (with_renewal conn gone) conn (λ t. over_renewal (before ++ turn_of c word kind ∷ []) (turned c kind) conn gone x started e refl refl refl quiet) (λ f. quiet)

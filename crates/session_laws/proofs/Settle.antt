@@ -245,14 +245,14 @@ abbrev pub replied_each : Renewal → List Settled → Renewal
 replied_each r [] = r
 replied_each r (s ∷ ss) = replied_each (if s.id == renewal_id then replied r (is_done s.verdict) else r) ss
 
--- neither the time nor whether they come of sources
-pub replied_keeps : (r : Renewal) (ss : List Settled) → ((replied_each r ss).within ≡ r.within) × ((replied_each r ss).wanted ≡ r.wanted)
-replied_keeps r [] = (refl, refl)
+-- neither the time, nor whether they come of sources, nor how many were to be told
+pub replied_keeps : (r : Renewal) (ss : List Settled) → ((replied_each r ss).within ≡ r.within) × ((replied_each r ss).wanted ≡ r.wanted) × ((replied_each r ss).asked ≡ r.asked)
+replied_keeps r [] = (refl, refl, refl)
 replied_keeps r (s ∷ ss) =
     let next = if s.id == renewal_id then replied r (is_done s.verdict) else r in
     let rest = replied_keeps next ss in
-    let one : (next.within ≡ r.within) × (next.wanted ≡ r.wanted) = chosen (λ (x : Renewal). (x.within ≡ r.within) × (x.wanted ≡ r.wanted)) (s.id == renewal_id) (replied r (is_done s.verdict)) r (λ t. (refl, refl)) (λ f. (refl, refl)) in
-    (rest.0 ∙ one.0, rest.1 ∙ one.1)
+    let one : (next.within ≡ r.within) × (next.wanted ≡ r.wanted) × (next.asked ≡ r.asked) = chosen (λ (x : Renewal). (x.within ≡ r.within) × (x.wanted ≡ r.wanted) × (x.asked ≡ r.asked)) (s.id == renewal_id) (replied r (is_done s.verdict)) r (λ t. (refl, refl, refl)) (λ f. (refl, refl, refl)) in
+    (rest.0 ∙ one.0, rest.1 ∙ one.1, rest.2 ∙ one.2)
 
 -- a session is tied with other new credentials where its link is
 pub renewal_tied : (b : Book) (t : Inner) (r : Renewal) → r.within ≡ t.renewal.within → r.wanted ≡ t.renewal.wanted → TiedRenewal (b.link t.link) r t.life → Tied b t → Tied b (record t { renewal = r })
@@ -293,9 +293,12 @@ renewal_tied b t r within wanted tied h = record {
 }
 
 -- on a link that has ended it is so with any
-pub renewal_over : (b : Book) (t : Inner) (r : Renewal) (e : RedisError) → r.within ≡ t.renewal.within → r.wanted ≡ t.renewal.wanted → t.life ≡ Ended e → Tied b t → Tied b (record t { renewal = r })
-renewal_over b t r e within wanted over h =
-    renewal_tied b t r within wanted (subst (TiedRenewal (b.link t.link) r) (sym over) (subst (λ o. (o ≢ None) → renewal_count (b.link t.link).starts ≤ (b.link t.link).creds.timed) (sym within) (subst (TiedRenewal (b.link t.link) t.renewal) over h.renewal))) h
+pub renewal_over : (b : Book) (t : Inner) (r : Renewal) (e : RedisError) → r.within ≡ t.renewal.within → r.wanted ≡ t.renewal.wanted → r.asked ≡ t.renewal.asked → t.life ≡ Ended e → Tied b t → Tied b (record t { renewal = r })
+renewal_over b t r e within wanted asked over h =
+    let l = b.link t.link in
+    let was = subst (TiedRenewal l t.renewal) over h.renewal in
+    let few = was.1 in
+    renewal_tied b t r within wanted (subst (TiedRenewal l r) (sym over) (subst (λ o. (o ≢ None) → renewal_count l.starts ≤ l.creds.timed) (sym within) was.0, omega (arith, few, asked))) h
 
 -- an answer to a request leaves them
 pub answered_renewal : (w : Work) (p : ℕ) (o : Outcome) → (answered w p o).conn.renewal ≡ w.conn.renewal

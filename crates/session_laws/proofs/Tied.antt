@@ -295,13 +295,13 @@ pub record AreRenewed (l : Ledger) (r : Renewal) : Type 0 where
   pub taken : r.lost ≡ false → r.unanswered ≡ false → is_taken l (last_renewal l.starts 0 None) ≡ true
   pub lost : r.lost ≡ true → IsLost l
 
--- by how far the link has come; once it has ended, a timer was asked for all that were told
+-- by how far the link has come; once it has ended, no more were told than were to be, and a timer was asked for all of them
 abbrev pub TiedRenewal : Ledger → Renewal → Life → Type 0
 TiedRenewal l r Dialing = NoneRenewed l r
 TiedRenewal l r (Wanting link) = NoneRenewed l r
 TiedRenewal l r (SettingUp link with_user) = NoneRenewed l r
 TiedRenewal l r (Ready link) = AreRenewed l r
-TiedRenewal l r (Ended e) = (r.within ≢ None) → renewal_count l.starts ≤ l.creds.timed
+TiedRenewal l r (Ended e) = ((r.within ≢ None) → renewal_count l.starts ≤ l.creds.timed) × (renewal_count l.starts ≤ r.asked)
 
 -- the setup that is to start next on a link is in its queue: the first with the user name, and a second one without it
 pub record IsSetupDue (l : Ledger) (link : LinkState) (with_user : Bool) : Type 0 where
