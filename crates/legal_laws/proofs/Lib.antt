@@ -32,6 +32,9 @@ pub mod Leaving
 pub mod Fired
 pub mod Opened
 pub mod Given
+pub mod Brought
+pub mod Renewed
+pub mod Telling
 pub mod Pushes
 pub mod Parted
 pub mod Among

@@ -6,6 +6,7 @@ pub mod Creation
 pub mod Starts
 pub mod Opened
 pub mod Sources
+pub mod Renewals
 pub mod Permits
 pub mod Pushes
 pub mod Laws

@@ -11,6 +11,7 @@ ghost use Rattle.legal_laws.specs.Creation.{TellsOfOpening};
 ghost use Rattle.legal_laws.specs.Starts.{StartsRise, LeftStartNoMore};
 ghost use Rattle.legal_laws.specs.Opened.{StartsOpened};
 ghost use Rattle.legal_laws.specs.Sources.{StartsNoneLacking};
+ghost use Rattle.legal_laws.specs.Renewals.{TellsInTurn};
 ghost use Rattle.legal_laws.specs.Laws.{OfEachLegal, LinksTakeInOrder, OneIsLegal, TurnsAreInOrder};
 ghost use Rattle.legal_laws.specs.Permits.{TimedOutStartNoMore, FiredStartNoMore};
 ghost use Rattle.legal_laws.specs.Pushes.{TellsInOrder};
@@ -87,6 +88,14 @@ pub fn nothing_starts_before_the_setup()
 pub fn no_setup_starts_before_its_credentials()
     ensures lacking { OfEachLegal StartsNoneLacking }
     ensures authorized { EachStartsAuthorized }
+{}
+
+/// Does nothing. Its contract: in a legal trace each AUTH that starts on a link, once it is set up,
+/// carries the next of the credentials that came of the link's second source, in their order, each
+/// once. It starts once all AUTHs before it on the link were answered without an error; so no two of
+/// them are unanswered at once.
+pub fn new_credentials_are_told_in_turn()
+    ensures { OfEachLegal TellsInTurn }
 {}
 
 /// Does nothing. Its contract: in a legal trace a message starts only where no bytes of its link

@@ -25,3 +25,14 @@ item_behind [] y x zero e = inr (refl, same_some y x e)
 item_behind [] y x (suc k) e = cc
 item_behind (z ∷ xs) y x zero e = inl e
 item_behind (z ∷ xs) y x (suc k) e = elim (item_behind xs y x k e) [ inl old ↦ inl old | inr new ↦ inr (ap suc new.0, new.1) ]
+
+-- an item of a list stays where more come
+pub item_stays : {X : Type 0} (xs ys : List X) (x : X) (k : ℕ) → slice_get xs k ≡ Some x → slice_get (xs ++ ys) k ≡ Some x
+item_stays [] ys x k e = cc
+item_stays (z ∷ xs) ys x zero e = e
+item_stays (z ∷ xs) ys x (suc k) e = item_stays xs ys x k e
+
+-- what is put behind a list is its last item
+pub last_item : {X : Type 0} (xs : List X) (x : X) → slice_get (xs ++ x ∷ []) (length xs) ≡ Some x
+last_item [] x = refl
+last_item (z ∷ xs) x = last_item xs x

@@ -123,7 +123,7 @@ count_more [] s f = left_if (is_of_setup s.owner) (suc 0) 0 f
 count_more (x ∷ ss) s f = ap (λ k. if is_of_setup x.owner then suc k else 0) (count_more ss s f)
 
 -- the first messages take as much where more start behind them
-reached_more : (l : Ledger) (s : Start) (k : ℕ) → k ≤ length l.starts → reached (record l { starts = l.starts ++ s ∷ [] }) k ≡ reached l k
+pub reached_more : (l : Ledger) (s : Start) (k : ℕ) → k ≤ length l.starts → reached (record l { starts = l.starts ++ s ∷ [] }) k ≡ reached l k
 reached_more l s k i = ap (λ (ss : List Start). reach ss l.dealt) (take-append-le k l.starts (s ∷ []) i)
 
 -- so what a setup came to stays where a message starts behind it
@@ -382,21 +382,30 @@ start_at [] k i = absurd (omega arith)
 start_at (x ∷ ss) zero i = (x, refl)
 start_at (x ∷ ss) (suc k) i = start_at ss k (omega arith)
 
+-- a message that has all its items keeps them where more come
+pub full_stays : (l : Ledger) (rest : List ℕ) (more : List Data) (k : ℕ) (s : Start) → slice_get l.starts k ≡ Some s → is_full l k ≡ true
+    → (is_full (record l { rest = rest; dealt = l.dealt ++ more }) k ≡ true) × (take (need_of s.shape) (drop (reached (record l { rest = rest; dealt = l.dealt ++ more }) k) (l.dealt ++ more)) ≡ take (need_of s.shape) (drop (reached l k) l.dealt))
+full_stays l rest more k s stands t =
+    let m : Ledger = record l { rest = rest; dealt = l.dealt ++ more } in
+    let need : ℕ = need_of s.shape in
+    let fits : reached l (k + 1) ≤ length l.dealt = le_from (reached l (k + 1)) (length l.dealt) t in
+    let next : reached l (k + 1) ≡ reached l k + need = ap (λ (ss : List Start). reach ss l.dealt) (take_push l.starts k s stands) ∙ reach_more (take k l.starts) s l.dealt in
+    let long : length (l.dealt ++ more) ≡ length l.dealt + length more = length-append l.dealt more in
+    let far : reached m (k + 1) ≡ reached l (k + 1) = reached_dealt l rest more (k + 1) in (
+      le_test (reached m (k + 1)) (length (l.dealt ++ more)) (omega (arith, fits, long, far)),
+      ap (λ n. take need (drop n (l.dealt ++ more))) (reached_dealt l rest more k) ∙ cut_stays (reached l k) need l.dealt more (omega (arith, fits, next)),
+    )
+
 -- what a setup that has all its items came to stays where more come
 pub result_same : (l : Ledger) (rest : List ℕ) (more : List Data) (k : ℕ) (s : Start) → slice_get l.starts k ≡ Some s → s.shape ≡ setup_shape (setup_steps l k) → is_full l k ≡ true → result_of (record l { rest = rest; dealt = l.dealt ++ more }) k ≡ result_of l k
 result_same l rest more k s stands shaped t =
     let m : Ledger = record l { rest = rest; dealt = l.dealt ++ more } in
     let steps : List Step = setup_steps l k in
     let need : ℕ = need_of (setup_shape steps) in
-    let fits : reached l (k + 1) ≤ length l.dealt = le_from (reached l (k + 1)) (length l.dealt) t in
-    let next : reached l (k + 1) ≡ reached l k + need_of s.shape = ap (λ (ss : List Start). reach ss l.dealt) (take_push l.starts k s stands) ∙ reach_more (take k l.starts) s l.dealt in
-    let same : need_of s.shape ≡ need = ap need_of shaped in
-    let long : length (l.dealt ++ more) ≡ length l.dealt + length more = length-append l.dealt more in
-    let far : reached m (k + 1) ≡ reached l (k + 1) = reached_dealt l rest more (k + 1) in
-    let full : is_full m k ≡ true = le_test (reached m (k + 1)) (length (l.dealt ++ more)) (omega (arith, fits, long, far)) in
+    let full = full_stays l rest more k s stands t in
     let cuts : take need (drop (reached m k) (l.dealt ++ more)) ≡ take need (drop (reached l k) l.dealt) =
-    ap (λ n. take need (drop n (l.dealt ++ more))) (reached_dealt l rest more k) ∙ cut_stays (reached l k) need l.dealt more (omega (arith, fits, next, same)) in
-    taken_if (is_full m k) (Some (judged steps (take need (drop (reached m k) (l.dealt ++ more))))) None full
+    subst (λ n. take n (drop (reached m k) (l.dealt ++ more)) ≡ take n (drop (reached l k) l.dealt)) (ap need_of shaped) full.1 in
+    taken_if (is_full m k) (Some (judged steps (take need (drop (reached m k) (l.dealt ++ more))))) None full.0
     ∙ (ap (λ (ds : List Data). Some (judged steps ds)) cuts
     ∙ sym (taken_if (is_full l k) (Some (judged steps (take need (drop (reached l k) l.dealt)))) None t))
 
@@ -429,7 +438,7 @@ pub set_came : (l : Ledger) (piece : List ℕ) → AreSetups l → is_set_up l �
 set_came l piece shaped set = set_more l (left_over (l.rest ++ piece)) (take (reach l.starts l.dealt - length l.dealt) (items (l.rest ++ piece))) shaped set
 
 -- a start that stands is within
-start_within : (ss : List Start) (k : ℕ) (s : Start) → slice_get ss k ≡ Some s → k < length ss
+pub start_within : (ss : List Start) (k : ℕ) (s : Start) → slice_get ss k ≡ Some s → k < length ss
 start_within [] k s e = cc
 start_within (x ∷ ss) zero s e = omega arith
 start_within (x ∷ ss) (suc k) s e = omega (arith, start_within ss k s e)

@@ -1,6 +1,5 @@
 pub mod Kept
 pub mod Spent
-pub mod Renewed
 pub mod Entries
 pub mod Threads
 pub mod Judged

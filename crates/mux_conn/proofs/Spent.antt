@@ -2,7 +2,7 @@
 use Rattle.std.proofs.Common.{◌≡◌, ℕ, ◌^◌, ◌≤◌, nat_le, List, [], ◌∷◌, Bool, true, false, ◌||◌, Option, None, Some, refl, sym, ap, subst, ◌∙◌, arith, if◌then◌else◌}
 use Rattle.std.proofs.Math.Nat.{le_refl}
 use Rattle.std.proofs.lemmas.Bool.Decides.{nat_tests}
-use Rattle.containers.proofs.Choices.{taken_if, left_if}
+use Rattle.containers.proofs.Choices.{taken_if, left_if, not_both}
 use Rattle.resp_value.specs.declared.value.Value.TheVariants.{Nil}
 use Rattle.driver_model.specs.declared.outcome.Outcome.{Outcome}
 use Rattle.driver_model.specs.declared.outcome.Outcome.TheVariants as outcome
@@ -135,7 +135,7 @@ admitted_each_rises w (q ∷ qs) =
     (omega (arith, admitted_rises w q, admitted_each_rises (admitted w q) qs))
 
 -- a count that has risen past the last number stays there
-pub past : (n m : ℕ) → n ≤ m → nat_le (2 ^ 32) n ≡ true → nat_le (2 ^ 32) m ≡ true
+past : (n m : ℕ) → n ≤ m → nat_le (2 ^ 32) n ≡ true → nat_le (2 ^ 32) m ≡ true
 past n m l h = grind (arith, nat_tests, l, h)
 
 -- one of those that wait for a place runs out, and so do all
@@ -151,18 +151,18 @@ spent_in_admitted w v q qs free is h =
     (past (count (admitted w q)) (count (admitted_each (admitted w q) qs)) (admitted_each_rises (admitted w q) qs) h)
 
 -- one of two that is true
-pub either_left : (a b : Bool) → a ≡ true → (a || b) ≡ true
+either_left : (a b : Bool) → a ≡ true → (a || b) ≡ true
 either_left true b h = refl
 either_left false b h = cc
 
 -- where one of two is true, so is one of two of which the first follows from it
 or_more : (a b c : Bool) → (a ≡ true → b ≡ true) → (a || c) ≡ true → (b || c) ≡ true
 or_more a true c f h = refl
-or_more true false c f h = f refl
+or_more true false c f h = absurd (not_both false refl (f refl))
 or_more false false c f h = h
 
 -- so many of both sorts of numbers have run out where as many new credentials were to be told, and no fewer messages have started
-pub uses_more : (w v : Work) → count w ≤ count v → v.conn.renewal.asked ≡ w.conn.renewal.asked → uses_up w ≡ true → uses_up v ≡ true
+uses_more : (w v : Work) → count w ≤ count v → v.conn.renewal.asked ≡ w.conn.renewal.asked → uses_up w ≡ true → uses_up v ≡ true
 uses_more w v l e h =
     ap (λ (n : ℕ). runs_out v || nat_le (2 ^ 32) n) e ∙ or_more (runs_out w) (runs_out v) (nat_le (2 ^ 32) w.conn.renewal.asked) (past (count w) (count v) l) h
 

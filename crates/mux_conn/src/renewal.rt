@@ -1,5 +1,5 @@
-ghost use Rattle.std.specs.Prelude.{◌≡◌, length, true, OnOk, IfOk, IsErrOf};
-ghost use Rattle.mux_conn.specs.Renewals.{renewal_id, is_done};
+ghost use Rattle.std.specs.Prelude.{◌≡◌, ◌++◌, ◌∷◌, [], length, true, OnOk, IfOk, IsErrOf};
+ghost use Rattle.mux_conn.specs.Renewals.{renewal_id, renewal_act, is_done};
 
 use crate::act::LinkAct;
 use crate::connection::MultiplexedConnection;
@@ -170,8 +170,22 @@ impl MultiplexedConnection {
     ghost use Rattle.link_core.specs.Link.{start_of};
     ghost use Rattle.mux_conn.specs.Connection.{work_with, is_ready, started_in, is_spent_in, runs_out};
     ghost use Rattle.mux_conn.specs.Connection.{uses_up};
-    ghost use Rattle.mux_conn.specs.Renewals.{renewal_asked, renewal_moved, renewal_queued, renewed};
+    ghost use Rattle.mux_conn.specs.Renewals.{renewal_timed, renewal_asked, renewal_moved};
+    ghost use Rattle.mux_conn.specs.Renewals.{renewal_queued, renewed};
     ghost use Rattle.mux_conn.specs.Renewals.{begun_in};
+
+    /// The timer of new credentials of this number is asked for, where they are to be answered within a time.
+    fn time_renewal(&self, number: u32, out: &mut Vec<LinkAct>) -> Result<(), AllocError>
+        ensures { OnOk result (
+            work_with self.now out.new.items
+            ≡ renewal_timed (work_with self.now out.old.items) number self.now.renewal.within
+            ) }
+    {
+        if let Some(ms) = self.renewal.within {
+            out.push(LinkAct::RenewalTimer { number, ms })?;
+        }
+        Ok(())
+    }
 
     /// The timer of the new credentials that are next is asked for, once, where they are to be answered within a time.
     fn ask_renewal(&mut self, out: &mut Vec<LinkAct>) -> Result<(), ConnectionError>
@@ -192,9 +206,7 @@ impl MultiplexedConnection {
         }
         self.renewal.asked = number + 1;
         self.renewal.pending = true;
-        if let Some(ms) = self.renewal.within {
-            out.push(LinkAct::RenewalTimer { number, ms })?;
-        }
+        self.time_renewal(number, out)?;
         Ok(())
     }
 
@@ -252,11 +264,7 @@ impl MultiplexedConnection {
             Ok(start) => start,
             Err(error) => return Err(error),
         };
-        out.push(LinkAct::Renewed {
-            message: start.msg,
-            need: start.need,
-            len: start.len,
-        })?;
+        show_renewal(start, out)?;
         Ok(())
     }
 
@@ -296,6 +304,18 @@ impl MultiplexedConnection {
             Err(StartError::NoMemory) => Err(ConnectionError::NoMemory),
         }
     }
+}
+
+/// That new credentials are told is shown.
+fn show_renewal(start: Started, out: &mut Vec<LinkAct>) -> Result<(), AllocError>
+    ensures { OnOk result (out.new.items ≡ out.old.items ++ renewal_act start ∷ []) }
+{
+    out.push(LinkAct::Renewed {
+        message: start.msg,
+        need: start.need,
+        len: start.len,
+    })?;
+    Ok(())
 }
 
 /// The number of the message that tells new credentials: no request has it.

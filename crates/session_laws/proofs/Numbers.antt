@@ -114,3 +114,8 @@ requests_behind xs = taken_if (renewal_id == renewal_id) (requests_in xs) (renew
 -- and a request's number comes first
 pub requests_first : (n : ℕ) (xs : List ℕ) → n ≢ renewal_id → requests_in (n ∷ xs) ≡ n ∷ requests_in xs
 requests_first n xs other = left_if (n == renewal_id) (requests_in xs) (n ∷ requests_in xs) (ne_test n renewal_id other)
+
+-- where none is AUTH's, they are all
+pub all_requests : (xs : List ℕ) → ((n : ℕ) → IsIn n xs → n ≢ renewal_id) → requests_in xs ≡ xs
+all_requests [] other = refl
+all_requests (x ∷ xs) other = requests_first x xs (other x (inl refl)) ∙ ap (λ ns. x ∷ ns) (all_requests xs (λ n i. other n (inr i)))

@@ -1,7 +1,7 @@
 -- When numbers run out.
-use Rattle.std.proofs.Common.{Bool, List, [], ap, arith, false, inl, inr, length, nat_le, refl, subst, sym, true, ℕ, ◌++◌, ◌+◌, ◌<◌, ◌∙◌, ◌∷◌, ◌≡◌, ◌≤◌, ◌⊎◌}
+use Rattle.std.proofs.Common.{Bool, List, [], ap, arith, false, inl, inr, length, nat_le, refl, subst, sym, true, ℕ, ◌++◌, ◌+◌, ◌<◌, ◌∙◌, ◌∷◌, ◌≡◌, ◌≤◌, ◌⊎◌, append_assoc}
 use Rattle.std.specs.Prelude.{◌==◌, ◌^◌, ◌||◌}
-use Rattle.std.proofs.lemmas.List.{length_push}
+use Rattle.std.proofs.lemmas.List.{length_push, append-nil}
 use Rattle.containers.proofs.Choices.{by_test, eq_from, le_from, le_test, ne_from, not_both}
 use Rattle.driver_model.specs.declared.config.Config.{Config}
 use Rattle.driver_model.specs.declared.event.Event.{Event}
@@ -11,14 +11,15 @@ use Rattle.link_laws.proofs.TiedLink.{TiedLink}
 use Rattle.mux_conn.specs.Connection.{is_spent_in, started_in}
 use Rattle.mux_conn.specs.declared.life.Life.{Life}
 use Rattle.mux_conn.specs.declared.life.Life.TheVariants.{Dialing, Ended, Ready, Wanting, SettingUp}
-use Rattle.shared_session.specs.Replay.{AreGood, AreGoodOn, is_bad_after, is_spent_after, opening_core, run_on, state_after, trace_of, IsSound}
-use Rattle.shared_session.specs.Turn.{is_bad, has_run_out, spends, next_turn}
+use Rattle.shared_session.specs.Replay.{AreGood, AreGoodOn, is_bad_after, is_spent_after, opening_core, run_on, state_after, trace_of, IsSound, AreUnspent, turns_on, opening_actions}
+use Rattle.shared_session.specs.Turn.{is_bad, has_run_out, spends, next_turn, actions_of}
 use Rattle.shared_session.specs.declared.core_state.Core.{Core}
 use Rattle.legal_trace.specs.Book.{Book, book}
 use Rattle.legal_trace.specs.Events.{HasRunOut}
-use Rattle.shared_session.proofs.Replays.{state_after-more, turns_after}
-use Rattle.session_laws.proofs.Legality.{replay_between}
+use Rattle.shared_session.proofs.Replays.{state_after-more, trace_of-more, turns_after}
+use Rattle.session_laws.proofs.Legality.{replay_between, turn_between, room_behind}
 use Rattle.session_laws.proofs.Tied.{Inner, Tied, TiedLife, carried, has_ended, inner, whole_link}
+use Rattle.driver_model.specs.declared.action.Action.{Action}
 
 -- one event more
 --
@@ -80,7 +81,7 @@ as_many bound n m l e = omega arith
 
 -- a session that has begun so many turns before this one has given out the last number of a sort
 abbrev IsSpentBy : ℕ → Inner → Bool
-IsSpentBy turns t = nat_le (2 ^ 32) turns || (is_spent_in t.life || (nat_le (2 ^ 32) (length t.table) || (nat_le (2 ^ 32) (length t.timers) || nat_le (2 ^ 32) (length t.sources))))
+IsSpentBy turns t = nat_le (2 ^ 32) turns || ((is_spent_in t.life || nat_le (2 ^ 32) t.renewal.asked) || (nat_le (2 ^ 32) (length t.table) || (nat_le (2 ^ 32) (length t.timers) || nat_le (2 ^ 32) (length t.sources))))
 
 -- by the numbers of the session
 pub run_out_of : (b : Book) (t : Inner) (turns : ℕ) → Tied b t → t.turns ≡ turns + 1 → IsSpentBy turns t ≡ true → HasRunOut b
@@ -185,24 +186,27 @@ spent_of b t turns h count out =
 -- the last number
 --
 -- the session behind one more event, and the book of its trace
-next_tied : (config : Config) (word : ℕ) (events : List Event) (e : Event) → IsSound config → AreGood config word events → is_bad_after config word events e ≡ false
+next_tied : (config : Config) (word : ℕ) (events : List Event) (e : Event) → IsSound config → AreGood config word events → AreUnspent config word events → is_bad_after config word events e ≡ false
     → (started : List ℕ) × Tied (book (trace_of config word (events ++ e ∷ []))) (inner (next_turn (state_after config word events) e.kind).core started)
-next_tied config word events e sound good fine =
-    let h = replay_between config word (events ++ e ∷ []) sound (are_good_more config word events e good fine) in
-    (h.started, subst (λ c. Tied (book (trace_of config word (events ++ e ∷ []))) (inner c h.started)) (state_after-more config word events e) h.between.sound.tied)
+next_tied config word events e sound good unspent fine =
+    let c = state_after config word events in
+    let h = turn_between (trace_of config word events) c e (replay_between config word events sound good unspent) fine (room_behind config word events unspent) in
+    (h.started, subst (λ (x : List Action). Tied (book x) (inner (next_turn c e.kind).core h.started)) (sym (trace_of-more config word events e)) h.between.sound.tied)
 
 -- a spent step gives out the last number
-pub spent_run_out : (config : Config) (word : ℕ) (events : List Event) (e : Event) → IsSound config → AreGood config word events → is_bad_after config word events e ≡ false → is_spent_after config word events e ≡ true → HasRunOut (book (trace_of config word (events ++ e ∷ [])))
+pub spent_run_out : (config : Config) (word : ℕ) (events : List Event) (e : Event) → IsSound config → AreGood config word events → AreUnspent config word events → is_bad_after config word events e ≡ false → is_spent_after config word events e ≡ true
+    → HasRunOut (book (trace_of config word (events ++ e ∷ [])))
 unfolding spends has_run_out
-spent_run_out config word events e sound good fine spent =
+spent_run_out config word events e sound good unspent fine spent =
     let c = state_after config word events in
-    let h = next_tied config word events e sound good fine in
-    run_out_of (book (trace_of config word (events ++ e ∷ []))) (inner (next_turn c e.kind).core h.0) c.turns h.1 (turn_counted config word events e) spent
+    let h = next_tied config word events e sound good unspent fine in
+    run_out_of (book (trace_of config word (events ++ e ∷ []))) (inner (next_turn c e.kind).core h.0) c.turns h.1 (turn_counted config word events e) (last_asked c e.kind (asked_behind config word events unspent)) spent
 
 -- and one that gives it out is spent
-pub run_out_spent : (config : Config) (word : ℕ) (events : List Event) (e : Event) → IsSound config → AreGood config word events → is_bad_after config word events e ≡ false → HasRunOut (book (trace_of config word (events ++ e ∷ []))) → is_spent_after config word events e ≡ true
+pub run_out_spent : (config : Config) (word : ℕ) (events : List Event) (e : Event) → IsSound config → AreGood config word events → AreUnspent config word events → is_bad_after config word events e ≡ false → HasRunOut (book (trace_of config word (events ++ e ∷ [])))
+    → is_spent_after config word events e ≡ true
 unfolding spends has_run_out
-run_out_spent config word events e sound good fine out =
+run_out_spent config word events e sound good unspent fine out =
     let c = state_after config word events in
-    let h = next_tied config word events e sound good fine in
+    let h = next_tied config word events e sound good unspent fine in
     spent_of (book (trace_of config word (events ++ e ∷ []))) (inner (next_turn c e.kind).core h.0) c.turns h.1 (turn_counted config word events e) out

@@ -234,29 +234,29 @@ abbrev pub AreSought : Sourced → Life → Type 0
 AreSought c Dialing = (c.asked ≡ false) × (c.given ≡ false) × (c.renews ≡ false)
 AreSought c (Wanting link) = (c.wanted ≡ true) × (c.asked ≡ true) × (c.given ≡ false) × (c.renews ≡ false)
 AreSought c (SettingUp link with_user) = HasCredentials c × (c.renews ≡ false)
-AreSought c (Ready link) = HasCredentials c × (c.wanted ≡ true → c.renews ≡ true)
+AreSought c (Ready link) = HasCredentials c × (c.renews ≡ c.wanted)
 AreSought c (Ended e) = Unit {0}
 
 -- how many sources were asked for by then
 abbrev pub sources_asked_in : Sourced → ℕ
 sources_asked_in c = (if c.asked then 1 else 0) + (if c.renews then 1 else 0)
 
--- whether they come of sources is the same for the link and the session, which has asked for so many
-pub record TiedCreds (c : Sourced) (wanted : Bool) (sources : ℕ) (life : Life) : Type 0 where
+-- whether they come of sources is the same for the link and the session
+pub record TiedCreds (c : Sourced) (wanted : Bool) (life : Life) : Type 0 where
   pub wanted_is : c.wanted ≡ wanted
   pub sought : AreSought c life
-  pub count : sources ≡ sources_asked_in c
 
--- no new credentials came
-pub record NoneRenewed (c : Sourced) (r : Renewal) : Type 0 where
-  pub over_is : c.over ≡ r.over
-  pub came : c.renewals ≡ []
+-- no new credentials came, and none were told
+pub record NoneRenewed (l : Ledger) (r : Renewal) : Type 0 where
+  pub over_is : l.creds.over ≡ r.over
+  pub came : l.creds.renewals ≡ []
   pub waits : r.waiting ≡ []
-  pub untimed : c.timed ≡ 0
+  pub untimed : l.creds.timed ≡ 0
+  pub unstarted : renewal_count l.starts ≡ 0
   pub unasked : r.asked ≡ 0
   pub unpending : r.pending ≡ false
   pub told : r.unanswered ≡ false
-  pub kept : c.lost ≡ false
+  pub kept : l.creds.lost ≡ false
   pub found : r.lost ≡ false
 
 -- all starts that tell new credentials before that of number k have their items
@@ -279,11 +279,12 @@ abbrev pub timed_of : Option ℕ → ℕ → ℕ
 timed_of None asked = 0
 timed_of (Some ms) asked = asked
 
--- the new credentials of a link that is set up: those that weren't told wait; so many were to be told, and have their timers;
+-- the new credentials of a link that is set up: those that weren't told wait, and as many came as were told; so many were to be told, and have their timers;
 -- those that were told are answered, but the last where it says so; and they were taken, in time, where it isn't said that some were lost
 pub record AreRenewed (l : Ledger) (r : Renewal) : Type 0 where
   pub over_is : l.creds.over ≡ r.over
   pub waits : r.waiting ≡ drop (renewal_count l.starts) l.creds.renewals
+  pub some : renewal_count l.starts ≤ length l.creds.renewals
   pub asked_is : r.asked ≡ renewal_count l.starts + (if r.pending then 1 else 0)
   pub timed_is : l.creds.timed ≡ timed_of r.within r.asked
   pub next : r.pending ≡ true → (r.unanswered ≡ false) × (are_some r.waiting ≡ true)
@@ -294,13 +295,13 @@ pub record AreRenewed (l : Ledger) (r : Renewal) : Type 0 where
   pub taken : r.lost ≡ false → r.unanswered ≡ false → is_taken l (last_renewal l.starts 0 None) ≡ true
   pub lost : r.lost ≡ true → IsLost l
 
--- by how far the link has come
+-- by how far the link has come; once it has ended, a timer was asked for all that were told
 abbrev pub TiedRenewal : Ledger → Renewal → Life → Type 0
-TiedRenewal l r Dialing = NoneRenewed l.creds r
-TiedRenewal l r (Wanting link) = NoneRenewed l.creds r
-TiedRenewal l r (SettingUp link with_user) = NoneRenewed l.creds r
+TiedRenewal l r Dialing = NoneRenewed l r
+TiedRenewal l r (Wanting link) = NoneRenewed l r
+TiedRenewal l r (SettingUp link with_user) = NoneRenewed l r
 TiedRenewal l r (Ready link) = AreRenewed l r
-TiedRenewal l r (Ended e) = Unit {0}
+TiedRenewal l r (Ended e) = (r.within ≢ None) → renewal_count l.starts ≤ l.creds.timed
 
 -- the setup that is to start next on a link is in its queue: the first with the user name, and a second one without it
 pub record IsSetupDue (l : Ledger) (link : LinkState) (with_user : Bool) : Type 0 where
@@ -446,7 +447,7 @@ shown_wait story requests p = (story (name_at requests p)).waiting
 -- a request that waits for the connection, or for a permit, has shown nothing or one of these; the first while the
 -- connect isn't answered, the second while credentials are to come, the third while the link is set up, and the fourth while
 -- it is up, where its wait isn't to be shown yet; one that waits for a place, or has one in the queue, was moved in this turn and its wait isn't shown
--- yet, or has shown it
+-- yet, or has shown it; one that waits for a place has never shown that it waits for room
 pub record TiedWaits (story : ℕ → Story) (requests : List Request) (life : Life) (fresh moved : List ℕ) : Type 0 where
   pub early : (p : ℕ) → is_waiting_at requests p ≡ true → (shown_wait story requests p ≡ None) ⊎ ((shown_wait story requests p ≡ Some wait.Connect) ⊎ ((shown_wait story requests p ≡ Some wait.Creds) ⊎ ((shown_wait story requests p ≡ Some wait.Setup) ⊎ (shown_wait story requests p ≡ Some wait.Permit))))
   pub connect : (p : ℕ) → is_waiting_at requests p ≡ true → life ≡ Dialing → IsIn p fresh ⊎ (shown_wait story requests p ≡ Some wait.Connect)
@@ -462,6 +463,7 @@ pub record TiedWaits (story : ℕ → Story) (requests : List Request) (life : L
   pub no_setup : (p : ℕ) (link : LinkState) (with_user : Bool) → IsIn p fresh → is_waiting_at requests p ≡ true → life ≡ SettingUp link with_user → shown_wait story requests p ≢ Some wait.Setup
   pub no_permit : (p : ℕ) (link : LinkState) → IsIn p fresh → is_waiting_at requests p ≡ true → life ≡ Ready link → shown_wait story requests p ≢ Some wait.Permit
   pub no_place : (p : ℕ) → IsIn p moved → is_admitted_at requests p ≡ true → shown_wait story requests p ≢ Some wait.Place
+  pub seatless : (p : ℕ) → is_admitted_at requests p ≡ true → shown_wait story requests p ≢ Some wait.Room
   pub no_room : (p : ℕ) → IsIn p moved → IsIn p (awaited_ids (link_in life).queue) → shown_wait story requests p ≢ Some wait.Room
 
 -- where permits are counted, those that submissions hold and those that are free are all; who waits for the
@@ -481,7 +483,8 @@ pub record Tied (b : Book) (t : Inner) : Type 0 where
   pub others : (m : ℕ) → m ≢ t.link → IsUnknown (b.link m)
   pub pushes : TiedPushes (is_heard b) t.hears (b.link t.link).pushes (b.link t.link).told (b.link t.link).end (b.link t.link).parted t.untold t.parting
   pub life : TiedLife (b.link t.link) b.created t.life
-  pub creds : TiedCreds (b.link t.link).creds t.renewal.wanted (length t.sources) t.life
+  pub creds : TiedCreds (b.link t.link).creds t.renewal.wanted t.life
+  pub count : length t.sources ≡ sources_asked_in (b.link t.link).creds
   pub renewal : TiedRenewal (b.link t.link) t.renewal t.life
   pub setup : TiedSetup (b.link t.link) t.info t.started t.life
   pub link : has_ended t.life ≡ false → TiedLink (carried t.life t.requests) (b.link t.link) (whole_link t.life)
@@ -571,6 +574,7 @@ relined b t waiting admitted fresh moved pending h lines waits late = record {
   pushes = h.pushes;
   life = h.life;
   creds = h.creds;
+  count = h.count;
   renewal = h.renewal;
   setup = h.setup;
   link = h.link;

@@ -1,5 +1,9 @@
 -- Credentials of a source: traces that can be relied on, and actions that stand where they may not.
+<<<<<<< HEAD
 use Rattle.std.proofs.Common.{◌≡◌, ◌≢◌, ℕ, false, [], ◌∷◌, Option, Some, None, codes, pos, refl, sym, ap, ◌∙◌, inl, inr}
+=======
+use Rattle.std.proofs.Common.{◌≡◌, ◌≢◌, ℕ, false, [], ◌∷◌, Option, Some, None, codes, pos, refl, sym, ap}
+>>>>>>> 3df06f0cb1a4f82f5f788f201e1b4dea0c0177e8
 use Rattle.std.specs.Fmt.{digits}
 use Rattle.std.specs.Str.Lossy.{utf8_lossy, utf8_valid_len}
 use Rattle.url.proofs.OnLiterals.{url_on_literals}
@@ -27,7 +31,11 @@ use Rattle.legal_trace.proofs.Plain.{same_some}
 use Rattle.trace_examples.specs.Parts.{turn, command, okay_line, spoiled_behind}
 use Rattle.trace_examples.specs.Setups.{secured, unsaid}
 use Rattle.trace_examples.specs.Traces.{opening}
+<<<<<<< HEAD
 use Rattle.trace_examples.specs.Creds.{sourced, user_and_password, no_credentials, source_error, needed, came_meanwhile, credentials_taken, started_behind, deserted_first, denied_first, closed_by_denial, spoiled_meanwhile, source_fronts}
+=======
+use Rattle.trace_examples.specs.Creds.{sourced, user_and_password, no_credentials, source_error, needed, came_meanwhile, credentials_taken, started_behind, deserted_first, closed_by_denial, spoiled_meanwhile, source_fronts}
+>>>>>>> 3df06f0cb1a4f82f5f788f201e1b4dea0c0177e8
 use Rattle.trace_examples.specs.Claims.{IsTraceIn, NoneBegins, NoneBeginsIn}
 use Rattle.trace_examples.specs.Fronts.{EachStands}
 use Rattle.trace_examples.proofs.Bounded.{IsBounded, blank_bounded, bounded_behind}
@@ -48,7 +56,11 @@ is_server : address sourced ≡ Some server
 unfolding url_on_literals utf8_lossy utf8_valid_len
 is_server = refl
 
+<<<<<<< HEAD
 at_sourced : IsPlace sourced (codes "h") 6379
+=======
+pub at_sourced : IsPlace sourced (codes "h") 6379
+>>>>>>> 3df06f0cb1a4f82f5f788f201e1b4dea0c0177e8
 at_sourced = record { sound = ap (λ a. fault_in a false None 50) is_server; info = server; configured = is_server; is = (refl, refl) }
 
 -- the first credentials are said in the setup; a command waits for them, and then for the setup, and starts behind the
@@ -124,7 +136,11 @@ pub needed_twice : (c : ℕ) → NoneBeginsIn sourced needed (action.NeedCreds c
 unfolding digits url_on_literals utf8_lossy utf8_valid_len
 needed_twice c word events after h = cc (may_stand sourced word events (needed sourced word) after (action.NeedCreds c 0) h).due
 
+<<<<<<< HEAD
 -- or once more when they were taken
+=======
+-- or a third time, when they were taken
+>>>>>>> 3df06f0cb1a4f82f5f788f201e1b4dea0c0177e8
 pub needed_when_taken : (c : ℕ) → NoneBeginsIn sourced credentials_taken (action.NeedCreds c 0)
 unfolding digits items values left_over max_depth url_on_literals utf8_lossy utf8_valid_len
 needed_when_taken c word events after h = cc (may_stand sourced word events (credentials_taken sourced word) after (action.NeedCreds c 0) h).due

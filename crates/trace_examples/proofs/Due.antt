@@ -21,9 +21,16 @@ use Rattle.driver_model.specs.Config.{address, connect_timeout, first_fault}
 use Rattle.connection_info.specs.declared.address.ConnectionInfo.{ConnectionInfo}
 use Rattle.redis_error.specs.declared.redis_error.RedisError.{RedisError}
 use Rattle.driver_model.specs.Shape.{need_of}
+<<<<<<< HEAD
 use Rattle.legal_trace.specs.Ledger.{Heard, Ending, is_cut, is_full_by, is_ready, next_push, setup_count, setup_due, setup_message, source_due, is_over, ending, failure_in, unwritten}
 use Rattle.legal_trace.specs.Story.{Try, last_of, is_open, is_unstarted, bytes_of, shape}
 use Rattle.legal_trace.specs.Book.{Book, blank_book, book, current, entered, entered_each}
+=======
+use Rattle.credentials.specs.Credentials.{Credentials}
+use Rattle.legal_trace.specs.Ledger.{Heard, Ending, is_cut, is_full_by, is_ready, next_push, setup_count, setup_due, setup_message, source_due, renewal_due, renewals_asked, is_over, ending, failure_in, unwritten}
+use Rattle.legal_trace.specs.Story.{Try, last_of, is_open, is_unstarted, bytes_of, shape}
+use Rattle.legal_trace.specs.Book.{Book, blank_book, book, current, renewal_in, entered, entered_each}
+>>>>>>> 3df06f0cb1a4f82f5f788f201e1b4dea0c0177e8
 use Rattle.legal_trace.specs.Steps.{is_held_back, takes, asks, tells, starts, next_step}
 use Rattle.legal_trace.specs.Owed.{owed}
 use Rattle.legal_trace.specs.Events.{is_bad_event}
@@ -31,7 +38,11 @@ use Rattle.legal_trace.specs.Legal.{IsOpen, IsWaiting, IsBefore, is_heard, link_
 use Rattle.legal_trace.proofs.Setups.{due_count}
 use Rattle.trace_examples.proofs.Bounded.{IsBounded, is_of_first, still_bounded, blank_bounded}
 use Rattle.trace_examples.proofs.Checks.{holds_if, held, is_empty, empty_from, filled_from, each_below, below, same_step, step_from, is_other_wait, other_wait}
+<<<<<<< HEAD
 use Rattle.trace_examples.proofs.Settled.{is_quiet, quiet, all_shown, verdicts_are_shown, none_ends, no_end, failure_shown, failures_are_shown, pushes_told, pushes_are_told, end_told, ends_are_told, of_open, is_applied, applied, ready_shown, ready_is_shown, sources_asked, sources_are_asked, is_to_set_up, is_begun, has_begun, all_stay, none_before, is_moved, moved, is_written, written, wait_holds, holds, is_waiting, waiting, is_settled, settled}
+=======
+use Rattle.trace_examples.proofs.Settled.{is_quiet, quiet, all_shown, verdicts_are_shown, none_ends, no_end, failure_shown, failures_are_shown, pushes_told, pushes_are_told, end_told, ends_are_told, of_open, is_applied, applied, ready_shown, ready_is_shown, sources_asked, sources_are_asked, is_to_set_up, are_set_up, setups_have_started, renewals_timed, renewals_are_timed, can_renew, is_begun, has_begun, all_stay, none_before, is_moved, moved, is_written, written, wait_holds, holds, is_waiting, waiting, is_settled, settled}
+>>>>>>> 3df06f0cb1a4f82f5f788f201e1b4dea0c0177e8
 
 -- a turn
 abbrev pub turn_due : Book → ℕ → Cause → Bool
@@ -228,7 +239,30 @@ ask_stands b t ms n bounded e = record {
   is_for = refl;
 }
 
+<<<<<<< HEAD
 -- the timer of the opening, of which is left to be said for how long and for what; or that of a submission
+=======
+-- the timer of new credentials on the first link; for how long is left to be said
+abbrev pub renewal_time_due : Book → ℕ → ℕ → ℕ → Bool
+renewal_time_due b t l k = are_set_up b && (l == 0) && (k == (b.link 0).creds.timed) && nat_lt (b.link 0).creds.timed (renewals_asked (b.link 0)) && (t == length b.timers)
+
+-- what this says
+renewal_time_stands : (b : Book) (t ms l k : ℕ) → IsBounded b → renewal_time_due b t l k ≡ true → answer_time b.config ≡ Some ms → MayTimeRenewal b t ms (purpose.Renewal l k)
+renewal_time_stands b t ms l k bounded e within =
+    let first : l ≡ 0 = eq_from l 0 (search (both_left, both_right)) in
+    record {
+      applied = applied b bounded (both_left (is_applied b) (not (is_to_set_up b)) (search (both_left, both_right)));
+      setups = setups_have_started b bounded (search (both_left, both_right));
+      l = l;
+      within = within;
+      asked = subst (λ j. (b.link j).creds.timed < renewals_asked (b.link j)) (sym first) (lt_from (b.link 0).creds.timed (renewals_asked (b.link 0)) (search (both_left, both_right)));
+      in_order = λ m below. absurd (omega (arith, first, below));
+      next = eq_from t (length b.timers) (search (both_left, both_right));
+      is_for = ap (purpose.Renewal l) (eq_from k (b.link 0).creds.timed (search (both_left, both_right)) ∙ ap (λ j. (b.link j).creds.timed) (sym first));
+    }
+
+-- the timer of the opening, of which is left to be said for how long and for what; or that of a submission, or of new credentials
+>>>>>>> 3df06f0cb1a4f82f5f788f201e1b4dea0c0177e8
 abbrev pub timer_due : Book → ℕ → ℕ → Purpose → Bool
 timer_due b t ms (purpose.Connect l) = not (b.links == 0) && is_empty b.timers && (t == length b.timers)
 timer_due b t ms (purpose.Response owner.Setup) = false
@@ -240,7 +274,11 @@ IsTime b None ms what = ⊥
 IsTime b (Some (cause.Event e)) ms what = ⊥
 IsTime b (Some (cause.Opening config word)) ms what = (connect_timeout config ≡ Some ms) × (what ≡ purpose.Connect (current b))
 
+<<<<<<< HEAD
 -- this is left to be said of the timer of a connect
+=======
+-- this is left to be said of the timer of a connect, or of new credentials
+>>>>>>> 3df06f0cb1a4f82f5f788f201e1b4dea0c0177e8
 abbrev pub IsTimeOf : Book → ℕ → Purpose → Type 0
 IsTimeOf b ms (purpose.Connect l) = IsTime b b.running ms (purpose.Connect l)
 IsTimeOf b ms (purpose.Response who) = Unit {0}
@@ -337,6 +375,35 @@ set_up_stands b l message count len bounded e =
           next = eq_from message (length (b.link l).starts) (search (both_left, both_right));
           needs_its_items = eq_from count (need_of (setup_message (b.link l) (setup_count (b.link l).starts)).shape) (search (both_left, both_right)) ∙ ap (λ n. need_of (setup_message (b.link l) n).shape) number;
           long_as_its_bytes = eq_from len (length (setup_message (b.link l) (setup_count (b.link l).starts)).bytes) (search (both_left, both_right)) ∙ ap (λ n. length (setup_message (b.link l) n).bytes) number;
+        }
+
+-- new credentials on the first link
+abbrev pub renew_due : Book → ℕ → ℕ → ℕ → ℕ → Bool
+renew_due b l message count len =
+    are_set_up b && renewals_timed b && (l == 0) && can_renew b && (message == length (b.link l).starts) &&
+    ((count == need_of (renewal_in (renewal_due (b.link l))).shape) && (len == length (renewal_in (renewal_due (b.link l))).bytes))
+
+-- what this says
+renew_stands : (b : Book) (l message count len : ℕ) → IsBounded b → renew_due b l message count len ≡ true → MayRenew b l message count len
+renew_stands b l message count len bounded e =
+    of_due (renewal_due (b.link 0)) refl (both_left (is_some (renewal_due (b.link 0))) (not (is_held_back b (b.link 0))) (search (both_left, both_right)))
+  where
+    of_due : (o : Option Credentials) → renewal_due (b.link 0) ≡ o → is_some o ≡ true → MayRenew b l message count len
+    of_due None same t = cc t
+    of_due (Some c) same t =
+        let first : l ≡ 0 = eq_from l 0 (search (both_left, both_right)) in
+        let due : renewal_due (b.link l) ≡ Some c = ap (λ j. renewal_due (b.link j)) first ∙ same in
+        record {
+          applied = applied b bounded (both_left (is_applied b) (not (is_to_set_up b)) (search (both_left, both_right)));
+          setups = setups_have_started b bounded (search (both_left, both_right));
+          timed = renewals_are_timed b bounded (search (both_left, both_right));
+          credentials = c;
+          due = due;
+          free = ap (λ j. is_held_back b (b.link j)) first ∙ not-true (is_held_back b (b.link 0)) (both_right (is_some (renewal_due (b.link 0))) (not (is_held_back b (b.link 0))) (search (both_left, both_right)));
+          in_order = λ m other below. absurd (omega (arith, first, below));
+          next = eq_from message (length (b.link l).starts) (search (both_left, both_right));
+          needs_its_items = eq_from count (need_of (renewal_in (renewal_due (b.link l))).shape) (search (both_left, both_right)) ∙ ap (λ o. need_of (renewal_in o).shape) due;
+          long_as_its_bytes = eq_from len (length (renewal_in (renewal_due (b.link l))).bytes) (search (both_left, both_right)) ∙ ap (λ o. length (renewal_in o).bytes) due;
         }
 
 -- its message was full before the next push of its link came, if one waits

@@ -18,3 +18,4 @@ pub mod Unready
 pub mod Called
 pub mod Pushes
 pub mod Creds
+pub mod Renewals

@@ -23,7 +23,11 @@ use Rattle.legal_trace.specs.Events.{is_bad_event}
 use Rattle.legal_trace.specs.Ledger.{dials, is_ready}
 use Rattle.legal_trace.specs.Story.{is_told, is_awaited}
 use Rattle.legal_trace.specs.Book.{Book}
+<<<<<<< HEAD
 use Rattle.legal_trace.specs.Steps.{tells, starts, permits_in, line_before, is_outside, is_held_back, is_due, next_step}
+=======
+use Rattle.legal_trace.specs.Steps.{tells, starts, permits_in, line_before, is_outside, is_held_back, renewals_in_line, is_due, next_step}
+>>>>>>> 3df06f0cb1a4f82f5f788f201e1b4dea0c0177e8
 use Rattle.legal_trace.specs.Legal.{link_of, MayTurn, Legal}
 use Rattle.legal_trace.proofs.Moves.{is_timed, starts_mean, tells_mean, placed_is_awaited, free_is_due}
 use Rattle.trace_examples.specs.Parts.{turn, command, unawaited, one_nameless, nameless_atomic, nameless_skipped}
@@ -79,7 +83,11 @@ told_out_of_order config word events after h =
       | inl answer ↦ cc answer.owes
       | inr tell ↦
           let t = tells_uncounted b 1 refl tell.tells in
+<<<<<<< HEAD
           tell.in_order 0 (omega arith) (record { unstarted = refl; due = first_is_due b refl (tells_mean b 1 tell.tells).1 refl refl t.0 (room_for_one (buffer_size config) (line_before config.limit b.story 0 1) t.1) })
+=======
+          tell.in_order 0 (omega arith) (record { unstarted = refl; due = first_is_due b refl (tells_mean b 1 tell.tells).1 refl refl t.0 (room_for_one (buffer_size config) (renewals_in_line (b.link 0) + line_before config.limit b.story 0 1) t.1) })
+>>>>>>> 3df06f0cb1a4f82f5f788f201e1b4dea0c0177e8
     ]
 
 -- and before the creation

@@ -15,8 +15,13 @@ use Rattle.legal_trace.specs.Story.{Try, last_of, is_open, is_told, is_unstarted
 use Rattle.legal_trace.specs.Book.{Book}
 use Rattle.legal_trace.specs.Steps.{waits, is_due, next_step, is_held_back}
 use Rattle.legal_trace.proofs.Setups.{due_is_up}
+use Rattle.legal_trace.proofs.Plain.{not_none}
 use Rattle.legal_trace.specs.Owed.{owed}
+<<<<<<< HEAD
 use Rattle.legal_trace.specs.Legal.{IsOpen, link_of, NoneIsOwed, VerdictsAreShown, NoneEnds, FailuresAreShown, IsTimed, IsApplied, CanMove, IsMoved, IsWritten, WaitHolds, IsStarted, IsWaiting, IsSettled, ReadyIsShown, SourcesAreAsked, PushesAreTold, EndsAreTold, IsBegun, is_heard}
+=======
+use Rattle.legal_trace.specs.Legal.{IsOpen, link_of, NoneIsOwed, VerdictsAreShown, NoneEnds, FailuresAreShown, IsTimed, IsApplied, CanMove, IsMoved, IsWritten, WaitHolds, IsStarted, IsWaiting, IsSettled, ReadyIsShown, SourcesAreAsked, PushesAreTold, EndsAreTold, IsBegun, SetupsAreStarted, RenewalsAreTimed, RenewalsAreStarted, answer_time, is_heard}
+>>>>>>> 3df06f0cb1a4f82f5f788f201e1b4dea0c0177e8
 use Rattle.trace_examples.proofs.Bounded.{IsBounded, IsIdle}
 use Rattle.trace_examples.proofs.Checks.{holds_if, held, none_from, is_empty, empty_from, filled_from, each_below, below, same_step, step_from}
 
@@ -160,7 +165,11 @@ sources_asked b = not (source_due (b.link 0))
 
 -- for an idle link none is to be
 idle_unsourced : (l : Ledger) → IsIdle l → source_due l ≡ false
+<<<<<<< HEAD
 idle_unsourced l idle = and_false (l.up && l.creds.wanted) (not l.creds.asked) (and_false l.up l.creds.wanted idle.down)
+=======
+idle_unsourced l idle = and_false (l.up && l.creds.wanted) (not l.creds.asked || (is_set_up l && not l.creds.renews)) (and_false l.up l.creds.wanted idle.down)
+>>>>>>> 3df06f0cb1a4f82f5f788f201e1b4dea0c0177e8
 
 pub sources_are_asked : (b : Book) → IsBounded b → sources_asked b ≡ true → SourcesAreAsked b
 sources_are_asked b bounded t l = first_and_idle b (λ m. source_due (b.link m) ≡ false) l bounded (not-true (source_due (b.link 0)) t) (idle_unsourced (b.link l))
@@ -192,9 +201,49 @@ is_to_set_up b = is_some (setup_due (b.link 0)) && not (is_held_back b (b.link 0
 idle_undue : (l : Ledger) (k : ℕ) → IsIdle l → setup_due l ≡ Some k → ⊥
 idle_undue l k idle due = not_both l.up idle.down (due_is_up l k due)
 
+<<<<<<< HEAD
 -- setups have started
 abbrev pub is_begun : Book → Bool
 is_begun b = is_applied b && not (is_to_set_up b)
+=======
+-- the event has had its effect, and setups have started
+abbrev pub are_set_up : Book → Bool
+are_set_up b = is_applied b && not (is_to_set_up b)
+
+-- the new credentials of the link have their timers, where they are to have some
+abbrev pub renewals_timed : Book → Bool
+renewals_timed b = holds_if (is_some (answer_time b.config)) (nat_le (renewals_asked (b.link 0)) (b.link 0).creds.timed)
+
+-- new credentials are to be told on the link, which isn't held back
+abbrev pub can_renew : Book → Bool
+can_renew b = is_some (renewal_due (b.link 0)) && not (is_held_back b (b.link 0))
+
+-- setups have started, and so have new credentials, which have their timers
+abbrev pub is_begun : Book → Bool
+is_begun b = are_set_up b && renewals_timed b && not (can_renew b)
+
+-- no new credentials are to be told on an idle link
+idle_unrenewed : (l : Ledger) → IsIdle l → renewal_due l ≡ None
+idle_unrenewed l idle = left_if (l.up && not l.creds.lost && is_taken l (last_renewal l.starts 0 None)) (slice_get l.creds.renewals (renewal_count l.starts)) None
+    (and_false (l.up && not l.creds.lost) (is_taken l (last_renewal l.starts 0 None)) (and_false l.up (not l.creds.lost) idle.down))
+
+-- nor were any
+pub idle_unasked : (l : Ledger) → IsIdle l → renewals_asked l ≡ 0
+idle_unasked l idle =
+    ap (λ o. renewal_count l.starts + (if is_some o then 1 else 0)) (idle_unrenewed l idle)
+    ∙ ap (λ (ss : List Start). renewal_count ss + 0) idle.quiet
+
+-- what isn't none is some
+some_of : (o : Option ℕ) → o ≢ None → is_some o ≡ true
+some_of None n = absurd (n refl)
+some_of (Some x) n = refl
+
+-- so all have their timers
+pub renewals_are_timed : (b : Book) → IsBounded b → renewals_timed b ≡ true → RenewalsAreTimed b
+renewals_are_timed b bounded t l set = first_and_idle b (λ m. renewals_asked (b.link m) ≤ (b.link m).creds.timed) l bounded
+    (le_from (renewals_asked (b.link 0)) (b.link 0).creds.timed (held (is_some (answer_time b.config)) (nat_le (renewals_asked (b.link 0)) (b.link 0).creds.timed) t (some_of (answer_time b.config) set)))
+    (λ idle. let none : renewals_asked (b.link l) ≡ 0 = idle_unasked (b.link l) idle in omega (arith, none))
+>>>>>>> 3df06f0cb1a4f82f5f788f201e1b4dea0c0177e8
 
 -- what doesn't hold with another
 second_fails : (p q : Bool) → (p && not q) ≡ false → p ≡ true → q ≡ true
@@ -202,6 +251,7 @@ second_fails true true e t = refl
 second_fails true false e t = cc e
 second_fails false q e t = cc t
 
+<<<<<<< HEAD
 pub has_begun : (b : Book) → IsBounded b → is_begun b ≡ true → IsBegun b
 has_begun b bounded e = record {
   applied = applied b bounded (both_left (is_applied b) (not (is_to_set_up b)) e);
@@ -209,6 +259,29 @@ has_begun b bounded e = record {
       (λ due. second_fails (is_some (setup_due (b.link 0))) (is_held_back b (b.link 0)) (not-true (is_to_set_up b) (both_right (is_applied b) (not (is_to_set_up b)) e)) (ap is_some due))
       (λ idle due. absurd (idle_undue (b.link l) k idle due));
 }
+=======
+-- setups have started
+pub setups_have_started : (b : Book) → IsBounded b → are_set_up b ≡ true → SetupsAreStarted b
+setups_have_started b bounded e l k = first_and_idle b (λ m. setup_due (b.link m) ≡ Some k → is_held_back b (b.link m) ≡ true) l bounded
+    (λ due. second_fails (is_some (setup_due (b.link 0))) (is_held_back b (b.link 0)) (not-true (is_to_set_up b) (both_right (is_applied b) (not (is_to_set_up b)) e)) (ap is_some due))
+    (λ idle due. absurd (idle_undue (b.link l) k idle due))
+
+-- and so have new credentials
+renewals_have_started : (b : Book) → IsBounded b → can_renew b ≡ false → RenewalsAreStarted b
+renewals_have_started b bounded e l c = first_and_idle b (λ m. renewal_due (b.link m) ≡ Some c → is_held_back b (b.link m) ≡ true) l bounded
+    (λ due. second_fails (is_some (renewal_due (b.link 0))) (is_held_back b (b.link 0)) e (ap is_some due))
+    (λ idle due. absurd (not_none (renewal_due (b.link l)) c (idle_unrenewed (b.link l) idle) due))
+
+pub has_begun : (b : Book) → IsBounded b → is_begun b ≡ true → IsBegun b
+has_begun b bounded e =
+    let set : are_set_up b ≡ true = both_left (are_set_up b) (renewals_timed b) (both_left (are_set_up b && renewals_timed b) (not (can_renew b)) e) in
+    record {
+      applied = applied b bounded (both_left (is_applied b) (not (is_to_set_up b)) set);
+      setups = setups_have_started b bounded set;
+      timed = renewals_are_timed b bounded (both_right (are_set_up b) (renewals_timed b) (both_left (are_set_up b && renewals_timed b) (not (can_renew b)) e));
+      renewed = renewals_have_started b bounded (not-true (can_renew b) (both_right (are_set_up b && renewals_timed b) (not (can_renew b)) e));
+    }
+>>>>>>> 3df06f0cb1a4f82f5f788f201e1b4dea0c0177e8
 
 -- its message has not started, and it makes a step
 abbrev pub can_move : Book → ℕ → Bool

@@ -51,9 +51,17 @@ credentials_said config word =
     turn 3 (event.Creds 0 user_and_password) ∷ action.Start 0 0 owner.Setup 1 28 ∷ action.Write 0 credentials_line ∷
     action.Wait (owner.Try 0 0) wait.Setup ∷ []
 
+<<<<<<< HEAD
 -- the server takes them, and the creation is shown
 abbrev pub credentials_taken : Config → ℕ → List Action
 credentials_taken config word = credentials_said config word ++ turn 4 (event.Wrote 0 28) ∷ turn 5 (event.Bytes 0 okay_line) ∷ action.Created None ∷ []
+=======
+-- the server takes them, the creation is shown, and a second source is asked for
+abbrev pub credentials_taken : Config → ℕ → List Action
+credentials_taken config word =
+    credentials_said config word ++
+    turn 4 (event.Wrote 0 28) ∷ turn 5 (event.Bytes 0 okay_line) ∷ action.Created None ∷ action.NeedCreds 1 0 ∷ []
+>>>>>>> 3df06f0cb1a4f82f5f788f201e1b4dea0c0177e8
 
 -- the command started behind it
 abbrev pub started_behind : Config → ℕ → List Action

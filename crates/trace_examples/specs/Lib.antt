@@ -9,3 +9,4 @@ pub mod Setups
 pub mod Calls
 pub mod Pushes
 pub mod Creds
+pub mod Renewals

@@ -1,6 +1,8 @@
 //! Traces that can be relied on, and traces that cannot, each with the proof.
 #![tactic(auto)]
 
+mod renewing;
+
 ghost use Rattle.std.specs.Prelude.{◌≡◌, ◌≢◌, ◌<◌, ℕ, List, [], ◌∷◌, ◌++◌, Option, Some, None};
 ghost use Rattle.std.specs.Prelude.{drop, pos, true, false};
 ghost use Rattle.redis_error.specs.declared.fault_kind.FaultKind.{FaultKind};
@@ -81,6 +83,8 @@ ghost use Rattle.trace_examples.specs.Calls.{of_third, call_of_c, hello_well, co
 ghost use Rattle.trace_examples.specs.Calls.{denied_line, denial, called};
 ghost use Rattle.trace_examples.specs.Claims.{IsTraceOf, IsTraceIn};
 ghost use Rattle.trace_examples.specs.Claims.{NoneBegins, NoneBeginsIn, NoneIs};
+
+pub use renewing::{nor_are_these_renewals, these_renew_credentials};
 
 /// Does nothing. Its contract: these traces are legal. A transaction is aborted by the error of its
 /// command; a command whose reply nobody awaits is answered at its place, and its item is not given
@@ -716,7 +720,8 @@ pub fn nor_are_these_pushes()
 
 /// Does nothing. Its contract: these are legal too. Where credentials come of a source it is asked
 /// for when the link is up; a command waits for the first that it gives, and then for the setup in
-/// which they are said, and starts behind the creation. What the source says later changes nothing.
+/// which they are said, and starts behind the creation and the question for a second source. What
+/// the first one says later changes nothing.
 /// Where it ends, or could give none, the link is closed, and the opening fails, by what the source
 /// says; a reply that comes meanwhile answers nothing, and bytes that begin no value fail the
 /// opening by the closed connection.
@@ -744,11 +749,11 @@ pub fn these_take_credentials()
 
 /// Does nothing. Its contract: no trace that begins so is legal, whatever its events were and
 /// whatever comes after: a setup that starts, or a creation that is shown, before credentials came;
-/// a source that is asked for twice, or once more when they were taken, or before the connect is
-/// answered, or where none is wanted; a wait for the setup while credentials are waited for; a
-/// creation that is shown before the close where the source ended; an opening that fails with
-/// another error than what its source says; credentials of a source that was never asked for; and
-/// a turn that begins while one is to be. Each action of the fronts stands where it may.
+/// a source that is asked for twice before, or a third time, or before the connect is answered, or
+/// where none is wanted; a wait for the setup while credentials are waited for; a creation that is
+/// shown before the close where the source ended; an opening that fails with another error than
+/// what its source says; credentials of a source that was never asked for; and a turn that begins
+/// while one is to be. Each action of the fronts stands where it may.
 pub fn nor_are_these_credentials()
     ensures fronts { (word : ℕ) → EachStands (source_fronts word) }
     ensures said_without { (k count len : ℕ)
