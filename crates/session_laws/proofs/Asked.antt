@@ -304,9 +304,9 @@ lacks_as_told b c started what h =
     ap (λ (info : RedisConnectionInfo). lacks_resp3 info.protocol what) (sym h.setup.info_is ∙ ap (λ m. (b.link m).info) on)
 
 -- a submission, whichever it is
-pub submit_applied : (before : List Action) (c : Core) (started : List ℕ) (word : ℕ) (what : Submission) → Between before c started → is_bad c (event.Submit what) ≡ false → length c.table < 2 ^ 32
+pub submit_applied : (before : List Action) (c : Core) (started : List ℕ) (word : ℕ) (what : Submission) → Between before c started → length c.table < 2 ^ 32 → is_bad c (event.Submit what) ≡ false
     → HasApplied (before ++ turn_of c word (event.Submit what) ∷ []) (effect (counted c) (event.Submit what)) started
-submit_applied before c started word what h good few =
+submit_applied before c started word what h few good =
     let t = heard (counted c) (event.Submit what) in
     let front = before ++ turn_of c word (event.Submit what) ∷ [] in
     let shut_is : (c.shut || false) ≡ (book before).shut = or_none c.shut ∙ sym h.sound.tied.numbers.shut in
