@@ -43,7 +43,7 @@ use Rattle.session_laws.proofs.Tied.{Inner, inner, no_link, link_in, queue_ids, 
 use Rattle.session_laws.proofs.States.{Between, HasApplied}
 use Rattle.session_laws.proofs.Behind.{open_untold}
 use Rattle.session_laws.proofs.Names.{name_of_some, open_within, same_name, request_not}
-use Rattle.session_laws.proofs.InLine.{row_ids, chosen_in, kept_ids, line_of, open_in_line, wanted_in}
+use Rattle.session_laws.proofs.InLine.{row_ids, chosen_in, kept_ids, line_of, open_in_line}
 use Rattle.session_laws.proofs.Owes.{answered_closed, in_time, line_unowed, lives, none_open, not_empty, request_story, row_in_line}
 use Rattle.session_laws.proofs.Permits.{IsHolding, permits_same}
 use Rattle.session_laws.proofs.Kept.{one_changed, packed_same, queued_same, tied_by, tries_same}

@@ -1,5 +1,5 @@
 -- New credentials are told before the queue, behind their timer.
-use Rattle.std.proofs.Common.{List, None, Option, Some, [], ap, arith, false, inl, inr, length, length-append, refl, subst, sym, true, ℕ, ◌+◌, ◌++◌, ◌<◌, ◌≤◌, ◌∙◌, ◌∷◌, ◌≡◌, ◌≢◌}
+use Rattle.std.proofs.Common.{List, None, Option, Some, [], ap, arith, false, inl, inr, length, length-append, refl, subst, sym, true, ℕ, ◌+◌, ◌++◌, ◌≤◌, ◌∙◌, ◌∷◌, ◌≡◌, ◌≢◌}
 use Rattle.std.proofs.lemmas.List.{append-nil}
 use Rattle.std.specs.Prelude.{if◌then◌else◌, slice_get, ◌==◌, ◌&&◌}
 use Rattle.containers.proofs.Choices.{both_right, chosen, eq_test, left_if, not_both, taken_if}
@@ -13,15 +13,14 @@ use Rattle.driver_model.specs.declared.action.Owner.TheVariants as owner
 use Rattle.driver_model.specs.declared.action.Purpose.{Purpose}
 use Rattle.driver_model.specs.declared.action.Purpose.TheVariants as purpose
 use Rattle.driver_model.specs.declared.outcome.Shape.TheVariants.{Confirmation}
-use Rattle.link_core.specs.Link.{LinkState, begun, entry_of, holds_back, start_of}
+use Rattle.link_core.specs.Link.{LinkState, begun, entry_of, holds_back}
 use Rattle.link_core.specs.declared.message.Entry.{Entry}
-use Rattle.link_core.specs.declared.message.Queued.{Queued}
 use Rattle.link_laws.proofs.Once.{wanted-append}
-use Rattle.link_laws.proofs.TiedLink.{TiedLink, all_push, begun_tied, timed_tied}
+use Rattle.link_laws.proofs.TiedLink.{all_push, begun_tied, timed_tied}
 use Rattle.link_laws.specs.Settles.{awaited_ids, wanted}
 use Rattle.link_laws.specs.Starts.{start_from}
-use Rattle.mux_conn.specs.Connection.{Work, acted, are_some, is_due as is_renewal_due, is_ready, with_link}
-use Rattle.mux_conn.specs.Renewals.{asked_next, renewal_act, renewal_asked, renewal_id, renewal_moved, renewal_queued, renewal_timed, renewal_told, renewed, renewing, told_next}
+use Rattle.mux_conn.specs.Connection.{Work, are_some, is_due as is_renewal_due, is_ready}
+use Rattle.mux_conn.specs.Renewals.{asked_next, renewal_asked, renewal_id, renewal_moved, renewal_queued, renewal_timed, renewal_told, renewed, renewing, told_next}
 use Rattle.mux_conn.specs.Requests.{name_at}
 use Rattle.mux_conn.specs.declared.act.LinkAct.TheVariants as act
 use Rattle.mux_conn.specs.declared.life.Life.{Life}
@@ -41,7 +40,7 @@ use Rattle.session_laws.proofs.Going.{HasRenewed, applied_up, none_ends_kept, no
 use Rattle.session_laws.proofs.InLine.{kept_ids}
 use Rattle.session_laws.proofs.Kept.{mine_noted, others_kept, tied_by}
 use Rattle.session_laws.proofs.Names.{get_more}
-use Rattle.session_laws.proofs.Numbers.{IsIn, Rising, in_left, in_right, requests_behind, requests_in, requests_in-append}
+use Rattle.session_laws.proofs.Numbers.{IsIn, Rising, in_left, requests_behind, requests_in, requests_in-append}
 use Rattle.session_laws.proofs.Renewals.{auth_renewed, asked_renewed, down_renewed_due, due_first, due_is, some_wait, timed_renewed}
 use Rattle.session_laws.proofs.SetUp.{set_up_begins, setups_begins}
 use Rattle.session_laws.proofs.Settle.{Holds, book_of_more, renewal_tied, seen, sound_act, trace_of_acts}

@@ -36,7 +36,7 @@ use Rattle.legal_trace.proofs.Setups.{count_more}
 use Rattle.session_laws.proofs.SetUp.{set_up_begins, setups_begins}
 use Rattle.mux_conn.specs.Renewals.{renewal_id}
 use Rattle.session_laws.proofs.Renewals.{begins_renewed}
-use Rattle.session_laws.proofs.Tied.{AreQueued, Inner, IsEntry, IsQueued, IsRequest, Tied, TiedLines, TiedTries, TiedWaits, link_in, owner_of, owners_each, owners_of, queue_ids, setup_owners, shown_wait, numbers_kept}
+use Rattle.session_laws.proofs.Tied.{AreQueued, Inner, IsEntry, IsQueued, IsRequest, Tied, TiedLines, TiedTries, TiedWaits, owner_of, owners_each, owners_of, queue_ids, setup_owners, shown_wait, numbers_kept}
 
 -- the action that its start shows
 abbrev pub start_action : Inner → LinkState → Queued → Action
