@@ -1,5 +1,5 @@
 -- A connection does the same where one request's outcome is looked away from, once its message has left the queue.
-use Rattle.std.proofs.Common.{◌≡◌, ◌≢◌, ℕ, ◌-◌, ◌==◌, ◌&&◌, Bool, true, false, List, [], ◌∷◌, ◌++◌, if◌then◌else◌, refl, sym, ap, ◌∙◌, append_assoc, Option, Some, arith}
+use Rattle.std.proofs.Common.{◌≡◌, ◌≢◌, ℕ, ◌==◌, ◌&&◌, Bool, true, false, List, [], ◌∷◌, ◌++◌, if◌then◌else◌, refl, sym, ap, ◌∙◌, append_assoc, Option, Some, arith}
 use Rattle.std.proofs.lemmas.List.{append-nil}
 use Rattle.containers.proofs.Choices.{by_test, chosen, either, either_by, taken_if, left_if, eq_from, ne_from, eq_test, ne_test}
 use Rattle.redis_error.specs.declared.fault_kind.FaultKind.TheVariants as kinds
@@ -37,7 +37,6 @@ use Rattle.mux_conn.specs.Connection.{Work, acted, at_life, with_link, is_ready}
 use Rattle.mux_conn.specs.Requests.{is_open, is_open_at, name_at, permits_at, with_permits, given_back, closed, answered}
 use Rattle.mux_conn.specs.Effects.{settled_one, settled_each, failed_each, nobody_waits, waiting_failed, pushed, told_each, cut_short, all_answered, ended, parted, heard_in, opening_failed, authorized_at, connected_at, unauthorized_at, refused_at, overdue_at, taken_at, failed_at, broken_at, read_to, read_at, shut_at, applied}
 use Rattle.mux_conn.specs.Renewals.{renewing, with_renewal, expecting, expected, takes_more, late_for, is_unanswered, is_done, replied, renewal_id}
-use Rattle.mux_conn.specs.Passes.{admitted}
 use Rattle.cancel_laws.specs.ButFor.{hushed_each, hushed_link, hushed_life}
 use Rattle.cancel_laws.proofs.Requests.{names, name_stays, progress_twice, progress_apart, permits_other, permits_own, own_closed, closed_set, test_other}
 use Rattle.cancel_laws.proofs.Names.{IsOwn, own_name, other_name}

@@ -10,8 +10,6 @@ use Rattle.driver_model.specs.declared.action.WaitKind.{WaitKind}
 use Rattle.driver_model.specs.declared.action.WaitKind.TheVariants as wait
 use Rattle.driver_model.specs.declared.outcome.Outcome.TheVariants as outcome
 use Rattle.driver_model.specs.declared.outcome.Shape.{Shape}
-use Rattle.driver_model.specs.News.{renewed}
-use Rattle.driver_model.specs.News.{came}
 use Rattle.link_core.specs.declared.message.Started.{Started}
 use Rattle.link_core.specs.Link.{LinkState, enqueued, begun, start_of, holds_back, started_all, offered_of}
 use Rattle.link_core.specs.Outbox.{can_offer}

@@ -80,7 +80,7 @@ pub record IsIdle (c : MultiplexedConnection) : Type 0 where
 
 -- how a turn comes to that
 --
--- so it is on a connection's link
+-- all messages of a connection have started that may
 abbrev Through : MultiplexedConnection → Type 0
 Through c = IsStartedOn c.renewal c.life
 

@@ -1,5 +1,5 @@
 -- A session whose event has had its own effect, while requests are moved.
-use Rattle.std.proofs.Common.{slice_get, suc, zero, ◌+◌, ◌≤◌, ◌≢◌, List, None, Option, Some, [], ap, arith, false, inl, inr, length, refl, subst, sym, true, ℕ, ◌++◌, ◌<◌, ◌∙◌, ◌∷◌, ◌≡◌, ◌⊎◌}
+use Rattle.std.proofs.Common.{◌+◌, ◌≤◌, List, None, Option, Some, [], ap, arith, false, inl, inr, length, refl, subst, sym, true, ℕ, ◌++◌, ◌<◌, ◌∙◌, ◌∷◌, ◌≡◌, ◌⊎◌}
 use Rattle.std.specs.Prelude.{Bool, if◌then◌else◌, is_some, ◌==◌}
 use Rattle.containers.proofs.Choices.{by_test, chosen, eq_from, left_if, ne_from, not_both}
 use Rattle.redis_error.specs.declared.redis_error.RedisError.{RedisError}
@@ -85,14 +85,14 @@ ready_not_setting life link with_user r e = not_both (is_ready life) (ap is_read
 -- new credentials
 --
 -- so as many were to be told as were
-undue_asked : (l : Ledger) → renewal_due l ≡ None → renewals_asked l ≡ renewal_count l.starts
+pub undue_asked : (l : Ledger) → renewal_due l ≡ None → renewals_asked l ≡ renewal_count l.starts
 undue_asked l none =
     let same : renewal_count l.starts + 0 ≡ renewal_count l.starts = omega arith in
     ap (λ (x : Option Credentials). renewal_count l.starts + (if is_some x then 1 else 0)) none ∙ same
 
 -- all new credentials have their timers that were to be told so far
-renewals_timed : (b : Book) (t : Inner) → Tied b t → HasRenewed t.renewal t.life → RenewalsAreTimed b
-renewals_timed b t h renewed m some = by_test (m == t.link) _
+pub renewals_timed : (b : Book) (t : Inner) → Tied b t → ((link : LinkState) → t.life ≡ Ready link → is_renewal_due t.renewal ≡ true → t.renewal.pending ≡ true) → RenewalsAreTimed b
+renewals_timed b t h asked m some = by_test (m == t.link) _
     (λ same. subst (λ n. renewals_asked (b.link n) ≤ (b.link n).creds.timed) (sym (eq_from m t.link same)) (by_life t.life refl))
     (λ other.
     let u = h.others m (ne_from m t.link other) in
@@ -105,7 +105,7 @@ renewals_timed b t h renewed m some = by_test (m == t.link) _
 
     by_within : (within : Option ℕ) → t.renewal.within ≡ within → AreRenewed l t.renewal → l.up ≡ true → (link : LinkState) → t.life ≡ Ready link → renewals_asked l ≤ l.creds.timed
     by_within None e r up link life = absurd (some (h.numbers.within ∙ e))
-    by_within (Some ms) e r up link life = all_timed l t.renewal ms up r e (λ due. (renewed link life due).0)
+    by_within (Some ms) e r up link life = all_timed l t.renewal ms up r e (asked link life)
 
     by_life : (life : Life) → t.life ≡ life → renewals_asked l ≤ l.creds.timed
     by_life Dialing e =
@@ -155,7 +155,7 @@ pub begun_up : (b : Book) (t : Inner) → Tied b t → IsRunning t → IsToldIn 
 begun_up b t h r told ended renewed = record {
   applied = applied_up b t h r.settled told (ready_alive t.life r.up) ended;
   setups = setups_started b t h (λ link with_user e. absurd (ready_not_setting t.life link with_user r.up e));
-  timed = renewals_timed b t h renewed;
+  timed = renewals_timed b t h (λ link e due. (renewed link e due).0);
   renewed = renewals_started b t h (λ link e. ap (λ (x : Life). (link_in x).boundary) (sym e) ∙ r.fit.bound_is) renewed;
 }
 
@@ -310,7 +310,7 @@ is_moved b t h none told alone ends fit nobody held full stuck gone setup_fit se
     setups = setups_started b t h (λ link with_user e. setting_done b t link with_user h e (setup_fit link with_user e) (setup_held link with_user e))
 
     timed : RenewalsAreTimed b
-    timed = renewals_timed b t h renewed
+    timed = renewals_timed b t h (λ link e due. (renewed link e due).0)
 
     told_all : RenewalsAreStarted b
     told_all = renewals_started b t h (λ link e. (fit link e).bound_is) renewed

@@ -43,7 +43,7 @@ use Rattle.session_laws.proofs.Tied.{Inner, inner, no_link, link_in, queue_ids, 
 use Rattle.session_laws.proofs.States.{Between, HasApplied}
 use Rattle.session_laws.proofs.Behind.{open_untold}
 use Rattle.session_laws.proofs.Names.{name_of_some, open_within, same_name, request_not}
-use Rattle.session_laws.proofs.InLine.{row_ids, chosen_in, kept_ids, line_of, open_in_line, wanted_in}
+use Rattle.session_laws.proofs.InLine.{row_ids, chosen_in, kept_ids, line_of, open_in_line}
 use Rattle.session_laws.proofs.Owes.{answered_closed, in_time, line_unowed, lives, none_open, not_empty, request_story, row_in_line}
 use Rattle.session_laws.proofs.Permits.{IsHolding, permits_same}
 use Rattle.session_laws.proofs.Kept.{one_changed, packed_same, queued_same, tied_by, tries_same}
@@ -405,7 +405,7 @@ late_answered before c started word n p h good is o =
     let late = ap (λ (x : Book). (x.story m).overdue) book_is ∙ fired_overdue b0 c started word n p h.sound.tied is o in
     let owes = late_owed b m r.in_time r.spoken r.some late in
     let was_asked = (request_story b0 (inner c started) p h.sound.tied l).open_is ∙ o in
-    let apart = late_apart b0 (inner c started) conn.life p h.sound.tied refl alive was_asked in
+    let apart = late_apart b0 (inner c started) conn.life p h.sound.tied refl alive (request_not b0 (inner c started) p h.sound.tied l) was_asked in
     let lived = lives (b.link f.single.link) b.created (cancelled_in conn.life p) holds.tied.life up in
     let may = may_answer b t p over holds.tied o owes (λ q less asked_q. others_unowed b t p q holds.tied refl up less asked_q) (none_before b t m holds.tied refl) (λ ended. absurd (not_both (is_over (b.link f.single.link)) (ap is_some lived) ended)) in
     let link = link_in (cancelled_in conn.life p) in

@@ -45,6 +45,7 @@ pub mod Further
 pub mod Submit
 pub mod Asked
 pub mod Effects
+pub mod Renews
 pub mod Passes
 pub mod Moved
 pub mod Write

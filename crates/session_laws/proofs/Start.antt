@@ -36,7 +36,7 @@ use Rattle.legal_trace.proofs.Setups.{count_more}
 use Rattle.session_laws.proofs.SetUp.{set_up_begins, setups_begins}
 use Rattle.mux_conn.specs.Renewals.{renewal_id}
 use Rattle.session_laws.proofs.Renewals.{begins_renewed}
-use Rattle.session_laws.proofs.Tied.{AreQueued, Inner, IsEntry, IsQueued, IsRequest, Tied, TiedLines, TiedTries, TiedWaits, link_in, owner_of, owners_each, owners_of, queue_ids, setup_owners, shown_wait, numbers_kept}
+use Rattle.session_laws.proofs.Tied.{AreQueued, Inner, IsEntry, IsQueued, IsRequest, Tied, TiedLines, TiedTries, TiedWaits, owner_of, owners_each, owners_of, queue_ids, setup_owners, shown_wait, numbers_kept}
 
 -- the action that its start shows
 abbrev pub start_action : Inner → LinkState → Queued → Action
@@ -110,12 +110,12 @@ owners-append [] ys = refl
 owners-append (x ∷ xs) ys = ap (λ os. x.owner ∷ os) (owners-append xs ys)
 
 -- the owners of requests, and of others
-owners_each-append : (requests : List Request) (xs ys : List ℕ) → owners_each requests (xs ++ ys) ≡ owners_each requests xs ++ owners_each requests ys
+pub owners_each-append : (requests : List Request) (xs ys : List ℕ) → owners_each requests (xs ++ ys) ≡ owners_each requests xs ++ owners_each requests ys
 owners_each-append requests [] ys = refl
 owners_each-append requests (x ∷ xs) ys = ap (λ os. owner_of requests x ∷ os) (owners_each-append requests xs ys)
 
 -- and so behind setups
-setup_owners-append : (n : ℕ) (xs ys : List Owner) → setup_owners n xs ++ ys ≡ setup_owners n (xs ++ ys)
+pub setup_owners-append : (n : ℕ) (xs ys : List Owner) → setup_owners n xs ++ ys ≡ setup_owners n (xs ++ ys)
 setup_owners-append zero xs ys = refl
 setup_owners-append (suc n) xs ys = ap (λ os. owner.Setup ∷ os) (setup_owners-append n xs ys)
 

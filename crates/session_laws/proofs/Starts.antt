@@ -56,7 +56,7 @@ start_may b t link q qs fit seats free h ended renewed =
     }
 
 -- the start of a request's message ends no link
-begins_ends_none : (l : Ledger) (s : Start) → l.up ≡ true → is_of_setup s.owner ≡ false → IsSetUp l → ending l ≡ None → ending (noted l (begins s)) ≡ None
+pub begins_ends_none : (l : Ledger) (s : Start) → l.up ≡ true → is_of_setup s.owner ≡ false → IsSetUp l → ending l ≡ None → ending (noted l (begins s)) ≡ None
 begins_ends_none l s up other h e = ends_where_set (noted l (begins s)) up (set_up_begins l s other h).well ∙ ending_up_same l (l.starts ++ s ∷ []) l.heard ∙ sym (ends_where_set l up h.well) ∙ e
 
 -- it starts
