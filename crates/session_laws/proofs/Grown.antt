@@ -26,8 +26,7 @@ use Rattle.driver_model.specs.News.{News, silence, connected, refused, overdue, 
 use Rattle.link_core.specs.declared.message.PushAt.{PushAt}
 use Rattle.link_core.specs.declared.message.Settled.{Settled}
 use Rattle.link_core.specs.declared.message.Started.{Started}
-use Rattle.link_core.specs.Ends.{faulted, closed_all}
-use Rattle.link_core.specs.Link.{LinkState, Settling, holds_back, started_all, piece_dealt, offered_of}
+use Rattle.link_core.specs.Link.{LinkState, Settling, closed_all, faulted, holds_back, started_all, piece_dealt, offered_of}
 use Rattle.link_core.specs.Outbox.{can_offer}
 use Rattle.mux_conn.specs.declared.act.LinkAct.TheVariants as act
 use Rattle.mux_conn.specs.declared.connection.MultiplexedConnection.{MultiplexedConnection}
