@@ -256,6 +256,10 @@ last_asked b t n conn life renewal h few (inr more) many = by_life t.life refl
     ready : is_ready t.life ≡ true
     ready = ap is_ready life ∙ more.0
 
+    at_most_one : (x : Bool) (asked n : ℕ) → asked ≡ n + (if x then 1 else 0) → asked ≤ n + 1
+    at_most_one true asked n e = omega arith
+    at_most_one false asked n e = omega arith
+
     told : (t.renewal.pending ≡ false) ⊎ (is_due t.renewal ≡ true)
     told = subst (λ (r : Renewal). (r.pending ≡ false) ⊎ (is_due r ≡ true)) (sym renewal) more.1
 
@@ -276,10 +280,6 @@ last_asked b t n conn life renewal h few (inr more) many = by_life t.life refl
               let most : t.renewal.asked ≤ renewal_count l.starts + 1 = at_most_one t.renewal.pending t.renewal.asked (renewal_count l.starts) count in
               omega (arith, many, all, most)
         ]
-
-    at_most_one : (x : Bool) (asked n : ℕ) → asked ≡ n + (if x then 1 else 0) → asked ≤ n + 1
-    at_most_one true asked n e = omega arith
-    at_most_one false asked n e = omega arith
 
 -- and the other way round
 book_asked : (b : Book) (t : Inner) → Tied b t → ((link : LinkState) → t.life ≡ Ready link → is_due t.renewal ≡ true → t.renewal.pending ≡ true) → 2 ^ 32 ≤ renewals_asked (b.link t.link) → 2 ^ 32 ≤ t.renewal.asked
