@@ -9,14 +9,13 @@ use Rattle.driver_model.specs.declared.action.Owner.TheVariants as owner
 use Rattle.driver_model.specs.declared.action.Purpose.{Purpose}
 use Rattle.driver_model.specs.declared.action.Purpose.TheVariants as purpose
 use Rattle.driver_model.specs.declared.action.SourceUse.{SourceUse}
-use Rattle.driver_model.specs.declared.action.SourceUse.TheVariants as source
 use Rattle.connection_info.specs.declared.address.RedisConnectionInfo.{RedisConnectionInfo}
 use Rattle.driver_model.specs.declared.action.Action.TheVariants as action
 use Rattle.driver_model.specs.declared.action.Cause.TheVariants as cause
 use Rattle.driver_model.specs.declared.event.EventKind.{EventKind}
 use Rattle.driver_model.specs.declared.event.EventKind.TheVariants as event
 use Rattle.driver_model.specs.declared.news.LinkFault.TheVariants as fault
-use Rattle.driver_model.specs.News.{News, silence, connected, took, came, failed, authorized, denied, deserted, shut, for_link, is_source_of, news_of, refused, overdue, of_timer, renewed, unrenewed, late, of_source}
+use Rattle.driver_model.specs.News.{News, silence, connected, took, came, failed, authorized, denied, deserted, shut, for_link, news_of, refused, overdue, of_timer, renewed, unrenewed, late, of_source}
 use Rattle.driver_model.specs.declared.outcome.Outcome.TheVariants as outcome
 use Rattle.link_core.specs.Link.{LinkState}
 use Rattle.link_laws.proofs.TiedLink.{TiedLink}

@@ -167,11 +167,11 @@ entries_answered requests p [] apart all = tt
 entries_answered requests p (e ∷ es) apart all = (
   elim all.0 [
     | inl r ↦ inl (record {
-        below = subst (λ n. e.id < n) (sym (length_with requests p progress.Closed 0)) r.below;
-        placed_at = λ t.
-            let other : p ≢ e.id = λ same. apart (in_left p (if e.awaited then e.id ∷ [] else []) (wanted es) (if_true (IsIn p) e.awaited (e.id ∷ []) [] t (inl (sym same)))) in
-            with_other is_placed requests p e.id progress.Closed 0 other ∙ r.placed_at t;
-      })
+      below = subst (λ n. e.id < n) (sym (length_with requests p progress.Closed 0)) r.below;
+      placed_at = λ t.
+          let other : p ≢ e.id = λ same. apart (in_left p (if e.awaited then e.id ∷ [] else []) (wanted es) (if_true (IsIn p) e.awaited (e.id ∷ []) [] t (inl (sym same)))) in
+          with_other is_placed requests p e.id progress.Closed 0 other ∙ r.placed_at t;
+    })
     | inr a ↦ inr a
   ],
   entries_answered requests p es (λ i. apart (in_right p (if e.awaited then e.id ∷ [] else []) (wanted es) i)) all.1,

@@ -1,6 +1,6 @@
 -- A link comes up: it is ready, or what is said to its server first is to start.
 use Rattle.std.specs.List.{AllByRecursion}
-use Rattle.std.proofs.Common.{inl, inr, length, ◌==◌, ◌≡◌, ℕ, ◌+◌, true, false, ◌&&◌, ◌||◌, List, [], ◌∷◌, ◌++◌, Option, None, refl, sym, ap, ◌∙◌, subst, arith, ◌≢◌, Some, Bool, if◌then◌else◌, not, suc}
+use Rattle.std.proofs.Common.{inl, inr, length, ◌==◌, ◌≡◌, ℕ, ◌+◌, true, false, ◌&&◌, ◌||◌, List, [], ◌∷◌, ◌++◌, Option, None, refl, sym, ap, ◌∙◌, subst, arith, ◌≢◌, Some, Bool, if◌then◌else◌, not}
 use Rattle.containers.proofs.Choices.{chosen, left_if, not_both, taken_if}
 use Rattle.driver_model.specs.declared.action.Action.{Action}
 use Rattle.driver_model.specs.declared.action.Action.TheVariants as action
@@ -35,12 +35,11 @@ use Rattle.legal_trace.specs.Book.{Book, blank_book, book, entered, use_for, if_
 use Rattle.legal_trace.specs.Story.{Story}
 use Rattle.legal_trace.specs.Legal.{AllStand, MayBeCreated, is_heard, MayNeed}
 use Rattle.legal_trace.proofs.Setups.{ends_where_set, silent_is_set}
-use Rattle.session_laws.proofs.Tied.{AreSetups, AreQueued, HasCredentials, IsEntry, IsQueued, IsSettingUp, IsSetupDue, IsSetUp, Inner, Tied, TiedCreds, TiedLines, TiedPushes, TiedWaits, has_ended, inner, link_in, no_link, owner_of, queue_ids, shown_wait, waiting_ids, AreSought, AreUses, HasSaid, IsUnknown, TiedRenewal, sources_asked_in}
+use Rattle.session_laws.proofs.Tied.{AreSetups, AreQueued, HasCredentials, IsEntry, IsQueued, IsSettingUp, IsSetupDue, IsSetUp, Inner, Tied, TiedLines, TiedPushes, TiedWaits, has_ended, inner, link_in, no_link, owner_of, queue_ids, shown_wait, waiting_ids, AreSought, AreUses, HasSaid, sources_asked_in}
 use Rattle.session_laws.proofs.States.{Between, HasApplied, IsFit, IsFitIn}
 use Rattle.session_laws.proofs.Creds.{has_credentials, IsOfRenewals, down_sourced}
 use Rattle.session_laws.proofs.Said.{PushesOf, ending_setting, readied, setup_recredited, well_readied}
 use Rattle.session_laws.proofs.Entered.{all_stand-append, book_more, sound_more, book-append}
-use Rattle.session_laws.proofs.Owes.{none_owed}
 use Rattle.session_laws.proofs.Settle.{Tells, seen, trace_of_acts}
 use Rattle.session_laws.proofs.InLine.{kept_ids}
 use Rattle.session_laws.proofs.Numbers.{IsIn, Rising, rising_right, requests_in}
@@ -160,7 +159,7 @@ early_started l started (Ready link) unready alive h = cc
 early_started l started (Ended e) unready alive h = cc
 
 -- nor was a second source asked for
-early_sources : (c : Sourced) (life : Life) → is_ready life ≡ false → has_ended life ≡ false → AreSought c life → c.renews ≡ false
+pub early_sources : (c : Sourced) (life : Life) → is_ready life ≡ false → has_ended life ≡ false → AreSought c life → c.renews ≡ false
 early_sources c Dialing unready alive h = h.2
 early_sources c (Wanting link) unready alive h = h.3
 early_sources c (SettingUp link with_user) unready alive h = h.1
@@ -201,17 +200,17 @@ readied_comes b c started n info link untold more h0 fit no_fresh other early fa
         );
       };
       renewal_is = renewed_first (readied more l) conn.renewal (record {
-          over_is = none.over_is;
-          came = none.came;
-          waits = none.waits;
-          untimed = none.untimed;
-          unstarted = none.unstarted;
-          unasked = none.unasked;
-          unpending = none.unpending;
-          told = none.told;
-          kept = none.kept;
-          found = none.found;
-        });
+        over_is = none.over_is;
+        came = none.came;
+        waits = none.waits;
+        untimed = none.untimed;
+        unstarted = none.unstarted;
+        unasked = none.unasked;
+        unpending = none.unpending;
+        told = none.told;
+        kept = none.kept;
+        found = none.found;
+      });
       said = said;
       linked = λ z. said_tied (owner_of conn.requests) l link l.info (readied more l).creds l.heard made.tied;
       lines = bare_lines b.story conn.requests link conn.waiting conn.admitted started made.queue made.row (subst (λ (x : LinkState). TiedLines b.story conn.requests x conn.waiting conn.admitted [] started) early.bare h0.lines);

@@ -8,7 +8,6 @@ use Rattle.redis_error.specs.declared.redis_error.RedisError.TheVariants as erro
 use Rattle.driver_model.specs.declared.action.Action.{Action}
 use Rattle.driver_model.specs.declared.action.Action.TheVariants as action
 use Rattle.driver_model.specs.declared.action.Owner.{Owner}
-use Rattle.driver_model.specs.declared.action.SourceUse.{SourceUse}
 use Rattle.driver_model.specs.declared.action.SourceUse.TheVariants as source
 use Rattle.driver_model.specs.declared.action.WaitKind.{WaitKind}
 use Rattle.driver_model.specs.declared.action.WaitKind.TheVariants as wait

@@ -1,13 +1,12 @@
 -- Credentials of a link that come of a source: how far they have come, and that every source was asked for that is to be.
-use Rattle.std.proofs.Common.{◌≡◌, inl, inr, ℕ, ◌==◌, Bool, true, false, ◌&&◌, ◌||◌, not, List, [], ◌++◌, take, None, Some, refl, sym, ap, ◌∙◌, subst, ◌⊎◌}
-use Rattle.containers.proofs.Choices.{by_test, chosen, taken_if, left_if, eq_from, ne_from}
+use Rattle.std.proofs.Common.{◌≡◌, inl, inr, ℕ, Bool, true, false, ◌&&◌, ◌||◌, not, List, [], ◌++◌, take, None, Some, refl, sym, ap, ◌∙◌, subst, ◌⊎◌}
+use Rattle.containers.proofs.Choices.{by_test, chosen, taken_if, left_if}
 use Rattle.redis_error.specs.declared.redis_error.RedisError.TheVariants as error
 use Rattle.driver_model.specs.Setup.{says_nothing}
 use Rattle.driver_model.specs.News.{News, silence, connected, refused, overdue, took, came, failed, authorized, denied, deserted, shut, renewed, unrenewed, late}
 use Rattle.credentials.specs.Credentials.{Credentials}
 use Rattle.link_core.specs.Link.{LinkState}
-use Rattle.mux_conn.specs.declared.life.Life.{Life}
-use Rattle.mux_conn.specs.declared.life.Life.TheVariants.{Dialing, Wanting, SettingUp, Ready, Ended}
+use Rattle.mux_conn.specs.declared.life.Life.TheVariants.{Wanting}
 use Rattle.legal_trace.specs.Ledger.{Ledger, Sourced, Start, hears, noted, authorized_by, awaits_credentials, bytes_came, dials, is_over, lacks_credentials, refused_in, setup_after, setup_count, setup_result, setup_steps, source_due, is_renewal_open, is_set_up, lost_by, may_renew, renewed_by, unrenewed_by}
 use Rattle.legal_trace.proofs.Setups.{IsUndecided, setup_unsaid}
 use Rattle.session_laws.proofs.Tied.{AreSought, HasCredentials}

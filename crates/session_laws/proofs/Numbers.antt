@@ -1,6 +1,6 @@
 -- Numbers that rise.
-use Rattle.std.proofs.Common.{◌≡◌, ◌≢◌, ◌⊎◌, inl, inr, ℕ, suc, ◌+◌, ◌<◌, ◌≤◌, ◌==◌, Bool, true, false, if◌then◌else◌, List, [], ◌∷◌, ◌++◌, refl, sym, ap, ◌∙◌, subst, append_assoc, arith}
-use Rattle.containers.proofs.Choices.{by_test, chosen, if_true, if_false, left_if, taken_if, eq_from, ne_from, eq_test, ne_test}
+use Rattle.std.proofs.Common.{◌≡◌, ◌≢◌, ◌⊎◌, inl, inr, ℕ, suc, ◌+◌, ◌<◌, ◌≤◌, ◌==◌, Bool, true, false, if◌then◌else◌, List, [], ◌∷◌, ◌++◌, refl, sym, ap, ◌∙◌, subst, arith}
+use Rattle.containers.proofs.Choices.{by_test, chosen, if_false, left_if, taken_if, ne_from, eq_test, ne_test}
 use Rattle.mux_conn.specs.Renewals.{renewal_id}
 
 abbrev pub IsIn : ℕ → List ℕ → Type 0

@@ -44,7 +44,7 @@ use Rattle.session_laws.proofs.InLine.{kept_ids, IsInLine}
 use Rattle.session_laws.proofs.Owes.{in_line}
 use Rattle.session_laws.proofs.Settle.{seen, trace_of_acts, IsDue, Tells, replied_each, replied_keeps}
 use Rattle.session_laws.proofs.Close.{AreInTime, are_in_time, HasEnded, pending_due, ended_applied, parted_moved}
-use Rattle.session_laws.proofs.Announce.{turn_of, turned, IsNewsKind, announced_sound, first_book, heard_book, heard_is as turn_is, heard_tied, heard_tied_new}
+use Rattle.session_laws.proofs.Announce.{turn_of, turned, IsNewsKind, announced_sound, first_book, heard_book, heard_is as turn_is, heard_tied_new}
 use Rattle.session_laws.proofs.Heard.{heard_by, lives_as, none_ends, ended_quiet, dialing_quiet, book_kind, book_news}
 use Rattle.session_laws.proofs.End.{up_tied, fault_ends}
 use Rattle.session_laws.proofs.Took.{queue_waits}

@@ -314,7 +314,7 @@ setup_answers name l link piece (suc zero) x xs last sent alive tied is =
 setup_answers name l link piece (suc (suc k)) x xs last sent alive tied is = absurd (let few = last.few in omega arith)
 
 -- what has all its items has them still
-full_stays : (l : Ledger) (piece : List ℕ) (j : ℕ) → is_full l j ≡ true → is_full (has_heard l piece) j ≡ true
+pub full_stays : (l : Ledger) (piece : List ℕ) (j : ℕ) → is_full l j ≡ true → is_full (has_heard l piece) j ≡ true
 full_stays l piece j full =
     let all = (has_heard l piece).dealt in
     let more = take (reach l.starts l.dealt - length l.dealt) (items (l.rest ++ piece)) in

@@ -1,7 +1,7 @@
 -- New credentials of a link, by its ledger and by its connection.
-use Rattle.std.proofs.Common.{◌≡◌, ◌≢◌, ◌⊎◌, inl, inr, ℕ, zero, suc, ◌+◌, ◌<◌, ◌≤◌, ◌==◌, nat_le, Bool, true, false, ◌&&◌, ◌||◌, not, is_some, if◌then◌else◌, List, [], ◌∷◌, ◌++◌, length, take, drop, Option, Some, None, slice_get, refl, sym, ap, ◌∙◌, subst, arith}
-use Rattle.std.proofs.lemmas.List.{length_push, take_all, take-append-le}
-use Rattle.containers.proofs.Choices.{by_test, chosen, taken_if, left_if, not_both, not_le_test}
+use Rattle.std.proofs.Common.{◌≡◌, ◌≢◌, inl, inr, ℕ, zero, suc, ◌+◌, ◌<◌, ◌≤◌, nat_le, Bool, true, false, ◌&&◌, ◌||◌, not, is_some, if◌then◌else◌, List, [], ◌∷◌, ◌++◌, length, take, drop, Option, Some, None, slice_get, refl, sym, ap, ◌∙◌, subst, arith}
+use Rattle.std.proofs.lemmas.List.{length_push, take-append-le}
+use Rattle.containers.proofs.Choices.{by_test, chosen, taken_if, left_if, not_both}
 use Rattle.credentials.specs.Credentials.{Credentials}
 use Rattle.driver_model.specs.declared.action.Owner.TheVariants as owner
 use Rattle.driver_model.specs.declared.outcome.Shape.TheVariants.{Confirmation}
@@ -14,12 +14,12 @@ use Rattle.mux_conn.specs.Connection.{are_some, in_front, is_due, is_ready}
 use Rattle.mux_conn.specs.Renewals.{asked_next, told_next}
 use Rattle.legal_trace.specs.Ledger.{Ledger, Start, begins, cut, is_done, is_full, is_of_renewal, is_taken, last_renewal, noted, reach, renewal_count, renewal_due, renewals_asked, times, Sourced}
 use Rattle.legal_trace.specs.Steps.{renewals_in_line}
-use Rattle.legal_trace.proofs.Ledgers.{reach_more, takes_one}
-use Rattle.legal_trace.proofs.Renewals.{last_told, taken_begins}
+use Rattle.legal_trace.proofs.Renewals.{taken_begins}
 use Rattle.session_laws.proofs.Names.{get_more}
 use Rattle.containers.proofs.Places.{get_within}
 use Rattle.legal_trace.specs.Book.{Book}
 use Rattle.session_laws.proofs.Tied.{AreFullBefore, AreRenewed, Inner, Tied, TiedLife, IsLost, IsTold, NoneRenewed, TiedRenewal, timed_of, has_ended}
+use Rattle.session_laws.proofs.SetUp.{begun_open}
 
 -- what is told next
 --
@@ -320,7 +320,7 @@ pub last_is_within : (l : Ledger) (n : ℕ) → last_renewal l.starts 0 None ≡
 last_is_within l n e = let w = last_within l.starts 0 n None (λ m i. cc i) e in omega arith
 
 -- what is full stays so, and what isn't too
-full_begins : (l : Ledger) (s : Start) (k : ℕ) → k < length l.starts → is_full (noted l (begins s)) k ≡ is_full l k
+pub full_begins : (l : Ledger) (s : Start) (k : ℕ) → k < length l.starts → is_full (noted l (begins s)) k ≡ is_full l k
 full_begins l s k less = ap (λ (ts : List Start). nat_le (reach ts l.dealt) (length l.dealt)) (take-append-le (k + 1) l.starts (s ∷ []) (omega arith))
 
 -- and so does what it took
@@ -399,15 +399,6 @@ begins_renewed l r s other h =
       lost = λ x. lost_begins l s other (h.lost x);
     }
 
--- what has just started takes items
-just_open : (l : Ledger) (s : Start) → length l.dealt ≤ reach l.starts l.dealt → is_full (noted l (begins s)) (length l.starts) ≡ false
-just_open l s within =
-    let ss = l.starts ++ s ∷ [] in
-    let long = length_push l.starts s in
-    let all : take (length l.starts + 1) ss ≡ ss = take_all (length l.starts + 1) ss (omega arith) in
-    ap (λ (xs : List Start). nat_le (reach xs l.dealt) (length l.dealt)) all
-    ∙ not_le_test (reach ss l.dealt) (length l.dealt) (let more = reach_more l.starts s l.dealt in let one = takes_one s.shape in omega arith)
-
 -- those behind one more
 next_dropped : (cs : List Credentials) (n : ℕ) (c : Credentials) (more : List Credentials) → drop n cs ≡ c ∷ more → more ≡ drop (suc n) cs
 next_dropped [] zero c more e = cc
@@ -442,11 +433,11 @@ auth_renewed l r s c cs owned shaped within due pending waits h =
       ];
       answered = λ u. cc u;
       unanswered = λ u. record {
-          k = length l.starts;
-          last = last_auth l.starts s 0 None is ∙ ap Some (let e : 0 + length l.starts ≡ length l.starts = omega arith in e);
-          open_is = just_open l s within;
-          earlier = before_begins l s (length l.starts) (omega arith) (h.answered well.0);
-        };
+        k = length l.starts;
+        last = last_auth l.starts s 0 None is ∙ ap Some (let e : 0 + length l.starts ≡ length l.starts = omega arith in e);
+        open_is = begun_open l s (length l.starts) refl within;
+        earlier = before_begins l s (length l.starts) (omega arith) (h.answered well.0);
+      };
       kept = h.kept;
       taken = λ k u. cc u;
       lost = λ x. absurd (not_both r.lost well.1 x);

@@ -1,6 +1,6 @@
 -- News of new credentials: some came, no more come, or some are not answered in time.
-use Rattle.std.proofs.Common.{◌≡◌, ◌≢◌, ◌⊎◌, inl, inr, ℕ, suc, ◌+◌, ◌<◌, ◌≤◌, ◌==◌, Bool, true, false, ◌&&◌, ◌||◌, not, is_some, if◌then◌else◌, List, [], ◌∷◌, ◌++◌, length, drop, Option, Some, None, refl, sym, ap, ◌∙◌, subst, arith, length-append}
-use Rattle.std.proofs.lemmas.List.{drop-append-le, append-nil}
+use Rattle.std.proofs.Common.{◌≡◌, ◌⊎◌, inl, inr, ℕ, suc, ◌+◌, ◌≤◌, ◌==◌, Bool, true, false, ◌&&◌, ◌||◌, not, is_some, if◌then◌else◌, List, [], ◌∷◌, ◌++◌, length, Option, Some, None, refl, sym, ap, ◌∙◌, subst, arith, length-append}
+use Rattle.std.proofs.lemmas.List.{drop-append-le}
 use Rattle.containers.proofs.Choices.{by_test, chosen, taken_if, left_if, not_both, eq_from, eq_test, ne_from, ne_test, both_left}
 use Rattle.credentials.specs.Credentials.{Credentials}
 use Rattle.redis_error.specs.declared.redis_error.RedisError.{RedisError}
@@ -15,23 +15,23 @@ use Rattle.mux_conn.specs.declared.connection.MultiplexedConnection.{Multiplexed
 use Rattle.mux_conn.specs.declared.life.Life.{Life}
 use Rattle.mux_conn.specs.declared.life.Life.TheVariants.{Dialing, Wanting, SettingUp, Ready, Ended}
 use Rattle.mux_conn.specs.declared.renewal.Renewal.{Renewal}
-use Rattle.mux_conn.specs.Connection.{Work, are_some, is_due, is_ready}
+use Rattle.mux_conn.specs.Connection.{are_some, is_due, is_ready}
 use Rattle.mux_conn.specs.Renewals.{expected, expecting, is_unanswered, late_for, none_follow, takes_more, with_renewal}
-use Rattle.mux_conn.specs.Effects.{applied}
 use Rattle.shared_session.specs.declared.core_state.Core.{Core}
 use Rattle.shared_session.specs.Turn.{is_bad, numbered, with_work}
-use Rattle.legal_trace.specs.Ledger.{Ledger, Sourced, cut, ending, ending_up, is_done, is_full, is_full_last, is_ready as is_ready_link, is_renewal_open, is_set_up, is_taken, last_renewal, lost_by, may_renew, renewal_count, renewal_due, renewed_by, unrenewed_by}
+use Rattle.legal_trace.specs.Ledger.{Ledger, Sourced, cut, ending, ending_up, is_done, is_full, is_full_last, is_renewal_open, is_set_up, is_taken, last_renewal, lost_by, may_renew, renewal_count, renewal_due, renewed_by, unrenewed_by}
 use Rattle.legal_trace.specs.Book.{Book, book}
 use Rattle.legal_trace.proofs.Setups.{ends_where_set}
-use Rattle.session_laws.proofs.Announce.{IsNewsKind, heard_book, heard_starts, heard_tied_new, heard_is, turn_of, turned, announced_sound, first_book, holds_first}
+use Rattle.session_laws.proofs.Announce.{IsNewsKind, heard_book, heard_tied_new, heard_is, turn_of, turned, announced_sound, first_book, holds_first}
 use Rattle.session_laws.proofs.Connect.{passed_over}
 use Rattle.session_laws.proofs.End.{up_tied}
 use Rattle.session_laws.proofs.Heard.{heard_by, book_kind, book_news, ended_quiet, none_ends, still_none}
-use Rattle.session_laws.proofs.Renewals.{due_is, due_well, none_renewed_due}
+use Rattle.session_laws.proofs.Renewals.{due_is, due_well, none_renewed_due, renewed_alike}
 use Rattle.session_laws.proofs.Said.{recredited, setup_on, setup_recredited, well_on, well_recredited, mild_end}
 use Rattle.session_laws.proofs.Settle.{renewal_over, seen, trace_of_acts}
-use Rattle.session_laws.proofs.States.{Between, HasApplied, IsFitIn, trace_with}
-use Rattle.session_laws.proofs.Tied.{AreRenewed, AreSought, IsLost, IsTold, NoneRenewed, Tied, TiedCreds, TiedLife, TiedRenewal, TiedSetup, carried, has_ended, inner, sources_asked_in, whole_link}
+use Rattle.session_laws.proofs.States.{Between, HasApplied, trace_with}
+use Rattle.session_laws.proofs.Tied.{AreRenewed, AreSought, NoneRenewed, Tied, TiedCreds, TiedLife, TiedRenewal, TiedSetup, carried, has_ended, inner, sources_asked_in, whole_link}
+use Rattle.session_laws.proofs.ComeUp.{early_sources}
 
 -- a link that has ended
 --
@@ -100,20 +100,13 @@ ready_renewal before c started word kind n link renewals over lost r h good k is
 --
 -- no link has one before it is set up
 early_second : (c : Sourced) (life : Life) (n : ℕ) → is_ready life ≡ false → has_ended life ≡ false → AreSought c life → n ≡ sources_asked_in c → 2 ≤ n → ⊥
-early_second c life n unready alive h count two = few_sources c.asked c.renews n (once life unready alive h) count two
+early_second c life n unready alive h count two = few_sources c.asked c.renews n (early_sources c life unready alive h) count two
   where
-    once : (life : Life) → is_ready life ≡ false → has_ended life ≡ false → AreSought c life → c.renews ≡ false
-    once Dialing unready alive h = h.2
-    once (Wanting link) unready alive h = h.3
-    once (SettingUp link with_user) unready alive h = h.1
-    once (Ready link) unready alive h = cc
-    once (Ended e) unready alive h = cc
-
     few_sources : (a b : Bool) (n : ℕ) → b ≡ false → n ≡ (if a then 1 else 0) + (if b then 1 else 0) → 2 ≤ n → ⊥
-    few_sources true true n none_so count two = cc
-    few_sources false true n none_so count two = cc
-    few_sources true false n none_so count two = omega arith
-    few_sources false false n none_so count two = omega arith
+    few_sources true true n once count two = cc
+    few_sources false true n once count two = cc
+    few_sources true false n once count two = omega arith
+    few_sources false false n once count two = omega arith
 
 -- where there is one, it renews
 renews_so : (c : Sourced) (n : ℕ) → n ≡ sources_asked_in c → 2 ≤ n → c.renews ≡ true
@@ -148,23 +141,6 @@ expects l r c n h = record {
   lost = h.lost;
 }
 
--- where nothing of them changes
-told_still : (l : Ledger) (r : Renewal) (n : News) → AreRenewed l r → AreRenewed (record l { heard = n }) r
-told_still l r n h = record {
-  over_is = h.over_is;
-  waits = h.waits;
-  some = h.some;
-  asked_is = h.asked_is;
-  timed_is = h.timed_is;
-  next = h.next;
-  shaped = h.shaped;
-  answered = h.answered;
-  unanswered = λ u. let s = h.unanswered u in record { k = s.k; last = s.last; open_is = s.open_is; earlier = s.earlier };
-  kept = h.kept;
-  taken = h.taken;
-  lost = h.lost;
-}
-
 -- a link that is ready takes more as its connection does
 may_is : (l : Ledger) (r : Renewal) → l.up ≡ true → is_set_up l ≡ true → l.creds.renews ≡ r.wanted → l.creds.over ≡ r.over → may_renew l ≡ takes_more r
 may_is l r up well renews over = λ i. up i && well i && renews i && not (over i)
@@ -188,10 +164,10 @@ renewed_applied before c started word kind a h good k is two = by_life c.single.
 
     -- where it isn't ready
     unready : (x : Life) → conn.life ≡ x → is_ready x ≡ false → done conn → done (expecting conn a)
-    unready x e none_so d = subst done (sym (left_if (is_ready conn.life && takes_more conn.renewal) (with_renewal conn (expected conn.renewal a)) conn (ap (λ y. y && takes_more conn.renewal) (ap is_ready e ∙ none_so)))) d
+    unready x e unset d = subst done (sym (left_if (is_ready conn.life && takes_more conn.renewal) (with_renewal conn (expected conn.renewal a)) conn (ap (λ y. y && takes_more conn.renewal) (ap is_ready e ∙ unset)))) d
 
     early : (x : Life) → conn.life ≡ x → is_ready x ≡ false → has_ended x ≡ false → done (expecting conn a)
-    early x e none_so alive = absurd (early_second l.creds conn.life (length c.sources) (ap is_ready e ∙ none_so) (ap has_ended e ∙ alive) h.sound.tied.creds.sought h.sound.tied.count two)
+    early x e unset alive = absurd (early_second l.creds conn.life (length c.sources) (ap is_ready e ∙ unset) (ap has_ended e ∙ alive) h.sound.tied.creds.sought h.sound.tied.count two)
 
     ready : (link : LinkState) → conn.life ≡ Ready link → done (expecting conn a)
     ready link e =
@@ -206,7 +182,7 @@ renewed_applied before c started word kind a h good k is two = by_life c.single.
         ready_renewal before c started word kind (renewed a) link (l.creds.renewals ++ a ∷ []) l.creds.over l.creds.lost now h good k is e refl refl (ap (λ (x : Ledger). record x { heard = renewed a }) (taken_if (may_renew l) (renewed_by l a) l so)) (expects l conn.renewal a (renewed a) tied) refl)
         (λ f.
         let so : may_renew l ≡ false = may ∙ ap (λ y. y && takes_more conn.renewal) (sym (ap is_ready e)) ∙ f in
-        ready_renewal before c started word kind (renewed a) link l.creds.renewals l.creds.over l.creds.lost conn.renewal h good k is e refl refl (ap (λ (x : Ledger). record x { heard = renewed a }) (left_if (may_renew l) (renewed_by l a) l so)) (told_still l conn.renewal (renewed a) tied) refl)
+        ready_renewal before c started word kind (renewed a) link l.creds.renewals l.creds.over l.creds.lost conn.renewal h good k is e refl refl (ap (λ (x : Ledger). record x { heard = renewed a }) (left_if (may_renew l) (renewed_by l a) l so)) (renewed_alike l (record l { heard = renewed a }) conn.renewal refl refl refl tied) refl)
 
     by_life : (x : Life) → conn.life ≡ x → done (expecting conn a)
     by_life Dialing e = early Dialing e refl refl
@@ -252,7 +228,7 @@ unrenewed_applied before c started word kind h good k is two = by_life c.single.
     done x = HasApplied (before ++ turn_of c word kind ∷ []) (with_work (record { core = turned c kind; acts = [] }) (record { conn = x; acts = [] })) started
 
     early : (x : Life) → conn.life ≡ x → is_ready x ≡ false → has_ended x ≡ false → done (none_follow conn)
-    early x e none_so alive = absurd (early_second l.creds conn.life (length c.sources) (ap is_ready e ∙ none_so) (ap has_ended e ∙ alive) h.sound.tied.creds.sought h.sound.tied.count two)
+    early x e unset alive = absurd (early_second l.creds conn.life (length c.sources) (ap is_ready e ∙ unset) (ap has_ended e ∙ alive) h.sound.tied.creds.sought h.sound.tied.count two)
 
     by_life : (x : Life) → conn.life ≡ x → done (none_follow conn)
     by_life Dialing e = early Dialing e refl refl
@@ -387,7 +363,7 @@ renewal_late before c started word kind m h good k is = by_life c.single.connect
         refl)
         (λ f.
         ready_renewal before c started word kind (late m) link l.creds.renewals l.creds.over l.creds.lost conn.renewal h good k is e refl refl (ap (λ (x : Ledger). record x { heard = late m }) (left_if open_is (lost_by l) l (ap (λ y. l.up && y) (same ∙ f) ∙ none_of l.up)))
-        (told_still l conn.renewal (late m) tied) refl))
+        (renewed_alike l (record l { heard = late m }) conn.renewal refl refl refl tied) refl))
 
     by_life : (x : Life) → conn.life ≡ x → done (late_for conn m)
     by_life Dialing e = early (subst (λ (x : Life). TiedRenewal l conn.renewal x) e h.sound.tied.renewal)

@@ -2,7 +2,7 @@
 use Rattle.std.proofs.Common.{◌≡◌, ◌≢◌, ◌⊎◌, inl, inr, ℕ, zero, suc, ◌+◌, ◌-◌, ◌<◌, ◌≤◌, ◌==◌, nat_le, Bool, true, false, ◌&&◌, ◌||◌, not, if◌then◌else◌, List, [], ◌∷◌, ◌++◌, length, take, drop, Option, Some, None, slice_get, refl, sym, ap, ◌∙◌, subst, arith, length-append}
 use Rattle.std.specs.List.{AllByRecursion}
 use Rattle.std.proofs.lemmas.List.{append-nil}
-use Rattle.containers.proofs.Choices.{by_test, chosen, taken_if, left_if, not_both, both_left, both_right, le_from, not_le_from, not_le_test, eq_from, eq_test, ne_from}
+use Rattle.containers.proofs.Choices.{by_test, chosen, taken_if, left_if, not_both, not_le_from, not_le_test, eq_from, eq_test, ne_from}
 use Rattle.containers.proofs.Places.{get_within}
 use Rattle.resp_value.specs.Data.{Data}
 use Rattle.resp_read.specs.Items.{items}
@@ -19,10 +19,10 @@ use Rattle.link_core.specs.declared.message.Settled.{Settled}
 use Rattle.link_core.specs.Dealing.{Dealing, dealt, dealt_each}
 use Rattle.link_core.specs.Link.{LinkState}
 use Rattle.link_laws.specs.Settles.{settled_ids, wanted}
-use Rattle.link_laws.proofs.Dealt.{IsCutOf, IsDealt, all_append, cut_more, cut_within, each_dealt, items_with, one_wanted, taken_item}
+use Rattle.link_laws.proofs.Dealt.{IsDealt, all_append, cut_more, cut_within, each_dealt, items_with, one_wanted, taken_item}
 use Rattle.link_laws.proofs.Once.{items_keep}
 use Rattle.link_laws.proofs.Pushes.{IsNew, item_settles}
-use Rattle.link_laws.proofs.Started.{IsInRow, full_or_open, row_open}
+use Rattle.link_laws.proofs.Started.{full_or_open, row_open}
 use Rattle.link_laws.proofs.TiedLink.{TiedLink, deals, has_heard, has_read, read_tied}
 use Rattle.mux_conn.specs.declared.renewal.Renewal.{Renewal}
 use Rattle.mux_conn.specs.declared.request.Request.{Request}
@@ -39,6 +39,7 @@ use Rattle.session_laws.proofs.Numbers.{IsIn, in_left, in_right, in_either}
 use Rattle.session_laws.proofs.Owes.{wanted_entry}
 use Rattle.session_laws.proofs.Settle.{replied_each}
 use Rattle.session_laws.proofs.Tied.{AreFullBefore, AreRenewed, IsEntry, IsLost, IsTold, owner_of}
+use Rattle.session_laws.proofs.ReadSetup.{full_stays as full_still}
 
 -- what is settled was not full before
 --
@@ -145,11 +146,7 @@ auth_name requests p is = ap is_of_renewal (taken_if (p == renewal_id) owner.Aut
 
 -- what bytes leave
 --
--- what is full is so still
-full_after : (l : Ledger) (piece : List ℕ) (k : ℕ) (s : Start) → slice_get l.starts k ≡ Some s → is_full l k ≡ true → is_full (has_heard l piece) k ≡ true
-full_after l piece k s at full = (full_stays l (left_over (l.rest ++ piece)) (take (reach l.starts l.dealt - length l.dealt) (items (l.rest ++ piece))) k s at full).0
-
--- and what it took
+-- what a start that is full took
 cut_after : (l : Ledger) (piece : List ℕ) (k : ℕ) (s : Start) → slice_get l.starts k ≡ Some s → s.shape ≡ Confirmation → is_full l k ≡ true → cut (has_heard l piece) k Confirmation ≡ cut l k Confirmation
 cut_after l piece k s at shaped full =
     let rest = left_over (l.rest ++ piece) in
@@ -158,14 +155,14 @@ cut_after l piece k s at shaped full =
 
 -- all before a start
 before_after : (l : Ledger) (piece : List ℕ) (k : ℕ) → AreFullBefore l k → AreFullBefore (has_heard l piece) k
-before_after l piece k h j s less at is = full_after l piece j s at (h j s less at is)
+before_after l piece k h j s less at is = full_still l piece j (h j s less at is)
 
 -- those that were lost are
 lost_after : (l : Ledger) (piece : List ℕ) → ((k : ℕ) (s : Start) → slice_get l.starts k ≡ Some s → is_of_renewal s.owner ≡ true → s.shape ≡ Confirmation) → IsLost l → IsLost (has_heard l piece)
 lost_after l piece shaped (inl lost) = inl lost
 lost_after l piece shaped (inr (k, last, full, undone)) =
     let m = last_start l k last in
-    inr (k, last, full_after l piece k m.0 m.1 full, ap (λ ds. is_taken_so (verdict_of Confirmation ds)) (cut_after l piece k m.0 m.1 (shaped k m.0 m.1 m.2) full) ∙ undone)
+    inr (k, last, full_still l piece k full, ap (λ ds. is_taken_so (verdict_of Confirmation ds)) (cut_after l piece k m.0 m.1 (shaped k m.0 m.1 m.2) full) ∙ undone)
 
 -- and those that were taken
 taken_after : (l : Ledger) (piece : List ℕ) (o : Option ℕ) → last_renewal l.starts 0 None ≡ o → ((k : ℕ) (s : Start) → slice_get l.starts k ≡ Some s → is_of_renewal s.owner ≡ true → s.shape ≡ Confirmation) → is_taken l o ≡ true → is_taken (has_heard l piece) o ≡ true
@@ -287,8 +284,8 @@ all_say : (requests : List Request) (l : Ledger) (piece : List ℕ) (out : List 
 all_say requests l piece [] k shaped only all = tt
 all_say requests l piece (s ∷ out) k shaped only all = (
   (λ is.
-  let h = auth_replied requests l piece s shaped is all.0 in
-  h.says ∙ ap (λ n. is_taken_so (verdict_of Confirmation (cut (has_heard l piece) n Confirmation))) (only s h)),
+      let h = auth_replied requests l piece s shaped is all.0 in
+      h.says ∙ ap (λ n. is_taken_so (verdict_of Confirmation (cut (has_heard l piece) n Confirmation))) (only s h)),
   all_say requests l piece out k shaped only all.1,
 )
 
@@ -339,7 +336,7 @@ read_renewed requests l link piece r lives tied entries few h =
           over_is = h.over_is;
           waits = h.waits;
           some = h.some;
-              asked_is = h.asked_is;
+          asked_is = h.asked_is;
           timed_is = h.timed_is;
           next = h.next;
           shaped = h.shaped;
@@ -393,7 +390,7 @@ read_renewed requests l link piece r lives tied entries few h =
             (λ same. not_both (is_full after w.number) w.open_as.takes_more (subst (λ n. is_full after n ≡ true) (sym (eq_from w.number t.k same)) full))
             (λ f.
             let other = ne_from w.number t.k f in
-            not_both (is_full after w.number) w.open_as.takes_more (full_after l piece w.number place.start place.stands (t.earlier w.number place.start (omega arith) place.stands is)))
+            not_both (is_full after w.number) w.open_as.takes_more (full_still l piece w.number (t.earlier w.number place.start (omega arith) place.stands is)))
 
         first_not : (a b : Bool) → (a || not b) ≡ false → a ≡ false
         first_not true b e = cc
@@ -429,7 +426,7 @@ read_renewed requests l link piece r lives tied entries few h =
               answered = λ w j s less at is.
                   let most = last_behind l t.k j s t.last at is in
                   by_test (j == t.k) (is_full after j ≡ true) (λ same. subst (λ n. is_full after n ≡ true) (sym (eq_from j t.k same)) full)
-                  (λ f. let other = ne_from j t.k f in full_after l piece j s at (t.earlier j s (omega arith) at is));
+                  (λ f. let other = ne_from j t.k f in full_still l piece j (t.earlier j s (omega arith) at is));
               unanswered = λ w. cc w;
               kept = λ k. h.kept (first_not r.lost done k);
               taken = λ k w. ap (is_taken after) t.last ∙ (λ i. full i && second_not r.lost done k i);

@@ -1,7 +1,7 @@
 -- When numbers run out.
-use Rattle.std.proofs.Common.{Bool, List, [], ap, arith, false, inl, inr, length, nat_le, refl, subst, sym, true, ℕ, ◌++◌, ◌+◌, ◌<◌, ◌∙◌, ◌∷◌, ◌≡◌, ◌≤◌, ◌⊎◌, append_assoc, Option, is_some, if◌then◌else◌}
+use Rattle.std.proofs.Common.{Bool, List, [], ap, arith, false, inl, inr, length, nat_le, refl, subst, sym, true, ℕ, ◌++◌, ◌+◌, ◌<◌, ◌∙◌, ◌∷◌, ◌≡◌, ◌≤◌, ◌⊎◌, Option, is_some, if◌then◌else◌}
 use Rattle.std.specs.Prelude.{◌==◌, ◌^◌, ◌||◌}
-use Rattle.std.proofs.lemmas.List.{length_push, append-nil}
+use Rattle.std.proofs.lemmas.List.{length_push}
 use Rattle.containers.proofs.Choices.{by_test, eq_from, le_from, le_test, ne_from, not_both, not_le_from, or_left, or_right}
 use Rattle.driver_model.specs.declared.config.Config.{Config}
 use Rattle.driver_model.specs.declared.event.Event.{Event}
@@ -11,8 +11,8 @@ use Rattle.link_laws.proofs.TiedLink.{TiedLink}
 use Rattle.mux_conn.specs.Connection.{is_spent_in, started_in, is_due, is_ready, is_used_up}
 use Rattle.mux_conn.specs.declared.life.Life.{Life}
 use Rattle.mux_conn.specs.declared.life.Life.TheVariants.{Dialing, Ended, Ready, Wanting, SettingUp}
-use Rattle.shared_session.specs.Replay.{AreGood, AreGoodOn, is_bad_after, is_spent_after, opening_core, run_on, state_after, trace_of, IsSound, AreUnspent, turns_on, opening_actions, AreUnspentOn}
-use Rattle.shared_session.specs.Turn.{is_bad, has_run_out, spends, next_turn, actions_of, moved_on, effect, counted}
+use Rattle.shared_session.specs.Replay.{AreGood, AreGoodOn, is_bad_after, is_spent_after, opening_core, run_on, state_after, trace_of, IsSound, AreUnspent, AreUnspentOn}
+use Rattle.shared_session.specs.Turn.{is_bad, has_run_out, spends, next_turn, moved_on, effect, counted}
 use Rattle.shared_session.specs.declared.core_state.Core.{Core}
 use Rattle.legal_trace.specs.Book.{Book, book}
 use Rattle.legal_trace.specs.Events.{HasRunOut}
@@ -83,11 +83,12 @@ one_of : (a b : Bool) → (a || b) ≡ true → (a ≡ true) ⊎ (b ≡ true)
 one_of true b e = inl refl
 one_of false b e = inr e
 
--- the first of two, or the second
+-- the first of two
 or_first : (a b : Bool) → a ≡ true → (a || b) ≡ true
 or_first true b e = refl
 or_first false b e = cc
 
+-- or the second
 or_second : (a b : Bool) → b ≡ true → (a || b) ≡ true
 or_second true b e = refl
 or_second false b e = e
@@ -239,11 +240,12 @@ asked_next_few c e unspent =
     let conn = (next_turn c e.kind).core.single.connection in
     not_le_from (2 ^ 32) conn.renewal.asked (or_right (is_spent_in conn.life) _ (or_left (is_used_up conn) _ (or_right (nat_le (2 ^ 32) c.turns) _ unspent)))
 
+-- nor behind a history
 asked_on : (c : Core) (es : List Event) → c.single.connection.renewal.asked < 2 ^ 32 → AreUnspentOn c es → (run_on c es).single.connection.renewal.asked < 2 ^ 32
 asked_on c [] few unspent = few
 asked_on c (e ∷ es) few unspent = asked_on (next_turn c e.kind).core es (asked_next_few c e unspent.0) unspent.1
 
--- behind a history
+-- from the opening on
 asked_behind : (config : Config) (word : ℕ) (events : List Event) → AreUnspent config word events → (state_after config word events).single.connection.renewal.asked < 2 ^ 32
 unfolding state_after AreUnspent
 asked_behind config word events unspent = asked_on (opening_core config word) events (omega arith) unspent

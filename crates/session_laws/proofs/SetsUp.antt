@@ -1,7 +1,7 @@
 -- The setup of a link starts.
-use Rattle.std.proofs.Common.{Bool, List, None, Option, Some, [], ap, append_assoc, arith, false, inl, inr, length, refl, subst, suc, sym, true, zero, ℕ, ◌+◌, ◌++◌, ◌<◌, ◌≤◌, ◌∙◌, ◌∷◌, ◌≡◌, ◌⊎◌}
-use Rattle.std.proofs.lemmas.List.{append-nil, take-append-le}
-use Rattle.std.specs.Prelude.{nat_le, ◌==◌}
+use Rattle.std.proofs.Common.{Bool, List, None, Option, Some, [], ap, append_assoc, arith, false, inl, inr, length, refl, subst, suc, sym, true, zero, ℕ, ◌++◌, ◌<◌, ◌≤◌, ◌∙◌, ◌∷◌, ◌≡◌, ◌⊎◌}
+use Rattle.std.proofs.lemmas.List.{append-nil}
+use Rattle.std.specs.Prelude.{◌==◌}
 use Rattle.containers.proofs.Choices.{by_test, left_if, not_both, taken_if}
 use Rattle.containers.proofs.Places.{get_within}
 use Rattle.driver_model.specs.Setup.{setup_shape}
@@ -41,7 +41,7 @@ use Rattle.session_laws.proofs.Settle.{quiet_asks, seen, trace_of_acts}
 use Rattle.session_laws.proofs.Start.{owners-append, with_queue}
 use Rattle.session_laws.proofs.States.{IsFit}
 use Rattle.session_laws.proofs.Tied.{AreSetups, Inner, IsSettingUp, Tied, TiedTries, numbers_kept, owners_of, setup_owners}
-use Rattle.session_laws.proofs.Renewals.{none_begins}
+use Rattle.session_laws.proofs.Renewals.{none_begins, full_begins}
 
 -- the acts of its starts
 --
@@ -79,10 +79,6 @@ due_earlier l zero j e w = absurd (omega arith)
 due_earlier l (suc zero) zero e w = repeats_full l (by_test (repeats (result_of l 0)) _ (λ t. t) (λ f. absurd (let no : ◌≡◌ {A = Option ℕ} None (Some 1) = sym (left_if (repeats (result_of l 0)) (Some 1) None f) ∙ e in cc)))
 due_earlier l (suc zero) (suc j) e w = absurd (omega arith)
 due_earlier l (suc (suc n)) j e w = cc
-
--- a message that has all its items has them when one more starts
-full_kept : (l : Ledger) (s : Start) (j : ℕ) → j < length l.starts → is_full (noted l (begins s)) j ≡ is_full l j
-full_kept l s j w = ap (λ (xs : List Start). nat_le (reach xs l.dealt) (length l.dealt)) (take-append-le (j + 1) l.starts (s ∷ []) (omega arith))
 
 -- one more setup
 setup_owners-push : (n : ℕ) → setup_owners n [] ++ owner.Setup ∷ [] ≡ setup_owners (suc n) []
@@ -137,7 +133,7 @@ setting_next l link with_user all within due user h =
         count = count_next l.starts c (due_start l) all refl;
         user = user;
         queue = refl;
-        earlier = λ j w. full_kept l (due_start l) j (omega arith) ∙ due_earlier l c j due w;
+        earlier = λ j w. full_begins l (due_start l) j (omega arith) ∙ due_earlier l c j due w;
         open_is = begun_open l (due_start l) c (sym long) within;
       });
       awaited = all_push (λ (e : Entry). e.awaited ≡ true) link.row (entry_of (due_queued l with_user)) h.awaited refl;

@@ -41,7 +41,7 @@ use Rattle.session_laws.proofs.Ahead.{later_untried}
 use Rattle.session_laws.proofs.Answer.{answer_tied, owed_still, skip_tied}
 use Rattle.session_laws.proofs.Told.{push_tied, retells}
 use Rattle.session_laws.proofs.Kept.{mine_noted}
-use Rattle.session_laws.proofs.Settle.{IsDue, Tells, answered_leaves, book_of_more, first_may, leaves_all, leaves_on, Leaves, rest_in_line, seen, settled_holds, settled_leaves, sound_told, trace_of_acts, answered_renewal, answered_renewing, one_leaves, replied_each}
+use Rattle.session_laws.proofs.Settle.{IsDue, Tells, book_of_more, first_may, leaves_all, leaves_on, Leaves, rest_in_line, seen, settled_holds, settled_leaves, sound_told, trace_of_acts, answered_renewal, answered_renewing, one_leaves, replied_each}
 use Rattle.mux_conn.specs.Renewals.{is_done, renewal_id, renewing, replied}
 
 -- the first of what is behind so many
