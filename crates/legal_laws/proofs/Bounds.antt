@@ -1,5 +1,5 @@
 -- Where messages start, and submissions are told: within the boundary, and in their places.
-use Rattle.std.proofs.Common.{◌≡◌, ◌≢◌, ◌⊎◌, inl, inr, ℕ, ◌<◌, ◌≤◌, nat_lt, nat_le, Bool, true, false, ◌&&◌, List, [], ◌∷◌, ◌++◌, length, Some, refl, sym, ap, subst, arith}
+use Rattle.std.proofs.Common.{◌≡◌, ◌≢◌, ◌⊎◌, inl, inr, ℕ, ◌<◌, ◌≤◌, nat_lt, nat_le, Bool, true, false, ◌&&◌, List, [], ◌∷◌, ◌++◌, length, Some, refl, sym, ◌∙◌, ap, subst, arith}
 use Rattle.containers.proofs.Choices.{by_test, not_lt_from, not_le_from}
 use Rattle.driver_model.specs.declared.action.Action.{Action}
 use Rattle.driver_model.specs.declared.action.Action.TheVariants as action
@@ -11,10 +11,10 @@ use Rattle.driver_model.specs.Config.{buffer_size, boundary}
 use Rattle.legal_trace.specs.Ledger.{unwritten}
 use Rattle.legal_trace.specs.Story.{is_no_error}
 use Rattle.legal_trace.specs.Book.{Book, blank_book, book}
-use Rattle.legal_trace.specs.Steps.{configured, queue_size, permits_in, line_before, is_outside}
+use Rattle.legal_trace.specs.Steps.{configured, queue_size, permits_in, line_before, is_held_back, is_outside}
 use Rattle.legal_trace.specs.Legal.{MayStand, MayAnswer, MayTell, MayStart, AllStand, CanMove, IsApplied, event_causes, Legal}
 use Rattle.legal_trace.proofs.Books.{stand_front, stand_behind}
-use Rattle.legal_laws.specs.Starts.{IsStart, HasPlace, StaysWithin}
+use Rattle.legal_laws.specs.Starts.{IsStart, StartsOn, HasPlace, StaysWithin}
 use Rattle.legal_laws.proofs.Configured.{configured_behind}
 use Rattle.legal_trace.proofs.Moves.{inside_has_room, starts_mean, tells_mean, starter_moves, teller_moves}
 use Rattle.legal_laws.proofs.Numbers.{mover_is_numbered}
@@ -39,13 +39,19 @@ free_from bound u e = by_test (nat_lt 0 u) ((u ≡ 0) ⊎ (u < bound))
     (λ t. inr (not_le_from bound u (the_second (nat_lt 0 u) (nat_le bound u) e t)))
     (λ f. let i : u ≤ 0 = not_lt_from 0 u f in inl (omega (arith, i)))
 
--- fewer bytes are unwritten where a message starts
-start_bounds : (config : Config) (b : Book) (l k n count len : ℕ) → b.config ≡ Some config → MayStart b l k n count len → (length (unwritten (b.link l)) ≡ 0) ⊎ (length (unwritten (b.link l)) < boundary config)
-start_bounds config b l k n count len c may =
-    let free : (length (unwritten (b.link (b.story n).link)) ≡ 0) ⊎ (length (unwritten (b.link (b.story n).link)) < configured boundary b.config) =
-    free_from (configured boundary b.config) (length (unwritten (b.link (b.story n).link))) (starts_mean b n may.starts).2 in
-    subst (λ j. (length (unwritten (b.link j)) ≡ 0) ⊎ (length (unwritten (b.link j)) < boundary config)) (sym may.on_its_link)
-    (subst (λ bound. (length (unwritten (b.link (b.story n).link)) ≡ 0) ⊎ (length (unwritten (b.link (b.story n).link)) < bound)) (ap (configured boundary) c) free)
+-- where a message starts the event was applied, and its link isn't held back
+start_free : (b : Book) (a : Action) (l : ℕ) → MayStand b a → StartsOn l a → IsApplied b × (is_held_back b (b.link l) ≡ false)
+start_free b (action.Start m k owner.Setup count len) l may on = (may.applied, subst (λ j. is_held_back b (b.link j) ≡ false) on may.free)
+start_free b (action.Start m k owner.Auth count len) l may on = (may.applied, subst (λ j. is_held_back b (b.link j) ≡ false) on may.free)
+start_free b (action.Start m k (owner.Try n round) count len) l may on =
+    (may.1.begun.applied, subst (λ j. is_held_back b (b.link j) ≡ false) (sym may.1.on_its_link ∙ on) (starts_mean b n may.1.starts).2)
+start_free b _ l may on = absurd on
+
+-- so fewer bytes are unwritten than the boundary of the configuration
+start_bounds : (config : Config) (b : Book) (l : ℕ) → b.config ≡ Some config → is_held_back b (b.link l) ≡ false → (length (unwritten (b.link l)) ≡ 0) ⊎ (length (unwritten (b.link l)) < boundary config)
+start_bounds config b l c free =
+    subst (λ bound. (length (unwritten (b.link l)) ≡ 0) ⊎ (length (unwritten (b.link l)) < bound)) (ap (configured boundary) c)
+    (free_from (configured boundary b.config) (length (unwritten (b.link l))) free)
 
 -- whoever makes a step and isn't outside finds fewer in line before it than the queue holds
 mover_has_room : (b : Book) (n : ℕ) → Sound b → IsSeated b → CanMove b n → is_outside b n ≡ false → line_before (permits_in b.config) b.story (b.story n).link n < queue_size b
@@ -95,11 +101,11 @@ next_may config word events front more a h = (stand_behind blank_book front (a �
 -- so each legal trace stays within
 pub stays_within : (config : Config) (word : ℕ) (events : List Event) (trace : List Action) → Legal config word events trace → StaysWithin config trace
 stays_within config word events trace h = record {
-  bytes = λ front more a l n is s.
+  bytes = λ front more a l is on.
       let legal : Legal config word events (front ++ a ∷ more) = subst (Legal config word events) is h in
       let ready = ready_behind config word events front (a ∷ more) legal in
-      let m = start_of (book front) a l n (next_may config word events front more a legal) s in
-      start_bounds config (book front) l m.0 n m.1 m.2 (ready.configured (applied_began (book front) ready.sound m.3.begun.applied)) m.3;
+      let free = start_free (book front) a l (next_may config word events front more a legal) on in
+      start_bounds config (book front) l (ready.configured (applied_began (book front) ready.sound free.0)) free.1;
   starts = λ front more a l n is s.
       let legal : Legal config word events (front ++ a ∷ more) = subst (Legal config word events) is h in
       let ready = ready_behind config word events front (a ∷ more) legal in

@@ -1,5 +1,5 @@
 -- The new credentials of a link are those that events bring of its second source, in their order.
-use Rattle.std.proofs.Common.{◌≡◌, ◌⊎◌, inl, inr, ℕ, zero, suc, ◌+◌, ◌-◌, ◌<◌, ◌≤◌, ◌==◌, nat_lt, nat_le, Bool, true, false, ◌&&◌, not, if◌then◌else◌, List, [], ◌∷◌, ◌++◌, length, take, Option, Some, None, is_some, slice_get, refl, sym, ◌∙◌, ap, subst, arith}
+use Rattle.std.proofs.Common.{◌≡◌, ◌⊎◌, inl, inr, ℕ, ◌+◌, ◌-◌, ◌<◌, ◌≤◌, ◌==◌, Bool, true, false, ◌&&◌, not, if◌then◌else◌, List, [], ◌∷◌, ◌++◌, length, take, Option, Some, None, is_some, slice_get, refl, sym, ◌∙◌, ap, subst, arith}
 use Rattle.std.proofs.lemmas.List.{append-nil, append_assoc, length_push}
 use Rattle.std.proofs.lemmas.Option.{slice_get_within}
 use Rattle.containers.proofs.Choices.{by_test, chosen, eq_from, eq_test, ne_from, not_both, both_left, both_right, not_le_from}
@@ -15,7 +15,7 @@ use Rattle.driver_model.specs.declared.action.SourceUse.TheVariants as source
 use Rattle.driver_model.specs.declared.event.EventKind.{EventKind}
 use Rattle.driver_model.specs.declared.event.EventKind.TheVariants as event
 use Rattle.driver_model.specs.declared.news.LinkFault.TheVariants as fault
-use Rattle.driver_model.specs.News.{News, silence, connected, refused, overdue, took, came, failed, authorized, denied, deserted, renewed, unrenewed, late, shut, news_of, for_link, of_timer, of_source, is_source_of, renews}
+use Rattle.driver_model.specs.News.{News, silence, connected, refused, overdue, took, came, failed, authorized, denied, deserted, renewed, unrenewed, late, shut, news_of, for_link, of_timer, of_source, renews}
 use Rattle.legal_trace.specs.Ledger.{Ledger, End, Sourced, asks, hears, begins, offers, sources, times, ends, noted, noted_each, with_news, refused_in, bytes_came, is_over, is_ready, is_set_up, dials, awaits_credentials, authorized_by, may_renew, renewed_by, unrenewed_by, is_renewal_open, lost_by, source_due}
 use Rattle.legal_trace.specs.Book.{Book, blank_book, book, entered, if_mine, info_in, wanted_in, message_of, use_for, is_renewal_of}
 use Rattle.legal_trace.specs.Events.{is_bad_event}
@@ -23,7 +23,7 @@ use Rattle.legal_trace.specs.Legal.{MayStand, MayNeed, AllStand}
 use Rattle.legal_trace.proofs.Books.{Grows, book_more, of_each_front}
 use Rattle.legal_trace.proofs.Ledgers.{mine_keeps}
 use Rattle.legal_trace.proofs.Moves.{both_hold}
-use Rattle.legal_trace.proofs.Plain.{item_behind, item_stays, last_item, not_none, same_some}
+use Rattle.legal_trace.proofs.Plain.{item_behind, item_stays, last_item, same_some}
 use Rattle.legal_trace.proofs.Sources.{second_is_new, source_is_up}
 use Rattle.legal_laws.specs.Renewals.{asked_by, sources_asked, given_by, brought_by, brought}
 use Rattle.legal_laws.proofs.Numbers.{up_is_asked}

@@ -28,7 +28,8 @@ use Rattle.legal_trace.proofs.Moves.{ready_is_set, ready_is_up}
 use Rattle.legal_trace.proofs.Plain.{item_behind}
 use Rattle.legal_trace.proofs.Renewals.{renewal_is_up}
 use Rattle.legal_trace.proofs.Setups.{due_is_up, set_is_given}
-use Rattle.legal_laws.specs.Sources.{StartsNoneLacking, StartsOn, IsAskedFor, IsAuthorized, StartsAuthorized}
+use Rattle.legal_laws.specs.Starts.{StartsOn}
+use Rattle.legal_laws.specs.Sources.{StartsNoneLacking, IsAskedFor, IsAuthorized, StartsAuthorized}
 use Rattle.legal_laws.proofs.Bounds.{ready_behind, next_may}
 use Rattle.legal_laws.proofs.Held.{starts_ready}
 use Rattle.legal_laws.proofs.Numbers.{up_is_asked, up_is_numbered}

@@ -19,7 +19,6 @@ use Rattle.legal_trace.proofs.Ledgers.{mine_keeps}
 use Rattle.legal_trace.proofs.Setups.{set_begins, ends_where_set, begun_undecided, due_is_unset, setup_stays}
 use Rattle.legal_trace.proofs.Renewals.{renewal_is_up}
 use Rattle.legal_laws.proofs.Shaped.{renewal_is_set}
-use Rattle.credentials.specs.Credentials.{Credentials}
 use Rattle.legal_trace.proofs.Moves.{shown_alike, up_and_set, mover_is_up, mover_is_ready, ready_is_up, ready_is_set, starter_moves, step_of, line_alike, permits_alike}
 use Rattle.legal_laws.proofs.Tales.{open_has_none, last_behind}
 use Rattle.legal_laws.proofs.Owes.{owed_story, owed_again, owed_by_last, begins_keeps, new_is_owed_nothing}

@@ -35,6 +35,7 @@ pub mod Given
 pub mod Brought
 pub mod Renewed
 pub mod Telling
+pub mod Timed
 pub mod Pushes
 pub mod Parted
 pub mod Among

@@ -1,8 +1,8 @@
 -- The messages of a link that tell new credentials: which these are, and that all but the last were answered without an error.
-use Rattle.std.proofs.Common.{◌≡◌, inl, inr, ℕ, ◌+◌, ◌-◌, ◌<◌, ◌≤◌, ◌==◌, nat_lt, Bool, true, false, ◌&&◌, List, [], ◌∷◌, ◌++◌, length, take, Option, Some, None, slice_get, refl, sym, ◌∙◌, ap, subst, arith}
+use Rattle.std.proofs.Common.{◌≡◌, inl, inr, ℕ, ◌+◌, ◌-◌, ◌<◌, ◌≤◌, ◌==◌, true, false, ◌&&◌, List, [], ◌∷◌, ◌++◌, length, take, Some, slice_get, refl, sym, ◌∙◌, ap, subst, arith}
 use Rattle.std.proofs.lemmas.List.{take-append-le}
 use Rattle.std.proofs.Math.Seq.{take-append_seam}
-use Rattle.containers.proofs.Choices.{by_test, chosen, eq_from, ne_from, lt_from, not_lt_from, not_both, both_left}
+use Rattle.containers.proofs.Choices.{by_test, chosen, eq_from, ne_from, not_both}
 use Rattle.resp_value.specs.Data.{Data}
 use Rattle.resp_read.specs.Values.{left_over}
 use Rattle.resp_read.specs.Items.{items}
@@ -12,14 +12,12 @@ use Rattle.driver_model.specs.declared.action.Action.{Action}
 use Rattle.driver_model.specs.declared.action.Action.TheVariants as action
 use Rattle.driver_model.specs.declared.action.Cause.TheVariants as cause
 use Rattle.driver_model.specs.declared.action.Owner.TheVariants as owner
-use Rattle.driver_model.specs.declared.outcome.Shape.{Shape}
-use Rattle.driver_model.specs.declared.outcome.Shape.TheVariants.{Confirmation}
 use Rattle.driver_model.specs.News.{News, silence, connected, refused, overdue, took, came, failed, authorized, denied, deserted, renewed, unrenewed, late, shut, news_of}
-use Rattle.legal_trace.specs.Ledger.{Ledger, Start, asks, hears, begins, offers, sources, times, ends, noted, with_news, refused_in, bytes_came, is_over, dials, reach, awaits_credentials, authorized_by, may_renew, renewed_by, unrenewed_by, is_renewal_open, lost_by, is_of_renewal, is_taken, last_renewal, renewal_count, renewal_due, renewal_message}
+use Rattle.legal_trace.specs.Ledger.{Ledger, Start, asks, hears, begins, offers, sources, times, ends, noted, with_news, refused_in, bytes_came, is_over, dials, reach, awaits_credentials, authorized_by, may_renew, renewed_by, unrenewed_by, is_renewal_open, lost_by, is_of_renewal, is_taken, renewal_count, renewal_due, renewal_message}
 use Rattle.legal_trace.specs.Book.{Book, blank_book, book, entered, entered_each, info_in, wanted_in, message_of, renewal_in, is_renewal_of}
-use Rattle.legal_trace.specs.Legal.{MayStand, MayRenew, AllStand}
+use Rattle.legal_trace.specs.Legal.{MayStand, AllStand}
 use Rattle.legal_trace.proofs.Ledgers.{mine_keeps}
-use Rattle.legal_trace.proofs.Plain.{item_behind, item_stays, not_none, same_some}
+use Rattle.legal_trace.proofs.Plain.{item_behind, item_stays, not_none}
 use Rattle.legal_trace.proofs.Renewals.{last_told, renewal_came, renewal_is_next, taken_begins, taken_more}
 use Rattle.legal_trace.proofs.Setups.{start_within}
 use Rattle.legal_laws.specs.Renewals.{IsRenewal}

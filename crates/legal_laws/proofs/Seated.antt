@@ -1,7 +1,7 @@
 -- Whoever was told, or was shown to wait for room, has a place until its message starts.
 use Rattle.std.proofs.Common.{◌≡◌, ◌⊎◌, inl, inr, ℕ, ◌<◌, ◌≤◌, ◌==◌, nat_lt, true, false, ◌&&◌, not, List, [], ◌∷◌, Option, None, Some, refl, sym, ◌∙◌, ap, subst, arith}
 use Rattle.std.specs.Prelude.{slice_get}
-use Rattle.containers.proofs.Choices.{by_test, chosen, left_if, eq_from, ne_test, lt_from, not_lt_from, not_le_from, not_le_test, not_both, both_left, both_right}
+use Rattle.containers.proofs.Choices.{by_test, chosen, left_if, eq_from, ne_test, lt_from, not_lt_from, not_both, both_left, both_right}
 use Rattle.driver_model.specs.declared.action.Action.{Action}
 use Rattle.driver_model.specs.declared.action.Action.TheVariants as action
 use Rattle.driver_model.specs.declared.action.Cause.TheVariants as cause

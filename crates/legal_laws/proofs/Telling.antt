@@ -1,8 +1,7 @@
 -- New credentials are told to the server of a link in their order, each once those before were taken.
-use Rattle.std.proofs.Common.{◌≡◌, ◌⊎◌, inl, inr, ℕ, zero, suc, ◌<◌, ◌≤◌, ◌==◌, nat_lt, Bool, true, false, ◌&&◌, List, [], ◌∷◌, ◌++◌, length, take, Option, Some, None, slice_get, refl, sym, ◌∙◌, ap, subst, arith}
+use Rattle.std.proofs.Common.{◌≡◌, ℕ, ◌<◌, ◌≤◌, nat_lt, Bool, true, false, List, [], ◌∷◌, ◌++◌, length, take, Some, slice_get, refl, sym, ◌∙◌, ap, subst, arith}
 use Rattle.containers.proofs.Choices.{by_test, lt_from, not_lt_from, not_both, both_left}
 use Rattle.credentials.specs.Credentials.{Credentials}
-use Rattle.credentials.specs.Message.{auth_bytes}
 use Rattle.driver_model.specs.declared.action.Action.{Action}
 use Rattle.driver_model.specs.declared.action.Action.TheVariants as action
 use Rattle.driver_model.specs.declared.action.Owner.TheVariants as owner
@@ -10,17 +9,17 @@ use Rattle.driver_model.specs.declared.config.Config.{Config}
 use Rattle.driver_model.specs.declared.event.Event.{Event}
 use Rattle.driver_model.specs.declared.outcome.Shape.TheVariants.{Confirmation}
 use Rattle.driver_model.specs.Shape.{verdict_of}
-use Rattle.legal_trace.specs.Ledger.{Ledger, Start, cut, is_done, is_full, is_taken, renewal_count, renewal_due, renewal_message}
+use Rattle.legal_trace.specs.Ledger.{Ledger, Start, cut, is_done, is_full, renewal_count, renewal_due}
 use Rattle.legal_trace.specs.Book.{Book, blank_book, book}
-use Rattle.legal_trace.specs.Legal.{MayStand, MayRenew, AllStand, Legal}
+use Rattle.legal_trace.specs.Legal.{MayStand, AllStand, Legal}
 use Rattle.legal_trace.proofs.Books.{stand_front}
 use Rattle.legal_trace.proofs.Plain.{item_stays}
-use Rattle.legal_laws.specs.Renewals.{sources_asked, brought, Comes, IsRenewal, Renews, TellsEachNext, TellsOnceTaken, TellsOneAtOnce, TellsInTurn}
+use Rattle.legal_laws.specs.Renewals.{sources_asked, brought, Comes, IsRenewal, Renews, TellsEachNext, TellsWhereSet, TellsOnceTaken, TellsOneAtOnce, TellsInTurn}
 use Rattle.legal_laws.proofs.Bounds.{next_may}
 use Rattle.legal_laws.proofs.Brought.{count_of, IsFront, accounts_behind}
 use Rattle.legal_laws.proofs.Renewed.{TellsWell, all_taken, told_behind}
-use Rattle.legal_laws.proofs.Shaped.{IsShaped, came_renews}
-use Rattle.legal_laws.proofs.Sound.{Sound, sound_behind}
+use Rattle.legal_laws.proofs.Shaped.{IsShaped, came_renews, renewal_is_set}
+use Rattle.legal_laws.proofs.Sound.{sound_behind}
 
 -- the second of two
 second_of : (xs : List ℕ) → length xs ≡ 2 → (s : ℕ) × (slice_get xs 1 ≡ Some s)
@@ -56,7 +55,15 @@ due_of : (b : Book) (a : Action) (l : ℕ) → MayStand b a → Renews l a → (
 due_of b (action.Start m k owner.Auth count len) l may is = (may.credentials, subst (λ j. renewal_due (b.link j) ≡ Some may.credentials) is may.due)
 due_of b _ l may is = absurd is
 
--- so all before were taken
+-- so the link is set up
+tells_where_set : (config : Config) (word : ℕ) (events : List Event) (trace : List Action) → Legal config word events trace → TellsWhereSet trace
+tells_where_set config word events trace h front more a l is renews =
+    let legal : Legal config word events (front ++ a ∷ more) = subst (Legal config word events) is h in
+    let all : AllStand blank_book front = stand_front blank_book front (a ∷ more) legal.each in
+    let due = due_of (book front) a l (next_may config word events front more a legal) renews in
+    renewal_is_set ((book front).link l) due.0 ((sound_behind front all).shaped l) due.1
+
+-- and all before were taken
 tells_once_taken : (config : Config) (word : ℕ) (events : List Event) (trace : List Action) → Legal config word events trace → TellsOnceTaken trace
 tells_once_taken config word events trace h front more a l j s is renews told =
     let legal : Legal config word events (front ++ a ∷ more) = subst (Legal config word events) is h in
@@ -82,6 +89,7 @@ tells_one_at_once config word events trace h front more l i j s t is first secon
 pub tells_in_turn : (config : Config) (word : ℕ) (events : List Event) (trace : List Action) → Legal config word events trace → TellsInTurn trace
 tells_in_turn config word events trace h = record {
   next = tells_next config word events trace h;
+  set = tells_where_set config word events trace h;
   taken = tells_once_taken config word events trace h;
   alone = tells_one_at_once config word events trace h;
 }

@@ -11,6 +11,7 @@ use Rattle.legal_laws.specs.Starts.{StaysWithin}
 use Rattle.legal_laws.specs.Permits.{KeepsPermits, AsksTimers}
 use Rattle.legal_laws.specs.Pushes.{TellsPushes, TellsEnds}
 use Rattle.legal_laws.specs.Sources.{StartsAuthorized}
+use Rattle.legal_laws.specs.Renewals.{TimesRenewals}
 
 -- it is so of each legal trace
 abbrev pub OfEachLegal : (List Action → Type 0) → Type 0
@@ -68,3 +69,9 @@ abbrev pub EachStartsAuthorized : Type 0
 EachStartsAuthorized =
     (config : Config) (word : ℕ) (events : List Event) (trace : List Action) → Legal config word events trace
     → StartsAuthorized config trace
+
+-- and its new credentials have their timers
+abbrev pub EachTimesRenewals : Type 0
+EachTimesRenewals =
+    (config : Config) (word : ℕ) (events : List Event) (trace : List Action) → Legal config word events trace
+    → TimesRenewals config trace

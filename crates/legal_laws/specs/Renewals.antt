@@ -1,14 +1,17 @@
 -- How new credentials are told to the servers of a trace's links.
-use Rattle.std.specs.Prelude.{◌≡◌, ℕ, ◌+◌, ◌==◌, true, false, List, [], ◌∷◌, ◌++◌, take, Some, slice_get, if◌then◌else◌}
+use Rattle.std.specs.Prelude.{◌≡◌, ◌≢◌, ◌<◌, ℕ, ◌+◌, ◌==◌, true, false, List, [], ◌∷◌, ◌++◌, take, Some, None, slice_get, if◌then◌else◌}
 use Rattle.credentials.specs.Credentials.{Credentials}
 use Rattle.credentials.specs.Message.{auth_bytes}
 use Rattle.driver_model.specs.declared.action.Action.{Action}
 use Rattle.driver_model.specs.declared.action.Action.TheVariants as action
 use Rattle.driver_model.specs.declared.action.Cause.TheVariants as cause
 use Rattle.driver_model.specs.declared.action.Owner.TheVariants as owner
+use Rattle.driver_model.specs.declared.action.Purpose.TheVariants as purpose
+use Rattle.driver_model.specs.declared.config.Config.{Config}
+use Rattle.driver_model.specs.Config.{response_timeout}
 use Rattle.driver_model.specs.declared.event.EventKind.{EventKind}
 use Rattle.driver_model.specs.declared.event.EventKind.TheVariants as event
-use Rattle.legal_trace.specs.Ledger.{Ledger, Start, is_full, is_of_renewal, is_taken, renewal_count}
+use Rattle.legal_trace.specs.Ledger.{Ledger, Start, is_full, is_of_renewal, is_set_up, is_taken, renewal_count}
 use Rattle.legal_trace.specs.Book.{book}
 
 -- the number of the source of credentials that an action asks for, for link l
@@ -59,7 +62,13 @@ abbrev pub Renews : ℕ → Action → Type 0
 Renews l (action.Start m message owner.Auth count len) = m ≡ l
 Renews l _ = ⊥
 
--- where it does, each message before that told some on the link was answered without an error
+-- where it does, the link is set up
+abbrev pub TellsWhereSet : List Action → Type 0
+TellsWhereSet trace =
+    (front more : List Action) (a : Action) (l : ℕ) → trace ≡ front ++ a ∷ more → Renews l a
+    → is_set_up ((book front).link l) ≡ true
+
+-- and each message before that told some on the link was answered without an error
 abbrev pub TellsOnceTaken : List Action → Type 0
 TellsOnceTaken trace =
     (front more : List Action) (a : Action) (l j : ℕ) (s : Start) → trace ≡ front ++ a ∷ more → Renews l a
@@ -74,5 +83,33 @@ TellsOneAtOnce trace =
 -- new credentials are told in turn
 pub record TellsInTurn (trace : List Action) : Type 0 where
   pub next : TellsEachNext trace
+  pub set : TellsWhereSet trace
   pub taken : TellsOnceTaken trace
   pub alone : TellsOneAtOnce trace
+
+-- a timer that an action asks for, for new credentials of link l
+abbrev pub timed_by : ℕ → Action → ℕ
+timed_by l (action.Timer t ms (purpose.Renewal m k)) = if m == l then 1 else 0
+timed_by l _ = 0
+
+-- how many a trace asks for
+abbrev pub timers_asked : ℕ → List Action → ℕ
+timers_asked l [] = 0
+timers_asked l (a ∷ more) = timed_by l a + timers_asked l more
+
+-- timers for new credentials are asked for one after another, one for each, and within the time of the configuration
+abbrev pub AsksEachNext : Config → List Action → Type 0
+AsksEachNext config trace =
+    (front more : List Action) (t ms l k : ℕ) → trace ≡ front ++ action.Timer t ms (purpose.Renewal l k) ∷ more
+    → (response_timeout config ≡ Some ms) × (k ≡ timers_asked l front)
+
+-- where it has such a time, new credentials are told only once those have been asked for that are told with them
+abbrev pub TellsTimed : Config → List Action → Type 0
+TellsTimed config trace =
+    (front more : List Action) (a : Action) (l : ℕ) → trace ≡ front ++ a ∷ more → Renews l a → response_timeout config ≢ None
+    → renewal_count ((book front).link l).starts < timers_asked l front
+
+-- new credentials have their timers
+pub record TimesRenewals (config : Config) (trace : List Action) : Type 0 where
+  pub next : AsksEachNext config trace
+  pub told : TellsTimed config trace

@@ -10,17 +10,13 @@ use Rattle.driver_model.specs.declared.event.EventKind.TheVariants as event
 use Rattle.driver_model.specs.Config.{wants_credentials}
 use Rattle.legal_trace.specs.Ledger.{lacks_credentials}
 use Rattle.legal_trace.specs.Book.{book}
+use Rattle.legal_laws.specs.Starts.{StartsOn}
 
 -- behind each front of a trace nothing has started on a link whose setup waits for credentials
 abbrev pub StartsNoneLacking : List Action → Type 0
 StartsNoneLacking trace =
     (front more : List Action) (l : ℕ) → trace ≡ front ++ more → lacks_credentials ((book front).link l) ≡ true
     → ((book front).link l).starts ≡ []
-
--- a message starts on link l, of its setup, of new credentials or of a submission
-abbrev pub StartsOn : ℕ → Action → Type 0
-StartsOn l (action.Start m k who count len) = m ≡ l
-StartsOn l _ = ⊥
 
 -- in this front source c of credentials is asked for, for link l
 pub record IsAskedFor (front : List Action) (c l : ℕ) : Type 0 where

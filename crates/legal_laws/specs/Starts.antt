@@ -15,6 +15,11 @@ use Rattle.legal_trace.specs.Book.{Book, book}
 use Rattle.legal_trace.specs.Steps.{line_before}
 use Rattle.legal_trace.specs.Legal.{IsOpen}
 
+-- a message starts on link l, of its setup, of new credentials or of a submission
+abbrev pub StartsOn : ℕ → Action → Type 0
+StartsOn l (action.Start m k who count len) = m ≡ l
+StartsOn l _ = ⊥
+
 -- a message of submission n starts on link l
 abbrev pub IsStart : ℕ → ℕ → Action → Type 0
 IsStart l n (action.Start m message (owner.Try i round) count len) = (m ≡ l) × (i ≡ n)
@@ -24,13 +29,13 @@ IsStart l n _ = ⊥
 abbrev pub HasPlace : Config → Book → ℕ → Type 0
 HasPlace config b n = line_before config.limit b.story (b.story n).link n < buffer_size config
 
--- where a message starts, no bytes of its link were unwritten, or fewer than the boundary
+-- where a message starts, whosever it is, no bytes of its link were unwritten, or fewer than the boundary
 abbrev pub StartsWithin : Config → List Action → Type 0
 StartsWithin config trace =
-    (front more : List Action) (a : Action) (l n : ℕ) → trace ≡ front ++ a ∷ more → IsStart l n a
+    (front more : List Action) (a : Action) (l : ℕ) → trace ≡ front ++ a ∷ more → StartsOn l a
     → (length (unwritten ((book front).link l)) ≡ 0) ⊎ (length (unwritten ((book front).link l)) < boundary config)
 
--- and its submission has a place
+-- and where it is of a submission, this has a place
 abbrev pub StartsInPlace : Config → List Action → Type 0
 StartsInPlace config trace =
     (front more : List Action) (a : Action) (l n : ℕ) → trace ≡ front ++ a ∷ more → IsStart l n a

@@ -17,6 +17,7 @@ ghost use Rattle.legal_laws.specs.Permits.{TimedOutStartNoMore, FiredStartNoMore
 ghost use Rattle.legal_laws.specs.Pushes.{TellsInOrder};
 ghost use Rattle.legal_laws.specs.Laws.{EachStaysWithin, EachKeepsPermits, EachAsksTimers};
 ghost use Rattle.legal_laws.specs.Laws.{EachTellsPushes, EachTellsEnds, EachStartsAuthorized};
+ghost use Rattle.legal_laws.specs.Laws.{EachTimesRenewals};
 
 /// Does nothing. Its contract: what a legal trace tells of each link is legal by itself. What the
 /// book of any trace has of a link is what these lines come to.
@@ -90,18 +91,18 @@ pub fn no_setup_starts_before_its_credentials()
     ensures authorized { EachStartsAuthorized }
 {}
 
-/// Does nothing. Its contract: in a legal trace each AUTH that starts on a link, once it is set up,
-/// carries the next of the credentials that came of the link's second source, in their order, each
-/// once. It starts once all AUTHs before it on the link were answered without an error; so no two of
+/// Does nothing. Its contract: in a legal trace each AUTH that starts on a link carries the next of
+/// the credentials that came of the link's second source, in their order, each once. It starts on a
+/// link that is set up, once all AUTHs before it there were answered without an error; so no two of
 /// them are unanswered at once.
 pub fn new_credentials_are_told_in_turn()
     ensures { OfEachLegal TellsInTurn }
 {}
 
-/// Does nothing. Its contract: in a legal trace a message starts only where no bytes of its link
-/// are unwritten, or fewer than the boundary of the configuration. Where it starts, and where a
-/// submission is answered without an error before it has a message, fewer submissions stand in line
-/// before it than the queue holds.
+/// Does nothing. Its contract: in a legal trace a message, of a submission, of a setup or of new
+/// credentials, starts only where no bytes of its link are unwritten, or fewer than the boundary of
+/// the configuration. Where that of a submission starts, and where a submission is answered without
+/// an error before it has a message, fewer submissions stand in line before it than the queue holds.
 pub fn no_message_starts_past_the_boundary()
     ensures { EachStaysWithin }
 {}
@@ -130,9 +131,12 @@ pub fn permits_never_exceed_the_limit()
 
 /// Does nothing. Its contract: in a legal trace the timer of a submission is asked for once at
 /// most, with the milliseconds that were in force where it was handed in, and once it holds its
-/// permits, where they are counted.
+/// permits, where they are counted. Timers for new credentials of a link are asked for one after
+/// another, one for each, within the time of the configuration; where it has one, each AUTH starts
+/// behind its own.
 pub fn a_timer_is_asked_once()
-    ensures { EachAsksTimers }
+    ensures of_submissions { EachAsksTimers }
+    ensures of_renewals { EachTimesRenewals }
 {}
 
 /// Does nothing. Its contract: where nobody hears pushes, a legal trace tells none. Where somebody

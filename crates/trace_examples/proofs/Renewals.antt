@@ -26,7 +26,7 @@ use Rattle.legal_trace.proofs.Plain.{same_some}
 use Rattle.legal_trace.specs.Legal.{MayTurn}
 use Rattle.trace_examples.specs.Parts.{turn, command, okay_line}
 use Rattle.trace_examples.specs.Setups.{wrong_password}
-use Rattle.trace_examples.specs.Creds.{sourced}
+use Rattle.trace_examples.specs.Creds.{sourced, no_credentials}
 use Rattle.trace_examples.specs.Renewals.{sourced_in_time, sourced_at_a_time, of_letter, line_of, first_taken, needed_again, renewal_came, renewal_told, second_came, renewal_taken, renewal_refused, asked_behind, one_answered, answered_late, answered_in_time, let_go, came_behind, place_is_taken, once_set_up, renewal_fronts}
 use Rattle.trace_examples.specs.Claims.{IsTraceIn, NoneBeginsIn}
 use Rattle.trace_examples.specs.Fronts.{EachStands}
@@ -73,6 +73,17 @@ pub one_after_another : IsTraceIn sourced
     (action.Start 0 2 owner.Auth 1 28 ∷ action.Write 0 (line_of 114) ∷ [])
 unfolding digits is_bad_event items values left_over is_spoiled max_depth url_on_literals utf8_lossy utf8_valid_len
 one_after_another word = legal sourced word _ _ refl refl (at_sourced, (refl, (refl, (refl, tt))))
+
+-- an error of their source changes nothing, and where it ends those that came before are told still, and none that come later
+pub none_after_the_end : IsTraceIn sourced
+    (once_set_up
+    (event.Creds 1 (of_letter 113) ∷ event.Creds 1 (of_letter 114) ∷ event.CredsError 1 no_credentials ∷ event.CredsEnd 1 ∷ event.Creds 1 (of_letter 115) ∷ event.Wrote 0 28 ∷ event.Bytes 0 okay_line ∷ event.Wrote 0 28 ∷
+    event.Bytes 0 okay_line ∷ []))
+    second_came
+    (turn 7 (event.CredsError 1 no_credentials) ∷ turn 8 (event.CredsEnd 1) ∷ turn 9 (event.Creds 1 (of_letter 115)) ∷ turn 10 (event.Wrote 0 28) ∷ turn 11 (event.Bytes 0 okay_line) ∷
+    action.Start 0 2 owner.Auth 1 28 ∷ action.Write 0 (line_of 114) ∷ turn 12 (event.Wrote 0 28) ∷ turn 13 (event.Bytes 0 okay_line) ∷ [])
+unfolding digits is_bad_event items values left_over is_spoiled max_depth url_on_literals utf8_lossy utf8_valid_len
+none_after_the_end word = legal sourced word _ _ refl refl (at_sourced, (refl, (refl, (refl, tt))))
 
 -- where these are refused they are told no more, and requests go on
 pub none_after_a_refusal : IsTraceIn sourced

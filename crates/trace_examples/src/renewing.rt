@@ -13,7 +13,7 @@ ghost use Rattle.driver_model.specs.declared.outcome.Outcome.TheVariants as outc
 ghost use Rattle.driver_model.specs.Request.{packed_bytes};
 ghost use Rattle.trace_examples.specs.Parts.{turn, command, okay_line};
 ghost use Rattle.trace_examples.specs.Setups.{wrong_password};
-ghost use Rattle.trace_examples.specs.Creds.{sourced};
+ghost use Rattle.trace_examples.specs.Creds.{sourced, no_credentials};
 ghost use Rattle.trace_examples.specs.Renewals.{sourced_in_time, sourced_at_a_time, of_letter};
 ghost use Rattle.trace_examples.specs.Renewals.{line_of, first_taken, needed_again, renewal_came};
 ghost use Rattle.trace_examples.specs.Renewals.{renewal_told, second_came, renewal_taken};
@@ -26,9 +26,10 @@ ghost use Rattle.trace_examples.specs.Fronts.{EachStands};
 
 /// Does nothing. Its contract: these are legal too. The first credentials are said in the setup, and
 /// those that come of the second source are told by AUTH, one after another, each once those before
-/// are taken, whose reply answers nobody. After a refusal, or a reply that came too late, none are
-/// told, and requests go on; a timer that fires behind the reply changes nothing. On a link that is
-/// held back they wait before all requests, also where the queue is full; there they count as one.
+/// are taken, whose reply answers nobody. An error of the source changes nothing, and none are told
+/// that come behind its end. After a refusal, or a reply that came too late, none are told, and
+/// requests go on; a timer that fires behind the reply changes nothing. On a link that is held back
+/// they wait before all requests, also where the queue is full; there they count as one.
 pub fn these_renew_credentials()
     ensures set_up_and_renewed { IsTraceIn sourced
         (once_set_up (event.Creds 1 (of_letter 113) ∷ event.CredsEnd 1 ∷ []))
@@ -37,6 +38,16 @@ pub fn these_renew_credentials()
         (once_set_up (event.Creds 1 (of_letter 113) ∷ event.Creds 1 (of_letter 114)
         ∷ event.Wrote 0 28 ∷ event.Bytes 0 okay_line ∷ []))
         renewal_taken (action.Start 0 2 owner.Auth 1 28 ∷ action.Write 0 (line_of 114) ∷ []) }
+    ensures none_after_the_end { IsTraceIn sourced
+        (once_set_up (event.Creds 1 (of_letter 113) ∷ event.Creds 1 (of_letter 114)
+        ∷ event.CredsError 1 no_credentials ∷ event.CredsEnd 1 ∷ event.Creds 1 (of_letter 115)
+        ∷ event.Wrote 0 28 ∷ event.Bytes 0 okay_line ∷ event.Wrote 0 28
+        ∷ event.Bytes 0 okay_line ∷ [])) second_came
+        (turn 7 (event.CredsError 1 no_credentials) ∷ turn 8 (event.CredsEnd 1)
+        ∷ turn 9 (event.Creds 1 (of_letter 115)) ∷ turn 10 (event.Wrote 0 28)
+        ∷ turn 11 (event.Bytes 0 okay_line) ∷ action.Start 0 2 owner.Auth 1 28
+        ∷ action.Write 0 (line_of 114) ∷ turn 12 (event.Wrote 0 28)
+        ∷ turn 13 (event.Bytes 0 okay_line) ∷ []) }
     ensures none_after_a_refusal { IsTraceIn sourced
         (once_set_up (event.Creds 1 (of_letter 113) ∷ event.Creds 1 (of_letter 114)
         ∷ event.Wrote 0 28 ∷ event.Bytes 0 wrong_password ∷ event.Submit (command 71)
