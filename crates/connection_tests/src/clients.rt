@@ -2,8 +2,9 @@ ghost use Rattle.std.specs.Prelude.{◌≡◌, true};
 ghost use Rattle.driver_model.specs.News.{told};
 ghost use Rattle.mux_conn.specs.Effects.{CanTake, IsWithin};
 
-use crate::connections::said;
+use crate::connections::{auth, said};
 use connection_info::{AsyncConnectionConfig, Client, OpenError};
+use credentials::BasicAuth;
 use driver_model::{Config, LinkEvent, LinkNews, Outcome};
 use mux_client::{
     Connect, ConnectionAct, ConnectionGetters, ConnectionLike, ConnectionTimer,
@@ -246,6 +247,34 @@ fn come_late(
 fn the_time_of_a_request_is_over(rt: HostRuntime) -> Result<(), AllocError> {
     let mut conn = connected(rt.alloc(), &AsyncConnectionConfig::new())?;
     come_late(&rt, rt.alloc(), &mut conn)
+}
+
+/// Credentials come of both sources that a connection asks for.
+fn renew(
+    rt: &impl Abort,
+    alloc: Global,
+    conn: &mut MultiplexedConnection,
+    auth: &BasicAuth,
+) -> Result<(), AllocError> {
+    let asks = ["connect-timer", "need-creds"];
+    assert!(rt; shows(alloc, conn, LinkNews::Connected, &asks)?);
+    let says = ["setup", "write"];
+    assert!(rt; shows(alloc, conn, LinkNews::Authorized { auth }, &says)?);
+    let piece = b"+OK\r\n";
+    let renews = ["created", "need-creds"];
+    assert!(rt; shows(alloc, conn, LinkNews::Came { piece }, &renews)?);
+    let tells = ["renewal-timer", "renewed"];
+    assert!(rt; shows(alloc, conn, LinkNews::Renewed { auth }, &tells)?);
+    Ok(())
+}
+
+#[test]
+fn credentials_come_of_a_provider(rt: HostRuntime) -> Result<(), AllocError> {
+    let config = AsyncConnectionConfig::new().set_credentials_provider();
+    let info = said(None);
+    let mut conn = must(MultiplexedConnection::new_with_config(rt.alloc(), &info, 3, &config))?;
+    let auth = auth(rt.alloc(), b"u", b"p")?;
+    renew(&rt, rt.alloc(), &mut conn, &auth)
 }
 
 /// Whether the driver itself may say something at a connection that is up.

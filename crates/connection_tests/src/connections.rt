@@ -186,7 +186,11 @@ fn take(
 }
 
 /// These credentials.
-fn auth(alloc: Global, username: &[u8], password: &[u8]) -> Result<BasicAuth, AllocError> {
+pub(crate) fn auth(
+    alloc: Global,
+    username: &[u8],
+    password: &[u8],
+) -> Result<BasicAuth, AllocError> {
     let username = Bytes::from_slice(alloc, username)?;
     let password = Bytes::from_slice(alloc, password)?;
     Ok(BasicAuth::new(username, password))
