@@ -282,7 +282,3 @@ request_owner requests p q other e =
 
     one_name : (m n : ℕ) → owner.Try m 0 ≡ owner.Try n 0 → m ≡ n
     one_name m n e = cc
-
--- by the book
-pub owner_is : (b : Book) (t : Inner) (p : ℕ) → Tied b t → p < length t.requests → owner_of t.requests p ≡ owner.Try (name_at t.requests p) 0
-owner_is b t p h within = owner_below t.requests p (request_not b t p h within)

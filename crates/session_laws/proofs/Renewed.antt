@@ -108,15 +108,6 @@ early_second c life n unready alive h count two = few_sources c.asked c.renews n
     few_sources true false n once count two = omega arith
     few_sources false false n once count two = omega arith
 
--- where there is one, it renews
-renews_so : (c : Sourced) (n : ℕ) → n ≡ sources_asked_in c → 2 ≤ n → c.renews ≡ true
-renews_so c n count two = by_kind c.asked c.renews count
-  where
-    by_kind : (a b : Bool) → n ≡ (if a then 1 else 0) + (if b then 1 else 0) → b ≡ true
-    by_kind a true e = refl
-    by_kind true false e = absurd (omega arith)
-    by_kind false false e = absurd (omega arith)
-
 -- new credentials come
 --
 -- some are behind others

@@ -116,12 +116,6 @@ setup_ready l info started link after h = record { info_is = h.info_is; sent = h
 abbrev pub recredited : Ledger → Bool → Bool → List Credentials → Bool → ℕ → Bool → Ledger
 recredited l asked renews renewals over timed lost = record l { creds = record l.creds { asked = asked; renews = renews; renewals = renewals; over = over; timed = timed; lost = lost } }
 
--- what is due next there
-pub after_recredited : (l : Ledger) (asked renews : Bool) (renewals : List Credentials) (over : Bool) (timed : ℕ) (lost : Bool) (n : ℕ) → setup_after (recredited l asked renews renewals over timed lost) n ≡ setup_after l n
-after_recredited l asked renews renewals over timed lost zero = refl
-after_recredited l asked renews renewals over timed lost (suc zero) = refl
-after_recredited l asked renews renewals over timed lost (suc (suc k)) = refl
-
 -- what the last setup came to
 last_recredited : (l : Ledger) (asked renews : Bool) (renewals : List Credentials) (over : Bool) (timed : ℕ) (lost : Bool) (n : ℕ) → last_result (recredited l asked renews renewals over timed lost) n ≡ last_result l n
 last_recredited l asked renews renewals over timed lost zero = refl
