@@ -20,6 +20,7 @@ use Rattle.mux_conn.specs.Requests.{if_there, is_open, is_waiting, is_admitted, 
 use Rattle.mux_conn.specs.Connection.{Work}
 use Rattle.mux_conn.specs.Effects.{cancelled_in, left}
 use Rattle.mux_conn.specs.Passes.{passed}
+use Rattle.mux_conn.specs.Renewals.{renewal_id}
 use Rattle.shared_session.specs.declared.core_state.Core.{Core}
 use Rattle.shared_session.specs.Turn.{Turning, work_of, with_work, heard, left_by, counted, moved_on, numbered, exceeds_offer, is_bad, shown_each, actions_of, next_turn}
 use Rattle.shared_session.specs.Replay.{opening_core, opening_actions, run_on, state_after, turns_on, trace_of, told_each, outcomes_in, outcome_at, is_bad_after}
@@ -27,12 +28,12 @@ use Rattle.shared_session.proofs.Replays.{turns_after}
 use Rattle.cancel_laws.specs.ButFor.{all_unnumbered, but_for, hushed_life}
 use Rattle.cancel_laws.specs.Cancels.{cancel_of, HasStarted, GoesOn}
 use Rattle.cancel_laws.specs.Laws.{HasNoLimit}
-use Rattle.cancel_laws.proofs.Requests.{own_closed}
+use Rattle.cancel_laws.proofs.Requests.{names_count, own_closed}
 use Rattle.cancel_laws.proofs.Names.{own_of}
 use Rattle.cancel_laws.proofs.Links.{none_from}
 use Rattle.cancel_laws.proofs.Kept.{At, There, AtCore, Unlimited, left_by_kept, passed_kept, flushed_kept, turn_kept}
 use Rattle.cancel_laws.proofs.Gone.{NoneQueued, NoneInRow, NoneIs, IsAway, away_kept, IsHushed, hushed_kept, hushed_asks, quiet_life}
-use Rattle.cancel_laws.proofs.Bare.{own_left}
+use Rattle.cancel_laws.proofs.Moved.{own_left}
 use Rattle.cancel_laws.proofs.Once.{IsOnce, silenced_once, row_once}
 use Rattle.cancel_laws.proofs.Rest.{nothing_moves, left_idle}
 use Rattle.cancel_laws.proofs.Silent.{IsSilent, silent_kept}
@@ -57,6 +58,12 @@ cancel_turn c n p unlimited r there none =
     ∙ ap (λ (w : Work). numbered (with_work d w)) (nothing_moves (work_of d) (left_idle c.single.connection p.number unlimited none r.idle))
     ∙ (λ i. record { core = record c { turns = c.turns + 1; shut = shut i; timers = timers i; sources = sources i; single = record c.single { connection = left c.single.connection p.number } }; acts = [] })
 
+-- a request has another number than the message that tells new credentials
+started_apart : (n : ℕ) (c : Core) (h : HasStarted n c) → IsReady c → renewal_id ≢ h.pending.number
+started_apart n c h r =
+    let there = get_within c.single.connection.requests h.pending.number h.request h.known in
+    λ e. omega (arith, e, there, r.named.fewer, names_count c.single.connection.requests, h.numbered)
+
 -- a started request is gone from the queue
 started_none : (n : ℕ) (c : Core) (h : HasStarted n c) → NoneQueued h.pending.number c.single.connection.life
 started_none n c h = let p = h.pending.number in subst (NoneQueued p) (sym h.up) (none_from p h.link.queue h.gone)
@@ -73,6 +80,7 @@ started_away n c h r =
       gone = record {
         there = get_within c.single.connection.requests p h.request h.known;
         own = own_of n h.pending c.table _ r.named h.there;
+        apart = started_apart n c h r;
         past = ap (if_there is_waiting) h.known ∙ ap is_waiting h.placed;
         seated = ap (if_there is_admitted) h.known ∙ ap is_admitted h.placed;
         none = started_none n c h;
@@ -143,7 +151,7 @@ cancel_hushed : (n : ℕ) (c : Core) (h : HasStarted n c) → AtCore Unlimited c
 cancel_hushed n c h u r =
     let p = h.pending.number in
     let x = c.single.connection in
-    let once : IsOnce p x.requests (Ready h.link) = subst (IsOnce p x.requests) h.up (r.once p) in
+    let once : IsOnce p x.requests (Ready h.link) = subst (IsOnce p x.requests) h.up (r.once p (started_apart n c h r)) in
     let quiet : NoneInRow p (cancelled_in x.life p) =
     subst (λ (life : Life). NoneInRow p (cancelled_in life p)) (sym h.up) (silenced_once p h.link.row (row_once p x.requests h.link h.request once h.known)) in
     record {

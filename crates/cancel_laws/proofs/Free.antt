@@ -1,7 +1,7 @@
 -- A submission that is handed in on a link that is ready, and which nothing holds back, has started.
-use Rattle.std.proofs.Common.{◌≡◌, ◌≢◌, ℕ, ◌==◌, not, ◌||◌, Bool, true, false, List, [], ◌∷◌, ◌++◌, length, Option, Some, slice_get, if◌then◌else◌, refl, sym, ap, ◌∙◌, subst, arith, inl, inr}
+use Rattle.std.proofs.Common.{◌≡◌, ◌≢◌, ◌≤◌, ◌^◌, ◌+◌, nat_le, length-append, ℕ, ◌==◌, not, ◌||◌, Bool, true, false, List, [], ◌∷◌, ◌++◌, length, Option, Some, slice_get, if◌then◌else◌, refl, sym, ap, ◌∙◌, subst, arith, inl, inr}
 use Rattle.std.proofs.Math.Bool.{or-false}
-use Rattle.containers.proofs.Choices.{chosen, if_true, if_false, ne_test, not_both}
+use Rattle.containers.proofs.Choices.{chosen, if_true, if_false, left_if, ne_test, not_both}
 use Rattle.containers.proofs.Places.{get_set_same, get_within}
 use Rattle.link_laws.proofs.Lists.{get_last}
 use Rattle.driver_model.specs.declared.config.Config.{Config}
@@ -24,7 +24,8 @@ use Rattle.mux_conn.specs.declared.request.Pending.{Pending}
 use Rattle.mux_conn.specs.declared.request.Progress.TheVariants as progress
 use Rattle.mux_conn.specs.declared.request.Request.{Request}
 use Rattle.mux_conn.specs.declared.request.Waiting.{Waiting}
-use Rattle.mux_conn.specs.Connection.{Work, with_link, has_no_permit, admits_none_at, admits_none, has_room}
+use Rattle.mux_conn.specs.declared.renewal.Renewal.{Renewal}
+use Rattle.mux_conn.specs.Connection.{Work, with_link, has_no_permit, admits_none_at, admits_none, has_room, has_room_at, in_front, is_due}
 use Rattle.mux_conn.specs.Requests.{if_there, is_waiting, is_waiting_at, name_at, permits_at, answered, waiting_of, asked}
 use Rattle.mux_conn.specs.Passes.{started, message_of, placed_at, told_at_place, seated, moved_up_all, put_behind, seated_or_behind, permits_taken, holding, let_in, admitted_at, admitted, still_waiting, still_admitted, admitted_each, admitted_all, passed}
 use Rattle.mux_conn.specs.Turn.{written_at, written, flushed}
@@ -33,7 +34,7 @@ use Rattle.shared_session.specs.Turn.{Turning, pending, work_of, heard, refused_
 use Rattle.shared_session.specs.Replay.{state_after}
 use Rattle.cancel_laws.specs.Cancels.{handed_in_at, IsFree, HasStarted}
 use Rattle.cancel_laws.proofs.Kept.{let_in_conn}
-use Rattle.cancel_laws.proofs.Rest.{IsThrough, HasStartedAll, IsIdle, conn_shown, started_stays, none_moved_up, waits_conn}
+use Rattle.cancel_laws.proofs.Rest.{IsThrough, IsStartedOn, IsIdle, conn_shown, renewed_stays, started_stays, none_moved_up, waits_conn}
 use Rattle.cancel_laws.proofs.Ready.{IsReady}
 use Rattle.cancel_laws.proofs.Cancels.{state_split, ready_after}
 
@@ -86,8 +87,8 @@ all_flushed p w h =
     (record { request = g.request; known = g.known; placed = g.placed; link = g.link; up = g.up; gone = g.gone })
 
 -- so has its submission
-has_started : (n : ℕ) (c : Core) (p : Pending) → slice_get c.table n ≡ Some (Some p) → IsStarted p.number c.single.connection → HasStarted n c
-has_started n c p there h = record { pending = p; there = there; request = h.request; known = h.known; placed = h.placed; link = h.link; up = h.up; gone = h.gone }
+has_started : (n : ℕ) (c : Core) (p : Pending) → slice_get c.table n ≡ Some (Some p) → length c.table ≤ 2 ^ 32 → IsStarted p.number c.single.connection → HasStarted n c
+has_started n c p there numbered h = record { pending = p; there = there; request = h.request; known = h.known; placed = h.placed; link = h.link; up = h.up; gone = h.gone; numbered = numbered }
 
 -- a list with items has some
 no_bytes : (xs : List ℕ) → xs ≢ [] → (length xs == 0) ≡ false
@@ -125,10 +126,17 @@ place_starts w q l x known up none goes awaited =
     let told : IsStarted p (started (told_at_place d q)).conn = if_true (λ (z : Work). IsStarted p (started z).conn) q.awaited d (answered d p (outcome.One Nil)) awaited shows in
     subst (λ (life : Life). IsStarted p (started (told_at_place (placed_at w q life) q)).conn) (sym up) told
 
+-- a queue that holds less than its size has room, where no new credentials are to be told
+room_alone : (r : Renewal) (l : LinkState) → is_due r ≡ false → is_full l ≡ false → has_room_at (Ready l) (in_front r) ≡ true
+room_alone r l none room =
+    let count : in_front r ≡ 0 = left_if (is_due r) 1 0 none in
+    let same : in_front r + length l.queue ≡ length l.queue = omega (arith, count) in
+    ap (λ (k : ℕ). not (nat_le l.size k)) same ∙ ap not room
+
 -- a request that waits is let in, and takes its place
-admitted_starts : (w : Work) (q : Waiting) (l : LinkState) (x : Request) → slice_get w.conn.requests q.number ≡ Some x → w.conn.life ≡ Ready l → l.queue ≡ [] → holds_back l ≡ false → is_full l ≡ false → q.awaited ≡ true
+admitted_starts : (w : Work) (q : Waiting) (l : LinkState) (x : Request) → slice_get w.conn.requests q.number ≡ Some x → w.conn.life ≡ Ready l → l.queue ≡ [] → holds_back l ≡ false → is_full l ≡ false → is_due w.conn.renewal ≡ false → q.awaited ≡ true
     → IsStarted q.number (admitted_at w q w.conn.life).conn
-admitted_starts w q l x known up none goes room awaited =
+admitted_starts w q l x known up none goes room alone awaited =
     let p = q.number in
     let count = permits_taken w.conn.limit w.conn.free q.shape in
     let d = let_in w q in
@@ -136,8 +144,8 @@ admitted_starts w q l x known up none goes room awaited =
     let y : Request = record { name = name_at w.conn.requests p; progress = progress.Admitted; permits = count } in
     let life : d.conn.life ≡ Ready l = ap (λ (c : MultiplexedConnection). c.life) same ∙ up in
     let there : slice_get d.conn.requests p ≡ Some y = ap (λ (c : MultiplexedConnection). slice_get c.requests p) same ∙ get_set_same w.conn.requests p y (get_within w.conn.requests p x known) in
-    let fits : has_room d.conn.life ≡ true = ap has_room life ∙ ap not room in
-    let sits : IsStarted p (seated_or_behind d q).conn = if_true (λ (z : Work). IsStarted p z.conn) (has_room d.conn.life) (seated d q) (put_behind d q) fits (place_starts d q l y there life none goes awaited) in
+    let fits : has_room d.conn ≡ true = ap has_room same ∙ ap (λ (life : Life). has_room_at life (in_front w.conn.renewal)) up ∙ room_alone w.conn.renewal l alone room in
+    let sits : IsStarted p (seated_or_behind d q).conn = if_true (λ (z : Work). IsStarted p z.conn) (has_room d.conn) (seated d q) (put_behind d q) fits (place_starts d q l y there life none goes awaited) in
     subst (λ (life : Life). IsStarted p (admitted_at w q life).conn) (sym up) sits
 
 -- so has one that comes where nobody waits
@@ -151,20 +159,26 @@ asked_starts c name packed shape timeout l idle up goes room permit =
     let v = still_waiting w [] in
     let m = idle.written.moved in
     let known : slice_get w.conn.requests p ≡ Some x = get_last c.requests x in
-    let through : IsThrough l = subst HasStartedAll up m.seated.queue in
-    let none : l.queue ≡ [] = queue_empty l through goes in
+    let through : IsStartedOn c.renewal (Ready l) = subst (IsStartedOn c.renewal) up m.seated.through in
+    let none : l.queue ≡ [] = queue_empty l through.queue goes in
+    let undue : is_due c.renewal ≡ false = none_due (is_due c.renewal) (λ t. not_both (holds_back l) goes (through.renewed t).1) in
     let moves : admits_none c ≡ false = ap (λ (life : Life). admits_none_at life (has_no_permit c.limit c.free)) up ∙ permit in
     let alone : IsStarted p (admitted v q).conn =
-    if_true (λ (z : Work). IsStarted p z.conn) (is_waiting_at w.conn.requests p) (admitted_at v q v.conn.life) v (ap (if_there is_waiting) known) (admitted_starts v q l x known up none goes room refl) in
+    if_true (λ (z : Work). IsStarted p z.conn) (is_waiting_at w.conn.requests p) (admitted_at v q v.conn.life) v (ap (if_there is_waiting) known) (admitted_starts v q l x known up none goes room undue refl) in
     let last : IsStarted p (still_waiting (admitted v q) []).conn = record { request = alone.request; known = alone.known; placed = alone.placed; link = alone.link; up = alone.up; gone = alone.gone } in
     let one : IsStarted p (admitted_each v (q ∷ [])).conn = if_false (λ (z : Work). IsStarted p z.conn) (admits_none c) (still_waiting v (q ∷ [])) (still_waiting (admitted v q) []) moves last in
     let all : IsStarted p (admitted_all w).conn = subst (λ (qs : List Waiting). IsStarted p (admitted_each v (qs ++ q ∷ [])).conn) (sym (m.waiting moves)) one in
     subst (λ (z : Work). IsStarted p z.conn)
-    (sym (ap (λ (z : Work). admitted_all (moved_up_all z)) (started_stays w c.life refl m.seated.queue) ∙ ap admitted_all (none_moved_up (still_admitted w []) c.admitted m.seated.admitted))) all
+    (sym (ap (λ (z : Work). admitted_all (moved_up_all (started z))) (renewed_stays w m.seated.through.renewed)
+    ∙ ap (λ (z : Work). admitted_all (moved_up_all z)) (started_stays w c.life refl m.seated.through.queue) ∙ ap admitted_all (none_moved_up (still_admitted w []) c.admitted m.seated.admitted))) all
   where
     queue_empty : (l : LinkState) → IsThrough l → holds_back l ≡ false → l.queue ≡ []
     queue_empty l (inl e) f = e
     queue_empty l (inr t) f = absurd (not_both (holds_back l) f t)
+
+    none_due : (b : Bool) → (b ≡ true → ⊥) → b ≡ false
+    none_due true f = absurd (f refl)
+    none_due false f = refl
 
 -- and its submission
 turn_starts : (c : Core) (s : Submission) → packed_bytes s ≢ [] → is_reply_awaited s ≡ true → IsReady c → IsFree c → lacks_resp3 c.single.connection.info.protocol s ≡ false → HasStarted (length c.table) (next_turn c (event.Submit s)).core
@@ -179,8 +193,9 @@ turn_starts c s some awaited ready free spoken =
     } in
     let sits : IsStarted p (passed (work_of (asks true))).conn =
     asked_starts conn n (packed_bytes s) (shape_of s) c.timeout free.link ready.idle free.ready free.goes free.room free.permit in
+    let few : length (c.table ++ Some (pending p) ∷ []) ≤ 2 ^ 32 = omega (arith, free.numbered, length-append c.table (Some (pending p) ∷ [])) in
     let done : HasStarted n (numbered (moved_on (asks true))).core =
-    has_started n (numbered (moved_on (asks true))).core (pending p) (get_last c.table (Some (pending p))) (all_flushed p (passed (work_of (asks true))) sits) in
+    has_started n (numbered (moved_on (asks true))).core (pending p) (get_last c.table (Some (pending p))) few (all_flushed p (passed (work_of (asks true))) sits) in
     let own : HasStarted n (numbered (moved_on (asks (is_reply_awaited s)))).core = subst (λ (b : Bool). HasStarted n (numbered (moved_on (asks b))).core) (sym awaited) done in
     let packed = if length (packed_bytes s) == 0 then refused_with t error.EmptyCommand else asks (is_reply_awaited s) in
     if_false (λ (x : Turning). HasStarted n (numbered (moved_on x)).core) (c.shut || false) _ (if lacks_resp3 conn.info.protocol s then refused_with t error.Resp3Required else packed) (or-false c.shut ∙ free.unshut)

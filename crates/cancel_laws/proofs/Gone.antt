@@ -11,10 +11,11 @@ use Rattle.mux_conn.specs.declared.request.Request.{Request}
 use Rattle.mux_conn.specs.Requests.{is_waiting, is_admitted, is_waiting_at, is_admitted_at, permits_at, with_permits}
 use Rattle.mux_conn.specs.Effects.{cancelled_in}
 use Rattle.mux_conn.specs.Passes.{message_of}
+use Rattle.mux_conn.specs.Renewals.{renewal_id}
 use Rattle.cancel_laws.specs.ButFor.{hushed_life}
 use Rattle.cancel_laws.proofs.Requests.{names, names_stay, names_push, progress_count, past_set, test_other, test_push, other_test}
 use Rattle.cancel_laws.proofs.Names.{IsOwn, own_push}
-use Rattle.cancel_laws.proofs.Links.{NoneOf, NoneWanted, none_push, none_without, none_started, none_came, quiet_starts, quiet_came, quiet_silenced, quiet_stays}
+use Rattle.cancel_laws.proofs.Links.{NoneOf, NoneWanted, none_push, none_without, none_started, none_came, quiet_behind, quiet_starts, quiet_came, quiet_silenced, quiet_stays}
 use Rattle.cancel_laws.proofs.Kept.{IsKept, IsKeptThere, There, kept_there, CanAsk}
 
 -- the link has been set up, and nobody awaits message p in its queue
@@ -33,11 +34,12 @@ NoneInRow p (SettingUp l with_user) = Unit {0}
 NoneInRow p (Ready l) = NoneWanted p l.row
 NoneInRow p (Ended e) = Unit {0}
 
--- request p has the name n, waits neither for the connection nor for a place, and isn't in the queue of its link, which has
--- been set up
+-- request p has the name n, and a number as requests have; it waits neither for the connection nor for a place, and isn't in
+-- the queue of its link, which has been set up
 pub record IsGone (n p : ℕ) (r : List Request) (life : Life) : Type 0 where
   pub there : p < length r
   pub own : IsOwn n p (names r)
+  pub apart : renewal_id ≢ p
   pub past : is_waiting_at r p ≡ false
   pub seated : is_admitted_at r p ≡ false
   pub none : NoneQueued p life
@@ -70,11 +72,12 @@ gone_there n p = record {
   answer = λ r life q h. record {
     there = within_kept r p q progress.Closed 0 h.there;
     own = own_kept n p r q progress.Closed 0 h.own;
+    apart = h.apart;
     past = past_set is_waiting r q p progress.Closed 0 refl h.past;
     seated = past_set is_admitted r q p progress.Closed 0 refl h.seated;
     none = h.none;
   };
-  hush = λ r life q h. record { there = h.there; own = h.own; past = h.past; seated = h.seated; none = none_cancelled p q life h.none };
+  hush = λ r life q h. record { there = h.there; own = h.own; apart = h.apart; past = h.past; seated = h.seated; none = none_cancelled p q life h.none };
   want = λ r size bound h. absurd h.none;
   wait_on = λ r l k few h. absurd h.none;
   connect = λ r l h. absurd h.none;
@@ -85,6 +88,7 @@ gone_there n p = record {
   admit = λ r life q count t h. record {
     there = within_kept r p q progress.Admitted count h.there;
     own = own_kept n p r q progress.Admitted count h.own;
+    apart = h.apart;
     past = past_set is_waiting r q p progress.Admitted count refl h.past;
     seated = test_other is_admitted r q p progress.Admitted count (other_test is_waiting r q p t h.past) ∙ h.seated;
     none = h.none;
@@ -92,15 +96,17 @@ gone_there n p = record {
   place = λ r l q t h. record {
     there = within_kept r p q.number progress.Placed (permits_at r q.number) h.there;
     own = own_kept n p r q.number progress.Placed (permits_at r q.number) h.own;
+    apart = h.apart;
     past = past_set is_waiting r q.number p progress.Placed (permits_at r q.number) refl h.past;
     seated = past_set is_admitted r q.number p progress.Placed (permits_at r q.number) refl h.seated;
     none = none_push p l.queue (message_of q) h.none (not_awaited p q.number q.awaited (other_test is_admitted r q.number p t h.seated));
   };
-  start = λ r l h. record { there = h.there; own = h.own; past = h.past; seated = h.seated; none = none_started p (record { link = l; out = [] }) l.queue h.none };
-  offer = λ r l h. record { there = h.there; own = h.own; past = h.past; seated = h.seated; none = h.none };
-  write = λ r l k h. record { there = h.there; own = h.own; past = h.past; seated = h.seated; none = h.none };
-  come = λ r l piece h. record { there = h.there; own = h.own; past = h.past; seated = h.seated; none = none_came p l piece h.none };
-  end = λ r life e h. record { there = h.there; own = h.own; past = h.past; seated = h.seated; none = tt };
+  start = λ r l h. record { there = h.there; own = h.own; apart = h.apart; past = h.past; seated = h.seated; none = none_started p (record { link = l; out = [] }) l.queue h.none };
+  renew = λ r l q own h. record { there = h.there; own = h.own; apart = h.apart; past = h.past; seated = h.seated; none = h.none };
+  offer = λ r l h. record { there = h.there; own = h.own; apart = h.apart; past = h.past; seated = h.seated; none = h.none };
+  write = λ r l k h. record { there = h.there; own = h.own; apart = h.apart; past = h.past; seated = h.seated; none = h.none };
+  come = λ r l piece h. record { there = h.there; own = h.own; apart = h.apart; past = h.past; seated = h.seated; none = none_came p l piece h.none };
+  end = λ r life e h. record { there = h.there; own = h.own; apart = h.apart; past = h.past; seated = h.seated; none = tt };
 }
 
 -- so each part of a turn does
@@ -114,6 +120,7 @@ gone_asked n p m r life o h =
     record {
       there = omega (arith, h.there, length-append r (x ∷ []));
       own = subst (IsOwn n p) (sym (names_push r x)) (own_push n p m (names r) o h.own);
+      apart = h.apart;
       past = test_push is_waiting r p x h.there ∙ h.past;
       seated = test_push is_admitted r p x h.there ∙ h.seated;
       none = h.none;
@@ -153,6 +160,7 @@ away_kept n p = record {
   note = λ lim r life ms xs q t h. record { gone = h.gone; unmoved = none_is_push p ms q (other_test is_admitted r q p t h.gone.seated) h.unmoved };
   place = λ lim r l ms xs q t h. record { gone = (gone_there n p).place r l q t h.gone; unmoved = h.unmoved };
   start = λ lim r l ms xs h. record { gone = (gone_there n p).start r l h.gone; unmoved = h.unmoved };
+  renew = λ lim r l ms xs q own h. record { gone = (gone_there n p).renew r l q own h.gone; unmoved = h.unmoved };
   offer = λ lim r l ms xs h. record { gone = (gone_there n p).offer r l h.gone; unmoved = h.unmoved };
   write = λ lim r l ms xs k h. record { gone = (gone_there n p).write r l k h.gone; unmoved = h.unmoved };
   come = λ lim r l ms xs piece h. record { gone = (gone_there n p).come r l piece h.gone; unmoved = h.unmoved };
@@ -198,6 +206,10 @@ hushed_there n p = record {
   admit = λ r life q count t h. record { gone = (gone_there n p).admit r life q count t h.gone; quiet = h.quiet };
   place = λ r l q t h. record { gone = (gone_there n p).place r l q t h.gone; quiet = h.quiet };
   start = λ r l h. record { gone = (gone_there n p).start r l h.gone; quiet = quiet_starts p (record { link = l; out = [] }) l.queue h.gone.none h.quiet };
+  renew = λ r l q own h. record {
+    gone = (gone_there n p).renew r l q own h.gone;
+    quiet = quiet_behind p l.row q (not_awaited p q.id q.awaited (λ e. h.gone.apart (sym own ∙ e))) h.quiet;
+  };
   offer = λ r l h. record { gone = (gone_there n p).offer r l h.gone; quiet = h.quiet };
   write = λ r l k h. record { gone = (gone_there n p).write r l k h.gone; quiet = h.quiet };
   come = λ r l piece h. record { gone = (gone_there n p).come r l piece h.gone; quiet = quiet_came p l piece h.quiet };

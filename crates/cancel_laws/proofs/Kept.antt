@@ -1,5 +1,5 @@
 -- What each part of a turn keeps: a fact of the limit of permits, of the requests, of the link's life, of those that were moved, and of what the turn has shown.
-use Rattle.std.proofs.Common.{◌≡◌, ℕ, ◌+◌, ◌≤◌, ◌==◌, true, false, Bool, List, [], ◌∷◌, ◌++◌, length, Option, Some, None, slice_get, if◌then◌else◌, refl, ap, ◌∙◌, arith, nat_le}
+use Rattle.std.proofs.Common.{◌≡◌, ℕ, ◌+◌, ◌≤◌, ◌==◌, ◌&&◌, true, false, Bool, List, [], ◌∷◌, ◌++◌, length, Option, Some, None, slice_get, if◌then◌else◌, refl, ap, ◌∙◌, arith, nat_le}
 use Rattle.containers.proofs.Choices.{chosen}
 use Rattle.redis_error.specs.declared.redis_error.RedisError.TheVariants as error
 use Rattle.redis_error.specs.declared.fault_kind.FaultKind.TheVariants as kinds
@@ -20,7 +20,7 @@ use Rattle.driver_model.specs.declared.news.LinkFault.{LinkFault}
 use Rattle.driver_model.specs.declared.news.LinkFault.TheVariants as fault
 use Rattle.driver_model.specs.declared.outcome.Outcome.{Outcome}
 use Rattle.driver_model.specs.declared.outcome.Outcome.TheVariants as outcome
-use Rattle.driver_model.specs.News.{News, news_of, silence, connected, took, failed, shut, refused, overdue, authorized, denied, deserted}
+use Rattle.driver_model.specs.News.{News, news_of, silence, connected, took, failed, shut, refused, overdue, authorized, denied, deserted, renewed, unrenewed, late}
 use Rattle.driver_model.specs.News.{came}
 use Rattle.driver_model.specs.Request.{packed_bytes, lacks_resp3}
 use Rattle.driver_model.specs.Setup.{says_nothing}
@@ -28,7 +28,7 @@ use Rattle.driver_model.specs.Shape.{outcome_of}
 use Rattle.link_core.specs.declared.message.Queued.{Queued}
 use Rattle.link_core.specs.declared.message.Settled.{Settled}
 use Rattle.link_core.specs.declared.message.Started.{Started}
-use Rattle.link_core.specs.Link.{LinkState, Settling, fresh, enqueued, started_all, offered_of, wrote_of, piece_dealt, faulted, closed_all}
+use Rattle.link_core.specs.Link.{LinkState, Settling, fresh, enqueued, begun, start_of, holds_back, started_all, offered_of, wrote_of, piece_dealt, faulted, closed_all}
 use Rattle.link_core.specs.Outbox.{can_offer}
 use Rattle.mux_conn.specs.declared.act.LinkAct.{LinkAct}
 use Rattle.mux_conn.specs.declared.act.LinkAct.TheVariants as act
@@ -39,9 +39,11 @@ use Rattle.mux_conn.specs.declared.request.Pending.{Pending}
 use Rattle.mux_conn.specs.declared.request.Progress.TheVariants as progress
 use Rattle.mux_conn.specs.declared.request.Request.{Request}
 use Rattle.mux_conn.specs.declared.request.Waiting.{Waiting}
-use Rattle.mux_conn.specs.Connection.{Work, acted, at_life, with_link, with_setup, with_wanting, has_room, admits_none, is_ready}
+use Rattle.mux_conn.specs.Connection.{Work, acted, at_life, with_link, with_setup, with_wanting, has_room, admits_none, is_ready, is_due}
 use Rattle.mux_conn.specs.Requests.{is_open_at, is_waiting_at, is_admitted_at, name_at, with_permits, at_progress, answered}
-use Rattle.mux_conn.specs.Effects.{new_link, settled_each, failed_each, nobody_waits, waiting_failed, ended, opening_failed, authorized_at, come_up, comes_to_want, connected_at, unauthorized_at, with_credentials, refused_at, overdue_at, taken_at, failed_at, broken_at, read_to, read_at, shut_at, all_fresh, made_ready, steps_of, setup_queued, sets_up, judged_by, set_up_by, answered_setup, applied, cancelled_in, left, timed_out, all_answered, behind_first, cut_short, heard_in, heard_on, parted, pushed, pushed_each, told_each}
+use Rattle.mux_conn.specs.Effects.{new_link, settled_one, settled_each, failed_each, nobody_waits, waiting_failed, ended, opening_failed, authorized_at, come_up, comes_to_want, connected_at, unauthorized_at, with_credentials, refused_at, overdue_at, taken_at, failed_at, broken_at, read_to, read_at, shut_at, all_fresh, made_ready, steps_of, setup_queued, sets_up, judged_by, set_up_by, answered_setup, applied, cancelled_in, left, timed_out, all_answered, behind_first, cut_short, heard_in, heard_on, parted, pushed, pushed_each, told_each}
+use Rattle.mux_conn.specs.Renewals as renewals
+use Rattle.mux_conn.specs.Renewals.{renewing, expecting, takes_more, late_for, is_unanswered, renewal_id, renewal_queued, asked_next, renewal_act, renewal_timed, renewal_asked, renewal_told, renewal_moved}
 use Rattle.mux_conn.specs.Passes.{shown_each, set_up_each, started_at, started, message_of, placed_at, told_at_place, seated, still_admitted, moved_up, moved_up_each, moved_up_all, put_behind, seated_or_behind, permits_taken, holding, took_shown, took as holds, timer_asked, let_in, admitted_at, admitted, still_waiting, admitted_each, passed}
 use Rattle.mux_conn.specs.Turn.{written_at, written, moved_wait, fresh_wait, wait_shown, moved_each_shown, moved_shown, fresh_each_shown, flushed}
 use Rattle.shared_session.specs.declared.core_state.Core.{Core}
@@ -57,6 +59,7 @@ abbrev pub other_act : ℕ → LinkAct → List LinkAct
 other_act n (act.Created e) = act.Created e ∷ []
 other_act n (act.Took m count) = act.Took m count ∷ []
 other_act n (act.Timer m ms) = act.Timer m ms ∷ []
+other_act n (act.RenewalTimer k ms) = act.RenewalTimer k ms ∷ []
 other_act n (act.Push info) = act.Push info ∷ []
 other_act n act.NeedCreds = act.NeedCreds ∷ []
 other_act n act.Close = act.Close ∷ []
@@ -64,6 +67,7 @@ other_act n (act.Write bytes) = act.Write bytes ∷ []
 other_act n (act.Wait m kind) = act.Wait m kind ∷ []
 other_act n (act.Start message m need len) = act.Start message m need len ∷ []
 other_act n (act.SetUp message need len) = act.SetUp message need len ∷ []
+other_act n (act.Renewed message need len) = act.Renewed message need len ∷ []
 other_act n (act.Outcome m o) = if m == n then [] else act.Outcome m o ∷ []
 
 -- an act that answers nobody
@@ -86,6 +90,7 @@ pub record IsKept (P : Option ℕ → List Request → Life → List ℕ → Lis
   pub note : (lim : Option ℕ) (r : List Request) (life : Life) (ms : List ℕ) (xs : List LinkAct) (q : ℕ) → is_admitted_at r q ≡ true → P lim r life ms xs → P lim r life (ms ++ q ∷ []) xs
   pub place : (lim : Option ℕ) (r : List Request) (l : LinkState) (ms : List ℕ) (xs : List LinkAct) (q : Waiting) → is_admitted_at r q.number ≡ true → P lim r (Ready l) ms xs → P lim (at_progress r q.number progress.Placed) (Ready (enqueued l (message_of q))) ms xs
   pub start : (lim : Option ℕ) (r : List Request) (l : LinkState) (ms : List ℕ) (xs : List LinkAct) → P lim r (Ready l) ms xs → P lim r (Ready (started_all (record { link = l; out = [] })).link) ms xs
+  pub renew : (lim : Option ℕ) (r : List Request) (l : LinkState) (ms : List ℕ) (xs : List LinkAct) (q : Queued) → q.id ≡ renewal_id → P lim r (Ready l) ms xs → P lim r (Ready (begun l q)) ms xs
   pub offer : (lim : Option ℕ) (r : List Request) (l : LinkState) (ms : List ℕ) (xs : List LinkAct) → P lim r (Ready l) ms xs → P lim r (Ready (offered_of l)) ms xs
   pub write : (lim : Option ℕ) (r : List Request) (l : LinkState) (ms : List ℕ) (xs : List LinkAct) (k : ℕ) → P lim r (Ready l) ms xs → P lim r (Ready (wrote_of l k)) ms xs
   pub come : (lim : Option ℕ) (r : List Request) (l : LinkState) (ms : List ℕ) (xs : List LinkAct) (piece : List ℕ) → P lim r (Ready l) ms xs → P lim r (Ready (piece_dealt (record { link = l; out = [] }) piece).link) ms xs
@@ -107,6 +112,7 @@ pub record IsKeptThere (P : List Request → Life → Type 0) : Type 0 where
   pub admit : (r : List Request) (life : Life) (q count : ℕ) → is_waiting_at r q ≡ true → P r life → P (with_permits r q progress.Admitted count) life
   pub place : (r : List Request) (l : LinkState) (q : Waiting) → is_admitted_at r q.number ≡ true → P r (Ready l) → P (at_progress r q.number progress.Placed) (Ready (enqueued l (message_of q)))
   pub start : (r : List Request) (l : LinkState) → P r (Ready l) → P r (Ready (started_all (record { link = l; out = [] })).link)
+  pub renew : (r : List Request) (l : LinkState) (q : Queued) → q.id ≡ renewal_id → P r (Ready l) → P r (Ready (begun l q))
   pub offer : (r : List Request) (l : LinkState) → P r (Ready l) → P r (Ready (offered_of l))
   pub write : (r : List Request) (l : LinkState) (k : ℕ) → P r (Ready l) → P r (Ready (wrote_of l k))
   pub come : (r : List Request) (l : LinkState) (piece : List ℕ) → P r (Ready l) → P r (Ready (piece_dealt (record { link = l; out = [] }) piece).link)
@@ -133,6 +139,7 @@ kept_there k = record {
   note = λ lim r life ms xs q t h. h;
   place = λ lim r l ms xs q t h. k.place r l q t h;
   start = λ lim r l ms xs h. k.start r l h;
+  renew = λ lim r l ms xs q own h. k.renew r l q own h;
   offer = λ lim r l ms xs h. k.offer r l h;
   write = λ lim r l ms xs n h. k.write r l n h;
   come = λ lim r l ms xs piece h. k.come r l piece h;
@@ -162,6 +169,7 @@ unlimited_kept = record {
   note = λ lim r life ms xs q t h. h;
   place = λ lim r l ms xs q t h. h;
   start = λ lim r l ms xs h. h;
+  renew = λ lim r l ms xs q own h. h;
   offer = λ lim r l ms xs h. h;
   write = λ lim r l ms xs n h. h;
   come = λ lim r l ms xs piece h. h;
@@ -180,10 +188,14 @@ At P w = P w.conn.limit w.conn.requests w.conn.life w.conn.moved w.acts
 pub answered_kept : {P : Option ℕ → List Request → Life → List ℕ → List LinkAct → Type 0} → IsKept P → (w : Work) (q : ℕ) (o : Outcome) → At P w → At P (answered w q o)
 answered_kept {P = P} k w q o h = chosen (At P) (is_open_at w.conn.requests q) _ w (λ t. k.answer w.conn.limit w.conn.requests w.conn.life w.conn.moved w.acts q o t h) (λ f. h)
 
+-- a message that the link has settled: it is a request's, or that of new credentials
+pub settled_one_kept : {P : Option ℕ → List Request → Life → List ℕ → List LinkAct → Type 0} → IsKept P → (w : Work) (s : Settled) → At P w → At P (settled_one w s)
+settled_one_kept {P = P} k w s h = chosen (At P) (s.id == renewal_id) _ (answered w s.id (outcome_of s.verdict)) (λ t. h) (λ f. answered_kept k w s.id (outcome_of s.verdict) h)
+
 -- what the link settled
 pub settled_kept : {P : Option ℕ → List Request → Life → List ℕ → List LinkAct → Type 0} → IsKept P → (w : Work) (ss : List Settled) → At P w → At P (settled_each w ss)
 settled_kept k w [] h = h
-settled_kept k w (s ∷ ss) h = settled_kept k (answered w s.id (outcome_of s.verdict)) ss (answered_kept k w s.id (outcome_of s.verdict) h)
+settled_kept k w (s ∷ ss) h = settled_kept k (settled_one w s) ss (settled_one_kept k w s h)
 
 -- requests that get an error
 pub failed_each_kept : {P : Option ℕ → List Request → Life → List ℕ → List LinkAct → Type 0} → IsKept P → (w : Work) (e : RedisError) (qs : List Waiting) → At P w → At P (failed_each w e qs)
@@ -216,9 +228,9 @@ telling_kept k w n [] [] h = h
 telling_kept k w n [] (s ∷ ss) h = settled_kept k w (s ∷ ss) h
 telling_kept k w n (p ∷ ps) [] h = telling_kept k (pushed w p.info) n ps [] (push_kept k w p.info h)
 telling_kept {P = P} k w n (p ∷ ps) (s ∷ ss) h =
-    chosen (At P) (nat_le p.settled n) (told_each (pushed w p.info) n ps (s ∷ ss)) (told_each (answered w s.id (outcome_of s.verdict)) (n + 1) (p ∷ ps) ss)
+    chosen (At P) (nat_le p.settled n) (told_each (pushed w p.info) n ps (s ∷ ss)) (told_each (settled_one w s) (n + 1) (p ∷ ps) ss)
     (λ t. telling_kept k (pushed w p.info) n ps (s ∷ ss) (push_kept k w p.info h))
-    (λ f. telling_kept k (answered w s.id (outcome_of s.verdict)) (n + 1) (p ∷ ps) ss (answered_kept k w s.id (outcome_of s.verdict) h))
+    (λ f. telling_kept k (settled_one w s) (n + 1) (p ∷ ps) ss (settled_one_kept k w s h))
 
 -- those that came are, in order
 pushes_kept : {P : Option ℕ → List Request → Life → List ℕ → List LinkAct → Type 0} → IsKept P → (w : Work) (ps : List PushAt) → At P w → At P (pushed_each w ps)
@@ -249,11 +261,18 @@ given_up_kept k w e h = opening_kept k (acted w act.Close) e (k.show w.conn.limi
 
 -- news
 --
+-- a link is set up, and a source of new credentials is asked for, where they are to come
+made_ready_kept : {P : Option ℕ → List Request → Life → List ℕ → List LinkAct → Type 0} → IsKept P → (w : Work) (l : LinkState) → P w.conn.limit w.conn.requests (Ready l) w.conn.moved w.acts → At P (made_ready w l)
+made_ready_kept {P = P} k w l g =
+    let d = acted (with_link (all_fresh w) l) (act.Created None) in
+    let h : At P d = k.show w.conn.limit w.conn.requests (Ready l) w.conn.moved w.acts (act.Created None) (λ n. refl) g in
+    chosen (At P) w.conn.renewal.wanted (acted d act.NeedCreds) d (λ t. k.show d.conn.limit d.conn.requests d.conn.life d.conn.moved d.acts act.NeedCreds (λ n. refl) h) (λ f. h)
+
 -- a link comes up, where the fact is true of it while it waits for credentials
 come_up_kept : {P : Option ℕ → List Request → Life → List ℕ → List LinkAct → Type 0} → IsKept P → (w : Work) (l : LinkState) → P w.conn.limit w.conn.requests (Wanting l) w.conn.moved w.acts → At P (come_up w l)
 come_up_kept {P = P} k w l g =
     chosen (At P) (says_nothing (steps_of w.conn true)) (made_ready w l) (sets_up (all_fresh w) l true)
-    (λ t. k.show w.conn.limit w.conn.requests (Ready l) w.conn.moved w.acts (act.Created None) (λ n. refl) (k.connect w.conn.limit w.conn.requests l w.conn.moved w.acts g))
+    (λ t. made_ready_kept k w l (k.connect w.conn.limit w.conn.requests l w.conn.moved w.acts g))
     (λ f. k.set_up w.conn.limit w.conn.requests l w.conn.moved w.acts (setup_queued (steps_of w.conn true) true) true g)
 
 -- a function of the life that a connection has is looked at with any life of which the fact is true
@@ -261,7 +280,7 @@ connected_kept : {P : Option ℕ → List Request → Life → List ℕ → List
 connected_kept {P = P} k w Dialing g h =
     let link = new_link w.conn in
     let wanting = k.want w.conn.limit w.conn.requests w.conn.size w.conn.boundary w.conn.moved w.acts g in
-    chosen (At P) w.conn.wants (comes_to_want w link) (come_up w link)
+    chosen (At P) w.conn.renewal.wanted (comes_to_want w link) (come_up w link)
     (λ t. k.show w.conn.limit w.conn.requests (Wanting link) w.conn.moved w.acts act.NeedCreds (λ n. refl) wanting)
     (λ f. come_up_kept k w link wanting)
 connected_kept k w (Wanting l) g h = h
@@ -327,7 +346,7 @@ read_kept k w ps s h = broken_kept k s.link.broken (told_each (with_link w s.lin
 
 -- the setup is answered
 set_up_by_kept : {P : Option ℕ → List Request → Life → List ℕ → List LinkAct → Type 0} → IsKept P → (w : Work) (l m : LinkState) (with_user : Bool) (what : SetupResult) → count_on m + 1 ≤ count_on l → P w.conn.limit w.conn.requests (SettingUp l with_user) w.conn.moved w.acts → At P w → At P (set_up_by w m what)
-set_up_by_kept k w l m with_user result.Ready few g h = k.show w.conn.limit w.conn.requests (Ready m) w.conn.moved w.acts (act.Created None) (λ n. refl) (k.ready w.conn.limit w.conn.requests l m with_user w.conn.moved w.acts few g)
+set_up_by_kept k w l m with_user result.Ready few g h = made_ready_kept k w m (k.ready w.conn.limit w.conn.requests l m with_user w.conn.moved w.acts few g)
 set_up_by_kept k w l m with_user result.RepeatWithoutUser few g h = k.repeat w.conn.limit w.conn.requests l m (setup_queued (steps_of w.conn false) false) with_user w.conn.moved w.acts few g
 set_up_by_kept k w l m with_user (result.Failed e) few g h = given_up_kept k w e h
 set_up_by_kept k w l m with_user result.NoMemory few g h = h
@@ -359,6 +378,15 @@ shut_kept k w (Wanting l) h = ended_kept k w [] h
 shut_kept k w (SettingUp l with_user) h = ended_kept k w [] h
 shut_kept k w (Ended e) h = h
 
+-- new credentials come, where more may
+expecting_kept : {P : Option ℕ → List Request → Life → List ℕ → List LinkAct → Type 0} → IsKept P → (w : Work) (c : Credentials) → At P w → At P (record w { conn = expecting w.conn c })
+expecting_kept {P = P} k w c h =
+    chosen (λ (x : MultiplexedConnection). At P (record w { conn = x })) (is_ready w.conn.life && takes_more w.conn.renewal) _ w.conn (λ t. h) (λ f. h)
+
+-- the time for new credentials is over
+late_for_kept : {P : Option ℕ → List Request → Life → List ℕ → List LinkAct → Type 0} → IsKept P → (w : Work) (n : ℕ) → At P w → At P (record w { conn = late_for w.conn n })
+late_for_kept {P = P} k w n h = chosen (λ (x : MultiplexedConnection). At P (record w { conn = x })) (is_unanswered w.conn.renewal n) _ w.conn (λ t. h) (λ f. h)
+
 -- all news
 applied_kept : {P : Option ℕ → List Request → Life → List ℕ → List LinkAct → Type 0} → IsKept P → (w : Work) (what : News) → At P w → At P (applied w what)
 applied_kept k w silence h = h
@@ -371,6 +399,9 @@ applied_kept k w (failed f) h = failed_kept k w f w.conn.life h
 applied_kept k w (authorized c) h = authorized_kept k w c w.conn.life h h
 applied_kept k w (denied text) h = unauthorized_kept k w (error.Credentials text) w.conn.life h
 applied_kept k w deserted h = unauthorized_kept k w (error.AuthFailed []) w.conn.life h
+applied_kept k w (renewed c) h = expecting_kept k w c h
+applied_kept k w unrenewed h = h
+applied_kept k w (late n) h = late_for_kept k w n h
 applied_kept k w shut h = shut_kept k w w.conn.life h
 
 -- moves
@@ -405,6 +436,39 @@ started_at_kept k w (Ended e) g h = h
 pub started_kept : {P : Option ℕ → List Request → Life → List ℕ → List LinkAct → Type 0} → IsKept P → (w : Work) → At P w → At P (started w)
 started_kept k w h = started_at_kept k w w.conn.life h h
 
+-- new credentials are told
+--
+-- their message starts before the queue
+renewal_moved_kept : {P : Option ℕ → List Request → Life → List ℕ → List LinkAct → Type 0} → IsKept P → (w : Work) (life : Life) (cs : List Credentials) → P w.conn.limit w.conn.requests life w.conn.moved w.acts → At P w → At P (renewal_moved w life cs)
+renewal_moved_kept {P = P} k w (Ready l) (c ∷ cs) g h =
+    let q = renewal_queued c in
+    chosen (At P) (holds_back l) w (renewal_told w l c cs) (λ t. h)
+    (λ f. k.show w.conn.limit w.conn.requests (Ready (begun l q)) w.conn.moved w.acts (renewal_act (start_of l.started q)) (λ n. refl) (k.renew w.conn.limit w.conn.requests l w.conn.moved w.acts q refl g))
+renewal_moved_kept k w (Ready l) [] g h = h
+renewal_moved_kept k w Dialing cs g h = h
+renewal_moved_kept k w (Wanting l) cs g h = h
+renewal_moved_kept k w (SettingUp l with_user) cs g h = h
+renewal_moved_kept k w (Ended e) cs g h = h
+
+-- behind their timer, where they are to be answered within a time
+renewal_timed_kept : {P : Option ℕ → List Request → Life → List ℕ → List LinkAct → Type 0} → IsKept P → (w : Work) (number : ℕ) (within : Option ℕ) (cs : List Credentials) → At P w → At P (renewal_moved (renewal_timed w number within) w.conn.life cs)
+renewal_timed_kept k w number None cs h = renewal_moved_kept k w w.conn.life cs h h
+renewal_timed_kept k w number (Some ms) cs h =
+    let a = act.RenewalTimer number ms in
+    let g = k.show w.conn.limit w.conn.requests w.conn.life w.conn.moved w.acts a (λ n. refl) h in
+    renewal_moved_kept k (acted w a) w.conn.life cs g g
+
+-- which is asked for once
+pub renewed_kept : {P : Option ℕ → List Request → Life → List ℕ → List LinkAct → Type 0} → IsKept P → (w : Work) → At P w → At P (renewals.renewed w)
+renewed_kept {P = P} k w h =
+    let r = w.conn.renewal in
+    let d = renewing w (asked_next r) in
+    chosen (At P) (is_ready w.conn.life && is_due r) (renewal_moved (renewal_asked w) w.conn.life r.waiting) w
+    (λ t. chosen (λ (x : Work). At P (renewal_moved x w.conn.life r.waiting)) r.pending w (renewal_timed d r.asked r.within)
+    (λ u. renewal_moved_kept k w w.conn.life r.waiting h h)
+    (λ u. renewal_timed_kept k d r.asked r.within r.waiting h))
+    (λ f. h)
+
 -- an answer at its place
 pub told_kept : {P : Option ℕ → List Request → Life → List ℕ → List LinkAct → Type 0} → IsKept P → (w : Work) (q : Waiting) → At P w → At P (told_at_place w q)
 told_kept {P = P} k w q h = chosen (At P) q.awaited w (answered w q.number (outcome.One Nil)) (λ t. h) (λ f. answered_kept k w q.number (outcome.One Nil) h)
@@ -433,7 +497,7 @@ moved_up_kept {P = P} k w q h = chosen (At P) (is_admitted_at w.conn.requests q.
 -- and so do more of them
 pub moved_up_each_kept : {P : Option ℕ → List Request → Life → List ℕ → List LinkAct → Type 0} → IsKept P → (w : Work) (qs : List Waiting) → At P w → At P (moved_up_each w qs)
 moved_up_each_kept k w [] h = h
-moved_up_each_kept {P = P} k w (q ∷ qs) h = chosen (At P) (has_room w.conn.life) _ _ (λ t. moved_up_each_kept k (moved_up w q) qs (moved_up_kept k w q h)) (λ f. h)
+moved_up_each_kept {P = P} k w (q ∷ qs) h = chosen (At P) (has_room w.conn) _ _ (λ t. moved_up_each_kept k (moved_up w q) qs (moved_up_kept k w q h)) (λ f. h)
 
 -- and all
 pub moved_up_all_kept : {P : Option ℕ → List Request → Life → List ℕ → List LinkAct → Type 0} → IsKept P → (w : Work) → At P w → At P (moved_up_all w)
@@ -442,7 +506,7 @@ moved_up_all_kept k w h = moved_up_each_kept k (still_admitted w []) w.conn.admi
 -- a request takes its place, or goes behind those that wait for one
 seated_or_behind_kept : {P : Option ℕ → List Request → Life → List ℕ → List LinkAct → Type 0} → IsKept P → (w : Work) (q : Waiting) → is_admitted_at w.conn.requests q.number ≡ true → At P w → At P (seated_or_behind w q)
 seated_or_behind_kept {P = P} k w q t h =
-    chosen (At P) (has_room w.conn.life) (seated w q) (put_behind w q) (λ u. seated_kept k w q t h) (λ f. k.note w.conn.limit w.conn.requests w.conn.life w.conn.moved w.acts q.number t h)
+    chosen (At P) (has_room w.conn) (seated w q) (put_behind w q) (λ u. seated_kept k w q t h) (λ f. k.note w.conn.limit w.conn.requests w.conn.life w.conn.moved w.acts q.number t h)
 
 -- permits
 --
@@ -507,8 +571,9 @@ admitted_each_kept {P = P} k w (q ∷ qs) h = chosen (At P) (admits_none w.conn)
 -- what a turn moves
 pub passed_kept : {P : Option ℕ → List Request → Life → List ℕ → List LinkAct → Type 0} → IsKept P → (w : Work) → At P w → At P (passed w)
 passed_kept k w h =
-    let d = moved_up_all (started w) in
-    admitted_each_kept k (still_waiting d []) d.conn.waiting (moved_up_all_kept k (started w) (started_kept k w h))
+    let v = renewals.renewed w in
+    let d = moved_up_all (started v) in
+    admitted_each_kept k (still_waiting d []) d.conn.waiting (moved_up_all_kept k (started v) (started_kept k v (renewed_kept k w h)))
 
 -- what a turn ends with
 --
@@ -594,6 +659,8 @@ pub fired_kept : {P : Option ℕ → List Request → Life → List ℕ → List
 fired_kept k t None h = h
 fired_kept k t (Some (purpose.Connect l)) h = h
 fired_kept k t (Some (purpose.Response owner.Setup)) h = h
+fired_kept k t (Some (purpose.Response owner.Auth)) h = h
+fired_kept k t (Some (purpose.Renewal l number)) h = h
 fired_kept k t (Some (purpose.Response (owner.Try n round))) h = late_kept k t (slice_get t.core.table n) h
 
 -- a submission is handed in

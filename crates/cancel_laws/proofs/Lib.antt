@@ -7,6 +7,7 @@ pub mod Kept
 pub mod Gone
 pub mod Values
 pub mod Bare
+pub mod Moved
 pub mod Once
 pub mod Silent
 pub mod Rest

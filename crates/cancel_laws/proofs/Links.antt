@@ -1,14 +1,14 @@
 -- A link does the same where the verdict of one message is not wanted.
-use Rattle.std.proofs.Common.{◌≡◌, ℕ, ◌==◌, ◌&&◌, not, nat_lt, Bool, true, false, List, [], ◌∷◌, ◌++◌, length, if◌then◌else◌, refl, sym, ap, ◌∙◌, inl, inr, arith}
+use Rattle.std.proofs.Common.{◌≡◌, ◌≢◌, ℕ, ◌==◌, ◌&&◌, not, nat_lt, Bool, true, false, List, [], ◌∷◌, ◌++◌, length, if◌then◌else◌, refl, sym, ap, ◌∙◌, inl, inr, arith}
 use Rattle.std.proofs.Math.Bool.{and-false}
-use Rattle.containers.proofs.Choices.{by_test, chosen, left_if, eq_from, eq_test}
+use Rattle.containers.proofs.Choices.{by_test, chosen, left_if, eq_from, eq_test, ne_test}
 use Rattle.resp_value.specs.Data.{Data}
 use Rattle.resp_read.specs.Items.{items}
 use Rattle.driver_model.specs.Shape.{need_of}
 use Rattle.link_core.specs.declared.message.Entry.{Entry}
 use Rattle.link_core.specs.declared.message.Queued.{Queued}
 use Rattle.link_core.specs.Dealing.{Dealing, with_item, dealt_to, dealt, dealt_each}
-use Rattle.link_core.specs.Link.{LinkState, Starting, Settling, entry_of, holds_back, started_one, started_each, started_all, cancelled, piece_dealt}
+use Rattle.link_core.specs.Link.{LinkState, Starting, Settling, entry_of, begun, holds_back, started_one, started_each, started_all, cancelled, piece_dealt}
 use Rattle.link_core.specs.Row.{silent, silenced}
 use Rattle.link_core.specs.Waiting.{is_wanted, without}
 use Rattle.link_laws.specs.Alike.{SameEntry, SameRow, SameLink}
@@ -66,7 +66,7 @@ none_leaves p (q ∷ qs) h = left_if (is_wanted p q) qs (q ∷ without qs p) h.0
 -- the row
 --
 -- one more entry, of another message
-quiet_behind : (p : ℕ) (row : List Entry) (q : Queued) → is_wanted p q ≡ false → NoneWanted p row → NoneWanted p (row ++ entry_of q ∷ [])
+pub quiet_behind : (p : ℕ) (row : List Entry) (q : Queued) → is_wanted p q ≡ false → NoneWanted p row → NoneWanted p (row ++ entry_of q ∷ [])
 quiet_behind p [] q e h = (e, tt)
 quiet_behind p (x ∷ row) q e h = (h.0, quiet_behind p row q e h.1)
 
@@ -169,6 +169,15 @@ hushed_is p s t h q = both_hushed p s t h ∙ ap (λ (row : List Entry). record 
 pub hushed_started : (p : ℕ) (l : LinkState) → NoneOf p l.queue → hushed_link p (started_all (record { link = l; out = [] })).link ≡ (started_all (record { link = hushed_link p l; out = [] })).link
 hushed_started p l none =
     hushed_is p _ _ (start_alike p l (hushed_link p l) [] (alike_hushed p l)).link (quiet_starts p (record { link = hushed_link p l; out = [] }) l.queue none (hushed_quiet p l.row))
+
+-- one more entry, of another message
+behind_hushed : (p : ℕ) (row : List Entry) (q : Queued) → q.id ≢ p → hushed_each p (row ++ entry_of q ∷ []) ≡ hushed_each p row ++ entry_of q ∷ []
+behind_hushed p [] q apart = ap (λ (e : Entry). e ∷ []) (other_stays p (entry_of q) (ne_test q.id p apart))
+behind_hushed p (e ∷ row) q apart = ap (λ (xs : List Entry). hushed p e ∷ xs) (behind_hushed p row q apart)
+
+-- another message starts before the queue
+pub hushed_begun : (p : ℕ) (l : LinkState) (q : Queued) → q.id ≢ p → hushed_link p (begun l q) ≡ begun (hushed_link p l) q
+hushed_begun p l q apart = ap (λ (row : List Entry). record (begun l q) { row = row }) (behind_hushed p l.row q apart)
 
 -- bytes come
 pub hushed_came : (p : ℕ) (l : LinkState) (piece : List ℕ) → hushed_link p (piece_dealt (record { link = l; out = [] }) piece).link ≡ (piece_dealt (record { link = hushed_link p l; out = [] }) piece).link

@@ -1,5 +1,5 @@
 -- Each request has the name of a submission of its own.
-use Rattle.std.proofs.Common.{◌≡◌, ◌≢◌, ℕ, zero, suc, List, [], ◌∷◌, ◌++◌, length, Option, Some, None, slice_get, refl, sym, ap, ◌∙◌, true}
+use Rattle.std.proofs.Common.{◌≡◌, ◌≢◌, ◌≤◌, ℕ, zero, suc, arith, length-append, List, [], ◌∷◌, ◌++◌, length, Option, Some, None, slice_get, refl, sym, ap, ◌∙◌, true}
 use Rattle.link_laws.proofs.Lists.{get_last}
 use Rattle.mux_conn.specs.declared.request.Pending.{Pending}
 use Rattle.mux_conn.specs.declared.request.Request.{Request}
@@ -38,10 +38,12 @@ own_push n p m ns o h = record {
 
 -- tables
 --
--- a submission that is a request is the one that the request is named by, and each name is that of such a submission
+-- a submission that is a request is the one that the request is named by, and each name is that of such a submission; and there
+-- are no more requests than submissions
 pub record AreNamed (table : List (Option Pending)) (ns : List ℕ) : Type 0 where
   pub to : (n : ℕ) (p : Pending) → slice_get table n ≡ Some (Some p) → slice_get ns p.number ≡ Some n
   pub back : (q n : ℕ) → slice_get ns q ≡ Some n → slice_get table n ≡ Some (Some (record { number = q }))
+  pub fewer : length ns ≤ length table
 
 -- one request
 same_pending : (p : Pending) (q : ℕ) → ◌≡◌ {A = Option (Option Pending)} (Some (Some p)) (Some (Some (record { number = q }))) → q ≡ p.number
@@ -60,6 +62,7 @@ pub named_refused : (table : List (Option Pending)) (ns : List ℕ) → AreNamed
 named_refused table ns h = record {
   to = λ n p e. push_cases table (Some p) None n (slice_get ns p.number ≡ Some n) e (h.to n p) (λ k s. cc);
   back = λ q n e. get_push table n (Some (record { number = q })) None (h.back q n e);
+  fewer = omega (arith, h.fewer, length-append table (None ∷ []));
 }
 
 -- a submission with a request of its name
@@ -73,6 +76,7 @@ named_asked table ns k c h = record {
       push_cases ns n (length table) q (slice_get (table ++ Some (record { number = k }) ∷ []) n ≡ Some (Some (record { number = q }))) e
       (λ b. get_push table n (Some (record { number = q })) (Some (record { number = k })) (h.back q n b))
       (λ l s. last_there q n l s);
+  fewer = omega (arith, h.fewer, length-append table (Some (record { number = k }) ∷ []), length-append ns (length table ∷ []));
 }
   where
     last_named : (p : Pending) (n : ℕ) → n ≡ length table → ◌≡◌ {A = Option Pending} (Some (record { number = k })) (Some p) → slice_get (ns ++ length table ∷ []) p.number ≡ Some n

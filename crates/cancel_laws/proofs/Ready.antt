@@ -1,5 +1,5 @@
 -- What is true of a session after each history.
-use Rattle.std.proofs.Common.{◌≡◌, ℕ, ◌==◌, List, [], ◌∷◌, ◌++◌, length, Option, Some, None, slice_get, refl, sym, ◌∙◌, subst, arith}
+use Rattle.std.proofs.Common.{◌≡◌, ◌≢◌, ℕ, ◌==◌, List, [], ◌∷◌, ◌++◌, length, Option, Some, None, slice_get, refl, sym, ◌∙◌, subst, arith}
 use Rattle.containers.proofs.Choices.{chosen}
 use Rattle.driver_model.specs.declared.action.Owner.TheVariants as owner
 use Rattle.driver_model.specs.declared.action.Purpose.{Purpose}
@@ -15,6 +15,7 @@ use Rattle.mux_conn.specs.declared.request.Progress.TheVariants as progress
 use Rattle.mux_conn.specs.declared.request.Request.{Request}
 use Rattle.mux_conn.specs.Requests.{permits_at}
 use Rattle.mux_conn.specs.Passes.{passed}
+use Rattle.mux_conn.specs.Renewals.{renewal_id}
 use Rattle.shared_session.specs.declared.core_state.Core.{Core}
 use Rattle.shared_session.specs.Turn.{Turning, work_of, heard, left_by, late_by, fired_by, requested, effect, counted, moved_on, next_turn}
 use Rattle.shared_session.specs.Replay.{opening_core, run_on, state_after}
@@ -46,6 +47,7 @@ names_there ns = record {
   admit = λ r life q count t h. names_stay r q progress.Admitted count ∙ h;
   place = λ r l q t h. names_stay r q.number progress.Placed (permits_at r q.number) ∙ h;
   start = λ r l h. h;
+  renew = λ r l q own h. h;
   offer = λ r l h. h;
   write = λ r l k h. h;
   come = λ r l piece h. h;
@@ -89,6 +91,8 @@ table_fired : (t : Turning) (what : Option Purpose) → (fired_by t what).core.t
 table_fired t None = refl
 table_fired t (Some (purpose.Connect l)) = refl
 table_fired t (Some (purpose.Response owner.Setup)) = refl
+table_fired t (Some (purpose.Response owner.Auth)) = refl
+table_fired t (Some (purpose.Renewal l k)) = refl
 table_fired t (Some (purpose.Response (owner.Try n round))) = table_late t (slice_get t.core.table n)
 
 -- so both do
@@ -130,7 +134,7 @@ named_moved_on t h =
 -- nothing is left to do, and requests have one message at most and names of their own
 pub record IsReady (c : Core) : Type 0 where
   pub idle : IsIdle c.single.connection
-  pub once : (p : ℕ) → IsOnce p c.single.connection.requests c.single.connection.life
+  pub once : (p : ℕ) → renewal_id ≢ p → IsOnce p c.single.connection.requests c.single.connection.life
   pub named : AreNamed c.table (names c.single.connection.requests)
 
 -- a turn
@@ -140,7 +144,7 @@ ready_turn c kind h =
     let t = effect (counted c) kind in
     record {
       idle = moves_idle (work_of t);
-      once = λ p. turn_kept (once_kept p) c (once_asks p (length c.table)) kind (h.once p);
+      once = λ p apart. turn_kept (once_kept p apart) c (once_asks p (length c.table)) kind (h.once p apart);
       named = named_moved_on t (named_requested (heard (counted c) kind) kind (named_heard (counted c) kind h.named));
     }
 
@@ -153,12 +157,12 @@ ready_on c (e ∷ es) h = ready_on (next_turn c e.kind).core es (ready_turn c e.
 pub opening_ready : (config : Config) (word : ℕ) → IsReady (opening_core config word)
 opening_ready config word = record {
   idle = record {
-    written = record { moved = record { seated = record { queue = tt; admitted = λ t. refl }; waiting = λ f. refl }; offered = tt };
+    written = record { moved = record { seated = record { through = record { queue = tt; renewed = λ t. cc }; admitted = λ t. refl }; waiting = λ f. refl }; offered = tt };
     calm = refl;
     fresh = refl;
   };
-  once = λ p. record { within = omega arith; alone = tt };
-  named = record { to = λ n p e. cc; back = λ q n e. cc };
+  once = λ p apart. record { within = omega arith; alone = tt };
+  named = record { to = λ n p e. cc; back = λ q n e. cc; fewer = omega arith };
 }
 
 -- where permits aren't counted

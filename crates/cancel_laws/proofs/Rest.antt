@@ -1,5 +1,5 @@
 -- After each turn nothing is left to do, and a turn that changes nothing shows nothing.
-use Rattle.std.proofs.Common.{◌≡◌, ◌⊎◌, inl, inr, ℕ, ◌==◌, ◌&&◌, not, Bool, true, false, List, [], ◌∷◌, length, Option, Some, None, refl, sym, ap, ◌∙◌, subst}
+use Rattle.std.proofs.Common.{◌≡◌, ◌⊎◌, inl, inr, ℕ, ◌==◌, ◌&&◌, ◌||◌, not, Bool, true, false, List, [], ◌∷◌, length, Option, Some, None, refl, sym, ap, ◌∙◌, subst}
 use Rattle.containers.proofs.Choices.{chosen, taken_if, left_if, not_both}
 use Rattle.driver_model.specs.declared.action.WaitKind.{WaitKind}
 use Rattle.resp_value.specs.declared.value.Value.TheVariants.{Nil}
@@ -8,12 +8,16 @@ use Rattle.link_core.specs.declared.message.Queued.{Queued}
 use Rattle.link_core.specs.declared.message.Started.{Started}
 use Rattle.link_core.specs.Link.{LinkState, Starting, holds_back, offered_of, started_one, started_each, started_all}
 use Rattle.link_core.specs.Outbox.{can_offer}
+use Rattle.credentials.specs.Credentials.{Credentials}
 use Rattle.mux_conn.specs.declared.act.LinkAct.TheVariants as act
 use Rattle.mux_conn.specs.declared.connection.MultiplexedConnection.{MultiplexedConnection}
 use Rattle.mux_conn.specs.declared.life.Life.{Life}
 use Rattle.mux_conn.specs.declared.life.Life.TheVariants.{Dialing, Wanting, SettingUp, Ready, Ended}
 use Rattle.mux_conn.specs.declared.request.Waiting.{Waiting}
-use Rattle.mux_conn.specs.Connection.{Work, acted, at_life, with_link, with_setup, has_no_permit, admits_none_at, admits_none, has_room}
+use Rattle.mux_conn.specs.declared.renewal.Renewal.{Renewal}
+use Rattle.mux_conn.specs.Connection.{Work, acted, at_life, with_link, with_setup, has_no_permit, admits_none_at, admits_none, has_room, has_room_at, in_front, is_due, is_held_back, is_ready, are_some}
+use Rattle.mux_conn.specs.Renewals as renewals
+use Rattle.mux_conn.specs.Renewals.{renewing, asked_next, renewal_timed, renewal_asked, renewal_told, renewal_moved}
 use Rattle.mux_conn.specs.Requests.{is_open_at, is_waiting_at, is_admitted_at, name_at, closed, answered}
 use Rattle.mux_conn.specs.Effects.{cancelled_in, left}
 use Rattle.mux_conn.specs.Passes.{shown_each, starts_with, set_up_each, sets_up_with, started_at, started, placed_at, told_at_place, seated, still_admitted, moved_up, moved_up_each, moved_up_all, put_behind, seated_or_behind, let_in, admitted_at, admitted, still_waiting, admitted_each, admitted_all, passed}
@@ -44,10 +48,19 @@ HasOffered (SettingUp l with_user) = can_offer l.outbox ≡ false
 HasOffered (Ready l) = can_offer l.outbox ≡ false
 HasOffered (Ended e) = Unit {0}
 
--- all messages have started that may, and nobody waits for a place where there is one
+-- where new credentials are to be told on a link that is set up, their timer was asked for, and the link is held back
+abbrev pub HasRenewed : Renewal → Life → Type 0
+HasRenewed r life = (is_ready life && is_due r) ≡ true → (r.pending ≡ true) × (is_held_back life ≡ true)
+
+-- all messages have started that may: those of requests, and those of new credentials
+pub record IsStartedOn (r : Renewal) (life : Life) : Type 0 where
+  pub queue : HasStartedAll life
+  pub renewed : HasRenewed r life
+
+-- so it is on a connection's link, and nobody waits for a place where there is one
 pub record IsSeated (c : MultiplexedConnection) : Type 0 where
-  pub queue : HasStartedAll c.life
-  pub admitted : has_room c.life ≡ true → c.admitted ≡ []
+  pub through : IsStartedOn c.renewal c.life
+  pub admitted : has_room c ≡ true → c.admitted ≡ []
 
 -- nor does anybody wait for the connection or for a permit, where requests can be moved
 pub record IsMoved (c : MultiplexedConnection) : Type 0 where
@@ -67,10 +80,37 @@ pub record IsIdle (c : MultiplexedConnection) : Type 0 where
 
 -- how a turn comes to that
 --
+-- all messages of a connection have started that may
+abbrev Through : MultiplexedConnection → Type 0
+Through c = IsStartedOn c.renewal c.life
+
+-- and all new credentials are told that may be
+abbrev HasRenewedIn : Work → Type 0
+HasRenewedIn w = HasRenewed w.conn.renewal w.conn.life
+
+-- the first of both
+both_left : (a b : Bool) → (a && b) ≡ true → a ≡ true
+both_left true b h = refl
+both_left false b h = cc
+
+-- and the second
+both_right : (a b : Bool) → (a && b) ≡ true → b ≡ true
+both_right true b h = h
+both_right false b h = cc
+
+-- where none wait, none are to be told
+none_due : (r : Renewal) → r.waiting ≡ [] → is_due r ≡ true → ⊥
+none_due r none due = not_both (are_some r.waiting) (ap are_some none) (both_right (not (r.unanswered || r.lost)) (are_some r.waiting) due)
+
 -- messages start until the queue is empty or the link is held back
 queue_starts : (s : Starting) (queue : List Queued) → IsThrough (started_each s queue).link
 queue_starts s [] = inl refl
 queue_starts s (q ∷ qs) = chosen (λ (x : Starting). IsThrough x.link) (holds_back s.link) _ _ (λ t. inr t) (λ f. queue_starts (started_one s q) qs)
+
+-- none does on a link that is held back
+held_starts : (s : Starting) (queue : List Queued) → holds_back s.link ≡ true → holds_back (started_each s queue).link ≡ true
+held_starts s [] held = held
+held_starts s (q ∷ qs) held = chosen (λ (x : Starting). holds_back x.link ≡ true) (holds_back s.link) _ _ (λ t. held) (λ f. absurd (not_both (holds_back s.link) f held))
 
 -- what is shown changes no connection
 pub conn_shown : (w : Work) (ss : List Started) → (shown_each w ss).conn ≡ w.conn
@@ -83,20 +123,48 @@ setup_shown w [] = refl
 setup_shown w (s ∷ ss) = setup_shown (acted w (act.SetUp s.msg s.need s.len)) ss
 
 -- a function of the life that a connection has is looked at with a life that is known to be it
-started_from : (w : Work) (life : Life) → w.conn.life ≡ life → HasStartedAll (started_at w life).conn.life
-started_from w (Ready l) e =
+started_from : (w : Work) (life : Life) → w.conn.life ≡ life → HasRenewed w.conn.renewal life → Through (started_at w life).conn
+started_from w (Ready l) e h =
     let s = started_all (record { link = l; out = [] }) in
-    subst (λ (c : MultiplexedConnection). HasStartedAll c.life) (sym (conn_shown (with_link w s.link) s.out)) (queue_starts (record { link = l; out = [] }) l.queue)
-started_from w (Wanting l) e = subst HasStartedAll (sym e) tt
-started_from w (SettingUp l with_user) e =
+    subst Through (sym (conn_shown (with_link w s.link) s.out))
+    (record { queue = queue_starts (record { link = l; out = [] }) l.queue; renewed = λ t. let k = h t in (k.0, held_starts (record { link = l; out = [] }) l.queue k.1) })
+started_from w (SettingUp l with_user) e h =
     let s = started_all (record { link = l; out = [] }) in
-    subst (λ (c : MultiplexedConnection). HasStartedAll c.life) (sym (setup_shown (with_setup w s.link with_user) s.out)) (queue_starts (record { link = l; out = [] }) l.queue)
-started_from w Dialing e = subst HasStartedAll (sym e) tt
-started_from w (Ended x) e = subst HasStartedAll (sym e) tt
+    subst Through (sym (setup_shown (with_setup w s.link with_user) s.out)) (record { queue = queue_starts (record { link = l; out = [] }) l.queue; renewed = λ t. cc })
+started_from w (Wanting l) e h = subst (IsStartedOn w.conn.renewal) (sym e) (record { queue = tt; renewed = h })
+started_from w Dialing e h = subst (IsStartedOn w.conn.renewal) (sym e) (record { queue = tt; renewed = h })
+started_from w (Ended x) e h = subst (IsStartedOn w.conn.renewal) (sym e) (record { queue = tt; renewed = h })
 
 -- all messages start on the link that the connection has
-all_started : (w : Work) → HasStartedAll (started w).conn.life
-all_started w = started_from w w.conn.life refl
+all_started : (w : Work) → HasRenewed w.conn.renewal w.conn.life → Through (started w).conn
+all_started w h = started_from w w.conn.life refl h
+
+-- new credentials
+--
+-- they are told where the link isn't held back
+moved_renewed : (w : Work) (life : Life) (cs : List Credentials) → w.conn.life ≡ life → w.conn.renewal.pending ≡ true → w.conn.renewal.waiting ≡ cs → HasRenewed (renewal_moved w life cs).conn.renewal (renewal_moved w life cs).conn.life
+moved_renewed w (Ready l) (c ∷ cs) e asked is =
+    chosen (λ (x : Work). HasRenewed x.conn.renewal x.conn.life) (holds_back l) w (renewal_told w l c cs) (λ held. λ t. (asked, ap is_held_back e ∙ held)) (λ f. λ t. cc)
+moved_renewed w (Ready l) [] e asked is = λ t. absurd (none_due w.conn.renewal is (both_right (is_ready w.conn.life) (is_due w.conn.renewal) t))
+moved_renewed w Dialing cs e asked is = λ t. absurd (not_both (is_ready w.conn.life) (ap is_ready e) (both_left (is_ready w.conn.life) (is_due w.conn.renewal) t))
+moved_renewed w (Wanting l) cs e asked is = λ t. absurd (not_both (is_ready w.conn.life) (ap is_ready e) (both_left (is_ready w.conn.life) (is_due w.conn.renewal) t))
+moved_renewed w (SettingUp l with_user) cs e asked is = λ t. absurd (not_both (is_ready w.conn.life) (ap is_ready e) (both_left (is_ready w.conn.life) (is_due w.conn.renewal) t))
+moved_renewed w (Ended x) cs e asked is = λ t. absurd (not_both (is_ready w.conn.life) (ap is_ready e) (both_left (is_ready w.conn.life) (is_due w.conn.renewal) t))
+
+-- behind their timer
+timed_renewed : (w : Work) (number : ℕ) (within : Option ℕ) → w.conn.renewal.pending ≡ true → HasRenewedIn (renewal_moved (renewal_timed w number within) w.conn.life w.conn.renewal.waiting)
+timed_renewed w number None asked = moved_renewed w w.conn.life w.conn.renewal.waiting refl asked refl
+timed_renewed w number (Some ms) asked = moved_renewed (acted w (act.RenewalTimer number ms)) w.conn.life w.conn.renewal.waiting refl asked refl
+
+-- so all do that are to be told
+all_renewed : (w : Work) → HasRenewedIn (renewals.renewed w)
+all_renewed w =
+    let r = w.conn.renewal in
+    chosen HasRenewedIn (is_ready w.conn.life && is_due r) (renewal_moved (renewal_asked w) w.conn.life r.waiting) w
+    (λ t. chosen (λ (x : Work). HasRenewedIn (renewal_moved x w.conn.life r.waiting)) r.pending w (renewal_timed (renewing w (asked_next r)) r.asked r.within)
+    (λ u. moved_renewed w w.conn.life r.waiting refl u refl)
+    (λ u. timed_renewed (renewing w (asked_next r)) r.asked r.within refl))
+    (λ f. λ t. absurd (not_both (is_ready w.conn.life && is_due r) f t))
 
 -- starts leave those that wait for a place
 admitted_started : (w : Work) (life : Life) → (started_at w life).conn.admitted ≡ w.conn.admitted
@@ -133,32 +201,50 @@ admitted_seated w q =
 
 -- those that wait for a place
 --
--- where one of them takes a place, all messages have started that may
-one_moved_up : (w : Work) (q : Waiting) → HasStartedAll w.conn.life → HasStartedAll (moved_up w q).conn.life
-one_moved_up w q h =
-    chosen (λ (x : Work). HasStartedAll x.conn.life) (is_admitted_at w.conn.requests q.number) (seated w q) w (λ t. all_started (told_at_place (placed_at w q w.conn.life) q)) (λ f. h)
+-- a request that takes its place starts nothing
+renewed_placed : (w : Work) (q : Waiting) (life : Life) → w.conn.life ≡ life → HasRenewedIn w → HasRenewedIn (placed_at w q life)
+renewed_placed w q (Ready l) e h = subst (HasRenewed w.conn.renewal) e h
+renewed_placed w q Dialing e h = h
+renewed_placed w q (Wanting l) e h = h
+renewed_placed w q (SettingUp l with_user) e h = h
+renewed_placed w q (Ended x) e h = h
+
+-- nor does its answer
+renewed_told : (w : Work) (q : Waiting) → HasRenewedIn w → HasRenewedIn (told_at_place w q)
+renewed_told w q h =
+    chosen HasRenewedIn q.awaited w (answered w q.number (outcome.One Nil)) (λ t. h) (λ f. chosen HasRenewedIn (is_open_at w.conn.requests q.number) _ w (λ t. h) (λ g. h))
+
+-- so all messages have started that may where one took a place
+one_seated : (w : Work) (q : Waiting) → HasRenewedIn w → Through (seated w q).conn
+one_seated w q h =
+    let d = placed_at w q w.conn.life in
+    all_started (told_at_place d q) (renewed_told d q (renewed_placed w q w.conn.life refl h))
+
+-- or waits for one
+one_moved_up : (w : Work) (q : Waiting) → Through w.conn → Through (moved_up w q).conn
+one_moved_up w q h = chosen (λ (x : Work). Through x.conn) (is_admitted_at w.conn.requests q.number) (seated w q) w (λ t. one_seated w q h.renewed) (λ f. h)
 
 -- and where all do that may, nobody waits where there is a place
-each_moved_up : (w : Work) (qs : List Waiting) → HasStartedAll w.conn.life → IsSeated (moved_up_each w qs).conn
-each_moved_up w [] h = record { queue = h; admitted = λ t. refl }
+each_moved_up : (w : Work) (qs : List Waiting) → Through w.conn → IsSeated (moved_up_each w qs).conn
+each_moved_up w [] h = record { through = h; admitted = λ t. refl }
 each_moved_up w (q ∷ qs) h =
-    chosen (λ (x : Work). IsSeated x.conn) (has_room w.conn.life) _ _ (λ t. each_moved_up (moved_up w q) qs (one_moved_up w q h))
-    (λ f. record { queue = h; admitted = λ t. absurd (not_both (has_room w.conn.life) f t) })
+    chosen (λ (x : Work). IsSeated x.conn) (has_room w.conn) _ _ (λ t. each_moved_up (moved_up w q) qs (one_moved_up w q h))
+    (λ f. record { through = h; admitted = λ t. absurd (not_both (has_room w.conn) f t) })
 
 -- those that wait for the connection
 --
 -- one of them takes a place, or waits for one
 one_or_behind : (w : Work) (q : Waiting) → IsSeated w.conn → IsSeated (seated_or_behind w q).conn
 one_or_behind w q h =
-    chosen (λ (x : Work). IsSeated x.conn) (has_room w.conn.life) (seated w q) (put_behind w q)
-    (λ t. record { queue = all_started (told_at_place (placed_at w q w.conn.life) q); admitted = λ u. admitted_seated w q ∙ h.admitted t })
-    (λ f. record { queue = h.queue; admitted = λ t. absurd (not_both (has_room w.conn.life) f t) })
+    chosen (λ (x : Work). IsSeated x.conn) (has_room w.conn) (seated w q) (put_behind w q)
+    (λ t. record { through = one_seated w q h.through.renewed; admitted = λ u. admitted_seated w q ∙ h.admitted t })
+    (λ f. record { through = h.through; admitted = λ t. absurd (not_both (has_room w.conn) f t) })
 
 -- where it may take one
 one_admitted_at : (w : Work) (q : Waiting) (life : Life) → IsSeated w.conn → IsSeated (admitted_at w q life).conn
-one_admitted_at w q (Ready l) h = one_or_behind (let_in w q) q (subst IsSeated (sym (let_in_conn w q)) (record { queue = h.queue; admitted = h.admitted }))
+one_admitted_at w q (Ready l) h = one_or_behind (let_in w q) q (subst IsSeated (sym (let_in_conn w q)) (record { through = h.through; admitted = h.admitted }))
 one_admitted_at w q (Ended e) h =
-    chosen (λ (x : Work). IsSeated x.conn) (is_open_at w.conn.requests q.number) _ w (λ t. record { queue = h.queue; admitted = h.admitted }) (λ f. h)
+    chosen (λ (x : Work). IsSeated x.conn) (is_open_at w.conn.requests q.number) _ w (λ t. record { through = h.through; admitted = h.admitted }) (λ f. h)
 one_admitted_at w q (Wanting l) h = h
 one_admitted_at w q (SettingUp l with_user) h = h
 one_admitted_at w q Dialing h = h
@@ -169,19 +255,20 @@ one_admitted w q h = chosen (λ (x : Work). IsSeated x.conn) (is_waiting_at w.co
 
 -- all that wait
 each_admitted : (w : Work) (qs : List Waiting) → IsSeated w.conn → IsMoved (admitted_each w qs).conn
-each_admitted w [] h = record { seated = record { queue = h.queue; admitted = h.admitted }; waiting = λ f. refl }
+each_admitted w [] h = record { seated = record { through = h.through; admitted = h.admitted }; waiting = λ f. refl }
 each_admitted w (q ∷ qs) h =
     chosen (λ (x : Work). IsMoved x.conn) (admits_none w.conn) _ _
-    (λ t. record { seated = record { queue = h.queue; admitted = h.admitted }; waiting = λ f. absurd (not_both (admits_none w.conn) f t) })
+    (λ t. record { seated = record { through = h.through; admitted = h.admitted }; waiting = λ f. absurd (not_both (admits_none w.conn) f t) })
     (λ f. each_admitted (admitted w q) qs (one_admitted w q h))
 
 -- what a turn moves
 all_moved : (w : Work) → IsMoved (passed w).conn
 all_moved w =
-    let d = started w in
+    let v = renewals.renewed w in
+    let d = started v in
     let e = moved_up_all d in
-    let s = each_moved_up (still_admitted d []) d.conn.admitted (all_started w) in
-    each_admitted (still_waiting e []) e.conn.waiting (record { queue = s.queue; admitted = s.admitted })
+    let s = each_moved_up (still_admitted d []) d.conn.admitted (all_started v (all_renewed w)) in
+    each_admitted (still_waiting e []) e.conn.waiting (record { through = s.through; admitted = s.admitted })
 
 -- where all is offered, there is nothing more to offer
 offered_none : (b : Bool) → (not b && b) ≡ false
@@ -193,13 +280,21 @@ queue_offered : (l : LinkState) → IsThrough l → IsThrough (offered_of l)
 queue_offered l (inl none) = inl none
 queue_offered l (inr held) = inr held
 
+-- whatever there is to start
+through_offered : {r : Renewal} → (l : LinkState) → IsStartedOn r (Ready l) → IsStartedOn r (Ready (offered_of l))
+through_offered l h = record { queue = queue_offered l h.queue; renewed = h.renewed }
+
+-- also while it is set up
+setup_offered_through : {r : Renewal} → (l : LinkState) (with_user : Bool) → IsStartedOn r (SettingUp l with_user) → IsStartedOn r (SettingUp (offered_of l) with_user)
+setup_offered_through l with_user h = record { queue = queue_offered l h.queue; renewed = h.renewed }
+
 -- bytes are offered
 written_from : (w : Work) (life : Life) → w.conn.life ≡ life → IsMoved w.conn → IsWritten (written_at w life).conn
 written_from w (Ready l) e h =
     chosen (λ (x : Work). IsWritten x.conn) (can_offer l.outbox) _ w
     (λ t. record {
       moved = record {
-        seated = record { queue = queue_offered l (subst HasStartedAll e h.seated.queue); admitted = λ u. h.seated.admitted (ap has_room e ∙ u) };
+        seated = record { through = through_offered l (subst (IsStartedOn w.conn.renewal) e h.seated.through); admitted = λ u. h.seated.admitted (ap (λ (x : Life). has_room_at x (in_front w.conn.renewal)) e ∙ u) };
         waiting = λ f. h.waiting (ap (λ (x : Life). admits_none_at x (has_no_permit w.conn.limit w.conn.free)) e ∙ f);
       };
       offered = offered_none (length l.outbox.unwritten == 0);
@@ -210,7 +305,7 @@ written_from w (SettingUp l with_user) e h =
     chosen (λ (x : Work). IsWritten x.conn) (can_offer l.outbox) _ w
     (λ t. record {
       moved = record {
-        seated = record { queue = queue_offered l (subst HasStartedAll e h.seated.queue); admitted = λ u. h.seated.admitted (ap has_room e ∙ u) };
+        seated = record { through = setup_offered_through l with_user (subst (IsStartedOn w.conn.renewal) e h.seated.through); admitted = λ u. h.seated.admitted (ap (λ (x : Life). has_room_at x (in_front w.conn.renewal)) e ∙ u) };
         waiting = λ f. h.waiting (ap (λ (x : Life). admits_none_at x (has_no_permit w.conn.limit w.conn.free)) e ∙ f);
       };
       offered = offered_none (length l.outbox.unwritten == 0);
@@ -254,7 +349,7 @@ moves_idle w =
     subst IsIdle (sym (waits_conn e))
     (record {
       written = record {
-        moved = record { seated = record { queue = i.moved.seated.queue; admitted = i.moved.seated.admitted }; waiting = i.moved.waiting };
+        moved = record { seated = record { through = i.moved.seated.through; admitted = i.moved.seated.admitted }; waiting = i.moved.waiting };
         offered = i.offered;
       };
       calm = refl;
@@ -279,9 +374,9 @@ started_stays w Dialing e h = refl
 started_stays w (Ended x) e h = refl
 
 -- no request takes a place
-pub none_moved_up : (w : Work) (qs : List Waiting) → (has_room w.conn.life ≡ true → qs ≡ []) → moved_up_each w qs ≡ still_admitted w qs
+pub none_moved_up : (w : Work) (qs : List Waiting) → (has_room w.conn ≡ true → qs ≡ []) → moved_up_each w qs ≡ still_admitted w qs
 none_moved_up w [] h = refl
-none_moved_up w (q ∷ qs) h = left_if (has_room w.conn.life) _ _ (none_fits (has_room w.conn.life) (λ t. cc (h t)))
+none_moved_up w (q ∷ qs) h = left_if (has_room w.conn) _ _ (none_fits (has_room w.conn) (λ t. cc (h t)))
   where
     none_fits : (b : Bool) → (b ≡ true → ⊥) → b ≡ false
     none_fits true f = absurd (f refl)
@@ -296,10 +391,28 @@ none_admitted w (q ∷ qs) h = taken_if (admits_none w.conn) _ _ (none_goes (adm
     none_goes true f = refl
     none_goes false f = absurd (f refl)
 
+-- no new credentials are told on a link that is held back
+moved_stays_held : (w : Work) (life : Life) (cs : List Credentials) → is_held_back life ≡ true → renewal_moved w life cs ≡ w
+moved_stays_held w (Ready l) (c ∷ cs) held = taken_if (holds_back l) w _ held
+moved_stays_held w (Ready l) [] held = refl
+moved_stays_held w Dialing cs held = refl
+moved_stays_held w (Wanting l) cs held = refl
+moved_stays_held w (SettingUp l with_user) cs held = refl
+moved_stays_held w (Ended e) cs held = refl
+
+-- so none are
+pub renewed_stays : (w : Work) → HasRenewed w.conn.renewal w.conn.life → renewals.renewed w ≡ w
+renewed_stays w h =
+    let r = w.conn.renewal in
+    chosen (λ (x : Work). x ≡ w) (is_ready w.conn.life && is_due r) (renewal_moved (renewal_asked w) w.conn.life r.waiting) w
+    (λ t. let k = h t in ap (λ (x : Work). renewal_moved x w.conn.life r.waiting) (taken_if r.pending w _ k.0) ∙ moved_stays_held w w.conn.life r.waiting k.1)
+    (λ f. refl)
+
 -- so nothing is moved
 passed_stays : (w : Work) → IsMoved w.conn → passed w ≡ w
 passed_stays w h =
-    ap (λ (x : Work). admitted_all (moved_up_all x)) (started_stays w w.conn.life refl h.seated.queue)
+    ap (λ (x : Work). admitted_all (moved_up_all (started x))) (renewed_stays w h.seated.through.renewed)
+    ∙ ap (λ (x : Work). admitted_all (moved_up_all x)) (started_stays w w.conn.life refl h.seated.through.queue)
     ∙ ap admitted_all (none_moved_up (still_admitted w []) w.conn.admitted h.seated.admitted) ∙ none_admitted (still_waiting w []) w.conn.waiting h.waiting
 
 -- no bytes are offered
@@ -333,7 +446,10 @@ left_idle c p unlimited none h =
     (λ t. record {
       written = record {
         moved = record {
-          seated = record { queue = queue_left c.life none m.seated.queue; admitted = λ u. m.seated.admitted (sym (room_left c.life none) ∙ u) };
+          seated = record {
+            through = record { queue = queue_left c.life none m.seated.through.queue; renewed = renewed_left c.life m.seated.through.renewed };
+            admitted = λ u. m.seated.admitted (sym (room_left c.life (in_front c.renewal) none) ∙ u);
+          };
           waiting = λ f. m.waiting (stuck_left c.life c.limit c.free (closed c p).free unlimited ∙ f);
         };
         offered = offered_left c.life h.written.offered;
@@ -351,12 +467,19 @@ left_idle c p unlimited none h =
     queue_left (Ready l) n (inr held) = inr held
     queue_left (Ended x) n e = e
 
-    room_left : (life : Life) → NoneQueued p life → has_room (cancelled_in life p) ≡ has_room life
-    room_left Dialing n = refl
-    room_left (Wanting l) n = refl
-    room_left (SettingUp l with_user) n = refl
-    room_left (Ready l) n = ap (λ (queue : List Queued). has_room (Ready (record l { queue = queue }))) (none_leaves p l.queue n)
-    room_left (Ended x) n = refl
+    renewed_left : (life : Life) → HasRenewed c.renewal life → HasRenewed c.renewal (cancelled_in life p)
+    renewed_left Dialing e = e
+    renewed_left (Wanting l) e = e
+    renewed_left (SettingUp l with_user) e = e
+    renewed_left (Ready l) e = e
+    renewed_left (Ended x) e = e
+
+    room_left : (life : Life) (count : ℕ) → NoneQueued p life → has_room_at (cancelled_in life p) count ≡ has_room_at life count
+    room_left Dialing count n = refl
+    room_left (Wanting l) count n = refl
+    room_left (SettingUp l with_user) count n = refl
+    room_left (Ready l) count n = ap (λ (queue : List Queued). has_room_at (Ready (record l { queue = queue })) count) (none_leaves p l.queue n)
+    room_left (Ended x) count n = refl
 
     stuck_left : (life : Life) (lim : Option ℕ) (j k : ℕ) → lim ≡ None → admits_none_at life (has_no_permit lim j) ≡ admits_none_at (cancelled_in life p) (has_no_permit lim k)
     stuck_left Dialing lim j k e = refl

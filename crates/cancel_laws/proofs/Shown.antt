@@ -46,6 +46,7 @@ but_for_shown n l count c [] = refl
 but_for_shown n l count c (act.Created e ∷ xs) = ap (λ (ys : List Action). action.Created e ∷ ys) (but_for_shown n l (count + 0) (c + 0) xs)
 but_for_shown n l count c (act.Took m permits ∷ xs) = ap (λ (ys : List Action). shown l count c (act.Took m permits) ∷ ys) (but_for_shown n l (count + 0) (c + 0) xs)
 but_for_shown n l count c (act.Timer m ms ∷ xs) = ap (λ (ys : List Action). shown l count c (act.Timer m ms) ∷ ys) (but_for_shown n l (count + 1) (c + 0) xs)
+but_for_shown n l count c (act.RenewalTimer k ms ∷ xs) = ap (λ (ys : List Action). shown l count c (act.RenewalTimer k ms) ∷ ys) (but_for_shown n l (count + 1) (c + 0) xs)
 but_for_shown n l count c (act.Push info ∷ xs) = ap (λ (ys : List Action). action.Push l info ∷ ys) (but_for_shown n l (count + 0) (c + 0) xs)
 but_for_shown n l count c (act.NeedCreds ∷ xs) = ap (λ (ys : List Action). action.NeedCreds c l ∷ ys) (but_for_shown n l (count + 0) (c + 1) xs)
 but_for_shown n l count c (act.Close ∷ xs) = ap (λ (ys : List Action). action.Close l ∷ ys) (but_for_shown n l (count + 0) (c + 0) xs)
@@ -53,14 +54,15 @@ but_for_shown n l count c (act.Write bytes ∷ xs) = ap (λ (ys : List Action). 
 but_for_shown n l count c (act.Wait m kind ∷ xs) = ap (λ (ys : List Action). shown l count c (act.Wait m kind) ∷ ys) (but_for_shown n l (count + 0) (c + 0) xs)
 but_for_shown n l count c (act.Start message m need len ∷ xs) = ap (λ (ys : List Action). shown l count c (act.Start message m need len) ∷ ys) (but_for_shown n l (count + 0) (c + 0) xs)
 but_for_shown n l count c (act.SetUp message need len ∷ xs) = ap (λ (ys : List Action). shown l count c (act.SetUp message need len) ∷ ys) (but_for_shown n l (count + 0) (c + 0) xs)
+but_for_shown n l count c (act.Renewed message need len ∷ xs) = ap (λ (ys : List Action). shown l count c (act.Renewed message need len) ∷ ys) (but_for_shown n l (count + 0) (c + 0) xs)
 but_for_shown n l count c (act.Outcome m o ∷ xs) = outcome_shown n l count c m o xs (m == n) (but_for_shown n l (count + 0) (c + 0) xs)
 
 -- no act shows the number of a turn
 numberless : (l count c : ℕ) (xs : List LinkAct) → all_unnumbered (shown_each l count c xs) ≡ shown_each l count c xs
 numberless l count c [] = refl
 numberless l count c (a ∷ xs) =
-    let more = count + length (timer_of a) in
-    let later = c + length (source_of l a) in
+    let more = count + length (timer_of l a) in
+    let later = c + length (source_of l c a) in
     ap (λ (b : Action). b ∷ all_unnumbered (shown_each l more later xs)) (one_numberless a) ∙ ap (λ (ys : List Action). shown l count c a ∷ ys) (numberless l more later xs)
   where
     one_numberless : (a : LinkAct) → unnumbered (shown l count c a) ≡ shown l count c a
@@ -74,6 +76,8 @@ numberless l count c (a ∷ xs) =
     one_numberless (act.Wait m kind) = refl
     one_numberless (act.Start message m need len) = refl
     one_numberless (act.SetUp message need len) = refl
+    one_numberless (act.RenewalTimer k ms) = refl
+    one_numberless (act.Renewed message need len) = refl
     one_numberless (act.Outcome m o) = refl
 
 -- alike sessions show the same

@@ -62,6 +62,7 @@ silent_kept n p = record {
     unshown = h.unshown;
   };
   start = λ lim r l ms xs h. record { there = h.there; own = h.own; closed = h.closed; unshown = h.unshown };
+  renew = λ lim r l ms xs q own h. record { there = h.there; own = h.own; closed = h.closed; unshown = h.unshown };
   offer = λ lim r l ms xs h. record { there = h.there; own = h.own; closed = h.closed; unshown = h.unshown };
   write = λ lim r l ms xs k h. record { there = h.there; own = h.own; closed = h.closed; unshown = h.unshown };
   come = λ lim r l ms xs piece h. record { there = h.there; own = h.own; closed = h.closed; unshown = h.unshown };

@@ -15,8 +15,9 @@ use Rattle.connection_setup.specs.Setup.{setup}
 use Rattle.driver_model.specs.Config.{address, buffer_size, buffer_fault, room_fault, fault_in, hears_pushes, told_info}
 use Rattle.driver_model.specs.Setup.{says_nothing}
 use Rattle.driver_model.specs.Request.{packed_bytes, is_reply_awaited, needs_resp3, lacks_resp3}
-use Rattle.mux_conn.specs.Connection.{has_no_permit}
-use Rattle.mux_conn.specs.Effects.{new_link, all_fresh, comes_to_want, made_ready, sets_up}
+use Rattle.mux_conn.specs.Connection.{acted, with_link, has_no_permit}
+use Rattle.mux_conn.specs.declared.act.LinkAct.TheVariants as act
+use Rattle.mux_conn.specs.Effects.{new_link, all_fresh, comes_to_want, sets_up}
 use Rattle.shared_session.specs.declared.core_state.Core.{Core}
 use Rattle.shared_session.specs.Turn.{work_of, with_work, shut_by, counted, moved_on, numbered, next_turn}
 use Rattle.shared_session.specs.Replay.{opening_core, IsSound, state_after}
@@ -57,7 +58,8 @@ up_at config word draw wants silent =
     let w = work_of t in
     let kind = (connected_at draw).kind in
     let link = new_link w.conn in
-    let up = if silent then made_ready w link else sets_up (all_fresh w) link true in
+    let ready = acted (with_link (all_fresh w) link) (act.Created None) in
+    let up = if silent then (if wants then acted ready act.NeedCreds else ready) else sets_up (all_fresh w) link true in
     (numbered (moved_on (with_work (record t { core = shut_by t.core kind }) (if wants then comes_to_want w link else up)))).core
 
 -- so nothing holds it back where nothing is to be said and no credentials are waited for, and nothing of the configuration is refused
@@ -74,6 +76,7 @@ connected_free config word draw sound silent =
       room = not_le_test (buffer_size config) 0 (room_places config.limit (buffer_size config) fits);
       permit = room_permits config.limit (buffer_size config) fits;
       unshut = refl;
+      numbered = omega arith;
     }))
 
 -- what doesn't need RESP3 is never refused for want of it

@@ -1,5 +1,5 @@
 -- A turn does the same where one submission's outcome is looked away from, once its message has left the queue.
-use Rattle.std.proofs.Common.{◌≡◌, ◌≢◌, ℕ, ◌<◌, ◌==◌, List, [], ◌∷◌, ◌++◌, length, Option, Some, None, slice_get, refl, sym, ap, ◌∙◌, arith, length-append}
+use Rattle.std.proofs.Common.{◌≡◌, ◌≢◌, ℕ, ◌+◌, ◌<◌, ◌==◌, List, [], ◌∷◌, ◌++◌, length, Option, Some, None, slice_get, refl, sym, ap, ◌∙◌, arith, length-append}
 use Rattle.containers.proofs.Choices.{chosen, either}
 use Rattle.redis_error.specs.declared.redis_error.RedisError.{RedisError}
 use Rattle.redis_error.specs.declared.redis_error.RedisError.TheVariants as error
@@ -25,7 +25,8 @@ use Rattle.mux_conn.specs.declared.request.Progress.TheVariants as progress
 use Rattle.cancel_laws.proofs.Requests.{progress_count}
 use Rattle.cancel_laws.proofs.Kept.{other_act, At, AtCore, Unlimited, unlimited_kept, heard_kept, effect_kept, passed_kept, turn_kept}
 use Rattle.cancel_laws.proofs.Gone.{IsAway, away_kept, away_asks}
-use Rattle.cancel_laws.proofs.Bare.{bare_conn, other_acts, acts_other, bare_applied, bare_asked, bare_left, bare_late, bare_passed, bare_flushed}
+use Rattle.cancel_laws.proofs.Bare.{bare_conn, other_acts, acts_other, bare_applied}
+use Rattle.cancel_laws.proofs.Moved.{bare_asked, bare_left, bare_late, bare_passed, bare_flushed}
 
 -- all of a session, but for the number of its turns, for how far request p has come, and whether its verdict is wanted
 abbrev pub bare_core : ℕ → Core → Core
@@ -88,6 +89,8 @@ bare_fired : (n p : ℕ) (t : Turning) (what : Option Purpose) → At (IsAway n 
 bare_fired n p t None h = refl
 bare_fired n p t (Some (purpose.Connect l)) h = refl
 bare_fired n p t (Some (purpose.Response owner.Setup)) h = refl
+bare_fired n p t (Some (purpose.Response owner.Auth)) h = refl
+bare_fired n p t (Some (purpose.Renewal l k)) h = refl
 bare_fired n p t (Some (purpose.Response (owner.Try m round))) h = bare_late_by n p t (slice_get t.core.table m) h
 
 -- what an event is to the submissions
@@ -120,48 +123,54 @@ bare_moved_on n p t none h =
     ap (with_work (bare_turning n p t)) (bare_flushed n p (passed w) (passed_kept (away_kept n p) w h) ∙ ap flushed (bare_passed n p w none h.gone))
 
 -- an outcome asks for no timer
-no_timer : (n : ℕ) (a : LinkAct) (more : List LinkAct) → timers_of (other_act n a ++ more) ≡ timer_of a ++ timers_of more
-no_timer n (act.Created e) more = refl
-no_timer n (act.Took m count) more = refl
-no_timer n (act.Timer m ms) more = refl
-no_timer n (act.Push info) more = refl
-no_timer n act.NeedCreds more = refl
-no_timer n act.Close more = refl
-no_timer n (act.Write bytes) more = refl
-no_timer n (act.Wait m kind) more = refl
-no_timer n (act.Start message m need len) more = refl
-no_timer n (act.SetUp message need len) more = refl
-no_timer n (act.Outcome m o) more = chosen (λ (xs : List LinkAct). timers_of (xs ++ more) ≡ timers_of more) (m == n) [] (act.Outcome m o ∷ []) (λ t. refl) (λ f. refl)
+no_timer : (n l : ℕ) (a : LinkAct) (more : List LinkAct) → timers_of l (other_act n a ++ more) ≡ timer_of l a ++ timers_of l more
+no_timer n l (act.Created e) more = refl
+no_timer n l (act.Took m count) more = refl
+no_timer n l (act.Timer m ms) more = refl
+no_timer n l (act.Push info) more = refl
+no_timer n l act.NeedCreds more = refl
+no_timer n l act.Close more = refl
+no_timer n l (act.Write bytes) more = refl
+no_timer n l (act.Wait m kind) more = refl
+no_timer n l (act.Start message m need len) more = refl
+no_timer n l (act.SetUp message need len) more = refl
+no_timer n l (act.RenewalTimer k ms) more = refl
+no_timer n l (act.Renewed message need len) more = refl
+no_timer n l (act.Outcome m o) more = chosen (λ (xs : List LinkAct). timers_of l (xs ++ more) ≡ timers_of l more) (m == n) [] (act.Outcome m o ∷ []) (λ t. refl) (λ f. refl)
 
 -- so the timers of a turn are those of all other acts
-timers_same : (n : ℕ) (xs : List LinkAct) → timers_of xs ≡ timers_of (other_acts n xs)
-timers_same n [] = refl
-timers_same n (a ∷ xs) = ap (λ (ps : List Purpose). timer_of a ++ ps) (timers_same n xs) ∙ sym (no_timer n a (other_acts n xs))
+timers_same : (n l : ℕ) (xs : List LinkAct) → timers_of l xs ≡ timers_of l (other_acts n xs)
+timers_same n l [] = refl
+timers_same n l (a ∷ xs) = ap (λ (ps : List Purpose). timer_of l a ++ ps) (timers_same n l xs) ∙ sym (no_timer n l a (other_acts n xs))
 
 -- nor for a source of credentials
-no_source : (n l : ℕ) (a : LinkAct) (more : List LinkAct) → sources_of l (other_act n a ++ more) ≡ source_of l a ++ sources_of l more
-no_source n l (act.Created e) more = refl
-no_source n l (act.Took m count) more = refl
-no_source n l (act.Timer m ms) more = refl
-no_source n l (act.Push info) more = refl
-no_source n l act.NeedCreds more = refl
-no_source n l act.Close more = refl
-no_source n l (act.Write bytes) more = refl
-no_source n l (act.Wait m kind) more = refl
-no_source n l (act.Start message m need len) more = refl
-no_source n l (act.SetUp message need len) more = refl
-no_source n l (act.Outcome m o) more = chosen (λ (xs : List LinkAct). sources_of l (xs ++ more) ≡ sources_of l more) (m == n) [] (act.Outcome m o ∷ []) (λ t. refl) (λ f. refl)
+no_source : (n l c : ℕ) (a : LinkAct) (more : List LinkAct) → sources_of l c (other_act n a ++ more) ≡ source_of l c a ++ sources_of l (c + length (source_of l c a)) more
+no_source n l c (act.Created e) more = refl
+no_source n l c (act.Took m count) more = refl
+no_source n l c (act.Timer m ms) more = refl
+no_source n l c (act.Push info) more = refl
+no_source n l c act.NeedCreds more = refl
+no_source n l c act.Close more = refl
+no_source n l c (act.Write bytes) more = refl
+no_source n l c (act.Wait m kind) more = refl
+no_source n l c (act.Start message m need len) more = refl
+no_source n l c (act.SetUp message need len) more = refl
+no_source n l c (act.RenewalTimer k ms) more = refl
+no_source n l c (act.Renewed message need len) more = refl
+no_source n l c (act.Outcome m o) more =
+    let same : c ≡ c + 0 = omega arith in
+    chosen (λ (xs : List LinkAct). sources_of l c (xs ++ more) ≡ sources_of l (c + 0) more) (m == n) [] (act.Outcome m o ∷ []) (λ t. ap (λ (k : ℕ). sources_of l k more) same) (λ f. refl)
 
 -- so the sources of a turn are those of all other acts
-sources_same : (n l : ℕ) (xs : List LinkAct) → sources_of l xs ≡ sources_of l (other_acts n xs)
-sources_same n l [] = refl
-sources_same n l (a ∷ xs) = ap (λ (us : List SourceUse). source_of l a ++ us) (sources_same n l xs) ∙ sym (no_source n l a (other_acts n xs))
+sources_same : (n l c : ℕ) (xs : List LinkAct) → sources_of l c xs ≡ sources_of l c (other_acts n xs)
+sources_same n l c [] = refl
+sources_same n l c (a ∷ xs) = ap (λ (us : List SourceUse). source_of l c a ++ us) (sources_same n l (c + length (source_of l c a)) xs) ∙ sym (no_source n l c a (other_acts n xs))
 
 -- the timers and the sources get their numbers
 bare_numbered : (n p : ℕ) (t : Turning) → bare_turning n p (numbered t) ≡ numbered (bare_turning n p t)
 bare_numbered n p t =
-    let ps = timers_same n t.acts in
-    let us = sources_same n t.core.single.link t.acts in
+    let ps = timers_same n t.core.single.link t.acts in
+    let us = sources_same n t.core.single.link (length t.core.sources) t.acts in
     λ i. record (bare_turning n p t) { core = record (bare_core p t.core) { timers = t.core.timers ++ ps i; sources = t.core.sources ++ us i } }
 
 -- that permits aren't counted stays so where the event has had its effect
@@ -207,6 +216,8 @@ more_requested n t (event.Fired m) l = more_fired (slice_get t.core.timers m)
     more_fired None = l
     more_fired (Some (purpose.Connect k)) = l
     more_fired (Some (purpose.Response owner.Setup)) = l
+    more_fired (Some (purpose.Response owner.Auth)) = l
+    more_fired (Some (purpose.Renewal link k)) = l
     more_fired (Some (purpose.Response (owner.Try k round))) = more_late (slice_get t.core.table k)
 more_requested n t (event.Timeout ms) l = l
 more_requested n t (event.Creds c auth) l = l

@@ -5,7 +5,7 @@ use Rattle.containers.proofs.Choices.{taken_if, left_if, le_test, not_le_test}
 use Rattle.resp_value.specs.Data.{Data, push, list_of}
 use Rattle.resp_read.specs.Values.{values}
 use Rattle.resp_read.specs.Items.{is_item, items, items_among}
-use Rattle.driver_model.specs.Shape.{need_of, outcome_of}
+use Rattle.driver_model.specs.Shape.{need_of}
 use Rattle.link_core.specs.declared.message.Entry.{Entry}
 use Rattle.link_core.specs.declared.message.PushAt.{PushAt}
 use Rattle.link_core.specs.declared.message.Settled.{Settled}
@@ -15,8 +15,7 @@ use Rattle.link_laws.specs.Alike.{SameRow, SameDealing}
 use Rattle.link_laws.proofs.Alike.{same_dealt_each}
 use Rattle.link_laws.proofs.Pieces.{value_then}
 use Rattle.mux_conn.specs.Connection.{Work}
-use Rattle.mux_conn.specs.Requests.{answered}
-use Rattle.mux_conn.specs.Effects.{settled_each, pushed, told_each}
+use Rattle.mux_conn.specs.Effects.{settled_one, settled_each, pushed, told_each}
 
 -- the row behind one value, and what that value settles
 abbrev pub by_value : List Entry → Data → Dealing
@@ -104,7 +103,7 @@ all_behind n row out (v ∷ vs) l =
 -- one after another
 settled-append : (w : Work) (xs ss : List Settled) → settled_each w (xs ++ ss) ≡ settled_each (settled_each w xs) ss
 settled-append w [] ss = refl
-settled-append w (x ∷ xs) ss = settled-append (answered w x.id (outcome_of x.verdict)) xs ss
+settled-append w (x ∷ xs) ss = settled-append (settled_one w x) xs ss
 
 -- without pushes
 pub none_told : (w : Work) (n : ℕ) (ss : List Settled) → told_each w n [] ss ≡ settled_each w ss
@@ -122,7 +121,7 @@ settled_first : (w : Work) (n : ℕ) (ps : List PushAt) (xs ss : List Settled) �
 settled_first w n ps [] ss h = let same : n ≡ n + 0 = omega arith in ap (λ (m : ℕ). told_each w m ps ss) same
 settled_first w n [] (x ∷ xs) ss h = settled-append w (x ∷ xs) ss ∙ sym (none_told (settled_each w (x ∷ xs)) (n + length (x ∷ xs)) ss)
 settled_first w n (p ∷ ps) (x ∷ xs) ss h =
-    let v = answered w x.id (outcome_of x.verdict) in
+    let v = settled_one w x in
     let same : n + length (x ∷ xs) ≡ n + 1 + length xs = omega arith in
     left_if (nat_le p.settled n) _ _ (not_le_test p.settled n (omega (arith, h.0)))
     ∙ settled_first v (n + 1) (p ∷ ps) xs ss (subst (λ (m : ℕ). AreBehind m (p ∷ ps)) same h)

@@ -1,5 +1,5 @@
 -- A history, and the same history with the cancel of a started request in it.
-use Rattle.std.specs.Prelude.{◌≡◌, ℕ, ◌+◌, List, [], ◌∷◌, ◌++◌, length, true, false, Some, slice_get}
+use Rattle.std.specs.Prelude.{◌≡◌, ℕ, ◌+◌, ◌^◌, ◌<◌, ◌≤◌, List, [], ◌∷◌, ◌++◌, length, true, false, Some, slice_get}
 use Rattle.connection_setup.specs.Setup.{setup}
 use Rattle.driver_model.specs.Config.{told_info, wants_credentials}
 use Rattle.driver_model.specs.Setup.{says_nothing}
@@ -41,7 +41,8 @@ SaysNothing config = (wants_credentials config ≡ false) × (says_nothing (setu
 abbrev pub handed_in_after_connect : Config → ℕ → ℕ → ℕ → Submission → Core
 handed_in_after_connect config word draw later s = state_after config word (connected_at draw ∷ handed_in_at later s ∷ [])
 
--- the link is ready, nothing holds it back, its queue has room, a permit is free, and nothing was shut down
+-- the link is ready, nothing holds it back, its queue has room, a permit is free, nothing was shut down, and there is a number
+-- for one more submission
 pub record IsFree (core : Core) : Type 0 where
   pub link : LinkState
   pub ready : core.single.connection.life ≡ Ready link
@@ -49,9 +50,10 @@ pub record IsFree (core : Core) : Type 0 where
   pub room : is_full link ≡ false
   pub permit : has_no_permit core.single.connection.limit core.single.connection.free ≡ false
   pub unshut : core.shut ≡ false
+  pub numbered : length core.table < 2 ^ 32
 
 -- submission n is a request that is neither answered nor cancelled; it has had its place, and its message has left the
--- queue of the link, which is up
+-- queue of the link, which is up; and there are no more submissions than there are numbers for them
 pub record HasStarted (n : ℕ) (core : Core) : Type 0 where
   pub pending : Pending
   pub there : slice_get core.table n ≡ Some (Some pending)
@@ -61,6 +63,7 @@ pub record HasStarted (n : ℕ) (core : Core) : Type 0 where
   pub link : LinkState
   pub up : core.single.connection.life ≡ Ready link
   pub gone : without link.queue pending.number ≡ link.queue
+  pub numbered : length core.table ≤ 2 ^ 32
 
 -- the two traces are the same up to the one more event; that event's turn shows nothing; and then the turns show the
 -- same, but for their numbers and for the outcomes of submission n, of which there are none where the event came

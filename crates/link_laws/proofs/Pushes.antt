@@ -328,12 +328,12 @@ front_between name ss all before (push kind parts) ps hs place out h =
 front_between name ss all before _ ps hs place out h = h
 
 -- a message that the last of these items settles
-record IsNew (name : ℕ → Owner) (ss : List Start) (before now : List Data) (s : Settled) : Type 0 where
+pub record IsNew (name : ℕ → Owner) (ss : List Start) (before now : List Data) (s : Settled) : Type 0 where
   pub cut : IsCutOf name ss now s
   pub late : length before < reach (take (suc cut.cut.number) ss) before
 
 -- an item settles one message, or none
-abbrev SettlesOne : (ℕ → Owner) → List Start → List Data → List Data → List Settled → List Settled → Type 0
+abbrev pub SettlesOne : (ℕ → Owner) → List Start → List Data → List Data → List Settled → List Settled → Type 0
 SettlesOne name ss before now was out = (out ≡ was) ⊎ ((s : Settled) × (out ≡ was ++ s ∷ []) × IsNew name ss before now s)
 
 -- an item that is wanted
@@ -343,7 +343,7 @@ wanted_is all before item l =
     first_wanted all before item [] l ∙ ap (λ (ys : List Data). now ++ ys) (take_none (all - length now)) ∙ append-nil now
 
 -- it goes to the first of the row
-item_settles : (name : ℕ → Owner) (ss : List Start) (before : List Data) (d : Dealing) (item : Data) (row : List Entry) → d.row ≡ row → IsDealt name ss before d
+pub item_settles : (name : ℕ → Owner) (ss : List Start) (before : List Data) (d : Dealing) (item : Data) (row : List Entry) → d.row ≡ row → IsDealt name ss before d
     → SettlesOne name ss before (items_with (reach ss before) before (item ∷ [])) d.out (dealt_to d item row).out
 item_settles name ss before d item [] is h = inl refl
 item_settles name ss before d item (e ∷ es) is h =

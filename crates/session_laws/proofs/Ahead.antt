@@ -1,5 +1,6 @@
 -- How many stand in line before a submission, and so what its next step is.
 use Rattle.std.proofs.Common.{List, [], ap, arith, false, inl, inr, length, refl, subst, sym, true, zero, suc, ℕ, ◌+◌, ◌++◌, ◌<◌, ◌≤◌, ◌∙◌, ◌∷◌, ◌≡◌, ◌≢◌, ◌⊎◌}
+use Rattle.std.proofs.Math.Bool.{and-false}
 use Rattle.std.specs.List.{AllByRecursion}
 use Rattle.std.specs.Prelude.{Bool, Option, None, Some, is_none, is_some, slice_get, if◌then◌else◌, min, not, nat_le, nat_lt, ◌==◌, ◌&&◌, ◌||◌}
 use Rattle.containers.proofs.Choices.{by_test, both_left, both_right, lt_from, eq_from, eq_test, le_from, le_test, left_if, ne_from, not_le_from, not_le_test, taken_if}
@@ -7,10 +8,11 @@ use Rattle.driver_model.specs.Shape.{permits_for}
 use Rattle.driver_model.specs.declared.action.Owner.{Owner}
 use Rattle.driver_model.specs.declared.action.WaitKind.{WaitKind}
 use Rattle.driver_model.specs.declared.action.WaitKind.TheVariants as wait
-use Rattle.link_core.specs.Link.{LinkState, holds_back, is_full}
+use Rattle.link_core.specs.Link.{LinkState, holds_back, is_full_beside}
 use Rattle.link_core.specs.declared.message.Queued.{Queued}
 use Rattle.link_laws.proofs.TiedLink.{TiedLink, unwritten_is}
-use Rattle.mux_conn.specs.Connection.{has_no_permit, is_ready}
+use Rattle.link_laws.specs.Settles.{awaited_ids}
+use Rattle.mux_conn.specs.Connection.{has_no_permit, in_front, is_ready}
 use Rattle.mux_conn.specs.Requests.{if_there, is_admitted, is_admitted_at, is_open as is_open_progress, is_open_at, is_placed, is_placed_at, is_waiting, is_waiting_at, name_at}
 use Rattle.mux_conn.specs.declared.life.Life.{Life}
 use Rattle.mux_conn.specs.declared.life.Life.TheVariants.{Dialing, Ended, Ready, Wanting, SettingUp}
@@ -20,18 +22,19 @@ use Rattle.mux_conn.specs.declared.request.Progress.TheVariants as progress
 use Rattle.mux_conn.specs.declared.request.Request.{Request}
 use Rattle.legal_trace.specs.Book.{Book}
 use Rattle.legal_trace.specs.Ledger.{Ledger, dials, is_over, is_set_up, lacks_credentials}
-use Rattle.legal_trace.specs.Steps.{Step, asks, free_permits, is_held, is_held_back, is_in_line, is_let_in, is_outside, line_before, next_step, nothing, starts_or_waits, step_holding, step_open, step_placed, step_ready, step_taking, step_timed, takes, tells, unready_wait, waits}
-use Rattle.legal_trace.specs.Story.{Story, is_awaited, is_told, is_unstarted, shape}
+use Rattle.legal_trace.specs.Steps.{Step, asks, free_permits, is_held, is_held_back, is_in_line, is_let_in, is_outside, line_before, next_step, nothing, permits_in, queue_size, renewals_in_line, starts_or_waits, step_holding, step_open, step_placed, step_ready, step_taking, step_timed, takes, tells, unready_wait, waits}
+use Rattle.legal_trace.specs.Story.{Story, has_place, is_awaited, is_room, is_told, is_unstarted, shape}
 use Rattle.session_laws.proofs.Behind.{nil_told, open_untold}
 use Rattle.session_laws.proofs.Creds.{has_credentials, lacking_undecided, wanting_lacks}
 use Rattle.session_laws.proofs.InLine.{first_is_least, kept_ids, kept_in}
 use Rattle.session_laws.proofs.Moves.{IsLater, later_of, open_unstarted, told_unstarted, or_true}
 use Rattle.session_laws.proofs.Names.{earlier_name, get_some, name_of_some, names_rise, open_within}
-use Rattle.session_laws.proofs.Numbers.{IsIn, Rising, in_left, in_right, rising_apart, rising_in, rising_right, rising_within}
+use Rattle.session_laws.proofs.Numbers.{IsIn, Rising, in_left, in_right, rising_apart, rising_in, rising_right, rising_within, requests_in}
 use Rattle.session_laws.proofs.Owes.{later_unstarted, request_story}
+use Rattle.session_laws.proofs.Renewals.{due_in}
 use Rattle.session_laws.proofs.SetUp.{not_set_up}
 use Rattle.session_laws.proofs.States.{IsFit}
-use Rattle.session_laws.proofs.Tied.{AreSought, HasSaid, Inner, IsQueued, Tied, TiedLife, TiedNames, TiedNumbers, carried, has_ended, link_in, owner_of, queue_ids, waiting_ids, whole_link}
+use Rattle.session_laws.proofs.Tied.{AreSought, HasSaid, Inner, IsQueued, Tied, TiedLife, TiedNames, TiedNumbers, carried, has_ended, link_in, owner_of, queue_ids, shown_wait, waiting_ids, whole_link}
 
 -- counts
 --
@@ -151,12 +154,17 @@ rising_before lo (x ∷ xs) ys hi n h i = (h.0, rising_before (suc x) xs ys hi n
 
 -- the step of a submission on a link that is up
 --
+-- where one of these is in the queue of a link, it holds no more than this size, with so many before it
+abbrev pub HasSeats : List ℕ → ℕ → LinkState → ℕ → Type 0
+HasSeats moved front link size = (p : ℕ) → IsIn p moved → IsIn p (queue_ids link.queue) → front + length link.queue ≤ size
+
 -- a session whose messages may start: nothing is to be answered, and its link is up, with the queue and the boundary of its
--- connection
+-- connection; and who took a place in this turn, and is in the queue still, found one
 pub record IsRunning (t : Inner) : Type 0 where
   pub settled : t.pending ≡ []
   pub up : is_ready t.life ≡ true
   pub fit : IsFit t.size t.bound (link_in t.life)
+  pub seats : HasSeats t.moved (in_front t.renewal) (link_in t.life) t.size
 
 -- a link that is up has not ended
 pub ready_alive : (life : Life) → is_ready life ≡ true → has_ended life ≡ false
@@ -167,8 +175,21 @@ ready_alive (Ready link) e = refl
 ready_alive (Ended x) e = cc
 
 -- so it is where its link is fit
-pub running_of : (t : Inner) (link : LinkState) → t.pending ≡ [] → t.life ≡ Ready link → IsFit t.size t.bound link → IsRunning t
-running_of t link none life fit = record { settled = none; up = ap is_ready life; fit = subst (IsFit t.size t.bound) (sym (ap link_in life)) fit }
+pub running_of : (t : Inner) (link : LinkState) → t.pending ≡ [] → t.life ≡ Ready link → IsFit t.size t.bound link → HasSeats t.moved (in_front t.renewal) link t.size → IsRunning t
+running_of t link none life fit seats = record {
+  settled = none;
+  up = ap is_ready life;
+  fit = subst (IsFit t.size t.bound) (sym (ap link_in life)) fit;
+  seats = subst (λ (x : LinkState). HasSeats t.moved (in_front t.renewal) x t.size) (sym (ap link_in life)) seats;
+}
+
+-- its life is that of its link
+pub ready_is : (life : Life) → is_ready life ≡ true → life ≡ Ready (link_in life)
+ready_is Dialing e = cc
+ready_is (Wanting link) e = cc
+ready_is (SettingUp link with_user) e = cc
+ready_is (Ready link) e = refl
+ready_is (Ended x) e = cc
 
 -- and its ledger says that it is up
 pub ready_up : (l : Ledger) (created : ℕ) (life : Life) → is_ready life ≡ true → TiedLife l created life → l.up ≡ true
@@ -280,10 +301,53 @@ let_in_step b t p h r within untold is =
     ∙ timed_next s.timeout s.clock seat (both_right has asked is)
 
 -- whether it stands outside, by the line before it
-outside_is : (b : Book) (t : Inner) (p : ℕ) → Tied b t → p < length t.requests → is_outside b (name_at t.requests p) ≡ nat_le t.size (line_before t.limit b.story t.link (name_at t.requests p))
-outside_is b t p h within =
+outside_is : (b : Book) (t : Inner) (p : ℕ) → Tied b t → IsRunning t → p < length t.requests
+    → is_outside b (name_at t.requests p) ≡ (not (has_place (b.story (name_at t.requests p))) && nat_le t.size (in_front t.renewal + line_before t.limit b.story t.link (name_at t.requests p)))
+outside_is b t p h r within =
+    let n = name_at t.requests p in
     let q = request_story b t p h within in
-    λ i. nat_le (h.numbers.settings.size_is i) (line_before (h.numbers.settings.limit_is i) b.story (q.on i) (name_at t.requests p))
+    let front : renewals_in_line (b.link (b.story n).link) ≡ in_front t.renewal = ap (λ l. renewals_in_line (b.link l)) q.on ∙ due_in b t (link_in t.life) h (ready_is t.life r.up) in
+    λ i. not (has_place (b.story n)) && nat_le (h.numbers.settings.size_is i) (front i + line_before (h.numbers.settings.limit_is i) b.story (q.on i) n)
+
+-- who has its place stands inside
+placed_inside : (b : Book) (n : ℕ) → has_place (b.story n) ≡ true → is_outside b n ≡ false
+placed_inside b n e =
+    let more = nat_le (queue_size b) (renewals_in_line (b.link (b.story n).link) + line_before (permits_in b.config) b.story (b.story n).link n) in
+    ap (λ x. not x && more) e
+
+-- and so does who finds fewer before it than the queue holds
+fewer_inside : (b : Book) (t : Inner) (p : ℕ) → Tied b t → IsRunning t → p < length t.requests → in_front t.renewal + line_before t.limit b.story t.link (name_at t.requests p) < t.size → is_outside b (name_at t.requests p) ≡ false
+fewer_inside b t p h r within few =
+    let n = name_at t.requests p in
+    outside_is b t p h r within ∙ ap (λ x. not (has_place (b.story n)) && x) (not_le_test t.size (in_front t.renewal + line_before t.limit b.story t.link n) few) ∙ and-false (not (has_place (b.story n)))
+
+-- who has none is outside where there are as many
+many_outside : (b : Book) (t : Inner) (p : ℕ) → Tied b t → IsRunning t → p < length t.requests → has_place (b.story (name_at t.requests p)) ≡ false → t.size ≤ in_front t.renewal + line_before t.limit b.story t.link (name_at t.requests p)
+    → is_outside b (name_at t.requests p) ≡ true
+many_outside b t p h r within none many =
+    let n = name_at t.requests p in
+    let test = le_test t.size (in_front t.renewal + line_before t.limit b.story t.link n) many in
+    outside_is b t p h r within ∙ (λ i. not (none i) && test i)
+
+-- what was shown of its wait is no room
+not_room : (shown : Option WaitKind) → shown ≢ Some wait.Room → is_room shown ≡ false
+not_room None other = refl
+not_room (Some wait.Room) other = absurd (other refl)
+not_room (Some wait.Connect) other = refl
+not_room (Some wait.Creds) other = refl
+not_room (Some wait.Setup) other = refl
+not_room (Some wait.Permit) other = refl
+not_room (Some wait.Place) other = refl
+
+-- a message of the queue is awaited there, or was told
+queue_awaited : (story : ℕ → Story) (requests : List Request) (qs : List Queued) (p : ℕ) → AllByRecursion (IsQueued story requests) qs → IsIn p (queue_ids qs) → IsIn p (awaited_ids qs) ⊎ (is_told (story (name_at requests p)) ≡ true)
+queue_awaited story requests [] p all i = absurd i
+queue_awaited story requests (q ∷ qs) p all (inl e) =
+    by_test q.awaited _
+    (λ t. inl (in_left p (if q.awaited then q.id ∷ [] else []) (awaited_ids qs) (subst (IsIn p) (sym (taken_if q.awaited (q.id ∷ []) [] t)) (inl e))))
+    (λ f. inr (subst (λ m. is_told (story (name_at requests m)) ≡ true) e (nil_told (story (name_at requests q.id)) (sym all.0.is_of.awaited_is ∙ f) (all.0.told f))))
+queue_awaited story requests (q ∷ qs) p all (inr i) =
+    elim (queue_awaited story requests qs p all.1 i) [ inl j ↦ inl (in_right p (if q.awaited then q.id ∷ [] else []) (awaited_ids qs) j) | inr e ↦ inr e ]
 
 -- who stands in line for the link is still to start
 line_later : (b : Book) (t : Inner) (m : ℕ) → Tied b t → IsRunning t → is_in_line t.limit t.link (b.story m) ≡ true → IsLater t m
@@ -360,7 +424,7 @@ waiting_open requests p w = (early_open requests p w).0
 pub queue_within : (b : Book) (t : Inner) (p : ℕ) → Tied b t → IsIn p (queue_ids (link_in t.life).queue) → p < length t.requests
 queue_within b t p h i =
     let later = queue_ids (link_in t.life).queue ++ kept_ids t.admitted t.waiting in
-    (rising_in 0 later (length t.requests) p (rising_right 0 t.started later (length t.requests) h.lines.line) (in_left p (queue_ids (link_in t.life).queue) (kept_ids t.admitted t.waiting) i)).1
+    (rising_in 0 later (length t.requests) p (rising_right 0 (requests_in t.started) later (length t.requests) h.lines.line) (in_left p (queue_ids (link_in t.life).queue) (kept_ids t.admitted t.waiting) i)).1
 
 -- without a message
 pub later_untried : (b : Book) (t : Inner) (p : ℕ) → Tied b t → p < length t.requests → IsIn p (queue_ids (link_in t.life).queue ++ kept_ids t.admitted t.waiting) → (b.story (name_at t.requests p)).tries ≡ []
@@ -398,15 +462,15 @@ queue_may b t p h i =
 open_told : (b : Book) (t : Inner) (p : ℕ) → Tied b t → is_open_at t.requests p ≡ true → is_told (b.story (name_at t.requests p)) ≡ false
 open_told b t p h o = open_untold (b.story (name_at t.requests p)) ((request_story b t p h (open_within t.requests p o)).open_is ∙ o)
 
--- who stands in the queue stands within its size
-queue_inside : (b : Book) (t : Inner) (p : ℕ) → Tied b t → IsRunning t → IsIn p (queue_ids (link_in t.life).queue) → is_outside b (name_at t.requests p) ≡ false
-queue_inside b t p h r i =
+-- who took its place in this turn, and is in the queue, stands within its size
+queue_within_size : (b : Book) (t : Inner) (p : ℕ) → Tied b t → IsRunning t → IsIn p (queue_ids (link_in t.life).queue) → IsIn p t.moved → is_outside b (name_at t.requests p) ≡ false
+queue_within_size b t p h r i moved =
     let n = name_at t.requests p in
     let queue = (link_in t.life).queue in
     let ids = queue_ids queue in
     let kept = kept_ids t.admitted t.waiting in
     let within = queue_within b t p h i in
-    let later = rising_right 0 t.started (ids ++ kept) (length t.requests) h.lines.line in
+    let later = rising_right 0 (requests_in t.started) (ids ++ kept) (length t.requests) h.lines.line in
     let before : (m : ℕ) → m < suc n → is_in_line t.limit t.link (b.story m) ≡ true → IsIn m (names_of t.requests ids) = λ m less e.
     let k = line_later b t m h r e in
     subst (λ x. IsIn x (names_of t.requests ids)) k.name (names_in t.requests ids k.p (elim k.later [
@@ -416,8 +480,21 @@ queue_inside b t p h r i =
     let most = line_most t.limit b.story t.link (suc n) (names_of t.requests ids) before in
     let next = line_next t.limit b.story t.link n (later_line b t p h within (queue_unstarted b t p h i) (queue_may b t p h i)) in
     let long = names_length t.requests queue in
-    let fit = r.fit.within in
-    outside_is b t p h within ∙ not_le_test t.size (line_before t.limit b.story t.link n) (omega arith)
+    let seats = r.seats p moved i in
+    fewer_inside b t p h r within (omega arith)
+
+-- who stands in the queue has its place
+queue_inside : (b : Book) (t : Inner) (p : ℕ) → Tied b t → IsRunning t → IsIn p (queue_ids (link_in t.life).queue) → is_outside b (name_at t.requests p) ≡ false
+queue_inside b t p h r i =
+    let n = name_at t.requests p in
+    let s = b.story n in
+    elim (queue_awaited b.story t.requests (link_in t.life).queue p h.lines.queued i) [
+      | inl j ↦ elim (h.waits.room p j) [
+        | inl moved ↦ queue_within_size b t p h r i moved
+        | inr shown ↦ placed_inside b n (ap (λ x. is_room x || is_told s) shown)
+      ]
+      | inr told ↦ placed_inside b n (ap (λ x. is_room s.waiting || x) told ∙ or_true (is_room s.waiting))
+    ]
 
 -- a message of the queue starts next, or waits while its link is held back
 pub queue_step : (b : Book) (t : Inner) (p : ℕ) → Tied b t → IsRunning t → IsIn p (queue_ids (link_in t.life).queue) → next_step b (name_at t.requests p) ≡ starts_or_waits (holds_back (link_in t.life))
@@ -432,41 +509,43 @@ queue_step b t p h r i =
     ]
 
 -- who waits while the queue holds its size stands outside
-kept_outside : (b : Book) (t : Inner) (p : ℕ) → Tied b t → IsRunning t → is_full (link_in t.life) ≡ true → is_open_at t.requests p ≡ true → IsIn p (kept_ids t.admitted t.waiting) → is_outside b (name_at t.requests p) ≡ true
-kept_outside b t p h r full o i =
+kept_outside : (b : Book) (t : Inner) (p : ℕ) → Tied b t → IsRunning t → is_full_beside (link_in t.life) (in_front t.renewal) ≡ true → shown_wait b.story t.requests p ≢ Some wait.Room → is_open_at t.requests p ≡ true → IsIn p (kept_ids t.admitted t.waiting) → is_outside b (name_at t.requests p) ≡ true
+kept_outside b t p h r full shown o i =
     let n = name_at t.requests p in
     let queue = (link_in t.life).queue in
     let ids = queue_ids queue in
     let kept = kept_ids t.admitted t.waiting in
     let within = open_within t.requests p o in
-    let later = rising_right 0 t.started (ids ++ kept) (length t.requests) h.lines.line in
+    let later = rising_right 0 (requests_in t.started) (ids ++ kept) (length t.requests) h.lines.line in
     let rises = names_rising t.table t.requests 0 0 ids p h.names within (λ m above below. omega arith) (rising_before 0 ids kept (length t.requests) p later i) in
     let all : (m : ℕ) → IsIn m (names_of t.requests ids) → is_in_line t.limit t.link (b.story m) ≡ true = λ m j.
     let k = names_from t.requests ids m j in
     subst (λ x. is_in_line t.limit t.link (b.story x) ≡ true) k.2 (later_line b t k.0 h (queue_within b t k.0 h k.1) (queue_unstarted b t k.0 h k.1) (queue_may b t k.0 h k.1)) in
     let least = line_least t.limit b.story t.link 0 (names_of t.requests ids) n rises all in
     let long = names_length t.requests queue in
-    let fills = le_from (link_in t.life).size (length queue) full in
+    let fills = le_from (link_in t.life).size (in_front t.renewal + length queue) full in
     let size = r.fit.size_is in
-    outside_is b t p h within ∙ le_test t.size (line_before t.limit b.story t.link n) (omega arith)
+    let s = b.story n in
+    let none : has_place s ≡ false = (λ i. not_room s.waiting shown i || open_told b t p h o i) in
+    many_outside b t p h r within none (omega arith)
 
 -- so it waits for a place, where it was let in
-pub full_step : (b : Book) (t : Inner) (p : ℕ) → Tied b t → IsRunning t → is_full (link_in t.life) ≡ true → is_admitted_at t.requests p ≡ true → IsIn p (waiting_ids t.admitted) → next_step b (name_at t.requests p) ≡ waits wait.Place
+pub full_step : (b : Book) (t : Inner) (p : ℕ) → Tied b t → IsRunning t → is_full_beside (link_in t.life) (in_front t.renewal) ≡ true → is_admitted_at t.requests p ≡ true → IsIn p (waiting_ids t.admitted) → next_step b (name_at t.requests p) ≡ waits wait.Place
 full_step b t p h r full a i =
     let s = b.story (name_at t.requests p) in
     let o = (admitted_open t.requests p a).0 in
     let_in_step b t p h r (open_within t.requests p o) (open_told b t p h o) (h.permits.let_in p (inl a))
-    ∙ (λ k. step_placed (kept_outside b t p h r full o (in_left p (waiting_ids t.admitted) (waiting_ids t.waiting) i) k) (is_awaited s) (holds_back (link_in t.life)))
+    ∙ (λ k. step_placed (kept_outside b t p h r full (h.waits.seatless p a) o (in_left p (waiting_ids t.admitted) (waiting_ids t.waiting) i) k) (is_awaited s) (holds_back (link_in t.life)))
 
 -- the first of those that wait has its place next, while the queue has room
-first_inside : (b : Book) (t : Inner) (p : ℕ) (rest : List ℕ) → Tied b t → IsRunning t → is_full (link_in t.life) ≡ false → is_open_at t.requests p ≡ true → kept_ids t.admitted t.waiting ≡ p ∷ rest → is_outside b (name_at t.requests p) ≡ false
+first_inside : (b : Book) (t : Inner) (p : ℕ) (rest : List ℕ) → Tied b t → IsRunning t → is_full_beside (link_in t.life) (in_front t.renewal) ≡ false → is_open_at t.requests p ≡ true → kept_ids t.admitted t.waiting ≡ p ∷ rest → is_outside b (name_at t.requests p) ≡ false
 first_inside b t p rest h r room o first =
     let n = name_at t.requests p in
     let queue = (link_in t.life).queue in
     let ids = queue_ids queue in
     let kept = kept_ids t.admitted t.waiting in
     let within = open_within t.requests p o in
-    let later = rising_right 0 t.started (ids ++ kept) (length t.requests) h.lines.line in
+    let later = rising_right 0 (requests_in t.started) (ids ++ kept) (length t.requests) h.lines.line in
     let line = subst (λ ns. Rising 0 ns (length t.requests)) first (rising_right 0 ids kept (length t.requests) later) in
     let before : (m : ℕ) → m < n → is_in_line t.limit t.link (b.story m) ≡ true → IsIn m (names_of t.requests ids) = λ m less e.
     let k = line_later b t m h r e in
@@ -477,12 +556,12 @@ first_inside b t p rest h r room o first =
     ])) in
     let most = line_most t.limit b.story t.link n (names_of t.requests ids) before in
     let long = names_length t.requests queue in
-    let free = not_le_from (link_in t.life).size (length queue) room in
+    let free = not_le_from (link_in t.life).size (in_front t.renewal + length queue) room in
     let size = r.fit.size_is in
-    outside_is b t p h within ∙ not_le_test t.size (line_before t.limit b.story t.link n) (omega arith)
+    fewer_inside b t p h r within (omega arith)
 
 -- so it is told there where nobody awaits its reply, and it was let in
-pub first_step : (b : Book) (t : Inner) (p : ℕ) (rest : List ℕ) → Tied b t → IsRunning t → is_full (link_in t.life) ≡ false → is_open_at t.requests p ≡ true → kept_ids t.admitted t.waiting ≡ p ∷ rest → is_let_in t.limit (b.story (name_at t.requests p)) ≡ true
+pub first_step : (b : Book) (t : Inner) (p : ℕ) (rest : List ℕ) → Tied b t → IsRunning t → is_full_beside (link_in t.life) (in_front t.renewal) ≡ false → is_open_at t.requests p ≡ true → kept_ids t.admitted t.waiting ≡ p ∷ rest → is_let_in t.limit (b.story (name_at t.requests p)) ≡ true
     → is_awaited (b.story (name_at t.requests p)) ≡ false → next_step b (name_at t.requests p) ≡ tells
 first_step b t p rest h r room o first is unawaited =
     let_in_step b t p h r (open_within t.requests p o) (open_told b t p h o) is
@@ -564,7 +643,7 @@ setup_step b t p link with_user h setting within =
     let l = b.link t.link in
     let life = subst (TiedLife l b.created) setting h.life in
     let said = subst (HasSaid l t.started) setting h.setup.said in
-    let has = has_credentials l.creds (subst (AreSought l.creds) setting h.creds.sought) in
+    let has = has_credentials l.creds (subst (AreSought l.creds) setting h.creds.sought).0 in
     unready_step b (name_at t.requests p) (ap (λ m. (b.link m).up) q.on ∙ life.1) (ap (λ m. is_set_up (b.link m)) q.on ∙ (not_set_up l link with_user said.1).unwell)
     ∙ ap (λ (kind : WaitKind). waits kind) (ap (λ m. unready_wait (b.link m)) q.on ∙ left_if (lacks_credentials l) wait.Creds wait.Setup has)
 

@@ -1,5 +1,5 @@
 -- A turn of an event: where it may stand, and what its link and the others hear.
-use Rattle.std.proofs.Common.{◌≡◌, ◌≢◌, ◌⊎◌, inl, inr, ℕ, zero, suc, ◌+◌, ◌<◌, ◌≤◌, ◌==◌, nat_lt, nat_le, false, ◌&&◌, ◌||◌, not, is_some, List, [], ◌∷◌, ◌++◌, length, slice_get, Some, refl, sym, ap, ◌∙◌, subst, arith, length-take, None, Option}
+use Rattle.std.proofs.Common.{◌≡◌, ◌≢◌, ◌⊎◌, inl, inr, ℕ, zero, suc, ◌+◌, ◌<◌, ◌≤◌, ◌==◌, nat_lt, nat_le, false, ◌&&◌, ◌||◌, not, is_some, List, [], ◌∷◌, ◌++◌, length, slice_get, Some, refl, sym, ap, ◌∙◌, subst, arith, length-take, None, Option, if◌then◌else◌, true}
 use Rattle.std.proofs.lemmas.List.{append-nil}
 use Rattle.containers.proofs.Choices.{by_test, chosen, taken_if, left_if, eq_test, ne_test, not_le_from, or_left}
 use Rattle.redis_error.specs.declared.redis_error.RedisError.TheVariants as error
@@ -9,14 +9,13 @@ use Rattle.driver_model.specs.declared.action.Owner.TheVariants as owner
 use Rattle.driver_model.specs.declared.action.Purpose.{Purpose}
 use Rattle.driver_model.specs.declared.action.Purpose.TheVariants as purpose
 use Rattle.driver_model.specs.declared.action.SourceUse.{SourceUse}
-use Rattle.driver_model.specs.declared.action.SourceUse.TheVariants as source
 use Rattle.connection_info.specs.declared.address.RedisConnectionInfo.{RedisConnectionInfo}
 use Rattle.driver_model.specs.declared.action.Action.TheVariants as action
 use Rattle.driver_model.specs.declared.action.Cause.TheVariants as cause
 use Rattle.driver_model.specs.declared.event.EventKind.{EventKind}
 use Rattle.driver_model.specs.declared.event.EventKind.TheVariants as event
 use Rattle.driver_model.specs.declared.news.LinkFault.TheVariants as fault
-use Rattle.driver_model.specs.News.{News, silence, connected, took, came, failed, authorized, denied, deserted, shut, for_link, is_source_of, news_of, refused, overdue, of_timer}
+use Rattle.driver_model.specs.News.{News, silence, connected, took, came, failed, authorized, denied, deserted, shut, for_link, news_of, refused, overdue, of_timer, renewed, unrenewed, late, of_source}
 use Rattle.driver_model.specs.declared.outcome.Outcome.TheVariants as outcome
 use Rattle.link_core.specs.Link.{LinkState}
 use Rattle.link_laws.proofs.TiedLink.{TiedLink}
@@ -25,18 +24,20 @@ use Rattle.mux_conn.specs.declared.life.Life.{Life}
 use Rattle.mux_conn.specs.declared.life.Life.TheVariants.{Dialing, Wanting, SettingUp, Ready, Ended}
 use Rattle.mux_conn.specs.declared.request.Request.{Request}
 use Rattle.shared_session.specs.declared.core_state.Core.{Core}
-use Rattle.shared_session.specs.Turn.{is_shutdown, shut_by, exceeds_offer, is_no_link, is_bad}
-use Rattle.legal_trace.specs.Ledger.{Ledger, Start, setup_count, authorized_by, awaits_credentials, hears, noted, is_over, bytes_came, dials, refused_in, Heard}
+use Rattle.shared_session.specs.Turn.{is_shutdown, shut_by, exceeds_offer, is_no_link, is_bad, use_after}
+use Rattle.legal_trace.specs.Ledger.{Ledger, Start, setup_count, authorized_by, awaits_credentials, hears, noted, is_over, bytes_came, dials, refused_in, Heard, is_renewal_open, lost_by, may_renew, renewed_by, unrenewed_by, Sourced}
 use Rattle.legal_trace.specs.Story.{Story, fires}
 use Rattle.legal_trace.specs.Book.{Book, book, entered, is_clock_of}
 use Rattle.legal_trace.specs.Events.{is_bad_event}
 use Rattle.legal_trace.specs.Legal.{MayTurn, is_heard}
-use Rattle.session_laws.proofs.Tied.{AreAimed, AreUses, IsAim, owners_of, owners_each, setup_owners, Inner, inner, link_in, carried, whole_link, IsUnknown, TiedCreds, TiedLife, TiedSetup, TiedTries, TiedLines, AreQueued, TiedWaits, Tied, Sound, no_opening, has_ended, TiedPushes}
+use Rattle.session_laws.proofs.Tied.{AreAimed, AreUses, IsAim, owners_of, owners_each, setup_owners, Inner, inner, link_in, carried, whole_link, IsUnknown, TiedCreds, TiedLife, TiedSetup, TiedTries, TiedLines, AreQueued, TiedWaits, Tied, Sound, no_opening, has_ended, TiedPushes, TiedRenewal, sources_asked_in}
 use Rattle.session_laws.proofs.States.{Between}
 use Rattle.session_laws.proofs.Entered.{book_more, sound_more}
 use Rattle.session_laws.proofs.Answer.{some_end}
 use Rattle.session_laws.proofs.Kept.{tied_by}
 use Rattle.session_laws.proofs.Settle.{seen, trace_of_acts, Holds}
+use Rattle.session_laws.proofs.Names.{get_more}
+use Rattle.mux_conn.specs.declared.renewal.Renewal.{Renewal}
 
 -- bad events
 --
@@ -108,16 +109,22 @@ elsewhere_fired link count m n timers aims other = by_timer (slice_get timers n)
     by_timer None e = refl
     by_timer (Some (purpose.Connect l)) e = left_if (l == m) overdue silence (ne_test l m (λ same. other (sym same ∙ aims n (purpose.Connect l) e)))
     by_timer (Some (purpose.Response who)) e = refl
+    by_timer (Some (purpose.Renewal l k)) e = left_if (l == m) (late k) silence (ne_test l m (λ same. other (sym same ∙ aims n (purpose.Renewal l k) e)))
 
 -- nor of a source of credentials
-elsewhere_given : (link m n : ℕ) (sources : List SourceUse) (news : News) → AreUses sources link → m ≢ link → for_link (is_source_of m (slice_get sources n)) news ≡ silence
-elsewhere_given link m n sources news uses other = by_source (slice_get sources n) refl
+elsewhere_given : (link m n : ℕ) (sources : List SourceUse) (first later : News) → AreUses sources link → m ≢ link → of_source m (slice_get sources n) first later ≡ silence
+elsewhere_given link m n sources first later uses other = by_source (slice_get sources n) refl
   where
-    by_source : (x : Option SourceUse) → slice_get sources n ≡ x → for_link (is_source_of m x) news ≡ silence
+    apart : (link == m) ≡ false
+    apart = ne_test link m (λ same. other (sym same))
+
+    by_use : (k : ℕ) → of_source m (Some (use_after link k)) first later ≡ silence
+    by_use zero = ap (λ b. if b then first else silence) apart
+    by_use (suc k) = ap (λ b. if b then later else silence) apart
+
+    by_source : (x : Option SourceUse) → slice_get sources n ≡ x → of_source m x first later ≡ silence
     by_source None e = refl
-    by_source (Some (source.Setup l)) e =
-        let own : l ≡ link = (let same = uses n (source.Setup l) e in cc) in
-        left_if (l == m) news silence (ne_test l m (λ same. other (sym same ∙ own)))
+    by_source (Some what) e = ap (λ (x : SourceUse). of_source m (Some x) first later) (uses n what e) ∙ by_use n
 
 -- whatever the event is
 elsewhere : (c : Core) (m : ℕ) (kind : EventKind) → ((k : ℕ) → k < c.links → k ≡ c.single.link) → AreAimed c.timers c.single.link (length c.table) → AreUses c.sources c.single.link → is_bad c kind ≡ false → m ≢ c.single.link → (news_of c.timers c.sources m kind ≡ silence) ⊎ (news_of c.timers c.sources m kind ≡ shut)
@@ -132,9 +139,9 @@ elsewhere c m (event.Bytes l piece) only aims uses good other = inl (elsewhere_o
 elsewhere c m (event.Ended l) only aims uses good other = inl (elsewhere_of c l m (failed fault.Ended) only good other)
 elsewhere c m (event.ReadFault l kind) only aims uses good other = inl (elsewhere_of c l m (failed (fault.Io kind)) only good other)
 elsewhere c m (event.WriteFault l kind) only aims uses good other = inl (elsewhere_of c l m (failed (fault.Io kind)) only good other)
-elsewhere c m (event.Creds n auth) only aims uses good other = inl (elsewhere_given c.single.link m n c.sources (authorized auth) uses other)
-elsewhere c m (event.CredsError n text) only aims uses good other = inl (elsewhere_given c.single.link m n c.sources (denied text) uses other)
-elsewhere c m (event.CredsEnd n) only aims uses good other = inl (elsewhere_given c.single.link m n c.sources deserted uses other)
+elsewhere c m (event.Creds n auth) only aims uses good other = inl (elsewhere_given c.single.link m n c.sources (authorized auth) (renewed auth) uses other)
+elsewhere c m (event.CredsError n text) only aims uses good other = inl (elsewhere_given c.single.link m n c.sources (denied text) silence uses other)
+elsewhere c m (event.CredsEnd n) only aims uses good other = inl (elsewhere_given c.single.link m n c.sources deserted unrenewed uses other)
 elsewhere c m (event.Timeout ms) only aims uses good other = inl refl
 elsewhere c m event.Shutdown only aims uses good other = inr refl
 
@@ -158,11 +165,16 @@ own_news c l n only here = taken_if (l == c.single.link) n silence (eq_test l c.
 pub own_timer : (c : Core) (n l : ℕ) → AreAimed c.timers c.single.link (length c.table) → slice_get c.timers n ≡ Some (purpose.Connect l) → of_timer c.single.link (slice_get c.timers n) ≡ overdue
 own_timer c n l aims is = ap (of_timer c.single.link) is ∙ taken_if (l == c.single.link) overdue silence (eq_test l c.single.link (aims n (purpose.Connect l) is))
 
--- a source that was asked for is one for it
-pub own_source : (c : Core) (n : ℕ) (what : SourceUse) (news : News) → AreUses c.sources c.single.link → slice_get c.sources n ≡ Some what → for_link (is_source_of c.single.link (slice_get c.sources n)) news ≡ news
-own_source c n what news uses is =
-    ap (λ (x : Option SourceUse). for_link (is_source_of c.single.link x) news) (is ∙ ap Some (uses n what is))
-    ∙ taken_if (c.single.link == c.single.link) news silence (eq_test c.single.link c.single.link refl)
+-- the first source that was asked for is one for its setup, and any other for its renewals
+pub own_source : (c : Core) (n : ℕ) (what : SourceUse) (first later : News) → AreUses c.sources c.single.link → slice_get c.sources n ≡ Some what → of_source c.single.link (slice_get c.sources n) first later ≡ (if n == 0 then first else later)
+own_source c n what first later uses is = ap (λ (x : Option SourceUse). of_source c.single.link x first later) (is ∙ ap Some (uses n what is)) ∙ by_use n
+  where
+    mine : (c.single.link == c.single.link) ≡ true
+    mine = eq_test c.single.link c.single.link refl
+
+    by_use : (k : ℕ) → of_source c.single.link (Some (use_after c.single.link k)) first later ≡ (if k == 0 then first else later)
+    by_use zero = ap (λ b. if b then first else silence) mine
+    by_use (suc k) = ap (λ b. if b then later else silence) mine ∙ sym (left_if (suc k == 0) first later (ne_test (suc k) 0 (λ e. cc e)))
 
 -- news start nothing
 pub heard_starts : (l : Ledger) (turn : ℕ) (n : News) → (noted l (hears turn n)).starts ≡ l.starts
@@ -174,6 +186,9 @@ heard_starts l turn (took count) = chosen (λ (x : Ledger). x.starts ≡ l.start
 heard_starts l turn (came piece) = chosen (λ (x : Ledger). x.starts ≡ l.starts) l.up (bytes_came l piece) l (λ t. refl) (λ f. refl)
 heard_starts l turn (failed f) = refl
 heard_starts l turn (authorized c) = chosen (λ (x : Ledger). x.starts ≡ l.starts) (awaits_credentials l) (authorized_by l c) l (λ t. refl) (λ f. refl)
+heard_starts l turn (renewed c) = chosen (λ (x : Ledger). x.starts ≡ l.starts) (may_renew l) (renewed_by l c) l (λ t. refl) (λ f. refl)
+heard_starts l turn unrenewed = chosen (λ (x : Ledger). x.starts ≡ l.starts) l.up (unrenewed_by l) l (λ t. refl) (λ f. refl)
+heard_starts l turn (late k) = chosen (λ (x : Ledger). x.starts ≡ l.starts) (l.up && is_renewal_open l k) (lost_by l) l (λ t. refl) (λ f. refl)
 heard_starts l turn (denied text) = refl
 heard_starts l turn deserted = refl
 heard_starts l turn shut = refl
@@ -235,8 +250,8 @@ heard_is b number word event.Shutdown k = still_as_many b number word event.Shut
 tries_by : (l after : Ledger) (story : ℕ → Story) (requests : List Request) (link : ℕ) (started : List ℕ) → after.starts ≡ l.starts → TiedTries l story requests link started → TiedTries after story requests link started
 tries_by l after story requests link started e h = record {
   owners = subst (λ (ss : List Start). owners_of ss ≡ setup_owners (setup_count ss) (owners_each requests started)) (sym e) h.owners;
-  shapes = λ k p s i j. h.shapes k p s i (ap (λ (ss : List Start). slice_get ss (setup_count ss + k)) (sym e) ∙ j);
-  tried = λ k p i. h.tried k p i ∙ ap (λ (ss : List Start). record { link = link; message = setup_count ss + k } ∷ []) (sym e);
+  shapes = λ k p s w i j. h.shapes k p s w i (ap (λ (ss : List Start). slice_get ss (setup_count ss + k)) (sym e) ∙ j);
+  tried = λ k p w i. h.tried k p w i ∙ ap (λ (ss : List Start). record { link = link; message = setup_count ss + k } ∷ []) (sym e);
   untried = h.untried;
 }
 
@@ -253,11 +268,11 @@ pub uses_on : (sources : List SourceUse) (link : ℕ) → AreUses sources link �
 uses_on sources link h = subst (λ (ss : List SourceUse). AreUses ss link) (sym (append-nil sources)) h
 
 -- with one more
-pub uses_more : (sources : List SourceUse) (link : ℕ) → AreUses sources link → AreUses (sources ++ source.Setup link ∷ []) link
-uses_more [] link h zero what e = cc
-uses_more [] link h (suc k) what e = cc
-uses_more (x ∷ xs) link h zero what e = h zero what e
-uses_more (x ∷ xs) link h (suc k) what e = uses_more xs link (λ j u i. h (suc j) u i) k what e
+pub uses_more : (sources : List SourceUse) (link : ℕ) → AreUses sources link → AreUses (sources ++ use_after link (length sources) ∷ []) link
+uses_more sources link h k what e = elim (get_more sources (use_after link (length sources)) k what e) [
+  | inl old ↦ h k what old
+  | inr new ↦ sym new.1 ∙ ap (use_after link) (sym new.0)
+]
 
 -- with more submissions
 pub aims_longer : (timers : List Purpose) (link count more : ℕ) → count ≤ more → AreAimed timers link count → AreAimed timers link more
@@ -266,14 +281,17 @@ aims_longer timers link count more l h k what e = by_purpose what (h k what e)
     by_purpose : (x : Purpose) → IsAim x link count → IsAim x link more
     by_purpose (purpose.Connect m) is = is
     by_purpose (purpose.Response owner.Setup) is = absurd is
+    by_purpose (purpose.Response owner.Auth) is = absurd is
+    by_purpose (purpose.Renewal m k) is = is
     by_purpose (purpose.Response (owner.Try n round)) is = (let less = is.0 in omega arith, is.1)
 
--- what the session needs of the life that the turn leads to, by the ledger that its link has come to, and by what is said to
--- its server then; the creation may be shown with it
-pub record ComesTo (b : Book) (c : Core) (l : Ledger) (created : ℕ) (info : RedisConnectionInfo) (life : Life) (fresh pending : List ℕ) (untold : List Heard) (started : List ℕ) : Type 0 where
+-- what the session needs of the life, and of the new credentials, that the turn leads to, by the ledger that its link has come
+-- to, and by what is said to its server then; the creation may be shown with it
+pub record ComesAs (b : Book) (c : Core) (l : Ledger) (created : ℕ) (info : RedisConnectionInfo) (renewal : Renewal) (life : Life) (fresh pending : List ℕ) (untold : List Heard) (started : List ℕ) : Type 0 where
   pub starts : l.starts ≡ (b.link c.single.link).starts
   pub lived : TiedLife l created life
-  pub creds : TiedCreds l.creds c.single.connection.wants life
+  pub creds : TiedCreds l.creds renewal.wanted life
+  pub renewal_is : TiedRenewal l renewal life
   pub said : TiedSetup l info started life
   pub linked : has_ended life ≡ false → TiedLink (carried life c.single.connection.requests) l (whole_link life)
   pub lines : TiedLines b.story c.single.connection.requests (link_in life) c.single.connection.waiting c.single.connection.admitted pending started
@@ -281,17 +299,26 @@ pub record ComesTo (b : Book) (c : Core) (l : Ledger) (created : ℕ) (info : Re
   pub waits : TiedWaits b.story c.single.connection.requests life fresh c.single.connection.moved
   pub pushes : TiedPushes (is_heard b) c.single.connection.hears l.pushes l.told l.end l.parted untold false
 
+-- where its new credentials are as they were
+abbrev pub ComesTo : Book → Core → Ledger → ℕ → RedisConnectionInfo → Life → List ℕ → List ℕ → List Heard → List ℕ → Type 0
+ComesTo b c l created info life fresh pending untold started = ComesAs b c l created info c.single.connection.renewal life fresh pending untold started
+
 -- the connection then
+abbrev pub renews_as : Core → RedisConnectionInfo → Renewal → Life → List ℕ → MultiplexedConnection
+renews_as c info renewal life fresh = record c.single.connection { info = info; renewal = renewal; life = life; fresh = fresh }
+
+-- where its new credentials are as they were
 abbrev pub comes_as : Core → RedisConnectionInfo → Life → List ℕ → MultiplexedConnection
 comes_as c info life fresh = record c.single.connection { info = info; life = life; fresh = fresh }
 
--- the session tied to a book with these ledgers, and with these sources of credentials
-pub heard_tied_by : (b : Book) (c : Core) (started : List ℕ) (word created : ℕ) (kind : EventKind) (info : RedisConnectionInfo) (life : Life) (fresh pending : List ℕ) (untold : List Heard) (links : ℕ → Ledger) (l : Ledger) (asked uses : List SourceUse) → Tied b (inner c started)
-    → ((m : ℕ) → m ≢ c.single.link → IsUnknown (links m)) → links c.single.link ≡ l → asked ≡ uses → AreUses uses c.single.link → ComesTo b c l created info life fresh pending untold started
-    → Tied (record (heard_book b c.turns word kind) { created = created; link = links; sources = asked }) (record (seen (turned c kind) [] (comes_as c info life fresh) pending started) { untold = untold; sources = uses })
-heard_tied_by b c started word created kind info life fresh pending untold links l asked uses h others is sourced used k =
+-- the session tied to a book with these ledgers, and with these sources of credentials, where new credentials came to this
+pub heard_tied_as : (b : Book) (c : Core) (started : List ℕ) (word created : ℕ) (kind : EventKind) (info : RedisConnectionInfo) (renewal : Renewal) (life : Life) (fresh pending : List ℕ) (untold : List Heard) (links : ℕ → Ledger) (l : Ledger) (asked uses : List SourceUse) → Tied b (inner c started)
+    → renewal.within ≡ c.single.connection.renewal.within
+    → ((m : ℕ) → m ≢ c.single.link → IsUnknown (links m)) → links c.single.link ≡ l → asked ≡ uses → AreUses uses c.single.link → length uses ≡ sources_asked_in l.creds → ComesAs b c l created info renewal life fresh pending untold started
+    → Tied (record (heard_book b c.turns word kind) { created = created; link = links; sources = asked }) (record (seen (turned c kind) [] (renews_as c info renewal life fresh) pending started) { untold = untold; sources = uses })
+heard_tied_as b c started word created kind info renewal life fresh pending untold links l asked uses h within others is sourced used counted k =
     let after = record (heard_book b c.turns word kind) { created = created; link = links; sources = asked } in
-    let t = record (seen (turned c kind) [] (comes_as c info life fresh) pending started) { untold = untold; sources = uses } in
+    let t = record (seen (turned c kind) [] (renews_as c info renewal life fresh) pending started) { untold = untold; sources = uses } in
     tied_by after t l is (record {
       numbers = record {
         turns = ap (λ n. n + 1) h.numbers.turns;
@@ -304,6 +331,8 @@ heard_tied_by b c started word created kind info life fresh pending untold links
         submissions = h.numbers.submissions;
         timeout = h.numbers.timeout;
         shut = ap (λ s. s || is_shutdown kind) h.numbers.shut;
+        within = h.numbers.within ∙ sym within;
+        few = h.numbers.few;
         settings = record { size_is = h.numbers.settings.size_is; bound_is = h.numbers.settings.bound_is; limit_is = h.numbers.settings.limit_is; some = h.numbers.settings.some; limited = h.numbers.settings.limited };
         one = h.numbers.one;
         only = h.numbers.only;
@@ -312,6 +341,8 @@ heard_tied_by b c started word created kind info life fresh pending untold links
       pushes = k.pushes;
       life = k.lived;
       creds = k.creds;
+      count = counted;
+      renewal = k.renewal_is;
       setup = k.said;
       link = k.linked;
       names = h.names;
@@ -324,13 +355,82 @@ heard_tied_by b c started word created kind info life fresh pending untold links
       late = λ p o late. absurd (h.late p o late);
     })
 
--- by what its link hears
+-- where they are as they were
+pub heard_tied_by : (b : Book) (c : Core) (started : List ℕ) (word created : ℕ) (kind : EventKind) (info : RedisConnectionInfo) (life : Life) (fresh pending : List ℕ) (untold : List Heard) (links : ℕ → Ledger) (l : Ledger) (asked uses : List SourceUse) → Tied b (inner c started)
+    → ((m : ℕ) → m ≢ c.single.link → IsUnknown (links m)) → links c.single.link ≡ l → asked ≡ uses → AreUses uses c.single.link → length uses ≡ sources_asked_in l.creds → ComesTo b c l created info life fresh pending untold started
+    → Tied (record (heard_book b c.turns word kind) { created = created; link = links; sources = asked }) (record (seen (turned c kind) [] (comes_as c info life fresh) pending started) { untold = untold; sources = uses })
+heard_tied_by b c started word created kind info life fresh pending untold links l asked uses h others is sourced used counted k =
+    heard_tied_as b c started word created kind info c.single.connection.renewal life fresh pending untold links l asked uses h refl others is sourced used counted k
+
+-- news ask for no source
+pub sources_hear : (l : Ledger) (turn : ℕ) (n : News) → sources_asked_in (noted l (hears turn n)).creds ≡ sources_asked_in l.creds
+sources_hear l turn silence = refl
+sources_hear l turn overdue = refl
+sources_hear l turn connected = chosen (λ (x : Ledger). sources_asked_in x.creds ≡ sources_asked_in l.creds) (is_over l) l (record l { up = true }) (λ t. refl) (λ f. refl)
+sources_hear l turn (refused f) = chosen (λ (x : Ledger). sources_asked_in x.creds ≡ sources_asked_in l.creds) (dials l) (refused_in l turn (error.Io f)) l (λ t. refl) (λ d. refl)
+sources_hear l turn (took count) = chosen (λ (x : Ledger). sources_asked_in x.creds ≡ sources_asked_in l.creds) l.up _ l (λ t. refl) (λ f. refl)
+sources_hear l turn (came piece) = chosen (λ (x : Ledger). sources_asked_in x.creds ≡ sources_asked_in l.creds) l.up (bytes_came l piece) l (λ t. refl) (λ f. refl)
+sources_hear l turn (failed f) = refl
+sources_hear l turn (authorized c) = chosen (λ (x : Ledger). sources_asked_in x.creds ≡ sources_asked_in l.creds) (awaits_credentials l) (authorized_by l c) l (λ t. refl) (λ f. refl)
+sources_hear l turn (denied text) = refl
+sources_hear l turn deserted = refl
+sources_hear l turn (renewed c) = chosen (λ (x : Ledger). sources_asked_in x.creds ≡ sources_asked_in l.creds) (may_renew l) (renewed_by l c) l (λ t. refl) (λ f. refl)
+sources_hear l turn unrenewed = chosen (λ (x : Ledger). sources_asked_in x.creds ≡ sources_asked_in l.creds) l.up (unrenewed_by l) l (λ t. refl) (λ f. refl)
+sources_hear l turn (late k) = chosen (λ (x : Ledger). sources_asked_in x.creds ≡ sources_asked_in l.creds) (l.up && is_renewal_open l k) (lost_by l) l (λ t. refl) (λ f. refl)
+sources_hear l turn shut = refl
+
+-- nor for a timer
+pub timed_hear : (l : Ledger) (turn : ℕ) (n : News) → (noted l (hears turn n)).creds.timed ≡ l.creds.timed
+timed_hear l turn silence = refl
+timed_hear l turn overdue = refl
+timed_hear l turn connected = chosen (λ (x : Ledger). x.creds.timed ≡ l.creds.timed) (is_over l) l (record l { up = true }) (λ t. refl) (λ f. refl)
+timed_hear l turn (refused f) = chosen (λ (x : Ledger). x.creds.timed ≡ l.creds.timed) (dials l) (refused_in l turn (error.Io f)) l (λ t. refl) (λ d. refl)
+timed_hear l turn (took count) = chosen (λ (x : Ledger). x.creds.timed ≡ l.creds.timed) l.up _ l (λ t. refl) (λ f. refl)
+timed_hear l turn (came piece) = chosen (λ (x : Ledger). x.creds.timed ≡ l.creds.timed) l.up (bytes_came l piece) l (λ t. refl) (λ f. refl)
+timed_hear l turn (failed f) = refl
+timed_hear l turn (authorized c) = chosen (λ (x : Ledger). x.creds.timed ≡ l.creds.timed) (awaits_credentials l) (authorized_by l c) l (λ t. refl) (λ f. refl)
+timed_hear l turn (denied text) = refl
+timed_hear l turn deserted = refl
+timed_hear l turn (renewed c) = chosen (λ (x : Ledger). x.creds.timed ≡ l.creds.timed) (may_renew l) (renewed_by l c) l (λ t. refl) (λ f. refl)
+timed_hear l turn unrenewed = chosen (λ (x : Ledger). x.creds.timed ≡ l.creds.timed) l.up (unrenewed_by l) l (λ t. refl) (λ f. refl)
+timed_hear l turn (late k) = chosen (λ (x : Ledger). x.creds.timed ≡ l.creds.timed) (l.up && is_renewal_open l k) (lost_by l) l (λ t. refl) (λ f. refl)
+timed_hear l turn shut = refl
+
+-- nor for a second source
+pub renews_hear : (l : Ledger) (turn : ℕ) (n : News) → (noted l (hears turn n)).creds.renews ≡ l.creds.renews
+renews_hear l turn silence = refl
+renews_hear l turn overdue = refl
+renews_hear l turn connected = chosen (λ (x : Ledger). x.creds.renews ≡ l.creds.renews) (is_over l) l (record l { up = true }) (λ t. refl) (λ f. refl)
+renews_hear l turn (refused f) = chosen (λ (x : Ledger). x.creds.renews ≡ l.creds.renews) (dials l) (refused_in l turn (error.Io f)) l (λ t. refl) (λ d. refl)
+renews_hear l turn (took count) = chosen (λ (x : Ledger). x.creds.renews ≡ l.creds.renews) l.up _ l (λ t. refl) (λ f. refl)
+renews_hear l turn (came piece) = chosen (λ (x : Ledger). x.creds.renews ≡ l.creds.renews) l.up (bytes_came l piece) l (λ t. refl) (λ f. refl)
+renews_hear l turn (failed f) = refl
+renews_hear l turn (authorized c) = chosen (λ (x : Ledger). x.creds.renews ≡ l.creds.renews) (awaits_credentials l) (authorized_by l c) l (λ t. refl) (λ f. refl)
+renews_hear l turn (denied text) = refl
+renews_hear l turn deserted = refl
+renews_hear l turn (renewed c) = chosen (λ (x : Ledger). x.creds.renews ≡ l.creds.renews) (may_renew l) (renewed_by l c) l (λ t. refl) (λ f. refl)
+renews_hear l turn unrenewed = chosen (λ (x : Ledger). x.creds.renews ≡ l.creds.renews) l.up (unrenewed_by l) l (λ t. refl) (λ f. refl)
+renews_hear l turn (late k) = chosen (λ (x : Ledger). x.creds.renews ≡ l.creds.renews) (l.up && is_renewal_open l k) (lost_by l) l (λ t. refl) (λ f. refl)
+renews_hear l turn shut = refl
+
+-- with none more there are as many
+pub counted_on : (sources : List SourceUse) (c : Sourced) → length sources ≡ sources_asked_in c → length (sources ++ []) ≡ sources_asked_in c
+counted_on sources c h = ap (λ (ss : List SourceUse). length ss) (append-nil sources) ∙ h
+
+-- by what its link hears, where new credentials came to this
+pub heard_tied_new : (b : Book) (c : Core) (started : List ℕ) (word created : ℕ) (kind : EventKind) (info : RedisConnectionInfo) (renewal : Renewal) (life : Life) (fresh pending : List ℕ) (untold : List Heard) (l : Ledger) → Tied b (inner c started) → renewal.within ≡ c.single.connection.renewal.within → is_bad c kind ≡ false
+    → noted (b.link c.single.link) (hears c.turns (news_of b.timers b.sources c.single.link kind)) ≡ l → ComesAs b c l created info renewal life fresh pending untold started
+    → Tied (record (heard_book b c.turns word kind) { created = created }) (record (seen (turned c kind) [] (renews_as c info renewal life fresh) pending started) { untold = untold })
+heard_tied_new b c started word created kind info renewal life fresh pending untold l h within good is k =
+    heard_tied_as b c started word created kind info renewal life fresh pending untold (heard_book b c.turns word kind).link l b.sources (c.sources ++ []) h within (others_heard b c started kind h good) is
+    (h.numbers.sources ∙ sym (append-nil c.sources)) (uses_on c.sources c.single.link h.numbers.uses)
+    (counted_on c.sources l.creds (h.count ∙ sym (sources_hear (b.link c.single.link) c.turns (news_of b.timers b.sources c.single.link kind)) ∙ ap (λ (x : Ledger). sources_asked_in x.creds) is)) k
+
+-- where they are as they were
 pub heard_tied : (b : Book) (c : Core) (started : List ℕ) (word created : ℕ) (kind : EventKind) (info : RedisConnectionInfo) (life : Life) (fresh pending : List ℕ) (untold : List Heard) (l : Ledger) → Tied b (inner c started) → is_bad c kind ≡ false
     → noted (b.link c.single.link) (hears c.turns (news_of b.timers b.sources c.single.link kind)) ≡ l → ComesTo b c l created info life fresh pending untold started
     → Tied (record (heard_book b c.turns word kind) { created = created }) (record (seen (turned c kind) [] (comes_as c info life fresh) pending started) { untold = untold })
-heard_tied b c started word created kind info life fresh pending untold l h good is k =
-    heard_tied_by b c started word created kind info life fresh pending untold (heard_book b c.turns word kind).link l b.sources (c.sources ++ []) h (others_heard b c started kind h good) is
-    (h.numbers.sources ∙ sym (append-nil c.sources)) (uses_on c.sources c.single.link h.numbers.uses) k
+heard_tied b c started word created kind info life fresh pending untold l h good is k = heard_tied_new b c started word created kind info c.single.connection.renewal life fresh pending untold l h refl good is k
 
 -- the trace begins
 --

@@ -23,11 +23,10 @@ use Rattle.legal_trace.specs.Story.{Story, Try, last_of, is_no_error, is_open, p
 use Rattle.legal_trace.specs.Book.{Book, entered}
 use Rattle.legal_trace.specs.Owed.{owed, owed_to_try, owed_to_message, owed_unstarted, unstarted_error}
 use Rattle.legal_trace.specs.Legal.{NoneEnds, VerdictsAreShown, MayAnswer, FailuresAreShown, EndsAreTold, IsBefore, is_heard}
-use Rattle.session_laws.proofs.Numbers.{IsIn, in_either, in_right, in_left, Rising, rising_in}
+use Rattle.session_laws.proofs.Numbers.{IsIn, in_either, in_right, in_left, Rising, rising_in, requests_in, request_in}
 use Rattle.session_laws.proofs.Tied.{Inner, link_in, queue_ids, IsUnknown, TiedLife, TiedNames, IsEntry, AreQueued, TiedLines, Tied, relined, has_ended, numbers_kept}
-use Rattle.session_laws.proofs.Creds.{sources_asked}
-use Rattle.session_laws.proofs.Said.{carried_tied}
-use Rattle.session_laws.proofs.Names.{name_within, open_within, earlier_name, owners_with, length_with, names_with, with_other, with_then}
+use Rattle.session_laws.proofs.Said.{carried_tied, sources_asked}
+use Rattle.session_laws.proofs.Names.{name_within, open_within, earlier_name, owners_with, length_with, names_with, with_other, with_then, request_not}
 use Rattle.session_laws.proofs.InLine.{kept_ids, line_of, IsInLine, awaited_in, first_is_apart}
 use Rattle.session_laws.proofs.Behind.{open_unanswered, told_answered}
 use Rattle.session_laws.proofs.Closing.{Closes, closed_other, late_closed, with_closed, story_closed, tries_closed, packs_closed, queue_closed, waits_closed, kept_other, IsUntried, told_closed}
@@ -166,12 +165,15 @@ answer_closes s o = record {
 pub entries_answered : (requests : List Request) (p : ℕ) (row : List Entry) → (IsIn p (wanted row) → ⊥) → AllByRecursion (IsEntry requests) row → AllByRecursion (IsEntry (with_permits requests p progress.Closed 0)) row
 entries_answered requests p [] apart all = tt
 entries_answered requests p (e ∷ es) apart all = (
-  record {
-    below = subst (λ n. e.id < n) (sym (length_with requests p progress.Closed 0)) all.0.below;
-    placed_at = λ t.
-        let other : p ≢ e.id = λ same. apart (in_left p (if e.awaited then e.id ∷ [] else []) (wanted es) (if_true (IsIn p) e.awaited (e.id ∷ []) [] t (inl (sym same)))) in
-        with_other is_placed requests p e.id progress.Closed 0 other ∙ all.0.placed_at t;
-  },
+  elim all.0 [
+    | inl r ↦ inl (record {
+      below = subst (λ n. e.id < n) (sym (length_with requests p progress.Closed 0)) r.below;
+      placed_at = λ t.
+          let other : p ≢ e.id = λ same. apart (in_left p (if e.awaited then e.id ∷ [] else []) (wanted es) (if_true (IsIn p) e.awaited (e.id ∷ []) [] t (inl (sym same)))) in
+          with_other is_placed requests p e.id progress.Closed 0 other ∙ r.placed_at t;
+    })
+    | inr a ↦ inr a
+  ],
   entries_answered requests p es (λ i. apart (in_right p (if e.awaited then e.id ∷ [] else []) (wanted es) i)) all.1,
 )
 
@@ -185,9 +187,9 @@ lines_answered table story requests link waiting admitted p pending started clos
     let kept = kept_ids admitted waiting in
     let later = queue ++ kept in
     record {
-      line = subst (Rising 0 (started ++ later)) (sym (length_with requests p progress.Closed 0)) h.line;
+      line = subst (Rising 0 (requests_in started ++ later)) (sym (length_with requests p progress.Closed 0)) h.line;
       queued = queue_closed table story requests p closed link.queue names l
-          (λ n i. let k = rising_in 0 (started ++ later) (length requests) n h.line (in_right n started later (in_left n queue kept i)) in k.1)
+          (λ n i. let k = rising_in 0 (requests_in started ++ later) (length requests) n h.line (in_right n (requests_in started) later (in_left n queue kept i)) in k.1)
           (λ i. apart (in_right p rows queue i)) c h.queued;
       entries = entries_answered requests p link.row (λ i. apart (in_left p rows queue i)) h.entries;
       packs = packs_closed story requests p closed waiting c h.packs;
@@ -226,6 +228,8 @@ answer_apart b t p pending o l apart told h =
       pushes = h.pushes;
       life = h.life;
       creds = h.creds;
+      count = h.count;
+      renewal = h.renewal;
       setup = h.setup;
       link = λ up. carried_tied t.life t.requests (with_permits t.requests p progress.Closed 0) (b.link t.link) (sym (owners_with t.requests p progress.Closed 0)) (h.link up);
       names = names_with t.table t.requests p progress.Closed 0 h.names;
@@ -236,7 +240,7 @@ answer_apart b t p pending o l apart told h =
       waits = waits_closed t.table b.story t.requests p closed t.life t.life t.fresh t.moved h.names l (λ e. e) (λ x e. (x, e)) (λ x u e. (x, e)) (λ x e. (x, e))
           (λ q i.
           let j = awaited_in q link.queue i in
-          let k = rising_in 0 (t.started ++ (queue ++ kept)) (length t.requests) q h.lines.line (in_right q t.started (queue ++ kept) (in_left q queue kept j)) in
+          let k = rising_in 0 (requests_in t.started ++ (queue ++ kept)) (length t.requests) q h.lines.line (in_right q (requests_in t.started) (queue ++ kept) (in_left q queue kept j)) in
           ((λ same. apart (in_right p rows queue (subst (λ m. IsIn m queue) (sym same) j))), k.1, i)) h.waits;
       permits = permits_closed b.story (entered b (action.Outcome n o)).story t.table b.submissions t.requests t.link t.limit t.free t.letting p h.names l known r.on r.permits_is (λ m other. closed_other b.story t.requests p closed m other)
           (ap (λ (s : Story). s.permits) own) (ap (λ (s : Story). s.link) own ∙ r.on) h.permits;
@@ -290,7 +294,11 @@ answer_tied b t p pending o e owes r h =
     let l = open_within t.requests p e in
     let link = link_in t.life in
     let asked = (request_story b (record t { pending = p ∷ pending }) p h l).open_is ∙ e in
-    answer_apart b t p pending o l (λ i. first_is_apart 0 p (pending ++ line_of link t.admitted t.waiting) (length t.requests) r (in_right p pending (line_of link t.admitted t.waiting) (front_in p (wanted link.row) (queue_ids link.queue) (kept_ids t.admitted t.waiting) i)))
+    let asked_in : IsIn p (wanted link.row ++ queue_ids link.queue) → IsIn p (requests_in (wanted link.row) ++ queue_ids link.queue) = λ i. elim (in_either p (wanted link.row) (queue_ids link.queue) i) [
+      | inl j ↦ in_left p (requests_in (wanted link.row)) (queue_ids link.queue) (request_in p (wanted link.row) (request_not b (record t { pending = p ∷ pending }) p h l) j)
+      | inr j ↦ in_right p (requests_in (wanted link.row)) (queue_ids link.queue) j
+    ] in
+    answer_apart b t p pending o l (λ i. first_is_apart 0 p (pending ++ line_of link t.admitted t.waiting) (length t.requests) r (in_right p pending (line_of link t.admitted t.waiting) (front_in p (requests_in (wanted link.row)) (queue_ids link.queue) (kept_ids t.admitted t.waiting) (asked_in i))))
     (λ up. told_closed b.story t.requests p (λ n. answered (b.story n) o) link link (λ u. absurd (owed_untold b (name_at t.requests p) o asked owes u)) (λ q is i. i) (h.told up)) h
 
 -- one that isn't open is answered with nothing shown

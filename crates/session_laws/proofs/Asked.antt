@@ -1,6 +1,6 @@
 -- A submission is handed in: it is the next request, or it is answered at once.
 use Rattle.std.proofs.lemmas.List.{append-nil}
-use Rattle.std.proofs.Common.{◌≡◌, ◌≢◌, inl, inr, ℕ, ◌+◌, ◌<◌, ◌≤◌, ◌==◌, Bool, true, false, ◌||◌, ◌&&◌, not, List, [], ◌∷◌, ◌++◌, length, Some, slice_get, if◌then◌else◌, refl, sym, ap, ◌∙◌, subst, append_assoc, arith, length-append}
+use Rattle.std.proofs.Common.{◌≡◌, ◌≢◌, inl, inr, ℕ, ◌+◌, ◌<◌, ◌≤◌, ◌==◌, Bool, true, false, ◌||◌, ◌&&◌, not, List, [], ◌∷◌, ◌++◌, length, Some, slice_get, if◌then◌else◌, refl, sym, ap, ◌∙◌, subst, append_assoc, arith, length-append, ◌^◌}
 use Rattle.containers.proofs.Places.{get_within}
 use Rattle.containers.proofs.Choices.{chosen, not_both}
 use Rattle.connection_info.specs.declared.address.RedisConnectionInfo.{RedisConnectionInfo}
@@ -25,14 +25,15 @@ use Rattle.shared_session.specs.Turn.{Turning, heard, refused_with, asked_for, p
 use Rattle.legal_trace.specs.Story.{Story, is_no_error, is_told, is_awaited}
 use Rattle.legal_trace.specs.Book.{Book, blank_book, book, entered, current, is_unspoken}
 use Rattle.legal_trace.specs.Legal.{AllStand, NoneEnds, MayAnswer}
-use Rattle.session_laws.proofs.Numbers.{IsIn, in_left, in_right, Rising, rising_next}
+use Rattle.session_laws.proofs.Renewals.{renewal_alike}
+use Rattle.session_laws.proofs.Numbers.{IsIn, in_left, in_right, Rising, rising_next, requests_in, request_in}
 use Rattle.session_laws.proofs.Tied.{carried, inner, link_in, queue_ids, waiting_ids, whole_link, IsOf, IsRequest, IsPacked, IsKept, TiedLines, TiedWaits, Tied, no_opening}
 use Rattle.session_laws.proofs.States.{Between, HasApplied}
 use Rattle.session_laws.proofs.Entered.{all_stand-append, book_more, sound_more}
 use Rattle.session_laws.proofs.Names.{there_within, names_asked}
 use Rattle.session_laws.proofs.Owes.{started_within}
 use Rattle.session_laws.proofs.Settle.{seen}
-use Rattle.session_laws.proofs.Announce.{aims_longer, aims_on, turn_of, turned, may_turn, uses_on}
+use Rattle.session_laws.proofs.Announce.{aims_longer, aims_on, turn_of, turned, may_turn, uses_on, counted_on}
 use Rattle.session_laws.proofs.Heard.{told_life, silent_no_end, silent_applied, still_none}
 use Rattle.session_laws.proofs.Said.{setup_on}
 use Rattle.session_laws.proofs.Further.{one_longer, there_longer, before_or_new, further_story, tries_longer, queue_longer, packs_longer, entries_longer, link_longer, told_longer, IsNext, waits_longer, permits_longer, late_longer}
@@ -40,9 +41,9 @@ use Rattle.session_laws.proofs.InLine.{kept_ids, awaited_in}
 use Rattle.session_laws.proofs.Submit.{stories_with, new_story, story_is_new, others_before, within_line, IsErrorOf, may_refuse, core_refused, refused_tied}
 
 -- it is answered at once
-pub refused_applied : (before : List Action) (c : Core) (started : List ℕ) (word : ℕ) (what : Submission) (e : RedisError) → Between before c started → is_bad c (event.Submit what) ≡ false → IsErrorOf (book before).shut (is_unspoken (book before) what) what e
+pub refused_applied : (before : List Action) (c : Core) (started : List ℕ) (word : ℕ) (what : Submission) (e : RedisError) → Between before c started → length c.table < 2 ^ 32 → is_bad c (event.Submit what) ≡ false → IsErrorOf (book before).shut (is_unspoken (book before) what) what e
     → HasApplied (before ++ turn_of c word (event.Submit what) ∷ []) (refused_with (heard (counted c) (event.Submit what)) e) started
-refused_applied before c started word what e h good why =
+refused_applied before c started word what e h few good why =
     let b = book before in
     let front = before ++ turn_of c word (event.Submit what) ∷ [] in
     let now = entered b (turn_of c word (event.Submit what)) in
@@ -54,7 +55,7 @@ refused_applied before c started word what e h good why =
     let may : MayAnswer now (length c.table) (outcome.Fault e) = may_refuse b c started word what e h.sound.tied applied.answered applied.ended applied.created.failed why in
     record {
       sound = sound_more front a t all (inl (subst (λ (x : Book). MayAnswer x (length c.table) (outcome.Fault e)) (sym book_is) may))
-          (subst (λ (x : Book). Tied (entered x a) t) (sym book_is) (refused_tied b c started word what e h.sound.tied h.fresh));
+          (subst (λ (x : Book). Tied (entered x a) t) (sym book_is) (refused_tied b c started word what e h.sound.tied few h.fresh));
       ended = subst NoneEnds (sym (book_more front a ∙ ap (λ (x : Book). entered x a) book_is)) (λ m. silent_no_end (b.link m) c.turns (still_none before c started h m));
       began = λ z. absurd (omega arith);
       moved = h.moved;
@@ -139,20 +140,20 @@ asked_lines b c started what h =
     let admitted = waiting_ids conn.admitted in
     let kept = admitted ++ last in
     let n = length conn.requests in
-    let at : (p : ℕ) → IsIn p (started ++ (queue ++ kept)) → p < n = λ p i. within_line conn.requests started queue kept p h.lines.line i in
+    let at : (p : ℕ) → IsIn p (requests_in started ++ (queue ++ kept)) → p < n = λ p i. within_line conn.requests (requests_in started) queue kept p h.lines.line i in
     let own : after (name_at (more_requests c) n) ≡ new_story b what = ap after (last_named c) ∙ story_is_new b c started what h in
     let in_last : (p : ℕ) → IsIn p (last ++ n ∷ []) → IsIn p (waiting_ids (conn.waiting ++ new_waiting c what ∷ [])) = λ p i. subst (IsIn p) (sym (waiting_more conn.waiting (new_waiting c what))) i in
     record {
-      line = asked_line c what started queue h.lines.line;
-      queued = queue_longer c.table b.story after conn.requests (more_requests c) (link_in conn.life).queue h.names same longer (λ p i. at p (in_right p started (queue ++ kept) (in_left p queue kept i))) h.lines.queued;
+      line = asked_line c what (requests_in started) queue h.lines.line;
+      queued = queue_longer c.table b.story after conn.requests (more_requests c) (link_in conn.life).queue h.names same longer (λ p i. at p (in_right p (requests_in started) (queue ++ kept) (in_left p queue kept i))) h.lines.queued;
       entries = entries_longer conn.requests (more_requests c) (link_in conn.life).row longer h.lines.entries;
       packs = all_push (IsPacked after (more_requests c)) conn.waiting (new_waiting c what)
-          (packs_longer c.table b.story after conn.requests (more_requests c) conn.waiting h.names same longer (λ p i. at p (in_right p started (queue ++ kept) (in_right p queue kept (in_right p admitted last i)))) h.lines.packs)
+          (packs_longer c.table b.story after conn.requests (more_requests c) conn.waiting h.names same longer (λ p i. at p (in_right p (requests_in started) (queue ++ kept) (in_right p queue kept (in_right p admitted last i)))) h.lines.packs)
           (record {
             is_of = subst (λ (s : Story). IsOf s (packed_bytes what) (shape_of what) (is_reply_awaited what)) (sym own) (record { packs = refl; shape_is = refl; awaited_is = refl });
             time_is = sym h.numbers.timeout ∙ ap (λ (s : Story). s.timeout) (sym own);
           });
-      packed_in = packs_longer c.table b.story after conn.requests (more_requests c) conn.admitted h.names same longer (λ p i. at p (in_right p started (queue ++ kept) (in_right p queue kept (in_left p admitted last i)))) h.lines.packed_in;
+      packed_in = packs_longer c.table b.story after conn.requests (more_requests c) conn.admitted h.names same longer (λ p i. at p (in_right p (requests_in started) (queue ++ kept) (in_right p queue kept (in_left p admitted last i)))) h.lines.packed_in;
       there = λ p e. before_or_new conn.requests (more_requests c) p _
           (λ old. elim (h.lines.there p (sym (there_longer is_open_progress conn.requests (more_requests c) p longer old) ∙ e)) [
             | inl i ↦ inl i
@@ -198,7 +199,7 @@ asked_waits b c started what h no_fresh =
     let queue = queue_ids (link_in conn.life).queue in
     let kept = kept_ids conn.admitted conn.waiting in
     waits_longer c.table b.story (stories_with b what) conn.requests (more_requests c) conn.life conn.fresh (conn.fresh ++ length conn.requests ∷ []) conn.moved h.names (others_before b c started what h) (one_longer conn.requests (new_request c))
-    (λ p i. within_line conn.requests started queue kept p h.lines.line (in_right p started (queue ++ kept) (in_left p queue kept (awaited_in p (link_in conn.life).queue i)))) no_fresh (asked_next b c started what h no_fresh) h.waits
+    (λ p i. within_line conn.requests (requests_in started) queue kept p h.lines.line (in_right p (requests_in started) (queue ++ kept) (in_left p queue kept (awaited_in p (link_in conn.life).queue i)))) no_fresh (asked_next b c started what h no_fresh) h.waits
 
 -- a submission without outcomes was told nothing
 new_untold : (awaited : Bool) → (not awaited && is_no_error []) ≡ true → ⊥
@@ -210,9 +211,9 @@ abbrev core_asked : Core → Submission → Core
 core_asked c what = record (turned c (event.Submit what)) { table = c.table ++ Some (pending (length c.single.connection.requests)) ∷ [] }
 
 -- the session is tied with it
-asked_tied : (b : Book) (c : Core) (started : List ℕ) (word : ℕ) (what : Submission) → Tied b (inner c started) → c.single.connection.fresh ≡ [] → b.shut ≡ false → is_unspoken b what ≡ false → packed_bytes what ≢ []
+asked_tied : (b : Book) (c : Core) (started : List ℕ) (word : ℕ) (what : Submission) → Tied b (inner c started) → length c.table < 2 ^ 32 → c.single.connection.fresh ≡ [] → b.shut ≡ false → is_unspoken b what ≡ false → packed_bytes what ≢ []
     → Tied (entered b (turn_of c word (event.Submit what))) (seen (core_asked c what) [] (asked c.single.connection (length c.table) (packed_bytes what) (shape_of what) (is_reply_awaited what) c.timeout) [] started)
-asked_tied b c started word what h no_fresh up speaks some =
+asked_tied b c started word what h few no_fresh up speaks some =
     let conn = c.single.connection in
     let ledger = b.link c.single.link in
     let after = stories_with b what in
@@ -238,6 +239,8 @@ asked_tied b c started word what h no_fresh up speaks some =
         submissions = (let k = h.numbers.submissions in omega (arith, length-append c.table (next ∷ [])));
         timeout = h.numbers.timeout;
         shut = ap (λ s. s || false) h.numbers.shut;
+        within = h.numbers.within;
+        few = omega (arith, few, length-append c.table (next ∷ []));
         settings = record { size_is = h.numbers.settings.size_is; bound_is = h.numbers.settings.bound_is; limit_is = h.numbers.settings.limit_is; some = h.numbers.settings.some; limited = h.numbers.settings.limited };
         one = h.numbers.one;
         only = h.numbers.only;
@@ -246,6 +249,8 @@ asked_tied b c started word what h no_fresh up speaks some =
       pushes = h.pushes;
       life = told_life ledger b.created conn.life silence h.life;
       creds = h.creds;
+      count = counted_on c.sources ledger.creds h.count;
+      renewal = renewal_alike ledger (record ledger { heard = silence }) conn.renewal conn.life refl refl refl h.renewal;
       setup = setup_on ledger ledger.asked ledger.up ledger.end ledger.taken ledger.offer ledger.rest silence conn.info started conn.life h.setup;
       link = λ alive. told_tied (carried conn.life (more_requests c)) ledger (whole_link conn.life) ledger.asked ledger.up silence (link_longer ledger conn.requests (more_requests c) conn.life longer h.lines.entries (h.link alive));
       names = names_asked c.table conn.requests progress.Waiting h.names;
@@ -261,7 +266,8 @@ asked_tied b c started word what h no_fresh up speaks some =
             permits_is = sym (last_free c);
           }));
       tries = tries_longer c.table (record ledger { heard = silence }) b.story after conn.requests (more_requests c) c.single.link started h.names same longer
-          (λ p i. within_line conn.requests started queue last p h.lines.line (in_left p started (queue ++ last) i)) (λ k p i. started_within b (inner c started) k p h i)
+          (omega (arith, h.names.few, few, length-append conn.requests (new_request c ∷ [])))
+          (λ p other i. within_line conn.requests (requests_in started) queue last p h.lines.line (in_left p (requests_in started) (queue ++ last) (request_in p started other i))) (λ k p other i. started_within b (inner c started) k p h other i)
           (λ p r i past. ap (λ (s : Story). s.tries) (own_at p r i past))
           (record { owners = h.tries.owners; shapes = h.tries.shapes; tried = h.tries.tried; untried = h.tries.untried });
       lines = asked_lines b c started what h;
@@ -273,12 +279,12 @@ asked_tied b c started word what h no_fresh up speaks some =
     }
 
 -- no act is shown
-pub asked_applied : (before : List Action) (c : Core) (started : List ℕ) (word : ℕ) (what : Submission) → Between before c started → is_bad c (event.Submit what) ≡ false → (book before).shut ≡ false → is_unspoken (book before) what ≡ false → packed_bytes what ≢ []
+pub asked_applied : (before : List Action) (c : Core) (started : List ℕ) (word : ℕ) (what : Submission) → Between before c started → length c.table < 2 ^ 32 → is_bad c (event.Submit what) ≡ false → (book before).shut ≡ false → is_unspoken (book before) what ≡ false → packed_bytes what ≢ []
     → HasApplied (before ++ turn_of c word (event.Submit what) ∷ []) (asked_for (heard (counted c) (event.Submit what)) what) started
-asked_applied before c started word what h good up speaks some =
+asked_applied before c started word what h few good up speaks some =
     let b = book before in
     silent_applied before c started word (event.Submit what) (core_asked c what) (asked c.single.connection (length c.table) (packed_bytes what) (shape_of what) (is_reply_awaited what) c.timeout) h good (λ m. silent_no_end (b.link m) c.turns (still_none before c started h m)) (λ z. absurd (omega arith)) h.moved (record { wanting = h.fit.wanting; setup = h.fit.setup; link = h.fit.link; none = h.fit.none })
-    (asked_tied b c started word what h.sound.tied h.fresh up speaks some)
+    (asked_tied b c started word what h.sound.tied few h.fresh up speaks some)
 
 -- one or the other
 --
@@ -298,9 +304,9 @@ lacks_as_told b c started what h =
     ap (λ (info : RedisConnectionInfo). lacks_resp3 info.protocol what) (sym h.setup.info_is ∙ ap (λ m. (b.link m).info) on)
 
 -- a submission, whichever it is
-pub submit_applied : (before : List Action) (c : Core) (started : List ℕ) (word : ℕ) (what : Submission) → Between before c started → is_bad c (event.Submit what) ≡ false
+pub submit_applied : (before : List Action) (c : Core) (started : List ℕ) (word : ℕ) (what : Submission) → Between before c started → length c.table < 2 ^ 32 → is_bad c (event.Submit what) ≡ false
     → HasApplied (before ++ turn_of c word (event.Submit what) ∷ []) (effect (counted c) (event.Submit what)) started
-submit_applied before c started word what h good =
+submit_applied before c started word what h few good =
     let t = heard (counted c) (event.Submit what) in
     let front = before ++ turn_of c word (event.Submit what) ∷ [] in
     let shut_is : (c.shut || false) ≡ (book before).shut = or_none c.shut ∙ sym h.sound.tied.numbers.shut in
@@ -308,9 +314,9 @@ submit_applied before c started word what h good =
     let lacks_is : lacks ≡ is_unspoken (book before) what = lacks_as_told (book before) c started what h.sound.tied in
     let some = if length (packed_bytes what) == 0 then refused_with t error.EmptyCommand else asked_for t what in
     chosen (λ (x : Turning). HasApplied front x started) (c.shut || false) (refused_with t error.Closed) (if lacks then refused_with t error.Resp3Required else some)
-    (λ s. refused_applied before c started word what error.Closed h good (inl (sym shut_is ∙ s, refl)))
+    (λ s. refused_applied before c started word what error.Closed h few good (inl (sym shut_is ∙ s, refl)))
     (λ f. chosen (λ (x : Turning). HasApplied front x started) lacks (refused_with t error.Resp3Required) some
-    (λ l. refused_applied before c started word what error.Resp3Required h good (inr (inl (sym shut_is ∙ f, sym lacks_is ∙ l, refl))))
+    (λ l. refused_applied before c started word what error.Resp3Required h few good (inr (inl (sym shut_is ∙ f, sym lacks_is ∙ l, refl))))
     (λ g. chosen (λ (x : Turning). HasApplied front x started) (length (packed_bytes what) == 0) (refused_with t error.EmptyCommand) (asked_for t what)
-    (λ e. refused_applied before c started word what error.EmptyCommand h good (inr (inr (sym shut_is ∙ f, sym lacks_is ∙ g, e, refl))))
-    (λ n. asked_applied before c started word what h good (sym shut_is ∙ f) (sym lacks_is ∙ g) (some_bytes (packed_bytes what) n))))
+    (λ e. refused_applied before c started word what error.EmptyCommand h few good (inr (inr (sym shut_is ∙ f, sym lacks_is ∙ g, e, refl))))
+    (λ n. asked_applied before c started word what h few good (sym shut_is ∙ f) (sym lacks_is ∙ g) (some_bytes (packed_bytes what) n))))

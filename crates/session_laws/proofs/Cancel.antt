@@ -32,10 +32,13 @@ use Rattle.shared_session.specs.Turn.{with_work, heard, is_shutdown, left_by, ef
 use Rattle.legal_trace.specs.Ledger.{Ledger, Sourced, ending, hears, noted}
 use Rattle.legal_trace.specs.Story.{Story, is_open, is_told, left}
 use Rattle.legal_trace.specs.Book.{Book, after_event, book, entered, if_own, shuts, submitted_by, timeout_after}
-use Rattle.session_laws.proofs.Numbers.{IsIn, in_left, in_right, in_either, Rising, rising_from, rising_in, rising_right, rising_tail}
-use Rattle.session_laws.proofs.Tied.{carried, inner, no_link, link_in, owner_of, queue_ids, whole_link, IsQueued, IsEntry, AreQueued, TiedCreds, TiedLife, TiedStory, TiedNames, TiedNumbers, TiedPermits, TiedLines, TiedSetup, IsUnknown, Tied, no_opening, has_ended}
+use Rattle.mux_conn.specs.Renewals.{renewal_id}
+use Rattle.mux_conn.specs.declared.renewal.Renewal.{Renewal}
+use Rattle.session_laws.proofs.Renewals.{renewal_alike}
+use Rattle.session_laws.proofs.Numbers.{IsIn, in_left, in_right, in_either, Rising, rising_from, rising_in, rising_right, rising_tail, requests_in, request_in, request_of, request_other, requests_first}
+use Rattle.session_laws.proofs.Tied.{carried, inner, no_link, link_in, owner_of, queue_ids, whole_link, IsQueued, IsEntry, AreQueued, TiedCreds, TiedLife, TiedStory, TiedNames, TiedNumbers, TiedPermits, TiedLines, TiedSetup, IsUnknown, Tied, no_opening, has_ended, TiedRenewal}
 use Rattle.session_laws.proofs.States.{IsFit, IsFitIn, Between, HasApplied}
-use Rattle.session_laws.proofs.Names.{name_within, open_within, name_of_some, owners_with, length_with, names_with, with_other, with_then}
+use Rattle.session_laws.proofs.Names.{name_within, open_within, name_of_some, owners_with, length_with, names_with, with_other, with_then, request_not}
 use Rattle.session_laws.proofs.InLine.{row_ids, kept_ids, chosen_in, awaited_in, wanted_in}
 use Rattle.session_laws.proofs.Behind.{open_untold}
 use Rattle.session_laws.proofs.Owes.{answered_closed, request_story, row_in_line}
@@ -43,7 +46,7 @@ use Rattle.legal_trace.specs.Legal.{NoneEnds}
 use Rattle.session_laws.proofs.Closing.{Closes, WasReady, WasSettingUp, WasWanting, closed_other, late_closed, with_closed, story_closed, tries_closed, packs_closed, queued_other, queue_closed, AreOthers, waits_closed, kept_other, IsUntried, told_closed}
 use Rattle.session_laws.proofs.Answer.{entries_answered}
 use Rattle.session_laws.proofs.Settle.{seen}
-use Rattle.session_laws.proofs.Announce.{aims_on, turn_of, turned, uses_on}
+use Rattle.session_laws.proofs.Announce.{aims_on, turn_of, turned, uses_on, counted_on}
 use Rattle.session_laws.proofs.Kept.{tied_by}
 use Rattle.session_laws.proofs.Permits.{permits_closed}
 use Rattle.session_laws.proofs.Heard.{silent_applied, still_none, told_life, silent_no_end}
@@ -88,19 +91,40 @@ silenced_wanted (e ∷ es) p q other i =
     own true same j = elim j [ inl is ↦ other (sym same ∙ is) | inr k ↦ k ]
     own false same j = j
 
+-- the requests among numbers rise behind the first
+pub rising_behind : (lo n : ℕ) (xs ys : List ℕ) (hi : ℕ) → Rising lo (requests_in (n ∷ xs) ++ ys) hi → Rising lo (requests_in xs ++ ys) hi
+rising_behind lo n xs ys hi r = by_test (n == renewal_id) _
+    (λ t. subst (λ ns. Rising lo (ns ++ ys) hi) (taken_if (n == renewal_id) (requests_in xs) (n ∷ requests_in xs) t) r)
+    (λ f. let k = subst (λ ns. Rising lo (ns ++ ys) hi) (left_if (n == renewal_id) (requests_in xs) (n ∷ requests_in xs) f) r in let l : lo ≤ n = k.0 in rising_from (suc n) lo (requests_in xs ++ ys) hi (omega arith) k.1)
+
+-- none of those behind a request is that request
+pub apart_behind : (lo n : ℕ) (row : List Entry) (ys : List ℕ) (hi : ℕ) → n ≢ renewal_id → Rising lo (requests_in (n ∷ row_ids row) ++ ys) hi → IsIn n (wanted row) → ⊥
+apart_behind lo n row ys hi other r i =
+    let k = subst (λ ns. Rising lo (ns ++ ys) hi) (requests_first n (row_ids row) other) r in
+    let j = rising_in (suc n) (requests_in (row_ids row) ++ ys) hi n k.1 (in_left n (requests_in (row_ids row)) ys (request_in n (row_ids row) other (wanted_in n row i))) in
+    omega (arith, j.0)
+
 -- and have their places
-silenced_entries : (requests : List Request) (p lo hi : ℕ) (row : List Entry) (ys : List ℕ) → Rising lo (row_ids row ++ ys) hi → AllByRecursion (IsEntry requests) row → AllByRecursion (IsEntry (with_permits requests p progress.Closed 0)) (silenced row p)
-silenced_entries requests p lo hi [] ys r all = tt
-silenced_entries requests p lo hi (e ∷ es) ys r all =
+silenced_entries : (requests : List Request) (p lo hi : ℕ) (row : List Entry) (ys : List ℕ) → p ≢ renewal_id → Rising lo (requests_in (row_ids row) ++ ys) hi → AllByRecursion (IsEntry requests) row → AllByRecursion (IsEntry (with_permits requests p progress.Closed 0)) (silenced row p)
+silenced_entries requests p lo hi [] ys other r all = tt
+silenced_entries requests p lo hi (e ∷ es) ys other r all =
     let long = sym (length_with requests p progress.Closed 0) in
     chosen (λ (x : List Entry). AllByRecursion (IsEntry (with_permits requests p progress.Closed 0)) x) (is_entry_of p e) (silent e ∷ es) (e ∷ silenced es p)
-    (λ t. (
-      record { below = subst (λ n. e.id < n) long all.0.below; placed_at = λ z. cc },
-      entries_answered requests p es (λ i. let same = eq_from e.id p t in let k = rising_in (suc e.id) (row_ids es ++ ys) hi p r.1 (in_left p (row_ids es) ys (wanted_in p es i)) in omega (arith, k.0)) all.1,
+    (λ t.
+    let same = eq_from e.id p t in
+    let own : e.id ≢ renewal_id = λ x. other (sym same ∙ x) in (
+      elim all.0 [
+        | inl x ↦ inl (record { below = subst (λ n. e.id < n) long x.below; placed_at = λ z. cc })
+        | inr a ↦ absurd (own a.is)
+      ],
+      entries_answered requests p es (λ i. apart_behind lo e.id es ys hi own r (subst (λ n. IsIn n (wanted es)) (sym same) i)) all.1,
     ))
     (λ f. (
-      record { below = subst (λ n. e.id < n) long all.0.below; placed_at = λ z. with_other is_placed requests p e.id progress.Closed 0 (λ same. ne_from e.id p f (sym same)) ∙ all.0.placed_at z },
-      silenced_entries requests p (suc e.id) hi es ys r.1 all.1,
+      elim all.0 [
+        | inl x ↦ inl (record { below = subst (λ n. e.id < n) long x.below; placed_at = λ z. with_other is_placed requests p e.id progress.Closed 0 (λ same. ne_from e.id p f (sym same)) ∙ x.placed_at z })
+        | inr a ↦ inr a
+      ],
+      silenced_entries requests p lo hi es ys other (rising_behind lo e.id (row_ids es) ys hi r) all.1,
     ))
 
 -- a queue without a message
@@ -190,25 +214,25 @@ queue_left table story requests p closed (x ∷ xs) ys lo names l asked r c all 
 
 -- the lines of the others
 left_lines : (table : List (Option Pending)) (story : ℕ → Story) (requests : List Request) (link : LinkState) (waiting admitted : List Waiting) (p : ℕ) (started : List ℕ) (closed : ℕ → Story) → TiedNames table requests → p < length requests
-    → is_open (story (name_at requests p)) ≡ true → ((n : ℕ) → Closes (story n) (closed n)) → Rising 0 (row_ids link.row ++ (queue_ids link.queue ++ kept_ids admitted waiting)) (length requests) → TiedLines story requests link waiting admitted [] started
+    → p ≢ renewal_id → is_open (story (name_at requests p)) ≡ true → ((n : ℕ) → Closes (story n) (closed n)) → Rising 0 (requests_in (row_ids link.row) ++ (queue_ids link.queue ++ kept_ids admitted waiting)) (length requests) → TiedLines story requests link waiting admitted [] started
     → TiedLines (with_closed story requests p closed) (with_permits requests p progress.Closed 0) (cancelled link p) waiting admitted [] started
-left_lines table story requests link waiting admitted p started closed names l asked c r h =
-    let rows = wanted link.row in
-    let silent_rows = wanted (silenced link.row p) in
+left_lines table story requests link waiting admitted p started closed names l other asked c r h =
+    let rows = requests_in (wanted link.row) in
+    let silent_rows = requests_in (wanted (silenced link.row p)) in
     let queue = queue_ids link.queue in
     let kept = kept_ids admitted waiting in
     record {
-      line = subst (Rising 0 (started ++ (queue_ids (without link.queue p) ++ kept))) (sym (length_with requests p progress.Closed 0))
-          (rising_tail 0 started (queue ++ kept) (queue_ids (without link.queue p) ++ kept) (length requests) (λ low s. without_rises link.queue kept p low (length requests) s) h.line);
-      queued = queue_left table story requests p closed link.queue kept 0 names l asked (rising_right 0 started (queue ++ kept) (length requests) h.line) c h.queued;
-      entries = silenced_entries requests p 0 (length requests) link.row (queue ++ kept) r h.entries;
+      line = subst (Rising 0 (requests_in started ++ (queue_ids (without link.queue p) ++ kept))) (sym (length_with requests p progress.Closed 0))
+          (rising_tail 0 (requests_in started) (queue ++ kept) (queue_ids (without link.queue p) ++ kept) (length requests) (λ low s. without_rises link.queue kept p low (length requests) s) h.line);
+      queued = queue_left table story requests p closed link.queue kept 0 names l asked (rising_right 0 (requests_in started) (queue ++ kept) (length requests) h.line) c h.queued;
+      entries = silenced_entries requests p 0 (length requests) link.row (queue ++ kept) other r h.entries;
       packs = packs_closed story requests p closed waiting c h.packs;
       packed_in = packs_closed story requests p closed admitted c h.packed_in;
       there = λ q e.
           let k = with_then is_open_progress requests p q progress.Closed 0 refl l e in
           elim (h.there q k.1) [
             | inl i ↦ elim (in_either q rows (awaited_ids link.queue) i) [
-              | inl j ↦ inl (in_left q silent_rows (awaited_ids (without link.queue p)) (silenced_wanted link.row p q k.0 j))
+              | inl j ↦ inl (in_left q silent_rows (awaited_ids (without link.queue p)) (request_in q (wanted (silenced link.row p)) (request_other q (wanted link.row) j) (silenced_wanted link.row p q k.0 (request_of q (wanted link.row) j))))
               | inr j ↦ inl (in_right q silent_rows (awaited_ids (without link.queue p)) (without_awaited link.queue p q k.0 j))
             ]
             | inr w ↦ inr (kept_other requests p q progress.Closed 0 waiting admitted k.0 w)
@@ -232,6 +256,14 @@ left_creds c wants (Wanting link) p h = h
 left_creds c wants (SettingUp link with_user) p h = h
 left_creds c wants (Ready link) p h = record { wanted_is = h.wanted_is; sought = h.sought }
 left_creds c wants (Ended e) p h = h
+
+-- and so are new credentials
+pub left_renewal : (l : Ledger) (r : Renewal) (life : Life) (p : ℕ) → TiedRenewal l r life → TiedRenewal l r (cancelled_in life p)
+left_renewal l r Dialing p h = h
+left_renewal l r (Wanting link) p h = h
+left_renewal l r (SettingUp link with_user) p h = h
+left_renewal l r (Ready link) p h = h
+left_renewal l r (Ended e) p h = h
 
 -- and its setup is
 pub left_setup : (l : Ledger) (info : RedisConnectionInfo) (started : List ℕ) (life : Life) (p : ℕ) → TiedSetup l info started life → TiedSetup (record l { heard = silence }) info started (cancelled_in life p)
@@ -284,20 +316,20 @@ was_setting (Ended y) p x u e = cc
 
 -- the lines of the others, by the life of the link
 left_lines_in : (table : List (Option Pending)) (story : ℕ → Story) (requests : List Request) (life : Life) (waiting admitted : List Waiting) (p : ℕ) (started : List ℕ) (closed : ℕ → Story) → TiedNames table requests → p < length requests
-    → is_open (story (name_at requests p)) ≡ true → ((n : ℕ) → Closes (story n) (closed n))
-    → (has_ended life ≡ false → Rising 0 (row_ids (link_in life).row ++ (queue_ids (link_in life).queue ++ kept_ids admitted waiting)) (length requests)) → TiedLines story requests (link_in life) waiting admitted [] started
+    → p ≢ renewal_id → is_open (story (name_at requests p)) ≡ true → ((n : ℕ) → Closes (story n) (closed n))
+    → (has_ended life ≡ false → Rising 0 (requests_in (row_ids (link_in life).row) ++ (queue_ids (link_in life).queue ++ kept_ids admitted waiting)) (length requests)) → TiedLines story requests (link_in life) waiting admitted [] started
     → TiedLines (with_closed story requests p closed) (with_permits requests p progress.Closed 0) (link_in (cancelled_in life p)) waiting admitted [] started
-left_lines_in table story requests life waiting admitted p started closed names l asked c r h = by_life life r h
+left_lines_in table story requests life waiting admitted p started closed names l other asked c r h = by_life life r h
   where
     -- a link without messages stays as it is
     bare : TiedLines story requests no_link waiting admitted [] started → TiedLines (with_closed story requests p closed) (with_permits requests p progress.Closed 0) no_link waiting admitted [] started
     bare h =
-        let k = left_lines table story requests no_link waiting admitted p started closed names l asked c (rising_right 0 started (kept_ids admitted waiting) (length requests) h.line) h in
+        let k = left_lines table story requests no_link waiting admitted p started closed names l other asked c (rising_right 0 (requests_in started) (kept_ids admitted waiting) (length requests) h.line) h in
         record { line = k.line; queued = k.queued; entries = k.entries; packs = k.packs; packed_in = k.packed_in; there = k.there }
 
-    by_life : (x : Life) → (has_ended x ≡ false → Rising 0 (row_ids (link_in x).row ++ (queue_ids (link_in x).queue ++ kept_ids admitted waiting)) (length requests)) → TiedLines story requests (link_in x) waiting admitted [] started
+    by_life : (x : Life) → (has_ended x ≡ false → Rising 0 (requests_in (row_ids (link_in x).row) ++ (queue_ids (link_in x).queue ++ kept_ids admitted waiting)) (length requests)) → TiedLines story requests (link_in x) waiting admitted [] started
         → TiedLines (with_closed story requests p closed) (with_permits requests p progress.Closed 0) (link_in (cancelled_in x p)) waiting admitted [] started
-    by_life (Ready link) r h = left_lines table story requests link waiting admitted p started closed names l asked c (r refl) h
+    by_life (Ready link) r h = left_lines table story requests link waiting admitted p started closed names l other asked c (r refl) h
     by_life Dialing r h = bare h
     by_life (Wanting link) r h = bare h
     by_life (SettingUp link with_user) r h = bare h
@@ -392,6 +424,8 @@ silent_numbers b c started word kind timeout story free life requests pending q 
   submissions = (let e = h.numbers.submissions in let none = q.none in omega arith);
   timeout = q.time;
   shut = q.shut;
+  within = h.numbers.within;
+  few = h.numbers.few;
   settings = record { size_is = h.numbers.settings.size_is; bound_is = h.numbers.settings.bound_is; limit_is = h.numbers.settings.limit_is; some = h.numbers.settings.some; limited = h.numbers.settings.limited };
   one = h.numbers.one;
   only = h.numbers.only;
@@ -422,6 +456,8 @@ still_tied b c started word kind timeout q same h =
       pushes = h.pushes;
       life = told_life ledger b.created conn.life silence h.life;
       creds = h.creds;
+      count = counted_on c.sources ledger.creds h.count;
+      renewal = renewal_alike ledger (record ledger { heard = silence }) conn.renewal conn.life refl refl refl h.renewal;
       setup = setup_on ledger ledger.asked ledger.up ledger.end ledger.taken ledger.offer ledger.rest silence conn.info started conn.life h.setup;
       link = λ alive. told_tied (carried conn.life conn.requests) ledger (whole_link conn.life) ledger.asked ledger.up silence (h.link alive);
       names = h.names;
@@ -448,7 +484,7 @@ gone_tied b c started word p n h o named =
     let l = open_within conn.requests p o in
     let r = request_story b (inner c started) p h l in
     let asked = r.open_is ∙ o in
-    let line = rising_right 0 started (queue_ids (link_in conn.life).queue ++ kept_ids conn.admitted conn.waiting) (length conn.requests) h.lines.line in
+    let line = rising_right 0 (requests_in started) (queue_ids (link_in conn.life).queue ++ kept_ids conn.admitted conn.waiting) (length conn.requests) h.lines.line in
     let closed : ℕ → Story = λ m. left (b.story m) in
     let k : (m : ℕ) → Closes (b.story m) (closed m) = λ m. leave_closes (b.story m) in
     let own = name_at conn.requests p in
@@ -462,13 +498,15 @@ gone_tied b c started word p n h o named =
       others = λ m other. let u = h.others m other in record { asked = u.asked; up = u.up; end = u.end; starts = u.starts; pushes = u.pushes };
       pushes = h.pushes;
       life = left_life ledger b.created conn.life p h.life;
-      creds = left_creds ledger.creds conn.wants conn.life p h.creds;
+      creds = left_creds ledger.creds conn.renewal.wanted conn.life p h.creds;
+      count = counted_on c.sources ledger.creds h.count;
+      renewal = left_renewal (record ledger { heard = silence }) conn.renewal conn.life p (renewal_alike ledger (record ledger { heard = silence }) conn.renewal conn.life refl refl refl h.renewal);
       setup = left_setup ledger conn.info started conn.life p h.setup;
       link = λ alive. left_link requests ledger conn.life p (λ up. carried_tied conn.life conn.requests requests ledger (sym (owners_with conn.requests p progress.Closed 0)) (h.link up)) alive;
       names = names_with c.table conn.requests p progress.Closed 0 h.names;
       story = λ m. story_closed b.story c.table conn.requests c.single.link p closed m h.names l (leave_frees (b.story own) asked) (k m) (h.story m);
       tries = tries_closed (record ledger { heard = silence }) b.story conn.requests c.single.link p closed started k (record { owners = h.tries.owners; shapes = h.tries.shapes; tried = h.tries.tried; untried = h.tries.untried });
-      lines = left_lines_in c.table b.story conn.requests conn.life conn.waiting conn.admitted p started closed h.names l asked k (λ up. row_in_line b (inner c started) h up) h.lines;
+      lines = left_lines_in c.table b.story conn.requests conn.life conn.waiting conn.admitted p started closed h.names l (request_not b (inner c started) p h l) asked k (λ up. row_in_line b (inner c started) h up) h.lines;
       told = left_told b.story conn.requests conn.life p asked h.told;
       waits = waits_closed c.table b.story conn.requests p closed conn.life (cancelled_in conn.life p) conn.fresh conn.moved h.names l (still_dials conn.life p) (was_wanting conn.life p) (was_setting conn.life p) (was_ready conn.life p) (left_others conn.requests conn.life (kept_ids conn.admitted conn.waiting) p 0 line) h.waits;
       permits = subst (λ m. TiedPermits after m requests c.single.link conn.limit free []) (none_more b.submissions)

@@ -14,7 +14,6 @@ use Rattle.link_core.specs.declared.message.Settled.{Settled}
 use Rattle.link_core.specs.Link.{LinkState}
 use Rattle.link_laws.specs.Settles.{settled_ids, wanted, awaited_ids, IsOwed}
 use Rattle.link_laws.proofs.Dealt.{all_append}
-use Rattle.link_laws.proofs.Once.{settled_ids-append}
 use Rattle.mux_conn.specs.declared.act.LinkAct.TheVariants as act
 use Rattle.mux_conn.specs.declared.life.Life.{Life}
 use Rattle.mux_conn.specs.declared.life.Life.TheVariants.{Wanting, SettingUp, Ready, Ended}
@@ -30,21 +29,23 @@ use Rattle.legal_trace.specs.Story.{Story}
 use Rattle.legal_trace.specs.Book.{Book, book, entered}
 use Rattle.legal_trace.specs.Owed.{owed, owed_unstarted, unstarted_error}
 use Rattle.legal_trace.specs.Legal.{MayClose, MayPart}
-use Rattle.session_laws.proofs.Numbers.{IsIn, in_left, in_right, Rising, rising_in, rising_within, rising_right, rising_tail}
+use Rattle.session_laws.proofs.Numbers.{IsIn, in_left, in_right, Rising, rising_in, rising_within, rising_right, rising_tail, requests_in, requests_in-append, all_requests}
 use Rattle.session_laws.proofs.Tied.{Inner, no_link, link_in, owner_of, queue_ids, waiting_ids, IsKept, TiedLines, TiedWaits, Tied, relined, FailureIsShown, TiedLife, has_ended}
-use Rattle.session_laws.proofs.Creds.{sources_asked}
-use Rattle.session_laws.proofs.Said.{ready_shown}
+use Rattle.session_laws.proofs.Said.{ready_shown, sources_asked}
 use Rattle.session_laws.proofs.States.{HasApplied}
-use Rattle.session_laws.proofs.InLine.{kept_ids, kept_in, line_of, IsInLine, awaited_rises}
+use Rattle.session_laws.proofs.InLine.{kept_ids, kept_in, line_of, IsInLine, awaited_rises, awaited_in}
 use Rattle.session_laws.proofs.Owes.{in_time, none_owed, in_line, later_unstarted, owed_none_started, settled_owed, pushes_told, lives}
 use Rattle.session_laws.proofs.Kept.{mine_noted, others_kept, tied_by}
 use Rattle.session_laws.proofs.Answer.{unknown_ends, after_end}
-use Rattle.session_laws.proofs.Settle.{book_of_more, seen, trace_of_acts, Holds, IsAnswering, answering, IsDue, IsDueError, settled_holds, failed_holds, Leaves, leaves_on, settled_leaves, failed_leaves, Parts, sound_told}
+use Rattle.session_laws.proofs.Settle.{book_of_more, seen, trace_of_acts, Holds, IsAnswering, answering, IsDue, IsDueError, settled_holds, failed_holds, Leaves, leaves_on, settled_leaves, failed_leaves, Parts, sound_told, replied_each, replied_keeps, renewal_over}
 use Rattle.containers.proofs.Choices.{not_both, chosen}
 use Rattle.driver_model.specs.declared.push_info.PushInfo.{PushInfo}
 use Rattle.resp_value.specs.declared.push_kind.PushKind.TheVariants.{Disconnection}
 use Rattle.session_laws.proofs.Told.{owed_told, push_tied}
 use Rattle.driver_model.specs.declared.news.LinkFault.{LinkFault}
+use Rattle.session_laws.proofs.Names.{open_within, request_not}
+use Rattle.session_laws.proofs.Renewals.{renewal_ended}
+use Rattle.mux_conn.specs.Renewals.{renewing}
 
 -- the link is closed
 --
@@ -61,12 +62,12 @@ may_close b t why h none told n must = record {
 }
 
 -- the wanted messages of the row and the queue are to be answered
-close_lines : (story : ℕ → Story) (requests : List Request) (link : LinkState) (waiting admitted : List Waiting) (pending started : List ℕ) → pending ≡ wanted link.row ++ awaited_ids link.queue → TiedLines story requests link waiting admitted [] started
+close_lines : (story : ℕ → Story) (requests : List Request) (link : LinkState) (waiting admitted : List Waiting) (pending started : List ℕ) → pending ≡ requests_in (wanted link.row) ++ awaited_ids link.queue → TiedLines story requests link waiting admitted [] started
     → TiedLines story requests no_link waiting admitted pending started
 close_lines story requests link waiting admitted pending started ids h =
     let kept = kept_ids admitted waiting in
     record {
-      line = rising_tail 0 started (queue_ids link.queue ++ kept) kept (length requests) (λ low r. rising_right low (queue_ids link.queue) kept (length requests) r) h.line;
+      line = rising_tail 0 (requests_in started) (queue_ids link.queue ++ kept) kept (length requests) (λ low r. rising_right low (queue_ids link.queue) kept (length requests) r) h.line;
       queued = tt;
       entries = tt;
       packs = h.packs;
@@ -94,6 +95,7 @@ ended_waits story requests life e fresh moved h = record {
   no_setup = λ p link with_user i w s. cc;
   no_permit = λ p link i w r. cc;
   no_place = h.no_place;
+  seatless = h.seatless;
   no_room = λ p i r. absurd r;
 }
 
@@ -106,14 +108,14 @@ ends_failed : (l : Ledger) (turn created : ℕ) (why : Ending) → ending l ≡ 
 ends_failed l turn created why must shown e fails = shown e (sym (ap (λ w. failure_of (ending_or_shutdown w)) must) ∙ fails)
 
 -- the session is tied to the book with the end of the link; the creation may be shown with it
-pub close_tied : (b : Book) (t : Inner) (created : ℕ) (why : Ending) (e : RedisError) (parting : Bool) (pending : List ℕ) → pending ≡ wanted (link_in t.life).row ++ awaited_ids (link_in t.life).queue → ending (b.link t.link) ≡ Some why → unstarted_error why ≡ e
+pub close_tied : (b : Book) (t : Inner) (created : ℕ) (why : Ending) (e : RedisError) (parting : Bool) (pending : List ℕ) → pending ≡ requests_in (wanted (link_in t.life).row) ++ awaited_ids (link_in t.life).queue → ending (b.link t.link) ≡ Some why → unstarted_error why ≡ e
     → ((f : RedisError) → failure_of why ≡ Some f → created ≢ 0) → (t.hears ≡ true → parting ≡ false → is_fault why ≡ false) → has_ended t.life ≡ false → Tied b (record t { pending = []; untold = []; parting = false })
     → Tied (record (entered b (action.Close t.link)) { created = created }) (record t { life = Ended e; pending = pending; untold = []; parting = parting })
 close_tied b t created why e parting pending ids must is shown mild up h =
     let turn = b.turns - 1 in
     let after = record (entered b (action.Close t.link)) { created = created } in
     tied_by after (record t { life = Ended e; pending = pending; untold = []; parting = parting }) (noted (b.link t.link) (ends turn)) (mine_noted (b.link t.link) t.link (ends turn)) (record {
-      numbers = record { turns = h.numbers.turns; links = h.numbers.links; timers = h.numbers.timers; sources = h.numbers.sources; uses = h.numbers.uses; aims = h.numbers.aims; timed = h.numbers.timed; submissions = h.numbers.submissions; timeout = h.numbers.timeout; shut = h.numbers.shut; settings = record { size_is = h.numbers.settings.size_is; bound_is = h.numbers.settings.bound_is; limit_is = h.numbers.settings.limit_is; some = h.numbers.settings.some; limited = h.numbers.settings.limited }; one = h.numbers.one; only = h.numbers.only };
+      numbers = record { turns = h.numbers.turns; links = h.numbers.links; timers = h.numbers.timers; sources = h.numbers.sources; uses = h.numbers.uses; aims = h.numbers.aims; timed = h.numbers.timed; submissions = h.numbers.submissions; timeout = h.numbers.timeout; shut = h.numbers.shut; within = h.numbers.within; few = h.numbers.few; settings = record { size_is = h.numbers.settings.size_is; bound_is = h.numbers.settings.bound_is; limit_is = h.numbers.settings.limit_is; some = h.numbers.settings.some; limited = h.numbers.settings.limited }; one = h.numbers.one; only = h.numbers.only };
       others = others_kept b t.link (ends turn) h.others;
       pushes = record {
         heard_is = h.pushes.heard_is;
@@ -125,6 +127,8 @@ close_tied b t created why e parting pending ids must is shown mild up h =
       };
       life = (refl, ends_owed (b.link t.link) turn why e must is, ends_failed (b.link t.link) turn created why must shown);
       creds = record { wanted_is = h.creds.wanted_is; sought = tt };
+      count = h.count;
+      renewal = renewal_ended (b.link t.link) (noted (b.link t.link) (ends turn)) t.renewal t.life refl refl h.renewal;
       setup = record { info_is = h.setup.info_is; sent = h.setup.sent; said = tt };
       link = λ n. cc;
       names = h.names;
@@ -138,10 +142,10 @@ close_tied b t created why e parting pending ids must is shown mild up h =
     })
 
 -- they are in line
-close_in_line : (requests : List Request) (link : LinkState) (admitted waiting : List Waiting) (pending : List ℕ) → pending ≡ wanted link.row ++ awaited_ids link.queue → IsInLine requests link admitted waiting []
+close_in_line : (requests : List Request) (link : LinkState) (admitted waiting : List Waiting) (pending : List ℕ) → pending ≡ requests_in (wanted link.row) ++ awaited_ids link.queue → IsInLine requests link admitted waiting []
     → IsInLine requests no_link admitted waiting pending
 close_in_line requests link admitted waiting pending ids r =
-    let rows = wanted link.row in
+    let rows = requests_in (wanted link.row) in
     let last = kept_ids admitted waiting in
     subst (λ ns. Rising 0 (ns ++ last) (length requests)) (sym ids)
     (subst (λ ns. Rising 0 ns (length requests)) (sym (append_assoc rows (awaited_ids link.queue) last))
@@ -158,19 +162,17 @@ pub are_in_time : (b : Book) (t : Inner) → Tied b t → t.pending ≡ [] → A
 are_in_time b t h none p o = in_time b t p h o (λ i. subst (IsIn p) none i)
 
 -- each message that was settled is due what it came to
-due_each : (b : Book) (t : Inner) (ss : List Settled) → Tied b t → AreInTime b.story t.requests → ((n : ℕ) → IsIn n (settled_ids ss) → n < length t.requests) → AllByRecursion (IsOwed (owner_of t.requests) (b.link t.link)) ss
-    → AllByRecursion (IsDue (owed b) (name_at t.requests) (is_open_at t.requests)) ss
-due_each b t [] h early within all = tt
-due_each b t (s ∷ ss) h early within all = ((λ o. settled_owed b t s h (within s.id (inl refl)) (early s.id o) all.0), due_each b t ss h early (λ n i. within n (inr i)) all.1)
+due_each : (b : Book) (t : Inner) (ss : List Settled) → Tied b t → AreInTime b.story t.requests → AllByRecursion (IsOwed (owner_of t.requests) (b.link t.link)) ss → AllByRecursion (IsDue (owed b) (name_at t.requests) (is_open_at t.requests)) ss
+due_each b t [] h early all = tt
+due_each b t (s ∷ ss) h early all = ((λ o. settled_owed b t s h (open_within t.requests s.id o) (early s.id o) all.0), due_each b t ss h early all.1)
 
 -- who is to be answered, and in line, is within
 pub pending_within : (requests : List Request) (link : LinkState) (admitted waiting : List Waiting) (ns : List ℕ) (n : ℕ) → IsInLine requests link admitted waiting ns → IsIn n ns → n < length requests
 pending_within requests link admitted waiting ns n r i = let k = rising_in 0 (ns ++ line_of link admitted waiting) (length requests) n r (in_left n ns (line_of link admitted waiting) i) in k.1
 
 -- so each of them is due what it came to
-pub pending_due : (b : Book) (t : Inner) (ss : List Settled) → Tied b t → AreInTime b.story t.requests → IsInLine t.requests (link_in t.life) t.admitted t.waiting (settled_ids ss) → AllByRecursion (IsOwed (owner_of t.requests) (b.link t.link)) ss
-    → AllByRecursion (IsDue (owed b) (name_at t.requests) (is_open_at t.requests)) ss
-pending_due b t ss h early r all = due_each b t ss h early (λ n i. pending_within t.requests (link_in t.life) t.admitted t.waiting (settled_ids ss) n r i) all
+pub pending_due : (b : Book) (t : Inner) (ss : List Settled) → Tied b t → AreInTime b.story t.requests → AllByRecursion (IsOwed (owner_of t.requests) (b.link t.link)) ss → AllByRecursion (IsDue (owed b) (name_at t.requests) (is_open_at t.requests)) ss
+pending_due b t ss h early all = due_each b t ss h early all
 
 -- those that wait are due the error of the end
 waiting_due : (b : Book) (t : Inner) (e : RedisError) (qs : List Waiting) → Tied b t → AreInTime b.story t.requests → owed_unstarted (b.link t.link).end ≡ Some (outcome.Fault e) → ((n : ℕ) → IsIn n (waiting_ids qs) → (n < length t.requests) × (IsIn n t.started → ⊥)) → AllByRecursion (IsDueError (owed b) (name_at t.requests) (is_open_at t.requests) e) qs
@@ -186,7 +188,7 @@ kept_unstarted b t n h i =
     let queue = queue_ids (link_in t.life).queue in
     let later = queue ++ kept_ids t.admitted t.waiting in
     let j = in_right n queue (kept_ids t.admitted t.waiting) i in
-    ((let k = rising_in 0 (t.started ++ later) (length t.requests) n h.lines.line (in_right n t.started later j) in k.1), later_unstarted b t n h j)
+    ((let k = rising_in 0 (requests_in t.started ++ later) (length t.requests) n h.lines.line (in_right n (requests_in t.started) later j) in k.1), later_unstarted b t n h j)
 
 -- all that wait for a place are due it, and all that wait for the connection
 pub record AreDue (owes : ℕ → Option Outcome) (name : ℕ → ℕ) (was : ℕ → Bool) (e : RedisError) (admitted waiting : List Waiting) : Type 0 where
@@ -220,15 +222,15 @@ waiting_lines : (story : ℕ → Story) (requests : List Request) (link : LinkSt
 waiting_lines story requests link waiting admitted started h =
     let kept = kept_ids admitted waiting in
     record {
-      line = rising_tail 0 started (queue_ids link.queue ++ kept) (queue_ids link.queue ++ []) (length requests)
+      line = rising_tail 0 (requests_in started) (queue_ids link.queue ++ kept) (queue_ids link.queue ++ []) (length requests)
           (λ low r. rising_tail low (queue_ids link.queue) kept [] (length requests) (λ least s. rising_within least kept (length requests) s) r) h.line;
       queued = h.queued;
       entries = h.entries;
       packs = tt;
       packed_in = tt;
       there = λ p e. elim (h.there p e) [
-        | inl i ↦ inl (in_right p (all_kept admitted waiting) (wanted link.row ++ awaited_ids link.queue) i)
-        | inr w ↦ inl (in_left p (all_kept admitted waiting) (wanted link.row ++ awaited_ids link.queue) (kept_pending requests waiting admitted p w))
+        | inl i ↦ inl (in_right p (all_kept admitted waiting) (requests_in (wanted link.row) ++ awaited_ids link.queue) i)
+        | inr w ↦ inl (in_left p (all_kept admitted waiting) (requests_in (wanted link.row) ++ awaited_ids link.queue) (kept_pending requests waiting admitted p w))
       ];
     }
 
@@ -291,7 +293,7 @@ waiting_ends before f w e started h over =
     let kept = kept_ids w.conn.admitted w.conn.waiting in
     let down = subst (λ (x : Life). TiedLife (b.link f.single.link) b.created x) over h.tied.life in
     let line = subst (λ (x : Life). IsInLine w.conn.requests (link_in x) w.conn.admitted w.conn.waiting []) (sym over)
-    (rising_right 0 started kept (length w.conn.requests) (subst (λ (x : Life). Rising 0 (started ++ (queue_ids (link_in x).queue ++ kept)) (length w.conn.requests)) over h.tied.lines.line)) in
+    (rising_right 0 (requests_in started) kept (length w.conn.requests) (subst (λ (x : Life). Rising 0 (requests_in started ++ (queue_ids (link_in x).queue ++ kept)) (length w.conn.requests)) over h.tied.lines.line)) in
     rest_ends before f (b.link f.single.link) (owed b) (name_at w.conn.requests) (is_open_at w.conn.requests) w e started over (all_waiting_due b t e h.tied (are_in_time b t h.tied refl) down.1) (answering before f w [] started h line)
 
 -- a settled message is one of these that wait, and gets the closed connection
@@ -306,20 +308,28 @@ pub record SettlesAll (name : ℕ → Owner) (l : Ledger) (link : LinkState) (ro
   pub ids : settled_ids (row ++ queue) ≡ wanted link.row ++ awaited_ids link.queue
 
 -- the messages of the queue are due the error of the end
-queue_due : (b : Book) (t : Inner) (ids : List ℕ) (ss : List Settled) → Tied b t → AreInTime b.story t.requests → owed_unstarted (b.link t.link).end ≡ Some (outcome.Fault error.Closed) → ((n : ℕ) → IsIn n (settled_ids ss) → n < length t.requests)
-    → ((n : ℕ) → IsIn n ids → IsIn n t.started → ⊥) → AllByRecursion (IsClosedOf ids) ss → AllByRecursion (IsDue (owed b) (name_at t.requests) (is_open_at t.requests)) ss
-queue_due b t ids [] h early over within unstarted all = tt
-queue_due b t ids (s ∷ ss) h early over within unstarted all = (
-  (λ o. owed_none_started b t s.id h (within s.id (inl refl)) (early s.id o) (unstarted s.id all.0.1) ∙ over ∙ ap Some (sym all.0.0)),
-  queue_due b t ids ss h early over (λ n i. within n (inr i)) unstarted all.1,
+queue_due : (b : Book) (t : Inner) (ids : List ℕ) (ss : List Settled) → Tied b t → AreInTime b.story t.requests → owed_unstarted (b.link t.link).end ≡ Some (outcome.Fault error.Closed) → ((n : ℕ) → IsIn n ids → IsIn n t.started → ⊥) → AllByRecursion (IsClosedOf ids) ss
+    → AllByRecursion (IsDue (owed b) (name_at t.requests) (is_open_at t.requests)) ss
+queue_due b t ids [] h early over unstarted all = tt
+queue_due b t ids (s ∷ ss) h early over unstarted all = (
+  (λ o. owed_none_started b t s.id h (open_within t.requests s.id o) (early s.id o) (unstarted s.id all.0.1) ∙ over ∙ ap Some (sym all.0.0)),
+  queue_due b t ids ss h early over unstarted all.1,
 )
+
+-- who is awaited in the queue is a request
+awaited_asked : (b : Book) (t : Inner) → Tied b t → requests_in (awaited_ids (link_in t.life).queue) ≡ awaited_ids (link_in t.life).queue
+awaited_asked b t h = all_requests (awaited_ids (link_in t.life).queue) (λ n i.
+    let queue = queue_ids (link_in t.life).queue in
+    let kept = kept_ids t.admitted t.waiting in
+    let within = rising_in 0 (requests_in t.started ++ (queue ++ kept)) (length t.requests) n h.lines.line (in_right n (requests_in t.started) (queue ++ kept) (in_left n queue kept (awaited_in n (link_in t.life).queue i))) in
+    request_not b t n h within.1)
 
 -- a link was closed: its messages are to be answered, in line; what started is owed what it comes to, and what waits in the
 -- queue gets the closed connection
 pub record IsCutShort (before : List Action) (f : Core) (w : Work) (parting : Bool) (ids : List ℕ) (row queue : List Settled) (started : List ℕ) : Type 0 where
-  pub holds : Parts before f w parting (settled_ids (row ++ queue)) started
+  pub holds : Parts before f w parting (requests_in (settled_ids (row ++ queue))) started
   pub over : w.conn.life ≡ Ended error.Closed
-  pub line : IsInLine w.conn.requests no_link w.conn.admitted w.conn.waiting (settled_ids (row ++ queue))
+  pub line : IsInLine w.conn.requests no_link w.conn.admitted w.conn.waiting (requests_in (settled_ids (row ++ queue)))
   pub early : AreInTime (book (trace_of_acts before f w.acts)).story w.conn.requests
   pub owes : AllByRecursion (IsOwed (owner_of w.conn.requests) ((book (trace_of_acts before f w.acts)).link f.single.link)) row
   pub waits : AllByRecursion (IsClosedOf ids) queue
@@ -339,8 +349,9 @@ cut_holds before f w row queue why parting started h alive closes opened mild mu
     let b = book (trace_of_acts before f w.acts) in
     let t = seen f w.acts w.conn [] started in
     let link = link_in w.conn.life in
-    let ns = settled_ids (row ++ queue) in
-    let ids = must.1.ids in
+    let ns = requests_in (settled_ids (row ++ queue)) in
+    let ids : ns ≡ requests_in (wanted link.row) ++ awaited_ids link.queue =
+    ap requests_in must.1.ids ∙ requests_in-append (wanted link.row) (awaited_ids link.queue) ∙ ap (λ ms. requests_in (wanted link.row) ++ ms) (awaited_asked b t h.tied) in
     let link_is : (book (trace_of_acts before f (cut_short w).acts)).link f.single.link ≡ noted (b.link f.single.link) (ends (b.turns - 1)) = ap (λ (x : Book). x.link f.single.link) (book_of_more before f w.acts act.Close) ∙ mine_noted (b.link f.single.link) f.single.link (ends (b.turns - 1)) in
     record {
       holds = sound_told before f w.acts act.Close (record w.conn { life = Ended error.Closed }) [] parting ns started h.stands (may_close b t why h.tied refl refl alive must.0)
@@ -357,19 +368,21 @@ cut_holds before f w row queue why parting started h alive closes opened mild mu
 pub all_ends : (before : List Action) (f : Core) (w : Work) (ids : List ℕ) (row queue : List Settled) (started : List ℕ) → IsCutShort before f w false ids row queue started → HasEnded before f (all_answered w (row ++ queue)) error.Closed started
 all_ends before f w ids row queue started h =
     let out = row ++ queue in
-    let ns = settled_ids out in
-    let split : ns ≡ settled_ids row ++ settled_ids queue = settled_ids-append row queue in
+    let ns = requests_in (settled_ids out) in
     let c = book (trace_of_acts before f w.acts) in
     let s = seen f w.acts w.conn ns started in
     let tied : Tied c s = h.holds.tied in
     let line = subst (λ (x : Life). IsInLine w.conn.requests (link_in x) w.conn.admitted w.conn.waiting ns) (sym h.over) h.line in
     let owed_end = (subst (λ (x : Life). TiedLife (c.link f.single.link) c.created x) h.over tied.life).1 in
-    let within : (n : ℕ) → IsIn n ns → n < length w.conn.requests = λ n i. pending_within w.conn.requests no_link w.conn.admitted w.conn.waiting ns n h.line i in
-    let due_row = due_each c s row tied h.early (λ n i. within n (subst (IsIn n) (sym split) (in_left n (settled_ids row) (settled_ids queue) i))) h.owes in
-    let due_queue = queue_due c s ids queue tied h.early owed_end (λ n i. within n (subst (IsIn n) (sym split) (in_right n (settled_ids row) (settled_ids queue) i))) h.unstarted h.waits in
+    let due_row = due_each c s row tied h.early h.owes in
+    let due_queue = queue_due c s ids queue tied h.early owed_end h.unstarted h.waits in
     let due = all_append (IsDue (owed c) (name_at w.conn.requests) (is_open_at w.conn.requests)) row queue due_row due_queue in
     let later = all_waiting_due c s error.Closed tied h.early owed_end in
-    let a = answering before f w (ns ++ []) started (subst (λ ms. Holds before f w ms started) (sym (append-nil ns)) h.holds) (subst (IsInLine w.conn.requests (link_in w.conn.life) w.conn.admitted w.conn.waiting) (sym (append-nil ns)) line) in
+    let come = replied_each w.conn.renewal out in
+    let kept = replied_keeps w.conn.renewal out in
+    let come_tied : Tied c (record s { renewal = come }) = renewal_over c s come error.Closed kept.0 kept.1 kept.2 h.over tied in
+    let held : Holds before f (renewing w come) ns started = record { stands = h.holds.stands; tied = come_tied } in
+    let a = answering before f (renewing w come) (ns ++ []) started (subst (λ ms. Holds before f (renewing w come) ms started) (sym (append-nil ns)) held) (subst (IsInLine w.conn.requests (link_in w.conn.life) w.conn.admitted w.conn.waiting) (sym (append-nil ns)) line) in
     let u = settled_each w out in
     let k = settled_leaves w out in
     let settled = settled_holds before f (c.link f.single.link) (owed c) (name_at w.conn.requests) (is_open_at w.conn.requests) w out [] started due a in
@@ -408,7 +421,7 @@ pub parted_holds : (before : List Action) (f : Core) (w : Work) (ids : List ℕ)
 parted_holds before f w ids row queue started hears cut h =
     let info : PushInfo = record { kind = Disconnection; parts = [] } in
     let b = book (trace_of_acts before f w.acts) in
-    let ns = settled_ids (row ++ queue) in
+    let ns = requests_in (settled_ids (row ++ queue)) in
     let t = record (seen f w.acts w.conn ns started) { parting = true } in
     let l = b.link f.single.link in
     let after = record l { parted = true } in

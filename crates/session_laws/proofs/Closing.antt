@@ -124,8 +124,8 @@ tries_closed l story requests link p closed started c h =
     let still = name_with requests p progress.Closed 0 in
     record {
       owners = h.owners ∙ ap (setup_owners (setup_count l.starts)) (sym (owners_each_still requests p started));
-      shapes = λ k q s i j. h.shapes k q s i j ∙ ap shape_in (sym (closed_submission story requests p closed (name_at requests q) (c (name_at requests q)))) ∙ ap (λ n. shape (after n)) (sym (still q));
-      tried = λ k q i. ap (λ n. (after n).tries) (still q) ∙ closed_tries story requests p closed (name_at requests q) (c (name_at requests q)) ∙ h.tried k q i;
+      shapes = λ k q s w i j. h.shapes k q s (subst (λ n. q < n) (length_with requests p progress.Closed 0) w) i j ∙ ap shape_in (sym (closed_submission story requests p closed (name_at requests q) (c (name_at requests q)))) ∙ ap (λ n. shape (after n)) (sym (still q));
+      tried = λ k q w i. ap (λ n. (after n).tries) (still q) ∙ closed_tries story requests p closed (name_at requests q) (c (name_at requests q)) ∙ h.tried k q (subst (λ n. q < n) (length_with requests p progress.Closed 0) w) i;
       untried = λ q r i not_started.
           let w = was_with requests p progress.Closed 0 q r i in
           closed_tries story requests p closed r.name (c r.name) ∙ ap (λ n. (story n).tries) (sym w.2) ∙ h.untried q w.0 w.1 not_started;
@@ -248,6 +248,7 @@ waits_closed table story requests p closed life after fresh moved names l dials 
       no_setup = λ q link with_user i w s e. let k = waits q w in let x = sets link with_user s in h.no_setup q x.0 with_user i k.1 x.1 (sym (same q k.0 (there_within is_waiting requests q k.1)) ∙ e);
       no_permit = λ q link i w r e. let k = waits q w in let x = ready link r in h.no_permit q x.0 i k.1 x.1 (sym (same q k.0 (there_within is_waiting requests q k.1)) ∙ e);
       no_place = λ q i a e. let k = admits q a in h.no_place q i k.1 (sym (same q k.0 (there_within is_admitted requests q k.1)) ∙ e);
+      seatless = λ q a e. let k = admits q a in h.seatless q k.1 (sym (same q k.0 (there_within is_admitted requests q k.1)) ∙ e);
       no_room = λ q i r e. let k = others q r in h.no_room q i k.2 (sym (same q k.0 k.1) ∙ e);
     }
 

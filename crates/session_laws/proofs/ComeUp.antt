@@ -1,10 +1,11 @@
 -- A link comes up: it is ready, or what is said to its server first is to start.
 use Rattle.std.specs.List.{AllByRecursion}
-use Rattle.std.proofs.Common.{inl, inr, length, ◌==◌, ◌≡◌, ℕ, ◌+◌, true, false, ◌&&◌, ◌||◌, List, [], ◌∷◌, ◌++◌, Option, None, refl, sym, ap, ◌∙◌, subst, arith, ◌≢◌, Some}
-use Rattle.containers.proofs.Choices.{chosen, left_if, not_both}
+use Rattle.std.proofs.Common.{inl, inr, length, ◌==◌, ◌≡◌, ℕ, ◌+◌, true, false, ◌&&◌, ◌||◌, List, [], ◌∷◌, ◌++◌, Option, None, refl, sym, ap, ◌∙◌, subst, arith, ◌≢◌, Some, Bool, if◌then◌else◌, not}
+use Rattle.containers.proofs.Choices.{chosen, left_if, not_both, taken_if}
 use Rattle.driver_model.specs.declared.action.Action.{Action}
 use Rattle.driver_model.specs.declared.action.Action.TheVariants as action
 use Rattle.driver_model.specs.declared.action.Owner.{Owner}
+use Rattle.driver_model.specs.declared.action.SourceUse.TheVariants as source
 use Rattle.driver_model.specs.declared.action.WaitKind.{WaitKind}
 use Rattle.driver_model.specs.declared.action.WaitKind.TheVariants as wait
 use Rattle.driver_model.specs.declared.event.EventKind.{EventKind}
@@ -15,43 +16,47 @@ use Rattle.driver_model.specs.Setup.{says_nothing}
 use Rattle.link_core.specs.declared.message.Queued.{Queued}
 use Rattle.link_core.specs.declared.message.Entry.{Entry}
 use Rattle.link_core.specs.Link.{LinkState, enqueued}
-use Rattle.link_laws.proofs.TiedLink.{TiedLink, enqueued_tied}
+use Rattle.link_laws.proofs.TiedLink.{TiedLink, enqueued_tied, said_tied}
 use Rattle.link_laws.specs.Settles.{wanted, awaited_ids}
+use Rattle.mux_conn.specs.declared.act.LinkAct.TheVariants as act
 use Rattle.mux_conn.specs.declared.life.Life.{Life}
 use Rattle.mux_conn.specs.declared.life.Life.TheVariants.{Dialing, Wanting, SettingUp, Ready, Ended}
 use Rattle.mux_conn.specs.Requests.{is_waiting_at}
 use Rattle.mux_conn.specs.Effects.{all_fresh, come_up, made_ready, sets_up, setup_queued, steps_of, numbers_of}
 use Rattle.mux_conn.specs.Turn.{early_wait}
-use Rattle.mux_conn.specs.Connection.{Work, is_ready}
+use Rattle.mux_conn.specs.Connection.{Work, is_ready, acted, with_link}
 use Rattle.mux_conn.specs.declared.connection.MultiplexedConnection.{MultiplexedConnection}
 use Rattle.mux_conn.specs.declared.request.Request.{Request}
 use Rattle.mux_conn.specs.declared.request.Waiting.{Waiting}
 use Rattle.shared_session.specs.declared.core_state.Core.{Core}
-use Rattle.shared_session.specs.Turn.{with_work, is_bad}
-use Rattle.legal_trace.specs.Ledger.{Ledger, Heard, ending, ending_unready, ending_up, is_ready as is_ready_link, lacks_credentials, setup_after, setup_count, setup_steps}
-use Rattle.legal_trace.specs.Book.{Book, blank_book, book, entered}
+use Rattle.shared_session.specs.Turn.{with_work, is_bad, use_after}
+use Rattle.legal_trace.specs.Ledger.{Ledger, Heard, ending, ending_unready, ending_up, is_ready as is_ready_link, lacks_credentials, setup_after, setup_count, setup_steps, Sourced, noted, noted_each, sources, source_due}
+use Rattle.legal_trace.specs.Book.{Book, blank_book, book, entered, use_for, if_mine}
 use Rattle.legal_trace.specs.Story.{Story}
-use Rattle.legal_trace.specs.Legal.{AllStand, MayBeCreated, is_heard}
+use Rattle.legal_trace.specs.Legal.{AllStand, MayBeCreated, is_heard, MayNeed}
 use Rattle.legal_trace.proofs.Setups.{ends_where_set, silent_is_set}
-use Rattle.session_laws.proofs.Tied.{AreSetups, AreQueued, HasCredentials, IsEntry, IsQueued, IsSettingUp, IsSetupDue, IsSetUp, Inner, Tied, TiedCreds, TiedLines, TiedPushes, TiedWaits, has_ended, inner, link_in, no_link, owner_of, queue_ids, shown_wait, waiting_ids}
-use Rattle.session_laws.proofs.States.{Between, HasApplied, IsFit}
-use Rattle.session_laws.proofs.Creds.{has_credentials}
-use Rattle.session_laws.proofs.Said.{PushesOf, ending_setting}
-use Rattle.session_laws.proofs.Entered.{all_stand-append, book_more, sound_more}
-use Rattle.session_laws.proofs.Owes.{none_owed}
+use Rattle.session_laws.proofs.Tied.{AreSetups, AreQueued, HasCredentials, IsEntry, IsQueued, IsSettingUp, IsSetupDue, IsSetUp, Inner, Tied, TiedLines, TiedPushes, TiedWaits, has_ended, inner, link_in, no_link, owner_of, queue_ids, shown_wait, waiting_ids, AreSought, AreUses, HasSaid, sources_asked_in}
+use Rattle.session_laws.proofs.States.{Between, HasApplied, IsFit, IsFitIn}
+use Rattle.session_laws.proofs.Creds.{has_credentials, IsOfRenewals, down_sourced}
+use Rattle.session_laws.proofs.Said.{PushesOf, ending_setting, readied, setup_recredited, well_readied}
+use Rattle.session_laws.proofs.Entered.{all_stand-append, book_more, sound_more, book-append}
 use Rattle.session_laws.proofs.Settle.{Tells, seen, trace_of_acts}
 use Rattle.session_laws.proofs.InLine.{kept_ids}
-use Rattle.session_laws.proofs.Numbers.{IsIn, Rising, rising_right}
-use Rattle.session_laws.proofs.Announce.{IsNewsKind, comes_as, heard_book, heard_is, heard_starts, heard_tied, may_turn, turn_of, turned}
-use Rattle.session_laws.proofs.Heard.{book_kind, book_news, fresh_applied, heard_by, none_ends}
+use Rattle.session_laws.proofs.Numbers.{IsIn, Rising, rising_right, requests_in}
+use Rattle.session_laws.proofs.Announce.{IsNewsKind, comes_as, heard_book, heard_is, heard_starts, heard_tied, may_turn, turn_of, turned, ComesTo, heard_tied_by, others_heard, renews_hear, sources_hear, uses_more}
+use Rattle.session_laws.proofs.Heard.{book_kind, book_news, fresh_applied, heard_by, none_ends, none_hears}
 use Rattle.session_laws.proofs.Ahead.{waiting_open}
+use Rattle.session_laws.proofs.Renewals.{early_renewal, renewed_first}
+use Rattle.session_laws.proofs.Kept.{mine_noted, others_kept}
+use Rattle.std.proofs.lemmas.List.{length_push}
+use Rattle.session_laws.proofs.Failing.{unstarted_owed}
 
 -- the waits
 --
 -- a link without messages has the lines of one that isn't up
 bare_lines : (story : ℕ → Story) (requests : List Request) (link : LinkState) (waiting admitted : List Waiting) (started : List ℕ) → link.queue ≡ [] → link.row ≡ [] → TiedLines story requests no_link waiting admitted [] started → TiedLines story requests link waiting admitted [] started
 bare_lines story requests link waiting admitted started queue row h = record {
-  line = subst (λ (qs : List Queued). Rising 0 (started ++ (queue_ids qs ++ kept_ids admitted waiting)) (length requests)) (sym queue) h.line;
+  line = subst (λ (qs : List Queued). Rising 0 (requests_in started ++ (queue_ids qs ++ kept_ids admitted waiting)) (length requests)) (sym queue) h.line;
   queued = subst (AllByRecursion (IsQueued story requests)) (sym queue) tt;
   entries = subst (AllByRecursion (IsEntry requests)) (sym row) tt;
   packs = h.packs;
@@ -68,7 +73,7 @@ numbers_is (w ∷ ws) = ap (λ ns. w.number ∷ ns) (numbers_is ws)
 bare_waits : (b : Book) (t : Inner) (p : ℕ) → Tied b t → t.pending ≡ [] → t.admitted ≡ [] → link_in t.life ≡ no_link → is_waiting_at t.requests p ≡ true → IsIn p (waiting_ids t.waiting)
 bare_waits b t p h none nobody e w =
     elim (h.lines.there p (waiting_open t.requests p w)) [
-      | inl i ↦ absurd (subst (λ (x : LinkState). IsIn p ([] ++ (wanted x.row ++ awaited_ids x.queue))) e (subst (λ ns. IsIn p (ns ++ (wanted (link_in t.life).row ++ awaited_ids (link_in t.life).queue))) none i))
+      | inl i ↦ absurd (subst (λ (x : LinkState). IsIn p ([] ++ (requests_in (wanted x.row) ++ awaited_ids x.queue))) e (subst (λ ns. IsIn p (ns ++ (requests_in (wanted (link_in t.life).row) ++ awaited_ids (link_in t.life).queue))) none i))
       | inr k ↦ elim k [ inl a ↦ absurd (subst (λ ws. IsIn p (waiting_ids ws)) nobody a.1) | inr x ↦ x.1 ]
     ]
 
@@ -78,7 +83,7 @@ fresh_rises b t h =
     let queue = queue_ids (link_in t.life).queue in
     let last = waiting_ids t.waiting in
     subst (λ ns. Rising 0 ns (length t.requests)) (sym (numbers_is t.waiting))
-    (rising_right 0 (waiting_ids t.admitted) last (length t.requests) (rising_right 0 queue (kept_ids t.admitted t.waiting) (length t.requests) (rising_right 0 t.started (queue ++ kept_ids t.admitted t.waiting) (length t.requests) h.lines.line)))
+    (rising_right 0 (waiting_ids t.admitted) last (length t.requests) (rising_right 0 queue (kept_ids t.admitted t.waiting) (length t.requests) (rising_right 0 (requests_in t.started) (queue ++ kept_ids t.admitted t.waiting) (length t.requests) h.lines.line)))
 
 -- where no wait is to be shown, who waits for the connection has shown what it waits for
 shown_early : (b : Book) (t : Inner) (p : ℕ) (life : Life) → Tied b t → t.fresh ≡ [] → t.life ≡ life → is_ready life ≡ false → has_ended life ≡ false → is_waiting_at t.requests p ≡ true → shown_wait b.story t.requests p ≡ Some (early_wait life)
@@ -110,6 +115,7 @@ fresh_waits b t life after h none nobody no_fresh e bare f g other queue = recor
   no_setup = λ p x u i w d. anew p w wait.Setup (ap early_wait d);
   no_permit = λ p x i w d. anew p w wait.Permit (ap early_wait d);
   no_place = h.waits.no_place;
+  seatless = h.waits.seatless;
   no_room = λ p i r. absurd (subst (λ (qs : List Queued). IsIn p (awaited_ids qs)) queue r);
 }
   where
@@ -144,66 +150,231 @@ pub record IsEarly (life : Life) (after : WaitKind) : Type 0 where
   pub alive : has_ended life ≡ false
   pub other : early_wait life ≢ after
 
--- where it wasn't before, and this is said to its server
-pub makes_ready : (before : List Action) (c : Core) (started : List ℕ) (word : ℕ) (kind : EventKind) (n : News) (info : RedisConnectionInfo) (link : LinkState) (untold : List Heard) → Between before c started → is_bad c kind ≡ false → IsNewsKind c.timers kind
-    → news_of c.timers c.sources c.single.link kind ≡ n → IsEarly c.single.connection.life wait.Permit
-    → (let l = heard_by (book before) c n in (l.info ≡ info) × AreSetups l × TiedCreds l.creds c.single.connection.wants (Ready link) × IsMade l (book before).created c.single.connection.requests link
-    × TiedPushes (is_heard (book before)) c.single.connection.hears l.pushes l.told l.end l.parted untold false)
-    → IsShownReady (before ++ turn_of c word kind ∷ []) (turned c kind) (made_ready (record { conn = record c.single.connection { info = info }; acts = [] }) link) (heard_by (book before) c n) untold started
-makes_ready before c started word kind n info link untold h good k is early facts =
-    let b = book before in
-    let h0 = h.sound.tied in
+-- no message has started there
+early_started : (l : Ledger) (started : List ℕ) (life : Life) → is_ready life ≡ false → has_ended life ≡ false → HasSaid l started life → started ≡ []
+early_started l started Dialing unready alive h = h.1
+early_started l started (Wanting link) unready alive h = h.1
+early_started l started (SettingUp link with_user) unready alive h = h.0
+early_started l started (Ready link) unready alive h = cc
+early_started l started (Ended e) unready alive h = cc
+
+-- nor was a second source asked for
+pub early_sources : (c : Sourced) (life : Life) → is_ready life ≡ false → has_ended life ≡ false → AreSought c life → c.renews ≡ false
+early_sources c Dialing unready alive h = h.2
+early_sources c (Wanting link) unready alive h = h.3
+early_sources c (SettingUp link with_user) unready alive h = h.1
+early_sources c (Ready link) unready alive h = cc
+early_sources c (Ended e) unready alive h = cc
+
+-- what is known of a link that becomes ready, which wasn't before, and to whose server this is said
+pub record IsReadied (b : Book) (c : Core) (l : Ledger) (info : RedisConnectionInfo) (link : LinkState) (untold : List Heard) : Type 0 where
+  pub info_is : l.info ≡ info
+  pub sent : AreSetups l
+  pub wanted_is : l.creds.wanted ≡ c.single.connection.renewal.wanted
+  pub has : HasCredentials l.creds
+  pub made : IsMade l b.created c.single.connection.requests link
+  pub pushes : TiedPushes (is_heard b) c.single.connection.hears l.pushes l.told l.end l.parted untold false
+
+-- what the session needs of it, also where a second source is asked for
+readied_comes : (b : Book) (c : Core) (started : List ℕ) (n : News) (info : RedisConnectionInfo) (link : LinkState) (untold : List Heard) (more : Bool) → Tied b (inner c started) → IsFitIn c.single.connection → c.single.connection.fresh ≡ [] → (IsOfRenewals n → ⊥) → IsEarly c.single.connection.life wait.Permit
+    → (let l = heard_by b c n in IsReadied b c l info link untold → l.creds.wanted ≡ more → (more ≡ true → l.creds.asked ≡ true)
+    → ComesTo b c (readied more l) (b.created + 1) info (Ready link) (numbers_of c.single.connection.waiting) [] untold started)
+readied_comes b c started n info link untold more h0 fit no_fresh other early facts needs some =
     let conn = c.single.connection in
     let l = heard_by b c n in
-    let made : IsMade l b.created conn.requests link = facts.3 in
-    let now = heard_book b c.turns word kind in
-    let front = before ++ turn_of c word kind ∷ [] in
-    let ns = numbers_of conn.waiting in
-    let shown = action.Created None in
-    let t = record (seen (turned c kind) [] (comes_as c info (Ready link) ns) [] started) { untold = untold } in
-    let nobody = h.fit.none (λ x r. not_both (is_ready conn.life) early.unready (ap is_ready r)) in
-    let own : now.link c.single.link ≡ l = ap (heard_by b c) (book_news b c started kind n h0 is) in
-    let tied : Tied (entered now shown) t = heard_tied b c started word (b.created + 1) kind info (Ready link) ns [] untold l h0 good own
-    (record {
+    let made = facts.made in
+    let asked = if more then true else l.creds.asked in
+    let renews = if more then l.creds.asked else l.creds.renews in
+    let nobody = fit.none (λ x r. not_both (is_ready conn.life) early.unready (ap is_ready r)) in
+    let none = none_hears (b.link c.single.link) c.turns n conn.renewal other (early_renewal (b.link c.single.link) conn.renewal conn.life early.unready early.alive h0.renewal) in
+    let once : l.creds.renews ≡ false = renews_hear (b.link c.single.link) c.turns n ∙ early_sources (b.link c.single.link).creds conn.life early.unready early.alive h0.creds.sought in
+    let said = setup_recredited l asked renews l.creds.renewals l.creds.over l.creds.timed l.creds.lost info started link (record { info_is = facts.info_is; sent = facts.sent; said = made.said }) in
+    record {
       starts = heard_starts (b.link c.single.link) c.turns n;
       lived = (made.asked, made.up, made.alive, λ z. absurd (omega arith));
-      creds = facts.2;
-      said = record { info_is = facts.0; sent = facts.1; said = made.said };
-      linked = λ z. made.tied;
+      creds = record {
+        wanted_is = facts.wanted_is;
+        sought = (
+          elim facts.has [ inl unwanted ↦ inl unwanted | inr come ↦ inr (chosen (λ (x : Bool). x ≡ true) more true l.creds.asked (λ t. refl) (λ f. come.0), come.1) ],
+          chosen (λ (x : Bool). x ≡ l.creds.wanted) more l.creds.asked l.creds.renews (λ t. some t ∙ sym (needs ∙ t)) (λ f. once ∙ sym (needs ∙ f)),
+        );
+      };
+      renewal_is = renewed_first (readied more l) conn.renewal (record {
+        over_is = none.over_is;
+        came = none.came;
+        waits = none.waits;
+        untimed = none.untimed;
+        unstarted = none.unstarted;
+        unasked = none.unasked;
+        unpending = none.unpending;
+        told = none.told;
+        kept = none.kept;
+        found = none.found;
+      });
+      said = said;
+      linked = λ z. said_tied (owner_of conn.requests) l link l.info (readied more l).creds l.heard made.tied;
       lines = bare_lines b.story conn.requests link conn.waiting conn.admitted started made.queue made.row (subst (λ (x : LinkState). TiedLines b.story conn.requests x conn.waiting conn.admitted [] started) early.bare h0.lines);
       told = λ z m told none. absurd (let q = subst (λ (x : LinkState). AreQueued b.story conn.requests x) early.bare (h0.told early.alive) m told none in q.3);
-      waits = fresh_waits b (inner c started) conn.life (Ready link) h0 refl nobody h.fresh refl early.bare early.unready early.alive early.other made.queue;
-      pushes = facts.4;
-    }) in
-    let may : MayBeCreated now = record {
-      l = c.single.link;
-      ready = ap is_ready_link own ∙ (λ i. made.up i && made.said.well i);
-      once = made.unshown;
-      answered = λ m asked on. none_owed (entered now shown) t tied refl refl m asked;
-    } in
-    let book_is : book front ≡ now = book_more before (turn_of c word kind) ∙ heard_is b c.turns word kind (book_kind b c kind h0.numbers.timers k) in
-    let all : AllStand blank_book front = all_stand-append before (turn_of c word kind ∷ []) h.sound.stands (may_turn before c started word kind h good, tt) in
-    record {
-      holds = sound_more front shown t all (subst MayBeCreated (sym book_is) may) (subst (λ (x : Book). Tied (entered x shown) t) (sym book_is) tied);
-      ledger = ap (λ (x : Book). x.link c.single.link) (book_more front shown ∙ ap (λ (x : Book). entered x shown) book_is) ∙ own;
+      waits = fresh_waits b (inner c started) conn.life (Ready link) h0 refl nobody no_fresh refl early.bare early.unready early.alive early.other made.queue;
+      pushes = facts.pushes;
     }
+
+-- the creation may be shown then
+may_be_created : (b : Book) (c : Core) (started : List ℕ) (word : ℕ) (kind : EventKind) (n : News) (info : RedisConnectionInfo) (link : LinkState) (untold : List Heard) → Tied b (inner c started) → IsEarly c.single.connection.life wait.Permit → (heard_book b c.turns word kind).link c.single.link ≡ heard_by b c n
+    → IsReadied b c (heard_by b c n) info link untold → MayBeCreated (heard_book b c.turns word kind)
+may_be_created b c started word kind n info link untold h0 early own facts = record {
+  l = c.single.link;
+  ready = ap is_ready_link own ∙ (λ i. facts.made.up i && facts.made.said.well i);
+  once = facts.made.unshown;
+  answered = unstarted_owed b (heard_book b c.turns word kind) c started h0 (early_started (b.link c.single.link) started c.single.connection.life early.unready early.alive h0.setup.said) (λ m. refl) (ap (λ (y : Ledger). y.end) own ∙ facts.made.alive);
+}
+
+-- the second source is for its renewals
+second_use : (c : Sourced) (link n : ℕ) → c.asked ≡ true → c.renews ≡ false → n ≡ sources_asked_in c → (if c.asked then source.Renewal link else source.Setup link) ≡ use_after link n
+second_use c link n asked renews count =
+    let one : n ≡ 1 = count ∙ (λ i. (if asked i then 1 else 0) + (if renews i then 1 else 0)) in
+    taken_if c.asked (source.Renewal link) (source.Setup link) asked ∙ ap (use_after link) (sym one)
+
+-- where it wasn't before, and this is said to its server
+pub makes_ready : (before : List Action) (c : Core) (started : List ℕ) (word : ℕ) (kind : EventKind) (n : News) (info : RedisConnectionInfo) (link : LinkState) (untold : List Heard) → Between before c started → is_bad c kind ≡ false → IsNewsKind c.timers kind
+    → news_of c.timers c.sources c.single.link kind ≡ n → (IsOfRenewals n → ⊥) → IsEarly c.single.connection.life wait.Permit → IsReadied (book before) c (heard_by (book before) c n) info link untold
+    → IsShownReady (before ++ turn_of c word kind ∷ []) (turned c kind) (made_ready (record { conn = record c.single.connection { info = info }; acts = [] }) link) (readied c.single.connection.renewal.wanted (heard_by (book before) c n)) untold started
+makes_ready before c started word kind n info link untold h good k is other early facts = by_wanted c.single.connection.renewal.wanted refl
+  where
+    b : Book
+    b = book before
+
+    h0 : Tied b (inner c started)
+    h0 = h.sound.tied
+
+    mine : ℕ
+    mine = c.single.link
+
+    l : Ledger
+    l = heard_by b c n
+
+    now : Book
+    now = heard_book b c.turns word kind
+
+    front : List Action
+    front = before ++ turn_of c word kind ∷ []
+
+    f : Core
+    f = turned c kind
+
+    ns : List ℕ
+    ns = numbers_of c.single.connection.waiting
+
+    shown : Action
+    shown = action.Created None
+
+    v : Work
+    v = acted (with_link (all_fresh (record { conn = record c.single.connection { info = info }; acts = [] })) link) (act.Created None)
+
+    own : now.link mine ≡ l
+    own = ap (heard_by b c) (book_news b c started kind n h0 is)
+
+    may : MayBeCreated now
+    may = may_be_created b c started word kind n info link untold h0 early own facts
+
+    book_is : book front ≡ now
+    book_is = book_more before (turn_of c word kind) ∙ heard_is b c.turns word kind (book_kind b c kind h0.numbers.timers k)
+
+    all : AllStand blank_book front
+    all = all_stand-append before (turn_of c word kind ∷ []) h.sound.stands (may_turn before c started word kind h good, tt)
+
+    -- none come of sources
+    unwanted : c.single.connection.renewal.wanted ≡ false → IsShownReady front f v (readied c.single.connection.renewal.wanted l) untold started
+    unwanted w =
+        let t = record (seen f [] (comes_as c info (Ready link) ns) [] started) { untold = untold } in
+        let same : readied c.single.connection.renewal.wanted l ≡ l = ap (λ (x : Bool). readied x l) w in
+        let comes = readied_comes b c started n info link untold false h0 h.fit h.fresh other early facts (facts.wanted_is ∙ w) (λ none. cc) in
+        let tied : Tied (entered now shown) t = heard_tied b c started word (b.created + 1) kind info (Ready link) ns [] untold l h0 good own comes in
+        record {
+          holds = sound_more front shown t all (subst MayBeCreated (sym book_is) may) (subst (λ (x : Book). Tied (entered x shown) t) (sym book_is) tied);
+          ledger = ap (λ (x : Book). x.link mine) (book_more front shown ∙ ap (λ (x : Book). entered x shown) book_is) ∙ own ∙ sym same;
+        }
+
+    -- or a second source is asked for
+    wants : c.single.connection.renewal.wanted ≡ true → IsShownReady front f (acted v act.NeedCreds) (readied c.single.connection.renewal.wanted l) untold started
+    wants w =
+        let count = length c.sources + 0 in
+        let next : count ≡ length c.sources = omega arith in
+        let needs = action.NeedCreds count mine in
+        let wanted : l.creds.wanted ≡ true = facts.wanted_is ∙ w in
+        let asked : l.creds.asked ≡ true = elim facts.has [ inl none ↦ absurd (not_both l.creds.wanted none wanted) | inr come ↦ come.0 ] in
+        let once : (b.link mine).creds.renews ≡ false = early_sources (b.link mine).creds c.single.connection.life early.unready early.alive h0.creds.sought in
+        let renews : l.creds.renews ≡ false = renews_hear (b.link mine) c.turns n ∙ once in
+        let created = entered now shown in
+        let uses = c.sources ++ use_after mine count ∷ [] in
+        let what = use_for created mine in
+        let what_is : what ≡ use_after mine count = ap (λ (x : Ledger). if x.creds.asked then source.Renewal mine else source.Setup mine) own ∙ second_use l.creds mine count asked renews (next ∙ h0.count ∙ sym (sources_hear (b.link mine) c.turns n)) in
+        let others = others_heard b c started kind h0 good in
+        let links : ℕ → Ledger = λ m. noted_each (now.link m) (if_mine (mine == m) sources) in
+        let after = noted l sources in
+        let ledger_is : links mine ≡ after = mine_noted (now.link mine) mine sources ∙ ap (λ (y : Ledger). noted y sources) own in
+        let t = record (seen f [] (comes_as c info (Ready link) ns) [] started) { untold = untold; sources = uses } in
+        let comes = readied_comes b c started n info link untold true h0 h.fit h.fresh other early facts wanted (λ x. asked) in
+        let counted : length uses ≡ sources_asked_in after.creds =
+        length_push c.sources (use_after mine count) ∙ ap (λ m. m + 1) (h0.count ∙ sym (sources_hear (b.link mine) c.turns n) ∙ (λ i. (if asked i then 1 else 0) + (if renews i then 1 else 0))) ∙ ap (λ (x : Bool). 1 + (if x then 1 else 0)) (sym asked) in
+        let tied : Tied (entered created needs) t =
+        heard_tied_by b c started word (b.created + 1) kind info (Ready link) ns [] untold links after (b.sources ++ what ∷ []) uses h0 (others_kept now mine sources others) ledger_is
+        (λ i. h0.numbers.sources i ++ what_is i ∷ []) (subst (λ m. AreUses (c.sources ++ use_after mine m ∷ []) mine) (sym next) (uses_more c.sources mine h0.numbers.uses)) counted comes in
+        let need : MayNeed created count mine = record {
+          due = ap source_due own ∙ (λ i. facts.made.up i && wanted i && (not (asked i) || (facts.made.said.well i && not (renews i))));
+          next = next ∙ ap length (sym h0.numbers.sources);
+          in_order = λ m less. down_sourced (now.link m) (others m (λ one. omega arith)).up;
+          answered = unstarted_owed b created c started h0 (early_started (b.link mine) started c.single.connection.life early.unready early.alive h0.setup.said) (λ m. refl) (ap (λ (y : Ledger). y.end) own ∙ facts.made.alive);
+          created = λ m ready none. absurd (let no : b.created + 1 ≡ 0 = none in omega (arith, no));
+        } in
+        let both = shown ∷ needs ∷ [] in
+        let last : book (front ++ both) ≡ entered (entered now shown) needs = book-append front both ∙ ap (λ (x : Book). entered (entered x shown) needs) book_is in
+        let same : readied c.single.connection.renewal.wanted l ≡ after = ap (λ (x : Bool). readied x l) w in
+        record {
+          holds = record {
+            stands = all_stand-append front both all (subst MayBeCreated (sym book_is) may, (subst (λ (x : Book). MayNeed (entered x shown) count mine) (sym book_is) need, tt));
+            tied = subst (λ (x : Book). Tied x t) (sym last) tied;
+          };
+          ledger = ap (λ (x : Book). x.link mine) last ∙ ledger_is ∙ sym same;
+        }
+
+    by_wanted : (x : Bool) → c.single.connection.renewal.wanted ≡ x → IsShownReady front f (if x then acted v act.NeedCreds else v) (readied c.single.connection.renewal.wanted l) untold started
+    by_wanted true w = wants w
+    by_wanted false w = unwanted w
+
+-- what a source that is asked for leaves
+pub made_conn : (w : Work) (link : LinkState) → (made_ready w link).conn ≡ (with_link (all_fresh w) link).conn
+made_conn w link = chosen (λ (x : Work). x.conn ≡ (with_link (all_fresh w) link).conn) w.conn.renewal.wanted (acted (acted (with_link (all_fresh w) link) (act.Created None)) act.NeedCreds) (acted (with_link (all_fresh w) link) (act.Created None)) (λ t. refl) (λ f. refl)
+
+-- but for what it shows
+pub made_is : (w : Work) (link : LinkState) → made_ready w link ≡ record { conn = (with_link (all_fresh w) link).conn; acts = (made_ready w link).acts }
+made_is w link = by_wanted w.conn.renewal.wanted
+  where
+    v : Work
+    v = acted (with_link (all_fresh w) link) (act.Created None)
+
+    by_wanted : (b : Bool) → (if b then acted v act.NeedCreds else v) ≡ record { conn = v.conn; acts = (if b then acted v act.NeedCreds else v).acts }
+    by_wanted true = refl
+    by_wanted false = refl
 
 -- so the event has had its effect, where the link need not end
 pub ready_applied : (front : List Action) (f : Core) (conn : MultiplexedConnection) (link : LinkState) (l : Ledger) (started : List ℕ) → f.turns ≢ 0 → conn.moved ≡ [] → IsFit conn.size conn.boundary link → ending l ≡ None
     → IsShownReady front f (made_ready (record { conn = conn; acts = [] }) link) l [] started → HasApplied front (with_work (record { core = f; acts = [] }) (made_ready (record { conn = conn; acts = [] }) link)) started
 ready_applied front f conn link l started began none_moved fit none h =
-    let w = made_ready (record { conn = conn; acts = [] }) link in
+    let first : Work = record { conn = conn; acts = [] } in
+    let w = made_ready first link in
+    let same = made_conn first link in
     record {
       sound = h.holds;
       ended = none_ends (book (trace_of_acts front f w.acts)) (seen f w.acts w.conn [] started) h.holds.tied (ap ending h.ledger ∙ none);
       began = began;
-      moved = none_moved;
-      fit = record {
+      moved = ap (λ (x : MultiplexedConnection). x.moved) same ∙ none_moved;
+      fit = subst IsFitIn (sym same) (record {
         wanting = λ x e. cc;
         setup = λ x u e. cc;
         link = λ x e. (let same : link ≡ x = cc in subst (IsFit conn.size conn.boundary) same fit);
         none = λ none. absurd (none link refl);
-      };
+      });
     }
 
 -- a link is up
@@ -215,7 +386,7 @@ pub record IsUpNow (l : Ledger) (created : ℕ) (c : MultiplexedConnection) (inf
   pub alive : l.end ≡ None
   pub unshown : created ≡ 0
   pub info_is : l.info ≡ info
-  pub wanted_is : l.creds.wanted ≡ c.wants
+  pub wanted_is : l.creds.wanted ≡ c.renewal.wanted
   pub sent : AreSetups l
   pub starts : l.starts ≡ []
   pub none : started ≡ []
@@ -230,26 +401,27 @@ says_same l info is = ap (λ (x : RedisConnectionInfo). says_nothing (setup x tr
 
 -- nothing is to be said: it is ready
 comes_ready : (before : List Action) (c : Core) (started : List ℕ) (word : ℕ) (kind : EventKind) (n : News) (info : RedisConnectionInfo) (link : LinkState) → Between before c started → is_bad c kind ≡ false → IsNewsKind c.timers kind → news_of c.timers c.sources c.single.link kind ≡ n
-    → IsEarly c.single.connection.life wait.Permit
-    → (let l = heard_by (book before) c n in IsUpNow l (book before).created c.single.connection info started link → HasCredentials l.creds → PushesOf (is_heard (book before)) c.single.connection.hears l → ending_up l n ≡ None
+    → (IsOfRenewals n → ⊥) → IsEarly c.single.connection.life wait.Permit
+    → (let l = heard_by (book before) c n in IsUpNow l (book before).created c.single.connection info started link → HasCredentials l.creds → PushesOf (is_heard (book before)) c.single.connection.hears l → ((more : Bool) → ending_up (readied more l) n ≡ None)
     → says_nothing (setup info true) ≡ true
     → HasApplied (before ++ turn_of c word kind ∷ []) (with_work (record { core = turned c kind; acts = [] }) (made_ready (record { conn = record c.single.connection { info = info }; acts = [] }) link)) started)
-comes_ready before c started word kind n info link h good k is early u has pushes calm nothing =
+comes_ready before c started word kind n info link h good k is other early u has pushes calm nothing =
     let conn = record c.single.connection { info = info } in
     let l = heard_by (book before) c n in
+    let more = c.single.connection.renewal.wanted in
     let silent : says_nothing (setup_steps l 0) ≡ true = says_same l info u.info_is ∙ nothing in
     let said : IsSetUp l = record { well = silent_is_set l (has_credentials l.creds has) silent; none = λ t. ap setup_count u.starts } in
     let made : IsMade l (book before).created conn.requests link = record { asked = u.asked; up = u.up; alive = u.alive; unshown = u.unshown; said = said; tied = u.tied (owner_of conn.requests); queue = u.queue; row = u.row } in
-    ready_applied (before ++ turn_of c word kind ∷ []) (turned c kind) conn link l started (λ z. absurd (omega arith)) h.moved u.fit (ends_where_set l u.up said.well ∙ calm)
-    (makes_ready before c started word kind n info link [] h good k is early (u.info_is, u.sent, record { wanted_is = u.wanted_is; sought = has }, made, pushes))
+    ready_applied (before ++ turn_of c word kind ∷ []) (turned c kind) conn link (readied more l) started (λ z. absurd (omega arith)) h.moved u.fit (ends_where_set (readied more l) u.up (well_readied more l ∙ said.well) ∙ calm more)
+    (makes_ready before c started word kind n info link [] h good k is other early (record { info_is = u.info_is; sent = u.sent; wanted_is = u.wanted_is; has = has; made = made; pushes = pushes }))
 
 -- or its setup is to start
 comes_to_say : (before : List Action) (c : Core) (started : List ℕ) (word : ℕ) (kind : EventKind) (n : News) (info : RedisConnectionInfo) (link : LinkState) → Between before c started → is_bad c kind ≡ false → IsNewsKind c.timers kind → news_of c.timers c.sources c.single.link kind ≡ n
-    → IsEarly c.single.connection.life wait.Setup
+    → (IsOfRenewals n → ⊥) → IsEarly c.single.connection.life wait.Setup
     → (let l = heard_by (book before) c n in IsUpNow l (book before).created c.single.connection info started link → HasCredentials l.creds → PushesOf (is_heard (book before)) c.single.connection.hears l → ending_unready l n ≡ None
     → says_nothing (setup info true) ≡ false
     → HasApplied (before ++ turn_of c word kind ∷ []) (with_work (record { core = turned c kind; acts = [] }) (sets_up (all_fresh (record { conn = record c.single.connection { info = info }; acts = [] })) link true)) started)
-comes_to_say before c started word kind n info link h good k is early u has pushes calm something =
+comes_to_say before c started word kind n info link h good k is other early u has pushes calm something =
     let b = book before in
     let h0 = h.sound.tied in
     let conn = c.single.connection in
@@ -280,7 +452,8 @@ comes_to_say before c started word kind n info link h good k is early u has push
     (record {
       starts = heard_starts (b.link c.single.link) c.turns n;
       lived = (u.asked, u.up, u.alive, u.unshown);
-      creds = record { wanted_is = u.wanted_is; sought = has };
+      creds = record { wanted_is = u.wanted_is; sought = (has, renews_hear (b.link c.single.link) c.turns n ∙ early_sources (b.link c.single.link).creds conn.life early.unready early.alive h0.creds.sought) };
+      renewal_is = none_hears (b.link c.single.link) c.turns n conn.renewal other (early_renewal (b.link c.single.link) conn.renewal conn.life early.unready early.alive h0.renewal);
       said = record { info_is = u.info_is; sent = u.sent; said = (u.none, said) };
       linked = λ z. enqueued_tied _ l link q (u.tied _);
       lines = subst (λ (x : LinkState). TiedLines b.story conn.requests x conn.waiting conn.admitted [] started) early.bare h0.lines;
@@ -298,12 +471,12 @@ comes_to_say before c started word kind n info link h good k is early u has push
 
 -- so it comes up
 pub comes_up : (before : List Action) (c : Core) (started : List ℕ) (word : ℕ) (kind : EventKind) (n : News) (info : RedisConnectionInfo) (link : LinkState) → Between before c started → is_bad c kind ≡ false → IsNewsKind c.timers kind → news_of c.timers c.sources c.single.link kind ≡ n
-    → IsEarly c.single.connection.life wait.Permit → IsEarly c.single.connection.life wait.Setup
-    → (let l = heard_by (book before) c n in IsUpNow l (book before).created c.single.connection info started link → HasCredentials l.creds → PushesOf (is_heard (book before)) c.single.connection.hears l → (ending_up l n ≡ None) × (ending_unready l n ≡ None)
+    → (IsOfRenewals n → ⊥) → IsEarly c.single.connection.life wait.Permit → IsEarly c.single.connection.life wait.Setup
+    → (let l = heard_by (book before) c n in IsUpNow l (book before).created c.single.connection info started link → HasCredentials l.creds → PushesOf (is_heard (book before)) c.single.connection.hears l → ((more : Bool) → ending_up (readied more l) n ≡ None) × (ending_unready l n ≡ None)
     → HasApplied (before ++ turn_of c word kind ∷ []) (with_work (record { core = turned c kind; acts = [] }) (come_up (record { conn = record c.single.connection { info = info }; acts = [] }) link)) started)
-comes_up before c started word kind n info link h good k is ready setting u has pushes calm =
+comes_up before c started word kind n info link h good k is other ready setting u has pushes calm =
     let w : Work = record { conn = record c.single.connection { info = info }; acts = [] } in
     chosen (λ (x : Work). HasApplied (before ++ turn_of c word kind ∷ []) (with_work (record { core = turned c kind; acts = [] }) x) started) (says_nothing (steps_of w.conn true))
     (made_ready w link) (sets_up (all_fresh w) link true)
-    (λ t. comes_ready before c started word kind n info link h good k is ready u has pushes calm.0 t)
-    (λ f. comes_to_say before c started word kind n info link h good k is setting u has pushes calm.1 f)
+    (λ t. comes_ready before c started word kind n info link h good k is other ready u has pushes calm.0 t)
+    (λ f. comes_to_say before c started word kind n info link h good k is other setting u has pushes calm.1 f)

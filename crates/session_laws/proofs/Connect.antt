@@ -1,6 +1,6 @@
 -- The opening of the connection's link ends: its connect succeeds, is refused, or isn't answered in time.
-use Rattle.std.proofs.Common.{inl, length, ◌==◌, ◌≡◌, ℕ, ◌+◌, Bool, true, false, ◌&&◌, not, List, [], ◌∷◌, ◌++◌, None, is_some, refl, sym, ap, ◌∙◌, subst, arith, if◌then◌else◌, ◌≢◌, ◌-◌, Some}
-use Rattle.std.proofs.lemmas.List.{append-nil}
+use Rattle.std.proofs.Common.{inl, length, ◌==◌, ◌≡◌, ℕ, ◌+◌, Bool, true, false, ◌&&◌, not, List, [], ◌∷◌, ◌++◌, None, is_some, refl, sym, ap, ◌∙◌, subst, arith, if◌then◌else◌, ◌≢◌, ◌-◌, Some, ◌||◌}
+use Rattle.std.proofs.lemmas.List.{append-nil, length_push}
 use Rattle.containers.proofs.Choices.{chosen, taken_if, left_if}
 use Rattle.redis_error.specs.declared.fault_kind.FaultKind.{FaultKind}
 use Rattle.redis_error.specs.declared.fault_kind.FaultKind.TheVariants as kinds
@@ -8,7 +8,6 @@ use Rattle.redis_error.specs.declared.redis_error.RedisError.TheVariants as erro
 use Rattle.driver_model.specs.declared.action.Action.{Action}
 use Rattle.driver_model.specs.declared.action.Action.TheVariants as action
 use Rattle.driver_model.specs.declared.action.Owner.{Owner}
-use Rattle.driver_model.specs.declared.action.SourceUse.{SourceUse}
 use Rattle.driver_model.specs.declared.action.SourceUse.TheVariants as source
 use Rattle.driver_model.specs.declared.action.WaitKind.{WaitKind}
 use Rattle.driver_model.specs.declared.action.WaitKind.TheVariants as wait
@@ -24,23 +23,25 @@ use Rattle.mux_conn.specs.Connection.{Work, is_ready}
 use Rattle.mux_conn.specs.Turn.{early_wait}
 use Rattle.mux_conn.specs.declared.act.LinkAct.TheVariants as act
 use Rattle.shared_session.specs.declared.core_state.Core.{Core}
-use Rattle.shared_session.specs.Turn.{with_work, is_bad}
-use Rattle.legal_trace.specs.Ledger.{Ledger, hears, lacks_credentials, noted, noted_each, ending, ending_alive, is_over, by_opening, ends, dials, refused_in, failure_in, failure_of, ending_or_shutdown, source_due, sources}
-use Rattle.legal_trace.specs.Book.{Book, blank_book, book, entered, if_mine}
+use Rattle.shared_session.specs.Turn.{with_work, is_bad, use_after}
+use Rattle.legal_trace.specs.Ledger.{Ledger, hears, lacks_credentials, noted, noted_each, ending, ending_alive, is_over, by_opening, ends, dials, refused_in, failure_in, failure_of, ending_or_shutdown, source_due, sources, is_set_up}
+use Rattle.legal_trace.specs.Book.{Book, blank_book, book, entered, if_mine, use_for}
 use Rattle.legal_trace.specs.Legal.{AllStand, MayNeed}
-use Rattle.session_laws.proofs.Tied.{AreQueued, AreSought, HasSaid, inner, no_link, link_in, carried, whole_link, owner_of, Tied, TiedLife, TiedLines, has_ended}
+use Rattle.session_laws.proofs.Tied.{AreQueued, AreSought, HasSaid, inner, no_link, link_in, carried, whole_link, owner_of, Tied, TiedLife, TiedLines, has_ended, sources_asked_in}
 use Rattle.session_laws.proofs.Creds.{down_sourced, lacking_undecided}
 use Rattle.session_laws.proofs.Said.{ending_wanting, ready_heard, setting_heard, setup_hears}
 use Rattle.session_laws.proofs.Failing.{IsFailing, failing_applied, unready_shown, unstarted_owed}
 use Rattle.session_laws.proofs.States.{IsFit, Between, HasApplied}
 use Rattle.session_laws.proofs.Entered.{all_stand-append, book_more, sound_more, shown_more}
 use Rattle.session_laws.proofs.Settle.{seen, trace_of_acts, book_of_more}
-use Rattle.session_laws.proofs.Announce.{IsNewsKind, comes_as, heard_book, heard_is, heard_starts, heard_tied, heard_tied_by, may_turn, others_heard, turn_of, turned, uses_more}
-use Rattle.session_laws.proofs.Heard.{heard_by, book_kind, book_news, lives_as, none_ends, leads_still, quiet_applied, ended_quiet, pushes_still}
+use Rattle.session_laws.proofs.Announce.{IsNewsKind, comes_as, heard_book, heard_is, heard_starts, heard_tied, heard_tied_by, may_turn, others_heard, turn_of, turned, uses_more, timed_hear}
+use Rattle.session_laws.proofs.Heard.{heard_by, book_kind, book_news, lives_as, none_ends, leads_still, quiet_applied, ended_quiet, pushes_still, none_hears}
 use Rattle.session_laws.proofs.End.{up_tied, setting_tied, setting_overdue, wanting_tied, wanting_overdue, plain_begins}
 use Rattle.session_laws.proofs.Kept.{mine_noted, others_kept}
 use Rattle.session_laws.proofs.Close.{may_close, close_tied, ended_waits}
 use Rattle.session_laws.proofs.ComeUp.{IsEarly, IsUpNow, comes_up, fresh_waits}
+use Rattle.session_laws.proofs.Renewals.{renewal_ended, early_renewal}
+use Rattle.session_laws.proofs.Numbers.{requests_in}
 
 -- news of no account
 --
@@ -116,16 +117,16 @@ early_dialing life after e other = record { bare = ap link_in e; unready = ap is
 
 -- no credentials of a source are wanted: it comes up
 connected_up : (before : List Action) (c : Core) (started : List ℕ) (word : ℕ) (kind : EventKind) → Between before c started → is_bad c kind ≡ false → IsNewsKind c.timers kind → news_of c.timers c.sources c.single.link kind ≡ connected → c.single.connection.life ≡ Dialing
-    → c.single.connection.wants ≡ false
+    → c.single.connection.renewal.wanted ≡ false
     → HasApplied (before ++ turn_of c word kind ∷ []) (with_work (record { core = turned c kind; acts = [] }) (come_up (record { conn = c.single.connection; acts = [] }) (new_link c.single.connection))) started
 connected_up before c started word kind h good k is e unwanted =
     let u = up_now before c started h e in
-    comes_up before c started word kind connected c.single.connection.info (new_link c.single.connection) h good k is (early_dialing c.single.connection.life wait.Permit e (λ same. cc)) (early_dialing c.single.connection.life wait.Setup e (λ same. cc)) u
-    (inl (u.wanted_is ∙ unwanted)) (pushes_still before c started connected h (inl tt)) (refl, refl)
+    comes_up before c started word kind connected c.single.connection.info (new_link c.single.connection) h good k is (λ x. x) (early_dialing c.single.connection.life wait.Permit e (λ same. cc)) (early_dialing c.single.connection.life wait.Setup e (λ same. cc)) u
+    (inl (u.wanted_is ∙ unwanted)) (pushes_still before c started connected h (inl tt)) (λ more. refl, refl)
 
 -- or a source is asked for them
 connected_wants : (before : List Action) (c : Core) (started : List ℕ) (word : ℕ) (kind : EventKind) → Between before c started → is_bad c kind ≡ false → IsNewsKind c.timers kind → news_of c.timers c.sources c.single.link kind ≡ connected → c.single.connection.life ≡ Dialing
-    → c.single.connection.wants ≡ true
+    → c.single.connection.renewal.wanted ≡ true
     → HasApplied (before ++ turn_of c word kind ∷ []) (with_work (record { core = turned c kind; acts = [] }) (comes_to_want (record { conn = c.single.connection; acts = [] }) (new_link c.single.connection))) started
 connected_wants before c started word kind h good k is e wants =
     let b = book before in
@@ -155,13 +156,22 @@ connected_wants before c started word kind h good k is e wants =
     let links : ℕ → Ledger = λ m. noted_each (now.link m) (if_mine (mine == m) sources) in
     let after = noted l sources in
     let asked : links mine ≡ after = mine_noted (now.link mine) mine sources ∙ ap (λ (y : Ledger). noted y sources) own in
-    let t = record (seen f [] (comes_as c conn.info life ns) [] started) { sources = c.sources ++ source.Setup mine ∷ [] } in
-    let tied : Tied (entered now shown) t = heard_tied_by b c started word b.created kind conn.info life ns [] [] links after (b.sources ++ source.Setup mine ∷ []) (c.sources ++ source.Setup mine ∷ []) h0
-    (others_kept now mine sources others) asked (ap (λ (ss : List SourceUse). ss ++ source.Setup mine ∷ []) h0.numbers.sources) (uses_more c.sources mine h0.numbers.uses)
+    let what = use_for now mine in
+    let next = use_after mine (length c.sources) in
+    let uses = c.sources ++ next ∷ [] in
+    let none_asked : length c.sources ≡ 0 = h0.count ∙ (λ i. (if sought.0 i then 1 else 0) + (if sought.2 i then 1 else 0)) in
+    let what_is : what ≡ next =
+    ap (λ (x : Ledger). if x.creds.asked then source.Renewal mine else source.Setup mine) own ∙ left_if l.creds.asked (source.Renewal mine) (source.Setup mine) unasked ∙ ap (use_after mine) (sym none_asked) in
+    let counted : length uses ≡ sources_asked_in after.creds = length_push c.sources next ∙ ap (λ m. m + 1) none_asked ∙ ap (λ (x : Bool). 1 + (if x then 1 else 0)) (sym unasked) in
+    let none = none_hears l0 c.turns connected conn.renewal (λ x. x) (early_renewal l0 conn.renewal conn.life early.unready early.alive h0.renewal) in
+    let t = record (seen f [] (comes_as c conn.info life ns) [] started) { sources = uses } in
+    let tied : Tied (entered now shown) t = heard_tied_by b c started word b.created kind conn.info life ns [] [] links after (b.sources ++ what ∷ []) uses h0
+    (others_kept now mine sources others) asked (λ i. h0.numbers.sources i ++ what_is i ∷ []) (uses_more c.sources mine h0.numbers.uses) counted
     (record {
       starts = heard_starts l0 c.turns connected;
       lived = (u.asked, u.up, u.alive, u.unshown);
-      creds = record { wanted_is = u.wanted_is; sought = (wanted_is, refl, ungiven) };
+      creds = record { wanted_is = u.wanted_is; sought = (wanted_is, refl, ungiven, unasked) };
+      renewal_is = record { over_is = none.over_is; came = none.came; waits = none.waits; untimed = none.untimed; unstarted = none.unstarted; unasked = none.unasked; unpending = none.unpending; told = none.told; kept = none.kept; found = none.found };
       said = record { info_is = u.info_is; sent = u.sent; said = (u.starts, u.none, refl, refl) };
       linked = λ z. sourced_tied _ l link (u.tied _);
       lines = subst (λ (x : LinkState). TiedLines b.story conn.requests x conn.waiting conn.admitted [] started) early.bare h0.lines;
@@ -170,7 +180,7 @@ connected_wants before c started word kind h good k is e wants =
       pushes = pushes_still before c started connected h (inl tt);
     }) in
     let may : MayNeed now (length c.sources) mine = record {
-      due = ap source_due own ∙ (λ i. u.up i && wanted_is i && not (unasked i));
+      due = ap source_due own ∙ (λ i. u.up i && wanted_is i && (not (unasked i) || (is_set_up l && not l.creds.renews)));
       next = ap length (sym h0.numbers.sources);
       in_order = λ m less. down_sourced (now.link m) (others m (λ one. omega arith)).up;
       answered = unstarted_owed b now c started h0 u.none (λ m. refl) (ap (λ (y : Ledger). y.end) own ∙ u.alive);
@@ -209,7 +219,7 @@ connected_applied before c started word kind h good k is = by_life c.single.conn
     by_life Dialing e =
         let w : Work = record { conn = c.single.connection; acts = [] } in
         let link = new_link c.single.connection in
-        chosen (λ (x : Work). HasApplied (before ++ turn_of c word kind ∷ []) (with_work (record { core = turned c kind; acts = [] }) x) started) c.single.connection.wants (comes_to_want w link) (come_up w link)
+        chosen (λ (x : Work). HasApplied (before ++ turn_of c word kind ∷ []) (with_work (record { core = turned c kind; acts = [] }) x) started) c.single.connection.renewal.wanted (comes_to_want w link) (come_up w link)
         (λ t. connected_wants before c started word kind h good k is e t)
         (λ f. connected_up before c started word kind h good k is e f)
     by_life (Wanting link) e =
@@ -255,6 +265,7 @@ refused_fails before c started word kind f h good k is e =
       starts = heard_starts l0 c.turns (refused f);
       lived = subst (λ (x : Ledger). TiedLife x (b.created + 1) life) (sym over) (lived.1, refl, λ x fails z. absurd (omega arith));
       creds = record { wanted_is = ap (λ (x : Ledger). x.creds.wanted) over ∙ h0.creds.wanted_is; sought = tt };
+      renewal_is = renewal_ended l0 l conn.renewal conn.life (timed_hear l0 c.turns (refused f)) (heard_starts l0 c.turns (refused f)) h0.renewal;
       said = record { info_is = said.info_is; sent = said.sent; said = tt };
       linked = λ n. cc;
       lines = subst (λ (x : Life). TiedLines b.story conn.requests (link_in x) conn.waiting conn.admitted [] started) e h0.lines;
@@ -332,7 +343,7 @@ overdue_fails before c started word kind h good k is e =
     let asked : (l0.asked && not (is_over l0)) ≡ true = (λ i. lived0.0 i && not (is_some (lived0.2 i))) in
     let must : ending l ≡ Some why = ap ending begins.ledger ∙ left_if l0.up (ending_alive (record l0 { heard = overdue })) _ lived0.1 ∙ taken_if (l0.asked && not (is_over l0)) (Some why) None asked in
     let now = entered b (action.Close c.single.link) in
-    let tied = close_tied b t (b.created + 1) why x false [] (ap (λ (y : Life). wanted (link_in y).row ++ awaited_ids (link_in y).queue) (sym e)) must refl (λ y fails z. absurd (omega arith)) (λ heard done. refl) (ap has_ended e) begins.holds.tied in
+    let tied = close_tied b t (b.created + 1) why x false [] (ap (λ (y : Life). requests_in (wanted (link_in y).row) ++ awaited_ids (link_in y).queue) (sym e)) must refl (λ y fails z. absurd (omega arith)) (λ heard done. refl) (ap has_ended e) begins.holds.tied in
     let trace = trace_of_acts front f (act.Close ∷ []) in
     let shown : trace ≡ trace_of_acts front f [] ++ action.Close c.single.link ∷ [] = shown_more front c.single.link (length f.timers) (length f.sources) [] act.Close in
     let book_is : book trace ≡ now = book_of_more front f [] act.Close in

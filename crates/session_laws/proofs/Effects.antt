@@ -1,12 +1,12 @@
 -- The event's own effect: each kind of event leaves the session tied to its book, and nothing due but what moves.
-use Rattle.std.proofs.Common.{ap, length, slice_get, Option, Some, ◌<◌, ◌≡◌, ℕ, ◌==◌, ◌&&◌, false, List, [], ◌∷◌, ◌++◌, refl, sym, ◌∙◌, subst}
-use Rattle.containers.proofs.Choices.{or_left, or_right, eq_test, not_le_from, not_lt_from}
+use Rattle.std.proofs.Common.{ap, length, slice_get, Option, Some, ◌<◌, ◌≡◌, ℕ, ◌==◌, ◌&&◌, false, List, [], ◌∷◌, ◌++◌, refl, sym, ◌∙◌, subst, ◌≤◌, ◌≢◌, ◌^◌, arith}
+use Rattle.containers.proofs.Choices.{or_left, or_right, eq_test, not_le_from, not_lt_from, by_test, taken_if, left_if, ne_from}
 use Rattle.redis_error.specs.declared.redis_error.RedisError.TheVariants as error
 use Rattle.driver_model.specs.declared.action.Action.{Action}
 use Rattle.driver_model.specs.declared.event.EventKind.{EventKind}
 use Rattle.driver_model.specs.declared.event.EventKind.TheVariants as event
 use Rattle.driver_model.specs.declared.news.LinkFault.TheVariants as fault
-use Rattle.driver_model.specs.News.{News, connected, took, came, failed, authorized, denied, deserted, news_of, of_timer, refused, overdue, silence}
+use Rattle.driver_model.specs.News.{News, connected, took, came, failed, authorized, denied, deserted, news_of, of_timer, refused, overdue, silence, renewed, unrenewed, late}
 use Rattle.mux_conn.specs.declared.life.Life.{Life}
 use Rattle.mux_conn.specs.declared.life.Life.TheVariants.{Dialing, Ready, Ended, SettingUp, Wanting}
 use Rattle.mux_conn.specs.Effects.{CanTake, applied}
@@ -14,7 +14,7 @@ use Rattle.shared_session.specs.declared.core_state.Core.{Core}
 use Rattle.shared_session.specs.Turn.{with_work, heard, fired_by, late_by, effect, counted, is_no_link, exceeds_offer, is_bad}
 use Rattle.session_laws.proofs.States.{Between, HasApplied}
 use Rattle.session_laws.proofs.Announce.{turn_of, turned, own_news, own_source, own_timer}
-use Rattle.session_laws.proofs.Connect.{connected_applied, refused_applied, overdue_applied}
+use Rattle.session_laws.proofs.Connect.{connected_applied, refused_applied, overdue_applied, passed_over}
 use Rattle.session_laws.proofs.Given.{authorized_applied, denied_applied, end_denies, text_denies}
 use Rattle.session_laws.proofs.Took.{took_applied}
 use Rattle.session_laws.proofs.Read.{read_applied}
@@ -22,11 +22,13 @@ use Rattle.session_laws.proofs.End.{failed_applied, shut_applied}
 use Rattle.session_laws.proofs.Cancel.{cancel_applied}
 use Rattle.session_laws.proofs.Late.{late_applied, time_applied}
 use Rattle.session_laws.proofs.Names.{get_some}
-use Rattle.legal_trace.specs.Book.{is_clock_of}
+use Rattle.legal_trace.specs.Book.{is_clock_of, book}
 use Rattle.driver_model.specs.declared.action.Owner.TheVariants as owner
 use Rattle.driver_model.specs.declared.action.Purpose.{Purpose}
 use Rattle.driver_model.specs.declared.action.Purpose.TheVariants as purpose
 use Rattle.session_laws.proofs.Asked.{submit_applied}
+use Rattle.session_laws.proofs.Renewed.{renewed_applied, unrenewed_applied, renewal_late}
+use Rattle.session_laws.proofs.Heard.{silent_no_end, still_none}
 
 -- the news of an event that names the connection's link
 by_news : (before : List Action) (c : Core) (started : List ℕ) (word : ℕ) (kind : EventKind) (heard n : News) → heard ≡ n
@@ -52,6 +54,10 @@ fired : (before : List Action) (c : Core) (started : List ℕ) (word n : ℕ) (w
 fired before c started word n (purpose.Connect l) h good is =
     let own = own_timer c n l h.sound.tied.numbers.aims is in
     by_news before c started word (event.Fired n) (news_of c.timers c.sources c.single.link (event.Fired n)) overdue own (overdue_applied before c started word (event.Fired n) h good (λ m. ap (is_clock_of m) is) own)
+fired before c started word n (purpose.Response owner.Auth) h good is = absurd (h.sound.tied.numbers.aims n (purpose.Response owner.Auth) is)
+fired before c started word n (purpose.Renewal l k) h good is =
+    let own : news_of c.timers c.sources c.single.link (event.Fired n) ≡ late k = ap (of_timer c.single.link) is ∙ taken_if (l == c.single.link) (late k) silence (eq_test l c.single.link (h.sound.tied.numbers.aims n (purpose.Renewal l k) is)) in
+    by_news before c started word (event.Fired n) (news_of c.timers c.sources c.single.link (event.Fired n)) (late k) own (renewal_late before c started word (event.Fired n) k h good (λ m. ap (is_clock_of m) is) own)
 fired before c started word n (purpose.Response owner.Setup) h good is = absurd (h.sound.tied.numbers.aims n (purpose.Response owner.Setup) is)
 fired before c started word n (purpose.Response (owner.Try m round)) h good is =
     let aim : (m < length c.table) × (round ≡ 0) = h.sound.tied.numbers.aims n (purpose.Response (owner.Try m round)) is in
@@ -60,49 +66,72 @@ fired before c started word n (purpose.Response (owner.Try m round)) h good is =
     subst (λ (x : News). HasApplied (before ++ turn_of c word (event.Fired n) ∷ []) (late_by (with_work (record { core = turned c (event.Fired n); acts = [] }) (applied (record { conn = c.single.connection; acts = [] }) x)) (slice_get c.table m)) started)
     (sym silent_is) (late_applied before c started word n m h good first)
 
+-- where a source isn't the first, there are two
+second_source : (n count : ℕ) → n ≢ 0 → n < count → 2 ≤ count
+second_source n count other less = omega (arith, other, less)
+
 -- the effect of a good event between two turns
-pub effect_holds : (before : List Action) (c : Core) (started : List ℕ) (word : ℕ) (kind : EventKind) → Between before c started → is_bad c kind ≡ false → HasApplied (before ++ turn_of c word kind ∷ []) (effect (counted c) kind) started
+pub effect_holds : (before : List Action) (c : Core) (started : List ℕ) (word : ℕ) (kind : EventKind) → Between before c started → is_bad c kind ≡ false → length c.table < 2 ^ 32 → HasApplied (before ++ turn_of c word kind ∷ []) (effect (counted c) kind) started
 unfolding is_bad
-effect_holds before c started word (event.Submit what) h good = submit_applied before c started word what h good
-effect_holds before c started word (event.Cancel n) h good = cancel_applied before c started word n h good
-effect_holds before c started word (event.Connected l) h good =
+effect_holds before c started word (event.Submit what) h good room = submit_applied before c started word what h room good
+effect_holds before c started word (event.Cancel n) h good room = cancel_applied before c started word n h good
+effect_holds before c started word (event.Connected l) h good room =
     let own = own_news c l connected h.sound.tied.numbers.only good in
     by_news before c started word (event.Connected l) (news_of c.timers c.sources c.single.link (event.Connected l)) connected own (connected_applied before c started word (event.Connected l) h good tt own)
-effect_holds before c started word (event.Refused l f) h good =
+effect_holds before c started word (event.Refused l f) h good room =
     let own = own_news c l (refused f) h.sound.tied.numbers.only good in
     by_news before c started word (event.Refused l f) (news_of c.timers c.sources c.single.link (event.Refused l f)) (refused f) own (refused_applied before c started word (event.Refused l f) f h good tt own)
-effect_holds before c started word (event.Fired n) h good =
+effect_holds before c started word (event.Fired n) h good room =
     let g = get_some c.timers n (not_le_from (length c.timers) n good) in
     subst (λ (x : Option Purpose). HasApplied (before ++ turn_of c word (event.Fired n) ∷ []) (fired_by (heard (counted c) (event.Fired n)) x) started) (sym g.1) (fired before c started word n g.0 h good g.1)
-effect_holds before c started word (event.Timeout ms) h good = time_applied before c started word ms h good
-effect_holds before c started word (event.Wrote l count) h good =
+effect_holds before c started word (event.Timeout ms) h good room = time_applied before c started word ms h good
+effect_holds before c started word (event.Wrote l count) h good room =
     let here = or_left (is_no_link c l) _ good in
     let few = or_right (is_no_link c l) _ good in
     let own = own_news c l (took count) h.sound.tied.numbers.only here in
     by_news before c started word (event.Wrote l count) (news_of c.timers c.sources c.single.link (event.Wrote l count)) (took count) own
     (took_applied before c started word count (event.Wrote l count) h good tt own (can_take_from c l count (h.sound.tied.numbers.only l (not_le_from c.links l here)) few))
-effect_holds before c started word (event.Bytes l piece) h good =
+effect_holds before c started word (event.Bytes l piece) h good room =
     let own = own_news c l (came piece) h.sound.tied.numbers.only good in
     by_news before c started word (event.Bytes l piece) (news_of c.timers c.sources c.single.link (event.Bytes l piece)) (came piece) own (read_applied before c started word (event.Bytes l piece) piece h good tt own)
-effect_holds before c started word (event.Ended l) h good =
+effect_holds before c started word (event.Ended l) h good room =
     let own = own_news c l (failed fault.Ended) h.sound.tied.numbers.only good in
     by_news before c started word (event.Ended l) (news_of c.timers c.sources c.single.link (event.Ended l)) (failed fault.Ended) own (failed_applied before c started word (event.Ended l) fault.Ended h good tt own)
-effect_holds before c started word (event.ReadFault l kind) h good =
+effect_holds before c started word (event.ReadFault l kind) h good room =
     let own = own_news c l (failed (fault.Io kind)) h.sound.tied.numbers.only good in
     by_news before c started word (event.ReadFault l kind) (news_of c.timers c.sources c.single.link (event.ReadFault l kind)) (failed (fault.Io kind)) own (failed_applied before c started word (event.ReadFault l kind) (fault.Io kind) h good tt own)
-effect_holds before c started word (event.WriteFault l kind) h good =
+effect_holds before c started word (event.WriteFault l kind) h good room =
     let own = own_news c l (failed (fault.Io kind)) h.sound.tied.numbers.only good in
     by_news before c started word (event.WriteFault l kind) (news_of c.timers c.sources c.single.link (event.WriteFault l kind)) (failed (fault.Io kind)) own (failed_applied before c started word (event.WriteFault l kind) (fault.Io kind) h good tt own)
-effect_holds before c started word (event.Creds n auth) h good =
+effect_holds before c started word (event.Creds n auth) h good room =
     let g = get_some c.sources n (not_le_from (length c.sources) n good) in
-    let own = own_source c n g.0 (authorized auth) h.sound.tied.numbers.uses g.1 in
-    by_news before c started word (event.Creds n auth) (news_of c.timers c.sources c.single.link (event.Creds n auth)) (authorized auth) own (authorized_applied before c started word (event.Creds n auth) auth h good tt own)
-effect_holds before c started word (event.CredsError n text) h good =
+    let kind = event.Creds n auth in
+    let news = news_of c.timers c.sources c.single.link kind in
+    let own = own_source c n g.0 (authorized auth) (renewed auth) h.sound.tied.numbers.uses g.1 in
+    by_test (n == 0) (HasApplied (before ++ turn_of c word kind ∷ []) (effect (counted c) kind) started)
+    (λ t. let is = own ∙ taken_if (n == 0) (authorized auth) (renewed auth) t in by_news before c started word kind news (authorized auth) is (authorized_applied before c started word kind auth h good tt is))
+    (λ f.
+    let is = own ∙ left_if (n == 0) (authorized auth) (renewed auth) f in
+    by_news before c started word kind news (renewed auth) is (renewed_applied before c started word kind auth h good tt is (second_source n (length c.sources) (ne_from n 0 f) (not_le_from (length c.sources) n good))))
+effect_holds before c started word (event.CredsError n text) h good room =
     let g = get_some c.sources n (not_le_from (length c.sources) n good) in
-    let own = own_source c n g.0 (denied text) h.sound.tied.numbers.uses g.1 in
-    by_news before c started word (event.CredsError n text) (news_of c.timers c.sources c.single.link (event.CredsError n text)) (denied text) own (denied_applied before c started word (event.CredsError n text) (denied text) (error.Credentials text) (text_denies text) h good tt own)
-effect_holds before c started word (event.CredsEnd n) h good =
+    let kind = event.CredsError n text in
+    let news = news_of c.timers c.sources c.single.link kind in
+    let own = own_source c n g.0 (denied text) silence h.sound.tied.numbers.uses g.1 in
+    by_test (n == 0) (HasApplied (before ++ turn_of c word kind ∷ []) (effect (counted c) kind) started)
+    (λ t. let is = own ∙ taken_if (n == 0) (denied text) silence t in by_news before c started word kind news (denied text) is (denied_applied before c started word kind (denied text) (error.Credentials text) (text_denies text) h good tt is))
+    (λ f.
+    let is = own ∙ left_if (n == 0) (denied text) silence f in
+    by_news before c started word kind news silence is
+    (passed_over before c started word kind silence h good tt is refl (silent_no_end ((book before).link c.single.link) c.turns (still_none before c started h c.single.link))))
+effect_holds before c started word (event.CredsEnd n) h good room =
     let g = get_some c.sources n (not_le_from (length c.sources) n good) in
-    let own = own_source c n g.0 deserted h.sound.tied.numbers.uses g.1 in
-    by_news before c started word (event.CredsEnd n) (news_of c.timers c.sources c.single.link (event.CredsEnd n)) deserted own (denied_applied before c started word (event.CredsEnd n) deserted (error.AuthFailed []) end_denies h good tt own)
-effect_holds before c started word event.Shutdown h good = shut_applied before c started word event.Shutdown h good tt refl
+    let kind = event.CredsEnd n in
+    let news = news_of c.timers c.sources c.single.link kind in
+    let own = own_source c n g.0 deserted unrenewed h.sound.tied.numbers.uses g.1 in
+    by_test (n == 0) (HasApplied (before ++ turn_of c word kind ∷ []) (effect (counted c) kind) started)
+    (λ t. let is = own ∙ taken_if (n == 0) deserted unrenewed t in by_news before c started word kind news deserted is (denied_applied before c started word kind deserted (error.AuthFailed []) end_denies h good tt is))
+    (λ f.
+    let is = own ∙ left_if (n == 0) deserted unrenewed f in
+    by_news before c started word kind news unrenewed is (unrenewed_applied before c started word kind h good tt is (second_source n (length c.sources) (ne_from n 0 f) (not_le_from (length c.sources) n good))))
+effect_holds before c started word event.Shutdown h good room = shut_applied before c started word event.Shutdown h good tt refl

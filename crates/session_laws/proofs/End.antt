@@ -77,7 +77,7 @@ up_tied b t link is h =
       up = lived.1;
       alive = lived.2;
       shown = lived.3;
-      has = subst (λ (x : Life). AreSought l.creds x) is h.creds.sought;
+      has = (subst (λ (x : Life). AreSought l.creds x) is h.creds.sought).0;
       well = said.well;
       tied = subst (λ (x : Life). TiedLink (carried x t.requests) l (whole_link x)) is (h.link (ap has_ended is));
     }
@@ -124,6 +124,7 @@ pub record IsSetting (l : Ledger) (created : ℕ) (started : List ℕ) (link : L
   pub alive : l.end ≡ None
   pub unshown : created ≡ 0
   pub has : HasCredentials l.creds
+  pub once : l.creds.renews ≡ false
   pub none : started ≡ []
   pub said : IsSettingUp l link with_user
   pub tied : TiedLink (λ p. owner.Setup) l link
@@ -139,7 +140,8 @@ setting_tied b t link with_user is h =
       up = lived.1;
       alive = lived.2;
       unshown = lived.3;
-      has = subst (λ (x : Life). AreSought l.creds x) is h.creds.sought;
+      has = (subst (λ (x : Life). AreSought l.creds x) is h.creds.sought).0;
+      once = (subst (λ (x : Life). AreSought l.creds x) is h.creds.sought).1;
       none = said.0;
       said = said.1;
       tied = subst (λ (x : Life). TiedLink (carried x t.requests) l (whole_link x)) is (h.link (ap has_ended is));
@@ -214,7 +216,7 @@ wanting_unready b t link e h = let s = wanting_tied b t link e h in record { bar
 
 -- a link that is set up fails by news that leave its ledger
 plain_fails : (before : List Action) (c : Core) (started : List ℕ) (n : News) (x : RedisError) (link : LinkState) (with_user : Bool) → Between before c started → c.single.connection.life ≡ SettingUp link with_user
-    → (let l = record ((book before).link c.single.link) { heard = n } in ending_unready l n ≡ Some (by_opening x)) → Fails (record ((book before).link c.single.link) { heard = n }) c.single.connection.info c.single.connection.wants (is_heard (book before)) c.single.connection.hears x
+    → (let l = record ((book before).link c.single.link) { heard = n } in ending_unready l n ≡ Some (by_opening x)) → Fails (record ((book before).link c.single.link) { heard = n }) c.single.connection.info c.single.connection.renewal.wanted (is_heard (book before)) c.single.connection.hears x
 plain_fails before c started n x link with_user h e is =
     let b = book before in
     let l = b.link c.single.link in
@@ -225,14 +227,14 @@ plain_fails before c started n x link with_user h e is =
       must = setting_heard l n link with_user s.up s.said ∙ is;
       info_is = h.sound.tied.setup.info_is;
       wanted_is = h.sound.tied.creds.wanted_is;
-      sourced = has_sourced l s.has;
+      sourced = has_sourced (record l { heard = n }) s.has (not_set_up (record l { heard = n }) link with_user (setting_told l n link with_user s.said)).unwell;
       sent = h.sound.tied.setup.sent;
       pushes = h.sound.tied.pushes;
     }
 
 -- and so does one that waits for credentials
 wanting_fails : (before : List Action) (c : Core) (started : List ℕ) (n : News) (x : RedisError) (link : LinkState) → Between before c started → c.single.connection.life ≡ Wanting link
-    → (let l = record ((book before).link c.single.link) { heard = n } in ending_unready l n ≡ Some (by_opening x)) → Fails (record ((book before).link c.single.link) { heard = n }) c.single.connection.info c.single.connection.wants (is_heard (book before)) c.single.connection.hears x
+    → (let l = record ((book before).link c.single.link) { heard = n } in ending_unready l n ≡ Some (by_opening x)) → Fails (record ((book before).link c.single.link) { heard = n }) c.single.connection.info c.single.connection.renewal.wanted (is_heard (book before)) c.single.connection.hears x
 wanting_fails before c started n x link h e is =
     let b = book before in
     let l = b.link c.single.link in
@@ -243,7 +245,7 @@ wanting_fails before c started n x link h e is =
       must = ending_wanting (record l { heard = n }) s.up s.lacks ∙ is;
       info_is = h.sound.tied.setup.info_is;
       wanted_is = h.sound.tied.creds.wanted_is;
-      sourced = asked_sourced l s.sought.1;
+      sourced = asked_sourced (record l { heard = n }) s.sought.1 (inl (lacking_undecided (record l { heard = n }) s.lacks).unwell);
       sent = h.sound.tied.setup.sent;
       pushes = h.sound.tied.pushes;
     }
@@ -303,7 +305,7 @@ denied_fails before c started word kind n x link d h good k is e =
     let l = b.link c.single.link in
     let s = wanting_tied b (inner c started) link e h.sound.tied in
     setup_failed before c started word kind n x h good k is (wanting_unready b (inner c started) link e h.sound.tied)
-    (subst (λ (y : Ledger). Fails y c.single.connection.info c.single.connection.wants (is_heard b) c.single.connection.hears x) (sym (d.stays l c.turns))
+    (subst (λ (y : Ledger). Fails y c.single.connection.info c.single.connection.renewal.wanted (is_heard b) c.single.connection.hears x) (sym (d.stays l c.turns))
     (wanting_fails before c started n x link h e (d.ends (record l { heard = n }) ∙ taken_if (lacks_credentials l) (Some (by_opening x)) None s.lacks)))
 
 -- everything is shut down

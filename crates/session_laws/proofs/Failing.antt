@@ -29,16 +29,17 @@ use Rattle.session_laws.proofs.Numbers.{IsIn}
 use Rattle.session_laws.proofs.Tied.{AreSetups, IsUnknown, inner, link_in, no_link, TiedLines, Tied}
 use Rattle.session_laws.proofs.States.{Between, HasApplied}
 use Rattle.session_laws.proofs.Entered.{all_stand-append, shown_more}
-use Rattle.session_laws.proofs.Creds.{down_sourced, sources_asked}
+use Rattle.session_laws.proofs.Creds.{down_sourced}
 use Rattle.session_laws.proofs.Names.{get_some, name_of_some, open_within}
 use Rattle.session_laws.proofs.Owes.{in_time, not_empty, open_request, request_story, get_behind}
 use Rattle.session_laws.proofs.Kept.{mine_noted, others_kept}
 use Rattle.session_laws.proofs.Answer.{after_end, unknown_ends}
 use Rattle.session_laws.proofs.Settle.{seen, sound_act, trace_of_acts, Holds, book_of_more}
 use Rattle.session_laws.proofs.Close.{ended_applied, ended_waits, waiting_ends, waiting_leaves}
-use Rattle.session_laws.proofs.Announce.{turn_of, turned, IsNewsKind, first_book, heard_book, heard_is, heard_starts, heard_tied_by, may_turn, others_heard, uses_on}
+use Rattle.session_laws.proofs.Announce.{turn_of, turned, IsNewsKind, first_book, heard_book, heard_is, heard_starts, heard_tied_by, may_turn, others_heard, uses_on, counted_on, sources_hear, timed_hear}
 use Rattle.session_laws.proofs.Heard.{heard_by, book_kind, book_news}
-use Rattle.session_laws.proofs.Said.{PushesOf}
+use Rattle.session_laws.proofs.Said.{PushesOf, sources_asked}
+use Rattle.session_laws.proofs.Renewals.{renewal_ended}
 
 -- the failure is shown
 --
@@ -122,7 +123,7 @@ pub record IsUnready (created : ℕ) (life : Life) (started : List ℕ) : Type 0
 
 -- it is closed, and its opening has failed
 pub setup_fails : (before : List Action) (c : Core) (started : List ℕ) (word : ℕ) (kind : EventKind) (n : News) (x : RedisError) → Between before c started → is_bad c kind ≡ false → IsNewsKind c.timers kind → news_of c.timers c.sources c.single.link kind ≡ n
-    → IsUnready (book before).created c.single.connection.life started → Fails (heard_by (book before) c n) c.single.connection.info c.single.connection.wants (is_heard (book before)) c.single.connection.hears x
+    → IsUnready (book before).created c.single.connection.life started → Fails (heard_by (book before) c n) c.single.connection.info c.single.connection.renewal.wanted (is_heard (book before)) c.single.connection.hears x
     → IsFailing (trace_of_acts (before ++ turn_of c word kind ∷ []) (turned c kind) (act.Close ∷ [])) (turned c kind) (act.Close ∷ []) c.single.connection x started
 setup_fails before c started word kind n x h good k is u fails =
     let b = book before in
@@ -142,10 +143,12 @@ setup_fails before c started word kind n x h good k is u fails =
     let t = seen f (act.Close ∷ []) (record conn { life = Ended x }) [] started in
     let tied : Tied (entered (entered now close) (action.Created (Some x))) t = heard_tied_by b c started word (b.created + 1) kind conn.info (Ended x) conn.fresh [] [] links (noted l line) b.sources (c.sources ++ []) h0
     (others_kept now c.single.link line others) closed (h0.numbers.sources ∙ sym (append-nil c.sources)) (uses_on c.sources c.single.link h0.numbers.uses)
+    (counted_on c.sources (noted l line).creds (h0.count ∙ sym (sources_hear l0 c.turns n)))
     (record {
       starts = heard_starts l0 c.turns n;
       lived = (refl, ap (λ w. Some (outcome.Fault (unstarted_error (ending_or_shutdown w)))) fails.must, λ y shown z. absurd (omega arith));
       creds = record { wanted_is = fails.wanted_is; sought = tt };
+      renewal_is = renewal_ended l0 (noted l line) conn.renewal conn.life (timed_hear l0 c.turns n) (heard_starts l0 c.turns n) h0.renewal;
       said = record { info_is = fails.info_is; sent = fails.sent; said = tt };
       linked = λ z. cc;
       lines = subst (λ (y : LinkState). TiedLines b.story conn.requests y conn.waiting conn.admitted [] started) u.bare h0.lines;
@@ -187,7 +190,7 @@ setup_fails before c started word kind n x h good k is u fails =
 
 -- so the event has had its effect
 pub setup_failed : (before : List Action) (c : Core) (started : List ℕ) (word : ℕ) (kind : EventKind) (n : News) (x : RedisError) → Between before c started → is_bad c kind ≡ false → IsNewsKind c.timers kind → news_of c.timers c.sources c.single.link kind ≡ n
-    → IsUnready (book before).created c.single.connection.life started → Fails (heard_by (book before) c n) c.single.connection.info c.single.connection.wants (is_heard (book before)) c.single.connection.hears x
+    → IsUnready (book before).created c.single.connection.life started → Fails (heard_by (book before) c n) c.single.connection.info c.single.connection.renewal.wanted (is_heard (book before)) c.single.connection.hears x
     → HasApplied (before ++ turn_of c word kind ∷ []) (with_work (record { core = turned c kind; acts = [] }) (opening_failed (record { conn = c.single.connection; acts = act.Close ∷ [] }) x)) started
 setup_failed before c started word kind n x h good k is u fails =
     failing_applied (before ++ turn_of c word kind ∷ []) (turned c kind) (record { conn = c.single.connection; acts = act.Close ∷ [] }) x started (λ z. absurd (omega arith)) h.moved

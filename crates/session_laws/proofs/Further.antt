@@ -1,8 +1,8 @@
 -- One more submission, and perhaps one more request.
-use Rattle.std.proofs.Common.{◌≡◌, ◌≢◌, ◌⊎◌, ◌+◌, false, inl, inr, ℕ, zero, suc, ◌<◌, ◌≤◌, ◌==◌, nat_lt, Bool, true, List, [], ◌∷◌, ◌++◌, length, Option, Some, None, slice_get, refl, sym, ap, ◌∙◌, subst, arith, length-append}
+use Rattle.std.proofs.Common.{◌≡◌, ◌≢◌, ◌⊎◌, ◌+◌, false, inl, inr, ℕ, zero, suc, ◌<◌, ◌≤◌, ◌==◌, nat_lt, Bool, true, List, [], ◌∷◌, ◌++◌, length, Option, Some, None, slice_get, refl, sym, ap, ◌∙◌, subst, arith, length-append, ◌^◌}
 use Rattle.std.specs.List.{AllByRecursion}
 use Rattle.containers.proofs.Places.{get_within}
-use Rattle.containers.proofs.Choices.{by_test, chosen, not_both, eq_from, ne_from, lt_from, not_lt_from}
+use Rattle.containers.proofs.Choices.{by_test, chosen, not_both, eq_from, ne_from, lt_from, not_lt_from, taken_if}
 use Rattle.driver_model.specs.declared.action.Owner.TheVariants as owner
 use Rattle.driver_model.specs.declared.outcome.Shape.{Shape}
 use Rattle.link_core.specs.declared.message.Entry.{Entry}
@@ -20,6 +20,7 @@ use Rattle.link_core.specs.Link.{LinkState}
 use Rattle.link_laws.specs.Settles.{awaited_ids}
 use Rattle.legal_trace.specs.Ledger.{Ledger, setup_count}
 use Rattle.legal_trace.specs.Story.{Story, is_told, shape}
+use Rattle.mux_conn.specs.Renewals.{renewal_id}
 use Rattle.session_laws.proofs.Numbers.{IsIn, Rising}
 use Rattle.session_laws.proofs.Tied.{carried, link_in, no_link, owner_of, owners_each, queue_ids, setup_owners, waiting_ids, whole_link, IsRequest, TiedStory, TiedTries, TiedNames, IsOf, IsQueued, IsEntry, IsPacked, AreQueued, AreLate, shown_wait, TiedWaits, TiedPermits}
 use Rattle.session_laws.proofs.Permits.{held_same}
@@ -27,7 +28,7 @@ use Rattle.legal_trace.specs.Steps.{is_let_in, permits_held, permits_on}
 use Rattle.driver_model.specs.declared.action.WaitKind.{WaitKind}
 use Rattle.driver_model.specs.declared.action.WaitKind.TheVariants as wait
 use Rattle.session_laws.proofs.Closing.{IsUntried, one_of}
-use Rattle.session_laws.proofs.Names.{name_within}
+use Rattle.session_laws.proofs.Names.{name_within, owner_below}
 
 -- nothing stands beyond the end
 pub get_beyond : {X : Type 0} (xs : List X) (n : ℕ) → length xs ≤ n → slice_get xs n ≡ None
@@ -119,18 +120,24 @@ further_story table story after requests more link x names same longer h new n =
 -- the tries
 --
 -- the owners of starts stay
-owners_longer : (requests more : List Request) (started : List ℕ) → IsLonger requests more → ((p : ℕ) → IsIn p started → p < length requests) → owners_each more started ≡ owners_each requests started
+owner_longer : (requests more : List Request) (p : ℕ) → IsLonger requests more → (p ≢ renewal_id → p < length requests) → owner_of more p ≡ owner_of requests p
+owner_longer requests more p longer within = by_test (p == renewal_id) _
+    (λ t. taken_if (p == renewal_id) owner.Auth (owner.Try (name_at more p) 0) t ∙ sym (taken_if (p == renewal_id) owner.Auth (owner.Try (name_at requests p) 0) t))
+    (λ f. let other = ne_from p renewal_id f in owner_below more p other ∙ ap (λ n. owner.Try n 0) (name_longer requests more p longer (within other)) ∙ sym (owner_below requests p other))
+
+-- of all starts
+owners_longer : (requests more : List Request) (started : List ℕ) → IsLonger requests more → ((p : ℕ) → p ≢ renewal_id → IsIn p started → p < length requests) → owners_each more started ≡ owners_each requests started
 owners_longer requests more [] longer within = refl
-owners_longer requests more (p ∷ ps) longer within = (λ i. owner.Try (name_longer requests more p longer (within p (inl refl)) i) 0 ∷ owners_longer requests more ps longer (λ q j. within q (inr j)) i)
+owners_longer requests more (p ∷ ps) longer within = (λ i. owner_longer requests more p longer (λ other. within p other (inl refl)) i ∷ owners_longer requests more ps longer (λ q other j. within q other (inr j)) i)
 
 -- and so do the tries
 pub tries_longer : (table : List (Option Pending)) (l : Ledger) (story after : ℕ → Story) (requests more : List Request) (link : ℕ) (started : List ℕ) → TiedNames table requests → SameBefore story after (length table) → IsLonger requests more
-    → ((p : ℕ) → IsIn p started → p < length requests) → ((k p : ℕ) → slice_get started k ≡ Some p → p < length requests) → ((p : ℕ) (r : Request) → slice_get more p ≡ Some r → length requests ≤ p → (after r.name).tries ≡ [])
+    → length more ≤ 2 ^ 32 → ((p : ℕ) → p ≢ renewal_id → IsIn p started → p < length requests) → ((k p : ℕ) → p ≢ renewal_id → slice_get started k ≡ Some p → p < length requests) → ((p : ℕ) (r : Request) → slice_get more p ≡ Some r → length requests ≤ p → (after r.name).tries ≡ [])
     → TiedTries l story requests link started → TiedTries l after more link started
-tries_longer table l story after requests more link started names same longer within at new h = record {
+tries_longer table l story after requests more link started names same longer few within at new h = record {
   owners = h.owners ∙ ap (setup_owners (setup_count l.starts)) (sym (owners_longer requests more started longer within));
-  shapes = λ k p s i j. h.shapes k p s i j ∙ ap shape (sym (story_at table story after requests more p names same longer (at k p i)));
-  tried = λ k p i. ap (λ (s : Story). s.tries) (story_at table story after requests more p names same longer (at k p i)) ∙ h.tried k p i;
+  shapes = λ k p s inside i j. let was = at k p (numbered p inside) i in h.shapes k p s was i j ∙ ap shape (sym (story_at table story after requests more p names same longer was));
+  tried = λ k p inside i. let was = at k p (numbered p inside) i in ap (λ (s : Story). s.tries) (story_at table story after requests more p names same longer was) ∙ h.tried k p was i;
   untried = λ p r i out. before_or_new requests more p ((after r.name).tries ≡ [])
       (λ old.
       let was : slice_get requests p ≡ Some r = sym (longer.same p old) ∙ i in
@@ -138,6 +145,9 @@ tries_longer table l story after requests more link started names same longer wi
       ap (λ (s : Story). s.tries) (same r.name (λ e. absurd (omega arith))) ∙ h.untried p r was out)
       (λ past. new p r i past);
 }
+  where
+    numbered : (p : ℕ) → p < length more → p ≢ renewal_id
+    numbered p inside e = omega (arith, e, inside, few)
 
 -- the lines
 --
@@ -177,14 +187,17 @@ packs_longer table story after requests more (w ∷ ws) names same longer within
 pub entries_longer : (requests more : List Request) (row : List Entry) → IsLonger requests more → AllByRecursion (IsEntry requests) row → AllByRecursion (IsEntry more) row
 entries_longer requests more [] longer all = tt
 entries_longer requests more (e ∷ es) longer all = (
-  record { below = (let l = all.0.below in let m = longer.long in omega arith); placed_at = λ t. there_longer is_placed requests more e.id longer all.0.below ∙ all.0.placed_at t },
+  elim all.0 [
+    | inl r ↦ inl (record { below = (let l = r.below in let m = longer.long in omega arith); placed_at = λ t. there_longer is_placed requests more e.id longer r.below ∙ r.placed_at t })
+    | inr a ↦ inr a
+  ],
   entries_longer requests more es longer all.1,
 )
 
 -- the owners of a row's messages are the same
 pub owners_of_row : (requests more : List Request) (row : List Entry) → IsLonger requests more → AllByRecursion (IsEntry requests) row → SameNames (owner_of requests) (owner_of more) row
 owners_of_row requests more [] longer all = tt
-owners_of_row requests more (e ∷ es) longer all = (sym (λ i. owner.Try (name_longer requests more e.id longer all.0.below i) 0), owners_of_row requests more es longer all.1)
+owners_of_row requests more (e ∷ es) longer all = (sym (owner_longer requests more e.id longer (λ other. elim all.0 [ inl r ↦ r.below | inr a ↦ absurd (other a.is) ])), owners_of_row requests more es longer all.1)
 
 -- so the link is tied
 pub link_longer : (l : Ledger) (requests more : List Request) (life : Life) → IsLonger requests more → AllByRecursion (IsEntry requests) (link_in life).row → TiedLink (carried life requests) l (whole_link life) → TiedLink (carried life more) l (whole_link life)
@@ -264,6 +277,9 @@ waits_longer table story after requests more life fresh later moved names same l
       no_creds = λ p link i w r. no_wait (shown_wait after more p) wait.Creds (next.shown p w (next.only p i)).0;
       no_setup = λ p link u i w r. no_wait (shown_wait after more p) wait.Setup (next.shown p w (next.only p i)).0;
       no_permit = λ p link i w r. no_wait (shown_wait after more p) wait.Permit (next.shown p w (next.only p i)).0;
+      seatless = λ p a. before_or_new requests more p _
+          (λ old e. h.seatless p (sym (there_longer is_admitted requests more p longer old) ∙ a) (sym (still p old) ∙ e))
+          (λ past. absurd (next.none p (inl a) past));
       no_place = λ p i a. before_or_new requests more p _
           (λ old e. h.no_place p i (sym (there_longer is_admitted requests more p longer old) ∙ a) (sym (still p old) ∙ e))
           (λ past. absurd (next.none p (inl a) past));

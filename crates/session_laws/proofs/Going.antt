@@ -1,45 +1,55 @@
 -- A session whose event has had its own effect, while requests are moved.
-use Rattle.std.proofs.Common.{List, None, Option, Some, [], ap, arith, false, inl, inr, length, refl, subst, sym, true, ℕ, ◌++◌, ◌<◌, ◌∙◌, ◌∷◌, ◌≡◌, ◌⊎◌}
-use Rattle.std.specs.Prelude.{Bool, if◌then◌else◌, ◌==◌}
+use Rattle.std.proofs.Common.{◌+◌, ◌≤◌, List, None, Option, Some, [], ap, arith, false, inl, inr, length, refl, subst, sym, true, ℕ, ◌++◌, ◌<◌, ◌∙◌, ◌∷◌, ◌≡◌, ◌⊎◌}
+use Rattle.std.specs.Prelude.{Bool, if◌then◌else◌, is_some, ◌==◌}
 use Rattle.containers.proofs.Choices.{by_test, chosen, eq_from, left_if, ne_from, not_both}
 use Rattle.redis_error.specs.declared.redis_error.RedisError.{RedisError}
+use Rattle.credentials.specs.Credentials.{Credentials}
 use Rattle.driver_model.specs.declared.action.Action.{Action}
 use Rattle.driver_model.specs.declared.action.Owner.TheVariants as owner
 use Rattle.driver_model.specs.declared.action.WaitKind.TheVariants as wait
-use Rattle.link_core.specs.Link.{LinkState, holds_back, is_full}
+use Rattle.link_core.specs.Link.{LinkState, holds_back, is_full_beside}
 use Rattle.link_laws.proofs.TiedLink.{TiedLink}
-use Rattle.mux_conn.specs.Connection.{has_no_permit, is_ready}
+use Rattle.mux_conn.specs.Connection.{has_no_permit, in_front, is_due as is_renewal_due, is_ready}
 use Rattle.mux_conn.specs.Effects.{setup_queued}
 use Rattle.mux_conn.specs.Requests.{name_at}
+use Rattle.mux_conn.specs.declared.renewal.Renewal.{Renewal}
 use Rattle.mux_conn.specs.declared.life.Life.{Life}
 use Rattle.mux_conn.specs.declared.life.Life.TheVariants.{Dialing, Ended, Ready, SettingUp, Wanting}
 use Rattle.legal_trace.specs.Book.{Book, blank_book, book, entered, if_mine}
-use Rattle.legal_trace.specs.Ledger.{Ledger, Line, dials, ending, is_set_up, lacks_credentials, noted, noted_each, setup_count, setup_due, setup_steps}
-use Rattle.legal_trace.specs.Legal.{AllStand, CanMove, IsApplied, IsBegun, IsFirstToMove, IsMoved, MayStand, NoneEnds, SetupsAreStarted}
+use Rattle.legal_trace.specs.Ledger.{Ledger, Line, dials, ending, is_set_up, lacks_credentials, noted, noted_each, renewal_count, renewal_due, renewals_asked, setup_count, setup_due, setup_steps}
+use Rattle.legal_trace.specs.Legal.{AllStand, CanMove, IsApplied, IsBegun, IsFirstToMove, IsMoved, MayStand, NoneEnds, RenewalsAreStarted, RenewalsAreTimed, SetupsAreStarted}
 use Rattle.legal_trace.specs.Steps.{Step, is_due, is_held_back, next_step, nothing, starts_or_waits, step_ready, unready_wait, waits}
-use Rattle.session_laws.proofs.Ahead.{IsRunning, creds_step, full_step, held_by, permit_step, queue_step, ready_alive, running_of, setup_step}
+use Rattle.session_laws.proofs.Ahead.{HasSeats, IsRunning, creds_step, full_step, held_by, permit_step, queue_step, ready_alive, running_of, setup_step}
 use Rattle.session_laws.proofs.Behind.{alive_behind}
-use Rattle.session_laws.proofs.Creds.{lacking_undue, sources_asked, wanting_lacks}
+use Rattle.session_laws.proofs.Creds.{lacking_undue, wanting_lacks}
 use Rattle.session_laws.proofs.Entered.{book_more, sound_more}
 use Rattle.session_laws.proofs.InLine.{first_is_least, kept_ids, kept_in}
 use Rattle.session_laws.proofs.Moves.{IsLater, later_of, unstarted_alive}
 use Rattle.session_laws.proofs.Names.{earlier_name}
-use Rattle.session_laws.proofs.Numbers.{IsIn, Rising, in_left, in_right, rising_in, rising_right}
+use Rattle.session_laws.proofs.Numbers.{IsIn, Rising, in_left, in_right, rising_in, rising_right, requests_in}
 use Rattle.session_laws.proofs.Owes.{created_is, ends_told, none_open, none_owed, pushes_told}
+use Rattle.session_laws.proofs.Renewals.{all_timed, down_renewed_due, due_is, none_renewed_due}
+use Rattle.session_laws.proofs.Said.{sources_asked}
 use Rattle.session_laws.proofs.SetUp.{down_undue, none_due, sent_undue, set_up_undue}
 use Rattle.session_laws.proofs.States.{IsFit}
-use Rattle.session_laws.proofs.Tied.{AreSought, HasSaid, Inner, IsSetUp, Sound, Tied, TiedLife, carried, has_ended, link_in, queue_ids, waiting_ids, whole_link, IsToldIn}
+use Rattle.session_laws.proofs.Tied.{AreSought, HasSaid, Inner, IsSetUp, Sound, Tied, TiedLife, TiedRenewal, carried, has_ended, link_in, owner_of, queue_ids, AreRenewed, waiting_ids, whole_link, IsToldIn}
 
--- nothing must end
+-- where new credentials are to be told on a link that is set up, their timer was asked for, and the link is held back
+abbrev pub HasRenewed : Renewal → Life → Type 0
+HasRenewed r life = (link : LinkState) → life ≡ Ready link → is_renewal_due r ≡ true → (r.pending ≡ true) × (holds_back link ≡ true)
+
+-- nothing must end, and all new credentials are told that may be
 pub record IsGoing (trace : List Action) (t : Inner) : Type 0 where
   pub sound : Sound trace t
   pub ended : NoneEnds (book trace)
+  pub renewed : HasRenewed t.renewal t.life
 
 -- one more action that may stand
-pub going_more : (trace : List Action) (a : Action) (t : Inner) → AllStand blank_book trace → MayStand (book trace) a → Tied (entered (book trace) a) t → NoneEnds (entered (book trace) a) → IsGoing (trace ++ a ∷ []) t
-going_more trace a t stands may tied none = record {
+pub going_more : (trace : List Action) (a : Action) (t : Inner) → AllStand blank_book trace → MayStand (book trace) a → Tied (entered (book trace) a) t → NoneEnds (entered (book trace) a) → HasRenewed t.renewal t.life → IsGoing (trace ++ a ∷ []) t
+going_more trace a t stands may tied none renewed = record {
   sound = sound_more trace a t stands may tied;
   ended = subst NoneEnds (sym (book_more trace a)) none;
+  renewed = renewed;
 }
 
 -- the event has had its effect, while nothing is to be answered and the link has not ended
@@ -72,11 +82,81 @@ setups_started b t h mine m k due = by_test (m == t.link) _
 ready_not_setting : (life : Life) (link : LinkState) (with_user : Bool) → is_ready life ≡ true → life ≡ SettingUp link with_user → ⊥
 ready_not_setting life link with_user r e = not_both (is_ready life) (ap is_ready e) r
 
+-- new credentials
+--
+-- so as many were to be told as were
+pub undue_asked : (l : Ledger) → renewal_due l ≡ None → renewals_asked l ≡ renewal_count l.starts
+undue_asked l none =
+    let same : renewal_count l.starts + 0 ≡ renewal_count l.starts = omega arith in
+    ap (λ (x : Option Credentials). renewal_count l.starts + (if is_some x then 1 else 0)) none ∙ same
+
+-- all new credentials have their timers that were to be told so far
+pub renewals_timed : (b : Book) (t : Inner) → Tied b t → ((link : LinkState) → t.life ≡ Ready link → is_renewal_due t.renewal ≡ true → t.renewal.pending ≡ true) → RenewalsAreTimed b
+renewals_timed b t h asked m some = by_test (m == t.link) _
+    (λ same. subst (λ n. renewals_asked (b.link n) ≤ (b.link n).creds.timed) (sym (eq_from m t.link same)) (by_life t.life refl))
+    (λ other.
+    let u = h.others m (ne_from m t.link other) in
+    let k = undue_asked (b.link m) (down_renewed_due (b.link m) u.up) in
+    let none : renewal_count (b.link m).starts ≡ 0 = ap renewal_count u.starts in
+    omega arith)
+  where
+    l : Ledger
+    l = b.link t.link
+
+    by_within : (within : Option ℕ) → t.renewal.within ≡ within → AreRenewed l t.renewal → l.up ≡ true → (link : LinkState) → t.life ≡ Ready link → renewals_asked l ≤ l.creds.timed
+    by_within None e r up link life = absurd (some (h.numbers.within ∙ e))
+    by_within (Some ms) e r up link life = all_timed l t.renewal ms up r e (asked link life)
+
+    by_life : (life : Life) → t.life ≡ life → renewals_asked l ≤ l.creds.timed
+    by_life Dialing e =
+        let k = undue_asked l (down_renewed_due l (subst (TiedLife l b.created) e h.life).1) in
+        let none : renewal_count l.starts ≡ 0 = ap renewal_count (subst (HasSaid l t.started) e h.setup.said).0 in
+        omega arith
+    by_life (Wanting link) e =
+        let r = subst (TiedRenewal l t.renewal) e h.renewal in
+        let k = undue_asked l (none_renewed_due l t.renewal r) in
+        omega (arith, r.unstarted)
+    by_life (SettingUp link with_user) e =
+        let r = subst (TiedRenewal l t.renewal) e h.renewal in
+        let k = undue_asked l (none_renewed_due l t.renewal r) in
+        omega (arith, r.unstarted)
+    by_life (Ready link) e =
+        let r = subst (TiedRenewal l t.renewal) e h.renewal in
+        let up = (subst (TiedLife l b.created) e h.life).1 in
+        by_within t.renewal.within refl r up link e
+    by_life (Ended x) e =
+        let k = undue_asked l (down_renewed_due l (subst (TiedLife l b.created) e h.life).0) in
+        let kept = (subst (TiedRenewal l t.renewal) e h.renewal).0 (λ none. some (h.numbers.within ∙ none)) in
+        omega arith
+
+-- and those that are to be told next wait for their link, which is held back
+renewals_started : (b : Book) (t : Inner) → Tied b t → ((link : LinkState) → t.life ≡ Ready link → link.boundary ≡ t.bound) → HasRenewed t.renewal t.life → RenewalsAreStarted b
+renewals_started b t h bound renewed m c due = by_test (m == t.link) _
+    (λ same. subst (λ n. is_held_back b (b.link n) ≡ true) (sym (eq_from m t.link same)) (by_life t.life refl (subst (λ n. renewal_due (b.link n) ≡ Some c) (eq_from m t.link same) due)))
+    (λ other. absurd (no_due (b.link m) (down_renewed_due (b.link m) (h.others m (ne_from m t.link other)).up) due))
+  where
+    no_due : (l : Ledger) → renewal_due l ≡ None → renewal_due l ≡ Some c → ⊥
+    no_due l none some = let no : ◌≡◌ {A = Option Credentials} None (Some c) = sym none ∙ some in cc
+
+    by_life : (life : Life) → t.life ≡ life → renewal_due (b.link t.link) ≡ Some c → is_held_back b (b.link t.link) ≡ true
+    by_life Dialing e d = absurd (no_due (b.link t.link) (down_renewed_due (b.link t.link) (subst (TiedLife (b.link t.link) b.created) e h.life).1) d)
+    by_life (Wanting link) e d = let r = subst (TiedRenewal (b.link t.link) t.renewal) e h.renewal in absurd (no_due (b.link t.link) (none_renewed_due (b.link t.link) t.renewal r) d)
+    by_life (SettingUp link with_user) e d = let r = subst (TiedRenewal (b.link t.link) t.renewal) e h.renewal in absurd (no_due (b.link t.link) (none_renewed_due (b.link t.link) t.renewal r) d)
+    by_life (Ready link) e d =
+        let l = b.link t.link in
+        let r = subst (TiedRenewal l t.renewal) e h.renewal in
+        let tied : TiedLink (owner_of t.requests) l link = subst (λ (x : Life). TiedLink (carried x t.requests) l (whole_link x)) e (h.link (ap has_ended e)) in
+        let is : is_renewal_due t.renewal ≡ true = sym (due_is l t.renewal (subst (TiedLife l b.created) e h.life).1 r) ∙ ap is_some d in
+        held_by b t (owner_of t.requests) link h.numbers (bound link e) tied ∙ (renewed link e is).1
+    by_life (Ended x) e d = absurd (no_due (b.link t.link) (down_renewed_due (b.link t.link) (subst (TiedLife (b.link t.link) b.created) e h.life).0) d)
+
 -- so on a link that is up requests may be moved
-pub begun_up : (b : Book) (t : Inner) → Tied b t → t.pending ≡ [] → IsToldIn t → is_ready t.life ≡ true → NoneEnds b → IsBegun b
-begun_up b t h none told ready ended = record {
-  applied = applied_up b t h none told (ready_alive t.life ready) ended;
-  setups = setups_started b t h (λ link with_user e. absurd (ready_not_setting t.life link with_user ready e));
+pub begun_up : (b : Book) (t : Inner) → Tied b t → IsRunning t → IsToldIn t → NoneEnds b → HasRenewed t.renewal t.life → IsBegun b
+begun_up b t h r told ended renewed = record {
+  applied = applied_up b t h r.settled told (ready_alive t.life r.up) ended;
+  setups = setups_started b t h (λ link with_user e. absurd (ready_not_setting t.life link with_user r.up e));
+  timed = renewals_timed b t h (λ link e due. (renewed link e due).0);
+  renewed = renewals_started b t h (λ link e. ap (λ (x : Life). (link_in x).boundary) (sym e) ∙ r.fit.bound_is) renewed;
 }
 
 -- or none waits
@@ -117,7 +197,7 @@ pub first_in_queue : (b : Book) (t : Inner) (q : ℕ) (rest : List ℕ) → Tied
 first_in_queue b t q rest h r first n before m =
     let kept = kept_ids t.admitted t.waiting in
     let l = moves_later b t n h r m in
-    let all = rising_right 0 t.started (queue_ids (link_in t.life).queue ++ kept) (length t.requests) h.lines.line in
+    let all = rising_right 0 (requests_in t.started) (queue_ids (link_in t.life).queue ++ kept) (length t.requests) h.lines.line in
     let line = subst (λ ns. Rising 0 (ns ++ kept) (length t.requests)) first all in
     let at = subst (λ ns. IsIn l.p (ns ++ kept)) first (later_in t n l) in
     let within = rising_in 0 (q ∷ (rest ++ kept)) (length t.requests) q line (inl refl) in
@@ -139,7 +219,7 @@ first_behind b t q rest h r still first n before m =
     let ids = queue_ids (link_in t.life).queue in
     let kept = kept_ids t.admitted t.waiting in
     let l = moves_later b t n h r m in
-    let all = rising_right 0 ids kept (length t.requests) (rising_right 0 t.started (ids ++ kept) (length t.requests) h.lines.line) in
+    let all = rising_right 0 ids kept (length t.requests) (rising_right 0 (requests_in t.started) (ids ++ kept) (length t.requests) h.lines.line) in
     let line = subst (λ ns. Rising 0 ns (length t.requests)) first all in
     let within = rising_in 0 (q ∷ rest) (length t.requests) q line (inl refl) in
     let earlier = earlier_name t.table t.requests l.p q h.names l.within within.1 (subst (λ x. x < name_at t.requests q) (sym l.name) before) in
@@ -199,7 +279,7 @@ setting_done b t link with_user h e fit held =
     ]
 
 -- on a link that is up what is in the queue is held back, those that wait for a place find it full, and the others no permit
-up_moves_none : (b : Book) (t : Inner) → Tied b t → IsRunning t → t.letting ≡ [] → ((link_in t.life).queue ≡ []) ⊎ (holds_back (link_in t.life) ≡ true) → (t.admitted ≡ []) ⊎ (is_full (link_in t.life) ≡ true)
+up_moves_none : (b : Book) (t : Inner) → Tied b t → IsRunning t → t.letting ≡ [] → ((link_in t.life).queue ≡ []) ⊎ (holds_back (link_in t.life) ≡ true) → (t.admitted ≡ []) ⊎ (is_full_beside (link_in t.life) (in_front t.renewal) ≡ true)
     → (t.waiting ≡ []) ⊎ (has_no_permit t.limit t.free ≡ true) → (n : ℕ) → CanMove b n → ⊥
 up_moves_none b t h r nobody still full none n m =
     let l = moves_later b t n h r m in
@@ -220,40 +300,49 @@ up_moves_none b t h r nobody still full none n m =
 
 -- where nothing is to be answered, nothing must end, and nothing moves
 pub is_moved : (b : Book) (t : Inner) → Tied b t → t.pending ≡ [] → IsToldIn t → t.letting ≡ [] → NoneEnds b → ((link : LinkState) → t.life ≡ Ready link → IsFit t.size t.bound link) → (((link : LinkState) → t.life ≡ Ready link → ⊥) → t.admitted ≡ [])
-    → ((link : LinkState) → t.life ≡ Ready link → (link.queue ≡ []) ⊎ (holds_back link ≡ true)) → ((link : LinkState) → t.life ≡ Ready link → (t.admitted ≡ []) ⊎ (is_full link ≡ true))
+    → ((link : LinkState) → t.life ≡ Ready link → (link.queue ≡ []) ⊎ (holds_back link ≡ true)) → ((link : LinkState) → t.life ≡ Ready link → (t.admitted ≡ []) ⊎ (is_full_beside link (in_front t.renewal) ≡ true))
     → ((link : LinkState) → t.life ≡ Ready link → (t.waiting ≡ []) ⊎ (has_no_permit t.limit t.free ≡ true)) → (has_ended t.life ≡ true → t.waiting ≡ [])
-    → ((link : LinkState) (with_user : Bool) → t.life ≡ SettingUp link with_user → IsFit t.size t.bound link) → ((link : LinkState) (with_user : Bool) → t.life ≡ SettingUp link with_user → (link.queue ≡ []) ⊎ (holds_back link ≡ true)) → IsMoved b
-is_moved b t h none told alone ends fit nobody held full stuck gone setup_fit setup_held = by_life t.life refl
+    → ((link : LinkState) (with_user : Bool) → t.life ≡ SettingUp link with_user → IsFit t.size t.bound link) → ((link : LinkState) (with_user : Bool) → t.life ≡ SettingUp link with_user → (link.queue ≡ []) ⊎ (holds_back link ≡ true))
+    → HasSeats t.moved (in_front t.renewal) (link_in t.life) t.size → HasRenewed t.renewal t.life → IsMoved b
+is_moved b t h none told alone ends fit nobody held full stuck gone setup_fit setup_held seats renewed = by_life t.life refl
   where
     setups : SetupsAreStarted b
     setups = setups_started b t h (λ link with_user e. setting_done b t link with_user h e (setup_fit link with_user e) (setup_held link with_user e))
 
+    timed : RenewalsAreTimed b
+    timed = renewals_timed b t h (λ link e due. (renewed link e due).0)
+
+    told_all : RenewalsAreStarted b
+    told_all = renewals_started b t h (λ link e. (fit link e).bound_is) renewed
+
     by_life : (life : Life) → t.life ≡ life → IsMoved b
     by_life Dialing e = record {
-      begun = record { applied = applied_up b t h none told (ap has_ended e) ends; setups = setups };
+      begun = record { applied = applied_up b t h none told (ap has_ended e) ends; setups = setups; timed = timed; renewed = told_all };
       moved = down_moves_none b t h (dialing_down (b.link t.link) b.created t.life e h.life);
     }
     by_life (Wanting link) e = record {
-      begun = record { applied = applied_up b t h none told (ap has_ended e) ends; setups = setups };
+      begun = record { applied = applied_up b t h none told (ap has_ended e) ends; setups = setups; timed = timed; renewed = told_all };
       moved = wanting_moves_none b t link h e;
     }
     by_life (SettingUp link with_user) e = record {
-      begun = record { applied = applied_up b t h none told (ap has_ended e) ends; setups = setups };
+      begun = record { applied = applied_up b t h none told (ap has_ended e) ends; setups = setups; timed = timed; renewed = told_all };
       moved = setting_moves_none b t link with_user h e;
     }
     by_life (Ready link) e =
         let here : link_in t.life ≡ link = ap link_in e in
         record {
-          begun = record { applied = applied_up b t h none told (ap has_ended e) ends; setups = setups };
-          moved = up_moves_none b t h (running_of t link none e (fit link e)) alone
+          begun = record { applied = applied_up b t h none told (ap has_ended e) ends; setups = setups; timed = timed; renewed = told_all };
+          moved = up_moves_none b t h (running_of t link none e (fit link e) (subst (λ (x : LinkState). HasSeats t.moved (in_front t.renewal) x t.size) here seats)) alone
               (subst (λ (x : LinkState). (x.queue ≡ []) ⊎ (holds_back x ≡ true)) (sym here) (held link e))
-              (subst (λ (x : LinkState). (t.admitted ≡ []) ⊎ (is_full x ≡ true)) (sym here) (full link e))
+              (subst (λ (x : LinkState). (t.admitted ≡ []) ⊎ (is_full_beside x (in_front t.renewal) ≡ true)) (sym here) (full link e))
               (stuck link e);
         }
     by_life (Ended x) e = record {
       begun = record {
         applied = applied_over b t x h none told e (λ i. kept_ids (nobody (λ link r. (let no : Ended x ≡ Ready link = sym e ∙ r in cc)) i) (gone (ap has_ended e) i)) ends;
         setups = setups;
+        timed = timed;
+        renewed = told_all;
       };
       moved = down_moves_none b t h (subst (λ (x : Life). TiedLife (b.link t.link) b.created x) e h.life).0;
     }

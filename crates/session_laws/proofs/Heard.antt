@@ -1,5 +1,5 @@
 -- The turn of an event with news: how it begins, and where no act follows.
-use Rattle.std.proofs.Common.{◌≡◌, ◌≢◌, ℕ, ◌==◌, false, ◌&&◌, not, List, [], ◌∷◌, ◌++◌, Option, None, refl, sym, ap, ◌∙◌, subst, arith, Bool, true, ◌⊎◌, inr}
+use Rattle.std.proofs.Common.{◌≡◌, ◌≢◌, ℕ, ◌==◌, false, ◌&&◌, not, List, [], ◌∷◌, ◌++◌, Option, None, refl, sym, ap, ◌∙◌, subst, arith, Bool, true, ◌⊎◌, inr, inl}
 use Rattle.containers.proofs.Choices.{by_test, chosen, if_false, left_if, eq_from, ne_from, not_both}
 use Rattle.redis_error.specs.declared.redis_error.RedisError.TheVariants as error
 use Rattle.redis_error.specs.declared.redis_error.RedisError.{RedisError}
@@ -7,7 +7,7 @@ use Rattle.driver_model.specs.declared.action.Action.{Action}
 use Rattle.connection_info.specs.declared.address.RedisConnectionInfo.{RedisConnectionInfo}
 use Rattle.driver_model.specs.declared.action.Purpose.{Purpose}
 use Rattle.driver_model.specs.declared.event.EventKind.{EventKind}
-use Rattle.driver_model.specs.News.{News, silence, connected, took, came, failed, authorized, denied, deserted, shut, news_of, refused, overdue}
+use Rattle.driver_model.specs.News.{News, silence, connected, took, came, failed, authorized, denied, deserted, shut, news_of, refused, overdue, renewed, unrenewed, late}
 use Rattle.driver_model.specs.declared.outcome.Outcome.TheVariants as outcome
 use Rattle.link_core.specs.Link.{LinkState}
 use Rattle.link_laws.proofs.TiedLink.{TiedLink, told_tied, unheard_tied}
@@ -17,17 +17,19 @@ use Rattle.mux_conn.specs.declared.life.Life.{Life}
 use Rattle.mux_conn.specs.declared.life.Life.TheVariants.{Dialing, Wanting, SettingUp, Ready, Ended}
 use Rattle.shared_session.specs.declared.core_state.Core.{Core}
 use Rattle.shared_session.specs.Turn.{with_work, is_bad}
-use Rattle.legal_trace.specs.Ledger.{Ledger, Ending, Sourced, hears, noted, ending, ending_alive, ending_asked, is_over, bytes_came, dials, refused_in}
+use Rattle.legal_trace.specs.Ledger.{Ledger, Ending, Sourced, hears, noted, ending, ending_alive, ending_asked, is_over, bytes_came, dials, refused_in, authorized_by, awaits_credentials, is_renewal_open, lost_by, may_renew, renewed_by, unrenewed_by, renewal_count}
 use Rattle.legal_trace.specs.Book.{Book, book, entered}
 use Rattle.legal_trace.specs.Story.{Story}
 use Rattle.legal_trace.specs.Legal.{NoneEnds, is_heard}
 use Rattle.session_laws.proofs.Said.{mild_end, setup_on, setup_unheard, BringsNothing, PushesOf, pushes_hear}
-use Rattle.session_laws.proofs.Creds.{creds_hear, down_unawaited, unawaited_is}
-use Rattle.session_laws.proofs.Tied.{Inner, inner, link_in, carried, whole_link, TiedCreds, TiedLife, TiedSetup, TiedLines, AreQueued, TiedWaits, Tied, has_ended}
+use Rattle.session_laws.proofs.Creds.{creds_hear, down_unawaited, unawaited_is, down_may_renew, IsOfRenewals}
+use Rattle.session_laws.proofs.Tied.{Inner, inner, link_in, carried, whole_link, TiedCreds, TiedLife, TiedSetup, TiedLines, AreQueued, TiedWaits, Tied, has_ended, TiedRenewal, NoneRenewed}
 use Rattle.session_laws.proofs.States.{IsFit, IsFitIn, Between, HasApplied}
 use Rattle.session_laws.proofs.Answer.{unknown_ends, not_up_ends, over_not_asked, some_end}
 use Rattle.session_laws.proofs.Settle.{seen, trace_of_acts, Holds}
 use Rattle.session_laws.proofs.Announce.{ComesTo, comes_as, turn_of, turned, IsNewsKind, heard_book, heard_is, heard_starts, heard_tied, announced_sound, holds_first, first_book}
+use Rattle.session_laws.proofs.Renewals.{renewal_alike}
+use Rattle.mux_conn.specs.declared.renewal.Renewal.{Renewal}
 
 -- what a turn of news does to the ledger of the connection's link
 abbrev pub heard_by : Book → Core → News → Ledger
@@ -52,7 +54,8 @@ pub record Begins (before : List Action) (f : Core) (conn : MultiplexedConnectio
 -- what the turn of news needs of the life that it leads to
 pub record Leads (b : Book) (c : Core) (n : News) (life : Life) (pending started : List ℕ) : Type 0 where
   pub lived : TiedLife (heard_by b c n) b.created life
-  pub creds : TiedCreds (heard_by b c n).creds c.single.connection.wants life
+  pub creds : TiedCreds (heard_by b c n).creds c.single.connection.renewal.wanted life
+  pub renewal_is : TiedRenewal (heard_by b c n) c.single.connection.renewal life
   pub said : TiedSetup (heard_by b c n) c.single.connection.info started life
   pub linked : has_ended life ≡ false → TiedLink (carried life c.single.connection.requests) (heard_by b c n) (whole_link life)
   pub lines : TiedLines b.story c.single.connection.requests (link_in life) c.single.connection.waiting c.single.connection.admitted pending started
@@ -90,7 +93,7 @@ pub heard_begins : (before : List Action) (c : Core) (started : List ℕ) (word 
     → Leads (book before) c n life pending started → Begins (before ++ turn_of c word kind ∷ []) (turned c kind) (lives_as c life) (heard_by (book before) c n) (book before).story pending started
 heard_begins before c started word kind n life pending h good k is g =
     let s = fresh_begins before c started word kind n c.single.connection.info life c.single.connection.fresh pending h good k is
-    (record { starts = heard_starts ((book before).link c.single.link) c.turns n; lived = g.lived; creds = g.creds; said = g.said; linked = g.linked; lines = g.lines; told = g.told; waits = g.waits; pushes = g.pushes }) in
+    (record { starts = heard_starts ((book before).link c.single.link) c.turns n; lived = g.lived; creds = g.creds; renewal_is = g.renewal_is; said = g.said; linked = g.linked; lines = g.lines; told = g.told; waits = g.waits; pushes = g.pushes }) in
     record { holds = s.holds; ledger = s.ledger; stories = s.stories }
 
 -- where the link need not end then, and no act follows, the event has had its effect
@@ -125,11 +128,87 @@ quiet_applied before c started word kind n life h good k is g no_end fit =
 pub pushes_still : (before : List Action) (c : Core) (started : List ℕ) (n : News) → Between before c started → BringsNothing n ⊎ (((book before).link c.single.link).up ≡ false) → PushesOf (is_heard (book before)) c.single.connection.hears (heard_by (book before) c n)
 pushes_still before c started n h k = pushes_hear ((book before).link c.single.link) c.turns n (is_heard (book before)) c.single.connection.hears k h.sound.tied.pushes
 
+-- such news bring no new credentials, and deal nothing
+--
+creds_still : (l : Ledger) (turn : ℕ) (n : News) → BringsNothing n ⊎ (l.up ≡ false) → (noted l (hears turn n)).creds ≡ l.creds
+creds_still l turn n (inr down) = creds_hear l turn n (λ x. down) (down_unawaited l down)
+creds_still l turn silence (inl k) = refl
+creds_still l turn overdue (inl k) = refl
+creds_still l turn connected (inl k) = chosen (λ (x : Ledger). x.creds ≡ l.creds) (is_over l) l (record l { up = true }) (λ t. refl) (λ f. refl)
+creds_still l turn (refused f) (inl k) = chosen (λ (x : Ledger). x.creds ≡ l.creds) (dials l) (refused_in l turn (error.Io f)) l (λ t. refl) (λ d. refl)
+creds_still l turn (took count) (inl k) = chosen (λ (x : Ledger). x.creds ≡ l.creds) l.up _ l (λ t. refl) (λ f. refl)
+creds_still l turn (came piece) (inl k) = absurd k
+creds_still l turn (failed f) (inl k) = refl
+creds_still l turn (authorized c) (inl k) = absurd k
+creds_still l turn (denied text) (inl k) = refl
+creds_still l turn deserted (inl k) = refl
+creds_still l turn (renewed c) (inl k) = absurd k
+creds_still l turn unrenewed (inl k) = absurd k
+creds_still l turn (late m) (inl k) = absurd k
+creds_still l turn shut (inl k) = refl
+
+-- as many items
+dealt_still : (l : Ledger) (turn : ℕ) (n : News) → BringsNothing n ⊎ (l.up ≡ false) → (noted l (hears turn n)).dealt ≡ l.dealt
+dealt_still l turn silence k = refl
+dealt_still l turn overdue k = refl
+dealt_still l turn connected k = chosen (λ (x : Ledger). x.dealt ≡ l.dealt) (is_over l) l (record l { up = true }) (λ t. refl) (λ f. refl)
+dealt_still l turn (refused f) k = chosen (λ (x : Ledger). x.dealt ≡ l.dealt) (dials l) (refused_in l turn (error.Io f)) l (λ t. refl) (λ d. refl)
+dealt_still l turn (took count) k = chosen (λ (x : Ledger). x.dealt ≡ l.dealt) l.up _ l (λ t. refl) (λ f. refl)
+dealt_still l turn (came piece) k = elim k [ inl brings ↦ absurd brings | inr down ↦ if_false (λ (x : Ledger). x.dealt ≡ l.dealt) l.up (bytes_came l piece) l down refl ]
+dealt_still l turn (failed f) k = refl
+dealt_still l turn (authorized c) k = chosen (λ (x : Ledger). x.dealt ≡ l.dealt) (awaits_credentials l) (authorized_by l c) l (λ t. refl) (λ f. refl)
+dealt_still l turn (denied text) k = refl
+dealt_still l turn deserted k = refl
+dealt_still l turn (renewed c) k = chosen (λ (x : Ledger). x.dealt ≡ l.dealt) (may_renew l) (renewed_by l c) l (λ t. refl) (λ f. refl)
+dealt_still l turn unrenewed k = chosen (λ (x : Ledger). x.dealt ≡ l.dealt) l.up (unrenewed_by l) l (λ t. refl) (λ f. refl)
+dealt_still l turn (late m) k = chosen (λ (x : Ledger). x.dealt ≡ l.dealt) (l.up && is_renewal_open l m) (lost_by l) l (λ t. refl) (λ f. refl)
+dealt_still l turn shut k = refl
+
+-- so they leave the new credentials
+pub renewal_still : (l : Ledger) (turn : ℕ) (n : News) (r : Renewal) (life : Life) → BringsNothing n ⊎ (l.up ≡ false) → TiedRenewal l r life → TiedRenewal (noted l (hears turn n)) r life
+renewal_still l turn n r life k h = renewal_alike l (noted l (hears turn n)) r life (creds_still l turn n k) (heard_starts l turn n) (dealt_still l turn n k) h
+
+-- nor does any other, where none came
+none_new : (l : Ledger) (turn : ℕ) (n : News) → (IsOfRenewals n → ⊥) → (let c = (noted l (hears turn n)).creds in (c.over ≡ l.creds.over) × (c.renewals ≡ l.creds.renewals) × (c.timed ≡ l.creds.timed) × (c.lost ≡ l.creds.lost))
+none_new l turn silence other = (refl, refl, refl, refl)
+none_new l turn overdue other = (refl, refl, refl, refl)
+none_new l turn connected other = chosen (λ (x : Ledger). (x.creds.over ≡ l.creds.over) × (x.creds.renewals ≡ l.creds.renewals) × (x.creds.timed ≡ l.creds.timed) × (x.creds.lost ≡ l.creds.lost)) (is_over l) l (record l { up = true }) (λ t. (refl, refl, refl, refl)) (λ f. (refl, refl, refl, refl))
+none_new l turn (refused f) other =
+    chosen (λ (x : Ledger). (x.creds.over ≡ l.creds.over) × (x.creds.renewals ≡ l.creds.renewals) × (x.creds.timed ≡ l.creds.timed) × (x.creds.lost ≡ l.creds.lost)) (dials l) (refused_in l turn (error.Io f)) l (λ t. (refl, refl, refl, refl)) (λ d. (refl, refl, refl, refl))
+none_new l turn (took count) other = chosen (λ (x : Ledger). (x.creds.over ≡ l.creds.over) × (x.creds.renewals ≡ l.creds.renewals) × (x.creds.timed ≡ l.creds.timed) × (x.creds.lost ≡ l.creds.lost)) l.up _ l (λ t. (refl, refl, refl, refl)) (λ f. (refl, refl, refl, refl))
+none_new l turn (came piece) other = chosen (λ (x : Ledger). (x.creds.over ≡ l.creds.over) × (x.creds.renewals ≡ l.creds.renewals) × (x.creds.timed ≡ l.creds.timed) × (x.creds.lost ≡ l.creds.lost)) l.up (bytes_came l piece) l (λ t. (refl, refl, refl, refl)) (λ f. (refl, refl, refl, refl))
+none_new l turn (failed f) other = (refl, refl, refl, refl)
+none_new l turn (authorized c) other =
+    chosen (λ (x : Ledger). (x.creds.over ≡ l.creds.over) × (x.creds.renewals ≡ l.creds.renewals) × (x.creds.timed ≡ l.creds.timed) × (x.creds.lost ≡ l.creds.lost)) (awaits_credentials l) (authorized_by l c) l (λ t. (refl, refl, refl, refl)) (λ f. (refl, refl, refl, refl))
+none_new l turn (denied text) other = (refl, refl, refl, refl)
+none_new l turn deserted other = (refl, refl, refl, refl)
+none_new l turn (renewed c) other = absurd (other tt)
+none_new l turn unrenewed other = absurd (other tt)
+none_new l turn (late m) other = absurd (other tt)
+none_new l turn shut other = (refl, refl, refl, refl)
+
+-- so none are there then
+pub none_hears : (l : Ledger) (turn : ℕ) (n : News) (r : Renewal) → (IsOfRenewals n → ⊥) → NoneRenewed l r → NoneRenewed (noted l (hears turn n)) r
+none_hears l turn n r other h =
+    let same = none_new l turn n other in
+    record {
+      over_is = same.0 ∙ h.over_is;
+      came = same.1 ∙ h.came;
+      waits = h.waits;
+      untimed = same.2 ∙ h.untimed;
+      unstarted = ap renewal_count (heard_starts l turn n) ∙ h.unstarted;
+      unasked = h.unasked;
+      unpending = h.unpending;
+      told = h.told;
+      kept = same.3 ∙ h.kept;
+      found = h.found;
+    }
+
 -- what is alike of any life
 pub leads_on : (before : List Action) (c : Core) (started : List ℕ) (n : News) → Between before c started → BringsNothing n ⊎ (((book before).link c.single.link).up ≡ false) → (let l = heard_by (book before) c n in let life = c.single.connection.life in
-    TiedLife l (book before).created life × TiedCreds l.creds c.single.connection.wants life × TiedSetup l c.single.connection.info started life × (has_ended life ≡ false → TiedLink (carried life c.single.connection.requests) l (whole_link life)))
+    TiedLife l (book before).created life × TiedCreds l.creds c.single.connection.renewal.wanted life × TiedSetup l c.single.connection.info started life × (has_ended life ≡ false → TiedLink (carried life c.single.connection.requests) l (whole_link life)))
     → Leads (book before) c n c.single.connection.life [] started
-leads_on before c started n h k g = record { lived = g.0; creds = g.1; said = g.2; linked = g.3; lines = h.sound.tied.lines; told = h.sound.tied.told; waits = h.sound.tied.waits; pushes = pushes_still before c started n h k }
+leads_on before c started n h k g = record { lived = g.0; creds = g.1; renewal_is = renewal_still ((book before).link c.single.link) c.turns n c.single.connection.renewal c.single.connection.life k h.sound.tied.renewal; said = g.2; linked = g.3; lines = h.sound.tied.lines; told = h.sound.tied.told; waits = h.sound.tied.waits; pushes = pushes_still before c started n h k }
 
 -- what the news are is of no account for how far a link has come
 pub told_life : (l : Ledger) (created : ℕ) (life : Life) (n : News) → TiedLife l created life → TiedLife (record l { heard = n }) created life
@@ -149,7 +228,8 @@ leads_still before c started n h stays =
     let name = carried conn.life conn.requests in
     record {
       lived = subst (λ (x : Ledger). TiedLife x b.created conn.life) (sym stays) (told_life l b.created conn.life n t.life);
-      creds = subst (λ (x : Ledger). TiedCreds x.creds conn.wants conn.life) (sym stays) t.creds;
+      creds = subst (λ (x : Ledger). TiedCreds x.creds conn.renewal.wanted conn.life) (sym stays) t.creds;
+      renewal_is = subst (λ (x : Ledger). TiedRenewal x conn.renewal conn.life) (sym stays) (renewal_alike l (record l { heard = n }) conn.renewal conn.life refl refl refl t.renewal);
       said = subst (λ (x : Ledger). TiedSetup x conn.info started conn.life) (sym stays) (setup_on l l.asked l.up l.end l.taken l.offer l.rest n conn.info started conn.life t.setup);
       linked = λ alive. subst (λ (x : Ledger). TiedLink name x (whole_link conn.life)) (sym stays) (told_tied name l (whole_link conn.life) l.asked l.up n (t.link alive));
       lines = t.lines;
@@ -179,6 +259,9 @@ ended_hears l created e turn (took count) h = if_false (λ (x : Ledger). TiedLif
 ended_hears l created e turn (came piece) h = if_false (λ (x : Ledger). TiedLife x created (Ended e)) l.up (bytes_came l piece) l h.0 h
 ended_hears l created e turn (failed f) h = h
 ended_hears l created e turn (authorized c) h = subst (λ (x : Ledger). TiedLife x created (Ended e)) (sym (unawaited_is l turn c (down_unawaited l h.0))) h
+ended_hears l created e turn (renewed c) h = if_false (λ (x : Ledger). TiedLife x created (Ended e)) (may_renew l) (renewed_by l c) l (down_may_renew l h.0) h
+ended_hears l created e turn unrenewed h = if_false (λ (x : Ledger). TiedLife x created (Ended e)) l.up (unrenewed_by l) l h.0 h
+ended_hears l created e turn (late m) h = if_false (λ (x : Ledger). TiedLife x created (Ended e)) (l.up && is_renewal_open l m) (lost_by l) l (ap (λ u. u && is_renewal_open l m) h.0) h
 ended_hears l created e turn (denied text) h = h
 ended_hears l created e turn deserted h = h
 ended_hears l created e turn shut h = h
@@ -189,7 +272,7 @@ over_no_end l created e h = not_up_ends l h.0 (over_not_asked l (some_end l.end 
 
 -- what is known of its credentials stays
 down_creds : (l : Ledger) (turn : ℕ) (n : News) (wants : Bool) (life : Life) → l.up ≡ false → TiedCreds l.creds wants life → TiedCreds (noted l (hears turn n)).creds wants life
-down_creds l turn n wants life down h = subst (λ (x : Sourced). TiedCreds x wants life) (sym (creds_hear l turn n (down_unawaited l down))) h
+down_creds l turn n wants life down h = subst (λ (x : Sourced). TiedCreds x wants life) (sym (creds_hear l turn n (λ x. down) (down_unawaited l down))) h
 
 -- an event that names a link that has ended has no effect
 pub ended_quiet : (before : List Action) (c : Core) (started : List ℕ) (word : ℕ) (kind : EventKind) (n : News) (error : RedisError) → Between before c started → is_bad c kind ≡ false → IsNewsKind c.timers kind → news_of c.timers c.sources c.single.link kind ≡ n → c.single.connection.life ≡ Ended error
@@ -202,7 +285,7 @@ ended_quiet before c started word kind n error h good k is over =
     quiet_applied before c started word kind n c.single.connection.life h good k is
     (leads_on before c started n h (inr life.0) (
       subst (λ (x : Life). TiedLife (noted l (hears c.turns n)) b.created x) (sym over) after,
-      down_creds l c.turns n c.single.connection.wants c.single.connection.life life.0 h.sound.tied.creds,
+      down_creds l c.turns n c.single.connection.renewal.wanted c.single.connection.life life.0 h.sound.tied.creds,
       setup_unheard l c.turns n c.single.connection.info started c.single.connection.life life.0 h.sound.tied.setup,
       λ alive. absurd (not_both (has_ended c.single.connection.life) alive (ap has_ended over)),
     ))
@@ -218,6 +301,9 @@ IsOfAnother (failed f) = Unit {0}
 IsOfAnother (authorized c) = Unit {0}
 IsOfAnother (denied text) = Unit {0}
 IsOfAnother deserted = Unit {0}
+IsOfAnother (renewed c) = ⊥
+IsOfAnother unrenewed = ⊥
+IsOfAnother (late m) = ⊥
 IsOfAnother silence = ⊥
 IsOfAnother (refused f) = ⊥
 IsOfAnother overdue = ⊥
@@ -234,6 +320,9 @@ dialing_hears l created turn (took count) k h = if_false (λ (x : Ledger). TiedL
 dialing_hears l created turn (came piece) k h = if_false (λ (x : Ledger). TiedLife x created Dialing) l.up (bytes_came l piece) l h.1 h
 dialing_hears l created turn (failed f) k h = h
 dialing_hears l created turn (authorized c) k h = subst (λ (x : Ledger). TiedLife x created Dialing) (sym (unawaited_is l turn c (down_unawaited l h.1))) h
+dialing_hears l created turn (renewed c) k h = absurd k
+dialing_hears l created turn unrenewed k h = absurd k
+dialing_hears l created turn (late m) k h = absurd k
 dialing_hears l created turn (denied text) k h = h
 dialing_hears l created turn deserted k h = h
 dialing_hears l created turn shut k h = absurd k
@@ -248,6 +337,9 @@ asked_on (took count) k = refl
 asked_on (came piece) k = refl
 asked_on (failed f) k = refl
 asked_on (authorized c) k = refl
+asked_on (renewed c) k = refl
+asked_on unrenewed k = refl
+asked_on (late m) k = refl
 asked_on (denied text) k = refl
 asked_on deserted k = refl
 asked_on shut k = absurd k
@@ -269,7 +361,7 @@ dialing_quiet before c started word kind n o h good k is dialing =
     quiet_applied before c started word kind n c.single.connection.life h good k is
     (leads_on before c started n h (inr life.1) (
       subst (λ (x : Life). TiedLife (noted l (hears c.turns n)) b.created x) (sym dialing) (dialing_hears l b.created c.turns n o life),
-      down_creds l c.turns n c.single.connection.wants c.single.connection.life life.1 h.sound.tied.creds,
+      down_creds l c.turns n c.single.connection.renewal.wanted c.single.connection.life life.1 h.sound.tied.creds,
       setup_unheard l c.turns n c.single.connection.info started c.single.connection.life life.1 h.sound.tied.setup,
       λ alive. unheard_tied (carried c.single.connection.life c.single.connection.requests) l (whole_link c.single.connection.life) c.turns n life.1 (h.sound.tied.link alive),
     ))
@@ -325,6 +417,7 @@ setting_waits story requests link after was with_user fresh moved h = record {
   no_setup = λ p x u i w s. h.no_setup p link was i w refl;
   no_permit = λ p x i w r. cc;
   no_place = h.no_place;
+  seatless = h.seatless;
   no_room = λ p i r. absurd r;
 }
 
@@ -356,5 +449,6 @@ wanting_waits story requests link after fresh moved h = record {
   no_setup = λ p x u i w s. cc;
   no_permit = λ p x i w r. cc;
   no_place = h.no_place;
+  seatless = h.seatless;
   no_room = λ p i r. absurd r;
 }

@@ -1,6 +1,6 @@
 -- The line that open requests stand in: those to be answered, those whose messages take items, those in the queue, and
 -- those that wait for a place.
-use Rattle.std.proofs.Common.{◌≡◌, inl, inr, ℕ, zero, suc, ◌≤◌, Bool, true, false, List, [], ◌∷◌, ◌++◌, length, Some, slice_get, if◌then◌else◌, sym, subst, append_assoc, arith}
+use Rattle.std.proofs.Common.{◌≡◌, inl, inr, ℕ, zero, suc, ◌≤◌, ◌==◌, Bool, true, false, List, [], ◌∷◌, ◌++◌, length, Some, slice_get, if◌then◌else◌, sym, subst, append_assoc, arith}
 use Rattle.legal_trace.specs.Story.{Story}
 use Rattle.link_core.specs.declared.message.Entry.{Entry}
 use Rattle.link_core.specs.declared.message.Queued.{Queued}
@@ -9,7 +9,8 @@ use Rattle.link_laws.specs.Settles.{wanted, awaited_ids}
 use Rattle.mux_conn.specs.declared.request.Request.{Request}
 use Rattle.mux_conn.specs.declared.request.Waiting.{Waiting}
 use Rattle.mux_conn.specs.Requests.{is_open_at}
-use Rattle.session_laws.proofs.Numbers.{IsIn, in_left, in_right, in_either, Rising, rising_from, rising_in, rising_right}
+use Rattle.mux_conn.specs.Renewals.{renewal_id}
+use Rattle.session_laws.proofs.Numbers.{IsIn, in_left, in_right, in_either, requests_in, Rising, rising_from, rising_in, rising_right}
 use Rattle.session_laws.proofs.Tied.{queue_ids, waiting_ids, IsKept, TiedLines}
 
 -- who the entries of a row are of
@@ -23,7 +24,7 @@ kept_ids admitted waiting = waiting_ids admitted ++ waiting_ids waiting
 
 -- the line of a link's messages, of those that wait for a place, and of those that wait for the connection
 abbrev pub line_of : LinkState → List Waiting → List Waiting → List ℕ
-line_of link admitted waiting = wanted link.row ++ (queue_ids link.queue ++ kept_ids admitted waiting)
+line_of link admitted waiting = requests_in (wanted link.row) ++ (queue_ids link.queue ++ kept_ids admitted waiting)
 
 -- it rises, behind those that are to be answered
 abbrev pub IsInLine : List Request → LinkState → List Waiting → List Waiting → List ℕ → Type 0
@@ -53,7 +54,7 @@ kept_in requests waiting admitted p (inr w) = in_right p (waiting_ids admitted) 
 pub open_in_line : (story : ℕ → Story) (requests : List Request) (link : LinkState) (waiting admitted : List Waiting) (pending started : List ℕ) (p : ℕ) → TiedLines story requests link waiting admitted pending started
     → is_open_at requests p ≡ true → IsIn p (pending ++ line_of link admitted waiting)
 open_in_line story requests link waiting admitted pending started p h e =
-    let rows = wanted link.row in
+    let rows = requests_in (wanted link.row) in
     let queue = queue_ids link.queue in
     let last = kept_ids admitted waiting in
     elim (h.there p e) [
@@ -83,12 +84,28 @@ chosen_rises : (b : Bool) (lo n : ℕ) (ys : List ℕ) (hi : ℕ) → (lo ≤ n)
 chosen_rises true lo n ys hi h = h
 chosen_rises false lo n ys hi h = rising_from (suc n) lo ys hi (omega (arith, h.0)) h.1
 
+-- where AUTH's number is left out
+asked_rises : (b : Bool) (lo n : ℕ) (ids rest ys : List ℕ) (hi : ℕ) → ((low : ℕ) → Rising low (ids ++ ys) hi → Rising low (rest ++ ys) hi) → Rising lo ((if b then ids else n ∷ ids) ++ ys) hi → Rising lo ((if b then rest else n ∷ rest) ++ ys) hi
+asked_rises true lo n ids rest ys hi f h = f lo h
+asked_rises false lo n ids rest ys hi f h = (h.0, f (suc n) h.1)
+
+-- or any
+left_rises : (b : Bool) (lo n : ℕ) (ids rest ys : List ℕ) (hi : ℕ) → ((low : ℕ) → Rising low (ids ++ ys) hi → Rising low (rest ++ ys) hi) → Rising lo ((if b then ids else n ∷ ids) ++ ys) hi → Rising lo (rest ++ ys) hi
+left_rises true lo n ids rest ys hi f h = f lo h
+left_rises false lo n ids rest ys hi f h = rising_from (suc n) lo (rest ++ ys) hi (let l : lo ≤ n = h.0 in omega arith) (f (suc n) h.1)
+
+-- as one is awaited or not
+by_awaited : (a : Bool) (lo n : ℕ) (ids ws ys : List ℕ) (hi : ℕ) → ((low : ℕ) → Rising low (ids ++ ys) hi → Rising low (requests_in ws ++ ys) hi) → Rising lo ((if n == renewal_id then ids else n ∷ ids) ++ ys) hi
+    → Rising lo (requests_in ((if a then n ∷ [] else []) ++ ws) ++ ys) hi
+by_awaited true lo n ids ws ys hi f h = asked_rises (n == renewal_id) lo n ids (requests_in ws) ys hi f h
+by_awaited false lo n ids ws ys hi f h = left_rises (n == renewal_id) lo n ids (requests_in ws) ys hi f h
+
 -- the wanted of a row
-pub wanted_rises : (lo : ℕ) (row : List Entry) (ys : List ℕ) (hi : ℕ) → Rising lo (row_ids row ++ ys) hi → Rising lo (wanted row ++ ys) hi
+pub wanted_rises : (lo : ℕ) (row : List Entry) (ys : List ℕ) (hi : ℕ) → Rising lo (requests_in (row_ids row) ++ ys) hi → Rising lo (requests_in (wanted row) ++ ys) hi
 wanted_rises lo [] ys hi h = h
 wanted_rises lo (e ∷ es) ys hi h =
-    subst (λ ns. Rising lo ns hi) (sym (append_assoc (if e.awaited then e.id ∷ [] else []) (wanted es) ys))
-    (chosen_rises e.awaited lo e.id (wanted es ++ ys) hi (h.0, wanted_rises (suc e.id) es ys hi h.1))
+    let rest : (low : ℕ) → Rising low (requests_in (row_ids es) ++ ys) hi → Rising low (requests_in (wanted es) ++ ys) hi = λ low k. wanted_rises low es ys hi k in
+    by_awaited e.awaited lo e.id (requests_in (row_ids es)) (wanted es) ys hi rest h
 
 -- the awaited of a queue
 pub awaited_rises : (lo : ℕ) (queue : List Queued) (ys : List ℕ) (hi : ℕ) → Rising lo (queue_ids queue ++ ys) hi → Rising lo (awaited_ids queue ++ ys) hi
@@ -109,13 +126,14 @@ places_behind : (x : ℕ) (xs : List ℕ) (k : ℕ) (ys : List ℕ) → AtPlaces
 places_behind x xs k [] all = tt
 places_behind x xs k (y ∷ ys) all = (all.0, places_behind x xs (suc k) ys all.1)
 
--- they rise where all do
-pub places_rise : (lo : ℕ) (xs : List ℕ) (k : ℕ) (ids ys : List ℕ) (hi : ℕ) → AtPlaces xs k ids → Rising lo (xs ++ ys) hi → Rising lo (ids ++ ys) hi
-places_rise lo xs k [] ys hi all h = rising_right lo xs ys hi h
+-- those that are requests rise where all do
+pub places_rise : (lo : ℕ) (xs : List ℕ) (k : ℕ) (ids ys : List ℕ) (hi : ℕ) → AtPlaces xs k ids → Rising lo (requests_in xs ++ ys) hi → Rising lo (requests_in ids ++ ys) hi
+places_rise lo xs k [] ys hi all h = rising_right lo (requests_in xs) ys hi h
 places_rise lo [] k (n ∷ ids) ys hi all h = absurd (cc all.0)
 places_rise lo (x ∷ xs) zero (n ∷ ids) ys hi all h =
     let same : x ≡ n = let e = all.0 in cc in
-    (let l : lo ≤ x = h.0 in omega (arith, same), subst (λ m. Rising (suc m) (ids ++ ys) hi) same (places_rise (suc x) xs zero ids ys hi (places_behind x xs zero ids all.1) h.1))
+    let rest : (low : ℕ) → Rising low (requests_in xs ++ ys) hi → Rising low (requests_in ids ++ ys) hi = λ low k. places_rise low xs zero ids ys hi (places_behind x xs zero ids all.1) k in
+    subst (λ m. Rising lo (requests_in (m ∷ ids) ++ ys) hi) same (asked_rises (x == renewal_id) lo x (requests_in xs) (requests_in ids) ys hi rest h)
 places_rise lo (x ∷ xs) (suc k) (n ∷ ids) ys hi all h =
-    let l : lo ≤ x = h.0 in
-    rising_from (suc x) lo (n ∷ (ids ++ ys)) hi (omega arith) (places_rise (suc x) xs k (n ∷ ids) ys hi (all.0, places_behind x xs (suc k) ids all.1) h.1)
+    let rest : (low : ℕ) → Rising low (requests_in xs ++ ys) hi → Rising low (requests_in (n ∷ ids) ++ ys) hi = λ low r. places_rise low xs k (n ∷ ids) ys hi (all.0, places_behind x xs (suc k) ids all.1) r in
+    left_rises (x == renewal_id) lo x (requests_in xs) (requests_in (n ∷ ids)) ys hi rest h

@@ -36,21 +36,23 @@ use Rattle.legal_trace.specs.Owed.{owed, owed_to_try}
 use Rattle.legal_trace.specs.Story.{Story, answered, awaited_in, bytes_of, fires, is_no_error, is_open, is_told, last_of}
 use Rattle.legal_trace.specs.Book.{Book, after_event, book, entered, if_own, is_clock_of}
 use Rattle.legal_trace.specs.Legal.{NoneEnds}
-use Rattle.session_laws.proofs.Numbers.{IsIn, in_left, in_right, in_either, Rising, rising_in, rising_right, rising_tail}
+use Rattle.mux_conn.specs.Renewals.{renewal_id}
+use Rattle.session_laws.proofs.Renewals.{renewal_alike}
+use Rattle.session_laws.proofs.Numbers.{IsIn, in_left, in_right, in_either, Rising, rising_in, rising_right, rising_tail, requests_in, request_in, request_of, request_other}
 use Rattle.session_laws.proofs.Tied.{Inner, inner, no_link, link_in, queue_ids, IsEntry, IsQueued, IsRequest, AreQueued, TiedLines, TiedPermits, TiedStory, TiedWaits, Tied, has_ended, shown_wait}
 use Rattle.session_laws.proofs.States.{Between, HasApplied}
 use Rattle.session_laws.proofs.Behind.{open_untold}
-use Rattle.session_laws.proofs.Names.{name_of_some, open_within, same_name}
-use Rattle.session_laws.proofs.InLine.{row_ids, chosen_in, kept_ids, line_of, open_in_line, wanted_in}
+use Rattle.session_laws.proofs.Names.{name_of_some, open_within, same_name, request_not}
+use Rattle.session_laws.proofs.InLine.{row_ids, chosen_in, kept_ids, line_of, open_in_line}
 use Rattle.session_laws.proofs.Owes.{answered_closed, in_time, line_unowed, lives, none_open, not_empty, request_story, row_in_line}
 use Rattle.session_laws.proofs.Permits.{IsHolding, permits_same}
 use Rattle.session_laws.proofs.Kept.{one_changed, packed_same, queued_same, tied_by, tries_same}
 use Rattle.session_laws.proofs.Closing.{one_of, told_closed}
 use Rattle.session_laws.proofs.Answer.{answer_apart, may_answer, owed_untold, none_before}
 use Rattle.session_laws.proofs.Settle.{book_of_more, holds_more, seen, trace_of_acts}
-use Rattle.session_laws.proofs.Announce.{announced_sound, first_book, holds_first, turn_of, turned}
+use Rattle.session_laws.proofs.Announce.{announced_sound, first_book, holds_first, turn_of, turned, counted_on}
 use Rattle.session_laws.proofs.Heard.{silent_applied, still_none}
-use Rattle.session_laws.proofs.Cancel.{IsSilent, left_creds, left_fit, left_life, left_link, left_others, left_setup, none_more, queued_apart, silenced_wanted, silent_core, silent_ends, silent_numbers, silent_others, still_dials, still_tied, was_ready, was_setting, was_wanting, without_awaited, without_others, without_rises}
+use Rattle.session_laws.proofs.Cancel.{IsSilent, left_creds, left_fit, left_life, left_link, left_others, left_setup, none_more, queued_apart, silenced_wanted, silent_core, silent_ends, silent_numbers, silent_others, still_dials, still_tied, was_ready, was_setting, was_wanting, without_awaited, without_others, without_rises, apart_behind, rising_behind, left_renewal}
 
 -- a story whose timer fires
 --
@@ -97,25 +99,27 @@ all_without P [] p all = tt
 all_without P (q ∷ qs) p all = chosen (AllByRecursion P) (is_wanted p q) qs (q ∷ without qs p) (λ t. all.1) (λ f. (all.0, all_without P qs p all.1))
 
 -- the entries of a row
-silenced_still : (requests : List Request) (row : List Entry) (p : ℕ) → AllByRecursion (IsEntry requests) row → AllByRecursion (IsEntry requests) (silenced row p)
-silenced_still requests [] p all = tt
-silenced_still requests (e ∷ es) p all =
+silenced_still : (requests : List Request) (row : List Entry) (p : ℕ) → p ≢ renewal_id → AllByRecursion (IsEntry requests) row → AllByRecursion (IsEntry requests) (silenced row p)
+silenced_still requests [] p other all = tt
+silenced_still requests (e ∷ es) p other all =
     chosen (AllByRecursion (IsEntry requests)) (is_entry_of p e) (silent e ∷ es) (e ∷ silenced es p)
-    (λ t. (record { below = all.0.below; placed_at = λ z. cc }, all.1))
-    (λ f. (all.0, silenced_still requests es p all.1))
+    (λ t. (
+      elim all.0 [ inl x ↦ inl (record { below = x.below; placed_at = λ z. cc }) | inr a ↦ absurd (other (sym (eq_from e.id p t) ∙ a.is)) ],
+      all.1,
+    ))
+    (λ f. (all.0, silenced_still requests es p other all.1))
 
 -- the request is not wanted in the row any more
-silenced_apart : (row : List Entry) (ys : List ℕ) (p lo hi : ℕ) → Rising lo (row_ids row ++ ys) hi → IsIn p (wanted (silenced row p)) → ⊥
-silenced_apart [] ys p lo hi r i = i
-silenced_apart (e ∷ es) ys p lo hi r i =
+silenced_apart : (row : List Entry) (ys : List ℕ) (p lo hi : ℕ) → p ≢ renewal_id → Rising lo (requests_in (row_ids row) ++ ys) hi → IsIn p (wanted (silenced row p)) → ⊥
+silenced_apart [] ys p lo hi other r i = i
+silenced_apart (e ∷ es) ys p lo hi other r i =
     chosen (λ (row : List Entry). IsIn p (wanted row) → ⊥) (is_entry_of p e) (silent e ∷ es) (e ∷ silenced es p)
     (λ t j.
     let same = eq_from e.id p t in
-    let k = rising_in (suc e.id) (row_ids es ++ ys) hi p r.1 (in_left p (row_ids es) ys (wanted_in p es j)) in
-    omega (arith, k.0, same))
+    apart_behind lo e.id es ys hi (λ x. other (sym same ∙ x)) r (subst (λ n. IsIn n (wanted es)) (sym same) j))
     (λ f j. elim (in_either p (if e.awaited then e.id ∷ [] else []) (wanted (silenced es p)) j) [
       | inl k ↦ ne_from e.id p f (chosen_in e.awaited p e.id k)
-      | inr k ↦ silenced_apart es ys p (suc e.id) hi r.1 k
+      | inr k ↦ silenced_apart es ys p lo hi other (rising_behind lo e.id (row_ids es) ys hi r) k
     ]) i
 
 -- nor is it in the queue
@@ -136,21 +140,21 @@ without_none story requests (x ∷ xs) ys p lo hi o r all i =
 -- the session where the time of a request is over
 --
 -- its lines, with the request to be answered
-late_lines : (m : ℕ) (story : ℕ → Story) (requests : List Request) (link : LinkState) (waiting admitted : List Waiting) (p : ℕ) (started : List ℕ) → TiedLines story requests link waiting admitted [] started
+late_lines : (m : ℕ) (story : ℕ → Story) (requests : List Request) (link : LinkState) (waiting admitted : List Waiting) (p : ℕ) (started : List ℕ) → p ≢ renewal_id → TiedLines story requests link waiting admitted [] started
     → TiedLines (fires_at m story) requests (cancelled link p) waiting admitted (p ∷ []) started
-late_lines m story requests link waiting admitted p started h =
+late_lines m story requests link waiting admitted p started apart h =
     let after = fires_at m story in
     let same = λ (n : ℕ). (fired_at m story n).submission in
     let answers = λ (n : ℕ). (fired_at m story n).outcomes in
     let times = λ (n : ℕ). (fired_at m story n).timeout in
-    let rows = wanted link.row in
-    let silent_rows = wanted (silenced link.row p) in
+    let rows = requests_in (wanted link.row) in
+    let silent_rows = requests_in (wanted (silenced link.row p)) in
     let queue = awaited_ids (without link.queue p) in
     let kept = kept_ids admitted waiting in
     record {
-      line = rising_tail 0 started (queue_ids link.queue ++ kept) (queue_ids (without link.queue p) ++ kept) (length requests) (λ low s. without_rises link.queue kept p low (length requests) s) h.line;
+      line = rising_tail 0 (requests_in started) (queue_ids link.queue ++ kept) (queue_ids (without link.queue p) ++ kept) (length requests) (λ low s. without_rises link.queue kept p low (length requests) s) h.line;
       queued = all_without (IsQueued after requests) link.queue p (queued_same story after requests link.queue same answers h.queued);
-      entries = silenced_still requests link.row p h.entries;
+      entries = silenced_still requests link.row p apart h.entries;
       packs = packed_same story after requests waiting same times h.packs;
       packed_in = packed_same story after requests admitted same times h.packed_in;
       there = λ q e. by_test (p == q) _
@@ -159,7 +163,7 @@ late_lines m story requests link waiting admitted p started h =
           let other = ne_from p q f in
           elim (h.there q e) [
             | inl i ↦ inl (inr (elim (in_either q rows (awaited_ids link.queue) i) [
-              | inl j ↦ in_left q silent_rows queue (silenced_wanted link.row p q other j)
+              | inl j ↦ in_left q silent_rows queue (request_in q (wanted (silenced link.row p)) (request_other q (wanted link.row) j) (silenced_wanted link.row p q other (request_of q (wanted link.row) j)))
               | inr j ↦ in_right q silent_rows queue (without_awaited link.queue p q other j)
             ]))
             | inr w ↦ inr w
@@ -167,20 +171,20 @@ late_lines m story requests link waiting admitted p started h =
     }
 
 -- by the life of its link
-late_lines_in : (m : ℕ) (story : ℕ → Story) (requests : List Request) (life : Life) (waiting admitted : List Waiting) (p : ℕ) (started : List ℕ) → TiedLines story requests (link_in life) waiting admitted [] started
+late_lines_in : (m : ℕ) (story : ℕ → Story) (requests : List Request) (life : Life) (waiting admitted : List Waiting) (p : ℕ) (started : List ℕ) → p ≢ renewal_id → TiedLines story requests (link_in life) waiting admitted [] started
     → TiedLines (fires_at m story) requests (link_in (cancelled_in life p)) waiting admitted (p ∷ []) started
-late_lines_in m story requests (Ready link) waiting admitted p started h = late_lines m story requests link waiting admitted p started h
-late_lines_in m story requests Dialing waiting admitted p started h =
-    let k = late_lines m story requests no_link waiting admitted p started h in
+late_lines_in m story requests (Ready link) waiting admitted p started apart h = late_lines m story requests link waiting admitted p started apart h
+late_lines_in m story requests Dialing waiting admitted p started apart h =
+    let k = late_lines m story requests no_link waiting admitted p started apart h in
     record { line = k.line; queued = k.queued; entries = k.entries; packs = k.packs; packed_in = k.packed_in; there = k.there }
-late_lines_in m story requests (Wanting link) waiting admitted p started h =
-    let k = late_lines m story requests no_link waiting admitted p started h in
+late_lines_in m story requests (Wanting link) waiting admitted p started apart h =
+    let k = late_lines m story requests no_link waiting admitted p started apart h in
     record { line = k.line; queued = k.queued; entries = k.entries; packs = k.packs; packed_in = k.packed_in; there = k.there }
-late_lines_in m story requests (SettingUp link with_user) waiting admitted p started h =
-    let k = late_lines m story requests no_link waiting admitted p started h in
+late_lines_in m story requests (SettingUp link with_user) waiting admitted p started apart h =
+    let k = late_lines m story requests no_link waiting admitted p started apart h in
     record { line = k.line; queued = k.queued; entries = k.entries; packs = k.packs; packed_in = k.packed_in; there = k.there }
-late_lines_in m story requests (Ended e) waiting admitted p started h =
-    let k = late_lines m story requests no_link waiting admitted p started h in
+late_lines_in m story requests (Ended e) waiting admitted p started apart h =
+    let k = late_lines m story requests no_link waiting admitted p started apart h in
     record { line = k.line; queued = k.queued; entries = k.entries; packs = k.packs; packed_in = k.packed_in; there = k.there }
 
 -- who was told is in the queue still
@@ -233,6 +237,7 @@ late_waits story requests m life p ys fresh moved line h =
       no_setup = λ q link u i w r e. let x = sets link u r in h.no_setup q x.0 u i w x.1 (sym (same q) ∙ e);
       no_permit = λ q link i w r e. let x = ready link r in h.no_permit q x.0 i w x.1 (sym (same q) ∙ e);
       no_place = λ q i a e. h.no_place q i a (sym (same q) ∙ e);
+      seatless = λ q a e. h.seatless q a (sym (same q) ∙ e);
       no_room = λ q i r e. h.no_room q i (others q r).2 (sym (same q) ∙ e);
     }
 
@@ -272,21 +277,23 @@ late_tied b c started word n p h is o =
     let heard : now.link c.single.link ≡ record ledger { heard = silence } = ap (λ (x : News). noted ledger (hears c.turns x)) (q.silent c.single.link) in
     let queue = queue_ids (link_in conn.life).queue in
     let kept = kept_ids conn.admitted conn.waiting in
-    let line = rising_right 0 started (queue ++ kept) (length conn.requests) h.lines.line in
+    let line = rising_right 0 (requests_in started) (queue ++ kept) (length conn.requests) h.lines.line in
     subst (λ (story : ℕ → Story). Tied (record now { story = story }) t) stories
     (tied_by (record now { story = after }) t (record ledger { heard = silence }) heard (record {
       numbers = silent_numbers b c started word (event.Fired n) c.timeout after conn.free (cancelled_in conn.life p) conn.requests (p ∷ []) q h;
       others = λ k other. silent_others b c (event.Fired n) c.timeout k q (h.others k other);
       pushes = h.pushes;
       life = left_life ledger b.created conn.life p h.life;
-      creds = left_creds ledger.creds conn.wants conn.life p h.creds;
+      creds = left_creds ledger.creds conn.renewal.wanted conn.life p h.creds;
+      count = counted_on c.sources ledger.creds h.count;
+      renewal = left_renewal (record ledger { heard = silence }) conn.renewal conn.life p (renewal_alike ledger (record ledger { heard = silence }) conn.renewal conn.life refl refl refl h.renewal);
       setup = left_setup ledger conn.info started conn.life p h.setup;
       link = λ alive. left_link conn.requests ledger conn.life p h.link alive;
       names = h.names;
       story = one_changed b (inner c started) p fires h l (fires_request (b.story m) conn.requests c.single.link p);
       tries = tries_same (record ledger { heard = silence }) b.story after conn.requests c.single.link started (λ k. (fired_at m b.story k).submission) (λ k. (fired_at m b.story k).tries)
           (record { owners = h.tries.owners; shapes = h.tries.shapes; tried = h.tries.tried; untried = h.tries.untried });
-      lines = late_lines_in m b.story conn.requests conn.life conn.waiting conn.admitted p started h.lines;
+      lines = late_lines_in m b.story conn.requests conn.life conn.waiting conn.admitted p started (request_not b (inner c started) p h l) h.lines;
       told = late_told b.story conn.requests conn.life p asked h.told;
       waits = late_waits b.story conn.requests m conn.life p kept conn.fresh conn.moved line h.waits;
       permits = subst (λ k. TiedPermits after k conn.requests c.single.link conn.limit conn.free []) (none_more b.submissions) (permits_same b.story after b.submissions conn.requests c.single.link conn.limit conn.free [] (λ k. (fired_at m b.story k).holds) h.permits);
@@ -319,19 +326,19 @@ fired_overdue b c started word n p h is o =
 -- the answer
 --
 -- the rows and the queue are without it
-late_apart : (b : Book) (t : Inner) (life : Life) (p : ℕ) → Tied b t → t.life ≡ life → has_ended life ≡ false → is_open (b.story (name_at t.requests p)) ≡ true → IsIn p (wanted (link_in (cancelled_in life p)).row ++ queue_ids (link_in (cancelled_in life p)).queue) → ⊥
-late_apart b t Dialing p h e up o i = i
-late_apart b t (Wanting link) p h e up o i = i
-late_apart b t (SettingUp link with_user) p h e up o i = i
-late_apart b t (Ended x) p h e up o i = cc
-late_apart b t (Ready link) p h e up o i =
+late_apart : (b : Book) (t : Inner) (life : Life) (p : ℕ) → Tied b t → t.life ≡ life → has_ended life ≡ false → p ≢ renewal_id → is_open (b.story (name_at t.requests p)) ≡ true → IsIn p (wanted (link_in (cancelled_in life p)).row ++ queue_ids (link_in (cancelled_in life p)).queue) → ⊥
+late_apart b t Dialing p h e up other o i = i
+late_apart b t (Wanting link) p h e up other o i = i
+late_apart b t (SettingUp link with_user) p h e up other o i = i
+late_apart b t (Ended x) p h e up other o i = cc
+late_apart b t (Ready link) p h e up other o i =
     let here : link_in t.life ≡ link = ap link_in e in
     let kept = kept_ids t.admitted t.waiting in
-    let rows = subst (λ (x : LinkState). Rising 0 (row_ids x.row ++ (queue_ids x.queue ++ kept)) (length t.requests)) here (row_in_line b t h (ap has_ended e)) in
-    let line = rising_right 0 (row_ids link.row) (queue_ids link.queue ++ kept) (length t.requests) rows in
+    let rows = subst (λ (x : LinkState). Rising 0 (requests_in (row_ids x.row) ++ (queue_ids x.queue ++ kept)) (length t.requests)) here (row_in_line b t h (ap has_ended e)) in
+    let line = rising_right 0 (requests_in (row_ids link.row)) (queue_ids link.queue ++ kept) (length t.requests) rows in
     let queued = subst (λ (x : LinkState). AllByRecursion (IsQueued b.story t.requests) x.queue) here h.lines.queued in
     elim (in_either p (wanted (silenced link.row p)) (queue_ids (without link.queue p)) i) [
-      | inl j ↦ silenced_apart link.row (queue_ids link.queue ++ kept) p 0 (length t.requests) rows j
+      | inl j ↦ silenced_apart link.row (queue_ids link.queue ++ kept) p 0 (length t.requests) other rows j
       | inr j ↦ without_none b.story t.requests link.queue kept p 0 (length t.requests) o line queued j
     ]
 
@@ -398,7 +405,7 @@ late_answered before c started word n p h good is o =
     let late = ap (λ (x : Book). (x.story m).overdue) book_is ∙ fired_overdue b0 c started word n p h.sound.tied is o in
     let owes = late_owed b m r.in_time r.spoken r.some late in
     let was_asked = (request_story b0 (inner c started) p h.sound.tied l).open_is ∙ o in
-    let apart = late_apart b0 (inner c started) conn.life p h.sound.tied refl alive was_asked in
+    let apart = late_apart b0 (inner c started) conn.life p h.sound.tied refl alive (request_not b0 (inner c started) p h.sound.tied l) was_asked in
     let lived = lives (b.link f.single.link) b.created (cancelled_in conn.life p) holds.tied.life up in
     let may = may_answer b t p over holds.tied o owes (λ q less asked_q. others_unowed b t p q holds.tied refl up less asked_q) (none_before b t m holds.tied refl) (λ ended. absurd (not_both (is_over (b.link f.single.link)) (ap is_some lived) ended)) in
     let link = link_in (cancelled_in conn.life p) in

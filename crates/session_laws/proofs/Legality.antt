@@ -1,8 +1,8 @@
 -- Every replay is legal.
-use Rattle.std.proofs.Common.{List, None, Option, Some, [], ap, append_assoc, false, length, refl, slice_get, subst, sym, ℕ, ◌+◌, ◌++◌, ◌∙◌, ◌∷◌, ◌≡◌}
+use Rattle.std.proofs.Common.{List, None, Option, Some, [], ap, append_assoc, false, length, refl, slice_get, subst, sym, ℕ, ◌+◌, ◌++◌, ◌∙◌, ◌∷◌, ◌≡◌, ◌<◌, nat_le, arith}
 use Rattle.std.proofs.lemmas.List.{append-nil}
-use Rattle.std.specs.Prelude.{if◌then◌else◌, ◌==◌}
-use Rattle.containers.proofs.Choices.{chosen}
+use Rattle.std.specs.Prelude.{if◌then◌else◌, ◌==◌, ◌^◌}
+use Rattle.containers.proofs.Choices.{chosen, not_le_from, or_left, or_right}
 use Rattle.connection_info.specs.declared.address.ConnectionInfo.{ConnectionInfo}
 use Rattle.redis_error.specs.declared.redis_error.RedisError.TheVariants as error
 use Rattle.driver_model.specs.Request.{packed_bytes, lacks_resp3}
@@ -22,8 +22,8 @@ use Rattle.driver_model.specs.declared.event.Submission.{Submission}
 use Rattle.mux_conn.specs.declared.act.LinkAct.{LinkAct}
 use Rattle.mux_conn.specs.declared.act.LinkAct.TheVariants as act
 use Rattle.mux_conn.specs.declared.request.Pending.{Pending}
-use Rattle.shared_session.specs.Replay.{AreGood, AreGoodOn, is_bad_after, opening_core, opening_actions, outcome_at, outcomes_in, run_on, state_after, trace_of, turns_on, IsSound, connect_asked}
-use Rattle.shared_session.specs.Turn.{Turning, actions_of, asked_for, counted, effect, fired_by, heard, is_bad, late_by, left_by, moved_on, refused_with, shown_each, submitted, next_turn, numbered, source_of, timer_of}
+use Rattle.shared_session.specs.Replay.{AreGood, AreGoodOn, is_bad_after, opening_core, opening_actions, outcome_at, outcomes_in, run_on, state_after, trace_of, turns_on, IsSound, connect_asked, AreUnspent, AreUnspentOn}
+use Rattle.shared_session.specs.Turn.{Turning, actions_of, asked_for, counted, effect, fired_by, heard, is_bad, late_by, left_by, moved_on, refused_with, shown_each, submitted, next_turn, numbered, source_of, timer_of, spends, has_run_out}
 use Rattle.shared_session.specs.declared.core_state.Core.{Core}
 use Rattle.legal_trace.specs.Book.{book}
 use Rattle.legal_trace.specs.Events.{is_bad_event}
@@ -35,6 +35,7 @@ use Rattle.session_laws.proofs.Outcomes.{last_told}
 use Rattle.session_laws.proofs.Settled.{IsBetween, moved_on_between}
 use Rattle.session_laws.proofs.States.{trace_with}
 use Rattle.session_laws.specs.Outcomes.{last_outcome}
+use Rattle.mux_conn.specs.Connection.{is_used_up}
 
 -- a turn
 --
@@ -70,6 +71,8 @@ fired_still : (t : Turning) (x : Option Purpose) → IsStillOf (fired_by t x) t.
 fired_still t None = (refl, refl, refl)
 fired_still t (Some (purpose.Connect l)) = (refl, refl, refl)
 fired_still t (Some (purpose.Response owner.Setup)) = (refl, refl, refl)
+fired_still t (Some (purpose.Response owner.Auth)) = (refl, refl, refl)
+fired_still t (Some (purpose.Renewal l k)) = (refl, refl, refl)
 fired_still t (Some (purpose.Response (owner.Try n round))) = late_still t (slice_get t.core.table n)
 
 -- and so does any event
@@ -91,11 +94,11 @@ effect_still c (event.WriteFault l kind) = (refl, refl, refl)
 effect_still c event.Shutdown = (refl, refl, refl)
 
 -- one turn leads from between two turns to between the next two
-turn_between : (before : List Action) (c : Core) (e : Event) → IsBetween before c → is_bad c e.kind ≡ false → IsBetween (before ++ actions_of c e) (next_turn c e.kind).core
+pub turn_between : (before : List Action) (c : Core) (e : Event) → IsBetween before c → is_bad c e.kind ≡ false → length c.table < 2 ^ 32 → IsBetween (before ++ actions_of c e) (next_turn c e.kind).core
 unfolding next_turn
-turn_between before c e h good =
+turn_between before c e h good room =
     let a = action.Turn c.turns (cause.Event e) in
-    let applied = effect_holds before c h.started e.word e.kind h.between good in
+    let applied = effect_holds before c h.started e.word e.kind h.between good room in
     let t = effect (counted c) e.kind in
     let still = effect_still c e.kind in
     let acts = (moved_on t).acts in
@@ -106,16 +109,34 @@ turn_between before c e h good =
 
 -- a history
 --
-turns_between : (before : List Action) (c : Core) (es : List Event) → IsBetween before c → AreGoodOn c es → IsBetween (before ++ turns_on c es) (run_on c es)
-turns_between before c [] h good = subst (λ (x : List Action). IsBetween x c) (sym (append-nil before)) h
-turns_between before c (e ∷ es) h good =
+-- where a step isn't spent, numbers for submissions are left behind it
+room_next : (c : Core) (e : Event) → spends c e ≡ false → length (next_turn c e.kind).core.table < 2 ^ 32
+unfolding spends has_run_out
+room_next c e unspent =
+    let next = (next_turn c e.kind).core in
+    not_le_from (2 ^ 32) (length next.table) (or_left (nat_le (2 ^ 32) (length next.table)) _ (or_right (is_used_up next.single.connection) _ (or_right (nat_le (2 ^ 32) c.turns) _ unspent)))
+
+-- so they are behind a history
+room_on : (c : Core) (es : List Event) → length c.table < 2 ^ 32 → AreUnspentOn c es → length (run_on c es).table < 2 ^ 32
+room_on c [] room unspent = room
+room_on c (e ∷ es) room unspent = room_on (next_turn c e.kind).core es (room_next c e unspent.0) unspent.1
+
+-- from the opening on
+pub room_behind : (config : Config) (word : ℕ) (events : List Event) → AreUnspent config word events → length (state_after config word events).table < 2 ^ 32
+unfolding state_after AreUnspent
+room_behind config word events unspent = room_on (opening_core config word) events (omega arith) unspent
+
+-- each turn leads on
+turns_between : (before : List Action) (c : Core) (es : List Event) → IsBetween before c → AreGoodOn c es → AreUnspentOn c es → length c.table < 2 ^ 32 → IsBetween (before ++ turns_on c es) (run_on c es)
+turns_between before c [] h good unspent room = subst (λ (x : List Action). IsBetween x c) (sym (append-nil before)) h
+turns_between before c (e ∷ es) h good unspent room =
     subst (λ (x : List Action). IsBetween x (run_on (next_turn c e.kind).core es)) (append_assoc before (actions_of c e) (turns_on (next_turn c e.kind).core es))
-    (turns_between (before ++ actions_of c e) (next_turn c e.kind).core es (turn_between before c e h good.0) good.1)
+    (turns_between (before ++ actions_of c e) (next_turn c e.kind).core es (turn_between before c e h good.0 room) good.1 unspent.1 (room_next c e unspent.0))
 
 -- the session after a history, and its trace
-pub replay_between : (config : Config) (word : ℕ) (events : List Event) → IsSound config → AreGood config word events → IsBetween (trace_of config word events) (state_after config word events)
-unfolding trace_of state_after AreGood
-replay_between config word events sound good = turns_between (opening_actions config word) (opening_core config word) events (opening_between config word sound) good
+pub replay_between : (config : Config) (word : ℕ) (events : List Event) → IsSound config → AreGood config word events → AreUnspent config word events → IsBetween (trace_of config word events) (state_after config word events)
+unfolding trace_of state_after AreGood AreUnspent
+replay_between config word events sound good unspent = turns_between (opening_actions config word) (opening_core config word) events (opening_between config word sound) good unspent (omega arith)
 
 -- the causes of its turns
 --
@@ -127,17 +148,19 @@ causes-append (_ ∷ xs) ys = causes-append xs ys
 -- acts are no causes
 no_causes : (l n c : ℕ) (acts : List LinkAct) → causes (shown_each l n c acts) ≡ []
 no_causes l n c [] = refl
-no_causes l n c (act.Created e ∷ acts) = no_causes l (n + length (timer_of (act.Created e))) (c + length (source_of l (act.Created e))) acts
-no_causes l n c (act.Took k count ∷ acts) = no_causes l (n + length (timer_of (act.Took k count))) (c + length (source_of l (act.Took k count))) acts
-no_causes l n c (act.Timer k ms ∷ acts) = no_causes l (n + length (timer_of (act.Timer k ms))) (c + length (source_of l (act.Timer k ms))) acts
-no_causes l n c (act.Push info ∷ acts) = no_causes l (n + length (timer_of (act.Push info))) (c + length (source_of l (act.Push info))) acts
-no_causes l n c (act.NeedCreds ∷ acts) = no_causes l (n + length (timer_of act.NeedCreds)) (c + length (source_of l act.NeedCreds)) acts
-no_causes l n c (act.Close ∷ acts) = no_causes l (n + length (timer_of act.Close)) (c + length (source_of l act.Close)) acts
-no_causes l n c (act.Write bytes ∷ acts) = no_causes l (n + length (timer_of (act.Write bytes))) (c + length (source_of l (act.Write bytes))) acts
-no_causes l n c (act.Wait k kind ∷ acts) = no_causes l (n + length (timer_of (act.Wait k kind))) (c + length (source_of l (act.Wait k kind))) acts
-no_causes l n c (act.Start m k count len ∷ acts) = no_causes l (n + length (timer_of (act.Start m k count len))) (c + length (source_of l (act.Start m k count len))) acts
-no_causes l n c (act.SetUp m count len ∷ acts) = no_causes l (n + length (timer_of (act.SetUp m count len))) (c + length (source_of l (act.SetUp m count len))) acts
-no_causes l n c (act.Outcome k o ∷ acts) = no_causes l (n + length (timer_of (act.Outcome k o))) (c + length (source_of l (act.Outcome k o))) acts
+no_causes l n c (act.Created e ∷ acts) = no_causes l (n + length (timer_of l (act.Created e))) (c + length (source_of l c (act.Created e))) acts
+no_causes l n c (act.Took k count ∷ acts) = no_causes l (n + length (timer_of l (act.Took k count))) (c + length (source_of l c (act.Took k count))) acts
+no_causes l n c (act.Timer k ms ∷ acts) = no_causes l (n + length (timer_of l (act.Timer k ms))) (c + length (source_of l c (act.Timer k ms))) acts
+no_causes l n c (act.RenewalTimer k ms ∷ acts) = no_causes l (n + length (timer_of l (act.RenewalTimer k ms))) (c + length (source_of l c (act.RenewalTimer k ms))) acts
+no_causes l n c (act.Push info ∷ acts) = no_causes l (n + length (timer_of l (act.Push info))) (c + length (source_of l c (act.Push info))) acts
+no_causes l n c (act.NeedCreds ∷ acts) = no_causes l (n + length (timer_of l act.NeedCreds)) (c + length (source_of l c act.NeedCreds)) acts
+no_causes l n c (act.Close ∷ acts) = no_causes l (n + length (timer_of l act.Close)) (c + length (source_of l c act.Close)) acts
+no_causes l n c (act.Write bytes ∷ acts) = no_causes l (n + length (timer_of l (act.Write bytes))) (c + length (source_of l c (act.Write bytes))) acts
+no_causes l n c (act.Wait k kind ∷ acts) = no_causes l (n + length (timer_of l (act.Wait k kind))) (c + length (source_of l c (act.Wait k kind))) acts
+no_causes l n c (act.Start m k count len ∷ acts) = no_causes l (n + length (timer_of l (act.Start m k count len))) (c + length (source_of l c (act.Start m k count len))) acts
+no_causes l n c (act.SetUp m count len ∷ acts) = no_causes l (n + length (timer_of l (act.SetUp m count len))) (c + length (source_of l c (act.SetUp m count len))) acts
+no_causes l n c (act.Renewed m count len ∷ acts) = no_causes l (n + length (timer_of l (act.Renewed m count len))) (c + length (source_of l c (act.Renewed m count len))) acts
+no_causes l n c (act.Outcome k o ∷ acts) = no_causes l (n + length (timer_of l (act.Outcome k o))) (c + length (source_of l c (act.Outcome k o))) acts
 
 -- a turn for each event
 turns_causes : (c : Core) (es : List Event) → causes (turns_on c es) ≡ event_causes es
@@ -159,17 +182,17 @@ unfolding trace_of
 replay_causes config word events = ap (λ cs. cause.Opening config word ∷ cs) (opening_causes (address config) (connect_timeout config) (turns_on (opening_core config word) events) ∙ turns_causes (opening_core config word) events)
 
 -- every replay is legal
-pub replay_legal : (config : Config) (word : ℕ) (events : List Event) → IsSound config → AreGood config word events → Legal config word events (trace_of config word events)
-replay_legal config word events sound good =
-    let h = replay_between config word events sound good in
+pub replay_legal : (config : Config) (word : ℕ) (events : List Event) → IsSound config → AreGood config word events → AreUnspent config word events → Legal config word events (trace_of config word events)
+replay_legal config word events sound good unspent =
+    let h = replay_between config word events sound good unspent in
     record { turns = replay_causes config word events; each = h.between.sound.stands; settled = h.between.settled }
 
 -- behind it, the bad events are those of its book
-pub bad_of_the_book : (config : Config) (word : ℕ) (events : List Event) (e : Event) → IsSound config → AreGood config word events → is_bad_after config word events e ≡ is_bad_event (book (trace_of config word events)) e.kind
-bad_of_the_book config word events e sound good =
-    let h = replay_between config word events sound good in
+pub bad_of_the_book : (config : Config) (word : ℕ) (events : List Event) (e : Event) → IsSound config → AreGood config word events → AreUnspent config word events → is_bad_after config word events e ≡ is_bad_event (book (trace_of config word events)) e.kind
+bad_of_the_book config word events e sound good unspent =
+    let h = replay_between config word events sound good unspent in
     sym (same_badness (book (trace_of config word events)) (state_after config word events) h.started e.kind h.between.sound.tied)
 
 -- and its outcomes are those of its book
-pub replay_outcomes : (config : Config) (word : ℕ) (events : List Event) (n : ℕ) → IsSound config → AreGood config word events → outcome_at (outcomes_in (trace_of config word events)) n ≡ last_outcome ((book (trace_of config word events)).story n).outcomes
-replay_outcomes config word events n sound good = let h = replay_between config word events sound good in last_told (trace_of config word events) n h.between.sound.stands
+pub replay_outcomes : (config : Config) (word : ℕ) (events : List Event) (n : ℕ) → IsSound config → AreGood config word events → AreUnspent config word events → outcome_at (outcomes_in (trace_of config word events)) n ≡ last_outcome ((book (trace_of config word events)).story n).outcomes
+replay_outcomes config word events n sound good unspent = let h = replay_between config word events sound good unspent in last_told (trace_of config word events) n h.between.sound.stands

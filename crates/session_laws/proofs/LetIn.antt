@@ -13,10 +13,10 @@ use Rattle.driver_model.specs.declared.action.Purpose.{Purpose}
 use Rattle.driver_model.specs.declared.action.Purpose.TheVariants as purpose
 use Rattle.driver_model.specs.declared.outcome.Shape.{Shape}
 use Rattle.driver_model.specs.declared.outcome.Shape.TheVariants.{Single, Pipeline, Confirmation}
-use Rattle.link_core.specs.Link.{LinkState, holds_back, is_full}
+use Rattle.link_core.specs.Link.{LinkState, holds_back, is_full_beside}
 use Rattle.link_core.specs.declared.message.Entry.{Entry}
 use Rattle.link_core.specs.declared.message.Queued.{Queued}
-use Rattle.mux_conn.specs.Connection.{Work, has_no_permit, is_ready}
+use Rattle.mux_conn.specs.Connection.{Work, has_no_permit, in_front}
 use Rattle.mux_conn.specs.Passes.{holding, let_in, permits_taken, timer_asked, took_shown}
 use Rattle.mux_conn.specs.declared.act.LinkAct.{LinkAct}
 use Rattle.mux_conn.specs.declared.act.LinkAct.TheVariants as act
@@ -38,12 +38,12 @@ use Rattle.legal_trace.specs.Ledger.{Ledger, setup_count}
 use Rattle.legal_trace.specs.Legal.{IsFirstToMove, MayTake, MayTime, NoneEnds}
 use Rattle.legal_trace.specs.Steps.{is_due, is_let_in, next_step, permits_held, permits_on, takes}
 use Rattle.legal_trace.specs.Story.{Story, awaited_in, clocked, holds, is_no_error, is_open, is_told, is_unstarted, packed_in, shape}
-use Rattle.session_laws.proofs.Ahead.{IsRunning, ask_step, full_step, kept_unstarted, running_of, take_step, waiting_open}
-use Rattle.session_laws.proofs.Going.{IsGoing, begun_up, going_more, moves_later, queue_stays}
+use Rattle.session_laws.proofs.Ahead.{HasSeats, IsRunning, ask_step, full_step, kept_unstarted, running_of, take_step, waiting_open}
+use Rattle.session_laws.proofs.Going.{HasRenewed, IsGoing, begun_up, going_more, moves_later, queue_stays}
 use Rattle.session_laws.proofs.InLine.{first_is_least, kept_ids}
 use Rattle.session_laws.proofs.Kept.{of_same, tries_same}
 use Rattle.session_laws.proofs.Names.{earlier_name, get_more, length_with, name_placed, name_of_some, name_with, name_within, names_with, owners_with, permits_other, permits_with, same_name, there_within, was_with, with_other, with_same}
-use Rattle.session_laws.proofs.Numbers.{IsIn, Rising, in_right, rising_in, rising_right}
+use Rattle.session_laws.proofs.Numbers.{IsIn, Rising, in_right, rising_in, rising_right, requests_in}
 use Rattle.session_laws.proofs.Owes.{request_story}
 use Rattle.session_laws.proofs.Permits.{held_changed, held_same, on_this}
 use Rattle.session_laws.proofs.Closing.{one_of}
@@ -187,7 +187,10 @@ queued_let f g requests p count (q ∷ qs) w eased all = (
 entries_let : (requests : List Request) (p count : ℕ) (row : List Entry) → is_waiting_at requests p ≡ true → AllByRecursion (IsEntry requests) row → AllByRecursion (IsEntry (with_permits requests p progress.Waiting count)) row
 entries_let requests p count [] w all = tt
 entries_let requests p count (e ∷ es) w all = (
-  record { below = subst (λ n. e.id < n) (sym (length_with requests p progress.Waiting count)) all.0.below; placed_at = λ t. test_kept is_placed requests p count e.id w ∙ all.0.placed_at t },
+  elim all.0 [
+    | inl r ↦ inl (record { below = subst (λ n. e.id < n) (sym (length_with requests p progress.Waiting count)) r.below; placed_at = λ t. test_kept is_placed requests p count e.id w ∙ r.placed_at t })
+    | inr a ↦ inr a
+  ],
   entries_let requests p count es w all.1,
 )
 
@@ -200,7 +203,7 @@ kept_let requests waiting admitted p count m w (inr v) = inr (test_kept is_waiti
 lines_let : (f g : ℕ → Story) (requests : List Request) (link : LinkState) (waiting admitted : List Waiting) (pending started : List ℕ) (p count : ℕ) → is_waiting_at requests p ≡ true → ((n : ℕ) → IsEased (f n) (g n))
     → TiedLines f requests link waiting admitted pending started → TiedLines g (with_permits requests p progress.Waiting count) link waiting admitted pending started
 lines_let f g requests link waiting admitted pending started p count w eased h = record {
-  line = subst (Rising 0 (started ++ (queue_ids link.queue ++ kept_ids admitted waiting))) (sym (length_with requests p progress.Waiting count)) h.line;
+  line = subst (Rising 0 (requests_in started ++ (queue_ids link.queue ++ kept_ids admitted waiting))) (sym (length_with requests p progress.Waiting count)) h.line;
   queued = queued_let f g requests p count link.queue w eased h.queued;
   entries = entries_let requests p count link.row w h.entries;
   packs = packs_let f g requests p count waiting eased h.packs;
@@ -238,6 +241,7 @@ waits_let f g requests life fresh moved p count w eased h =
       no_setup = λ m link u i v d e. h.no_setup m link u i (waits m v) d (sym (same m) ∙ e);
       no_permit = λ m link i v d e. h.no_permit m link i (waits m v) d (sym (same m) ∙ e);
       no_place = λ m i a e. h.no_place m i (admits m a) (sym (same m) ∙ e);
+      seatless = λ m a e. h.seatless m (admits m a) (sym (same m) ∙ e);
       no_room = λ m i j e. h.no_room m i j (sym (same m) ∙ e);
     }
 
@@ -246,10 +250,11 @@ tries_let : (l : Ledger) (f g : ℕ → Story) (requests : List Request) (link :
 tries_let l f g requests link started p count eased before =
     let h = tries_same l f g requests link started (λ n. sym (eased n).submission) (λ n. sym (eased n).tries) before in
     let still = name_with requests p progress.Waiting count in
+    let within : (m : ℕ) → m < length (with_permits requests p progress.Waiting count) → m < length requests = λ m l. subst (λ x. m < x) (length_with requests p progress.Waiting count) l in
     record {
       owners = h.owners ∙ ap (setup_owners (setup_count l.starts)) (sym (owners_let started));
-      shapes = λ k m s i j. h.shapes k m s i j ∙ ap (λ n. shape (g n)) (sym (still m));
-      tried = λ k m i. ap (λ n. (g n).tries) (still m) ∙ h.tried k m i;
+      shapes = λ k m s l i j. h.shapes k m s (within m l) i j ∙ ap (λ n. shape (g n)) (sym (still m));
+      tried = λ k m l i. ap (λ n. (g n).tries) (still m) ∙ h.tried k m (within m l) i;
       untried = λ m r i out. let x = was_with requests p progress.Waiting count m r i in ap (λ n. (g n).tries) (sym x.2) ∙ h.untried m x.0 x.1 out;
     }
   where
@@ -295,6 +300,8 @@ let_tied b t p count free g noted timers w alone eased has sum numbers h = recor
   pushes = h.pushes;
   life = h.life;
   creds = h.creds;
+  count = h.count;
+  renewal = h.renewal;
   setup = h.setup;
   link = λ e. carried_tied t.life t.requests (with_permits t.requests p progress.Waiting count) (b.link t.link) (sym (owners_with t.requests p progress.Waiting count)) (h.link e);
   names = names_with t.table t.requests p progress.Waiting count h.names;
@@ -311,14 +318,14 @@ let_tied b t p count free g noted timers w alone eased has sum numbers h = recor
 -- whose step is first
 --
 -- the first of those that wait for the connection, or for a permit, where those that wait for a place find the queue full
-first_early : (b : Book) (t : Inner) (q : ℕ) (rest : List ℕ) → Tied b t → IsRunning t → ((link_in t.life).queue ≡ []) ⊎ (holds_back (link_in t.life) ≡ true) → (t.admitted ≡ []) ⊎ (is_full (link_in t.life) ≡ true) → waiting_ids t.waiting ≡ q ∷ rest
+first_early : (b : Book) (t : Inner) (q : ℕ) (rest : List ℕ) → Tied b t → IsRunning t → ((link_in t.life).queue ≡ []) ⊎ (holds_back (link_in t.life) ≡ true) → (t.admitted ≡ []) ⊎ (is_full_beside (link_in t.life) (in_front t.renewal) ≡ true) → waiting_ids t.waiting ≡ q ∷ rest
     → IsFirstToMove b (name_at t.requests q)
 first_early b t q rest h r still full first n before m =
     let ids = queue_ids (link_in t.life).queue in
     let kept = kept_ids t.admitted t.waiting in
     let l = moves_later b t n h r m in
     let stays : is_due (next_step b (name_at t.requests l.p)) ≡ false → ⊥ = λ e. not_both (is_due (next_step b n)) (ap (λ x. is_due (next_step b x)) (sym l.name) ∙ e) m.due in
-    let all = rising_right 0 (waiting_ids t.admitted) (waiting_ids t.waiting) (length t.requests) (rising_right 0 ids kept (length t.requests) (rising_right 0 t.started (ids ++ kept) (length t.requests) h.lines.line)) in
+    let all = rising_right 0 (waiting_ids t.admitted) (waiting_ids t.waiting) (length t.requests) (rising_right 0 ids kept (length t.requests) (rising_right 0 (requests_in t.started) (ids ++ kept) (length t.requests) h.lines.line)) in
     let line = subst (λ ns. Rising 0 ns (length t.requests)) first all in
     let within = rising_in 0 (q ∷ rest) (length t.requests) q line (inl refl) in
     let earlier = earlier_name t.table t.requests l.p q h.names l.within within.1 (subst (λ x. x < name_at t.requests q) (sym l.name) before) in
@@ -333,21 +340,23 @@ first_early b t q rest h r still full first n before m =
       ]
     ]
 
--- a connection that is up, whose next is to be let in: what is in its queue is held back, and those that wait for a
--- place find it full
+-- a connection that is up, whose next is to be let in: what is in its queue is held back, those that wait for a place find it
+-- full, and new credentials are told that may be
 pub record IsOpening (t : Inner) (link : LinkState) (q : Waiting) (qs : List Waiting) : Type 0 where
   pub life : t.life ≡ Ready link
   pub settled : t.pending ≡ []
   pub told : IsToldIn t
   pub fit : IsFit t.size t.bound link
   pub held : (link.queue ≡ []) ⊎ (holds_back link ≡ true)
-  pub full : (t.admitted ≡ []) ⊎ (is_full link ≡ true)
+  pub full : (t.admitted ≡ []) ⊎ (is_full_beside link (in_front t.renewal) ≡ true)
+  pub seats : HasSeats t.moved (in_front t.renewal) link t.size
+  pub renewed : HasRenewed t.renewal t.life
   pub waiting : t.waiting ≡ q ∷ qs
   pub is_waiting : is_waiting_at t.requests q.number ≡ true
 
 -- it runs
 opening_running : (t : Inner) (link : LinkState) (q : Waiting) (qs : List Waiting) → IsOpening t link q qs → IsRunning t
-opening_running t link q qs o = running_of t link o.settled o.life o.fit
+opening_running t link q qs o = running_of t link o.settled o.life o.fit o.seats
 
 -- its step is first
 opening_first : (b : Book) (t : Inner) (link : LinkState) (q : Waiting) (qs : List Waiting) → IsOpening t link q qs → Tied b t → IsFirstToMove b (name_at t.requests q.number)
@@ -355,7 +364,7 @@ opening_first b t link q qs o h =
     let here : link_in t.life ≡ link = ap link_in o.life in
     first_early b t q.number (waiting_ids qs) h (opening_running t link q qs o)
     (subst (λ (x : LinkState). (x.queue ≡ []) ⊎ (holds_back x ≡ true)) (sym here) o.held)
-    (subst (λ (x : LinkState). (t.admitted ≡ []) ⊎ (is_full x ≡ true)) (sym here) o.full)
+    (subst (λ (x : LinkState). (t.admitted ≡ []) ⊎ (is_full_beside x (in_front t.renewal) ≡ true)) (sym here) o.full)
     (ap waiting_ids o.waiting)
 
 -- and it is still to start
@@ -383,7 +392,7 @@ may_take b t link q qs k o alone e some h ends =
     let p = q.number in
     let within = there_within is_waiting t.requests p o.is_waiting in
     record {
-      begun = begun_up b t h o.settled o.told (ap is_ready o.life) ends;
+      begun = begun_up b t h (opening_running t link q qs o) o.told ends o.renewed;
       unstarted = opening_unstarted b t link q qs o h;
       takes = take_step b t p k h (opening_running t link q qs o) o.is_waiting (λ i. subst (IsIn p) alone i) e some
           ∙ ap (λ x. takes (min t.free (permits_for x k))) (sym (opening_packed b t link q qs o h).is_of.shape_is);
@@ -447,7 +456,7 @@ may_time b t link q qs number ms o h ends counted has time none =
     let p = q.number in
     record {
       n = name_at t.requests p;
-      begun = begun_up b t h o.settled o.told (ap is_ready o.life) ends;
+      begun = begun_up b t h (opening_running t link q qs o) o.told ends o.renewed;
       unstarted = opening_unstarted b t link q qs o h;
       asks = ask_step b t p ms h (opening_running t link q qs o) (waiting_open t.requests p o.is_waiting) has (sym (opening_packed b t link q qs o h).time_is ∙ time) none;
       in_order = opening_first b t link q qs o h;
@@ -483,6 +492,8 @@ ask_tied b t p number ms w alone h =
       submissions = k.submissions;
       timeout = k.timeout;
       shut = k.shut;
+      within = k.within;
+      few = k.few;
       settings = record { size_is = k.settings.size_is; bound_is = k.settings.bound_is; limit_is = k.settings.limit_is; some = k.settings.some; limited = k.settings.limited };
       one = k.one;
       only = k.only;
@@ -503,10 +514,10 @@ permits_twice requests p one two a c =
 
 -- one that waits holds its permits, where they are counted, and has no timer
 pub record HasTaken (before : List Action) (f : Core) (t : Inner) (p count : ℕ) (acts : List LinkAct) : Type 0 where
-  pub going : IsGoing (trace_of_acts before f acts) (lets t p count (t.free - count) (f.timers ++ timers_of acts))
+  pub going : IsGoing (trace_of_acts before f acts) (lets t p count (t.free - count) (f.timers ++ timers_of f.single.link acts))
   pub has : (is_none t.limit || nat_lt 0 ((book (trace_of_acts before f acts)).story (name_at t.requests p)).permits) ≡ true
   pub none : ((book (trace_of_acts before f acts)).story (name_at t.requests p)).clock ≡ None
-  pub sourced : f.sources ++ sources_of f.single.link acts ≡ t.sources
+  pub sourced : f.sources ++ sources_of f.single.link (length f.sources) acts ≡ t.sources
 
 -- where permits are counted it has taken some
 some_taken : (before : List Action) (f : Core) (acts : List LinkAct) (conn : MultiplexedConnection) (started : List ℕ) (link : LinkState) (q : Waiting) (qs : List Waiting) (k : ℕ) → IsOpening (seen f acts conn [] started) link q qs → conn.limit ≡ Some k → conn.free ≢ 0
@@ -526,16 +537,16 @@ some_taken before f acts conn started link q qs k o e some h =
     let first : IsGoing (trace ++ taken ∷ []) after = going_more trace taken after h.sound.stands
     (refl, may_take b t link q qs k o refl e some h.sound.tied h.ended)
     (take_tied b t p count o.is_waiting refl most.0 h.sound.tied)
-    h.ended in
+    h.ended h.renewed in
     let there = subst (λ (x : List Action). IsGoing x after) (sym (shown_more before f.single.link (length f.timers) (length f.sources) acts a)) first in
     let book_is = book_of_more before f acts a in
     let own : (entered b taken).story n ≡ holds (b.story n) count = taken_if (n == n) (holds (b.story n) count) (b.story n) (eq_test n n refl) in
     let story_is : (book (trace_of_acts before f (acts ++ a ∷ []))).story n ≡ holds (b.story n) count = ap (λ (x : Book). x.story n) book_is ∙ own in
     record {
-      going = subst (λ ts. IsGoing (trace_of_acts before f (acts ++ a ∷ [])) (lets t p count (conn.free - count) (f.timers ++ ts))) (sym (quiet_timers acts a refl)) there;
+      going = subst (λ ts. IsGoing (trace_of_acts before f (acts ++ a ∷ [])) (lets t p count (conn.free - count) (f.timers ++ ts))) (sym (quiet_timers f.single.link acts a refl)) there;
       has = ap (λ (x : Story). is_none conn.limit || nat_lt 0 x.permits) story_is ∙ ap (λ x. is_none conn.limit || x) (some_less count most.1) ∙ or_true (is_none conn.limit);
       none = ap (λ (x : Story). x.clock) story_is ∙ (h.sound.tied.permits.none p o.is_waiting (λ i. i)).1;
-      sourced = ap (λ ss. f.sources ++ ss) (quiet_sources f.single.link acts a refl);
+      sourced = ap (λ ss. f.sources ++ ss) (quiet_sources f.single.link (length f.sources) acts a refl);
     }
   where
     some_less : (n : ℕ) → 0 < n → nat_lt 0 n ≡ true
@@ -547,7 +558,7 @@ none_taken : (before : List Action) (f : Core) (acts : List LinkAct) (conn : Mul
 none_taken before f acts conn started link q qs o e h =
     let t = seen f acts conn [] started in
     record {
-      going = record { sound = record { stands = h.sound.stands; tied = free_tied (book (trace_of_acts before f acts)) t q.number o.is_waiting refl e h.sound.tied }; ended = h.ended };
+      going = record { sound = record { stands = h.sound.stands; tied = free_tied (book (trace_of_acts before f acts)) t q.number o.is_waiting refl e h.sound.tied }; ended = h.ended; renewed = h.renewed };
       has = ap (λ (x : Option ℕ). is_none x || nat_lt 0 ((book (trace_of_acts before f acts)).story (name_at conn.requests q.number)).permits) e;
       none = (h.sound.tied.permits.none q.number o.is_waiting (λ i. i)).1;
       sourced = refl;
@@ -571,9 +582,9 @@ has_taken before f acts conn started link q qs (Some k) o e some h =
 
 -- it is let in
 pub record HasLet (before : List Action) (f : Core) (t : Inner) (p count : ℕ) (acts : List LinkAct) : Type 0 where
-  pub going : IsGoing (trace_of_acts before f acts) (lets t p count (t.free - count) (f.timers ++ timers_of acts))
+  pub going : IsGoing (trace_of_acts before f acts) (lets t p count (t.free - count) (f.timers ++ timers_of f.single.link acts))
   pub is : is_let_in t.limit ((book (trace_of_acts before f acts)).story (name_at t.requests p)) ≡ true
-  pub sourced : f.sources ++ sources_of f.single.link acts ≡ t.sources
+  pub sourced : f.sources ++ sources_of f.single.link (length f.sources) acts ≡ t.sources
 
 -- it is still to be let in when it holds its permits
 opening_taken : (t : Inner) (link : LinkState) (q : Waiting) (qs : List Waiting) (count free : ℕ) (timers : List Purpose) → IsOpening t link q qs → IsOpening (lets t q.number count free timers) link q qs
@@ -584,6 +595,8 @@ opening_taken t link q qs count free timers o = record {
   fit = o.fit;
   held = o.held;
   full = o.full;
+  seats = o.seats;
+  renewed = o.renewed;
   waiting = o.waiting;
   is_waiting = with_same is_waiting t.requests q.number progress.Waiting count (there_within is_waiting t.requests q.number o.is_waiting);
 }
@@ -593,8 +606,9 @@ let_untimed : (before : List Action) (f : Core) (t : Inner) (link : LinkState) (
 let_untimed before f t link q qs count acts o e h =
     let b = book (trace_of_acts before f acts) in
     let n = name_at t.requests q.number in
-    let now = lets t q.number count (t.free - count) (f.timers ++ timers_of acts) in
-    let packed = opening_packed b now link q qs (opening_taken t link q qs count (t.free - count) (f.timers ++ timers_of acts) o) h.going.sound.tied in
+    let timers = f.timers ++ timers_of f.single.link acts in
+    let now = lets t q.number count (t.free - count) timers in
+    let packed = opening_packed b now link q qs (opening_taken t link q qs count (t.free - count) timers o) h.going.sound.tied in
     let time : (b.story n).timeout ≡ None = ap (λ m. (b.story m).timeout) (sym (name_with t.requests q.number progress.Waiting count q.number)) ∙ sym packed.time_is ∙ e in
     record { going = h.going; is = λ i. h.has i && (is_none (time i) || is_some (b.story n).clock); sourced = h.sourced }
 
@@ -606,17 +620,17 @@ let_timed before f t link q qs count ms acts o e same h =
     let n = name_at t.requests p in
     let trace = trace_of_acts before f acts in
     let b = book trace in
-    let timers = f.timers ++ timers_of acts in
+    let timers = f.timers ++ timers_of f.single.link acts in
     let now = lets t p count (t.free - count) timers in
     let within = there_within is_waiting t.requests p o.is_waiting in
     let named = name_with t.requests p progress.Waiting count p in
-    let number = length f.timers + length (timers_of acts) in
+    let number = length f.timers + length (timers_of f.single.link acts) in
     let what = purpose.Response (owner.Try n 0) in
     let timer = action.Timer number ms what in
     let a = act.Timer n ms in
     let opening = opening_taken t link q qs count (t.free - count) timers o in
     let alone : (m : ℕ) → IsIn m (p ∷ []) → p ≡ m = λ m i. elim i [ inl x ↦ x | inr k ↦ absurd k ] in
-    let may = may_time b now link q qs number ms opening h.going.sound.tied h.going.ended (sym (length-append f.timers (timers_of acts)))
+    let may = may_time b now link q qs number ms opening h.going.sound.tied h.going.ended (sym (length-append f.timers (timers_of f.single.link acts)))
     (ap (λ m. is_none t.limit || nat_lt 0 (b.story m).permits) named ∙ h.has) e (ap (λ m. (b.story m).clock) named ∙ h.none) in
     let stands : MayTime b number ms what = subst (λ m. MayTime b number ms (purpose.Response (owner.Try m 0))) named may in
     let asked = ask_tied b now p number ms opening.is_waiting alone h.going.sound.tied in
@@ -625,14 +639,14 @@ let_timed before f t link q qs count ms acts o e same h =
     let tied : Tied (entered b timer) after =
     subst (λ (x : List Request). Tied (entered b timer) (record after { requests = x })) again
     (subst (λ m. Tied (entered b (action.Timer number ms (purpose.Response (owner.Try m 0)))) (record after { requests = with_permits now.requests p progress.Waiting (permits_at now.requests p); timers = timers ++ purpose.Response (owner.Try m 0) ∷ [] })) named asked) in
-    let first : IsGoing (trace ++ timer ∷ []) after = going_more trace timer after h.going.sound.stands (inr stands) tied h.going.ended in
+    let first : IsGoing (trace ++ timer ∷ []) after = going_more trace timer after h.going.sound.stands (inr (inl stands)) tied h.going.ended h.going.renewed in
     let there = subst (λ (x : List Action). IsGoing x after) (sym (shown_more before f.single.link (length f.timers) (length f.sources) acts a)) first in
     let own : (entered b timer).story n ≡ clocked (b.story n) number = taken_if (n == n) (clocked (b.story n) number) (b.story n) (eq_test n n refl) in
     let story_is : (book (trace_of_acts before f (acts ++ a ∷ []))).story n ≡ clocked (b.story n) number = ap (λ (x : Book). x.story n) (book_of_more before f acts a) ∙ own in
     record {
-      going = subst (λ ts. IsGoing (trace_of_acts before f (acts ++ a ∷ [])) (lets t p count (t.free - count) ts)) (append_assoc f.timers (timers_of acts) (what ∷ []) ∙ ap (λ ts. f.timers ++ ts) (sym (timers_more acts a))) there;
+      going = subst (λ ts. IsGoing (trace_of_acts before f (acts ++ a ∷ [])) (lets t p count (t.free - count) ts)) (append_assoc f.timers (timers_of f.single.link acts) (what ∷ []) ∙ ap (λ ts. f.timers ++ ts) (sym (timers_more f.single.link acts a))) there;
       is = ap (is_let_in t.limit) story_is ∙ (λ i. h.has i && or_true (is_none (b.story n).timeout) i);
-      sourced = ap (λ ss. f.sources ++ ss) (quiet_sources f.single.link acts a refl) ∙ h.sourced;
+      sourced = ap (λ ss. f.sources ++ ss) (quiet_sources f.single.link (length f.sources) acts a refl) ∙ h.sourced;
     }
 
 -- by its time

@@ -6,6 +6,7 @@ pub mod SetUp
 pub mod Said
 pub mod Entered
 pub mod Names
+pub mod Renewals
 pub mod Permits
 pub mod InLine
 pub mod Behind
@@ -25,6 +26,7 @@ pub mod LetIn
 pub mod SetsUp
 pub mod Close
 pub mod Telling
+pub mod Replies
 pub mod Announce
 pub mod Heard
 pub mod Failing
@@ -32,6 +34,7 @@ pub mod End
 pub mod ComeUp
 pub mod Connect
 pub mod Given
+pub mod Renewed
 pub mod Took
 pub mod ReadSetup
 pub mod ReadWanting
@@ -42,11 +45,13 @@ pub mod Further
 pub mod Submit
 pub mod Asked
 pub mod Effects
+pub mod Renews
 pub mod Passes
 pub mod Moved
 pub mod Write
 pub mod Waits
 pub mod Settled
+pub mod Grown
 pub mod Legality
 pub mod Opening
 pub mod Outcomes

@@ -1,5 +1,6 @@
 -- All requests of a connection are moved.
 use Rattle.std.proofs.Common.{Bool, List, [], ap, false, inl, inr, length, refl, subst, sym, true, ℕ, ◌++◌, ◌∙◌, ◌∷◌, ◌≡◌, ◌⊎◌}
+use Rattle.std.specs.Prelude.{◌&&◌}
 use Rattle.containers.proofs.Choices.{chosen, left_if, not_both, taken_if}
 use Rattle.redis_error.specs.declared.redis_error.RedisError.{RedisError}
 use Rattle.driver_model.specs.declared.action.Action.{Action}
@@ -7,7 +8,7 @@ use Rattle.driver_model.specs.declared.outcome.Outcome.{Outcome}
 use Rattle.driver_model.specs.declared.outcome.Outcome.TheVariants as outcome
 use Rattle.link_core.specs.Link.{LinkState, holds_back}
 use Rattle.link_laws.specs.Settles.{awaited_ids, wanted}
-use Rattle.mux_conn.specs.Connection.{Work, admits_none, admits_none_at, has_no_permit, with_link}
+use Rattle.mux_conn.specs.Connection.{Work, admits_none, admits_none_at, has_no_permit, with_link, in_front, is_due, is_ready}
 use Rattle.mux_conn.specs.Effects.{failed_each, nobody_waits, waiting_failed}
 use Rattle.mux_conn.specs.Passes.{admitted, admitted_all, admitted_at, admitted_each, moved_up_all, moved_up_each, passed, started_at, still_admitted, still_waiting}
 use Rattle.mux_conn.specs.Requests.{answered, with_permits, is_open as is_open_progress, is_open_at, is_waiting, is_waiting_at}
@@ -21,10 +22,14 @@ use Rattle.legal_trace.specs.Book.{Book, book}
 use Rattle.legal_trace.specs.Legal.{NoneEnds}
 use Rattle.session_laws.proofs.Answer.{after_end}
 use Rattle.session_laws.proofs.Close.{waiting_ends}
-use Rattle.session_laws.proofs.Going.{IsGoing}
+use Rattle.mux_conn.specs.Renewals as renewals
+use Rattle.mux_conn.specs.Renewals.{renewal_asked, renewal_moved}
+use Rattle.session_laws.proofs.Ahead.{HasSeats}
+use Rattle.session_laws.proofs.Renews.{HasTold, renewed_told}
+use Rattle.session_laws.proofs.Going.{IsGoing, HasRenewed}
 use Rattle.session_laws.proofs.InLine.{kept_ids}
 use Rattle.session_laws.proofs.Names.{open_within, with_other, with_then}
-use Rattle.session_laws.proofs.Numbers.{IsIn, Rising, rising_right}
+use Rattle.session_laws.proofs.Numbers.{IsIn, Rising, rising_right, requests_in}
 use Rattle.session_laws.proofs.Passes.{IsDone, IsSeated, IsUp, admitted_done, moved_up_seated, moved_up_waits, moving, started_keeps, started_up, no_room}
 use Rattle.session_laws.proofs.SetsUp.{setting_begun}
 use Rattle.session_laws.proofs.Settle.{Holds, answered_leaves, failed_leaves, seen, trace_of_acts}
@@ -38,6 +43,7 @@ pub record HasMoved (before : List Action) (f : Core) (w : Work) : Type 0 where
   pub ended : NoneEnds (book (trace_of_acts before f w.acts))
   pub fit : IsFitIn w.conn
   pub still : IsStill w.conn
+  pub seats : HasSeats w.conn.moved (in_front w.conn.renewal) (link_in w.conn.life) w.conn.size
 
 -- what an applied event gives: none was moved in its turn
 pub record IsReady (before : List Action) (f : Core) (w : Work) (started : List ℕ) : Type 0 where
@@ -73,16 +79,20 @@ up_moved before f w done =
       still = record {
         setup = λ link u e. absurd (not_both_lives c.life h.link link u h.life e);
         held = λ link e. subst (λ (x : LinkState). (x.queue ≡ []) ⊎ (holds_back x ≡ true)) (one_link c.life h.link link h.life e) h.held;
-        full = λ link e. elim done.seated.full [ inl empty ↦ inl empty | inr none ↦ inr (no_room c.life link e none) ];
+        full = λ link e. elim done.seated.full [ inl empty ↦ inl empty | inr none ↦ inr (no_room c link e none) ];
+        renewed = h.going.renewed;
         waiting = λ link e. done.none;
         none_waits = λ over. absurd (not_both (has_ended c.life) (ap has_ended h.life) over);
       };
+      seats = subst (λ (x : LinkState). HasSeats c.moved (in_front c.renewal) x c.size) (sym (ap link_in h.life)) h.seats;
     }
 
--- all are moved there
-pub ready_moved : (before : List Action) (f : Core) (w : Work) (started : List ℕ) (link : LinkState) → w.conn.life ≡ Ready link → IsReady before f w started → HasMoved before f (passed w)
-ready_moved before f w started link life h =
-    let fit = h.fit.link link life in
+-- all are moved there, once new credentials are told
+told_moved : (before : List Action) (f : Core) (w : Work) → HasTold before f w → HasMoved before f (admitted_all (moved_up_all (started_at w w.conn.life)))
+told_moved before f w h =
+    let started = h.started in
+    let link = h.link in
+    let life = h.life in
     let places = w.conn.admitted in
     let waits = w.conn.waiting in
     let kept = kept_ids places waits in
@@ -90,18 +100,20 @@ ready_moved before f w started link life h =
     let queue = queue_ids (link_in w.conn.life).queue in
     let v = started_at w (Ready link) in
     let keeps = started_keeps w (Ready link) in
-    let line = rising_right 0 queue kept hi (rising_right 0 started (queue ++ kept) hi h.holds.tied.lines.line) in
+    let line = rising_right 0 queue kept hi (rising_right 0 (requests_in started) (queue ++ kept) hi h.holds.tied.lines.line) in
+    let seats : HasSeats w.conn.moved (in_front w.conn.renewal) link w.conn.size = λ p i. absurd (subst (IsIn p) h.moved i) in
     let going : IsGoing (trace_of_acts before f w.acts) (moving f w.acts (with_link w link).conn places waits started) = record {
       sound = subst (λ (x : Life). Sound (trace_of_acts before f w.acts) (record (seen f w.acts w.conn [] started) { life = x })) life h.holds;
       ended = h.ended;
+      renewed = subst (HasRenewed w.conn.renewal) life h.renewed;
     } in
-    let up : IsUp before f v places waits [] kept = started_up before f w link places waits kept started fit going (subst (λ ns. Rising 0 (ns ++ kept) hi) (sym h.moved) line) in
-    let first : IsUp before f (still_admitted v []) places waits [] kept = record { link = up.link; life = up.life; fit = up.fit; held = up.held; started = up.started; going = up.going; order = up.order } in
+    let up : IsUp before f v places waits [] kept = started_up before f w link places waits kept started h.fit seats going (subst (λ ns. Rising 0 (ns ++ kept) hi) (sym h.moved) line) in
+    let first : IsUp before f (still_admitted v []) places waits [] kept = record { link = up.link; life = up.life; fit = up.fit; seats = up.seats; held = up.held; started = up.started; going = up.going; order = up.order } in
     let u = moved_up_each (still_admitted v []) places in
     let seated : IsSeated before f u waits = moved_up_seated before f (still_admitted v []) places waits first in
     let s = seated.up in
     let second : IsSeated before f (still_waiting u []) waits = record {
-      up = record { link = s.link; life = s.life; fit = s.fit; held = s.held; started = s.started; going = s.going; order = s.order };
+      up = record { link = s.link; life = s.life; fit = s.fit; seats = s.seats; held = s.held; started = s.started; going = s.going; order = s.order };
       full = seated.full;
     } in
     let same : u.conn.waiting ≡ waits = moved_up_waits (still_admitted v []) places ∙ keeps.waiting in
@@ -109,6 +121,16 @@ ready_moved before f w started link life h =
     subst (λ (x : Life). HasMoved before f (admitted_all (moved_up_all (started_at w x)))) (sym life)
     (subst (λ (x : List Waiting). HasMoved before f (admitted_all (moved_up_each (still_admitted v []) x))) (sym keeps.admitted)
     (subst (λ (x : List Waiting). HasMoved before f (admitted_each (still_waiting u []) x)) (sym same) all))
+
+-- and all of it
+pub ready_moved : (before : List Action) (f : Core) (w : Work) (started : List ℕ) (link : LinkState) → w.conn.life ≡ Ready link → IsReady before f w started → HasMoved before f (passed w)
+ready_moved before f w started link life h = told_moved before f (renewals.renewed w) (renewed_told before f w started link life h.holds h.ended (h.fit.link link life) h.moved)
+
+-- elsewhere none are told
+unready_renewed : (w : Work) → is_ready w.conn.life ≡ false → renewals.renewed w ≡ w
+unready_renewed w down =
+    let r = w.conn.renewal in
+    left_if (is_ready w.conn.life && is_due r) (renewal_moved (renewal_asked w) w.conn.life r.waiting) w (ap (λ x. x && is_due r) down)
 
 -- while the connect isn't answered, or credentials are to come
 --
@@ -122,6 +144,7 @@ none_moved_up w e = ap (moved_up_each (still_admitted w [])) e ∙ ap (still_adm
 
 -- nothing of a connection can move: no message starts, and nobody who waits for the connection is let in
 record IsStuck (w : Work) : Type 0 where
+  unready : is_ready w.conn.life ≡ false
   none_starts : started_at w w.conn.life ≡ w
   admits : admits_none w.conn ≡ true
   down : (link : LinkState) → w.conn.life ≡ Ready link → ⊥
@@ -132,7 +155,8 @@ record IsStuck (w : Work) : Type 0 where
 stuck_moved : (before : List Action) (f : Core) (w : Work) (started : List ℕ) → IsStuck w → IsReady before f w started → HasMoved before f (passed w)
 stuck_moved before f w started stuck h =
     let same : passed w ≡ w =
-    ap (λ (x : Work). admitted_all (moved_up_all x)) stuck.none_starts ∙ ap admitted_all (none_moved_up w (h.fit.none stuck.down)) ∙ stuck_stays (still_waiting w []) w.conn.waiting stuck.admits in
+    ap (λ (x : Work). admitted_all (moved_up_all (started_at x x.conn.life))) (unready_renewed w stuck.unready)
+    ∙ ap (λ (x : Work). admitted_all (moved_up_all x)) stuck.none_starts ∙ ap admitted_all (none_moved_up w (h.fit.none stuck.down)) ∙ stuck_stays (still_waiting w []) w.conn.waiting stuck.admits in
     subst (HasMoved before f) (sym same) (record {
       started = started;
       holds = h.holds;
@@ -142,14 +166,17 @@ stuck_moved before f w started stuck h =
         setup = λ link u e. absurd (stuck.unset link u e);
         held = λ link e. absurd (stuck.down link e);
         full = λ link e. absurd (stuck.down link e);
+        renewed = λ link e. absurd (stuck.down link e);
         waiting = λ link e. absurd (stuck.down link e);
         none_waits = λ over. absurd (not_both (has_ended w.conn.life) stuck.alive over);
       };
+      seats = λ p i. absurd (subst (IsIn p) h.moved i);
     })
 
 -- so it is while the connect isn't answered
 dialing_stuck : (w : Work) → w.conn.life ≡ Dialing → IsStuck w
 dialing_stuck w life = record {
+  unready = ap is_ready life;
   none_starts = ap (started_at w) life;
   admits = ap (λ (x : Life). admits_none_at x (has_no_permit w.conn.limit w.conn.free)) life;
   down = λ link e. (let no : Dialing ≡ Ready link = sym life ∙ e in cc);
@@ -160,6 +187,7 @@ dialing_stuck w life = record {
 -- and while credentials are to come
 wanting_stuck : (w : Work) (link : LinkState) → w.conn.life ≡ Wanting link → IsStuck w
 wanting_stuck w link life = record {
+  unready = ap is_ready life;
   none_starts = ap (started_at w) life;
   admits = ap (λ (x : Life). admits_none_at x (has_no_permit w.conn.limit w.conn.free)) life;
   down = λ x e. (let no : Wanting link ≡ Ready x = sym life ∙ e in cc);
@@ -174,11 +202,12 @@ setting_moved : (before : List Action) (f : Core) (w : Work) (started : List ℕ
 setting_moved before f w started link with_user life h =
     let none = h.fit.none (λ x e. absurd (not_both_lives w.conn.life x link with_user e life)) in
     let v = started_at w (SettingUp link with_user) in
-    let begun = setting_begun before f w started link with_user life (h.fit.setup link with_user life) none (record { sound = h.holds; ended = h.ended }) in
+    let begun = setting_begun before f w started link with_user life (h.fit.setup link with_user life) none (record { sound = h.holds; ended = h.ended; renewed = λ x e. absurd (not_both_lives w.conn.life x link with_user e life) }) in
     let c = v.conn in
     let down : (x : LinkState) → c.life ≡ Ready x → ⊥ = λ x e. not_both_lives c.life x begun.link with_user e begun.life in
     let same : passed w ≡ v =
-    ap (λ (x : Life). admitted_all (moved_up_all (started_at w x))) life ∙ ap admitted_all (none_moved_up v begun.admitted) ∙ stuck_stays (still_waiting v []) c.waiting (ap (λ (x : Life). admits_none_at x (has_no_permit c.limit c.free)) begun.life) in
+    ap (λ (x : Work). admitted_all (moved_up_all (started_at x x.conn.life))) (unready_renewed w (ap is_ready life))
+    ∙ ap (λ (x : Life). admitted_all (moved_up_all (started_at w x))) life ∙ ap admitted_all (none_moved_up v begun.admitted) ∙ stuck_stays (still_waiting v []) c.waiting (ap (λ (x : Life). admits_none_at x (has_no_permit c.limit c.free)) begun.life) in
     subst (HasMoved before f) (sym same) (record {
       started = started;
       holds = begun.going.sound;
@@ -193,9 +222,11 @@ setting_moved before f w started link with_user life h =
         setup = λ x u e. subst (λ (y : LinkState). (y.queue ≡ []) ⊎ (holds_back y ≡ true)) (one_setting c.life begun.link x with_user u begun.life e) begun.held;
         held = λ x e. absurd (down x e);
         full = λ x e. absurd (down x e);
+        renewed = λ x e. absurd (down x e);
         waiting = λ x e. absurd (down x e);
         none_waits = λ over. absurd (not_both (has_ended c.life) (ap has_ended begun.life) over);
       };
+      seats = λ p i k. absurd (subst (λ (x : Life). IsIn p (queue_ids (link_in x).queue)) begun.life k);
     })
   where
     one_setting : (life : Life) (link link' : LinkState) (u u' : Bool) → life ≡ SettingUp link u → life ≡ SettingUp link' u' → link ≡ link'
@@ -210,7 +241,7 @@ OpenWaits requests = (p : ℕ) → is_open_at requests p ≡ true → is_waiting
 -- so it is on a link that has ended, where none waits for a place
 open_waits : (b : Book) (t : Inner) (error : RedisError) → Tied b t → t.pending ≡ [] → t.life ≡ Ended error → t.admitted ≡ [] → OpenWaits t.requests
 open_waits b t error h none over empty p e = elim (h.lines.there p e) [
-  | inl i ↦ absurd (subst (λ (x : Life). IsIn p ([] ++ (wanted (link_in x).row ++ awaited_ids (link_in x).queue))) over (subst (λ ns. IsIn p (ns ++ (wanted (link_in t.life).row ++ awaited_ids (link_in t.life).queue))) none i))
+  | inl i ↦ absurd (subst (λ (x : Life). IsIn p ([] ++ (requests_in (wanted (link_in x).row) ++ awaited_ids (link_in x).queue))) over (subst (λ ns. IsIn p (ns ++ (requests_in (wanted (link_in t.life).row) ++ awaited_ids (link_in t.life).queue))) none i))
   | inr k ↦ elim k [ inl a ↦ absurd (subst (λ ws. IsIn p (waiting_ids ws)) empty a.1) | inr w ↦ w.0 ]
 ]
 
@@ -249,7 +280,8 @@ passed_over_is : (w : Work) (e : RedisError) → w.conn.life ≡ Ended e → w.c
 passed_over_is w e over empty h =
     let v = nobody_waits w in
     let c = failed_each v e w.conn.waiting in
-    ap (λ (x : Life). admitted_all (moved_up_all (started_at w x))) over
+    ap (λ (x : Work). admitted_all (moved_up_all (started_at x x.conn.life))) (unready_renewed w (ap is_ready over))
+    ∙ ap (λ (x : Life). admitted_all (moved_up_all (started_at w x))) over
     ∙ ap (λ ws. admitted_all (moved_up_each (still_admitted w []) ws)) empty
     ∙ each_over v e w.conn.waiting over h
     ∙ ap (λ ws. record c { conn = record c.conn { waiting = ws } }) (sym (failed_leaves v e w.conn.waiting).waiting)
@@ -269,7 +301,8 @@ over_moved before f w e started over h =
       holds = done.holds;
       ended = ends.0;
       fit = record { wanting = λ link r. absurd (over_wanting link (sym done.over ∙ r)); setup = λ link u r. absurd (over_setting link u (sym done.over ∙ r)); link = λ link r. absurd (down link r); none = λ no. done.none_admitted };
-      still = record { setup = λ link u r. absurd (over_setting link u (sym done.over ∙ r)); held = λ link r. absurd (down link r); full = λ link r. absurd (down link r); waiting = λ link r. absurd (down link r); none_waits = λ no. done.none_waits };
+      still = record { setup = λ link u r. absurd (over_setting link u (sym done.over ∙ r)); held = λ link r. absurd (down link r); full = λ link r. absurd (down link r); renewed = λ link r. absurd (down link r); waiting = λ link r. absurd (down link r); none_waits = λ no. done.none_waits };
+      seats = λ p i k. absurd (subst (λ (x : Life). IsIn p (queue_ids (link_in x).queue)) done.over k);
     })
   where
     over_setting : (link : LinkState) (with_user : Bool) → Ended e ≡ SettingUp link with_user → ⊥

@@ -10,7 +10,7 @@ use Rattle.legal_trace.specs.Book.{Book}
 use Rattle.legal_trace.specs.Story.{Story, Try, is_open, is_told, is_unstarted}
 use Rattle.session_laws.proofs.InLine.{awaited_in, row_ids, wanted_in}
 use Rattle.session_laws.proofs.Names.{open_within}
-use Rattle.session_laws.proofs.Numbers.{IsIn, in_either}
+use Rattle.session_laws.proofs.Numbers.{IsIn, in_either, requests_in, request_of}
 use Rattle.session_laws.proofs.Owes.{lives, open_request, row_link, stands_started, wanted_entry}
 use Rattle.session_laws.proofs.Tied.{Inner, IsKept, Tied, link_in, owner_of, queue_ids, has_ended}
 
@@ -54,7 +54,7 @@ row_started b t p h n within i e =
     let w = wanted_entry (owner_of t.requests) l _ (link_in t.life).row p (row_open (owner_of t.requests) l (link_in t.life) alive (row_link l t.requests t.life p i (h.link n))) i in
     let place = subst (λ m. StandsAs l.starts (owner_of t.requests m) w.entry.shape w.number) w.is w.open_as.place in
     let k = stands_started b t p w.number w.entry.shape h within place in
-    some_tries (sym (h.tries.tried k.0 p k.2) ∙ e)
+    some_tries (sym (h.tries.tried k.0 p within k.2) ∙ e)
   where
     some_tries : {x : Try} {xs : List Try} → x ∷ xs ≡ [] → ⊥
     some_tries e = cc
@@ -64,7 +64,7 @@ open_later : (b : Book) (t : Inner) (n : ℕ) → Tied b t → t.pending ≡ [] 
 open_later b t n h none up unstarted o =
     let r = open_request b t n h o in
     let within = open_within t.requests r.number r.open_at in
-    let rows = wanted (link_in t.life).row in
+    let rows = requests_in (wanted (link_in t.life).row) in
     let queue = awaited_ids (link_in t.life).queue in
     record {
       p = r.number;
@@ -72,7 +72,7 @@ open_later b t n h none up unstarted o =
       name = r.named;
       later = elim (h.lines.there r.number r.open_at) [
         | inl i ↦ elim (in_either r.number rows queue (subst (λ ns. IsIn r.number (ns ++ (rows ++ queue))) none i)) [
-          | inl a ↦ absurd (row_started b t r.number h up within (wanted_in r.number (link_in t.life).row a) (ap (λ m. (b.story m).tries) r.named ∙ unstarted))
+          | inl a ↦ absurd (row_started b t r.number h up within (wanted_in r.number (link_in t.life).row (request_of r.number (wanted (link_in t.life).row) a)) (ap (λ m. (b.story m).tries) r.named ∙ unstarted))
           | inr q ↦ inl (awaited_in r.number (link_in t.life).queue q)
         ]
         | inr k ↦ inr k

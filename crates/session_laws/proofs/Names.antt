@@ -1,14 +1,19 @@
 -- Requests by their numbers, and their names.
-use Rattle.std.proofs.Common.{◌≡◌, ◌≢◌, ◌⊎◌, inl, inr, ℕ, zero, suc, ◌<◌, ◌==◌, nat_lt, Bool, true, false, List, [], ◌∷◌, ◌++◌, length, Option, Some, None, slice_get, slice_set, refl, sym, ap, ◌∙◌, subst, arith, length-set}
+use Rattle.std.proofs.Common.{◌≡◌, ◌≢◌, ◌⊎◌, inl, inr, ℕ, zero, suc, ◌^◌, ◌<◌, ◌==◌, nat_lt, if◌then◌else◌, Bool, true, false, List, [], ◌∷◌, ◌++◌, length, Option, Some, None, slice_get, slice_set, refl, sym, ap, ◌∙◌, subst, arith, length-set}
 use Rattle.containers.proofs.Places.{get_set_same, get_set_other, get_within}
-use Rattle.containers.proofs.Choices.{by_test, not_both, eq_from, ne_from, lt_from, not_lt_from}
+use Rattle.std.proofs.lemmas.List.{length_push}
+use Rattle.containers.proofs.Choices.{by_test, chosen, taken_if, left_if, not_both, eq_from, ne_from, ne_test, lt_from, not_lt_from}
+use Rattle.driver_model.specs.declared.action.Owner.{Owner}
 use Rattle.driver_model.specs.declared.action.Owner.TheVariants as owner
+use Rattle.legal_trace.specs.Ledger.{is_of_setup}
 use Rattle.link_laws.proofs.Lists.{get_before, get_last}
 use Rattle.mux_conn.specs.declared.request.Pending.{Pending}
 use Rattle.mux_conn.specs.declared.request.Progress.{Progress}
 use Rattle.mux_conn.specs.declared.request.Request.{Request}
 use Rattle.mux_conn.specs.Requests.{is_open, if_there, is_open_at, name_or_none, name_at, permits_or_none, permits_at, with_permits, at_progress}
-use Rattle.session_laws.proofs.Tied.{owner_of, TiedNames}
+use Rattle.mux_conn.specs.Renewals.{renewal_id}
+use Rattle.legal_trace.specs.Book.{Book}
+use Rattle.session_laws.proofs.Tied.{owner_of, Inner, Tied, TiedNames}
 
 -- what stands at a place within
 pub get_some : {X : Type 0} (xs : List X) (n : ℕ) → n < length xs → (x : X) × (slice_get xs n ≡ Some x)
@@ -53,7 +58,7 @@ name_still requests p now m = name_with requests p now (permits_at requests p) m
 
 -- and so do owners
 pub owners_with : (requests : List Request) (p : ℕ) (now : Progress) (count : ℕ) → owner_of (with_permits requests p now count) ≡ owner_of requests
-owners_with requests p now count = λ i m. owner.Try (name_with requests p now count m i) 0
+owners_with requests p now count = λ i m. if m == renewal_id then owner.Auth else owner.Try (name_with requests p now count m i) 0
 
 -- the same where permits stay
 pub owners_still : (requests : List Request) (p : ℕ) (now : Progress) → owner_of (at_progress requests p now) ≡ owner_of requests
@@ -145,6 +150,7 @@ is_with requests p now count q s i = is_named requests p q (record { name = name
 -- the names of a table stand under the change of a progress
 pub names_with : (table : List (Option Pending)) (requests : List Request) (p : ℕ) (now : Progress) (count : ℕ) → TiedNames table requests → TiedNames table (with_permits requests p now count)
 names_with table requests p now count h = record {
+  few = let long = length_with requests p now count in let few = h.few in omega arith;
   named = λ q s i. let w = was_with requests p now count q s i in ap (slice_get table) (sym w.2) ∙ h.named q w.0 w.1;
   kept = λ n q i. let k = h.kept n q i in let w = is_with requests p now count q.number k.0 k.1 in (w.0, w.1, w.2 ∙ k.2);
   rising = λ q m r s l i j. let a = was_with requests p now count q r i in let b = was_with requests p now count m s j in let k = h.rising q m a.0 b.0 l a.1 b.1 in omega (arith, a.2, b.2);
@@ -204,6 +210,7 @@ number_is p n e = let same : ◌≡◌ {A = Pending} (record { number = n }) p =
 -- it has no request
 pub names_refused : (table : List (Option Pending)) (requests : List Request) → TiedNames table requests → TiedNames (table ++ None ∷ []) requests
 names_refused table requests h = record {
+  few = let long = length_push table None in let few = h.few in omega arith;
   named = λ p r i. let g = h.named p r i in get_before table (None ∷ []) r.name (get_within table r.name (Some (record { number = p })) g) ∙ g;
   kept = λ n p i. elim (get_more table None n (Some p) i) [ inl j ↦ h.kept n p j | inr k ↦ absurd (cc k.1) ];
   rising = h.rising;
@@ -216,6 +223,7 @@ names_asked table requests now h =
     let next : Option Pending = Some (record { number = length requests }) in
     let new : Request = record { name = length table; progress = now; permits = 0 } in
     record {
+      few = let long = length_push table next in let more = length_push requests new in let few = h.few in omega arith;
       named = λ p r i. elim (get_more requests new p r i) [
         | inl j ↦ let g = h.named p r j in get_before table (next ∷ []) r.name (get_within table r.name (Some (record { number = p })) g) ∙ g
         | inr k ↦ ap (λ (s : Request). slice_get (table ++ next ∷ []) s.name) (sym k.1) ∙ get_last table next ∙ ap (λ m. Some (Some (record { number = m }))) (sym k.0)
@@ -235,3 +243,42 @@ names_asked table requests now h =
         ]
       ];
     }
+
+-- requests, and AUTH
+--
+-- no request has AUTH's number
+pub request_not : (b : Book) (t : Inner) (p : ℕ) → Tied b t → p < length t.requests → p ≢ renewal_id
+request_not b t p h within = few_not p (let few = h.names.few in let all = h.numbers.few in omega arith)
+  where
+    few_not : (p : ℕ) → p < 2 ^ 32 → p ≢ renewal_id
+    few_not p less e = omega (arith, less, e)
+
+-- so its message is its submission's
+pub owner_below : (requests : List Request) (p : ℕ) → p ≢ renewal_id → owner_of requests p ≡ owner.Try (name_at requests p) 0
+owner_below requests p other = left_if (p == renewal_id) owner.Auth (owner.Try (name_at requests p) 0) (ne_test p renewal_id other)
+
+-- no such message is a setup
+pub owner_no_setup : (requests : List Request) (p : ℕ) → is_of_setup (owner_of requests p) ≡ false
+owner_no_setup requests p = chosen (λ (o : Owner). is_of_setup o ≡ false) (p == renewal_id) owner.Auth (owner.Try (name_at requests p) 0) (λ t. refl) (λ f. refl)
+
+-- AUTH's is AUTH
+pub auth_owner : (requests : List Request) (p : ℕ) → owner_of requests p ≡ owner.Auth → p ≡ renewal_id
+auth_owner requests p e = by_test (p == renewal_id) (p ≡ renewal_id) (eq_from p renewal_id)
+    (λ f. absurd (no_auth (name_at requests p) (sym (left_if (p == renewal_id) owner.Auth (owner.Try (name_at requests p) 0) f) ∙ e)))
+  where
+    no_auth : (n : ℕ) → owner.Try n 0 ≡ owner.Auth → ⊥
+    no_auth n e = cc
+
+-- and one that is a request's is of a request of that name
+pub request_owner : (requests : List Request) (p q : ℕ) → q ≢ renewal_id → owner_of requests p ≡ owner_of requests q → (p ≢ renewal_id) × (name_at requests p ≡ name_at requests q)
+request_owner requests p q other e =
+    let same = e ∙ owner_below requests q other in
+    by_test (p == renewal_id) ((p ≢ renewal_id) × (name_at requests p ≡ name_at requests q))
+    (λ t. absurd (no_try (name_at requests q) (sym (taken_if (p == renewal_id) owner.Auth (owner.Try (name_at requests p) 0) t) ∙ same)))
+    (λ f. (ne_from p renewal_id f, one_name (name_at requests p) (name_at requests q) (sym (left_if (p == renewal_id) owner.Auth (owner.Try (name_at requests p) 0) f) ∙ same)))
+  where
+    no_try : (n : ℕ) → owner.Auth ≡ owner.Try n 0 → ⊥
+    no_try n e = cc
+
+    one_name : (m n : ℕ) → owner.Try m 0 ≡ owner.Try n 0 → m ≡ n
+    one_name m n e = cc

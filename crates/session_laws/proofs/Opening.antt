@@ -29,6 +29,7 @@ use Rattle.session_laws.proofs.Tied.{AreAimed, IsAim, IsUnknown, Tied, TiedLines
 use Rattle.session_laws.proofs.Waits.{IsQuiet}
 use Rattle.session_laws.proofs.Write.{is_written}
 use Rattle.connection_info.specs.Protocol.{is_resp3}
+use Rattle.mux_conn.specs.Renewals.{no_renewal}
 
 -- what timers the opening has asked for
 abbrev asks_timers : List Purpose → Book → Book
@@ -48,7 +49,7 @@ opened_core config timers = record {
   timers = timers;
   sources = [];
   table = [];
-  single = record { link = first_link; connection = dialing (buffer_size config) (boundary config) config.limit (hears_pushes config) (told_info config) (wants_credentials config) };
+  single = record { link = first_link; connection = dialing (buffer_size config) (boundary config) config.limit (hears_pushes config) (told_info config) (no_renewal (wants_credentials config) (response_timeout config)) };
 }
 
 -- no other link is told of
@@ -112,6 +113,8 @@ opening_numbers config word info timeout some is = record {
   submissions = refl;
   timeout = refl;
   shut = refl;
+  within = refl;
+  few = omega arith;
   settings = record { size_is = refl; bound_is = refl; limit_is = refl; some = some.some; limited = some.limited };
   one = refl;
   only = λ m less. omega arith;
@@ -138,6 +141,7 @@ opening_waits = record {
   no_setup = λ p link u i. absurd i;
   no_permit = λ p link i. absurd i;
   no_place = λ p i. absurd i;
+  seatless = λ p a e. cc a;
   no_room = λ p i. absurd i;
 }
 
@@ -151,11 +155,11 @@ opening_permits limit = record {
 
 -- its names
 opening_names : TiedNames [] []
-opening_names = record { named = λ p r e. cc; kept = λ n p e. cc; rising = λ p q r s less e k. cc }
+opening_names = record { few = omega arith; named = λ p r e. cc; kept = λ n p e. cc; rising = λ p q r s less e k. cc }
 
 -- its tries
 opening_tries : (l : Ledger) → l.starts ≡ [] → TiedTries l (λ n. blank_story) [] first_link []
-opening_tries l none = record { owners = ap owners_of none ∙ ap (λ (ss : List Start). setup_owners (setup_count ss) []) (sym none); shapes = λ k p s e i. cc; tried = λ k p e. cc; untried = λ p r e out. cc }
+opening_tries l none = record { owners = ap owners_of none ∙ ap (λ (ss : List Start). setup_owners (setup_count ss) []) (sym none); shapes = λ k p s w e i. cc; tried = λ k p w e. cc; untried = λ p r e out. cc }
 
 -- the session is tied to it
 opening_tied : (config : Config) (word : ℕ) (info : ConnectionInfo) (timeout : Option ℕ) → IsSized config.limit (buffer_size config) → connect_timeout config ≡ timeout → Tied (opened config word info (connect_timers timeout)) (inner (opened_core config (connect_timers timeout)) [])
@@ -164,7 +168,9 @@ opening_tied config word info timeout some is = record {
   others = λ m other. subst IsUnknown (sym (opened_link config word info (connect_timers timeout) m other)) (record { asked = refl; up = refl; end = refl; starts = refl; pushes = refl });
   pushes = record { heard_is = refl; within = λ y. omega arith; untold_is = λ y. refl; parts = λ y d z. cc; alive = λ z. refl; due = λ z. cc };
   life = (refl, refl, refl, refl);
-  creds = record { wanted_is = refl; sought = (refl, refl) };
+  creds = record { wanted_is = refl; sought = (refl, refl, refl) };
+  count = refl;
+  renewal = record { over_is = refl; came = refl; waits = refl; untimed = refl; unstarted = refl; unasked = refl; unpending = refl; told = refl; kept = refl; found = refl };
   setup = record { info_is = refl; sent = λ k s less e. absurd (omega arith); said = (refl, refl) };
   link = λ e. asked_tied (owner_of []) blank_ledger (told_info config) (wants_credentials config) no_link (fresh_tied (owner_of []) 0 0);
   names = opening_names;
@@ -214,10 +220,10 @@ opened_between config word info timeout sound at some is =
     let t = inner c [] in
     let tied = opening_tied config word info timeout some is in
     let fit : IsFitIn conn = record { wanting = λ link e. cc; setup = λ link u e. cc; link = λ link e. cc; none = λ no. refl } in
-    let still : IsStill conn = record { setup = λ link u e. cc; held = λ link e. cc; full = λ link e. cc; waiting = λ link e. cc; none_waits = λ e. refl } in
-    let moved = is_moved b t tied refl (refl, refl) refl (opening_ends config word info timers) fit.link fit.none still.held still.full still.waiting still.none_waits fit.setup still.setup in
+    let still : IsStill conn = record { setup = λ link u e. cc; held = λ link e. cc; full = λ link e. cc; waiting = λ link e. cc; none_waits = λ e. refl; renewed = λ link e. cc } in
+    let moved = is_moved b t tied refl (refl, refl) refl (opening_ends config word info timers) fit.link fit.none still.held still.full still.waiting still.none_waits fit.setup still.setup (λ p i. absurd i) still.renewed in
     let written = is_written b t tied moved refl in
-    let quiet : IsQuiet t = record { settled = refl; alone = refl; fit = fit.link; none = fit.none; held = still.held; full = still.full; waiting = still.waiting; gone = still.none_waits; setup_fit = fit.setup; setup_held = still.setup } in
+    let quiet : IsQuiet t = record { seats = λ p i. absurd i; settled = refl; alone = refl; fit = fit.link; none = fit.none; held = still.held; full = still.full; waiting = still.waiting; gone = still.none_waits; setup_fit = fit.setup; setup_held = still.setup } in
     let book_is = sym (opening_book config word info timeout) in
     record {
       started = [];

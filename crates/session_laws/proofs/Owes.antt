@@ -2,7 +2,7 @@
 use Rattle.std.proofs.Common.{◌≡◌, ◌≢◌, inl, inr, ℕ, zero, suc, ◌+◌, ◌<◌, ◌==◌, Bool, true, false, ◌&&◌, not, is_some, length-append, List, [], ◌∷◌, ◌++◌, length, Option, Some, None, slice_get, refl, sym, ap, ◌∙◌, subst, arith, drop}
 use Rattle.std.specs.List.{AllByRecursion}
 use Rattle.std.proofs.lemmas.List.{nil_from_length}
-use Rattle.containers.proofs.Choices.{by_test, left_if, eq_from, ne_from, ne_test, not_both}
+use Rattle.containers.proofs.Choices.{by_test, left_if, eq_from, ne_from, ne_test, not_both, taken_if, eq_test}
 use Rattle.redis_error.specs.declared.redis_error.RedisError.{RedisError}
 use Rattle.driver_model.specs.declared.action.Owner.{Owner}
 use Rattle.driver_model.specs.declared.action.Owner.TheVariants as owner
@@ -25,11 +25,12 @@ use Rattle.legal_trace.specs.Story.{Story, bytes_of, shape, last_of, is_open}
 use Rattle.legal_trace.specs.Book.{Book}
 use Rattle.legal_trace.specs.Owed.{owed, owed_to_message, owed_unstarted, owed_to_try}
 use Rattle.legal_trace.specs.Legal.{IsOpen, NoneIsOwed, IsCreated, FailuresAreShown, PushesAreTold, EndsAreTold}
-use Rattle.session_laws.proofs.Numbers.{Rising, IsIn, in_either, rising_in, rising_left, rising_right, rising_apart}
+use Rattle.session_laws.proofs.Numbers.{Rising, IsIn, in_either, rising_in, rising_left, rising_right, rising_apart, requests_in, request_in, request_of}
 use Rattle.session_laws.proofs.Said.{ready_shown}
 use Rattle.session_laws.proofs.Tied.{IsEntry, Inner, carried, link_in, owner_of, setup_owners, whole_link, owners_of, owners_each, queue_ids, IsRequest, TiedStory, TiedLife, Tied, FailureIsShown, has_ended}
-use Rattle.session_laws.proofs.Names.{get_some, open_within, name_of_some, name_placed, same_name}
+use Rattle.session_laws.proofs.Names.{get_some, open_within, name_of_some, name_placed, same_name, owner_no_setup, auth_owner, request_owner, request_not}
 use Rattle.session_laws.proofs.InLine.{AtPlaces, IsInLine, wanted_rises, places_rise, row_ids, wanted_in, kept_ids, line_of, open_in_line}
+use Rattle.mux_conn.specs.Renewals.{renewal_id}
 
 -- each request is a submission
 pub request_story : (b : Book) (t : Inner) (p : ℕ) → Tied b t → p < length t.requests → IsRequest (b.story (name_at t.requests p)) t.requests t.link p
@@ -63,10 +64,6 @@ open_request b t n h o = by_entry (slice_get t.table n) refl (h.story n)
 
 -- the request of a started message
 --
--- one owner is one name
-owner_name : (p q : ℕ) (requests : List Request) → owner_of requests p ≡ owner_of requests q → name_at requests p ≡ name_at requests q
-owner_name p q requests e = cc
-
 -- the request whose message started as number k, where no setup has
 started_first : (ss : List Start) (requests : List Request) (started : List ℕ) (k : ℕ) (s : Start) → owners_of ss ≡ owners_each requests started → slice_get ss k ≡ Some s
     → (p : ℕ) × (slice_get started k ≡ Some p) × (owner_of requests p ≡ s.owner)
@@ -95,10 +92,11 @@ get_in [] k n e = cc
 get_in (x ∷ xs) zero n e = inl cc
 get_in (x ∷ xs) (suc k) n e = inr (get_in xs k n e)
 
--- and a request
-pub started_within : (b : Book) (t : Inner) (k p : ℕ) → Tied b t → slice_get t.started k ≡ Some p → p < length t.requests
-started_within b t k p h e =
-    let r = rising_in 0 t.started (length t.requests) p (rising_left 0 t.started (queue_ids (link_in t.life).queue ++ kept_ids t.admitted t.waiting) (length t.requests) h.lines.line) (get_in t.started k p e) in
+-- and a request, where it isn't AUTH
+pub started_within : (b : Book) (t : Inner) (k p : ℕ) → Tied b t → p ≢ renewal_id → slice_get t.started k ≡ Some p → p < length t.requests
+started_within b t k p h other e =
+    let asked = requests_in t.started in
+    let r = rising_in 0 asked (length t.requests) p (rising_left 0 asked (queue_ids (link_in t.life).queue ++ kept_ids t.admitted t.waiting) (length t.requests) h.lines.line) (request_in p t.started other (get_in t.started k p e)) in
     r.1
 
 -- the message of a request that stands as number k is the one that started so, behind the setups
@@ -106,9 +104,25 @@ pub stands_started : (b : Book) (t : Inner) (p k : ℕ) (of_shape : Shape) → T
     → (j : ℕ) × (k ≡ setup_count (b.link t.link).starts + j) × (slice_get t.started j ≡ Some p)
 stands_started b t p k of_shape h l place =
     let starts = (b.link t.link).starts in
-    let s = started_at starts t.requests t.started (setup_count starts) k place.start h.tries.owners place.stands (ap is_of_setup place.owned) in
-    let same = same_name t.table t.requests s.2 p h.names (started_within b t s.0 s.2 h s.3) l (owner_name s.2 p t.requests (s.4 ∙ place.owned)) in
+    let s = started_at starts t.requests t.started (setup_count starts) k place.start h.tries.owners place.stands (ap is_of_setup place.owned ∙ owner_no_setup t.requests p) in
+    let named = request_owner t.requests s.2 p (request_not b t p h l) (s.4 ∙ place.owned) in
+    let same = same_name t.table t.requests s.2 p h.names (started_within b t s.0 s.2 h named.0 s.3) l named.1 in
     (s.0, s.1, s.3 ∙ ap Some same)
+
+-- and so is AUTH
+auth_started : (b : Book) (t : Inner) (e : Entry) (k : ℕ) → Tied b t → e.id ≡ renewal_id → StandsAs (b.link t.link).starts (owner_of t.requests e.id) e.shape k
+    → (j : ℕ) × (k ≡ setup_count (b.link t.link).starts + j) × (slice_get t.started j ≡ Some e.id)
+auth_started b t e k h is place =
+    let starts = (b.link t.link).starts in
+    let auth : owner_of t.requests e.id ≡ owner.Auth = taken_if (e.id == renewal_id) owner.Auth (owner.Try (name_at t.requests e.id) 0) (eq_test e.id renewal_id is) in
+    let s = started_at starts t.requests t.started (setup_count starts) k place.start h.tries.owners place.stands (ap is_of_setup place.owned ∙ owner_no_setup t.requests e.id) in
+    (s.0, s.1, s.3 ∙ ap Some (auth_owner t.requests s.2 (s.4 ∙ place.owned ∙ auth) ∙ sym is))
+
+-- what takes items started so
+entry_started : (b : Book) (t : Inner) (e : Entry) (k : ℕ) → Tied b t → IsEntry t.requests e → StandsAs (b.link t.link).starts (owner_of t.requests e.id) e.shape k
+    → (j : ℕ) × (k ≡ setup_count (b.link t.link).starts + j) × (slice_get t.started j ≡ Some e.id)
+entry_started b t e k h (inl r) place = stands_started b t e.id k e.shape h r.below place
+entry_started b t e k h (inr a) place = auth_started b t e k h a.is place
 
 -- what a request is owed
 --
@@ -128,9 +142,9 @@ owed_started b t p k of_shape h l in_time place =
     let r = request_story b t p h l in
     let starts = (b.link t.link).starts in
     let e = stands_started b t p k of_shape h l place in
-    let same : shape (b.story n) ≡ of_shape = sym (h.tries.shapes e.0 p place.start e.2 (ap (slice_get starts) (sym e.1) ∙ place.stands)) ∙ place.shaped in
+    let same : shape (b.story n) ≡ of_shape = sym (h.tries.shapes e.0 p place.start l e.2 (ap (slice_get starts) (sym e.1) ∙ place.stands)) ∙ place.shaped in
     owed_by_try b n r.in_time r.spoken r.some in_time
-    ∙ ap (λ ts. owed_to_try b (b.story n) (last_of ts)) (h.tries.tried e.0 p e.2 ∙ ap (λ m. record { link = t.link; message = m } ∷ []) (sym e.1))
+    ∙ ap (λ ts. owed_to_try b (b.story n) (last_of ts)) (h.tries.tried e.0 p l e.2 ∙ ap (λ m. record { link = t.link; message = m } ∷ []) (sym e.1))
     ∙ ap (owed_to_message (b.link t.link) k) same
 
 -- where it has none
@@ -152,7 +166,9 @@ settled_owed b t s h l in_time o = owed_started b t s.id o.number o.of_shape h l
 -- those of the queue, and those that wait, have not started
 pub later_unstarted : (b : Book) (t : Inner) (p : ℕ) → Tied b t → IsIn p (queue_ids (link_in t.life).queue ++ kept_ids t.admitted t.waiting) → IsIn p t.started → ⊥
 later_unstarted b t p h i j =
-    let k = rising_apart 0 t.started (queue_ids (link_in t.life).queue ++ kept_ids t.admitted t.waiting) (length t.requests) p p h.lines.line j i in
+    let later = queue_ids (link_in t.life).queue ++ kept_ids t.admitted t.waiting in
+    let within = rising_in 0 later (length t.requests) p (rising_right 0 (requests_in t.started) later (length t.requests) h.lines.line) i in
+    let k = rising_apart 0 (requests_in t.started) later (length t.requests) p p h.lines.line (request_in p t.started (request_not b t p h within.1) j) i in
     omega arith
 
 -- an entry of a row that is wanted
@@ -199,8 +215,8 @@ later_unowed b t p h n l in_time i = owed_none_started b t p h l in_time (later_
 
 -- and so to none of the line
 pub line_unowed : (b : Book) (t : Inner) (p : ℕ) → Tied b t → has_ended t.life ≡ false → p < length t.requests → (b.story (name_at t.requests p)).overdue ≡ false → IsIn p (line_of (link_in t.life) t.admitted t.waiting) → owed b (name_at t.requests p) ≡ None
-line_unowed b t p h n l in_time i = elim (in_either p (wanted (link_in t.life).row) (queue_ids (link_in t.life).queue ++ kept_ids t.admitted t.waiting) i) [
-  | inl j ↦ row_unowed b t p h n l in_time (wanted_in p (link_in t.life).row j)
+line_unowed b t p h n l in_time i = elim (in_either p (requests_in (wanted (link_in t.life).row)) (queue_ids (link_in t.life).queue ++ kept_ids t.admitted t.waiting) i) [
+  | inl j ↦ row_unowed b t p h n l in_time (wanted_in p (link_in t.life).row (request_of p (wanted (link_in t.life).row) j))
   | inr j ↦ later_unowed b t p h n l in_time j
 ]
 
@@ -276,26 +292,26 @@ ends_told b t h none m heard cut = by_test (m == t.link) _
 row_places : (b : Book) (t : Inner) (k j : ℕ) (row : List Entry) → Tied b t → k ≡ setup_count (b.link t.link).starts + j → AllByRecursion (IsEntry t.requests) row → OpenFrom (owner_of t.requests) (b.link t.link) k row → AtPlaces t.started j (row_ids row)
 row_places b t k j [] h at all open_all = tt
 row_places b t k j (e ∷ es) h at all open_all =
-    let s = stands_started b t e.id k e.shape h all.0.below open_all.0.place in
+    let s = entry_started b t e k h all.0 open_all.0.place in
     let same : s.0 ≡ j = (let other = s.1 in omega arith) in
     (ap (slice_get t.started) (sym same) ∙ s.2, row_places b t (suc k) (suc j) es h (omega arith) all.1 open_all.1)
 
--- the entries and all behind them rise, on a link that has not ended
-pub row_in_line : (b : Book) (t : Inner) → Tied b t → has_ended t.life ≡ false → Rising 0 (row_ids (link_in t.life).row ++ (queue_ids (link_in t.life).queue ++ kept_ids t.admitted t.waiting)) (length t.requests)
+-- the entries of requests and all behind them rise, on a link that has not ended
+pub row_in_line : (b : Book) (t : Inner) → Tied b t → has_ended t.life ≡ false → Rising 0 (requests_in (row_ids (link_in t.life).row) ++ (queue_ids (link_in t.life).queue ++ kept_ids t.admitted t.waiting)) (length t.requests)
 row_in_line b t h n = by_row (link_in t.life).row refl
   where
     later : List ℕ
     later = queue_ids (link_in t.life).queue ++ kept_ids t.admitted t.waiting
 
-    by_row : (row : List Entry) → (link_in t.life).row ≡ row → Rising 0 (row_ids row ++ later) (length t.requests)
-    by_row [] e = rising_right 0 t.started later (length t.requests) h.lines.line
+    by_row : (row : List Entry) → (link_in t.life).row ≡ row → Rising 0 (requests_in (row_ids row) ++ later) (length t.requests)
+    by_row [] e = rising_right 0 (requests_in t.started) later (length t.requests) h.lines.line
     by_row (x ∷ xs) e =
         let l = b.link t.link in
         let from = full_count l.starts l.dealt in
         let i : IsIn x.id (row_ids (link_in t.life).row) = subst (λ (row : List Entry). IsIn x.id (row_ids row)) (sym e) (inl refl) in
         let all = subst (λ (row : List Entry). OpenFrom (owner_of t.requests) l from row) e (row_open (owner_of t.requests) l (link_in t.life) (lives l b.created t.life h.life n) (row_link l t.requests t.life x.id i (h.link n))) in
         let entries = subst (AllByRecursion (IsEntry t.requests)) e h.lines.entries in
-        let first = stands_started b t x.id from x.shape h entries.0.below all.0.place in
+        let first = entry_started b t x from h entries.0 all.0.place in
         places_rise 0 t.started first.0 (row_ids (x ∷ xs)) later (length t.requests) (row_places b t from first.0 (x ∷ xs) h first.1 entries all) h.lines.line
 
 -- and so does the line

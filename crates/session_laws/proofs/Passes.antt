@@ -1,5 +1,5 @@
 -- Requests are moved on a link that is up: each takes its place where the queue has room, and messages start.
-use Rattle.std.proofs.Common.{Bool, List, [], ap, append_assoc, arith, false, inl, inr, length, refl, subst, sym, true, ℕ, ◌-◌, ◌++◌, ◌∙◌, ◌∷◌, ◌≡◌, ◌⊎◌}
+use Rattle.std.proofs.Common.{Bool, List, [], ap, append_assoc, arith, false, inl, inr, length, refl, subst, sym, true, ℕ, ◌+◌, ◌-◌, ◌++◌, ◌∙◌, ◌∷◌, ◌≡◌, ◌⊎◌}
 use Rattle.std.proofs.lemmas.List.{append-nil, length_push}
 use Rattle.std.specs.Prelude.{not}
 use Rattle.containers.proofs.Choices.{chosen, if_true, not_both, not_le_from}
@@ -7,10 +7,10 @@ use Rattle.resp_value.specs.declared.value.Value.TheVariants.{Nil}
 use Rattle.driver_model.specs.declared.action.Action.{Action}
 use Rattle.driver_model.specs.declared.action.Action.TheVariants as action
 use Rattle.driver_model.specs.declared.outcome.Outcome.TheVariants as outcome
-use Rattle.link_core.specs.Link.{LinkState, Starting, enqueued, holds_back, is_full, started_all}
+use Rattle.link_core.specs.Link.{LinkState, Starting, enqueued, holds_back, is_full_beside, started_all}
 use Rattle.link_core.specs.declared.message.Queued.{Queued}
 use Rattle.link_laws.specs.Starts.{starting}
-use Rattle.mux_conn.specs.Connection.{Work, acted, admits_none, admits_none_at, has_no_permit, has_room, with_link, with_setup}
+use Rattle.mux_conn.specs.Connection.{Work, acted, admits_none, admits_none_at, has_no_permit, has_room, with_link, with_setup, has_room_at, in_front}
 use Rattle.mux_conn.specs.Passes.{admitted, admitted_at, admitted_each, holding, let_in, message_of, permits_taken, seated_or_behind, still_waiting, moved_up, moved_up_each, noted, placed_at, put_behind, seated, started, started_at, still_admitted, told_at_place}
 use Rattle.mux_conn.specs.Requests.{answered, at_progress, closed, given_back, is_admitted_at, is_open as is_open_progress, is_open_at, is_waiting, is_waiting_at, name_at, permits_at, progressed, with_permits}
 use Rattle.mux_conn.specs.declared.act.LinkAct.{LinkAct}
@@ -18,6 +18,7 @@ use Rattle.mux_conn.specs.declared.act.LinkAct.TheVariants as act
 use Rattle.mux_conn.specs.declared.connection.MultiplexedConnection.{MultiplexedConnection}
 use Rattle.mux_conn.specs.declared.life.Life.{Life}
 use Rattle.mux_conn.specs.declared.life.Life.TheVariants.{Dialing, Ended, Ready, Wanting, SettingUp}
+use Rattle.mux_conn.specs.declared.renewal.Renewal.{Renewal}
 use Rattle.mux_conn.specs.declared.request.Progress.{Progress}
 use Rattle.mux_conn.specs.declared.request.Progress.TheVariants as progress
 use Rattle.mux_conn.specs.declared.request.Request.{Request}
@@ -27,21 +28,21 @@ use Rattle.shared_session.specs.Turn.{timers_of}
 use Rattle.legal_trace.specs.Book.{Book, book}
 use Rattle.legal_trace.specs.Legal.{MayTell, NoneEnds}
 use Rattle.legal_trace.specs.Steps.{is_let_in}
-use Rattle.session_laws.proofs.Ahead.{IsRunning, first_step, kept_unstarted, waiting_open}
+use Rattle.session_laws.proofs.Ahead.{IsRunning, first_step, kept_unstarted, waiting_open, HasSeats}
 use Rattle.session_laws.proofs.Entered.{shown_more}
-use Rattle.session_laws.proofs.Going.{IsGoing, begun_up, first_behind, going_more}
+use Rattle.session_laws.proofs.Going.{IsGoing, begun_up, first_behind, going_more, HasRenewed}
 use Rattle.session_laws.proofs.InLine.{kept_ids}
 use Rattle.session_laws.proofs.LetIn.{IsOpening, let_in_conn, let_in_going, lets, permits_twice}
 use Rattle.session_laws.proofs.Names.{length_still, length_with, name_still, name_with, open_within, permits_still, permits_with, there_same, with_same}
-use Rattle.session_laws.proofs.Numbers.{IsIn, Rising, rising_left, rising_right, rising_tail, rising_without}
+use Rattle.session_laws.proofs.Numbers.{IsIn, Rising, rising_left, rising_right, rising_tail, rising_without, in_either, in_right, requests_in, rising_apart}
 use Rattle.session_laws.proofs.Owes.{request_story}
 use Rattle.session_laws.proofs.Place.{IsNext, admit_tied, next_admitted, next_waiting, passed_admitted, passed_waiting, place_tied, tell_tied, with_place, with_told}
 use Rattle.session_laws.proofs.SetsUp.{set_up_conn}
 use Rattle.session_laws.proofs.Settle.{answered_leaves, quiet_asks, seen, trace_of_acts}
 use Rattle.session_laws.proofs.Start.{on_link}
-use Rattle.session_laws.proofs.Starts.{each_fit, each_going, each_held, shown_is, shows, shows_sources, shows_timers}
+use Rattle.session_laws.proofs.Starts.{each_fit, each_going, each_held, shown_is, shows, shows_sources, shows_timers, each_seats}
 use Rattle.session_laws.proofs.States.{IsFit}
-use Rattle.session_laws.proofs.Tied.{Inner, Tied, queue_ids, waiting_ids}
+use Rattle.session_laws.proofs.Tied.{Inner, Tied, queue_ids, waiting_ids, link_in}
 
 -- the session with this connection, of which these wait for a place, and these for the connection, when these acts are shown
 abbrev pub moving : Core → List LinkAct → MultiplexedConnection → List Waiting → List Waiting → List ℕ → Inner
@@ -53,21 +54,22 @@ letting_in f acts conn admitted waiting letting started = record (moving f acts 
 
 -- a connection that is up, between two moves: what is in its queue is held back, if anything is; these wait still for
 -- a place and for the connection, and this one is being let in; and those that are still to be moved are above all
--- that were in this turn
+-- that were in this turn, who found places where they are in the queue
 pub record IsUp (before : List Action) (f : Core) (w : Work) (admitted waiting : List Waiting) (letting next : List ℕ) : Type 0 where
   pub link : LinkState
   pub life : w.conn.life ≡ Ready link
   pub fit : IsFit w.conn.size w.conn.boundary link
+  pub seats : HasSeats w.conn.moved (in_front w.conn.renewal) link w.conn.size
   pub held : (link.queue ≡ []) ⊎ (holds_back link ≡ true)
   pub started : List ℕ
   pub going : IsGoing (trace_of_acts before f w.acts) (letting_in f w.acts w.conn admitted waiting letting started)
   pub order : Rising 0 (w.conn.moved ++ next) (length w.conn.requests)
 
 -- messages start, and what is in the queue behind them is held back
-pub started_up : (before : List Action) (f : Core) (w : Work) (link : LinkState) (admitted waiting : List Waiting) (next done : List ℕ) → IsFit w.conn.size w.conn.boundary link
+pub started_up : (before : List Action) (f : Core) (w : Work) (link : LinkState) (admitted waiting : List Waiting) (next done : List ℕ) → IsFit w.conn.size w.conn.boundary link → HasSeats w.conn.moved (in_front w.conn.renewal) link w.conn.size
     → IsGoing (trace_of_acts before f w.acts) (moving f w.acts (with_link w link).conn admitted waiting done) → Rising 0 (w.conn.moved ++ next) (length w.conn.requests)
     → IsUp before f (started_at (with_link w link) (Ready link)) admitted waiting [] next
-started_up before f w link admitted waiting next done fit h order =
+started_up before f w link admitted waiting next done fit seats h order =
     let from : Starting = record { link = link; out = [] } in
     let s = started_all from in
     let t = moving f w.acts (with_link w link).conn admitted waiting done in
@@ -78,10 +80,11 @@ started_up before f w link admitted waiting next done fit h order =
       link = s.link;
       life = refl;
       fit = each_fit w.conn.size w.conn.boundary from link.queue fit;
+      seats = each_seats w.conn.moved (in_front w.conn.renewal) w.conn.size from link.queue seats;
       held = each_held from link.queue;
       started = done ++ ids;
-      going = subst (λ ss. IsGoing (trace_of_acts before f acts) (record (on_link t s.link) { started = done ++ ids; timers = f.timers ++ timers_of acts; sources = f.sources ++ ss })) (sym (shows_sources f.single.link w.acts w.conn.requests s.out))
-          (subst (λ ts. IsGoing (trace_of_acts before f acts) (record (on_link t s.link) { started = done ++ ids; timers = f.timers ++ ts })) (sym (shows_timers w.acts w.conn.requests s.out)) (each_going before (length f.timers) (length f.sources) w.acts t from link.queue fit first));
+      going = subst (λ ss. IsGoing (trace_of_acts before f acts) (record (on_link t s.link) { started = done ++ ids; timers = f.timers ++ timers_of f.single.link acts; sources = f.sources ++ ss })) (sym (shows_sources f.single.link (length f.sources) w.acts w.conn.requests s.out))
+          (subst (λ ts. IsGoing (trace_of_acts before f acts) (record (on_link t s.link) { started = done ++ ids; timers = f.timers ++ ts })) (sym (shows_timers f.single.link w.acts w.conn.requests s.out)) (each_going before (length f.timers) (length f.sources) w.acts t from link.queue fit seats first));
       order = order;
     })
 
@@ -138,17 +141,21 @@ seated_keeps w q =
 
 -- one takes its place
 --
+-- a message more in the queue holds no link back
+renewed_enqueued : (r : Renewal) (link : LinkState) (m : Queued) → HasRenewed r (Ready link) → HasRenewed r (Ready (enqueued link m))
+renewed_enqueued r link m h x e due = let k = h link refl due in (k.0, ap (λ (life : Life). holds_back (link_in life)) (sym e) ∙ k.1)
+
 -- where nobody awaits its reply it may be told
-tell_may : (b : Book) (t : Inner) (link : LinkState) (q : Waiting) (waiting admitted : List Waiting) → q.awaited ≡ false → IsFit t.size t.bound link → (link.queue ≡ []) ⊎ (holds_back link ≡ true) → is_full link ≡ false
-    → IsNext b.story t.requests t.limit t.letting t.moved t.waiting t.admitted q waiting admitted → Tied b (on_link t link) → NoneEnds b → MayTell b (name_at t.requests q.number) (outcome.One Nil)
-tell_may b t link q waiting admitted not_awaited fit held room next h ends =
+tell_may : (b : Book) (t : Inner) (link : LinkState) (q : Waiting) (waiting admitted : List Waiting) → q.awaited ≡ false → IsFit t.size t.bound link → HasSeats t.moved (in_front t.renewal) link t.size → (link.queue ≡ []) ⊎ (holds_back link ≡ true) → is_full_beside link (in_front t.renewal) ≡ false
+    → IsNext b.story t.requests t.limit t.letting t.moved t.waiting t.admitted q waiting admitted → Tied b (on_link t link) → NoneEnds b → HasRenewed t.renewal (Ready link) → MayTell b (name_at t.requests q.number) (outcome.One Nil)
+tell_may b t link q waiting admitted not_awaited fit seats held room next h ends renewed =
     let was = on_link t link in
     let p = q.number in
     let o = next.open_at in
     let kept = kept_ids admitted waiting in
-    let running : IsRunning was = record { settled = refl; up = refl; fit = fit } in
+    let running : IsRunning was = record { settled = refl; up = refl; fit = fit; seats = seats } in
     record {
-      begun = begun_up b was h refl (refl, refl) refl ends;
+      begun = begun_up b was h running (refl, refl) ends renewed;
       asked = (request_story b was p h (open_within t.requests p o)).open_is ∙ o;
       unstarted = kept_unstarted b was p h o (subst (IsIn p) (sym next.first) (inl refl));
       tells = first_step b was p kept h running room o next.first next.let_in (sym next.packed.is_of.awaited_is ∙ not_awaited);
@@ -157,15 +164,15 @@ tell_may b t link q waiting admitted not_awaited fit held room next h ends =
     }
 
 -- it is, and has its place
-told_going : (trace : List Action) (t : Inner) (link : LinkState) (q : Waiting) (waiting admitted : List Waiting) → q.awaited ≡ false → IsFit t.size t.bound link → (link.queue ≡ []) ⊎ (holds_back link ≡ true) → is_full link ≡ false
+told_going : (trace : List Action) (t : Inner) (link : LinkState) (q : Waiting) (waiting admitted : List Waiting) → q.awaited ≡ false → IsFit t.size t.bound link → HasSeats t.moved (in_front t.renewal) link t.size → (link.queue ≡ []) ⊎ (holds_back link ≡ true) → is_full_beside link (in_front t.renewal) ≡ false
     → IsNext (book trace).story t.requests t.limit t.letting t.moved t.waiting t.admitted q waiting admitted → IsGoing trace (on_link t link)
     → IsGoing (trace ++ action.Outcome (name_at t.requests q.number) (outcome.One Nil) ∷ []) (with_told t link q waiting admitted)
-told_going trace t link q waiting admitted not_awaited fit held room next h =
+told_going trace t link q waiting admitted not_awaited fit seats held room next h =
     let b = book trace in
     going_more trace (action.Outcome (name_at t.requests q.number) (outcome.One Nil)) (with_told t link q waiting admitted) h.sound.stands
-    (inr (tell_may b t link q waiting admitted not_awaited fit held room next h.sound.tied h.ended))
+    (inr (tell_may b t link q waiting admitted not_awaited fit seats held room next h.sound.tied h.ended h.renewed))
     (tell_tied b t link q waiting admitted not_awaited next h.sound.tied)
-    h.ended
+    h.ended (renewed_enqueued t.renewal link (message_of q) h.renewed)
 
 -- one whose reply is awaited has its place
 placed_going : (trace : List Action) (t : Inner) (link : LinkState) (q : Waiting) (waiting admitted : List Waiting) → q.awaited ≡ true → IsNext (book trace).story t.requests t.limit t.letting t.moved t.waiting t.admitted q waiting admitted → IsGoing trace (on_link t link)
@@ -173,15 +180,24 @@ placed_going : (trace : List Action) (t : Inner) (link : LinkState) (q : Waiting
 placed_going trace t link q waiting admitted yes_awaited next h = record {
   sound = record { stands = h.sound.stands; tied = place_tied (book trace) t link q waiting admitted yes_awaited next h.sound.tied };
   ended = h.ended;
+  renewed = renewed_enqueued t.renewal link (message_of q) h.renewed;
 }
 
 -- a link that had room is fit with one more in its queue
-fit_enqueued : (size bound : ℕ) (link : LinkState) (m : Queued) → is_full link ≡ false → IsFit size bound link → IsFit size bound (enqueued link m)
-fit_enqueued size bound link m room h =
-    let free = not_le_from link.size (length link.queue) room in
+fit_enqueued : (size bound front : ℕ) (link : LinkState) (m : Queued) → is_full_beside link front ≡ false → IsFit size bound link → IsFit size bound (enqueued link m)
+fit_enqueued size bound front link m room h =
+    let free = not_le_from link.size (front + length link.queue) room in
     let long = length_push link.queue m in
     let same = h.size_is in
     record { sound = h.sound; size_is = h.size_is; bound_is = h.bound_is; within = omega arith }
+
+-- and so does who takes a place find one
+seats_enqueued : (size bound front : ℕ) (moved : List ℕ) (link : LinkState) (m : Queued) → is_full_beside link front ≡ false → IsFit size bound link → HasSeats moved front (enqueued link m) size
+seats_enqueued size bound front moved link m room h p i j =
+    let free = not_le_from link.size (front + length link.queue) room in
+    let long = length_push link.queue m in
+    let same = h.size_is in
+    omega arith
 
 -- those that are still to be moved are above it
 order_next : (moved : List ℕ) (p : ℕ) (next : List ℕ) (requests : List Request) (now : Progress) → Rising 0 (moved ++ p ∷ next) (length requests) → Rising 0 ((moved ++ p ∷ []) ++ next) (length (at_progress requests p now))
@@ -192,16 +208,17 @@ order_last : (moved : List ℕ) (p : ℕ) (next : List ℕ) (hi : ℕ) → Risin
 order_last moved p next hi h = rising_left 0 (moved ++ p ∷ []) next hi (subst (λ ns. Rising 0 ns hi) (sym (append_assoc moved (p ∷ []) next)) h)
 
 -- one whose reply is awaited has its place, and messages start
-placed_up : (before : List Action) (f : Core) (w : Work) (q : Waiting) (was_admitted was_waiting admitted waiting : List Waiting) (letting next : List ℕ) (h : IsUp before f w was_admitted was_waiting letting (q.number ∷ next)) → q.awaited ≡ true → is_full h.link ≡ false
+placed_up : (before : List Action) (f : Core) (w : Work) (q : Waiting) (was_admitted was_waiting admitted waiting : List Waiting) (letting next : List ℕ) (h : IsUp before f w was_admitted was_waiting letting (q.number ∷ next)) → q.awaited ≡ true → is_full_beside h.link (in_front w.conn.renewal) ≡ false
     → IsNext (book (trace_of_acts before f w.acts)).story w.conn.requests w.conn.limit letting w.conn.moved was_waiting was_admitted q waiting admitted → IsUp before f (started (placed_at w q (Ready h.link))) admitted waiting [] next
 placed_up before f w q was_admitted was_waiting admitted waiting letting next h yes_awaited room first =
     let p = q.number in
-    started_up before f (progressed (noted w p) p progress.Placed) (enqueued h.link (message_of q)) admitted waiting next h.started (fit_enqueued w.conn.size w.conn.boundary h.link (message_of q) room h.fit)
+    started_up before f (progressed (noted w p) p progress.Placed) (enqueued h.link (message_of q)) admitted waiting next h.started (fit_enqueued w.conn.size w.conn.boundary (in_front w.conn.renewal) h.link (message_of q) room h.fit)
+    (seats_enqueued w.conn.size w.conn.boundary (in_front w.conn.renewal) (w.conn.moved ++ p ∷ []) h.link (message_of q) room h.fit)
     (placed_going (trace_of_acts before f w.acts) (letting_in f w.acts w.conn was_admitted was_waiting letting h.started) h.link q waiting admitted yes_awaited first (up_going before f w was_admitted was_waiting letting (p ∷ next) h))
     (order_next w.conn.moved p next w.conn.requests progress.Placed h.order)
 
 -- and one whose reply nobody awaits is answered before
-told_up : (before : List Action) (f : Core) (w : Work) (q : Waiting) (was_admitted was_waiting admitted waiting : List Waiting) (letting next : List ℕ) (h : IsUp before f w was_admitted was_waiting letting (q.number ∷ next)) → q.awaited ≡ false → is_full h.link ≡ false
+told_up : (before : List Action) (f : Core) (w : Work) (q : Waiting) (was_admitted was_waiting admitted waiting : List Waiting) (letting next : List ℕ) (h : IsUp before f w was_admitted was_waiting letting (q.number ∷ next)) → q.awaited ≡ false → is_full_beside h.link (in_front w.conn.renewal) ≡ false
     → IsNext (book (trace_of_acts before f w.acts)).story w.conn.requests w.conn.limit letting w.conn.moved was_waiting was_admitted q waiting admitted → IsUp before f (started (answered (placed_at w q (Ready h.link)) q.number (outcome.One Nil))) admitted waiting [] next
 told_up before f w q was_admitted was_waiting admitted waiting letting next h not_awaited room first =
     let p = q.number in
@@ -214,7 +231,7 @@ told_up before f w q was_admitted was_waiting admitted waiting letting next h no
     let a = act.Outcome (name_at placed p) nil in
     let within = open_within w.conn.requests p first.open_at in
     let is_open : is_open_at placed p ≡ true = there_same is_open_progress w.conn.requests p progress.Placed within in
-    let going = told_going trace t h.link q waiting admitted not_awaited h.fit h.held room first (up_going before f w was_admitted was_waiting letting (p ∷ next) h) in
+    let going = told_going trace t h.link q waiting admitted not_awaited h.fit h.seats h.held room first (up_going before f w was_admitted was_waiting letting (p ∷ next) h) in
     let shown : trace ++ action.Outcome (name_at w.conn.requests p) nil ∷ [] ≡ trace_of_acts before f (w.acts ++ a ∷ []) =
     ap (λ n. trace ++ action.Outcome n nil ∷ []) (sym (name_still w.conn.requests p progress.Placed p)) ∙ sym (shown_more before f.single.link (length f.timers) (length f.sources) w.acts a) in
     let after = with_told t h.link q waiting admitted in
@@ -227,10 +244,11 @@ told_up before f w q was_admitted was_waiting admitted waiting letting next h no
     (subst (λ n. IsGoing (trace_of_acts before f acts) (record after { requests = with_permits placed p progress.Closed 0; free = n })) back (subst (λ (x : List Request). IsGoing (trace_of_acts before f acts) (record after { requests = x })) twice there)) in
     let order = subst (λ (x : List Request). Rising 0 ((w.conn.moved ++ p ∷ []) ++ next) (length x)) twice (subst (λ n. Rising 0 ((w.conn.moved ++ p ∷ []) ++ next) n) (length_still w.conn.requests p progress.Placed ∙ sym (length_with w.conn.requests p progress.Closed 0)) (order_next w.conn.moved p next w.conn.requests progress.Placed h.order)) in
     if_true (λ (x : Work). IsUp before f (started x) admitted waiting [] next) (is_open_at placed p) _ (with_link at link) is_open
-    (started_up before f (acted (record at { conn = closed at.conn p }) a) link admitted waiting next h.started (fit_enqueued w.conn.size w.conn.boundary h.link (message_of q) room h.fit) here order)
+    (started_up before f (acted (record at { conn = closed at.conn p }) a) link admitted waiting next h.started (fit_enqueued w.conn.size w.conn.boundary (in_front w.conn.renewal) h.link (message_of q) room h.fit)
+    (seats_enqueued w.conn.size w.conn.boundary (in_front w.conn.renewal) (w.conn.moved ++ p ∷ []) h.link (message_of q) room h.fit) here order)
 
 -- the next takes its place, and messages start
-seated_up : (before : List Action) (f : Core) (w : Work) (q : Waiting) (was_admitted was_waiting admitted waiting : List Waiting) (letting next : List ℕ) (h : IsUp before f w was_admitted was_waiting letting (q.number ∷ next)) → is_full h.link ≡ false
+seated_up : (before : List Action) (f : Core) (w : Work) (q : Waiting) (was_admitted was_waiting admitted waiting : List Waiting) (letting next : List ℕ) (h : IsUp before f w was_admitted was_waiting letting (q.number ∷ next)) → is_full_beside h.link (in_front w.conn.renewal) ≡ false
     → IsNext (book (trace_of_acts before f w.acts)).story w.conn.requests w.conn.limit letting w.conn.moved was_waiting was_admitted q waiting admitted → IsUp before f (seated w q) admitted waiting [] next
 seated_up before f w q was_admitted was_waiting admitted waiting letting next h room first =
     let w1 = placed_at w q (Ready h.link) in
@@ -247,12 +265,12 @@ not_full true e = cc
 not_full false e = refl
 
 -- so it is where the connection has room
-free_link : (life : Life) (link : LinkState) → life ≡ Ready link → has_room life ≡ true → is_full link ≡ false
-free_link life link e room = not_full (is_full link) (ap has_room (sym e) ∙ room)
+free_link : (c : MultiplexedConnection) (link : LinkState) → c.life ≡ Ready link → has_room c ≡ true → is_full_beside link (in_front c.renewal) ≡ false
+free_link c link e room = not_full (is_full_beside link (in_front c.renewal)) (ap (λ (life : Life). has_room_at life (in_front c.renewal)) (sym e) ∙ room)
 
 -- where a connection that is up has no room, its queue is full
-pub no_room : (life : Life) (link : LinkState) → life ≡ Ready link → has_room life ≡ false → is_full link ≡ true
-no_room life link e none = full (is_full link) (ap has_room (sym e) ∙ none)
+pub no_room : (c : MultiplexedConnection) (link : LinkState) → c.life ≡ Ready link → has_room c ≡ false → is_full_beside link (in_front c.renewal) ≡ true
+no_room c link e none = full (is_full_beside link (in_front c.renewal)) (ap (λ (life : Life). has_room_at life (in_front c.renewal)) (sym e) ∙ none)
   where
     full : (x : Bool) → not x ≡ false → x ≡ true
     full true e = refl
@@ -266,11 +284,13 @@ gone_admitted before f w q qs waiting h gone =
     let now : IsGoing (trace_of_acts before f w.acts) (on_link t h.link) = record {
       sound = record { stands = was.sound.stands; tied = passed_admitted (book (trace_of_acts before f w.acts)) t h.link q qs gone was.sound.tied };
       ended = was.ended;
+      renewed = was.renewed;
     } in
     record {
       link = h.link;
       life = h.life;
       fit = h.fit;
+      seats = h.seats;
       held = h.held;
       started = h.started;
       going = subst (λ (x : Life). IsGoing (trace_of_acts before f w.acts) (record t { life = x })) (sym h.life) now;
@@ -278,36 +298,37 @@ gone_admitted before f w q qs waiting h gone =
     }
 
 -- one is moved
-moved_up_one : (before : List Action) (f : Core) (w : Work) (q : Waiting) (qs waiting : List Waiting) → IsUp before f w (q ∷ qs) waiting [] (kept_ids (q ∷ qs) waiting) → has_room w.conn.life ≡ true → IsUp before f (moved_up w q) qs waiting [] (kept_ids qs waiting)
+moved_up_one : (before : List Action) (f : Core) (w : Work) (q : Waiting) (qs waiting : List Waiting) → IsUp before f w (q ∷ qs) waiting [] (kept_ids (q ∷ qs) waiting) → has_room w.conn ≡ true → IsUp before f (moved_up w q) qs waiting [] (kept_ids qs waiting)
 moved_up_one before f w q qs waiting h room =
     let kept = kept_ids qs waiting in
     let t = moving f w.acts w.conn (q ∷ qs) waiting h.started in
     let b = book (trace_of_acts before f w.acts) in
     chosen (λ (x : Work). IsUp before f x qs waiting [] kept) (is_admitted_at w.conn.requests q.number) (seated w q) w
     (λ a.
-    seated_up before f w q (q ∷ qs) waiting qs waiting [] kept h (free_link w.conn.life h.link h.life room)
+    seated_up before f w q (q ∷ qs) waiting qs waiting [] kept h (free_link w.conn h.link h.life room)
     (next_admitted b t h.link q qs a (order_last w.conn.moved q.number kept (length w.conn.requests) h.order) (up_going before f w (q ∷ qs) waiting [] (kept_ids (q ∷ qs) waiting) h).sound.tied))
     (λ gone. gone_admitted before f w q qs waiting h gone)
 
 -- those that wait for a place still have found the queue full
 pub record IsSeated (before : List Action) (f : Core) (w : Work) (waiting : List Waiting) : Type 0 where
   pub up : IsUp before f w w.conn.admitted waiting [] (waiting_ids waiting)
-  pub full : (w.conn.admitted ≡ []) ⊎ (has_room w.conn.life ≡ false)
+  pub full : (w.conn.admitted ≡ []) ⊎ (has_room w.conn ≡ false)
 
 -- all are moved that can be
 pub moved_up_seated : (before : List Action) (f : Core) (w : Work) (qs waiting : List Waiting) → IsUp before f w qs waiting [] (kept_ids qs waiting) → IsSeated before f (moved_up_each w qs) waiting
 moved_up_seated before f w [] waiting h = record {
-  up = record { link = h.link; life = h.life; fit = h.fit; held = h.held; started = h.started; going = h.going; order = h.order };
+  up = record { link = h.link; life = h.life; fit = h.fit; seats = h.seats; held = h.held; started = h.started; going = h.going; order = h.order };
   full = inl refl;
 }
 moved_up_seated before f w (q ∷ qs) waiting h =
-    chosen (λ (x : Work). IsSeated before f x waiting) (has_room w.conn.life) (moved_up_each (moved_up w q) qs) (still_admitted w (q ∷ qs))
+    chosen (λ (x : Work). IsSeated before f x waiting) (has_room w.conn) (moved_up_each (moved_up w q) qs) (still_admitted w (q ∷ qs))
     (λ room. moved_up_seated before f (moved_up w q) qs waiting (moved_up_one before f w q qs waiting h room))
     (λ none. record {
       up = record {
         link = h.link;
         life = h.life;
         fit = h.fit;
+        seats = h.seats;
         held = h.held;
         started = h.started;
         going = h.going;
@@ -322,7 +343,7 @@ pub moved_up_waits : (w : Work) (qs : List Waiting) → (moved_up_each w qs).con
 moved_up_waits w [] = refl
 moved_up_waits w (q ∷ qs) =
     let one = chosen (λ (x : Work). x.conn.waiting ≡ w.conn.waiting) (is_admitted_at w.conn.requests q.number) (seated w q) w (λ a. (seated_keeps w q).waiting) (λ n. refl) in
-    chosen (λ (x : Work). x.conn.waiting ≡ w.conn.waiting) (has_room w.conn.life) (moved_up_each (moved_up w q) qs) (still_admitted w (q ∷ qs)) (λ r. moved_up_waits (moved_up w q) qs ∙ one) (λ n. refl)
+    chosen (λ (x : Work). x.conn.waiting ≡ w.conn.waiting) (has_room w.conn) (moved_up_each (moved_up w q) qs) (still_admitted w (q ∷ qs)) (λ r. moved_up_waits (moved_up w q) qs ∙ one) (λ n. refl)
 
 -- those that wait for the connection
 --
@@ -335,12 +356,14 @@ gone_waiting before f w q qs s gone =
     let now : IsGoing (trace_of_acts before f w.acts) (on_link t h.link) = record {
       sound = record { stands = was.sound.stands; tied = passed_waiting (book (trace_of_acts before f w.acts)) t h.link q qs gone was.sound.tied };
       ended = was.ended;
+      renewed = was.renewed;
     } in
     record {
       up = record {
         link = h.link;
         life = h.life;
         fit = h.fit;
+        seats = h.seats;
         held = h.held;
         started = h.started;
         going = subst (λ (x : Life). IsGoing (trace_of_acts before f w.acts) (record t { life = x })) (sym h.life) now;
@@ -392,8 +415,10 @@ letting_up before f w q qs s wt some =
       settled = refl;
       told = (refl, refl);
       fit = h.fit;
+      seats = h.seats;
       held = h.held;
-      full = elim s.full [ inl empty ↦ inl empty | inr none ↦ inr (no_room w.conn.life h.link h.life none) ];
+      full = elim s.full [ inl empty ↦ inl empty | inr none ↦ inr (no_room w.conn h.link h.life none) ];
+      renewed = h.going.renewed;
       waiting = refl;
       is_waiting = wt;
     } in
@@ -404,16 +429,17 @@ letting_up before f w q qs s wt some =
         link = h.link;
         life = h.life;
         fit = h.fit;
+        seats = h.seats;
         held = h.held;
         started = h.started;
-        going = subst (λ ss. IsGoing (trace_of_acts before f acts) (record (lets t p count (w.conn.free - count) (f.timers ++ timers_of acts)) { sources = ss })) (sym k.sourced) k.going;
+        going = subst (λ ss. IsGoing (trace_of_acts before f acts) (record (lets t p count (w.conn.free - count) (f.timers ++ timers_of f.single.link acts)) { sources = ss })) (sym k.sourced) k.going;
         order = subst (Rising 0 (w.conn.moved ++ waiting_ids (q ∷ qs))) (sym (length_with w.conn.requests p progress.Waiting count)) h.order;
       },
       ap (λ n. is_let_in w.conn.limit ((book (trace_of_acts before f (let_in w q).acts)).story n)) (name_with w.conn.requests p progress.Waiting count p) ∙ k.is,
     )
 
 -- where the queue has room it takes its place
-admitted_seated : (before : List Action) (f : Core) (w : Work) (q : Waiting) (qs : List Waiting) → IsSeated before f w (q ∷ qs) → is_waiting_at w.conn.requests q.number ≡ true → has_no_permit w.conn.limit w.conn.free ≡ false → w.conn.admitted ≡ [] → has_room w.conn.life ≡ true
+admitted_seated : (before : List Action) (f : Core) (w : Work) (q : Waiting) (qs : List Waiting) → IsSeated before f w (q ∷ qs) → is_waiting_at w.conn.requests q.number ≡ true → has_no_permit w.conn.limit w.conn.free ≡ false → w.conn.admitted ≡ [] → has_room w.conn ≡ true
     → IsSeated before f (seated (entering w q) q) qs
 admitted_seated before f w q qs s wt some none room =
     let g = letting w q in
@@ -426,7 +452,7 @@ admitted_seated before f w q qs s wt some none room =
     let t = letting_in f g.acts g.conn [] (q ∷ qs) (p ∷ []) h.started in
     let waits : is_waiting_at g.conn.requests p ≡ true = with_same is_waiting w.conn.requests p progress.Waiting count (open_within w.conn.requests p (waiting_open w.conn.requests p wt)) in
     let empty : (seated g q).conn.admitted ≡ [] = (seated_keeps g q).admitted ∙ none in
-    let up = seated_up before f g q [] (q ∷ qs) [] qs (p ∷ []) (waiting_ids qs) h (free_link g.conn.life h.link h.life room)
+    let up = seated_up before f g q [] (q ∷ qs) [] qs (p ∷ []) (waiting_ids qs) h (free_link g.conn h.link h.life room)
     (next_waiting b t h.link q qs waits l.1 (order_last g.conn.moved p (waiting_ids qs) (length g.conn.requests) h.order) (up_going before f g [] (q ∷ qs) (p ∷ []) ids h).sound.tied) in
     subst (λ (x : Work). IsSeated before f x qs) (sym (seated_once w q s.up.link s.up.life wt)) (record {
       up = subst (λ ws. IsUp before f (seated g q) ws qs [] (waiting_ids qs)) (sym empty) up;
@@ -434,7 +460,7 @@ admitted_seated before f w q qs s wt some none room =
     })
 
 -- and else it waits for one, behind the others
-admitted_behind : (before : List Action) (f : Core) (w : Work) (q : Waiting) (qs : List Waiting) → IsSeated before f w (q ∷ qs) → is_waiting_at w.conn.requests q.number ≡ true → has_no_permit w.conn.limit w.conn.free ≡ false → has_room w.conn.life ≡ false
+admitted_behind : (before : List Action) (f : Core) (w : Work) (q : Waiting) (qs : List Waiting) → IsSeated before f w (q ∷ qs) → is_waiting_at w.conn.requests q.number ≡ true → has_no_permit w.conn.limit w.conn.free ≡ false → has_room w.conn ≡ false
     → IsSeated before f (put_behind (entering w q) q) qs
 admitted_behind before f w q qs s wt some none =
     let p = q.number in
@@ -452,6 +478,9 @@ admitted_behind before f w q qs s wt some none =
     let was = up_going before f g w.conn.admitted (q ∷ qs) (p ∷ []) ids h in
     let twice : at_progress g.conn.requests p progress.Admitted ≡ with_permits w.conn.requests p progress.Admitted count =
     permits_twice w.conn.requests p progress.Waiting progress.Admitted count (permits_at g.conn.requests p) ∙ ap (with_permits w.conn.requests p progress.Admitted) (permits_with w.conn.requests p progress.Waiting count within) in
+    let apart : IsIn p (queue_ids h.link.queue) → ⊥ = λ i.
+    let line = rising_right 0 (requests_in h.started) (queue_ids h.link.queue ++ kept_ids w.conn.admitted (q ∷ qs)) (length g.conn.requests) was.sound.tied.lines.line in
+    (let k = rising_apart 0 (queue_ids h.link.queue) (kept_ids w.conn.admitted (q ∷ qs)) (length g.conn.requests) p p line i (in_right p (waiting_ids w.conn.admitted) ids (inl refl)) in omega arith) in
     let admitted : Tied b (record (on_link after h.link) { requests = at_progress g.conn.requests p progress.Admitted }) = admit_tied b t h.link q qs waits l.1 (order_last g.conn.moved p (waiting_ids qs) (length g.conn.requests) h.order) was.sound.tied in
     let now : IsGoing (trace_of_acts before f g.acts) (on_link after h.link) = record {
       sound = record {
@@ -459,12 +488,17 @@ admitted_behind before f w q qs s wt some none =
         tied = subst (λ (x : List Request). Tied b (record (on_link after h.link) { requests = x })) twice admitted;
       };
       ended = was.ended;
+      renewed = was.renewed;
     } in
     record {
       up = record {
         link = h.link;
         life = h.life;
         fit = h.fit;
+        seats = λ m i k. elim (in_either m w.conn.moved (p ∷ []) i) [
+          | inl old ↦ h.seats m old k
+          | inr new ↦ absurd (elim new [ inl same ↦ apart (subst (λ y. IsIn y (queue_ids h.link.queue)) (sym same) k) | inr none ↦ none ])
+        ];
         held = h.held;
         started = h.started;
         going = subst (λ (x : Life). IsGoing (trace_of_acts before f g.acts) (record after { life = x })) (sym h.life) now;
@@ -482,8 +516,8 @@ admitted_one before f w q qs s some =
     (λ wt.
     subst (λ (x : Life). IsSeated before f (admitted_at w q x) qs) (sym h.life)
     (subst (λ (x : Work). IsSeated before f (seated_or_behind x q) qs) (sym (let_in_is w q))
-    (chosen (λ (x : Work). IsSeated before f x qs) (has_room w.conn.life) (seated v q) (put_behind v q)
-    (λ room. elim s.full [ inl none ↦ admitted_seated before f w q qs s wt some none room | inr stuck ↦ absurd (not_both (has_room w.conn.life) stuck room) ])
+    (chosen (λ (x : Work). IsSeated before f x qs) (has_room w.conn) (seated v q) (put_behind v q)
+    (λ room. elim s.full [ inl none ↦ admitted_seated before f w q qs s wt some none room | inr stuck ↦ absurd (not_both (has_room w.conn) stuck room) ])
     (λ stuck. admitted_behind before f w q qs s wt some stuck))))
     (λ gone. gone_waiting before f w q qs s gone)
 
@@ -497,7 +531,7 @@ still_seated : (before : List Action) (f : Core) (w : Work) (qs : List Waiting) 
 still_seated before f w qs s =
     let h = s.up in
     record {
-      up = record { link = h.link; life = h.life; fit = h.fit; held = h.held; started = h.started; going = h.going; order = h.order };
+      up = record { link = h.link; life = h.life; fit = h.fit; seats = h.seats; held = h.held; started = h.started; going = h.going; order = h.order };
       full = s.full;
     }
 

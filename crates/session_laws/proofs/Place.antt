@@ -31,8 +31,8 @@ use Rattle.session_laws.proofs.Behind.{open_unanswered}
 use Rattle.session_laws.proofs.Closing.{Closes, IsOneOf, closed_other, kept_other, late_closed, one_of, story_closed, tries_closed, waits_closed, with_closed}
 use Rattle.session_laws.proofs.InLine.{awaited_in, kept_ids}
 use Rattle.session_laws.proofs.Kept.{of_same}
-use Rattle.session_laws.proofs.Names.{length_still, length_with, name_still, name_was, name_with, name_within, names_progressed, names_with, open_within, owners_still, owners_with, permits_still, there_other, there_same, there_then, with_same}
-use Rattle.session_laws.proofs.Numbers.{IsIn, Rising, in_either, in_left, in_right, rising_apart, rising_in, rising_right, rising_tail, rising_without}
+use Rattle.session_laws.proofs.Names.{length_still, length_with, name_still, name_was, name_with, name_within, names_progressed, names_with, open_within, owners_still, owners_with, permits_still, request_not, there_other, there_same, there_then, with_same}
+use Rattle.session_laws.proofs.Numbers.{IsIn, Rising, in_either, in_left, in_right, rising_apart, rising_in, rising_right, rising_tail, rising_without, request_in, requests_in}
 use Rattle.session_laws.proofs.Owes.{in_line, request_story}
 use Rattle.session_laws.proofs.Permits.{permits_closed, permits_further, permits_let}
 use Rattle.session_laws.proofs.Start.{not_dialing, not_setting, not_wanting, on_link}
@@ -51,7 +51,7 @@ line_without started queue q qs waiting hi h =
 pub passed_admitted : (b : Book) (t : Inner) (link : LinkState) (q : Waiting) (qs : List Waiting) → is_admitted_at t.requests q.number ≡ false → Tied b (record (on_link t link) { admitted = q ∷ qs }) → Tied b (record (on_link t link) { admitted = qs })
 passed_admitted b t link q qs gone h =
     relined b (record (on_link t link) { admitted = q ∷ qs }) t.waiting qs t.fresh t.moved [] h (record {
-      line = line_without t.started (queue_ids link.queue) q qs t.waiting (length t.requests) h.lines.line;
+      line = line_without (requests_in t.started) (queue_ids link.queue) q qs t.waiting (length t.requests) h.lines.line;
       queued = h.lines.queued;
       entries = h.lines.entries;
       packs = h.lines.packs;
@@ -73,7 +73,7 @@ passed_waiting b t link q qs gone h =
     let front = waiting_ids t.admitted in
     let rest = waiting_ids qs in
     relined b (record (on_link t link) { waiting = q ∷ qs }) qs t.admitted t.fresh t.moved [] h (record {
-      line = rising_tail 0 t.started (queue ++ (front ++ (q.number ∷ rest))) (queue ++ (front ++ rest)) hi
+      line = rising_tail 0 (requests_in t.started) (queue ++ (front ++ (q.number ∷ rest))) (queue ++ (front ++ rest)) hi
           (λ low r. rising_tail low queue (front ++ (q.number ∷ rest)) (front ++ rest) hi (λ l s. rising_without l front q.number rest hi s) r)
           h.lines.line;
       queued = h.lines.queued;
@@ -126,8 +126,8 @@ owners_further requests p now (m ∷ ms) = λ i. owners_still requests p now i m
 tries_further : (l : Ledger) (story : ℕ → Story) (requests : List Request) (link p : ℕ) (now : Progress) (started : List ℕ) → TiedTries l story requests link started → TiedTries l story (at_progress requests p now) link started
 tries_further l story requests link p now started h = record {
   owners = h.owners ∙ ap (setup_owners (setup_count l.starts)) (sym (owners_further requests p now started));
-  shapes = λ k m s i j. h.shapes k m s i j ∙ ap (λ n. shape (story n)) (sym (name_still requests p now m));
-  tried = λ k m i. ap (λ n. (story n).tries) (name_still requests p now m) ∙ h.tried k m i;
+  shapes = λ k m s l i j. h.shapes k m s (subst (λ x. m < x) (length_still requests p now) l) i j ∙ ap (λ n. shape (story n)) (sym (name_still requests p now m));
+  tried = λ k m l i. ap (λ n. (story n).tries) (name_still requests p now m) ∙ h.tried k m (subst (λ x. m < x) (length_still requests p now) l) i;
   untried = λ m r i out. let w = name_was requests p now m r i in ap (λ n. (story n).tries) (sym w.2) ∙ h.untried m w.0 w.1 out;
 }
 
@@ -145,7 +145,10 @@ placed_further requests p m now l seat e =
 entries_further : (requests : List Request) (p : ℕ) (now : Progress) (row : List Entry) → p < length requests → (is_placed now ≡ true) ⊎ (is_placed_at requests p ≡ false) → AllByRecursion (IsEntry requests) row → AllByRecursion (IsEntry (at_progress requests p now)) row
 entries_further requests p now [] l seat all = tt
 entries_further requests p now (e ∷ es) l seat all = (
-  record { below = subst (λ n. e.id < n) (sym (length_still requests p now)) all.0.below; placed_at = λ t. placed_further requests p e.id now l seat (all.0.placed_at t) },
+  elim all.0 [
+    | inl r ↦ inl (record { below = subst (λ n. e.id < n) (sym (length_still requests p now)) r.below; placed_at = λ t. placed_further requests p e.id now l seat (r.placed_at t) })
+    | inr a ↦ inr a
+  ],
   entries_further requests p now es l seat all.1,
 )
 
@@ -213,10 +216,7 @@ next_admitted b t link q qs a last h = record {
     | inl x ↦ elim x.1 [ inl same ↦ inl same | inr i ↦ inr (inl (x.0, i)) ]
     | inr w ↦ inr (inr w)
   ];
-  shown = elim (h.waits.place q.number a) [
-    | inl i ↦ absurd (let k = rising_apart 0 t.moved (q.number ∷ []) (length t.requests) q.number q.number last i (inl refl) in omega arith)
-    | inr e ↦ (λ r. (let no : ◌≡◌ {A = Option WaitKind} (Some wait.Place) (Some wait.Room) = sym e ∙ r in cc))
-  ];
+  shown = h.waits.seatless q.number a;
   last = last;
 }
 
@@ -279,7 +279,7 @@ next_apart : (story : ℕ → Story) (requests : List Request) (link : LinkState
 next_apart story requests link limit letting moved was_waiting was_admitted started q waiting admitted next h i =
     let queue = queue_ids link.queue in
     let kept = kept_ids was_admitted was_waiting in
-    let line = rising_right 0 started (queue ++ kept) (length requests) h.line in
+    let line = rising_right 0 (requests_in started) (queue ++ kept) (length requests) h.line in
     let k = rising_apart 0 queue kept (length requests) q.number q.number line i (subst (IsIn q.number) (sym next.first) (inl refl)) in
     omega arith
 
@@ -290,7 +290,7 @@ lines_next story requests link limit letting moved was_waiting was_admitted star
     let queue = queue_ids link.queue in
     let kept = kept_ids admitted waiting in
     record {
-      line = rising_tail 0 started (queue ++ kept_ids was_admitted was_waiting) (queue ++ kept) (length requests)
+      line = rising_tail 0 (requests_in started) (queue ++ kept_ids was_admitted was_waiting) (queue ++ kept) (length requests)
           (λ low r. rising_without low queue q.number kept (length requests) (subst (λ ns. Rising low (queue ++ ns) (length requests)) next.first r))
           h.line;
       queued = h.queued;
@@ -317,7 +317,7 @@ line_next requests link moved was_waiting was_admitted started q waiting admitte
 lines_further : (story : ℕ → Story) (requests : List Request) (link : LinkState) (waiting admitted : List Waiting) (p : ℕ) (now : Progress) (started : List ℕ) → is_open_progress now ≡ true → is_placed now ≡ true → is_open_at requests p ≡ true → (IsIn p (queue_ids link.queue) → ⊥)
     → TiedLines story requests link waiting admitted (p ∷ []) started → TiedLines story (at_progress requests p now) link waiting admitted (p ∷ []) started
 lines_further story requests link waiting admitted p now started on seat o apart h = record {
-  line = subst (Rising 0 (started ++ (queue_ids link.queue ++ kept_ids admitted waiting))) (sym (length_still requests p now)) h.line;
+  line = subst (Rising 0 (requests_in started ++ (queue_ids link.queue ++ kept_ids admitted waiting))) (sym (length_still requests p now)) h.line;
   queued = queued_further story requests p now link.queue apart h.queued;
   entries = entries_further requests p now link.row (open_within requests p o) (inl seat) h.entries;
   packs = packs_further story requests p now waiting h.packs;
@@ -330,10 +330,10 @@ lines_further story requests link waiting admitted p now started on seat o apart
 
 -- its message has the last place of the queue
 lines_enqueued : (story : ℕ → Story) (requests : List Request) (link : LinkState) (waiting admitted : List Waiting) (m : Queued) (pending started : List ℕ) → IsQueued story requests m
-    → Rising 0 (started ++ (queue_ids (link.queue ++ m ∷ []) ++ kept_ids admitted waiting)) (length requests) → ((n : ℕ) → IsIn n pending → IsIn n (awaited_ids (m ∷ []))) → TiedLines story requests link waiting admitted pending started
+    → Rising 0 (requests_in started ++ (queue_ids (link.queue ++ m ∷ []) ++ kept_ids admitted waiting)) (length requests) → ((n : ℕ) → IsIn n pending → IsIn n (awaited_ids (m ∷ []))) → TiedLines story requests link waiting admitted pending started
     → TiedLines story requests (enqueued link m) waiting admitted [] started
 lines_enqueued story requests link waiting admitted m pending started is line placed h =
-    let rows = wanted link.row in
+    let rows = requests_in (wanted link.row) in
     let queue = awaited_ids link.queue in
     let more = awaited_ids (m ∷ []) in
     record {
@@ -372,6 +372,7 @@ waits_placed story requests p life fresh moved l h =
       no_creds = λ m link i w d e. let k = there_then is_waiting requests p m progress.Placed refl l w in h.no_creds m link i k.1 d (sym (same m) ∙ e);
       no_setup = λ m link u i w d e. let k = there_then is_waiting requests p m progress.Placed refl l w in h.no_setup m link u i k.1 d (sym (same m) ∙ e);
       no_permit = λ m link i w d e. let k = there_then is_waiting requests p m progress.Placed refl l w in h.no_permit m link i k.1 d (sym (same m) ∙ e);
+      seatless = λ m a e. let k = there_then is_admitted requests p m progress.Placed refl l a in h.seatless m k.1 (sym (same m) ∙ e);
       no_place = λ m i a e. let k = there_then is_admitted requests p m progress.Placed refl l a in h.no_place m i k.1 (sym (same m) ∙ e);
       no_room = λ m i j e. h.no_room m i j (sym (same m) ∙ e);
     }
@@ -399,6 +400,7 @@ waits_enqueued story requests link m fresh moved last placed shown h =
       no_creds = λ n l i w e. absurd (not_wanting (enqueued link m) l e);
       no_setup = λ n l u i w e. absurd (not_setting (enqueued link m) l u e);
       no_permit = λ n l i w e. h.no_permit n link i w refl;
+      seatless = h.seatless;
       no_place = λ n i a. h.no_place n (earlier n (λ same. not_both (is_admitted_at requests n) (ap (is_admitted_at requests) (sym same) ∙ placed) a) i) a;
       no_room = λ n i j. by_test (p == n) _
           (λ t. subst (λ x. shown_wait story requests x ≢ Some wait.Room) (eq_from p n t) shown)
@@ -429,6 +431,9 @@ waits_admitted story requests link p fresh moved w last h =
       no_creds = λ m x i v d. absurd (not_wanting link x d);
       no_setup = λ m x u i v d. absurd (not_setting link x u d);
       no_permit = λ m x i v d e. let k = there_then is_waiting requests p m progress.Admitted refl l v in h.no_permit m link i k.1 refl (sym (same m) ∙ e);
+      seatless = λ m a e. by_test (p == m) _
+          (λ t. shown.1 (ap (shown_wait story requests) (eq_from p m t) ∙ sym (same m) ∙ e))
+          (λ f. h.seatless m (sym (there_other is_admitted requests p m progress.Admitted (ne_from p m f)) ∙ a) (sym (same m) ∙ e));
       no_place = λ m i a e. by_test (p == m) _
           (λ t. shown.0 (ap (shown_wait story requests) (eq_from p m t) ∙ sym (same m) ∙ e))
           (λ f. h.no_place m (earlier m (ne_from p m f) i) (sym (there_other is_admitted requests p m progress.Admitted (ne_from p m f)) ∙ a) (sym (same m) ∙ e));
@@ -486,13 +491,15 @@ place_tied b t link q waiting admitted yes_awaited next h =
       pushes = h.pushes;
       life = h.life;
       creds = record { wanted_is = h.creds.wanted_is; sought = h.creds.sought };
+      count = h.count;
+      renewal = h.renewal;
       setup = record { info_is = h.setup.info_is; sent = h.setup.sent; said = h.setup.said };
       link = λ e. subst (λ x. TiedLink x (b.link t.link) (enqueued link (message_of q))) (sym (owners_still t.requests p progress.Placed)) (enqueued_tied (owner_of t.requests) (b.link t.link) link (message_of q) (h.link refl));
       names = names_progressed t.table t.requests p progress.Placed h.names;
       story = λ n. story_further (b.story n) t.requests t.link p progress.Placed (slice_get t.table n) refl o (h.story n);
       tries = tries_further (b.link t.link) b.story t.requests t.link p progress.Placed t.started h.tries;
       lines = lines_enqueued b.story placed link waiting admitted (message_of q) (p ∷ []) t.started queued
-          (subst (Rising 0 (t.started ++ (queue_ids (link.queue ++ message_of q ∷ []) ++ kept_ids admitted waiting))) (sym still) (line_next t.requests link t.moved t.waiting t.admitted t.started q waiting admitted next.first h.lines.line))
+          (subst (Rising 0 (requests_in t.started ++ (queue_ids (link.queue ++ message_of q ∷ []) ++ kept_ids admitted waiting))) (sym still) (line_next t.requests link t.moved t.waiting t.admitted (requests_in t.started) q waiting admitted next.first h.lines.line))
           (λ n i. awaited_only q.awaited p n yes_awaited i)
           (lines_further b.story t.requests link waiting admitted p progress.Placed t.started refl refl o apart (lines_next b.story t.requests link t.limit t.letting t.moved t.waiting t.admitted t.started q waiting admitted next h.lines));
       told = λ e n is none.
@@ -510,14 +517,15 @@ apart_from_link : (b : Book) (t : Inner) (link : LinkState) (q : Waiting) (waiti
 apart_from_link b t link q waiting admitted next h i =
     let p = q.number in
     let hi = length t.requests in
-    let rows = wanted link.row in
+    let rows = requests_in (wanted link.row) in
     let queue = queue_ids link.queue in
     let kept = kept_ids admitted waiting in
+    let other = request_not b (on_link t link) p h (open_within t.requests p next.open_at) in
     let all = in_line b (on_link t link) h refl in
     let line = subst (λ ns. Rising 0 (rows ++ (queue ++ ns)) hi) next.first all in
     let behind = rising_right 0 rows (queue ++ (p ∷ kept)) hi line in
-    elim (in_either p rows queue i) [
-      | inl j ↦ let k = rising_apart 0 rows (queue ++ (p ∷ kept)) hi p p line j (in_right p queue (p ∷ kept) (inl refl)) in omega arith
+    elim (in_either p (wanted link.row) queue i) [
+      | inl j ↦ let k = rising_apart 0 rows (queue ++ (p ∷ kept)) hi p p line (request_in p (wanted link.row) other j) (in_right p queue (p ∷ kept) (inl refl)) in omega arith
       | inr k ↦ let l = rising_apart 0 queue (p ∷ kept) hi p p behind k (inl refl) in omega arith
     ]
 
@@ -551,13 +559,15 @@ tell_tied b t link q waiting admitted not_awaited next h =
       pushes = h.pushes;
       life = h.life;
       creds = record { wanted_is = h.creds.wanted_is; sought = h.creds.sought };
+      count = h.count;
+      renewal = h.renewal;
       setup = record { info_is = h.setup.info_is; sent = h.setup.sent; said = h.setup.said };
       link = λ e. subst (λ x. TiedLink x (b.link t.link) (enqueued link (message_of q))) (sym (owners_with t.requests p progress.Closed 0)) (enqueued_tied (owner_of t.requests) (b.link t.link) link (message_of q) (h.link refl));
       names = names_with t.table t.requests p progress.Closed 0 h.names;
       story = λ m. story_closed b.story t.table t.requests t.link p done m h.names within refl (c m) (h.story m);
       tries = tries_closed (b.link t.link) b.story t.requests t.link p done t.started c h.tries;
       lines = lines_enqueued after closed link waiting admitted (message_of q) [] t.started queued
-          (subst (Rising 0 (t.started ++ (queue_ids (link.queue ++ message_of q ∷ []) ++ kept_ids admitted waiting))) (sym still) (line_next t.requests link t.moved t.waiting t.admitted t.started q waiting admitted next.first h.lines.line))
+          (subst (Rising 0 (requests_in t.started ++ (queue_ids (link.queue ++ message_of q ∷ []) ++ kept_ids admitted waiting))) (sym still) (line_next t.requests link t.moved t.waiting t.admitted (requests_in t.started) q waiting admitted next.first h.lines.line))
           (λ m i. absurd i)
           (lines_answered t.table b.story t.requests link waiting admitted p [] t.started done h.names within c apart (lines_next b.story t.requests link t.limit t.letting t.moved t.waiting t.admitted t.started q waiting admitted next h.lines));
       told = λ e m. chosen (λ (x : Story). is_told x ≡ true → x.tries ≡ [] → (k : ℕ) × (k < length closed) × (name_at closed k ≡ m) × IsIn k (queue_ids (link.queue ++ message_of q ∷ []))) (n == m) (done m) (b.story m)
@@ -572,7 +582,7 @@ tell_tied b t link q waiting admitted not_awaited next h =
           let queue = queue_ids link.queue in
           let kept = kept_ids t.admitted t.waiting in
           let j = awaited_in m link.queue i in
-          let k = rising_in 0 (t.started ++ (queue ++ kept)) (length t.requests) m h.lines.line (in_right m t.started (queue ++ kept) (in_left m queue kept j)) in
+          let k = rising_in 0 (requests_in t.started ++ (queue ++ kept)) (length t.requests) m h.lines.line (in_right m (requests_in t.started) (queue ++ kept) (in_left m queue kept j)) in
           ((λ s. next_apart b.story t.requests link t.limit t.letting t.moved t.waiting t.admitted t.started q waiting admitted next h.lines (subst (λ x. IsIn x queue) (sym s) j)), k.1, i)) h.waits);
       permits = permits_let after b.submissions closed t.link t.limit (given_back t.limit t.free (permits_at t.requests p)) t.letting p (with_same is_waiting t.requests p progress.Closed 0 within) next.alone
           (permits_closed b.story after t.table b.submissions t.requests t.link t.limit t.free t.letting p h.names within known r.on r.permits_is (closed_other b.story t.requests p done) (ap (λ (s : Story). s.permits) (sym same)) (ap (λ (s : Story). s.link) (sym same) ∙ r.on) h.permits);
@@ -592,7 +602,7 @@ admit_tied b t link q qs w is last h =
     let hi = length t.requests in
     let now = progress.Admitted in
     let further = at_progress t.requests p now in
-    let line = rising_right 0 t.started (queue ++ (front ++ (p ∷ rest))) hi h.lines.line in
+    let line = rising_right 0 (requests_in t.started) (queue ++ (front ++ (p ∷ rest))) hi h.lines.line in
     let apart : IsIn p queue → ⊥ = λ i. (let k = rising_apart 0 queue (front ++ (p ∷ rest)) hi p p line i (in_right p front (p ∷ rest) (inl refl)) in omega arith) in
     let same : kept_ids t.admitted (q ∷ qs) ≡ kept_ids (t.admitted ++ q ∷ []) qs = sym (append_assoc front (p ∷ []) rest) ∙ ap (λ ns. ns ++ rest) (sym (waiting_ids-push t.admitted q)) in
     record {
@@ -601,13 +611,15 @@ admit_tied b t link q qs w is last h =
       pushes = h.pushes;
       life = h.life;
       creds = record { wanted_is = h.creds.wanted_is; sought = h.creds.sought };
+      count = h.count;
+      renewal = h.renewal;
       setup = record { info_is = h.setup.info_is; sent = h.setup.sent; said = h.setup.said };
       link = λ e. subst (λ x. TiedLink x (b.link t.link) link) (sym (owners_still t.requests p now)) (h.link refl);
       names = names_progressed t.table t.requests p now h.names;
       story = λ n. story_further (b.story n) t.requests t.link p now (slice_get t.table n) refl o (h.story n);
       tries = tries_further (b.link t.link) b.story t.requests t.link p now t.started h.tries;
       lines = record {
-        line = subst (λ ns. Rising 0 (t.started ++ (queue ++ ns)) (length further)) same (subst (Rising 0 (t.started ++ (queue ++ kept_ids t.admitted (q ∷ qs)))) (sym (length_still t.requests p now)) h.lines.line);
+        line = subst (λ ns. Rising 0 (requests_in t.started ++ (queue ++ ns)) (length further)) same (subst (Rising 0 (requests_in t.started ++ (queue ++ kept_ids t.admitted (q ∷ qs)))) (sym (length_still t.requests p now)) h.lines.line);
         queued = queued_further b.story t.requests p now link.queue apart h.lines.queued;
         entries = entries_further t.requests p now link.row within (inr (early_open t.requests p w).1) h.lines.entries;
         packs = packs_further b.story t.requests p now qs h.lines.packs.1;

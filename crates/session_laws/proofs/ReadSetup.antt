@@ -47,8 +47,8 @@ use Rattle.legal_trace.proofs.Ledgers.{reach_alike}
 use Rattle.mux_conn.specs.declared.act.LinkAct.TheVariants as act
 use Rattle.mux_conn.specs.declared.life.Life.{Life}
 use Rattle.mux_conn.specs.declared.life.Life.TheVariants.{Wanting, SettingUp, Ended, Ready}
-use Rattle.mux_conn.specs.Connection.{Work, acted, at_life, is_ready, with_setup}
-use Rattle.mux_conn.specs.Effects.{answered_setup, broken_at, failed_at, judged_by, made_ready, opening_failed, read_setup, set_up_by, sets_up, setup_queued, steps_of, behind_first, heard_on, pushed_each, told_each}
+use Rattle.mux_conn.specs.Connection.{Work, acted, at_life, is_ready, with_setup, with_link}
+use Rattle.mux_conn.specs.Effects.{answered_setup, broken_at, failed_at, judged_by, made_ready, opening_failed, read_setup, set_up_by, sets_up, setup_queued, steps_of, behind_first, heard_on, pushed_each, told_each, all_fresh}
 use Rattle.shared_session.specs.declared.core_state.Core.{Core}
 use Rattle.shared_session.specs.Turn.{with_work, is_bad}
 use Rattle.legal_trace.specs.Ledger.{Ledger, Start, by_fault, by_opening, cut, ending, is_full, is_set_up, is_well, lacks_credentials, last_result, reach, repeats, result_of, setup_after, setup_count, setup_result, setup_steps, Heard, heard_each}
@@ -57,17 +57,17 @@ use Rattle.session_laws.proofs.Tied.{AreSetups, AreSought, IsSettingUp, IsSetupD
 use Rattle.session_laws.proofs.States.{IsFit, Between, HasApplied, IsFitIn}
 use Rattle.session_laws.proofs.SetUp.{count_length, not_set_up}
 use Rattle.legal_trace.proofs.Setups.{ends_where_set, setup_said, AreSetups as SetUpsAre}
-use Rattle.session_laws.proofs.Said.{after_on, ending_failed, ending_setting, retold, PushesOf}
+use Rattle.session_laws.proofs.Said.{after_on, ending_failed, ending_setting, retold, PushesOf, readied, well_readied}
 use Rattle.session_laws.proofs.Close.{ended_applied, waiting_leaves, HasEnded, parted_moved}
 use Rattle.session_laws.proofs.Announce.{turn_of, turned, IsNewsKind}
-use Rattle.session_laws.proofs.Heard.{heard_by, quiet_applied, setting_fit, setting_waits, none_ends}
+use Rattle.session_laws.proofs.Heard.{heard_by, quiet_applied, setting_fit, setting_waits, none_ends, none_hears}
 use Rattle.session_laws.proofs.Failing.{Fails, setup_failed}
 use Rattle.session_laws.proofs.End.{IsSetting, fault_ends, setting_tied, setting_unready}
-use Rattle.session_laws.proofs.ComeUp.{IsEarly, IsMade, makes_ready}
+use Rattle.session_laws.proofs.ComeUp.{IsEarly, IsMade, makes_ready, IsReadied, IsShownReady, made_is, made_conn}
 use Rattle.session_laws.proofs.Creds.{has_credentials, has_sourced}
 use Rattle.legal_trace.specs.Legal.{is_heard}
 use Rattle.session_laws.proofs.Told.{retells, well_told}
-use Rattle.session_laws.proofs.Telling.{IsHeard, IsTelling, telling, told_holds, told_leaves}
+use Rattle.session_laws.proofs.Telling.{IsHeard, IsTelling, telling, told_holds, told_leaves, heard_readied}
 use Rattle.link_laws.proofs.Pushes.{behind_first as behind_setup, heard_kind, heard_none, heard_within, setup_heard}
 use Rattle.link_laws.specs.Pushes.{SayTheSame}
 use Rattle.link_core.specs.declared.message.PushAt.{PushAt}
@@ -77,6 +77,7 @@ use Rattle.mux_conn.specs.Requests.{is_open_at, name_at}
 use Rattle.session_laws.proofs.Owes.{in_line}
 use Rattle.session_laws.proofs.Settle.{seen, trace_of_acts}
 use Rattle.mux_conn.specs.declared.connection.MultiplexedConnection.{MultiplexedConnection}
+use Rattle.session_laws.proofs.Renewals.{early_renewal}
 
 -- what a setup is judged to be
 --
@@ -313,7 +314,7 @@ setup_answers name l link piece (suc zero) x xs last sent alive tied is =
 setup_answers name l link piece (suc (suc k)) x xs last sent alive tied is = absurd (let few = last.few in omega arith)
 
 -- what has all its items has them still
-full_stays : (l : Ledger) (piece : List ℕ) (j : ℕ) → is_full l j ≡ true → is_full (has_heard l piece) j ≡ true
+pub full_stays : (l : Ledger) (piece : List ℕ) (j : ℕ) → is_full l j ≡ true → is_full (has_heard l piece) j ≡ true
 full_stays l piece j full =
     let all = (has_heard l piece).dealt in
     let more = take (reach l.starts l.dealt - length l.dealt) (items (l.rest ++ piece)) in
@@ -510,7 +511,7 @@ setup_read before c started word kind piece link with_user h good k is e = by_ou
     given : lacks_credentials l ≡ false
     given = has_credentials l.creds s.has
 
-    creds : (life : Life) → AreSought after.creds life → TiedCreds after.creds c.single.connection.wants life
+    creds : (life : Life) → AreSought after.creds life → TiedCreds after.creds c.single.connection.renewal.wanted life
     creds life sought = record { wanted_is = h.sound.tied.creds.wanted_is; sought = sought }
 
     owners : owners_of l.starts ≡ setup_owners (setup_count l.starts) []
@@ -541,13 +542,13 @@ setup_read before c started word kind piece link with_user h good k is e = by_ou
     fails : (x : RedisError) → is_set_up after ≡ false → ending after ≡ Some (by_opening x) → applied (opening_failed (record { conn = c.single.connection; acts = act.Close ∷ [] }) x)
     fails x unready must =
         setup_failed before c started word kind (came piece) x h good k is (setting_unready b (inner c started) link with_user e h.sound.tied)
-        (subst (λ (y : Ledger). Fails y info c.single.connection.wants (is_heard b) c.single.connection.hears x) (sym same) (record {
+        (subst (λ (y : Ledger). Fails y info c.single.connection.renewal.wanted (is_heard b) c.single.connection.hears x) (sym same) (record {
           alive = s.alive;
           unready = unready;
           must = must;
           info_is = h.sound.tied.setup.info_is;
           wanted_is = h.sound.tied.creds.wanted_is;
-          sourced = has_sourced after s.has;
+          sourced = has_sourced after s.has unready;
           sent = h.sound.tied.setup.sent;
           pushes = quiet unready;
         }))
@@ -558,7 +559,8 @@ setup_read before c started word kind piece link with_user h good k is e = by_ou
         quiet_applied before c started word kind (came piece) (SettingUp next user) h good k is
         (record {
           lived = subst (λ (y : Ledger). TiedLife y b.created (SettingUp next user)) (sym same) (s.asked, s.up, s.alive, s.unshown);
-          creds = subst (λ (y : Ledger). TiedCreds y.creds c.single.connection.wants (SettingUp next user)) (sym same) (creds (SettingUp next user) s.has);
+          creds = subst (λ (y : Ledger). TiedCreds y.creds c.single.connection.renewal.wanted (SettingUp next user)) (sym same) (creds (SettingUp next user) (s.has, s.once));
+          renewal_is = none_hears l c.turns (came piece) c.single.connection.renewal (λ x. x) (early_renewal l c.single.connection.renewal c.single.connection.life (ap is_ready e) (ap has_ended e) h.sound.tied.renewal);
           said = subst (λ (y : Ledger). TiedSetup y info started (SettingUp next user)) (sym same) (record { info_is = h.sound.tied.setup.info_is; sent = h.sound.tied.setup.sent; said = (s.none, said) });
           linked = λ z. subst (λ (y : Ledger). TiedLink name y next) (sym same) tied_next;
           lines = subst (λ (x : Life). TiedLines b.story c.single.connection.requests (link_in x) c.single.connection.waiting c.single.connection.admitted [] started) e h.sound.tied.lines;
@@ -577,13 +579,25 @@ setup_read before c started word kind piece link with_user h good k is e = by_ou
         (λ t. fails reason.Closed (not_set_up after next user said).unwell (ending_setting after next user s.up said ∙ taken_if (is_spoiled after.rest) (Some (by_opening reason.Closed)) None (spoiled true t)))
         (λ f. goes_on next user said tied_next (fits f) f)
 
+    -- its connection then
+    ready_conn : MultiplexedConnection
+    ready_conn = (with_link (all_fresh w) read).conn
+
+    -- what is shown then
+    now_ready : Work
+    now_ready = record { conn = ready_conn; acts = (made_ready w read).acts }
+
+    -- and what its ledger comes to
+    later : Ledger
+    later = readied c.single.connection.renewal.wanted after
+
     -- the link is ready, the pushes behind its setup are told, and it ends where bytes came that begin no value
     ready_told : (ps : List PushAt) (untold : List Heard) (x : Settled) → IsAnswered l link piece with_user x → setup_result after ≡ Some result.Ready → (c.single.connection.hears ≡ true → untold ≡ heard_each l (values (l.rest ++ piece)))
-        → ((owes : ℕ → Option Outcome) → IsTelling front (turned c kind) after owes (name_at c.single.connection.requests) (is_open_at c.single.connection.requests) (made_ready w read) untold [] started
-        → IsTelling front (turned c kind) after owes (name_at c.single.connection.requests) (is_open_at c.single.connection.requests) (told_each (made_ready w read) 0 ps []) [] [] started)
+        → ((owes : ℕ → Option Outcome) → IsTelling front (turned c kind) later owes (name_at c.single.connection.requests) (is_open_at c.single.connection.requests) now_ready untold [] started
+        → IsTelling front (turned c kind) later owes (name_at c.single.connection.requests) (is_open_at c.single.connection.requests) (told_each now_ready 0 ps []) [] [] started)
         → applied (broken_at read.broken (told_each (made_ready w read) 0 ps []))
     ready_told ps untold x a r came_so tells =
-        let v = made_ready w read in
+        let v = now_ready in
         let u = told_each v 0 ps [] in
         let f = turned c kind in
         let still = told_leaves v 0 ps [] in
@@ -592,15 +606,23 @@ setup_read before c started word kind piece link with_user h good k is e = by_ou
         let said : IsSetUp after = record { well = well; none = λ t. absurd (not_both (says_nothing (setup_steps l 0)) s.said.says t) } in
         let owned = named_tied name (owner_of c.single.connection.requests) after read (subst (SameNames name (owner_of c.single.connection.requests)) (sym a.row) tt) tied in
         let made : IsMade after b.created c.single.connection.requests read = record { asked = s.asked; up = s.up; alive = s.alive; unshown = s.unshown; said = said; tied = owned; queue = a.queue; row = a.row } in
-        let facts = subst (λ (y : Ledger). (y.info ≡ info) × AreSetups y × TiedCreds y.creds c.single.connection.wants (Ready read) × IsMade y b.created c.single.connection.requests read × TiedPushes (is_heard b) c.single.connection.hears y.pushes y.told y.end y.parted untold false) (sym same)
-        (h.sound.tied.setup.info_is, h.sound.tied.setup.sent, creds (Ready read) s.has, made, heard_pushes l piece (is_heard b) c.single.connection.hears untold came_so h.sound.tied.pushes) in
-        let shown = makes_ready before c started word kind (came piece) info read untold h good k is early facts in
+        let facts : IsReadied b c (heard_by b c (came piece)) info read untold = subst (λ (y : Ledger). IsReadied b c y info read untold) (sym same) (record {
+          info_is = h.sound.tied.setup.info_is;
+          sent = h.sound.tied.setup.sent;
+          wanted_is = h.sound.tied.creds.wanted_is;
+          has = s.has;
+          made = made;
+          pushes = heard_pushes l piece (is_heard b) c.single.connection.hears untold came_so h.sound.tied.pushes;
+        }) in
+        let readied_is = made_is w read in
+        let shown = subst (λ (y : Work). IsShownReady front f y (readied c.single.connection.renewal.wanted (heard_by b c (came piece))) untold started) readied_is (makes_ready before c started word kind (came piece) info read untold h good k is (λ y. y) early facts) in
         let now = book (trace_of_acts front f v.acts) in
         let line = in_line now (record (seen f v.acts v.conn [] started) { untold = untold }) shown.holds.tied refl in
-        let begins = subst (λ (y : Ledger). IsTelling front f y (owed now) (name_at v.conn.requests) (is_open_at v.conn.requests) v untold [] started) (shown.ledger ∙ same) (telling front f v untold [] started shown.holds line) in
-        let done : IsTelling front f after (owed now) (name_at v.conn.requests) (is_open_at v.conn.requests) u [] [] started = tells (owed now) begins in
-        let up = ap ending done.ledger_is ∙ ends_where_set (retells after done.told after.parted) s.up (well_told after done.told after.parted ∙ well) in
-        chosen applied read.broken (failed_at u fault.Parse u.conn.life) u
+        let begins = subst (λ (y : Ledger). IsTelling front f y (owed now) (name_at v.conn.requests) (is_open_at v.conn.requests) v untold [] started) (shown.ledger ∙ ap (readied c.single.connection.renewal.wanted) same) (telling front f v untold [] started shown.holds line) in
+        let done : IsTelling front f later (owed now) (name_at v.conn.requests) (is_open_at v.conn.requests) u [] [] started = tells (owed now) begins in
+        let up = ap ending done.ledger_is ∙ ends_where_set (retells later done.told later.parted) s.up (well_told later done.told later.parted ∙ well_readied c.single.connection.renewal.wanted after ∙ well) in
+        subst (λ (y : Work). applied (broken_at read.broken (told_each y 0 ps []))) (sym readied_is)
+        (chosen applied read.broken (failed_at u fault.Parse u.conn.life) u
         (λ t.
         ended_applied front f (failed_at u fault.Parse u.conn.life) reason.Closed started (λ z. absurd (omega arith))
         (subst (λ (y : Life). (failed_at u fault.Parse y).conn.moved ≡ []) (sym still.life) (parted_moved u (row_hit fault.Parse read.row ++ queue_closed read.queue) ∙ still.moved ∙ h.moved))
@@ -612,7 +634,7 @@ setup_read before c started word kind piece link with_user h good k is e = by_ou
           began = λ z. absurd (omega arith);
           moved = still.moved ∙ h.moved;
           fit = fit_by u.conn c.single.connection.size c.single.connection.boundary read still.size still.boundary still.life (λ y is_it. (let one : read ≡ y = cc in subst (IsFit c.single.connection.size c.single.connection.boundary) one (sound t)));
-        })
+        }))
 
     -- so it does, whether somebody hears them or not
     ready : (x : Settled) (xs : List Settled) → (deals link piece).out ≡ x ∷ xs → IsAnswered l link piece with_user x → setup_result after ≡ Some result.Ready
@@ -626,7 +648,7 @@ setup_read before c started word kind piece link with_user h good k is e = by_ou
         chosen (λ (qs : List PushAt). applied (broken_at read.broken (told_each (made_ready w read) 0 (behind_first qs) []))) conn.hears ps []
         (λ t.
         ready_told (behind_first ps) hs x a r (λ y. refl)
-        (λ owes k. told_holds front (turned c kind) after owes (name_at conn.requests) (is_open_at conn.requests) (made_ready w read) 0 (behind_first ps) hs [] started t refl says tt (all_heard l piece) tt k))
+        (λ owes k. told_holds front (turned c kind) later owes (name_at conn.requests) (is_open_at conn.requests) now_ready 0 (behind_first ps) hs [] started t refl says tt (heard_readied conn.renewal.wanted after hs (all_heard l piece)) tt k))
         (λ n. ready_told [] [] x a r (λ y. absurd (not_both conn.hears n y)) (λ owes k. k))
 
     -- it is sent once more without the user name
@@ -659,7 +681,9 @@ setup_read before c started word kind piece link with_user h good k is e = by_ou
         (λ f. done)
 
     by_result : (x : Settled) (xs : List Settled) → (deals link piece).out ≡ x ∷ xs → IsAnswered l link piece with_user x → (r : SetupResult) → judged_by (setup info with_user) x.verdict ≡ r → setup_result after ≡ Some r → applied (broken_at read.broken (heard_on (set_up_by w read r) behind))
-    by_result x xs some a result.Ready j r = ready x xs some a r
+    by_result x xs some a result.Ready j r =
+        let v = made_ready w read in
+        subst (λ (z : Work). applied (broken_at read.broken z)) (sym (taken_if (is_ready v.conn.life) (pushed_each v behind) v (ap (λ (y : MultiplexedConnection). is_ready y.life) (made_conn w read)))) (ready x xs some a r)
     by_result x xs some a result.RepeatWithoutUser j r = again x a r j
     by_result x xs some a (result.Failed y) j r =
         let u = acted (at_life (acted w act.Close) (Ended y)) (act.Created (Some y)) in

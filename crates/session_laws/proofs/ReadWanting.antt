@@ -1,5 +1,5 @@
 -- Bytes come on a link whose setup waits for credentials: they answer nothing, and those that begin no value end it.
-use Rattle.std.proofs.Common.{◌≡◌, ℕ, Bool, true, false, List, [], ◌∷◌, ◌++◌, Some, None, sym, ap, ◌∙◌, subst}
+use Rattle.std.proofs.Common.{◌≡◌, ℕ, Bool, true, false, List, [], ◌∷◌, ◌++◌, Some, None, sym, ap, ◌∙◌, subst, inl}
 use Rattle.containers.proofs.Choices.{chosen, taken_if, left_if}
 use Rattle.redis_error.specs.declared.redis_error.RedisError.TheVariants as error
 use Rattle.resp_read.specs.Values.{is_spoiled}
@@ -16,7 +16,7 @@ use Rattle.link_laws.proofs.Pushes.{heard_none}
 use Rattle.link_laws.proofs.TiedLink.{TiedLink, deals, has_read, has_heard, heard_is, read_tied}
 use Rattle.mux_conn.specs.declared.life.Life.{Life}
 use Rattle.mux_conn.specs.declared.life.Life.TheVariants.{Wanting}
-use Rattle.mux_conn.specs.Connection.{Work, with_wanting}
+use Rattle.mux_conn.specs.Connection.{Work, with_wanting, is_ready}
 use Rattle.mux_conn.specs.Effects.{failed_at, read_wanting}
 use Rattle.shared_session.specs.declared.core_state.Core.{Core}
 use Rattle.shared_session.specs.Turn.{with_work, is_bad}
@@ -29,9 +29,10 @@ use Rattle.session_laws.proofs.States.{Between, HasApplied}
 use Rattle.session_laws.proofs.Said.{PushesOf, ending_wanting}
 use Rattle.session_laws.proofs.Failing.{Fails, setup_failed}
 use Rattle.session_laws.proofs.Announce.{IsNewsKind, turn_of, turned}
-use Rattle.session_laws.proofs.Heard.{heard_by, quiet_applied, wanting_fit, wanting_waits}
+use Rattle.session_laws.proofs.Heard.{heard_by, quiet_applied, wanting_fit, wanting_waits, none_hears}
 use Rattle.session_laws.proofs.End.{IsWanting, wanting_tied, wanting_unready}
 use Rattle.session_laws.proofs.ReadSetup.{dealt_none, heard_pushes}
+use Rattle.session_laws.proofs.Renewals.{early_renewal}
 
 -- the event has its effect
 pub wanting_read : (before : List Action) (c : Core) (started : List ℕ) (word : ℕ) (kind : EventKind) (piece : List ℕ) (link : LinkState) → Between before c started → is_bad c kind ≡ false → IsNewsKind c.timers kind → news_of c.timers c.sources c.single.link kind ≡ came piece
@@ -87,13 +88,13 @@ wanting_read before c started word kind piece link h good k is e =
     ends_so : read.broken ≡ true → applied (failed_at v fault.Parse v.conn.life)
     ends_so t =
         setup_failed before c started word kind (came piece) error.Closed h good k is (wanting_unready b (inner c started) link e h.sound.tied)
-        (subst (λ (y : Ledger). Fails y c.single.connection.info c.single.connection.wants (is_heard b) c.single.connection.hears error.Closed) (sym same) (record {
+        (subst (λ (y : Ledger). Fails y c.single.connection.info c.single.connection.renewal.wanted (is_heard b) c.single.connection.hears error.Closed) (sym same) (record {
           alive = s.alive;
           unready = unready;
           must = ending_wanting after s.up s.lacks ∙ taken_if (is_spoiled after.rest) (Some (by_opening error.Closed)) None (spoiled true t);
           info_is = h.sound.tied.setup.info_is;
           wanted_is = h.sound.tied.creds.wanted_is;
-          sourced = asked_sourced after s.sought.1;
+          sourced = asked_sourced after s.sought.1 (inl unready);
           sent = h.sound.tied.setup.sent;
           pushes = quiet;
         }))
@@ -104,7 +105,8 @@ wanting_read before c started word kind piece link h good k is e =
         quiet_applied before c started word kind (came piece) (Wanting read) h good k is
         (record {
           lived = subst (λ (y : Ledger). TiedLife y b.created (Wanting read)) (sym same) (s.asked, s.up, s.alive, s.unshown);
-          creds = subst (λ (y : Ledger). TiedCreds y.creds c.single.connection.wants (Wanting read)) (sym same) (record { wanted_is = h.sound.tied.creds.wanted_is; sought = s.sought });
+          creds = subst (λ (y : Ledger). TiedCreds y.creds c.single.connection.renewal.wanted (Wanting read)) (sym same) (record { wanted_is = h.sound.tied.creds.wanted_is; sought = s.sought });
+          renewal_is = none_hears l c.turns (came piece) c.single.connection.renewal (λ x. x) (early_renewal l c.single.connection.renewal c.single.connection.life (ap is_ready e) (ap has_ended e) h.sound.tied.renewal);
           said = subst (λ (y : Ledger). TiedSetup y c.single.connection.info started (Wanting read)) (sym same) (record { info_is = h.sound.tied.setup.info_is; sent = h.sound.tied.setup.sent; said = (s.starts, s.none, s.queue, row) });
           linked = λ z. subst (λ (y : Ledger). TiedLink name y read) (sym same) tied;
           lines = subst (λ (x : Life). TiedLines b.story c.single.connection.requests (link_in x) c.single.connection.waiting c.single.connection.admitted [] started) e h.sound.tied.lines;

@@ -1,24 +1,32 @@
 -- When numbers run out.
-use Rattle.std.proofs.Common.{Bool, List, [], ap, arith, false, inl, inr, length, nat_le, refl, subst, sym, true, ℕ, ◌++◌, ◌+◌, ◌<◌, ◌∙◌, ◌∷◌, ◌≡◌, ◌≤◌, ◌⊎◌}
+use Rattle.std.proofs.Common.{Bool, List, [], ap, arith, false, inl, inr, length, nat_le, refl, subst, sym, true, ℕ, ◌++◌, ◌+◌, ◌<◌, ◌∙◌, ◌∷◌, ◌≡◌, ◌≤◌, ◌⊎◌, Option, is_some, if◌then◌else◌}
 use Rattle.std.specs.Prelude.{◌==◌, ◌^◌, ◌||◌}
 use Rattle.std.proofs.lemmas.List.{length_push}
-use Rattle.containers.proofs.Choices.{by_test, eq_from, le_from, le_test, ne_from, not_both}
+use Rattle.containers.proofs.Choices.{by_test, eq_from, le_from, le_test, ne_from, not_both, not_le_from, or_left, or_right}
 use Rattle.driver_model.specs.declared.config.Config.{Config}
 use Rattle.driver_model.specs.declared.event.Event.{Event}
 use Rattle.driver_model.specs.declared.action.Purpose.{Purpose}
 use Rattle.driver_model.specs.declared.action.SourceUse.{SourceUse}
 use Rattle.link_laws.proofs.TiedLink.{TiedLink}
-use Rattle.mux_conn.specs.Connection.{is_spent_in, started_in}
+use Rattle.mux_conn.specs.Connection.{is_spent_in, started_in, is_due, is_ready, is_used_up}
 use Rattle.mux_conn.specs.declared.life.Life.{Life}
 use Rattle.mux_conn.specs.declared.life.Life.TheVariants.{Dialing, Ended, Ready, Wanting, SettingUp}
-use Rattle.shared_session.specs.Replay.{AreGood, AreGoodOn, is_bad_after, is_spent_after, opening_core, run_on, state_after, trace_of, IsSound}
-use Rattle.shared_session.specs.Turn.{is_bad, has_run_out, spends, next_turn}
+use Rattle.shared_session.specs.Replay.{AreGood, AreGoodOn, is_bad_after, is_spent_after, opening_core, run_on, state_after, trace_of, IsSound, AreUnspent, AreUnspentOn}
+use Rattle.shared_session.specs.Turn.{is_bad, has_run_out, spends, next_turn, moved_on, effect, counted}
 use Rattle.shared_session.specs.declared.core_state.Core.{Core}
 use Rattle.legal_trace.specs.Book.{Book, book}
 use Rattle.legal_trace.specs.Events.{HasRunOut}
-use Rattle.shared_session.proofs.Replays.{state_after-more, turns_after}
-use Rattle.session_laws.proofs.Legality.{replay_between}
-use Rattle.session_laws.proofs.Tied.{Inner, Tied, TiedLife, carried, has_ended, inner, whole_link}
+use Rattle.shared_session.proofs.Replays.{state_after-more, trace_of-more, turns_after}
+use Rattle.session_laws.proofs.Legality.{replay_between, turn_between, room_behind}
+use Rattle.session_laws.proofs.Tied.{Inner, Tied, TiedLife, carried, has_ended, inner, whole_link, AreRenewed, IsUnknown, NoneRenewed, TiedRenewal}
+use Rattle.driver_model.specs.declared.action.Action.{Action}
+use Rattle.session_laws.proofs.Grown.{HasGrown, turn_grown}
+use Rattle.session_laws.proofs.Renewals.{due_is, down_renewed_due, none_renewed_due}
+use Rattle.legal_trace.specs.Ledger.{Ledger, Start, renewal_count, renewal_due, renewals_asked}
+use Rattle.credentials.specs.Credentials.{Credentials}
+use Rattle.mux_conn.specs.declared.connection.MultiplexedConnection.{MultiplexedConnection}
+use Rattle.mux_conn.specs.declared.renewal.Renewal.{Renewal}
+use Rattle.link_core.specs.Link.{LinkState}
 
 -- one event more
 --
@@ -70,6 +78,21 @@ either_true false false true d e is = inr (inr (inl refl))
 either_true false false false true e is = inr (inr (inr (inl refl)))
 either_true false false false false e is = inr (inr (inr (inr is)))
 
+-- one of two
+one_of : (a b : Bool) → (a || b) ≡ true → (a ≡ true) ⊎ (b ≡ true)
+one_of true b e = inl refl
+one_of false b e = inr e
+
+-- the first of two
+or_first : (a b : Bool) → a ≡ true → (a || b) ≡ true
+or_first true b e = refl
+or_first false b e = cc
+
+-- or the second
+or_second : (a b : Bool) → b ≡ true → (a || b) ≡ true
+or_second true b e = refl
+or_second false b e = e
+
 -- over any bound
 turns_out : (bound turns now next : ℕ) → bound ≤ turns → now ≡ next → next ≡ turns + 1 → bound < now
 turns_out bound turns now next l e i = omega arith
@@ -80,15 +103,18 @@ as_many bound n m l e = omega arith
 
 -- a session that has begun so many turns before this one has given out the last number of a sort
 abbrev IsSpentBy : ℕ → Inner → Bool
-IsSpentBy turns t = nat_le (2 ^ 32) turns || (is_spent_in t.life || (nat_le (2 ^ 32) (length t.table) || (nat_le (2 ^ 32) (length t.timers) || nat_le (2 ^ 32) (length t.sources))))
+IsSpentBy turns t = nat_le (2 ^ 32) turns || ((is_spent_in t.life || nat_le (2 ^ 32) t.renewal.asked) || (nat_le (2 ^ 32) (length t.table) || (nat_le (2 ^ 32) (length t.timers) || nat_le (2 ^ 32) (length t.sources))))
 
 -- by the numbers of the session
-pub run_out_of : (b : Book) (t : Inner) (turns : ℕ) → Tied b t → t.turns ≡ turns + 1 → IsSpentBy turns t ≡ true → HasRunOut b
-run_out_of b t turns h count e =
-    elim (either_true (nat_le (2 ^ 32) turns) (is_spent_in t.life) (nat_le (2 ^ 32) (length t.table)) (nat_le (2 ^ 32) (length t.timers)) (nat_le (2 ^ 32) (length t.sources)) e) [
+pub run_out_of : (b : Book) (t : Inner) (turns : ℕ) → Tied b t → t.turns ≡ turns + 1 → (2 ^ 32 ≤ t.renewal.asked → 2 ^ 32 ≤ renewals_asked (b.link t.link)) → IsSpentBy turns t ≡ true → HasRunOut b
+run_out_of b t turns h count renewals e =
+    elim (either_true (nat_le (2 ^ 32) turns) (is_spent_in t.life || nat_le (2 ^ 32) t.renewal.asked) (nat_le (2 ^ 32) (length t.table)) (nat_le (2 ^ 32) (length t.timers)) (nat_le (2 ^ 32) (length t.sources)) e) [
       | inl x ↦ inl (turns_out (2 ^ 32) turns b.turns t.turns (le_from (2 ^ 32) turns x) h.numbers.turns count)
       | inr x ↦ elim x [
-        | inl y ↦ let up = spent_up b t h y in inr (inr (inr (inr (inr (t.link, up, as_many (2 ^ 32) (started_in t.life) (length (b.link t.link).starts) (le_from (2 ^ 32) (started_in t.life) y) (sym (up_started b t h up)))))))
+        | inl both ↦ elim (one_of (is_spent_in t.life) (nat_le (2 ^ 32) t.renewal.asked) both) [
+          | inl y ↦ let up = spent_up b t h y in inr (inr (inr (inr (inr (inl (t.link, up, as_many (2 ^ 32) (started_in t.life) (length (b.link t.link).starts) (le_from (2 ^ 32) (started_in t.life) y) (sym (up_started b t h up))))))))
+          | inr y ↦ inr (inr (inr (inr (inr (inr (t.link, renewals (le_from (2 ^ 32) t.renewal.asked y)))))))
+        ]
         | inr y ↦ elim y [
           | inl z ↦ inr (inl (as_many (2 ^ 32) (length t.table) b.submissions (le_from (2 ^ 32) (length t.table) z) h.numbers.submissions))
           | inr z ↦ elim z [
@@ -151,11 +177,18 @@ one_link b t h many =
     more_than_one : (n : ℕ) → 2 ^ 32 ≤ n → 1 < n
     more_than_one n l = omega arith
 
+-- a link that was never asked for has none
+none_asked : (l : Ledger) → IsUnknown l → 2 ^ 32 ≤ renewals_asked l → ⊥
+none_asked l h many = too_few (renewals_asked l) (ap (λ (ss : List Start). renewal_count ss + (if is_some (renewal_due l) then 1 else 0)) h.starts ∙ ap (λ (o : Option Credentials). 0 + (if is_some o then 1 else 0)) (down_renewed_due l h.up)) many
+  where
+    too_few : (n : ℕ) → n ≡ 0 + 0 → 2 ^ 32 ≤ n → ⊥
+    too_few n e l = omega arith
+
 -- by the numbers of the session
-pub spent_of : (b : Book) (t : Inner) (turns : ℕ) → Tied b t → t.turns ≡ turns + 1 → HasRunOut b → IsSpentBy turns t ≡ true
-spent_of b t turns h count out =
+pub spent_of : (b : Book) (t : Inner) (turns : ℕ) → Tied b t → t.turns ≡ turns + 1 → (2 ^ 32 ≤ renewals_asked (b.link t.link) → 2 ^ 32 ≤ t.renewal.asked) → HasRunOut b → IsSpentBy turns t ≡ true
+spent_of b t turns h count renewals out =
     let first = nat_le (2 ^ 32) turns in
-    let second = is_spent_in t.life in
+    let second = is_spent_in t.life || nat_le (2 ^ 32) t.renewal.asked in
     let third = nat_le (2 ^ 32) (length t.table) in
     let fourth = nat_le (2 ^ 32) (length t.timers) in
     let last = nat_le (2 ^ 32) (length t.sources) in
@@ -169,13 +202,20 @@ spent_of b t turns h count out =
             | inl l ↦ fourth_true first second third fourth last (le_test (2 ^ 32) (length t.timers) (subst (λ (ts : List Purpose). 2 ^ 32 ≤ length ts) h.numbers.timers l))
             | inr w ↦ elim w [
               | inl l ↦ last_true first second third fourth last (le_test (2 ^ 32) (length t.sources) (subst (λ (ss : List SourceUse). 2 ^ 32 ≤ length ss) h.numbers.sources l))
-              | inr m ↦ by_test (m.0 == t.link) _
-                  (λ e.
-                  let same = eq_from m.0 t.link e in
-                  let up = subst (λ l. (b.link l).up ≡ true) same m.1 in
-                  let here = subst (λ l. 2 ^ 32 ≤ length (b.link l).starts) same m.2 in
-                  second_true first second third fourth last (le_test (2 ^ 32) (started_in t.life) (as_many (2 ^ 32) (length (b.link t.link).starts) (started_in t.life) here (up_started b t h up))))
-                  (λ o. absurd (not_both (b.link m.0).up (h.others m.0 (ne_from m.0 t.link o)).up m.1))
+              | inr x ↦ elim x [
+                | inl m ↦ by_test (m.0 == t.link) _
+                    (λ e.
+                    let same = eq_from m.0 t.link e in
+                    let up = subst (λ l. (b.link l).up ≡ true) same m.1 in
+                    let here = subst (λ l. 2 ^ 32 ≤ length (b.link l).starts) same m.2 in
+                    second_true first second third fourth last (or_first (is_spent_in t.life) (nat_le (2 ^ 32) t.renewal.asked) (le_test (2 ^ 32) (started_in t.life) (as_many (2 ^ 32) (length (b.link t.link).starts) (started_in t.life) here (up_started b t h up)))))
+                    (λ o. absurd (not_both (b.link m.0).up (h.others m.0 (ne_from m.0 t.link o)).up m.1))
+                | inr m ↦ by_test (m.0 == t.link) _
+                    (λ e.
+                    let here = subst (λ l. 2 ^ 32 ≤ renewals_asked (b.link l)) (eq_from m.0 t.link e) m.1 in
+                    second_true first second third fourth last (or_second (is_spent_in t.life) (nat_le (2 ^ 32) t.renewal.asked) (le_test (2 ^ 32) t.renewal.asked (renewals here))))
+                    (λ o. absurd (none_asked (b.link m.0) (h.others m.0 (ne_from m.0 t.link o)) m.1))
+              ]
             ]
           ]
         ]
@@ -185,24 +225,118 @@ spent_of b t turns h count out =
 -- the last number
 --
 -- the session behind one more event, and the book of its trace
-next_tied : (config : Config) (word : ℕ) (events : List Event) (e : Event) → IsSound config → AreGood config word events → is_bad_after config word events e ≡ false
-    → (started : List ℕ) × Tied (book (trace_of config word (events ++ e ∷ []))) (inner (next_turn (state_after config word events) e.kind).core started)
-next_tied config word events e sound good fine =
-    let h = replay_between config word (events ++ e ∷ []) sound (are_good_more config word events e good fine) in
-    (h.started, subst (λ c. Tied (book (trace_of config word (events ++ e ∷ []))) (inner c h.started)) (state_after-more config word events e) h.between.sound.tied)
+next_between : (config : Config) (word : ℕ) (events : List Event) (e : Event) → IsSound config → AreGood config word events → AreUnspent config word events → is_bad_after config word events e ≡ false
+    → (let after = (next_turn (state_after config word events) e.kind).core in
+    (started : List ℕ) × Tied (book (trace_of config word (events ++ e ∷ []))) (inner after started) × ((link : LinkState) → after.single.connection.life ≡ Ready link → is_due after.single.connection.renewal ≡ true → after.single.connection.renewal.pending ≡ true))
+next_between config word events e sound good unspent fine =
+    let c = state_after config word events in
+    let h = turn_between (trace_of config word events) c e (replay_between config word events sound good unspent) fine (room_behind config word events unspent) in
+    (h.started, subst (λ (x : List Action). Tied (book x) (inner (next_turn c e.kind).core h.started)) (sym (trace_of-more config word events e)) h.between.sound.tied, λ link is due. (h.between.still.renewed link is due).0)
+
+-- new credentials that were to be told have not run out before
+asked_next_few : (c : Core) (e : Event) → spends c e ≡ false → (next_turn c e.kind).core.single.connection.renewal.asked < 2 ^ 32
+unfolding spends has_run_out
+asked_next_few c e unspent =
+    let conn = (next_turn c e.kind).core.single.connection in
+    not_le_from (2 ^ 32) conn.renewal.asked (or_right (is_spent_in conn.life) _ (or_left (is_used_up conn) _ (or_right (nat_le (2 ^ 32) c.turns) _ unspent)))
+
+-- nor behind a history
+asked_on : (c : Core) (es : List Event) → c.single.connection.renewal.asked < 2 ^ 32 → AreUnspentOn c es → (run_on c es).single.connection.renewal.asked < 2 ^ 32
+asked_on c [] few unspent = few
+asked_on c (e ∷ es) few unspent = asked_on (next_turn c e.kind).core es (asked_next_few c e unspent.0) unspent.1
+
+-- from the opening on
+asked_behind : (config : Config) (word : ℕ) (events : List Event) → AreUnspent config word events → (state_after config word events).single.connection.renewal.asked < 2 ^ 32
+unfolding state_after AreUnspent
+asked_behind config word events unspent = asked_on (opening_core config word) events (omega arith) unspent
+
+-- so where they have, they have in its book
+last_asked : (b : Book) (t : Inner) (n : ℕ) (conn : MultiplexedConnection) → t.life ≡ conn.life → t.renewal ≡ conn.renewal → Tied b t → n < 2 ^ 32 → HasGrown n conn → 2 ^ 32 ≤ t.renewal.asked → 2 ^ 32 ≤ renewals_asked (b.link t.link)
+last_asked b t n conn life renewal h few (inl same) many = absurd (let so = ap (λ (r : Renewal). r.asked) renewal ∙ same in omega (arith, few, so, many))
+last_asked b t n conn life renewal h few (inr more) many = by_life t.life refl
+  where
+    ready : is_ready t.life ≡ true
+    ready = ap is_ready life ∙ more.0
+
+    at_most_one : (x : Bool) (asked n : ℕ) → asked ≡ n + (if x then 1 else 0) → asked ≤ n + 1
+    at_most_one true asked n e = omega arith
+    at_most_one false asked n e = omega arith
+
+    told : (t.renewal.pending ≡ false) ⊎ (is_due t.renewal ≡ true)
+    told = subst (λ (r : Renewal). (r.pending ≡ false) ⊎ (is_due r ≡ true)) (sym renewal) more.1
+
+    by_life : (x : Life) → t.life ≡ x → 2 ^ 32 ≤ renewals_asked (b.link t.link)
+    by_life Dialing e = absurd (not_both (is_ready t.life) (ap is_ready e) ready)
+    by_life (Wanting link) e = absurd (not_both (is_ready t.life) (ap is_ready e) ready)
+    by_life (SettingUp link with_user) e = absurd (not_both (is_ready t.life) (ap is_ready e) ready)
+    by_life (Ended x) e = absurd (not_both (is_ready t.life) (ap is_ready e) ready)
+    by_life (Ready link) e =
+        let l = b.link t.link in
+        let tied : AreRenewed l t.renewal = subst (TiedRenewal l t.renewal) e h.renewal in
+        let up = (subst (TiedLife l b.created) e h.life).1 in
+        let count = tied.asked_is in
+        elim told [
+          | inl none ↦ let all = count ∙ ap (λ (x : Bool). renewal_count l.starts + (if x then 1 else 0)) none in omega (arith, many, all)
+          | inr due ↦
+              let all : renewals_asked l ≡ renewal_count l.starts + 1 = ap (λ (x : Bool). renewal_count l.starts + (if x then 1 else 0)) (due_is l t.renewal up tied ∙ due) in
+              let most : t.renewal.asked ≤ renewal_count l.starts + 1 = at_most_one t.renewal.pending t.renewal.asked (renewal_count l.starts) count in
+              omega (arith, many, all, most)
+        ]
+
+-- and the other way round
+book_asked : (b : Book) (t : Inner) → Tied b t → ((link : LinkState) → t.life ≡ Ready link → is_due t.renewal ≡ true → t.renewal.pending ≡ true) → 2 ^ 32 ≤ renewals_asked (b.link t.link) → 2 ^ 32 ≤ t.renewal.asked
+book_asked b t h waits many = by_life t.life refl
+  where
+    l : Ledger
+    l = b.link t.link
+
+    too_few : (n : ℕ) → n ≡ 0 → 2 ^ 32 ≤ n → ⊥
+    too_few n e l = omega arith
+
+    none : NoneRenewed l t.renewal → ⊥
+    none r = too_few (renewals_asked l) (ap (λ n. n + (if is_some (renewal_due l) then 1 else 0)) r.unstarted ∙ ap (λ (o : Option Credentials). 0 + (if is_some o then 1 else 0)) (none_renewed_due l t.renewal r)) many
+
+    by_life : (x : Life) → t.life ≡ x → 2 ^ 32 ≤ t.renewal.asked
+    by_life Dialing e = absurd (none (subst (TiedRenewal l t.renewal) e h.renewal))
+    by_life (Wanting link) e = absurd (none (subst (TiedRenewal l t.renewal) e h.renewal))
+    by_life (SettingUp link with_user) e = absurd (none (subst (TiedRenewal l t.renewal) e h.renewal))
+    by_life (Ended x) e =
+        let few = (subst (TiedRenewal l t.renewal) e h.renewal).1 in
+        let down = (subst (TiedLife l b.created) e h.life).0 in
+        let all : renewals_asked l ≡ renewal_count l.starts + 0 = ap (λ (o : Option Credentials). renewal_count l.starts + (if is_some o then 1 else 0)) (down_renewed_due l down) in
+        omega (arith, few, all, many)
+    by_life (Ready link) e =
+        let tied : AreRenewed l t.renewal = subst (TiedRenewal l t.renewal) e h.renewal in
+        let up = (subst (TiedLife l b.created) e h.life).1 in
+        let count = tied.asked_is in
+        by_test (is_due t.renewal) (2 ^ 32 ≤ t.renewal.asked)
+        (λ due.
+        let all : renewals_asked l ≡ renewal_count l.starts + 1 = ap (λ (x : Bool). renewal_count l.starts + (if x then 1 else 0)) (due_is l t.renewal up tied ∙ due) in
+        let so = count ∙ ap (λ (x : Bool). renewal_count l.starts + (if x then 1 else 0)) (waits link e due) in
+        omega (arith, all, so, many))
+        (λ f.
+        let all : renewals_asked l ≡ renewal_count l.starts + 0 = ap (λ (x : Bool). renewal_count l.starts + (if x then 1 else 0)) (due_is l t.renewal up tied ∙ f) in
+        omega (arith, all, count, many))
 
 -- a spent step gives out the last number
-pub spent_run_out : (config : Config) (word : ℕ) (events : List Event) (e : Event) → IsSound config → AreGood config word events → is_bad_after config word events e ≡ false → is_spent_after config word events e ≡ true → HasRunOut (book (trace_of config word (events ++ e ∷ [])))
-unfolding spends has_run_out
-spent_run_out config word events e sound good fine spent =
+pub spent_run_out : (config : Config) (word : ℕ) (events : List Event) (e : Event) → IsSound config → AreGood config word events → AreUnspent config word events → is_bad_after config word events e ≡ false → is_spent_after config word events e ≡ true
+    → HasRunOut (book (trace_of config word (events ++ e ∷ [])))
+unfolding spends has_run_out next_turn
+spent_run_out config word events e sound good unspent fine spent =
     let c = state_after config word events in
-    let h = next_tied config word events e sound good fine in
-    run_out_of (book (trace_of config word (events ++ e ∷ []))) (inner (next_turn c e.kind).core h.0) c.turns h.1 (turn_counted config word events e) spent
+    let h = next_between config word events e sound good unspent fine in
+    let b = book (trace_of config word (events ++ e ∷ [])) in
+    let t = inner (next_turn c e.kind).core h.0 in
+    run_out_of b t c.turns h.1 (turn_counted config word events e)
+    (last_asked b t c.single.connection.renewal.asked (moved_on (effect (counted c) e.kind)).core.single.connection refl refl h.1 (asked_behind config word events unspent) (turn_grown c e.kind)) spent
 
 -- and one that gives it out is spent
-pub run_out_spent : (config : Config) (word : ℕ) (events : List Event) (e : Event) → IsSound config → AreGood config word events → is_bad_after config word events e ≡ false → HasRunOut (book (trace_of config word (events ++ e ∷ []))) → is_spent_after config word events e ≡ true
+pub run_out_spent : (config : Config) (word : ℕ) (events : List Event) (e : Event) → IsSound config → AreGood config word events → AreUnspent config word events → is_bad_after config word events e ≡ false → HasRunOut (book (trace_of config word (events ++ e ∷ [])))
+    → is_spent_after config word events e ≡ true
 unfolding spends has_run_out
-run_out_spent config word events e sound good fine out =
+run_out_spent config word events e sound good unspent fine out =
     let c = state_after config word events in
-    let h = next_tied config word events e sound good fine in
-    spent_of (book (trace_of config word (events ++ e ∷ []))) (inner (next_turn c e.kind).core h.0) c.turns h.1 (turn_counted config word events e) out
+    let h = next_between config word events e sound good unspent fine in
+    let b = book (trace_of config word (events ++ e ∷ [])) in
+    let t = inner (next_turn c e.kind).core h.0 in
+    spent_of b t c.turns h.1 (turn_counted config word events e) (book_asked b t h.1 h.2) out

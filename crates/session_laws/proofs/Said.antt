@@ -8,20 +8,21 @@ use Rattle.connection_info.specs.declared.address.RedisConnectionInfo.{RedisConn
 use Rattle.connection_setup.specs.declared.judgement.SetupResult.TheVariants.{Ready as Well, Failed}
 use Rattle.driver_model.specs.Setup.{says_nothing}
 use Rattle.driver_model.specs.declared.action.Owner.TheVariants as owner
-use Rattle.driver_model.specs.News.{News, silence, connected, refused, overdue, took, came, failed, authorized, denied, deserted, shut}
+use Rattle.driver_model.specs.News.{News, silence, connected, refused, overdue, took, came, failed, authorized, denied, deserted, shut, renewed, unrenewed, late}
 use Rattle.link_core.specs.declared.message.Entry.{Entry}
 use Rattle.link_core.specs.Link.{LinkState}
 use Rattle.link_laws.proofs.TiedLink.{TiedLink}
 use Rattle.mux_conn.specs.declared.life.Life.{Life}
 use Rattle.mux_conn.specs.declared.life.Life.TheVariants.{Dialing, Wanting, SettingUp, Ready, Ended}
 use Rattle.mux_conn.specs.declared.request.Request.{Request}
-use Rattle.legal_trace.specs.Ledger.{Ledger, End, Ending, by_opening, hears, noted, authorized_by, awaits_credentials, is_over, dials, refused_in, bytes_came, ending, ending_up, ending_asked, ending_unready, ending_by, ending_alive, error_in, is_well, is_set_up, is_ready, lacks_credentials, last_result, setup_after, setup_count, setup_result, setup_steps}
+use Rattle.legal_trace.specs.Ledger.{Ledger, End, Ending, by_opening, hears, noted, authorized_by, awaits_credentials, is_over, dials, refused_in, bytes_came, ending, ending_up, ending_asked, ending_unready, ending_by, ending_alive, error_in, is_well, is_set_up, is_ready, lacks_credentials, last_result, setup_after, setup_count, setup_result, setup_steps, is_renewal_open, lost_by, may_renew, renewed_by, unrenewed_by, source_due}
 use Rattle.legal_trace.proofs.Setups.{IsUndecided, ends_where_set}
 use Rattle.legal_trace.specs.Book.{Book}
-use Rattle.legal_trace.specs.Legal.{ReadyIsShown}
-use Rattle.session_laws.proofs.Creds.{down_unawaited, lacking_undecided, unawaited_is, wanting_lacks}
+use Rattle.legal_trace.specs.Legal.{ReadyIsShown, SourcesAreAsked}
+use Rattle.session_laws.proofs.Creds.{down_unawaited, lacking_undecided, unawaited_is, wanting_lacks, down_may_renew, down_sourced, asked_sourced, has_sourced, ready_sourced}
 use Rattle.session_laws.proofs.SetUp.{not_set_up}
 use Rattle.session_laws.proofs.Tied.{AreSought, Inner, HasSaid, IsSettingUp, Tied, TiedLife, TiedSetup, carried, owner_of, whole_link, TiedPushes}
+use Rattle.credentials.specs.Credentials.{Credentials}
 
 -- whose messages a link carries
 --
@@ -111,10 +112,44 @@ wanting_link l info started link after queue row h = record { info_is = h.info_i
 pub setup_ready : (l : Ledger) (info : RedisConnectionInfo) (started : List ℕ) (link after : LinkState) → TiedSetup l info started (Ready link) → TiedSetup l info started (Ready after)
 setup_ready l info started link after h = record { info_is = h.info_is; sent = h.sent; said = record { well = h.said.well; none = h.said.none } }
 
+-- a ledger of which other sources, new credentials and timers are known
+abbrev pub recredited : Ledger → Bool → Bool → List Credentials → Bool → ℕ → Bool → Ledger
+recredited l asked renews renewals over timed lost = record l { creds = record l.creds { asked = asked; renews = renews; renewals = renewals; over = over; timed = timed; lost = lost } }
+
+-- what the last setup came to
+last_recredited : (l : Ledger) (asked renews : Bool) (renewals : List Credentials) (over : Bool) (timed : ℕ) (lost : Bool) (n : ℕ) → last_result (recredited l asked renews renewals over timed lost) n ≡ last_result l n
+last_recredited l asked renews renewals over timed lost zero = refl
+last_recredited l asked renews renewals over timed lost (suc k) = refl
+
+-- and whether it is set up are the same
+pub well_recredited : (l : Ledger) (asked renews : Bool) (renewals : List Credentials) (over : Bool) (timed : ℕ) (lost : Bool) → is_set_up (recredited l asked renews renewals over timed lost) ≡ is_set_up l
+well_recredited l asked renews renewals over timed lost =
+    ap is_well (λ i. if lacks_credentials l then None else if says_nothing (setup_steps l 0) then Some Well else last_recredited l asked renews renewals over timed lost (setup_count l.starts) i)
+
+-- so is all that is known of the setup of one that is set up
+pub setup_recredited : (l : Ledger) (asked renews : Bool) (renewals : List Credentials) (over : Bool) (timed : ℕ) (lost : Bool) (info : RedisConnectionInfo) (started : List ℕ) (link : LinkState) → TiedSetup l info started (Ready link)
+    → TiedSetup (recredited l asked renews renewals over timed lost) info started (Ready link)
+setup_recredited l asked renews renewals over timed lost info started link h = record {
+  info_is = h.info_is;
+  sent = h.sent;
+  said = record { well = well_recredited l asked renews renewals over timed lost ∙ h.said.well; none = h.said.none };
+}
+
+-- a ledger of which one source more is known, where credentials come of sources
+abbrev pub readied : Bool → Ledger → Ledger
+readied wanted l = recredited l (if wanted then true else l.creds.asked) (if wanted then l.creds.asked else l.creds.renews) l.creds.renewals l.creds.over l.creds.timed l.creds.lost
+
+-- it is set up as it was
+pub well_readied : (wanted : Bool) (l : Ledger) → is_set_up (readied wanted l) ≡ is_set_up l
+well_readied wanted l = well_recredited l (if wanted then true else l.creds.asked) (if wanted then l.creds.asked else l.creds.renews) l.creds.renewals l.creds.over l.creds.timed l.creds.lost
+
 -- news that bring neither bytes nor credentials leave it
 abbrev pub BringsNothing : News → Type 0
 BringsNothing (came piece) = ⊥
 BringsNothing (authorized c) = ⊥
+BringsNothing (renewed c) = ⊥
+BringsNothing unrenewed = ⊥
+BringsNothing (late k) = ⊥
 BringsNothing silence = Unit {0}
 BringsNothing connected = Unit {0}
 BringsNothing (refused f) = Unit {0}
@@ -145,6 +180,9 @@ setup_hears l turn (took count) info started life k h =
 setup_hears l turn (came piece) info started life k h = absurd k
 setup_hears l turn (failed f) info started life k h = setup_on l l.asked l.up l.end l.taken l.offer l.rest (failed f) info started life h
 setup_hears l turn (authorized c) info started life k h = absurd k
+setup_hears l turn (renewed c) info started life k h = absurd k
+setup_hears l turn unrenewed info started life k h = absurd k
+setup_hears l turn (late m) info started life k h = absurd k
 setup_hears l turn (denied text) info started life k h = setup_on l l.asked l.up l.end l.taken l.offer l.rest (denied text) info started life h
 setup_hears l turn deserted info started life k h = setup_on l l.asked l.up l.end l.taken l.offer l.rest deserted info started life h
 setup_hears l turn shut info started life k h = setup_on l l.asked l.up l.end l.taken l.offer l.rest shut info started life h
@@ -161,6 +199,12 @@ setup_unheard l turn (took count) info started life down h = setup_hears l turn 
 setup_unheard l turn (failed f) info started life down h = setup_hears l turn (failed f) info started life tt h
 setup_unheard l turn (authorized c) info started life down h =
     subst (λ (x : Ledger). TiedSetup x info started life) (sym (unawaited_is l turn c (down_unawaited l down))) (setup_on l l.asked l.up l.end l.taken l.offer l.rest (authorized c) info started life h)
+setup_unheard l turn (renewed c) info started life down h =
+    if_false (λ (x : Ledger). TiedSetup (record x { heard = renewed c }) info started life) (may_renew l) (renewed_by l c) l (down_may_renew l down) (setup_on l l.asked l.up l.end l.taken l.offer l.rest (renewed c) info started life h)
+setup_unheard l turn unrenewed info started life down h =
+    if_false (λ (x : Ledger). TiedSetup (record x { heard = unrenewed }) info started life) l.up (unrenewed_by l) l down (setup_on l l.asked l.up l.end l.taken l.offer l.rest unrenewed info started life h)
+setup_unheard l turn (late m) info started life down h =
+    if_false (λ (x : Ledger). TiedSetup (record x { heard = late m }) info started life) (l.up && is_renewal_open l m) (lost_by l) l (ap (λ u. u && is_renewal_open l m) down) (setup_on l l.asked l.up l.end l.taken l.offer l.rest (late m) info started life h)
 setup_unheard l turn (denied text) info started life down h = setup_hears l turn (denied text) info started life tt h
 setup_unheard l turn deserted info started life down h = setup_hears l turn deserted info started life tt h
 setup_unheard l turn shut info started life down h = setup_hears l turn shut info started life tt h
@@ -187,6 +231,9 @@ pushes_hear l turn (came piece) heard mine k h = elim k [
 ]
 pushes_hear l turn (failed f) heard mine k h = h
 pushes_hear l turn (authorized c) heard mine k h = chosen (λ (x : Ledger). PushesOf heard mine x) (awaits_credentials l) (authorized_by l c) l (λ t. h) (λ f. h)
+pushes_hear l turn (renewed c) heard mine k h = chosen (λ (x : Ledger). PushesOf heard mine x) (may_renew l) (renewed_by l c) l (λ t. h) (λ f. h)
+pushes_hear l turn unrenewed heard mine k h = chosen (λ (x : Ledger). PushesOf heard mine x) l.up (unrenewed_by l) l (λ t. h) (λ f. h)
+pushes_hear l turn (late m) heard mine k h = chosen (λ (x : Ledger). PushesOf heard mine x) (l.up && is_renewal_open l m) (lost_by l) l (λ t. h) (λ f. h)
 pushes_hear l turn (denied text) heard mine k h = h
 pushes_hear l turn deserted heard mine k h = h
 pushes_hear l turn shut heard mine k h = h
@@ -236,10 +283,11 @@ none_failed l none up unready =
     by_none (error_in (setup_result l)) (ending_unready l l.heard)
     (sym (taken_if l.up (ending_alive l) _ up ∙ left_if (is_set_up l) (ending_up l l.heard) (ending_by (error_in (setup_result l)) (ending_unready l l.heard)) unready) ∙ none)
 
--- that nothing is heard, or that bytes were taken
+-- that nothing is heard, that bytes were taken, or that new credentials weren't answered in time
 abbrev pub IsMild : News → Type 0
 IsMild silence = Unit {0}
 IsMild (took count) = Unit {0}
+IsMild (late k) = Unit {0}
 IsMild _ = ⊥
 
 -- so a link that is up need not end then
@@ -264,6 +312,7 @@ mild_down l taken offer n mild down =
 pub mild_end : (l : Ledger) (taken offer : List ℕ) (n : News) → IsMild n → ending l ≡ None → ending (record l { taken = taken; offer = offer; heard = n }) ≡ None
 mild_end l taken offer silence k none = by_test l.up _ (mild_up l taken offer silence (refl, refl) none) (mild_down l taken offer silence refl)
 mild_end l taken offer (took count) k none = by_test l.up _ (mild_up l taken offer (took count) (refl, refl) none) (mild_down l taken offer (took count) refl)
+mild_end l taken offer (late m) k none = by_test l.up _ (mild_up l taken offer (late m) (refl, refl) none) (mild_down l taken offer (late m) refl)
 mild_end l taken offer _ k none = absurd k
 
 -- where a link is ready
@@ -281,3 +330,19 @@ pub ready_shown : (b : Book) (t : Inner) → Tied b t → ReadyIsShown b
 ready_shown b t h m ready = by_test (m == t.link) _
     (λ same. ready_by (b.link t.link) b.created t.info t.started t.life h.life h.creds.sought h.setup (subst (λ k. is_ready (b.link k) ≡ true) (eq_from m t.link same) ready))
     (λ other. absurd (not_both (b.link m).up (h.others m (ne_from m t.link other)).up (both_left (b.link m).up (is_set_up (b.link m)) ready)))
+
+-- every source was asked for that is to be
+--
+-- by how far a link has come
+pub life_sourced : (l : Ledger) (created : ℕ) (started : List ℕ) (life : Life) → TiedLife l created life → AreSought l.creds life → HasSaid l started life → source_due l ≡ false
+life_sourced l created started Dialing h s said = down_sourced l h.1
+life_sourced l created started (Wanting link) h s said = asked_sourced l s.1 (inl (lacking_undecided l (wanting_lacks l.creds link s)).unwell)
+life_sourced l created started (SettingUp link with_user) h s said = has_sourced l s.0 (not_set_up l link with_user said.1).unwell
+life_sourced l created started (Ready link) h s said = ready_sourced l s.0 (λ w. s.1 ∙ w)
+life_sourced l created started (Ended e) h s said = down_sourced l h.0
+
+-- of any link
+pub sources_asked : (b : Book) (t : Inner) → Tied b t → SourcesAreAsked b
+sources_asked b t h m = by_test (m == t.link) _
+    (λ same. subst (λ k. source_due (b.link k) ≡ false) (sym (eq_from m t.link same)) (life_sourced (b.link t.link) b.created t.started t.life h.life h.creds.sought h.setup.said))
+    (λ other. down_sourced (b.link m) (h.others m (ne_from m t.link other)).up)

@@ -7,10 +7,10 @@ use Rattle.connection_setup.specs.declared.judgement.SetupResult.{SetupResult}
 use Rattle.connection_setup.specs.declared.judgement.SetupResult.TheVariants as result
 use Rattle.driver_model.specs.declared.action.Owner.TheVariants as owner
 use Rattle.driver_model.specs.Setup.{says_nothing}
-use Rattle.driver_model.specs.News.{News, silence, connected, refused, overdue, took, came, failed, authorized, denied, deserted, shut}
+use Rattle.driver_model.specs.News.{News, silence, connected, refused, overdue, took, came, failed, authorized, denied, deserted, shut, renewed, unrenewed, late}
 use Rattle.legal_trace.specs.Ledger.{Ledger, Start, begins, ending_up, is_full, is_of_setup, is_well, lacks_credentials, last_result, noted, reach, repeats, result_of, setup_after, setup_count, setup_due, setup_result, setup_steps}
 use Rattle.legal_trace.proofs.Ledgers.{reach_more, takes_one}
-use Rattle.legal_trace.proofs.Setups.{IsUndecided, count_more, count_within, repeats_open, set_begins, set_came, set_is_given, set_is_said, setup_said}
+use Rattle.legal_trace.proofs.Setups.{IsUndecided, count_more, count_within, repeats_open, second_holds, set_begins, set_came, set_is_said, setup_said}
 use Rattle.link_core.specs.Link.{LinkState}
 use Rattle.link_laws.proofs.TiedLink.{has_heard}
 use Rattle.session_laws.proofs.Creds.{lacking_undecided}
@@ -61,7 +61,7 @@ sent_undue l link with_user h = ap (setup_after l) h.count ∙ after h.k (none_y
 -- nor on a link that is set up
 pub set_up_undue : (l : Ledger) → IsSetUp l → setup_after l (setup_count l.starts) ≡ None
 set_up_undue l h = by_test (says_nothing (setup_steps l 0)) _
-    (λ t. ap (setup_after l) (h.none t) ∙ taken_if (lacks_credentials l || says_nothing (setup_steps l 0)) None (Some 0) (λ i. set_is_given l h.well i || t i))
+    (λ t. ap (setup_after l) (h.none t) ∙ taken_if (lacks_credentials l || says_nothing (setup_steps l 0)) None (Some 0) (second_holds (lacks_credentials l) (says_nothing (setup_steps l 0)) t))
     (λ f. after (setup_count l.starts) (sym (ap is_well (left_if (says_nothing (setup_steps l 0)) (Some result.Ready) (last_result l (setup_count l.starts)) f)) ∙ set_is_said l h.well))
   where
     after : (n : ℕ) → is_well (last_result l n) ≡ true → setup_after l n ≡ None
@@ -130,6 +130,9 @@ ending_up_same l ss (took count) = refl
 ending_up_same l ss (came piece) = refl
 ending_up_same l ss (failed f) = refl
 ending_up_same l ss (authorized c) = refl
+ending_up_same l ss (renewed c) = refl
+ending_up_same l ss unrenewed = refl
+ending_up_same l ss (late k) = refl
 ending_up_same l ss (denied text) = refl
 ending_up_same l ss deserted = refl
 ending_up_same l ss shut = refl

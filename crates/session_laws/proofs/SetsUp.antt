@@ -1,7 +1,7 @@
 -- The setup of a link starts.
-use Rattle.std.proofs.Common.{Bool, List, None, Option, Some, [], ap, append_assoc, arith, false, inl, inr, length, refl, subst, suc, sym, true, zero, ℕ, ◌+◌, ◌++◌, ◌<◌, ◌≤◌, ◌∙◌, ◌∷◌, ◌≡◌, ◌⊎◌}
-use Rattle.std.proofs.lemmas.List.{append-nil, take-append-le}
-use Rattle.std.specs.Prelude.{nat_le, ◌==◌}
+use Rattle.std.proofs.Common.{Bool, List, None, Option, Some, [], ap, append_assoc, arith, false, inl, inr, length, refl, subst, suc, sym, true, zero, ℕ, ◌++◌, ◌<◌, ◌≤◌, ◌∙◌, ◌∷◌, ◌≡◌, ◌⊎◌}
+use Rattle.std.proofs.lemmas.List.{append-nil}
+use Rattle.std.specs.Prelude.{◌==◌}
 use Rattle.containers.proofs.Choices.{by_test, left_if, not_both, taken_if}
 use Rattle.containers.proofs.Places.{get_within}
 use Rattle.driver_model.specs.Setup.{setup_shape}
@@ -41,6 +41,7 @@ use Rattle.session_laws.proofs.Settle.{quiet_asks, seen, trace_of_acts}
 use Rattle.session_laws.proofs.Start.{owners-append, with_queue}
 use Rattle.session_laws.proofs.States.{IsFit}
 use Rattle.session_laws.proofs.Tied.{AreSetups, Inner, IsSettingUp, Tied, TiedTries, numbers_kept, owners_of, setup_owners}
+use Rattle.session_laws.proofs.Renewals.{none_begins, full_begins}
 
 -- the acts of its starts
 --
@@ -79,10 +80,6 @@ due_earlier l (suc zero) zero e w = repeats_full l (by_test (repeats (result_of 
 due_earlier l (suc zero) (suc j) e w = absurd (omega arith)
 due_earlier l (suc (suc n)) j e w = cc
 
--- a message that has all its items has them when one more starts
-full_kept : (l : Ledger) (s : Start) (j : ℕ) → j < length l.starts → is_full (noted l (begins s)) j ≡ is_full l j
-full_kept l s j w = ap (λ (xs : List Start). nat_le (reach xs l.dealt) (length l.dealt)) (take-append-le (j + 1) l.starts (s ∷ []) (omega arith))
-
 -- one more setup
 setup_owners-push : (n : ℕ) → setup_owners n [] ++ owner.Setup ∷ [] ≡ setup_owners (suc n) []
 setup_owners-push zero = refl
@@ -97,8 +94,8 @@ no_tries l story requests link (p ∷ ps) none h = cc
 tries_set : (l : Ledger) (s : Start) (story : ℕ → Story) (requests : List Request) (link : ℕ) (started : List ℕ) → s.owner ≡ owner.Setup → started ≡ [] → TiedTries l story requests link started → TiedTries (noted l (begins s)) story requests link started
 tries_set l s story requests link [] mine none h = record {
   owners = owners-append l.starts (s ∷ []) ∙ (λ i. h.owners i ++ mine i ∷ []) ∙ setup_owners-push (setup_count l.starts) ∙ ap (λ n. setup_owners n []) (sym (count_next l.starts (setup_count l.starts) s h.owners mine));
-  shapes = λ k p x i j. cc;
-  tried = λ k p i. cc;
+  shapes = λ k p x w i j. cc;
+  tried = λ k p w i. cc;
   untried = h.untried;
 }
 tries_set l s story requests link (p ∷ ps) mine none h = cc
@@ -136,7 +133,7 @@ setting_next l link with_user all within due user h =
         count = count_next l.starts c (due_start l) all refl;
         user = user;
         queue = refl;
-        earlier = λ j w. full_kept l (due_start l) j (omega arith) ∙ due_earlier l c j due w;
+        earlier = λ j w. full_begins l (due_start l) j (omega arith) ∙ due_earlier l c j due w;
         open_is = begun_open l (due_start l) c (sym long) within;
       });
       awaited = all_push (λ (e : Entry). e.awaited ≡ true) link.row (entry_of (due_queued l with_user)) h.awaited refl;
@@ -195,6 +192,8 @@ set_up_tied b t link with_user due user h =
       pushes = h.pushes;
       life = h.life;
       creds = record { wanted_is = h.creds.wanted_is; sought = h.creds.sought };
+      count = h.count;
+      renewal = none_begins l t.renewal s refl h.renewal;
       setup = record { info_is = h.setup.info_is; sent = setups_next l all h.setup.sent; said = (said.0, setting_next l link with_user all tied.within due user said.1) };
       link = λ e. queue_tied name (noted l (begins s)) (begun (with_queue link (q ∷ [])) q) [] (begun_tied name l (with_queue link (q ∷ [])) q (setup_packed l (setup_count l.starts) said.1.says) tied);
       names = h.names;
@@ -229,7 +228,7 @@ set_up_going trace t link with_user due user fit free h =
     going_more trace (set_up_action t link q) (setting_on t (with_queue (begun link q) []) with_user) h.sound.stands
     (set_up_may b t link with_user due fit free h.sound.tied h.ended)
     (set_up_tied b t link with_user due user h.sound.tied)
-    (set_up_ends_none b t link with_user due h.sound.tied h.ended)
+    (set_up_ends_none b t link with_user due h.sound.tied h.ended) (λ x e. cc)
 
 -- the pass
 --

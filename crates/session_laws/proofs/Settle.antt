@@ -1,6 +1,6 @@
 -- Those that are to be answered are, one after another.
 use Rattle.std.proofs.lemmas.List.{append-nil}
-use Rattle.std.proofs.Common.{Bool, ◌+◌, append_assoc, is_some, ◌≡◌, inl, ℕ, suc, true, false, List, [], ◌∷◌, ◌++◌, length, Option, Some, refl, sym, ap, ◌∙◌, subst, arith}
+use Rattle.std.proofs.Common.{Bool, ◌==◌, if◌then◌else◌, ◌+◌, append_assoc, is_some, ◌≡◌, inl, ℕ, suc, true, false, List, [], ◌∷◌, ◌++◌, length, Option, Some, refl, sym, ap, ◌∙◌, subst, arith, ◌≢◌, ◌≤◌, None}
 use Rattle.std.specs.List.{AllByRecursion}
 use Rattle.containers.proofs.Choices.{chosen, not_both}
 use Rattle.redis_error.specs.declared.redis_error.RedisError.{RedisError}
@@ -21,15 +21,17 @@ use Rattle.mux_conn.specs.declared.request.Request.{Request}
 use Rattle.mux_conn.specs.declared.request.Waiting.{Waiting}
 use Rattle.mux_conn.specs.Connection.{Work}
 use Rattle.mux_conn.specs.Requests.{is_open, is_open_at, name_at, closed, answered}
-use Rattle.mux_conn.specs.Effects.{settled_each, failed_each}
+use Rattle.mux_conn.specs.declared.renewal.Renewal.{Renewal}
+use Rattle.mux_conn.specs.Renewals.{is_done, renewal_id, renewing, replied}
+use Rattle.mux_conn.specs.Effects.{settled_each, settled_one, failed_each}
 use Rattle.shared_session.specs.declared.core_state.Core.{Core}
 use Rattle.shared_session.specs.Turn.{shown, shown_each, source_of, sources_of, timer_of, timers_of}
-use Rattle.legal_trace.specs.Ledger.{Ledger, is_over, Heard, next_push}
+use Rattle.legal_trace.specs.Ledger.{Ledger, is_over, Heard, next_push, renewal_count}
 use Rattle.legal_trace.specs.Book.{Book, blank_book, book, entered}
 use Rattle.legal_trace.specs.Owed.{owed}
 use Rattle.legal_trace.specs.Legal.{AllStand, MayStand, MayAnswer, IsBefore, is_heard}
-use Rattle.session_laws.proofs.Numbers.{Rising, rising_from}
-use Rattle.session_laws.proofs.Tied.{Inner, link_in, TiedLife, Tied, Sound, waiting_ids, has_ended}
+use Rattle.session_laws.proofs.Numbers.{Rising, requests_in, rising_from}
+use Rattle.session_laws.proofs.Tied.{Inner, link_in, TiedLife, Tied, Sound, waiting_ids, has_ended, TiedRenewal}
 use Rattle.session_laws.proofs.Entered.{book_more, quiet_sources, quiet_timers, sound_more, shown_more, sources_more, timers_more}
 use Rattle.session_laws.proofs.Names.{open_within, name_with, length_with, with_then}
 use Rattle.session_laws.proofs.InLine.{line_of, IsInLine, open_in_line, first_is_least}
@@ -42,8 +44,8 @@ seen f acts conn pending started = record {
   turns = f.turns;
   links = f.links;
   link = f.single.link;
-  timers = f.timers ++ timers_of acts;
-  sources = f.sources ++ sources_of f.single.link acts;
+  timers = f.timers ++ timers_of f.single.link acts;
+  sources = f.sources ++ sources_of f.single.link (length f.sources) acts;
   shut = f.shut;
   table = f.table;
   timeout = f.timeout;
@@ -55,7 +57,7 @@ seen f acts conn pending started = record {
   untold = [];
   parting = false;
   info = conn.info;
-  wants = conn.wants;
+  renewal = conn.renewal;
   life = conn.life;
   requests = conn.requests;
   waiting = conn.waiting;
@@ -66,6 +68,10 @@ seen f acts conn pending started = record {
   pending = pending;
   started = started;
 }
+
+-- the number of the source that the next act asks for, if it asks for one
+abbrev pub next_source : Core → List LinkAct → ℕ
+next_source f acts = length f.sources + length (sources_of f.single.link (length f.sources) acts)
 
 -- the trace up to the last act
 abbrev pub trace_of_acts : List Action → Core → List LinkAct → List Action
@@ -85,7 +91,7 @@ Parts before f w parting pending started = Sound (trace_of_acts before f w.acts)
 
 -- what one more act shows
 abbrev pub shown_now : Core → List LinkAct → LinkAct → Action
-shown_now f acts a = shown f.single.link (length f.timers + length (timers_of acts)) (length f.sources + length (sources_of f.single.link acts)) a
+shown_now f acts a = shown f.single.link (length f.timers + length (timers_of f.single.link acts)) (next_source f acts) a
 
 -- these, and then those
 abbrev pub added : {X : Type 0} → List X → List X → List X
@@ -101,25 +107,25 @@ add_is xs (y ∷ ys) = refl
 abbrev pub seen_more : Core → List LinkAct → LinkAct → MultiplexedConnection → List ℕ → List ℕ → Inner
 seen_more f acts a conn pending started =
     let l = f.single.link in
-    record (seen f acts conn pending started) { timers = added (f.timers ++ timers_of acts) (timer_of a); sources = added (f.sources ++ sources_of l acts) (source_of l a) }
+    record (seen f acts conn pending started) { timers = added (f.timers ++ timers_of f.single.link acts) (timer_of f.single.link a); sources = added (f.sources ++ sources_of l (length f.sources) acts) (source_of l (next_source f acts) a) }
 
 -- it is the session with that act
 seen_is : (f : Core) (acts : List LinkAct) (a : LinkAct) (conn : MultiplexedConnection) (pending started : List ℕ) → seen_more f acts a conn pending started ≡ seen f (acts ++ a ∷ []) conn pending started
 seen_is f acts a conn pending started =
     let l = f.single.link in
-    let ts = add_is (f.timers ++ timers_of acts) (timer_of a) ∙ append_assoc f.timers (timers_of acts) (timer_of a) ∙ ap (λ ts. f.timers ++ ts) (sym (timers_more acts a)) in
-    let ss = add_is (f.sources ++ sources_of l acts) (source_of l a) ∙ append_assoc f.sources (sources_of l acts) (source_of l a) ∙ ap (λ ss. f.sources ++ ss) (sym (sources_more l acts a)) in
+    let ts = add_is (f.timers ++ timers_of f.single.link acts) (timer_of f.single.link a) ∙ append_assoc f.timers (timers_of f.single.link acts) (timer_of f.single.link a) ∙ ap (λ ts. f.timers ++ ts) (sym (timers_more l acts a)) in
+    let ss = add_is (f.sources ++ sources_of l (length f.sources) acts) (source_of l (next_source f acts) a) ∙ append_assoc f.sources (sources_of l (length f.sources) acts) (source_of l (next_source f acts) a) ∙ ap (λ ss. f.sources ++ ss) (sym (sources_more l (length f.sources) acts a)) in
     λ i. record (seen f acts conn pending started) { timers = ts i; sources = ss i }
 
 -- a session with what acts have asked for
 abbrev pub asked_by : Core → Inner → List LinkAct → Inner
-asked_by f t acts = record t { timers = f.timers ++ timers_of acts; sources = f.sources ++ sources_of f.single.link acts }
+asked_by f t acts = record t { timers = f.timers ++ timers_of f.single.link acts; sources = f.sources ++ sources_of f.single.link (length f.sources) acts }
 
 -- an act that asks for no timer and for no source leaves it
-pub quiet_asks : (f : Core) (t : Inner) (acts : List LinkAct) (a : LinkAct) → timer_of a ≡ [] → source_of f.single.link a ≡ [] → asked_by f t acts ≡ asked_by f t (acts ++ a ∷ [])
+pub quiet_asks : (f : Core) (t : Inner) (acts : List LinkAct) (a : LinkAct) → timer_of f.single.link a ≡ [] → source_of f.single.link (next_source f acts) a ≡ [] → asked_by f t acts ≡ asked_by f t (acts ++ a ∷ [])
 quiet_asks f t acts a timers sources =
-    let ts = quiet_timers acts a timers in
-    let ss = quiet_sources f.single.link acts a sources in
+    let ts = quiet_timers f.single.link acts a timers in
+    let ss = quiet_sources f.single.link (length f.sources) acts a sources in
     sym (λ i. record t { timers = f.timers ++ ts i; sources = f.sources ++ ss i })
 
 -- also where these pushes are still to be told, and the end of the link is
@@ -233,12 +239,104 @@ IsDue owes name was s = was s.id ≡ true → owes (name s.id) ≡ Some (outcome
 abbrev pub IsDueError : (ℕ → Option Outcome) → (ℕ → ℕ) → (ℕ → Bool) → RedisError → Waiting → Type 0
 IsDueError owes name was e q = was q.number ≡ true → owes (name q.number) ≡ Some (outcome.Fault e)
 
--- each that was settled is answered
+-- what replies that are settled make of new credentials
+--
+abbrev pub replied_each : Renewal → List Settled → Renewal
+replied_each r [] = r
+replied_each r (s ∷ ss) = replied_each (if s.id == renewal_id then replied r (is_done s.verdict) else r) ss
+
+-- neither the time, nor whether they come of sources, nor how many were to be told
+pub replied_keeps : (r : Renewal) (ss : List Settled) → ((replied_each r ss).within ≡ r.within) × ((replied_each r ss).wanted ≡ r.wanted) × ((replied_each r ss).asked ≡ r.asked)
+replied_keeps r [] = (refl, refl, refl)
+replied_keeps r (s ∷ ss) =
+    let next = if s.id == renewal_id then replied r (is_done s.verdict) else r in
+    let rest = replied_keeps next ss in
+    let one : (next.within ≡ r.within) × (next.wanted ≡ r.wanted) × (next.asked ≡ r.asked) = chosen (λ (x : Renewal). (x.within ≡ r.within) × (x.wanted ≡ r.wanted) × (x.asked ≡ r.asked)) (s.id == renewal_id) (replied r (is_done s.verdict)) r (λ t. (refl, refl, refl)) (λ f. (refl, refl, refl)) in
+    (rest.0 ∙ one.0, rest.1 ∙ one.1, rest.2 ∙ one.2)
+
+-- a session is tied with other new credentials where its link is
+pub renewal_tied : (b : Book) (t : Inner) (r : Renewal) → r.within ≡ t.renewal.within → r.wanted ≡ t.renewal.wanted → TiedRenewal (b.link t.link) r t.life → Tied b t → Tied b (record t { renewal = r })
+renewal_tied b t r within wanted tied h = record {
+  numbers = record {
+    turns = h.numbers.turns;
+    links = h.numbers.links;
+    timers = h.numbers.timers;
+    sources = h.numbers.sources;
+    uses = h.numbers.uses;
+    aims = h.numbers.aims;
+    timed = h.numbers.timed;
+    submissions = h.numbers.submissions;
+    timeout = h.numbers.timeout;
+    shut = h.numbers.shut;
+    within = h.numbers.within ∙ sym within;
+    few = h.numbers.few;
+    settings = record { size_is = h.numbers.settings.size_is; bound_is = h.numbers.settings.bound_is; limit_is = h.numbers.settings.limit_is; some = h.numbers.settings.some; limited = h.numbers.settings.limited };
+    one = h.numbers.one;
+    only = h.numbers.only;
+  };
+  others = h.others;
+  pushes = h.pushes;
+  life = h.life;
+  creds = record { wanted_is = h.creds.wanted_is ∙ sym wanted; sought = h.creds.sought };
+  count = h.count;
+  renewal = tied;
+  setup = h.setup;
+  link = h.link;
+  names = h.names;
+  story = h.story;
+  tries = h.tries;
+  lines = h.lines;
+  told = h.told;
+  waits = h.waits;
+  permits = h.permits;
+  late = h.late;
+}
+
+-- on a link that has ended it is so with any
+pub renewal_over : (b : Book) (t : Inner) (r : Renewal) (e : RedisError) → r.within ≡ t.renewal.within → r.wanted ≡ t.renewal.wanted → r.asked ≡ t.renewal.asked → t.life ≡ Ended e → Tied b t → Tied b (record t { renewal = r })
+renewal_over b t r e within wanted asked over h =
+    let l = b.link t.link in
+    let was = subst (TiedRenewal l t.renewal) over h.renewal in
+    let few = was.1 in
+    renewal_tied b t r within wanted (subst (TiedRenewal l r) (sym over) (subst (λ o. (o ≢ None) → renewal_count l.starts ≤ l.creds.timed) (sym within) was.0, omega (arith, few, asked))) h
+
+-- an answer to a request leaves them
+pub answered_renewal : (w : Work) (p : ℕ) (o : Outcome) → (answered w p o).conn.renewal ≡ w.conn.renewal
+answered_renewal w p o = chosen (λ (x : Work). x.conn.renewal ≡ w.conn.renewal) (is_open_at w.conn.requests p) _ w (λ t. refl) (λ f. refl)
+
+-- also where they come to these
+pub answered_renewing : (w : Work) (p : ℕ) (o : Outcome) (r : Renewal) → answered (renewing w r) p o ≡ renewing (answered w p o) r
+answered_renewing w p o r = by_open (is_open_at w.conn.requests p)
+  where
+    done : Work
+    done = record { conn = closed w.conn p; acts = w.acts ++ act.Outcome (name_at w.conn.requests p) o ∷ [] }
+
+    by_open : (b : Bool) → (if b then renewing done r else renewing w r) ≡ renewing (if b then done else w) r
+    by_open true = refl
+    by_open false = refl
+
+-- one that was settled is answered, where the others behind it are
+one_settled : (before : List Action) (f : Core) (ledger : Ledger) (owes : ℕ → Option Outcome) (name : ℕ → ℕ) (was : ℕ → Bool) (w : Work) (s : Settled) (ss : List Settled) (pending started : List ℕ) (auth : Bool) → IsDue owes name was s
+    → (let r = w.conn.renewal in let ids = requests_in (settled_ids ss) in IsAnswering before f ledger owes name was (renewing w (replied_each (if auth then replied r (is_done s.verdict) else r) ss)) ((if auth then ids else s.id ∷ ids) ++ pending) started)
+    → ((v : Work) → IsAnswering before f ledger owes name was (renewing v (replied_each v.conn.renewal ss)) (requests_in (settled_ids ss) ++ pending) started → IsAnswering before f ledger owes name was (settled_each v ss) pending started)
+    → IsAnswering before f ledger owes name was (settled_each (if auth then renewing w (replied w.conn.renewal (is_done s.verdict)) else answered w s.id (outcome_of s.verdict)) ss) pending started
+one_settled before f ledger owes name was w s ss pending started true due h rest = rest (renewing w (replied w.conn.renewal (is_done s.verdict))) h
+one_settled before f ledger owes name was w s ss pending started false due h rest =
+    let o = outcome_of s.verdict in
+    let ids = requests_in (settled_ids ss) in
+    let come = replied_each w.conn.renewal ss in
+    let done = answered_holds before f ledger owes name was (renewing w come) s.id o (ids ++ pending) started due h in
+    rest (answered w s.id o)
+    (subst (λ r. IsAnswering before f ledger owes name was (renewing (answered w s.id o) (replied_each r ss)) (ids ++ pending) started) (sym (answered_renewal w s.id o))
+    (subst (λ (x : Work). IsAnswering before f ledger owes name was x (ids ++ pending) started) (answered_renewing w s.id o come) done))
+
+-- each that was settled is answered; AUTH's reply is of no account for requests
 pub settled_holds : (before : List Action) (f : Core) (ledger : Ledger) (owes : ℕ → Option Outcome) (name : ℕ → ℕ) (was : ℕ → Bool) (w : Work) (ss : List Settled) (pending started : List ℕ) → AllByRecursion (IsDue owes name was) ss
-    → IsAnswering before f ledger owes name was w (settled_ids ss ++ pending) started → IsAnswering before f ledger owes name was (settled_each w ss) pending started
+    → IsAnswering before f ledger owes name was (renewing w (replied_each w.conn.renewal ss)) (requests_in (settled_ids ss) ++ pending) started → IsAnswering before f ledger owes name was (settled_each w ss) pending started
 settled_holds before f ledger owes name was w [] pending started due h = h
 settled_holds before f ledger owes name was w (s ∷ ss) pending started due h =
-    settled_holds before f ledger owes name was (answered w s.id (outcome_of s.verdict)) ss pending started due.1 (answered_holds before f ledger owes name was w s.id (outcome_of s.verdict) (settled_ids ss ++ pending) started due.0 h)
+    one_settled before f ledger owes name was w s ss pending started (s.id == renewal_id) due.0 h
+    (λ v k. settled_holds before f ledger owes name was v ss pending started due.1 k)
 
 -- each of these requests is answered with this error
 pub failed_holds : (before : List Action) (f : Core) (ledger : Ledger) (owes : ℕ → Option Outcome) (name : ℕ → ℕ) (was : ℕ → Bool) (w : Work) (e : RedisError) (qs : List Waiting) (pending started : List ℕ) → AllByRecursion (IsDueError owes name was e) qs
@@ -280,12 +378,19 @@ leaves_on u v w h k = record {
 pub answered_leaves : (w : Work) (p : ℕ) (o : Outcome) → Leaves w (answered w p o)
 answered_leaves w p o = chosen (Leaves w) (is_open_at w.conn.requests p) _ w (λ t. record { size = refl; boundary = refl; life = refl; waiting = refl; admitted = refl; fresh = refl; moved = refl; hears = refl }) (λ f. leaves_all w)
 
+-- so does what one settled message comes to
+pub one_leaves : (w : Work) (s : Settled) → Leaves w (settled_one w s)
+one_leaves w s =
+    chosen (Leaves w) (s.id == renewal_id) (renewing w (replied w.conn.renewal (is_done s.verdict))) (answered w s.id (outcome_of s.verdict))
+    (λ t. record { size = refl; boundary = refl; life = refl; waiting = refl; admitted = refl; fresh = refl; moved = refl; hears = refl })
+    (λ f. answered_leaves w s.id (outcome_of s.verdict))
+
 -- so do the answers to what was settled
 pub settled_leaves : (w : Work) (ss : List Settled) → Leaves w (settled_each w ss)
 settled_leaves w [] = leaves_all w
 settled_leaves w (s ∷ ss) =
-    let v = answered w s.id (outcome_of s.verdict) in
-    leaves_on w v (settled_each v ss) (answered_leaves w s.id (outcome_of s.verdict)) (settled_leaves v ss)
+    let v = settled_one w s in
+    leaves_on w v (settled_each v ss) (one_leaves w s) (settled_leaves v ss)
 
 -- and those to what waited
 pub failed_leaves : (w : Work) (e : RedisError) (qs : List Waiting) → Leaves w (failed_each w e qs)

@@ -10,7 +10,7 @@ use Rattle.link_core.specs.Link.{LinkState, first_in}
 use Rattle.link_core.specs.declared.message.Queued.{Queued}
 use Rattle.link_laws.proofs.Started.{row_open}
 use Rattle.link_laws.specs.Settles.{StandsAs, awaited_ids, wanted}
-use Rattle.mux_conn.specs.Connection.{Work, first_queued, is_ready}
+use Rattle.mux_conn.specs.Connection.{Work, first_queued, is_ready, in_front}
 use Rattle.mux_conn.specs.Passes.{passed}
 use Rattle.mux_conn.specs.Requests.{is_admitted_at, is_open_at, is_placed_at, is_waiting, is_waiting_at, name_at}
 use Rattle.mux_conn.specs.Turn.{early_wait, flushed, fresh_each_shown, fresh_wait, is_from, moved_each_shown, moved_wait, wait_shown, waits_shown}
@@ -25,12 +25,12 @@ use Rattle.legal_trace.specs.Book.{Book, book}
 use Rattle.legal_trace.specs.Ledger.{setup_count}
 use Rattle.legal_trace.specs.Legal.{IsMoved, IsSettled, IsStarted, IsWaiting, IsWritten, NoneEnds, WaitHolds}
 use Rattle.legal_trace.specs.Story.{last_of}
-use Rattle.session_laws.proofs.Ahead.{dialing_step, placed_open, setup_step, waiting_open, admitted_open, creds_step}
+use Rattle.session_laws.proofs.Ahead.{dialing_step, placed_open, setup_step, waiting_open, admitted_open, creds_step, HasSeats}
 use Rattle.session_laws.proofs.Going.{is_moved}
 use Rattle.session_laws.proofs.InLine.{awaited_in, first_is_least, kept_ids, wanted_in}
 use Rattle.session_laws.proofs.Moved.{IsReady, passed_moved}
 use Rattle.session_laws.proofs.Names.{open_within, there_within}
-use Rattle.session_laws.proofs.Numbers.{IsIn, Rising, in_left, in_right, rising_in, rising_left, rising_right}
+use Rattle.session_laws.proofs.Numbers.{IsIn, Rising, in_left, in_right, rising_in, rising_left, rising_right, requests_in}
 use Rattle.session_laws.proofs.Owes.{IsOpenRequest, lives, none_open, open_request, request_story, row_link, stands_started, wanted_entry}
 use Rattle.session_laws.proofs.Settle.{book_of_more, seen, sound_act, trace_of_acts}
 use Rattle.session_laws.proofs.States.{Between, HasApplied, IsFitIn, IsStill, trace_with}
@@ -41,6 +41,7 @@ use Rattle.session_laws.proofs.Write.{HasWritten, IsOfferedIn, is_written, writt
 -- the bytes of a turn are offered, and its waits are shown but for these: of those that were moved, and of those that came
 -- in it
 pub record IsShowing (before : List Action) (f : Core) (w : Work) (moved fresh started : List ℕ) : Type 0 where
+  pub seats : HasSeats moved (in_front w.conn.renewal) (link_in w.conn.life) w.conn.size
   pub sound : Sound (trace_of_acts before f w.acts) (with_unshown (seen f w.acts w.conn [] started) moved fresh)
   pub ended : NoneEnds (book (trace_of_acts before f w.acts))
   pub fit : IsFitIn w.conn
@@ -53,22 +54,23 @@ unshown f w moved fresh started = with_unshown (seen f w.acts w.conn [] started)
 
 -- nothing moves in it
 showing_quiet : (before : List Action) (f : Core) (w : Work) (moved fresh started : List ℕ) → IsShowing before f w moved fresh started → IsQuiet (unshown f w moved fresh started)
-showing_quiet before f w moved fresh started h = record { settled = refl; alone = refl; fit = h.fit.link; setup_fit = h.fit.setup; none = h.fit.none; setup_held = h.still.setup; held = h.still.held; full = h.still.full; waiting = h.still.waiting; gone = h.still.none_waits }
+showing_quiet before f w moved fresh started h = record { settled = refl; alone = refl; fit = h.fit.link; setup_fit = h.fit.setup; none = h.fit.none; setup_held = h.still.setup; held = h.still.held; full = h.still.full; seats = h.seats; waiting = h.still.waiting; gone = h.still.none_waits }
 
 -- and its book has all its writes
 showing_written : (before : List Action) (f : Core) (w : Work) (moved fresh started : List ℕ) → IsShowing before f w moved fresh started → IsWritten (book (trace_of_acts before f w.acts))
 showing_written before f w moved fresh started h =
     let b = book (trace_of_acts before f w.acts) in
     let t = unshown f w moved fresh started in
-    let all : IsMoved b = is_moved b t h.sound.tied refl (refl, refl) refl h.ended h.fit.link h.fit.none h.still.held h.still.full h.still.waiting h.still.none_waits h.fit.setup h.still.setup in
+    let all : IsMoved b = is_moved b t h.sound.tied refl (refl, refl) refl h.ended h.fit.link h.fit.none h.still.held h.still.full h.still.waiting h.still.none_waits h.fit.setup h.still.setup h.seats h.still.renewed in
     is_written b t h.sound.tied all h.offered
 
 -- other waits are still to be shown
-retied : (before : List Action) (f : Core) (w : Work) (moved fresh started later newer : List ℕ) → IsShowing before f w moved fresh started → TiedWaits (book (trace_of_acts before f w.acts)).story w.conn.requests w.conn.life newer later → IsShowing before f w later newer started
-retied before f w moved fresh started later newer h waits =
+retied : (before : List Action) (f : Core) (w : Work) (moved fresh started later newer : List ℕ) → ((p : ℕ) → IsIn p later → IsIn p moved) → IsShowing before f w moved fresh started → TiedWaits (book (trace_of_acts before f w.acts)).story w.conn.requests w.conn.life newer later → IsShowing before f w later newer started
+retied before f w moved fresh started later newer fewer h waits =
     let b = book (trace_of_acts before f w.acts) in
     let t = unshown f w moved fresh started in
     record {
+      seats = λ p i. h.seats p (fewer p i);
       sound = record { stands = h.sound.stands; tied = relined b t t.waiting t.admitted newer later [] h.sound.tied h.sound.tied.lines waits h.sound.tied.late };
       ended = h.ended;
       fit = h.fit;
@@ -77,12 +79,12 @@ retied before f w moved fresh started later newer h waits =
     }
 
 -- one wait is shown
-one_shown : (before : List Action) (f : Core) (w : Work) (p : ℕ) (kind : WaitKind) (moved fresh started later newer : List ℕ) (h : IsShowing before f w moved fresh started) → has_ended w.conn.life ≡ false → is_open_at w.conn.requests p ≡ true
+one_shown : (before : List Action) (f : Core) (w : Work) (p : ℕ) (kind : WaitKind) (moved fresh started later newer : List ℕ) (h : IsShowing before f w moved fresh started) → ((q : ℕ) → IsIn q later → IsIn q moved) → has_ended w.conn.life ≡ false → is_open_at w.conn.requests p ≡ true
     → (let t = unshown f w moved fresh started in let b = book (trace_of_acts before f w.acts) in
     IsPlacedOrKept t p × ((b.story (name_at w.conn.requests p)).waiting ≢ Some kind) × WaitHolds b (name_at w.conn.requests p) kind × ((m : ℕ) → m < p → IsIn m moved → ⊥) × ((m : ℕ) → m < p → is_waiting_at w.conn.requests m ≡ true → IsIn m fresh → ⊥))
     → TiedWaits (waits_at (name_at w.conn.requests p) kind (book (trace_of_acts before f w.acts)).story) w.conn.requests w.conn.life newer later
     → IsShowing before f (wait_shown w p (Some kind)) later newer started
-one_shown before f w p kind moved fresh started later newer h up o may waits =
+one_shown before f w p kind moved fresh started later newer h fewer up o may waits =
     let trace = trace_of_acts before f w.acts in
     let b = book trace in
     let t = unshown f w moved fresh started in
@@ -91,6 +93,7 @@ one_shown before f w p kind moved fresh started later newer h up o may waits =
     let stands = wait_may b t p kind h.sound.tied (showing_quiet before f w moved fresh started h) up (showing_written before f w moved fresh started h) o may.0 may.1 may.2 may.3 may.4 in
     let tied = wait_tied b t p kind later newer (open_within w.conn.requests p o) h.sound.tied waits in
     record {
+      seats = λ q i. h.seats q (fewer q i);
       sound = sound_act before f w.acts a (record w.conn { moved = later; fresh = newer }) [] started h.sound.stands (refl, stands) tied;
       ended = subst NoneEnds (sym (book_of_more before f w.acts a)) h.ended;
       fit = h.fit;
@@ -131,7 +134,7 @@ queue_rises : (b : Book) (t : Inner) → Tied b t → Rising 0 (queue_ids (link_
 queue_rises b t h =
     let queue = queue_ids (link_in t.life).queue in
     let kept = kept_ids t.admitted t.waiting in
-    rising_left 0 queue kept (length t.requests) (rising_right 0 t.started (queue ++ kept) (length t.requests) h.lines.line)
+    rising_left 0 queue kept (length t.requests) (rising_right 0 (requests_in t.started) (queue ++ kept) (length t.requests) h.lines.line)
 
 -- who waits for a place shows that
 place_shown : (before : List Action) (f : Core) (w : Work) (p : ℕ) (ps fresh started : List ℕ) (link : LinkState) → w.conn.life ≡ Ready link → is_admitted_at w.conn.requests p ≡ true → IsShowing before f w (p ∷ ps) fresh started → IsShowing before f (wait_shown w p (Some wait.Place)) ps fresh started
@@ -142,7 +145,7 @@ place_shown before f w p ps fresh started link e a h =
     let o = (admitted_open w.conn.requests p a).0 in
     let i = admitted_there b t p h.sound.tied refl a in
     let queue = queue_ids (link_in w.conn.life).queue in
-    one_shown before f w p wait.Place (p ∷ ps) fresh started ps fresh h (ap has_ended e) o (
+    one_shown before f w p wait.Place (p ∷ ps) fresh started ps fresh h (λ m j. inr j) (ap has_ended e) o (
       inr (inl (a, i)),
       h.sound.tied.waits.no_place p (inl refl) a,
       place_holds b t p link h.sound.tied q e a i,
@@ -160,7 +163,7 @@ room_shown before f w p ps fresh started link e placed i h =
     let q = showing_quiet before f w (p ∷ ps) fresh started h in
     let o = placed_open w.conn.requests p placed in
     let queue = (link_in w.conn.life).queue in
-    one_shown before f w p wait.Room (p ∷ ps) fresh started ps fresh h (ap has_ended e) o (
+    one_shown before f w p wait.Room (p ∷ ps) fresh started ps fresh h (λ m j. inr j) (ap has_ended e) o (
       inl i,
       h.sound.tied.waits.no_room p (inl refl) i,
       room_holds b t p link h.sound.tied q e (awaited_in p queue i),
@@ -185,7 +188,7 @@ moved_shown_up before f w p ps fresh started link e h =
     let has = both_left placed from r in
     let i = placed_there b t p h.sound.tied refl (ap has_ended e) (placed_open w.conn.requests p has) has (sym first_is ∙ both_right placed from r) in
     room_shown before f w p ps fresh started link e has i h)
-    (λ n. retied before f w (p ∷ ps) fresh started ps fresh h (passed_waits b t p ps h.sound.tied refl no_place (λ i.
+    (λ n. retied before f w (p ∷ ps) fresh started ps fresh (λ m j. inr j) h (passed_waits b t p ps h.sound.tied refl no_place (λ i.
     let queue = (link_in w.conn.life).queue in
     let has = awaited_placed b.story w.conn.requests queue p h.sound.tied.lines.queued i in
     let behind = first_is ∙ from_first queue 0 (length w.conn.requests) p (queue_rises b t h.sound.tied) (awaited_in p queue i) in
@@ -245,6 +248,7 @@ down_waits b t h down none = record {
   no_setup = h.waits.no_setup;
   no_permit = h.waits.no_permit;
   no_place = λ p i. absurd i;
+  seatless = h.waits.seatless;
   no_room = λ p i. absurd i;
 }
   where
@@ -330,10 +334,10 @@ fresh_shown_one before f w p ps started h =
     let o = waiting_open w.conn.requests p v in
     let up = waiting_alive b t p h.sound.tied q v in
     let may = early_holds b t p ps h.sound.tied q refl up v in
-    one_shown before f w p kind [] (p ∷ ps) started [] ps h up o
+    one_shown before f w p kind [] (p ∷ ps) started [] ps h (λ m i. i) up o
     (inr (inr (v, waiting_there b t p h.sound.tied refl v)), may.new, may.holds, (λ m l i. i), (λ m l u i. behind_first p ps (length w.conn.requests) m h.sound.tied.waits.newer l i))
     (fresh_waits b t p kind ps h.sound.tied refl v (early_kind t up)))
-    (λ n. retied before f w [] (p ∷ ps) started [] ps h (stale_waits b t p ps h.sound.tied refl n))
+    (λ n. retied before f w [] (p ∷ ps) started [] ps (λ m i. i) h (stale_waits b t p ps h.sound.tied refl n))
 
 -- and so do all
 fresh_each : (before : List Action) (f : Core) (w : Work) (fresh started : List ℕ) → IsShowing before f w [] fresh started → IsShowing before f (fresh_each_shown w fresh) [] [] started
@@ -365,26 +369,28 @@ none_fresh w = record w { conn = record w.conn { fresh = [] } }
 -- it is the same but for those
 showing_unmoved : (before : List Action) (f : Core) (w : Work) (moved fresh started : List ℕ) → IsShowing before f w moved fresh started → IsShowing before f (none_moved w) moved fresh started
 showing_unmoved before f w moved fresh started h = record {
+  seats = h.seats;
   sound = h.sound;
   ended = h.ended;
   fit = record { wanting = h.fit.wanting; setup = h.fit.setup; link = h.fit.link; none = h.fit.none };
-  still = record { setup = h.still.setup; held = h.still.held; full = h.still.full; waiting = h.still.waiting; none_waits = h.still.none_waits };
+  still = record { setup = h.still.setup; held = h.still.held; full = h.still.full; renewed = h.still.renewed; waiting = h.still.waiting; none_waits = h.still.none_waits };
   offered = h.offered;
 }
 
 -- in either way
 showing_unfresh : (before : List Action) (f : Core) (w : Work) (moved fresh started : List ℕ) → IsShowing before f w moved fresh started → IsShowing before f (none_fresh w) moved fresh started
 showing_unfresh before f w moved fresh started h = record {
+  seats = h.seats;
   sound = h.sound;
   ended = h.ended;
   fit = record { wanting = h.fit.wanting; setup = h.fit.setup; link = h.fit.link; none = h.fit.none };
-  still = record { setup = h.still.setup; held = h.still.held; full = h.still.full; waiting = h.still.waiting; none_waits = h.still.none_waits };
+  still = record { setup = h.still.setup; held = h.still.held; full = h.still.full; renewed = h.still.renewed; waiting = h.still.waiting; none_waits = h.still.none_waits };
   offered = h.offered;
 }
 
 -- it begins
 showing : (before : List Action) (f : Core) (w : Work) (h : HasWritten before f w) → IsShowing before f (none_moved w) w.conn.moved w.conn.fresh h.moved.started
-showing before f w h = showing_unmoved before f w w.conn.moved w.conn.fresh h.moved.started (record { sound = h.moved.holds; ended = h.moved.ended; fit = h.moved.fit; still = h.moved.still; offered = h.offered })
+showing before f w h = showing_unmoved before f w w.conn.moved w.conn.fresh h.moved.started (record { seats = h.moved.seats; sound = h.moved.holds; ended = h.moved.ended; fit = h.moved.fit; still = h.moved.still; offered = h.offered })
 
 -- where those that were moved are shown, the others are too
 shown_early : (before : List Action) (f : Core) (v : Work) (started : List ℕ) → v.conn.moved ≡ [] → IsShowing before f v [] v.conn.fresh started → HasShown before f (fresh_each_shown (none_fresh v) v.conn.fresh)
@@ -419,7 +425,7 @@ waits_hold before f w h = by_life w.conn.life refl
 
     down : is_ready w.conn.life ≡ false → ((p : ℕ) → is_admitted_at w.conn.requests p ≡ false) → HasShown before f (waits_shown w)
     down off none =
-        let settled = retied before f (none_moved w) w.conn.moved w.conn.fresh started [] w.conn.fresh first (down_waits b t first.sound.tied off none) in
+        let settled = retied before f (none_moved w) w.conn.moved w.conn.fresh started [] w.conn.fresh (λ p i. absurd i) first (down_waits b t first.sound.tied off none) in
         subst last (sym (unmoved (none_moved w) w.conn.moved off none)) (shown_early before f (none_moved w) started refl settled)
 
     by_life : (life : Life) → w.conn.life ≡ life → HasShown before f (waits_shown w)
@@ -449,7 +455,7 @@ row_goes b t n h written link life r i =
     let up : l.up ≡ true = (subst (λ (x : Life). TiedLife l b.created x) life h.life).1 in
     record {
       try = record { link = t.link; message = w.number };
-      last = ap (λ m. last_of (b.story m).tries) (sym r.named) ∙ ap last_of (h.tries.tried stands.0 r.number stands.2 ∙ ap (λ m. record { link = t.link; message = m } ∷ []) {x = setup_count l.starts + stands.0} (sym {b = setup_count l.starts + stands.0} stands.1));
+      last = ap (λ m. last_of (b.story m).tries) (sym r.named) ∙ ap last_of (h.tries.tried stands.0 r.number within stands.2 ∙ ap (λ m. record { link = t.link; message = m } ∷ []) {x = setup_count l.starts + stands.0} (sym {b = setup_count l.starts + stands.0} stands.1));
       up = up;
       takes_more = w.open_as.takes_more;
       offered = written.offered t.link up;
@@ -488,7 +494,7 @@ shown_between before f w began h =
     let t = seen f w.acts w.conn [] h.started in
     let s = h.showing in
     let sound : Sound trace t = subst (λ ns. Sound trace (with_unshown t ns w.conn.fresh)) (sym h.moved) (subst (λ ns. Sound trace (with_unshown t [] ns)) (sym h.fresh) s.sound) in
-    let quiet : IsQuiet t = record { settled = refl; alone = refl; fit = s.fit.link; setup_fit = s.fit.setup; none = s.fit.none; setup_held = s.still.setup; held = s.still.held; full = s.still.full; waiting = s.still.waiting; gone = s.still.none_waits } in
+    let quiet : IsQuiet t = record { settled = refl; alone = refl; fit = s.fit.link; setup_fit = s.fit.setup; none = s.fit.none; setup_held = s.still.setup; held = s.still.held; full = s.still.full; seats = λ p i. absurd (subst (IsIn p) h.moved i); waiting = s.still.waiting; gone = s.still.none_waits } in
     record {
       started = h.started;
       between = record {

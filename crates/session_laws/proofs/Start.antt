@@ -11,6 +11,7 @@ use Rattle.driver_model.specs.declared.action.Action.TheVariants as action
 use Rattle.driver_model.specs.declared.action.Owner.{Owner}
 use Rattle.driver_model.specs.declared.action.Owner.TheVariants as owner
 use Rattle.link_core.specs.Link.{LinkState, entry_of}
+use Rattle.link_core.specs.declared.message.Entry.{Entry}
 use Rattle.link_core.specs.declared.message.Queued.{Queued}
 use Rattle.link_laws.proofs.Once.{wanted-append}
 use Rattle.link_laws.proofs.TiedLink.{all_push, begun_tied, queue_tied}
@@ -21,19 +22,21 @@ use Rattle.mux_conn.specs.declared.life.Life.TheVariants.{Dialing, Ready, Wantin
 use Rattle.mux_conn.specs.declared.request.Request.{Request}
 use Rattle.mux_conn.specs.declared.request.Waiting.{Waiting}
 use Rattle.legal_trace.specs.Book.{Book, entered, if_own, message_of}
-use Rattle.legal_trace.specs.Ledger.{Ledger, Start, begins, is_of_setup, noted, setup_count}
+use Rattle.legal_trace.specs.Ledger.{Ledger, Start, begins, is_of_setup, noted, setup_count, is_of_renewal}
 use Rattle.legal_trace.specs.Story.{Story, is_told, shape, shape_in, tried}
 use Rattle.session_laws.proofs.Ahead.{queue_within, admitted_open, early_open}
 use Rattle.session_laws.proofs.Behind.{nil_told, open_untold, some_more}
 use Rattle.session_laws.proofs.InLine.{awaited_in, first_is_apart, kept_ids}
 use Rattle.session_laws.proofs.Kept.{SameOutcomes, SameSubmissions, SameTimes, mine_noted, one_changed, others_kept, packed_same, queued_same, tied_by}
-use Rattle.session_laws.proofs.Names.{get_more, get_some, name_of_some, open_within, same_name}
-use Rattle.session_laws.proofs.Numbers.{IsIn, Rising, in_left, in_right, rising_apart, rising_in, rising_left, rising_right}
+use Rattle.session_laws.proofs.Names.{get_more, get_some, name_of_some, open_within, same_name, owner_below, request_not}
+use Rattle.session_laws.proofs.Numbers.{IsIn, Rising, in_left, in_right, rising_apart, rising_in, rising_right, requests_in, request_in, requests_in-append, requests_first}
 use Rattle.session_laws.proofs.Owes.{get_in, request_story}
 use Rattle.session_laws.proofs.Permits.{IsHolding, holding_same, permits_same}
 use Rattle.legal_trace.proofs.Setups.{count_more}
 use Rattle.session_laws.proofs.SetUp.{set_up_begins, setups_begins}
-use Rattle.session_laws.proofs.Tied.{AreQueued, Inner, IsEntry, IsQueued, IsRequest, Tied, TiedLines, TiedTries, TiedWaits, link_in, owner_of, owners_each, owners_of, queue_ids, setup_owners, shown_wait, numbers_kept}
+use Rattle.mux_conn.specs.Renewals.{renewal_id}
+use Rattle.session_laws.proofs.Renewals.{begins_renewed}
+use Rattle.session_laws.proofs.Tied.{AreQueued, Inner, IsEntry, IsQueued, IsRequest, Tied, TiedLines, TiedTries, TiedWaits, owner_of, owners_each, owners_of, queue_ids, setup_owners, shown_wait, numbers_kept}
 
 -- the action that its start shows
 abbrev pub start_action : Inner → LinkState → Queued → Action
@@ -81,13 +84,13 @@ pub first_within : (story : ℕ → Story) (requests : List Request) (link : Lin
     → q.id < length requests
 first_within story requests link waiting admitted started q qs h =
     let later = q.id ∷ (queue_ids qs ++ kept_ids admitted waiting) in
-    (rising_in 0 (started ++ later) (length requests) q.id h.line (in_right q.id started later (inl refl))).1
+    (rising_in 0 (requests_in started ++ later) (length requests) q.id h.line (in_right q.id (requests_in started) later (inl refl))).1
 
 -- nor has it started
-pub first_new : (story : ℕ → Story) (requests : List Request) (link : LinkState) (waiting admitted : List Waiting) (started : List ℕ) (q : Queued) (qs : List Queued) → TiedLines story requests (with_queue link (q ∷ qs)) waiting admitted [] started → IsIn q.id started
+pub first_new : (story : ℕ → Story) (requests : List Request) (link : LinkState) (waiting admitted : List Waiting) (started : List ℕ) (q : Queued) (qs : List Queued) → TiedLines story requests (with_queue link (q ∷ qs)) waiting admitted [] started → q.id ≢ renewal_id → IsIn q.id started
     → ⊥
-first_new story requests link waiting admitted started q qs h i =
-    let k = rising_apart 0 started (q.id ∷ (queue_ids qs ++ kept_ids admitted waiting)) (length requests) q.id q.id h.line i (inl refl) in
+first_new story requests link waiting admitted started q qs h other i =
+    let k = rising_apart 0 (requests_in started) (q.id ∷ (queue_ids qs ++ kept_ids admitted waiting)) (length requests) q.id q.id h.line (request_in q.id started other i) (inl refl) in
     omega arith
 
 -- nor is it behind itself
@@ -95,11 +98,11 @@ first_apart : (story : ℕ → Story) (requests : List Request) (link : LinkStat
     → IsIn q.id (queue_ids qs) → ⊥
 first_apart story requests link waiting admitted started q qs h i =
     let kept = kept_ids admitted waiting in
-    first_is_apart 0 q.id (queue_ids qs ++ kept) (length requests) (rising_right 0 started (q.id ∷ (queue_ids qs ++ kept)) (length requests) h.line) (in_left q.id (queue_ids qs) kept i)
+    first_is_apart 0 q.id (queue_ids qs ++ kept) (length requests) (rising_right 0 (requests_in started) (q.id ∷ (queue_ids qs ++ kept)) (length requests) h.line) (in_left q.id (queue_ids qs) kept i)
 
 -- what is noted of the link is the message of the queue
-same_start : (b : Book) (link : ℕ) (requests : List Request) (q : Queued) → IsQueued b.story requests q → message_of b link (owner_of requests q.id) ≡ start_from (owner_of requests) q
-same_start b link requests q h = λ i. record { owner = owner_of requests q.id; shape = sym h.is_of.shape_is i; bytes = sym h.is_of.packs i }
+same_start : (b : Book) (link : ℕ) (requests : List Request) (q : Queued) → q.id ≢ renewal_id → IsQueued b.story requests q → message_of b link (owner.Try (name_at requests q.id) 0) ≡ start_from (owner_of requests) q
+same_start b link requests q other h = λ i. record { owner = sym (owner_below requests q.id other) i; shape = sym h.is_of.shape_is i; bytes = sym h.is_of.packs i }
 
 -- the owners of starts, and of others
 pub owners-append : (xs ys : List Start) → owners_of (xs ++ ys) ≡ owners_of xs ++ owners_of ys
@@ -107,12 +110,12 @@ owners-append [] ys = refl
 owners-append (x ∷ xs) ys = ap (λ os. x.owner ∷ os) (owners-append xs ys)
 
 -- the owners of requests, and of others
-owners_each-append : (requests : List Request) (xs ys : List ℕ) → owners_each requests (xs ++ ys) ≡ owners_each requests xs ++ owners_each requests ys
+pub owners_each-append : (requests : List Request) (xs ys : List ℕ) → owners_each requests (xs ++ ys) ≡ owners_each requests xs ++ owners_each requests ys
 owners_each-append requests [] ys = refl
 owners_each-append requests (x ∷ xs) ys = ap (λ os. owner_of requests x ∷ os) (owners_each-append requests xs ys)
 
 -- and so behind setups
-setup_owners-append : (n : ℕ) (xs ys : List Owner) → setup_owners n xs ++ ys ≡ setup_owners n (xs ++ ys)
+pub setup_owners-append : (n : ℕ) (xs ys : List Owner) → setup_owners n xs ++ ys ≡ setup_owners n (xs ++ ys)
 setup_owners-append zero xs ys = refl
 setup_owners-append (suc n) xs ys = ap (λ os. owner.Setup ∷ os) (setup_owners-append n xs ys)
 
@@ -133,22 +136,22 @@ owners_length (s ∷ ss) requests started (suc n) e = let long = owners_length s
 --
 -- one more of the started
 tries_started : (l : Ledger) (story : ℕ → Story) (requests : List Request) (link k : ℕ) (started : List ℕ) (s : Start) (p : ℕ)
-    → ((m : ℕ) → IsIn m started → name_at requests m ≡ name_at requests p → ⊥) → ((m : ℕ) (r : Request) → slice_get requests m ≡ Some r → r.name ≡ name_at requests p → m ≡ p)
+    → p ≢ renewal_id → ((m : ℕ) → m < length requests → IsIn m started → name_at requests m ≡ name_at requests p → ⊥) → ((m : ℕ) (r : Request) → slice_get requests m ≡ Some r → r.name ≡ name_at requests p → m ≡ p)
     → s.owner ≡ owner_of requests p → s.shape ≡ shape (story (name_at requests p)) → k ≡ length l.starts → (story (name_at requests p)).tries ≡ []
     → TiedTries l story requests link started → TiedTries (noted l (begins s)) (tried_at (name_at requests p) link k story) requests link (started ++ p ∷ [])
-tries_started l story requests link k started s p new one owned shaped counted none h =
+tries_started l story requests link k started s p other new one owned shaped counted none h =
     let n = name_at requests p in
     let c = setup_count l.starts in
-    let same : setup_count (l.starts ++ s ∷ []) ≡ c = count_more l.starts s (ap is_of_setup owned) in
+    let same : setup_count (l.starts ++ s ∷ []) ≡ c = count_more l.starts s (ap is_of_setup (owned ∙ owner_below requests p other)) in
     let long : length l.starts ≡ c + length started = owners_length l.starts requests started c h.owners in
     record {
       owners = owners-append l.starts (s ∷ []) ∙ (λ i. h.owners i ++ owned i ∷ []) ∙ setup_owners-append c (owners_each requests started) (owner_of requests p ∷ [])
           ∙ (λ i. setup_owners (sym same i) (sym (owners_each-append requests started (p ∷ [])) i));
-      shapes = λ j m x i e.
+      shapes = λ j m x inside i e.
           let at : slice_get (l.starts ++ s ∷ []) (c + j) ≡ Some x = ap (λ y. slice_get (l.starts ++ s ∷ []) (y + j)) (sym same) ∙ e in
           elim (get_more started p j m i) [
             | inl a ↦ elim (get_more l.starts s (c + j) x at) [
-              | inl d ↦ h.shapes j m x a d ∙ ap shape_in (tried_submissions n link k story (name_at requests m))
+              | inl d ↦ h.shapes j m x inside a d ∙ ap shape_in (tried_submissions n link k story (name_at requests m))
               | inr d ↦ absurd (let w = get_within started j m a in omega (arith, d.0))
             ]
             | inr a ↦ elim (get_more l.starts s (c + j) x at) [
@@ -156,9 +159,9 @@ tries_started l story requests link k started s p new one owned shaped counted n
               | inr d ↦ ap (λ (y : Start). y.shape) (sym d.1) ∙ shaped ∙ ap (λ y. shape (story (name_at requests y))) a.1 ∙ ap shape_in (tried_submissions n link k story (name_at requests m))
             ]
           ];
-      tried = λ j m i. elim (get_more started p j m i) [
+      tried = λ j m inside i. elim (get_more started p j m i) [
         | inl a ↦
-            ap (λ (x : Story). x.tries) (left_if (n == name_at requests m) (tried (story (name_at requests m)) link k) (story (name_at requests m)) (ne_test n (name_at requests m) (λ e. new m (get_in started j m a) (sym e)))) ∙ h.tried j m a
+            ap (λ (x : Story). x.tries) (left_if (n == name_at requests m) (tried (story (name_at requests m)) link k) (story (name_at requests m)) (ne_test n (name_at requests m) (λ e. new m inside (get_in started j m a) (sym e)))) ∙ h.tried j m inside a
             ∙ ap (λ y. record { link = link; message = y + j } ∷ []) (sym same)
         | inr a ↦
             let here : k ≡ setup_count (l.starts ++ s ∷ []) + j = (let at = a.0 in omega arith) in
@@ -172,20 +175,33 @@ tries_started l story requests link k started s p new one owned shaped counted n
 
 -- the line, and what is shown of waits
 --
-lines_started : (story : ℕ → Story) (requests : List Request) (link : LinkState) (waiting admitted : List Waiting) (started : List ℕ) (q : Queued) (qs : List Queued) (k l : ℕ)
+-- a request's number, or none, is a request's
+pub requests_own : (b : Bool) (n : ℕ) → n ≢ renewal_id → requests_in (if b then n ∷ [] else []) ≡ (if b then n ∷ [] else [])
+requests_own true n other = requests_first n [] other
+requests_own false n other = refl
+
+-- one more entry of a request whose verdict is wanted, or not
+pub requests_wanted : (row : List Entry) (q : Queued) → q.id ≢ renewal_id → requests_in (wanted (row ++ entry_of q ∷ [])) ≡ requests_in (wanted row) ++ (if q.awaited then q.id ∷ [] else [])
+requests_wanted row q other =
+    let own = if q.awaited then q.id ∷ [] else [] in
+    ap requests_in (wanted-append row (entry_of q ∷ []) ∙ ap (λ ns. wanted row ++ ns) (append-nil own)) ∙ requests_in-append (wanted row) own ∙ ap (λ ns. requests_in (wanted row) ++ ns) (requests_own q.awaited q.id other)
+
+-- the line when the first of the queue has started
+lines_started : (story : ℕ → Story) (requests : List Request) (link : LinkState) (waiting admitted : List Waiting) (started : List ℕ) (q : Queued) (qs : List Queued) (k l : ℕ) → q.id ≢ renewal_id
     → TiedLines story requests (with_queue link (q ∷ qs)) waiting admitted [] started
     → TiedLines (tried_at (name_at requests q.id) k l story) requests (with_queue (begun link q) qs) waiting admitted [] (started ++ q.id ∷ [])
-lines_started story requests link waiting admitted started q qs k l h = record {
-  line = subst (λ ns. Rising 0 ns (length requests)) (sym (append_assoc started (q.id ∷ []) (queue_ids qs ++ kept_ids admitted waiting))) h.line;
+lines_started story requests link waiting admitted started q qs k l other h = record {
+  line = subst (λ ns. Rising 0 (ns ++ (queue_ids qs ++ kept_ids admitted waiting)) (length requests)) (sym (requests_in-append started (q.id ∷ []) ∙ ap (λ ns. requests_in started ++ ns) (requests_first q.id [] other)))
+      (subst (λ ns. Rising 0 ns (length requests)) (sym (append_assoc (requests_in started) (q.id ∷ []) (queue_ids qs ++ kept_ids admitted waiting))) h.line);
   queued = queued_same story (tried_at (name_at requests q.id) k l story) requests qs (tried_submissions (name_at requests q.id) k l story) (tried_outcomes (name_at requests q.id) k l story) h.queued.1;
-  entries = all_push (IsEntry requests) link.row (entry_of q) h.entries (record {
+  entries = all_push (IsEntry requests) link.row (entry_of q) h.entries (inl (record {
     below = first_within story requests link waiting admitted started q qs h;
     placed_at = h.queued.0.placed_at;
-  });
+  }));
   packs = packed_same story (tried_at (name_at requests q.id) k l story) requests waiting (tried_submissions (name_at requests q.id) k l story) (tried_times (name_at requests q.id) k l story) h.packs;
   packed_in = packed_same story (tried_at (name_at requests q.id) k l story) requests admitted (tried_submissions (name_at requests q.id) k l story) (tried_times (name_at requests q.id) k l story) h.packed_in;
   there = λ p e. elim (h.there p e) [
-    | inl i ↦ inl (subst (IsIn p) (sym (append_assoc (wanted link.row) (if q.awaited then q.id ∷ [] else []) (awaited_ids qs)) ∙ ap (λ ns. ns ++ awaited_ids qs) (ap (λ ns. wanted link.row ++ ns) (sym (append-nil (if q.awaited then q.id ∷ [] else []))) ∙ sym (wanted-append link.row (entry_of q ∷ [])))) i)
+    | inl i ↦ inl (subst (IsIn p) (sym (append_assoc (requests_in (wanted link.row)) (if q.awaited then q.id ∷ [] else []) (awaited_ids qs)) ∙ ap (λ ns. ns ++ awaited_ids qs) (sym (requests_wanted link.row q other))) i)
     | inr w ↦ inr w
   ];
 }
@@ -227,6 +243,7 @@ waits_up f g requests link link' fresh moved lost waiting admitted queued h = re
   no_setup = λ p l u i w e. absurd (not_setting link' l u e);
   no_permit = λ p l i w e k. h.no_permit p link i w refl (sym (waiting p w) ∙ k);
   no_place = λ p i a e. h.no_place p i a (sym (admitted p a) ∙ e);
+  seatless = λ p a e. h.seatless p a (sym (admitted p a) ∙ e);
   no_room = λ p i j e. let q = queued p j in h.no_room p i q.0 (sym q.1 ∙ e);
 }
 
@@ -282,10 +299,6 @@ tried_request s requests link p k l h = record { what = h.what; handed_in = h.ha
 
 -- the session and its book
 --
--- who started is within
-started_line : (b : Book) (t : Inner) (m : ℕ) → Tied b t → IsIn m t.started → m < length t.requests
-started_line b t m h i = (rising_in 0 t.started (length t.requests) m (rising_left 0 t.started (queue_ids (link_in t.life).queue ++ kept_ids t.admitted t.waiting) (length t.requests) h.lines.line) i).1
-
 -- what is shown of a message of the queue
 queued_some : (b : Book) (t : Inner) (q : Queued) → Tied b t → q.id < length t.requests → IsQueued b.story t.requests q → q.packed ≢ []
 queued_some b t q h within is e = (request_story b t q.id h within).some (sym is.is_of.packs ∙ e)
@@ -299,28 +312,32 @@ start_tied b t link q qs h =
     let n = name_at t.requests q.id in
     let is = h.lines.queued.0 in
     let within = first_within b.story t.requests link t.waiting t.admitted t.started q qs h.lines in
-    let new = first_new b.story t.requests link t.waiting t.admitted t.started q qs h.lines in
+    let other = request_not b was q.id h within in
+    let try_is : name q.id ≡ owner.Try n 0 = owner_below t.requests q.id other in
+    let new = first_new b.story t.requests link t.waiting t.admitted t.started q qs h.lines other in
     let s = start_from name q in
     let up = h.link refl in
     let g = get_some t.requests q.id within in
     tied_by (entered b (start_action t link q)) (after_start t link q qs) (noted l (begins s))
-    (mine_noted l t.link (begins (message_of b t.link (name q.id))) ∙ ap (λ x. noted l (begins x)) (same_start b t.link t.requests q is))
+    (mine_noted l t.link (begins (message_of b t.link (owner.Try n 0))) ∙ ap (λ x. noted l (begins x)) (same_start b t.link t.requests q other is))
     (record {
       numbers = numbers_kept b _ _ was _ _ _ _ _ _ _ _ _ _ h.numbers;
-      others = others_kept b t.link (begins (message_of b t.link (name q.id))) h.others;
+      others = others_kept b t.link (begins (message_of b t.link (owner.Try n 0))) h.others;
       pushes = h.pushes;
       life = h.life;
       creds = record { wanted_is = h.creds.wanted_is; sought = h.creds.sought };
-      setup = record { info_is = h.setup.info_is; sent = setups_begins l s refl h.setup.sent; said = set_up_begins l s refl h.setup.said };
+      count = h.count;
+      renewal = begins_renewed l t.renewal s (ap is_of_renewal try_is) h.renewal;
+      setup = record { info_is = h.setup.info_is; sent = setups_begins l s (ap is_of_setup try_is) h.setup.sent; said = set_up_begins l s (ap is_of_setup try_is) h.setup.said };
       link = λ e. queue_tied name (noted l (begins s)) (begun (with_queue link (q ∷ qs)) q) qs (begun_tied name l (with_queue link (q ∷ qs)) q (queued_some b was q h within is) up);
       names = h.names;
       story = one_changed b was q.id (λ x. tried x t.link link.started) h within (tried_request (b.story n) t.requests t.link q.id t.link link.started);
-      tries = tries_started l b.story t.requests t.link link.started t.started s q.id
-          (λ m i e. new (subst (λ x. IsIn x t.started) (same_name t.table t.requests m q.id h.names (started_line b was m h i) within e) i))
+      tries = tries_started l b.story t.requests t.link link.started t.started s q.id other
+          (λ m inside i e. new (subst (λ x. IsIn x t.started) (same_name t.table t.requests m q.id h.names inside within e) i))
           (λ m r i e. same_name t.table t.requests m q.id h.names (get_within t.requests m r i) within (name_of_some t.requests m r i ∙ e))
           refl is.is_of.shape_is up.started
           (ap (λ x. (b.story x).tries) (name_of_some t.requests q.id g.0 g.1) ∙ h.tries.untried q.id g.0 g.1 new) h.tries;
-      lines = lines_started b.story t.requests link t.waiting t.admitted t.started q qs t.link link.started h.lines;
+      lines = lines_started b.story t.requests link t.waiting t.admitted t.started q qs t.link link.started other h.lines;
       told = λ e. told_started b t link q qs t.link link.started (h.told refl);
       waits = waits_started b t link q qs t.link link.started h;
       permits = permits_same b.story (tried_at n t.link link.started b.story) b.submissions t.requests t.link t.limit t.free t.letting (tried_holds n t.link link.started b.story) h.permits;

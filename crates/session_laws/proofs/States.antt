@@ -1,12 +1,12 @@
 -- The session between two turns, and when the event of a turn has had its own effect.
 use Rattle.std.proofs.Common.{◌≡◌, ◌≢◌, ◌⊎◌, ℕ, ◌≤◌, Bool, true, false, List, [], ◌++◌, length}
 use Rattle.driver_model.specs.declared.action.Action.{Action}
-use Rattle.link_core.specs.Link.{LinkState, is_full, holds_back}
+use Rattle.link_core.specs.Link.{LinkState, is_full_beside, holds_back}
 use Rattle.mux_conn.specs.declared.connection.MultiplexedConnection.{MultiplexedConnection}
 use Rattle.mux_conn.specs.declared.life.Life.TheVariants.{Wanting, SettingUp, Ready}
 use Rattle.shared_session.specs.declared.core_state.Core.{Core}
 use Rattle.shared_session.specs.Turn.{Turning, numbered, shown_each}
-use Rattle.mux_conn.specs.Connection.{has_no_permit}
+use Rattle.mux_conn.specs.Connection.{has_no_permit, in_front, is_due}
 use Rattle.legal_trace.specs.Book.{book}
 use Rattle.legal_trace.specs.Legal.{NoneEnds, IsSettled}
 use Rattle.session_laws.proofs.Tied.{Sound, has_ended, inner}
@@ -25,12 +25,14 @@ pub record IsFitIn (c : MultiplexedConnection) : Type 0 where
   pub link : (link : LinkState) → c.life ≡ Ready link → IsFit c.size c.boundary link
   pub none : ((link : LinkState) → c.life ≡ Ready link → ⊥) → c.admitted ≡ []
 
--- nothing moves: what is in the queue is held back, also a setup; those that wait for a place find the queue full;
--- once the connect is answered, those that wait find no permit free, and on a link that has ended none waits
+-- nothing moves: what is in the queue is held back, also a setup; those that wait for a place find the queue full; new
+-- credentials that are to be told have their timer, and wait for their link, which is held back; once the connect is answered,
+-- those that wait find no permit free, and on a link that has ended none waits
 pub record IsStill (c : MultiplexedConnection) : Type 0 where
   pub setup : (link : LinkState) (with_user : Bool) → c.life ≡ SettingUp link with_user → (link.queue ≡ []) ⊎ (holds_back link ≡ true)
   pub held : (link : LinkState) → c.life ≡ Ready link → (link.queue ≡ []) ⊎ (holds_back link ≡ true)
-  pub full : (link : LinkState) → c.life ≡ Ready link → (c.admitted ≡ []) ⊎ (is_full link ≡ true)
+  pub full : (link : LinkState) → c.life ≡ Ready link → (c.admitted ≡ []) ⊎ (is_full_beside link (in_front c.renewal) ≡ true)
+  pub renewed : (link : LinkState) → c.life ≡ Ready link → is_due c.renewal ≡ true → (c.renewal.pending ≡ true) × (holds_back link ≡ true)
   pub waiting : (link : LinkState) → c.life ≡ Ready link → (c.waiting ≡ []) ⊎ (has_no_permit c.limit c.free ≡ true)
   pub none_waits : has_ended c.life ≡ true → c.waiting ≡ []
 

@@ -1,6 +1,6 @@
 -- A submission is handed in: it is answered at once, or it is the next request.
 use Rattle.std.proofs.lemmas.List.{append-nil}
-use Rattle.std.proofs.Common.{slice_get, ◌≤◌, ◌≡◌, ◌≢◌, ◌⊎◌, inl, inr, ℕ, ◌+◌, ◌<◌, ◌==◌, Bool, true, false, ◌||◌, ◌&&◌, not, List, [], ◌∷◌, ◌++◌, length, Option, Some, None, if◌then◌else◌, refl, sym, ap, ◌∙◌, subst, arith, length-append}
+use Rattle.std.proofs.Common.{slice_get, ◌≤◌, ◌≡◌, ◌≢◌, ◌⊎◌, inl, inr, ℕ, ◌+◌, ◌<◌, ◌==◌, Bool, true, false, ◌||◌, ◌&&◌, not, List, [], ◌∷◌, ◌++◌, length, Option, Some, None, if◌then◌else◌, refl, sym, ap, ◌∙◌, subst, arith, length-append, ◌^◌}
 use Rattle.containers.proofs.Places.{get_within}
 use Rattle.containers.proofs.Choices.{by_test, taken_if, left_if, eq_from, eq_test, ne_from, ne_test, not_both}
 use Rattle.redis_error.specs.declared.fault_kind.FaultKind.TheVariants as kinds
@@ -22,16 +22,16 @@ use Rattle.legal_trace.specs.Story.{Story, Try, blank_story, is_open, is_no_erro
 use Rattle.legal_trace.specs.Book.{Book, entered, if_own, current, is_unspoken}
 use Rattle.legal_trace.specs.Owed.{owed, owed_to_try}
 use Rattle.legal_trace.specs.Legal.{IsOpen, link_of, NoneIsOwed, NoneEnds, MayAnswer, FailuresAreShown}
-use Rattle.session_laws.proofs.Numbers.{IsIn, in_left, in_right, Rising, rising_in}
+use Rattle.session_laws.proofs.Renewals.{renewal_alike}
+use Rattle.session_laws.proofs.Numbers.{IsIn, in_left, in_right, Rising, rising_in, requests_in, request_in}
 use Rattle.session_laws.proofs.Tied.{carried, inner, link_in, queue_ids, waiting_ids, whole_link, IsRefused, TiedStory, Tied, no_opening}
 use Rattle.session_laws.proofs.Names.{there_within, names_refused}
 use Rattle.session_laws.proofs.Owes.{started_within, ends_told, pushes_told}
 use Rattle.session_laws.proofs.Answer.{owed_in, no_push}
-use Rattle.session_laws.proofs.Creds.{sources_asked}
 use Rattle.session_laws.proofs.Settle.{seen}
-use Rattle.session_laws.proofs.Announce.{aims_longer, aims_on, turn_of, turned, uses_on}
+use Rattle.session_laws.proofs.Announce.{aims_longer, aims_on, turn_of, turned, uses_on, counted_on}
 use Rattle.session_laws.proofs.Heard.{told_life, silent_no_end}
-use Rattle.session_laws.proofs.Said.{setup_on}
+use Rattle.session_laws.proofs.Said.{setup_on, sources_asked}
 use Rattle.session_laws.proofs.Further.{get_beyond, no_longer, SameBefore, further_story, tries_longer, queue_longer, packs_longer, told_longer, IsNext, waits_longer, permits_longer, late_longer}
 use Rattle.session_laws.proofs.InLine.{kept_ids, awaited_in}
 
@@ -148,9 +148,9 @@ abbrev pub core_refused : Core → Submission → Core
 core_refused c what = record (turned c (event.Submit what)) { table = c.table ++ None ∷ [] }
 
 -- the session is tied with it
-pub refused_tied : (b : Book) (c : Core) (started : List ℕ) (word : ℕ) (what : Submission) (e : RedisError) → Tied b (inner c started) → c.single.connection.fresh ≡ []
+pub refused_tied : (b : Book) (c : Core) (started : List ℕ) (word : ℕ) (what : Submission) (e : RedisError) → Tied b (inner c started) → length c.table < 2 ^ 32 → c.single.connection.fresh ≡ []
     → Tied (entered (entered b (turn_of c word (event.Submit what))) (action.Outcome (length c.table) (outcome.Fault e))) (seen (core_refused c what) [] c.single.connection [] started)
-refused_tied b c started word what e h no_fresh =
+refused_tied b c started word what e h few no_fresh =
     let conn = c.single.connection in
     let ledger = b.link c.single.link in
     let after = stories_refused b (length c.table) what e in
@@ -158,7 +158,8 @@ refused_tied b c started word what e h no_fresh =
     let longer = no_longer conn.requests in
     let queue = queue_ids (link_in conn.life).queue in
     let last = kept_ids conn.admitted conn.waiting in
-    let at : (p : ℕ) → IsIn p (started ++ (queue ++ last)) → p < length conn.requests = λ p i. within_line conn.requests started queue last p h.lines.line i in
+    let at : (p : ℕ) → IsIn p (requests_in started ++ (queue ++ last)) → p < length conn.requests = λ p i. within_line conn.requests (requests_in started) queue last p h.lines.line i in
+    let few_requests : length conn.requests ≤ 2 ^ 32 = omega (arith, h.names.few, h.numbers.few) in
     let is = refused_is b c started what e h in
     let past_all : (test : Progress → Bool) (p : ℕ) → if_there test (slice_get conn.requests p) ≡ true → length conn.requests ≤ p → ⊥ = λ test p w past. (let l = there_within test conn.requests p w in omega arith) in
     let next : IsNext after conn.requests conn.requests conn.fresh = record {
@@ -181,6 +182,8 @@ refused_tied b c started word what e h no_fresh =
         submissions = (let k = h.numbers.submissions in omega (arith, length-append c.table (None ∷ [])));
         timeout = h.numbers.timeout;
         shut = ap (λ s. s || false) h.numbers.shut;
+        within = h.numbers.within;
+        few = omega (arith, few, length-append c.table (None ∷ []));
         settings = record { size_is = h.numbers.settings.size_is; bound_is = h.numbers.settings.bound_is; limit_is = h.numbers.settings.limit_is; some = h.numbers.settings.some; limited = h.numbers.settings.limited };
         one = h.numbers.one;
         only = h.numbers.only;
@@ -189,28 +192,30 @@ refused_tied b c started word what e h no_fresh =
       pushes = h.pushes;
       life = told_life ledger b.created conn.life silence h.life;
       creds = h.creds;
+      count = counted_on c.sources ledger.creds h.count;
+      renewal = renewal_alike ledger (record ledger { heard = silence }) conn.renewal conn.life refl refl refl h.renewal;
       setup = setup_on ledger ledger.asked ledger.up ledger.end ledger.taken ledger.offer ledger.rest silence conn.info started conn.life h.setup;
       link = λ alive. told_tied (carried conn.life conn.requests) ledger (whole_link conn.life) ledger.asked ledger.up silence (h.link alive);
       names = names_refused c.table conn.requests h.names;
       story = further_story c.table b.story after conn.requests conn.requests c.single.link None h.names same longer h.story
           (subst IsRefused (sym is) (record { what = what; handed_in = refl; untried = refl; error = e; answered = refl }));
       tries = tries_longer c.table (record ledger { heard = silence }) b.story after conn.requests conn.requests c.single.link started h.names same longer
-          (λ p i. at p (in_left p started (queue ++ last) i)) (λ k p i. started_within b (inner c started) k p h i) (λ p r i past. absurd (let l = get_within conn.requests p r i in omega arith))
+          few_requests (λ p other i. at p (in_left p (requests_in started) (queue ++ last) (request_in p started other i))) (λ k p other i. started_within b (inner c started) k p h other i) (λ p r i past. absurd (let l = get_within conn.requests p r i in omega arith))
           (record { owners = h.tries.owners; shapes = h.tries.shapes; tried = h.tries.tried; untried = h.tries.untried });
       lines = record {
         line = h.lines.line;
-        queued = queue_longer c.table b.story after conn.requests conn.requests (link_in conn.life).queue h.names same longer (λ p i. at p (in_right p started (queue ++ last) (in_left p queue last i))) h.lines.queued;
+        queued = queue_longer c.table b.story after conn.requests conn.requests (link_in conn.life).queue h.names same longer (λ p i. at p (in_right p (requests_in started) (queue ++ last) (in_left p queue last i))) h.lines.queued;
         entries = h.lines.entries;
         packs = packs_longer c.table b.story after conn.requests conn.requests conn.waiting h.names same longer
-            (λ p i. at p (in_right p started (queue ++ last) (in_right p queue last (in_right p (waiting_ids conn.admitted) (waiting_ids conn.waiting) i)))) h.lines.packs;
+            (λ p i. at p (in_right p (requests_in started) (queue ++ last) (in_right p queue last (in_right p (waiting_ids conn.admitted) (waiting_ids conn.waiting) i)))) h.lines.packs;
         packed_in = packs_longer c.table b.story after conn.requests conn.requests conn.admitted h.names same longer
-            (λ p i. at p (in_right p started (queue ++ last) (in_right p queue last (in_left p (waiting_ids conn.admitted) (waiting_ids conn.waiting) i)))) h.lines.packed_in;
+            (λ p i. at p (in_right p (requests_in started) (queue ++ last) (in_right p queue last (in_left p (waiting_ids conn.admitted) (waiting_ids conn.waiting) i)))) h.lines.packed_in;
         there = h.lines.there;
       };
       told = λ up. told_longer c.table b.story after conn.requests conn.requests (link_in conn.life) same longer
           (λ u. not_both (is_told (answered (new_story b what) (outcome.Fault e))) (fault_untold (is_awaited (new_story b what)) e) (ap is_told (sym is) ∙ u.0)) (h.told up);
       waits = waits_longer c.table b.story after conn.requests conn.requests conn.life conn.fresh conn.fresh conn.moved h.names same longer
-          (λ p i. at p (in_right p started (queue ++ last) (in_left p queue last (awaited_in p (link_in conn.life).queue i)))) no_fresh
+          (λ p i. at p (in_right p (requests_in started) (queue ++ last) (in_left p queue last (awaited_in p (link_in conn.life).queue i)))) no_fresh
           next h.waits;
       permits = permits_longer c.table b.story after b.submissions conn.requests conn.requests c.single.link conn.limit conn.free conn.fresh h.names same longer h.numbers.submissions (ap (λ (s : Story). s.permits) is) next h.permits;
       late = late_longer c.table b.story after conn.requests conn.requests conn.fresh h.names same longer next h.late;

@@ -19,7 +19,7 @@ use Rattle.mux_conn.specs.declared.act.LinkAct.TheVariants as act
 use Rattle.mux_conn.specs.declared.request.Progress.TheVariants as progress
 use Rattle.mux_conn.specs.declared.request.Request.{Request}
 use Rattle.mux_conn.specs.Connection.{Work}
-use Rattle.mux_conn.specs.Effects.{pushed, settled_each, told_each}
+use Rattle.mux_conn.specs.Effects.{pushed, settled_each, told_each, settled_one}
 use Rattle.mux_conn.specs.Requests.{answered, closed, is_open, is_open_at, name_at}
 use Rattle.shared_session.specs.declared.core_state.Core.{Core}
 use Rattle.redis_error.specs.declared.fault_kind.FaultKind.TheVariants as kinds
@@ -31,10 +31,9 @@ use Rattle.legal_trace.specs.Story.{Story, Try, bytes_of, last_of, shape}
 use Rattle.legal_trace.specs.Book.{Book, book, entered, if_mine}
 use Rattle.legal_trace.specs.Owed.{owed, owed_to_message, owed_to_try, owed_unstarted}
 use Rattle.legal_trace.specs.Legal.{IsBefore, IsOpen, MayPush, MayPushBy}
-use Rattle.session_laws.proofs.Numbers.{IsIn, Rising, in_either, in_left, in_right}
+use Rattle.session_laws.proofs.Numbers.{IsIn, Rising, in_either, in_left, in_right, requests_in, request_of}
 use Rattle.session_laws.proofs.Tied.{Inner, Tied, has_ended, link_in, owner_of, queue_ids}
-use Rattle.session_laws.proofs.Creds.{sources_asked}
-use Rattle.session_laws.proofs.Said.{ready_shown}
+use Rattle.session_laws.proofs.Said.{ready_shown, sources_asked, readied}
 use Rattle.session_laws.proofs.Names.{length_with, name_with, open_within, with_then}
 use Rattle.session_laws.proofs.InLine.{IsInLine, awaited_in, kept_ids, kept_in, line_of, wanted_in}
 use Rattle.session_laws.proofs.Owes.{lives, open_request, row_link, stands_started, wanted_entry}
@@ -42,7 +41,8 @@ use Rattle.session_laws.proofs.Ahead.{later_untried}
 use Rattle.session_laws.proofs.Answer.{answer_tied, owed_still, skip_tied}
 use Rattle.session_laws.proofs.Told.{push_tied, retells}
 use Rattle.session_laws.proofs.Kept.{mine_noted}
-use Rattle.session_laws.proofs.Settle.{IsDue, Tells, answered_leaves, book_of_more, first_may, leaves_all, leaves_on, Leaves, rest_in_line, seen, settled_holds, settled_leaves, sound_told, trace_of_acts}
+use Rattle.session_laws.proofs.Settle.{IsDue, Tells, book_of_more, first_may, leaves_all, leaves_on, Leaves, rest_in_line, seen, settled_holds, settled_leaves, sound_told, trace_of_acts, answered_renewal, answered_renewing, one_leaves, replied_each}
+use Rattle.mux_conn.specs.Renewals.{is_done, renewal_id, renewing, replied}
 
 -- the first of what is behind so many
 --
@@ -65,7 +65,7 @@ next_of (suc n) (x ∷ xs) h rest e = let r = next_of n xs h rest e in record { 
 last_try : (b : Book) (t : Inner) (p k : ℕ) (of_shape : Shape) → Tied b t → p < length t.requests → StandsAs (b.link t.link).starts (owner_of t.requests p) of_shape k → last_of (b.story (name_at t.requests p)).tries ≡ Some (record { link = t.link; message = k })
 last_try b t p k of_shape h l place =
     let s = stands_started b t p k of_shape h l place in
-    ap last_of (h.tries.tried s.0 p s.2 ∙ ap (λ m. record { link = t.link; message = m } ∷ []) (sym s.1))
+    ap last_of (h.tries.tried s.0 p l s.2 ∙ ap (λ m. record { link = t.link; message = m } ∷ []) (sym s.1))
 
 -- where it was full
 full_before : (b : Book) (t : Inner) (p k : ℕ) (of_shape : Shape) (push : Heard) → Tied b t → p < length t.requests → StandsAs (b.link t.link).starts (owner_of t.requests p) of_shape k → is_full_by (b.link t.link) push.after k ≡ true → IsBefore b (name_at t.requests p) push
@@ -111,10 +111,10 @@ none_was b t push h alive within pending m asked before =
     let l = open_within t.requests p q.open_at in
     let was = subst (λ n. IsBefore b n push) (sym q.named) before in
     elim (h.lines.there p q.open_at) [
-      | inl i ↦ elim (in_either p t.pending (wanted (link_in t.life).row ++ awaited_ids (link_in t.life).queue) i) [
+      | inl i ↦ elim (in_either p t.pending (requests_in (wanted (link_in t.life).row) ++ awaited_ids (link_in t.life).queue) i) [
         | inl j ↦ let d = pending p j l in not_both (is_full_by (b.link t.link) push.after d.number) d.late (before_full b t p d.number d.of_shape push h l d.stands was)
-        | inr j ↦ elim (in_either p (wanted (link_in t.life).row) (awaited_ids (link_in t.life).queue) j) [
-          | inl r ↦ in_row p l was r
+        | inr j ↦ elim (in_either p (requests_in (wanted (link_in t.life).row)) (awaited_ids (link_in t.life).queue) j) [
+          | inl r ↦ in_row p l was (request_of p (wanted (link_in t.life).row) r)
           | inr w ↦ unstarted p l was (in_left p (queue_ids (link_in t.life).queue) (kept_ids t.admitted t.waiting) (awaited_in p (link_in t.life).queue w))
         ]
       ]
@@ -162,15 +162,15 @@ pub record IsTelling (before : List Action) (f : Core) (ledger : Ledger) (owes :
 lt_test : (a b : ℕ) → a < b → nat_lt a b ≡ true
 lt_test a b less = by_test (nat_lt a b) _ (λ t. t) (λ f. absurd (let no_less = not_lt_from a b f in omega arith))
 
--- the owner of a request of that name
+-- whose message that of a number is, where requests have these names
 abbrev pub try_of : (ℕ → ℕ) → ℕ → Owner
-try_of name p = owner.Try (name p) 0
+try_of name p = if p == renewal_id then owner.Auth else owner.Try (name p) 0
 
 -- what stands so in the ledger does so now
 late_now : (l now : Ledger) (told : ℕ) (name : ℕ → ℕ) (requests : List Request) (push : Heard) (p : ℕ) → now ≡ retells l told l.parted → name_at requests p ≡ name p → IsLate l (try_of name) push p → IsLate now (owner_of requests) push p
 late_now l now told name requests push p is named d =
     subst (λ (x : Ledger). IsLate x (owner_of requests) push p) (sym is)
-    (record { number = d.number; of_shape = d.of_shape; stands = subst (λ n. StandsAs l.starts (owner.Try n 0) d.of_shape d.number) (sym named) d.stands; late = d.late })
+    (record { number = d.number; of_shape = d.of_shape; stands = subst (λ n. StandsAs l.starts (if p == renewal_id then owner.Auth else owner.Try n 0) d.of_shape d.number) (sym named) d.stands; late = d.late })
 
 -- a push that came
 --
@@ -178,6 +178,11 @@ late_now l now told name requests push p is named d =
 pub record IsHeard (l : Ledger) (h : Heard) : Type 0 where
   pub kind_is : is_disconnection h.info.kind ≡ false
   pub within : h.after ≤ length l.dealt
+
+-- also where one source more is known
+pub heard_readied : (more : Bool) (l : Ledger) (hs : List Heard) → AllByRecursion (IsHeard l) hs → AllByRecursion (IsHeard (readied more l)) hs
+heard_readied more l [] all = tt
+heard_readied more l (h ∷ hs) all = (record { kind_is = all.0.kind_is; within = all.0.within }, heard_readied more l hs all.1)
 
 -- a line that tells it
 tells_line : (l : Ledger) (kind : Bool) → kind ≡ false → noted l (if kind then parts else tells) ≡ retells l (l.told + 1) l.parted
@@ -284,8 +289,8 @@ answered_between before f ledger owes name was w h rest p o pending started hear
     open_one e =
         let a = act.Outcome (name_at w.conn.requests p) o in
         let owes_now = k.owed_is (name_at w.conn.requests p) ∙ ap owes (k.named p) ∙ due (k.opens p e) in
-        let place = subst (λ n. StandsAs ledger.starts (owner.Try n 0) early.of_shape early.number) (sym (k.named p)) early.stands in
-        let here = subst (λ (x : Ledger). StandsAs x.starts (owner.Try (name_at w.conn.requests p) 0) early.of_shape early.number) (sym k.ledger_is) place in
+        let place = subst (λ n. StandsAs ledger.starts (if p == renewal_id then owner.Auth else owner.Try n 0) early.of_shape early.number) (sym (k.named p)) early.stands in
+        let here = subst (λ (x : Ledger). StandsAs x.starts (owner_of w.conn.requests p) early.of_shape early.number) (sym k.ledger_is) place in
         let full = subst (λ (x : Ledger). is_full_by x h.after early.number ≡ true) (sym k.ledger_is) early.full in
         let n = next_of l.told l.pushes h rest (k.holds.tied.pushes.untold_is hears) in
         record {
@@ -314,11 +319,28 @@ answered_between before f ledger owes name was w h rest p o pending started hear
 
 -- where no push is left the others are answered
 answered_last : (before : List Action) (f : Core) (ledger : Ledger) (owes : ℕ → Option Outcome) (name : ℕ → ℕ) (was : ℕ → Bool) (w : Work) (ss : List Settled) (started : List ℕ) → AllByRecursion (IsDue owes name was) ss
-    → IsTelling before f ledger owes name was w [] (settled_ids ss ++ []) started → IsTelling before f ledger owes name was (settled_each w ss) [] [] started
+    → IsTelling before f ledger owes name was (renewing w (replied_each w.conn.renewal ss)) [] (requests_in (settled_ids ss) ++ []) started → IsTelling before f ledger owes name was (settled_each w ss) [] [] started
 answered_last before f ledger owes name was w ss started due k =
     let now = (book (trace_of_acts before f w.acts)).link f.single.link in
     let a = settled_holds before f now owes name was w ss [] started due (record { holds = k.holds; line = k.line; ledger_is = refl; owed_is = k.owed_is; named = k.named; opens = k.opens }) in
     record { holds = a.holds; line = a.line; told = k.told; ledger_is = a.ledger_is ∙ k.ledger_is; owed_is = a.owed_is; named = a.named; opens = a.opens }
+
+-- one that was settled is answered between, where it is a request's
+settled_between : (before : List Action) (f : Core) (ledger : Ledger) (owes : ℕ → Option Outcome) (name : ℕ → ℕ) (was : ℕ → Bool) (w : Work) (h : Heard) (rest : List Heard) (s : Settled) (ss : List Settled) (started : List ℕ) (auth : Bool) → w.conn.hears ≡ true → IsDue owes name was s → IsOnTime ledger (try_of name) h s.id
+    → (let r = w.conn.renewal in let ids = requests_in (settled_ids ss) in IsTelling before f ledger owes name was (renewing w (replied_each (if auth then replied r (is_done s.verdict) else r) ss)) (h ∷ rest) ((if auth then ids else s.id ∷ ids) ++ []) started)
+    → (let v = if auth then renewing w (replied w.conn.renewal (is_done s.verdict)) else answered w s.id (outcome_of s.verdict) in IsTelling before f ledger owes name was (renewing v (replied_each v.conn.renewal ss)) (h ∷ rest) (requests_in (settled_ids ss) ++ []) started)
+settled_between before f ledger owes name was w h rest s ss started true hears due early k = k
+settled_between before f ledger owes name was w h rest s ss started false hears due early k =
+    let o = outcome_of s.verdict in
+    let come = replied_each w.conn.renewal ss in
+    let pending = requests_in (settled_ids ss) ++ [] in
+    let done = answered_between before f ledger owes name was (renewing w come) h rest s.id o pending started hears due early k in
+    subst (λ r. IsTelling before f ledger owes name was (renewing (answered w s.id o) (replied_each r ss)) (h ∷ rest) pending started) (sym (answered_renewal w s.id o))
+    (subst (λ (x : Work). IsTelling before f ledger owes name was x (h ∷ rest) pending started) (answered_renewing w s.id o come) done)
+
+-- a request's number among these
+of_requests : (q : ℕ) (ids : List ℕ) → IsIn q (requests_in ids ++ []) → IsIn q (ids ++ [])
+of_requests q ids i = elim (in_either q (requests_in ids) [] i) [ inl j ↦ in_left q ids [] (request_of q ids j) | inr none ↦ absurd none ]
 
 -- all of them
 --
@@ -359,14 +381,14 @@ told_leaves w n [] [] = leaves_all w
 told_leaves w n [] (s ∷ ss) = settled_leaves w (s ∷ ss)
 told_leaves w n (p ∷ ps) [] = leaves_on w (pushed w p.info) (told_each (pushed w p.info) n ps []) (push_leaves w p.info) (told_leaves (pushed w p.info) n ps [])
 told_leaves w n (p ∷ ps) (s ∷ ss) =
-    let v = answered w s.id (outcome_of s.verdict) in
+    let v = settled_one w s in
     chosen (Leaves w) (nat_le p.settled n) (told_each (pushed w p.info) n ps (s ∷ ss)) (told_each v (n + 1) (p ∷ ps) ss)
     (λ t. leaves_on w (pushed w p.info) (told_each (pushed w p.info) n ps (s ∷ ss)) (push_leaves w p.info) (told_leaves (pushed w p.info) n ps (s ∷ ss)))
-    (λ f. leaves_on w v (told_each v (n + 1) (p ∷ ps) ss) (answered_leaves w s.id (outcome_of s.verdict)) (told_leaves v (n + 1) (p ∷ ps) ss))
+    (λ f. leaves_on w v (told_each v (n + 1) (p ∷ ps) ss) (one_leaves w s) (told_leaves v (n + 1) (p ∷ ps) ss))
 
 -- each push is told in its place, and all else is answered
 pub told_holds : (before : List Action) (f : Core) (ledger : Ledger) (owes : ℕ → Option Outcome) (name : ℕ → ℕ) (was : ℕ → Bool) (w : Work) (n : ℕ) (ps : List PushAt) (hs : List Heard) (ss : List Settled) (started : List ℕ) → w.conn.hears ≡ true → has_ended w.conn.life ≡ false → SayTheSame ps hs
-    → AreApart (try_of name) ledger ps hs n ss → AllByRecursion (IsHeard ledger) hs → AllByRecursion (IsDue owes name was) ss → IsTelling before f ledger owes name was w hs (settled_ids ss ++ []) started → IsTelling before f ledger owes name was (told_each w n ps ss) [] [] started
+    → AreApart (try_of name) ledger ps hs n ss → AllByRecursion (IsHeard ledger) hs → AllByRecursion (IsDue owes name was) ss → IsTelling before f ledger owes name was (renewing w (replied_each w.conn.renewal ss)) hs (requests_in (settled_ids ss) ++ []) started → IsTelling before f ledger owes name was (told_each w n ps ss) [] [] started
 told_holds before f ledger owes name was w n [] [] ss started hears alive same apart heard due k =
     subst (λ (x : Work). IsTelling before f ledger owes name was x [] [] started) (sym (none_told w n ss)) (answered_last before f ledger owes name was w ss started due k)
 told_holds before f ledger owes name was w n [] (h ∷ hs) ss started hears alive same apart heard due k = absurd same
@@ -374,22 +396,24 @@ told_holds before f ledger owes name was w n (p ∷ ps) [] ss started hears aliv
 told_holds before f ledger owes name was w n (p ∷ ps) (h ∷ hs) [] started hears alive same apart heard due k =
     told_holds before f ledger owes name was (pushed w p.info) n ps hs [] started hears alive same.1 tt heard.1 tt (one_told before f ledger owes name was w p.info h hs [] started hears alive same.0 heard.0 (λ q i. absurd i) k)
 told_holds before f ledger owes name was w n (p ∷ ps) (h ∷ hs) (s ∷ ss) started hears alive same apart heard due k =
-    let v = answered w s.id (outcome_of s.verdict) in
-    let still = answered_leaves w s.id (outcome_of s.verdict) in
+    let v = settled_one w s in
+    let still = one_leaves w s in
+    let come = replied_each w.conn.renewal (s ∷ ss) in
+    let ids = settled_ids (s ∷ ss) in
     chosen (λ (x : Work). IsTelling before f ledger owes name was x [] [] started) (nat_le p.settled n) (told_each (pushed w p.info) n ps (s ∷ ss)) (told_each v (n + 1) (p ∷ ps) ss)
     (λ t.
     told_holds before f ledger owes name was (pushed w p.info) n ps hs (s ∷ ss) started hears alive same.1 (apart_rest (try_of name) ledger p ps h hs n (s ∷ ss) apart) heard.1 due
-    (one_told before f ledger owes name was w p.info h hs (settled_ids (s ∷ ss) ++ []) started hears alive same.0 heard.0 (behind_in name ledger p ps h hs n n (s ∷ ss) (le_from p.settled n t) (omega arith) apart) k))
+    (one_told before f ledger owes name was (renewing w come) p.info h hs (requests_in ids ++ []) started hears alive same.0 heard.0 (λ q i. behind_in name ledger p ps h hs n n (s ∷ ss) (le_from p.settled n t) (omega arith) apart q (of_requests q ids i)) k))
     (λ t.
     let late = not_le_from p.settled n t in
     let next : n + 1 ≡ suc n = omega arith in
     told_holds before f ledger owes name was v (n + 1) (p ∷ ps) (h ∷ hs) ss started (still.hears ∙ hears) (ap has_ended still.life ∙ alive) same (subst (λ m. AreApart (try_of name) ledger (p ∷ ps) (h ∷ hs) m ss) (sym next) apart.1) heard due.1
-    (answered_between before f ledger owes name was w h hs s.id (outcome_of s.verdict) (settled_ids ss ++ []) started hears due.0
+    (settled_between before f ledger owes name was w h hs s ss started (s.id == renewal_id) hears due.0
     (record { number = apart.0.number; of_shape = apart.0.of_shape; stands = apart.0.stands; full = sym (apart.0.apart 0 p h refl refl) ∙ lt_test n p.settled late }) k))
 
 -- and where nobody hears any
 pub unheard_holds : (before : List Action) (f : Core) (ledger : Ledger) (owes : ℕ → Option Outcome) (name : ℕ → ℕ) (was : ℕ → Bool) (w : Work) (n : ℕ) (ss : List Settled) (started : List ℕ) → AllByRecursion (IsDue owes name was) ss
-    → IsTelling before f ledger owes name was w [] (settled_ids ss ++ []) started → IsTelling before f ledger owes name was (told_each w n [] ss) [] [] started
+    → IsTelling before f ledger owes name was (renewing w (replied_each w.conn.renewal ss)) [] (requests_in (settled_ids ss) ++ []) started → IsTelling before f ledger owes name was (told_each w n [] ss) [] [] started
 unheard_holds before f ledger owes name was w n ss started due k =
     subst (λ (x : Work). IsTelling before f ledger owes name was x [] [] started) (sym (none_told w n ss)) (answered_last before f ledger owes name was w ss started due k)
 

@@ -1,5 +1,5 @@
 -- What ties a session to the book of its trace.
-use Rattle.std.proofs.Common.{◌≡◌, ◌≢◌, ◌⊎◌, ℕ, zero, suc, ◌+◌, ◌<◌, ◌≤◌, ◌==◌, Bool, true, false, List, [], ◌∷◌, ◌++◌, length, drop, Option, Some, None, slice_get}
+use Rattle.std.proofs.Common.{◌≡◌, ◌≢◌, ◌⊎◌, ℕ, zero, suc, ◌+◌, ◌^◌, ◌<◌, ◌≤◌, ◌==◌, if◌then◌else◌, Bool, true, false, List, [], ◌∷◌, ◌++◌, length, drop, Option, Some, None, slice_get}
 use Rattle.std.specs.List.{AllByRecursion}
 use Rattle.redis_error.specs.declared.redis_error.RedisError.{RedisError}
 use Rattle.resp_value.specs.declared.value.Value.TheVariants.{Nil}
@@ -9,7 +9,6 @@ use Rattle.driver_model.specs.declared.action.Owner.{Owner}
 use Rattle.driver_model.specs.declared.action.Cause.{Cause}
 use Rattle.driver_model.specs.declared.action.Purpose.{Purpose}
 use Rattle.driver_model.specs.declared.action.SourceUse.{SourceUse}
-use Rattle.driver_model.specs.declared.action.SourceUse.TheVariants as source
 use Rattle.driver_model.specs.declared.action.Owner.TheVariants as owner
 use Rattle.driver_model.specs.Config.{boundary}
 use Rattle.driver_model.specs.Setup.{says_nothing, setup_shape}
@@ -27,31 +26,38 @@ use Rattle.link_core.specs.declared.message.Queued.{Queued}
 use Rattle.link_core.specs.Link.{LinkState, fresh as fresh_link}
 use Rattle.link_laws.specs.Settles.{wanted, awaited_ids}
 use Rattle.link_laws.proofs.TiedLink.{TiedLink}
+use Rattle.driver_model.specs.declared.outcome.Shape.TheVariants.{Confirmation}
+use Rattle.driver_model.specs.Shape.{verdict_of}
 use Rattle.mux_conn.specs.declared.life.Life.{Life}
 use Rattle.mux_conn.specs.declared.life.Life.TheVariants.{Dialing, Wanting, SettingUp, Ready, Ended}
+use Rattle.mux_conn.specs.declared.renewal.Renewal.{Renewal}
+use Rattle.mux_conn.specs.Connection.{are_some}
+use Rattle.mux_conn.specs.Renewals.{renewal_id}
 use Rattle.mux_conn.specs.declared.request.Pending.{Pending}
 use Rattle.mux_conn.specs.declared.request.Request.{Request}
 use Rattle.mux_conn.specs.declared.request.Waiting.{Waiting}
 use Rattle.mux_conn.specs.Effects.{setup_queued}
 use Rattle.mux_conn.specs.Requests.{name_at, permits_at, is_open_at, is_waiting_at, is_admitted_at, is_placed_at}
 use Rattle.shared_session.specs.declared.core_state.Core.{Core}
-use Rattle.legal_trace.specs.Ledger.{Ledger, Heard, Sourced, Start, End, failure_in, is_cut, is_full, is_set_up, setup_count, setup_steps, setup_after}
+use Rattle.shared_session.specs.Turn.{use_after}
+use Rattle.legal_trace.specs.Ledger.{Ledger, Heard, Sourced, Start, End, cut, failure_in, is_cut, is_done, is_full, is_of_renewal, is_set_up, is_taken, last_renewal, renewal_count, setup_count, setup_steps, setup_after}
 use Rattle.legal_trace.specs.Story.{Story, blank_story, is_open, is_told, bytes_of, shape, is_awaited}
 use Rattle.legal_trace.specs.Book.{Book, blank_book, book}
 use Rattle.legal_trace.specs.Steps.{configured, queue_size, permits_in, permits_held, is_let_in}
-use Rattle.legal_trace.specs.Legal.{AllStand, IsTimed, is_heard}
+use Rattle.legal_trace.specs.Legal.{AllStand, IsTimed, answer_time, is_heard}
 use Rattle.legal_trace.specs.Owed.{owed_unstarted}
-use Rattle.session_laws.proofs.Numbers.{IsIn, Rising}
+use Rattle.session_laws.proofs.Numbers.{IsIn, Rising, requests_in}
 
 -- what counts of a session in the middle of a turn: how many turns it has begun, how many links it has asked for and
 -- which of them is its connection's, what each timer, and each source of credentials, was asked for, whether everything was
 -- shut down, the request of each submission, and within how many milliseconds one that comes now is to be answered; how many
 -- messages the queue of its connection's link holds, at how many unwritten bytes none starts, how many permits there are, if
 -- they are counted, and how many are free; whether somebody hears pushes, which pushes of those that came are still to be
--- told, and whether the end of the link is; what is said to the server before the first request, and whether its credentials
--- come of a source; its connection's life and requests, those that wait for the connection, those that wait for a place, those
+-- told, and whether the end of the link is; what is said to the server before the first request, and its credentials
+-- that come of sources; its connection's life and requests, those that wait for the connection, those that wait for a place, those
 -- that came in this turn and those that were moved in it, whose waits aren't shown yet; the one that is being let in; the
--- requests that are settled and not answered yet; and the requests whose messages started, in order
+-- requests that are settled and not answered yet; and the numbers of the messages that started behind the setups, in order: a
+-- request's, or AUTH's
 pub record Inner : Type 0 where
   pub turns : ℕ
   pub links : ℕ
@@ -69,7 +75,7 @@ pub record Inner : Type 0 where
   pub untold : List Heard
   pub parting : Bool
   pub info : RedisConnectionInfo
-  pub wants : Bool
+  pub renewal : Renewal
   pub life : Life
   pub requests : List Request
   pub waiting : List Waiting
@@ -100,9 +106,9 @@ has_ended (SettingUp link with_user) = false
 has_ended (Ready link) = false
 has_ended (Ended e) = true
 
--- whose message a request's is
+-- whose message that of a number is: a request's, or AUTH
 abbrev pub owner_of : List Request → ℕ → Owner
-owner_of requests p = owner.Try (name_at requests p) 0
+owner_of requests p = if p == renewal_id then owner.Auth else owner.Try (name_at requests p) 0
 
 -- the link of a connection, also while it waits for credentials, and while it is set up
 abbrev pub whole_link : Life → LinkState
@@ -146,15 +152,17 @@ setup_owners (suc n) more = owner.Setup ∷ setup_owners n more
 abbrev pub IsAim : Purpose → ℕ → ℕ → Type 0
 IsAim (purpose.Connect l) link count = l ≡ link
 IsAim (purpose.Response owner.Setup) link count = ⊥
+IsAim (purpose.Response owner.Auth) link count = ⊥
+IsAim (purpose.Renewal l k) link count = l ≡ link
 IsAim (purpose.Response (owner.Try n round)) link count = (n < count) × (round ≡ 0)
 
 -- all timers are
 abbrev pub AreAimed : List Purpose → ℕ → ℕ → Type 0
 AreAimed timers link count = (k : ℕ) (what : Purpose) → slice_get timers k ≡ Some what → IsAim what link count
 
--- all sources of credentials are for the setup of this link
+-- the first source of credentials is for the setup of this link, and all others are for its renewals
 abbrev pub AreUses : List SourceUse → ℕ → Type 0
-AreUses sources link = (k : ℕ) (what : SourceUse) → slice_get sources k ≡ Some what → what ≡ source.Setup link
+AreUses sources link = (k : ℕ) (what : SourceUse) → slice_get sources k ≡ Some what → what ≡ use_after link k
 
 -- the configuration that the book tells has a queue of this size, which is not none, this boundary, and so many permits,
 -- which are not none, if they are counted
@@ -166,7 +174,8 @@ pub record IsConfigured (b : Book) (size bound : ℕ) (limit : Option ℕ) : Typ
   pub limited : limit ≢ Some 0
 
 -- the numbers that the session gives are those of the book; its connection's link is the only one; all timers are for it or
--- for a submission, all sources of credentials are for it, and the opening has asked for its timer
+-- for a submission, all sources of credentials are for it, and the opening has asked for its timer; what is told to its server is
+-- to be answered within the configured time; and no more numbers were given to submissions than there are
 pub record TiedNumbers (b : Book) (t : Inner) : Type 0 where
   pub turns : b.turns ≡ t.turns
   pub links : b.links ≡ t.links
@@ -178,6 +187,8 @@ pub record TiedNumbers (b : Book) (t : Inner) : Type 0 where
   pub timed : IsTimed b
   pub timeout : b.timeout ≡ t.timeout
   pub shut : b.shut ≡ t.shut
+  pub within : answer_time b.config ≡ t.renewal.within
+  pub few : length t.table ≤ 2 ^ 32
   pub settings : IsConfigured b t.size t.bound t.limit
   pub one : t.links ≡ t.link + 1
   pub only : (m : ℕ) → m < t.links → m ≡ t.link
@@ -216,18 +227,79 @@ TiedLife l created (Ended e) = (l.up ≡ false) × (owed_unstarted l.end ≡ Som
 abbrev pub HasCredentials : Sourced → Type 0
 HasCredentials c = (c.wanted ≡ false) ⊎ ((c.asked ≡ true) × (c.given ≡ true))
 
--- how far the credentials of a link have come
+-- how far the credentials of a link have come; where it is set up, and they come of sources, a second one was asked for
 abbrev pub AreSought : Sourced → Life → Type 0
-AreSought c Dialing = (c.asked ≡ false) × (c.given ≡ false)
-AreSought c (Wanting link) = (c.wanted ≡ true) × (c.asked ≡ true) × (c.given ≡ false)
-AreSought c (SettingUp link with_user) = HasCredentials c
-AreSought c (Ready link) = HasCredentials c
+AreSought c Dialing = (c.asked ≡ false) × (c.given ≡ false) × (c.renews ≡ false)
+AreSought c (Wanting link) = (c.wanted ≡ true) × (c.asked ≡ true) × (c.given ≡ false) × (c.renews ≡ false)
+AreSought c (SettingUp link with_user) = HasCredentials c × (c.renews ≡ false)
+AreSought c (Ready link) = HasCredentials c × (c.renews ≡ c.wanted)
 AreSought c (Ended e) = Unit {0}
 
--- whether they come of a source is the same for the link and the session
-pub record TiedCreds (c : Sourced) (wants : Bool) (life : Life) : Type 0 where
-  pub wanted_is : c.wanted ≡ wants
+-- how many sources were asked for by then
+abbrev pub sources_asked_in : Sourced → ℕ
+sources_asked_in c = (if c.asked then 1 else 0) + (if c.renews then 1 else 0)
+
+-- whether they come of sources is the same for the link and the session
+pub record TiedCreds (c : Sourced) (wanted : Bool) (life : Life) : Type 0 where
+  pub wanted_is : c.wanted ≡ wanted
   pub sought : AreSought c life
+
+-- no new credentials came, and none were told
+pub record NoneRenewed (l : Ledger) (r : Renewal) : Type 0 where
+  pub over_is : l.creds.over ≡ r.over
+  pub came : l.creds.renewals ≡ []
+  pub waits : r.waiting ≡ []
+  pub untimed : l.creds.timed ≡ 0
+  pub unstarted : renewal_count l.starts ≡ 0
+  pub unasked : r.asked ≡ 0
+  pub unpending : r.pending ≡ false
+  pub told : r.unanswered ≡ false
+  pub kept : l.creds.lost ≡ false
+  pub found : r.lost ≡ false
+
+-- all starts that tell new credentials before that of number k have their items
+abbrev pub AreFullBefore : Ledger → ℕ → Type 0
+AreFullBefore l k = (j : ℕ) (s : Start) → j < k → slice_get l.starts j ≡ Some s → is_of_renewal s.owner ≡ true → is_full l j ≡ true
+
+-- the last that were told are not answered, and all before are
+pub record IsTold (l : Ledger) : Type 0 where
+  pub k : ℕ
+  pub last : last_renewal l.starts 0 None ≡ Some k
+  pub open_is : is_full l k ≡ false
+  pub earlier : AreFullBefore l k
+
+-- they were not answered in time, or their reply is an error
+abbrev pub IsLost : Ledger → Type 0
+IsLost l = (l.creds.lost ≡ true) ⊎ ((k : ℕ) × (last_renewal l.starts 0 None ≡ Some k) × (is_full l k ≡ true) × (is_done (verdict_of Confirmation (cut l k Confirmation)) ≡ false))
+
+-- for how many new credentials a timer was asked
+abbrev pub timed_of : Option ℕ → ℕ → ℕ
+timed_of None asked = 0
+timed_of (Some ms) asked = asked
+
+-- the new credentials of a link that is set up: those that weren't told wait, and as many came as were told; so many were to be told, and have their timers;
+-- those that were told are answered, but the last where it says so; and they were taken, in time, where it isn't said that some were lost
+pub record AreRenewed (l : Ledger) (r : Renewal) : Type 0 where
+  pub over_is : l.creds.over ≡ r.over
+  pub waits : r.waiting ≡ drop (renewal_count l.starts) l.creds.renewals
+  pub some : renewal_count l.starts ≤ length l.creds.renewals
+  pub asked_is : r.asked ≡ renewal_count l.starts + (if r.pending then 1 else 0)
+  pub timed_is : l.creds.timed ≡ timed_of r.within r.asked
+  pub next : r.pending ≡ true → (r.unanswered ≡ false) × (are_some r.waiting ≡ true)
+  pub shaped : (k : ℕ) (s : Start) → slice_get l.starts k ≡ Some s → is_of_renewal s.owner ≡ true → s.shape ≡ Confirmation
+  pub answered : r.unanswered ≡ false → AreFullBefore l (length l.starts)
+  pub unanswered : r.unanswered ≡ true → IsTold l
+  pub kept : r.lost ≡ false → l.creds.lost ≡ false
+  pub taken : r.lost ≡ false → r.unanswered ≡ false → is_taken l (last_renewal l.starts 0 None) ≡ true
+  pub lost : r.lost ≡ true → IsLost l
+
+-- by how far the link has come; once it has ended, no more were told than were to be, and a timer was asked for all of them
+abbrev pub TiedRenewal : Ledger → Renewal → Life → Type 0
+TiedRenewal l r Dialing = NoneRenewed l r
+TiedRenewal l r (Wanting link) = NoneRenewed l r
+TiedRenewal l r (SettingUp link with_user) = NoneRenewed l r
+TiedRenewal l r (Ready link) = AreRenewed l r
+TiedRenewal l r (Ended e) = ((r.within ≢ None) → renewal_count l.starts ≤ l.creds.timed) × (renewal_count l.starts ≤ r.asked)
 
 -- the setup that is to start next on a link is in its queue: the first with the user name, and a second one without it
 pub record IsSetupDue (l : Ledger) (link : LinkState) (with_user : Bool) : Type 0 where
@@ -275,8 +347,10 @@ pub record TiedSetup (l : Ledger) (info : RedisConnectionInfo) (started : List �
   pub sent : AreSetups l
   pub said : HasSaid l started life
 
--- each request has the name of a submission, whose request it is, and names rise with the requests
+-- each request has the name of a submission, whose request it is, and names rise with the requests, of which there are no more
+-- than submissions
 pub record TiedNames (table : List (Option Pending)) (requests : List Request) : Type 0 where
+  pub few : length requests ≤ length table
   pub named : (p : ℕ) (r : Request) → slice_get requests p ≡ Some r → slice_get table r.name ≡ Some (Some (record { number = p }))
   pub kept : (n : ℕ) (p : Pending) → slice_get table n ≡ Some (Some p) → (r : Request) × (slice_get requests p.number ≡ Some r) × (r.name ≡ n)
   pub rising : (p q : ℕ) (r s : Request) → p < q → slice_get requests p ≡ Some r → slice_get requests q ≡ Some s → r.name < s.name
@@ -306,11 +380,12 @@ TiedStory s requests link None = s ≡ blank_story
 TiedStory s requests link (Some None) = IsRefused s
 TiedStory s requests link (Some (Some p)) = IsRequest s requests link p.number
 
--- the messages that started, by the tries of their submissions, behind those of the setup; each has its submission's shape
+-- the messages that started, by the tries of their submissions, behind those of the setup; each request's has its submission's
+-- shape
 pub record TiedTries (l : Ledger) (story : ℕ → Story) (requests : List Request) (link : ℕ) (started : List ℕ) : Type 0 where
   pub owners : owners_of l.starts ≡ setup_owners (setup_count l.starts) (owners_each requests started)
-  pub shapes : (k : ℕ) (p : ℕ) (s : Start) → slice_get started k ≡ Some p → slice_get l.starts (setup_count l.starts + k) ≡ Some s → s.shape ≡ shape (story (name_at requests p))
-  pub tried : (k p : ℕ) → slice_get started k ≡ Some p → (story (name_at requests p)).tries ≡ record { link = link; message = setup_count l.starts + k } ∷ []
+  pub shapes : (k : ℕ) (p : ℕ) (s : Start) → p < length requests → slice_get started k ≡ Some p → slice_get l.starts (setup_count l.starts + k) ≡ Some s → s.shape ≡ shape (story (name_at requests p))
+  pub tried : (k p : ℕ) → p < length requests → slice_get started k ≡ Some p → (story (name_at requests p)).tries ≡ record { link = link; message = setup_count l.starts + k } ∷ []
   pub untried : (p : ℕ) (r : Request) → slice_get requests p ≡ Some r → (IsIn p started → ⊥) → (story r.name).tries ≡ []
 
 -- these are the bytes and the shape of a submission, and whether its reply is awaited
@@ -325,10 +400,20 @@ pub record IsQueued (story : ℕ → Story) (requests : List Request) (q : Queue
   pub placed_at : q.awaited ≡ true → is_placed_at requests q.id ≡ true
   pub told : q.awaited ≡ false → (story (name_at requests q.id)).outcomes ≡ outcome.One Nil ∷ []
 
--- a started message that takes more items: it has its place while its verdict is wanted
-pub record IsEntry (requests : List Request) (e : Entry) : Type 0 where
+-- a started message of a request that takes more items: it has its place while its verdict is wanted
+pub record IsOfRequest (requests : List Request) (e : Entry) : Type 0 where
   pub below : e.id < length requests
   pub placed_at : e.awaited ≡ true → is_placed_at requests e.id ≡ true
+
+-- AUTH that takes its reply
+pub record IsOfRenewal (e : Entry) : Type 0 where
+  pub is : e.id ≡ renewal_id
+  pub awaited_is : e.awaited ≡ true
+  pub shape_is : e.shape ≡ Confirmation
+
+-- a started message that takes more items is one of these
+abbrev pub IsEntry : List Request → Entry → Type 0
+IsEntry requests e = IsOfRequest requests e ⊎ IsOfRenewal e
 
 -- one that waits is as its submission says, and is to be answered within its time
 pub record IsPacked (story : ℕ → Story) (requests : List Request) (w : Waiting) : Type 0 where
@@ -342,12 +427,12 @@ IsKept requests waiting admitted p = ((is_admitted_at requests p ≡ true) × Is
 -- those that started, those that have a place in the queue, those that wait for one and those that wait for the connection,
 -- in the order of their numbers; each of them is as its submission says, and each open request is somewhere
 pub record TiedLines (story : ℕ → Story) (requests : List Request) (link : LinkState) (waiting admitted : List Waiting) (pending started : List ℕ) : Type 0 where
-  pub line : Rising 0 (started ++ (queue_ids link.queue ++ (waiting_ids admitted ++ waiting_ids waiting))) (length requests)
+  pub line : Rising 0 (requests_in started ++ (queue_ids link.queue ++ (waiting_ids admitted ++ waiting_ids waiting))) (length requests)
   pub queued : AllByRecursion (IsQueued story requests) link.queue
   pub entries : AllByRecursion (IsEntry requests) link.row
   pub packs : AllByRecursion (IsPacked story requests) waiting
   pub packed_in : AllByRecursion (IsPacked story requests) admitted
-  pub there : (p : ℕ) → is_open_at requests p ≡ true → IsIn p (pending ++ (wanted link.row ++ awaited_ids link.queue)) ⊎ IsKept requests waiting admitted p
+  pub there : (p : ℕ) → is_open_at requests p ≡ true → IsIn p (pending ++ (requests_in (wanted link.row) ++ awaited_ids link.queue)) ⊎ IsKept requests waiting admitted p
 
 -- who was told at its place and has not started is in the queue
 abbrev pub AreQueued : (ℕ → Story) → List Request → LinkState → Type 0
@@ -360,7 +445,7 @@ shown_wait story requests p = (story (name_at requests p)).waiting
 -- a request that waits for the connection, or for a permit, has shown nothing or one of these; the first while the
 -- connect isn't answered, the second while credentials are to come, the third while the link is set up, and the fourth while
 -- it is up, where its wait isn't to be shown yet; one that waits for a place, or has one in the queue, was moved in this turn and its wait isn't shown
--- yet, or has shown it
+-- yet, or has shown it; one that waits for a place has never shown that it waits for room
 pub record TiedWaits (story : ℕ → Story) (requests : List Request) (life : Life) (fresh moved : List ℕ) : Type 0 where
   pub early : (p : ℕ) → is_waiting_at requests p ≡ true → (shown_wait story requests p ≡ None) ⊎ ((shown_wait story requests p ≡ Some wait.Connect) ⊎ ((shown_wait story requests p ≡ Some wait.Creds) ⊎ ((shown_wait story requests p ≡ Some wait.Setup) ⊎ (shown_wait story requests p ≡ Some wait.Permit))))
   pub connect : (p : ℕ) → is_waiting_at requests p ≡ true → life ≡ Dialing → IsIn p fresh ⊎ (shown_wait story requests p ≡ Some wait.Connect)
@@ -376,6 +461,7 @@ pub record TiedWaits (story : ℕ → Story) (requests : List Request) (life : L
   pub no_setup : (p : ℕ) (link : LinkState) (with_user : Bool) → IsIn p fresh → is_waiting_at requests p ≡ true → life ≡ SettingUp link with_user → shown_wait story requests p ≢ Some wait.Setup
   pub no_permit : (p : ℕ) (link : LinkState) → IsIn p fresh → is_waiting_at requests p ≡ true → life ≡ Ready link → shown_wait story requests p ≢ Some wait.Permit
   pub no_place : (p : ℕ) → IsIn p moved → is_admitted_at requests p ≡ true → shown_wait story requests p ≢ Some wait.Place
+  pub seatless : (p : ℕ) → is_admitted_at requests p ≡ true → shown_wait story requests p ≢ Some wait.Room
   pub no_room : (p : ℕ) → IsIn p moved → IsIn p (awaited_ids (link_in life).queue) → shown_wait story requests p ≢ Some wait.Room
 
 -- where permits are counted, those that submissions hold and those that are free are all; who waits for the
@@ -395,7 +481,9 @@ pub record Tied (b : Book) (t : Inner) : Type 0 where
   pub others : (m : ℕ) → m ≢ t.link → IsUnknown (b.link m)
   pub pushes : TiedPushes (is_heard b) t.hears (b.link t.link).pushes (b.link t.link).told (b.link t.link).end (b.link t.link).parted t.untold t.parting
   pub life : TiedLife (b.link t.link) b.created t.life
-  pub creds : TiedCreds (b.link t.link).creds t.wants t.life
+  pub creds : TiedCreds (b.link t.link).creds t.renewal.wanted t.life
+  pub count : length t.sources ≡ sources_asked_in (b.link t.link).creds
+  pub renewal : TiedRenewal (b.link t.link) t.renewal t.life
   pub setup : TiedSetup (b.link t.link) t.info t.started t.life
   pub link : has_ended t.life ≡ false → TiedLink (carried t.life t.requests) (b.link t.link) (whole_link t.life)
   pub names : TiedNames t.table t.requests
@@ -435,7 +523,7 @@ inner c started = record {
   untold = [];
   parting = false;
   info = c.single.connection.info;
-  wants = c.single.connection.wants;
+  renewal = c.single.connection.renewal;
   life = c.single.connection.life;
   requests = c.single.connection.requests;
   waiting = c.single.connection.waiting;
@@ -465,6 +553,8 @@ numbers_kept b link story t life free requests waiting admitted fresh moved lett
   submissions = h.submissions;
   timeout = h.timeout;
   shut = h.shut;
+  within = h.within;
+  few = h.few;
   settings = record { size_is = h.settings.size_is; bound_is = h.settings.bound_is; limit_is = h.settings.limit_is; some = h.settings.some; limited = h.settings.limited };
   one = h.one;
   only = h.only;
@@ -482,6 +572,8 @@ relined b t waiting admitted fresh moved pending h lines waits late = record {
   pushes = h.pushes;
   life = h.life;
   creds = h.creds;
+  count = h.count;
+  renewal = h.renewal;
   setup = h.setup;
   link = h.link;
   names = h.names;

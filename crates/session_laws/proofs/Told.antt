@@ -17,6 +17,7 @@ use Rattle.legal_trace.specs.Book.{Book, entered, push_line}
 use Rattle.legal_trace.specs.Legal.{is_heard}
 use Rattle.session_laws.proofs.Kept.{mine_noted, others_kept, tied_by}
 use Rattle.session_laws.proofs.Tied.{Inner, HasSaid, Tied, TiedLife, TiedPushes, carried, whole_link}
+use Rattle.session_laws.proofs.Renewals.{renewal_alike}
 
 -- a ledger of which so many pushes were told, and its end or not
 abbrev pub retells : Ledger → ℕ → Bool → Ledger
@@ -89,11 +90,13 @@ push_tied b t info told parted untold parting is pushed h =
     let l = b.link t.link in
     let line = push_line info.kind in
     tied_by (entered b (action.Push t.link info)) (record t { untold = untold; parting = parting }) (retells l told parted) (mine_noted l t.link line ∙ is) (record {
-      numbers = record { turns = h.numbers.turns; links = h.numbers.links; submissions = h.numbers.submissions; timers = h.numbers.timers; sources = h.numbers.sources; uses = h.numbers.uses; aims = h.numbers.aims; timed = h.numbers.timed; timeout = h.numbers.timeout; shut = h.numbers.shut; settings = record { size_is = h.numbers.settings.size_is; bound_is = h.numbers.settings.bound_is; limit_is = h.numbers.settings.limit_is; some = h.numbers.settings.some; limited = h.numbers.settings.limited }; one = h.numbers.one; only = h.numbers.only };
+      numbers = record { turns = h.numbers.turns; links = h.numbers.links; submissions = h.numbers.submissions; timers = h.numbers.timers; sources = h.numbers.sources; uses = h.numbers.uses; aims = h.numbers.aims; timed = h.numbers.timed; timeout = h.numbers.timeout; shut = h.numbers.shut; within = h.numbers.within; few = h.numbers.few; settings = record { size_is = h.numbers.settings.size_is; bound_is = h.numbers.settings.bound_is; limit_is = h.numbers.settings.limit_is; some = h.numbers.settings.some; limited = h.numbers.settings.limited }; one = h.numbers.one; only = h.numbers.only };
       others = others_kept b t.link line h.others;
       pushes = pushed;
       life = life_told l told parted b.created t.life h.life;
       creds = h.creds;
+      count = h.count;
+      renewal = renewal_alike l (retells l told parted) t.renewal t.life refl refl refl h.renewal;
       setup = record { info_is = h.setup.info_is; sent = h.setup.sent; said = said_told l told parted t.started t.life h.setup.said };
       link = λ up. link_told (carried t.life t.requests) l told parted (whole_link t.life) (h.link up);
       names = h.names;

@@ -18,8 +18,10 @@ use Rattle.shared_session.specs.Turn.{with_work, is_bad}
 use Rattle.legal_trace.specs.Ledger.{Ledger, hears, noted, ending}
 use Rattle.legal_trace.specs.Story.{Story}
 use Rattle.legal_trace.specs.Book.{book}
+use Rattle.mux_conn.specs.declared.renewal.Renewal.{Renewal}
+use Rattle.session_laws.proofs.Renewals.{renewal_alike}
 use Rattle.session_laws.proofs.Numbers.{IsIn}
-use Rattle.session_laws.proofs.Tied.{carried, link_in, owner_of, whole_link, TiedLife, TiedLines, TiedSetup, AreQueued, TiedCreds, TiedWaits, has_ended}
+use Rattle.session_laws.proofs.Tied.{carried, link_in, owner_of, whole_link, TiedLife, TiedLines, TiedSetup, AreQueued, TiedCreds, TiedWaits, has_ended, TiedRenewal}
 use Rattle.session_laws.proofs.States.{IsFit, Between, HasApplied}
 use Rattle.session_laws.proofs.Announce.{turn_of, turned, IsNewsKind}
 use Rattle.session_laws.proofs.Heard.{quiet_applied, ended_quiet, dialing_quiet, setting_waits, still_none, pushes_still, wanting_waits}
@@ -48,6 +50,15 @@ took_setting l created turn count link after with_user h = chosen (λ (x : Ledge
 took_creds : (l : Ledger) (wants : Bool) (turn count : ℕ) (life : Life) → TiedCreds l.creds wants life → TiedCreds (noted l (hears turn (took count))).creds wants life
 took_creds l wants turn count life h = chosen (λ (x : Ledger). TiedCreds x.creds wants life) l.up (record l { taken = l.taken ++ take count l.offer; offer = [] }) l (λ t. h) (λ f. h)
 
+-- and so have new ones
+took_renewal : (l : Ledger) (r : Renewal) (turn count : ℕ) (life : Life) → TiedRenewal l r life → TiedRenewal (noted l (hears turn (took count))) r life
+took_renewal l r turn count life h =
+    let more : Ledger = record l { taken = l.taken ++ take count l.offer; offer = [] } in
+    renewal_alike l (noted l (hears turn (took count))) r life
+    (chosen (λ (x : Ledger). x.creds ≡ l.creds) l.up more l (λ t. refl) (λ f. refl))
+    (chosen (λ (x : Ledger). x.starts ≡ l.starts) l.up more l (λ t. refl) (λ f. refl))
+    (chosen (λ (x : Ledger). x.dealt ≡ l.dealt) l.up more l (λ t. refl) (λ f. refl)) h
+
 -- the lines stay
 wrote_lines : (story : ℕ → Story) (requests : List Request) (link : LinkState) (count : ℕ) (waiting admitted : List Waiting) (pending started : List ℕ) → TiedLines story requests link waiting admitted pending started
     → TiedLines story requests (wrote_of link count) waiting admitted pending started
@@ -71,6 +82,7 @@ queue_waits story requests link after fresh moved same h = record {
   no_setup = λ p x u i w d. cc;
   no_permit = λ p x i w r. h.no_permit p link i w refl;
   no_place = h.no_place;
+  seatless = h.seatless;
   no_room = λ p i r. h.no_room p i (same p r);
 }
 
@@ -99,14 +111,15 @@ took_applied before c started word count kind h good k is can = by_life c.single
         let l = b.link c.single.link in
         let conn = c.single.connection in
         let life = subst (TiedLife l b.created) e h.sound.tied.life in
-        let creds = subst (TiedCreds l.creds conn.wants) e h.sound.tied.creds in
+        let creds = subst (TiedCreds l.creds conn.renewal.wanted) e h.sound.tied.creds in
         let tied : TiedLink (λ (p : ℕ). owner.Setup) l link = subst (λ (x : Life). TiedLink (carried x conn.requests) l (whole_link x)) e (h.sound.tied.link (ap has_ended e)) in
         let few : count ≤ link.outbox.offered = subst (λ (x : Life). CanTake x count) e can in
         let said = setup_hears l c.turns (took count) conn.info started (Wanting link) tt (subst (TiedSetup l conn.info started) e h.sound.tied.setup) in
         quiet_applied before c started word kind (took count) (Wanting (wrote_of link count)) h good k is
         (record {
           lived = took_wanting l b.created c.turns count link (wrote_of link count) life;
-          creds = took_creds l conn.wants c.turns count (Wanting (wrote_of link count)) (record { wanted_is = creds.wanted_is; sought = creds.sought });
+          creds = took_creds l conn.renewal.wanted c.turns count (Wanting (wrote_of link count)) (record { wanted_is = creds.wanted_is; sought = creds.sought });
+          renewal_is = took_renewal l conn.renewal c.turns count (Wanting (wrote_of link count)) (subst (TiedRenewal l conn.renewal) e h.sound.tied.renewal);
           said = wanting_link (noted l (hears c.turns (took count))) conn.info started link (wrote_of link count) refl refl said;
           linked = λ n. wrote_tied (λ (p : ℕ). owner.Setup) l link c.turns count life.1 few tied;
           lines = subst (λ (x : Life). TiedLines b.story conn.requests (link_in x) conn.waiting conn.admitted [] started) e h.sound.tied.lines;
@@ -125,14 +138,15 @@ took_applied before c started word count kind h good k is can = by_life c.single
         let l = b.link c.single.link in
         let conn = c.single.connection in
         let life = subst (TiedLife l b.created) e h.sound.tied.life in
-        let creds = subst (TiedCreds l.creds conn.wants) e h.sound.tied.creds in
+        let creds = subst (TiedCreds l.creds conn.renewal.wanted) e h.sound.tied.creds in
         let tied : TiedLink (λ (p : ℕ). owner.Setup) l link = subst (λ (x : Life). TiedLink (carried x conn.requests) l (whole_link x)) e (h.sound.tied.link (ap has_ended e)) in
         let few : count ≤ link.outbox.offered = subst (λ (x : Life). CanTake x count) e can in
         let said = setup_hears l c.turns (took count) conn.info started (SettingUp link with_user) tt (subst (TiedSetup l conn.info started) e h.sound.tied.setup) in
         quiet_applied before c started word kind (took count) (SettingUp (wrote_of link count) with_user) h good k is
         (record {
           lived = took_setting l b.created c.turns count link (wrote_of link count) with_user life;
-          creds = took_creds l conn.wants c.turns count (SettingUp (wrote_of link count) with_user) (record { wanted_is = creds.wanted_is; sought = creds.sought });
+          creds = took_creds l conn.renewal.wanted c.turns count (SettingUp (wrote_of link count) with_user) (record { wanted_is = creds.wanted_is; sought = creds.sought });
+          renewal_is = took_renewal l conn.renewal c.turns count (SettingUp (wrote_of link count) with_user) (subst (TiedRenewal l conn.renewal) e h.sound.tied.renewal);
           said = setup_link (noted l (hears c.turns (took count))) conn.info started link (wrote_of link count) with_user refl refl said;
           linked = λ n. wrote_tied (λ (p : ℕ). owner.Setup) l link c.turns count life.1 few tied;
           lines = subst (λ (x : Life). TiedLines b.story conn.requests (link_in x) conn.waiting conn.admitted [] started) e h.sound.tied.lines;
@@ -151,14 +165,15 @@ took_applied before c started word count kind h good k is can = by_life c.single
         let l = b.link c.single.link in
         let conn = c.single.connection in
         let life = subst (TiedLife l b.created) e h.sound.tied.life in
-        let creds = subst (TiedCreds l.creds conn.wants) e h.sound.tied.creds in
+        let creds = subst (TiedCreds l.creds conn.renewal.wanted) e h.sound.tied.creds in
         let tied : TiedLink (owner_of conn.requests) l link = subst (λ (x : Life). TiedLink (carried x conn.requests) l (whole_link x)) e (h.sound.tied.link (ap has_ended e)) in
         let few : count ≤ link.outbox.offered = subst (λ (x : Life). CanTake x count) e can in
         let said = setup_hears l c.turns (took count) conn.info started (Ready link) tt (subst (TiedSetup l conn.info started) e h.sound.tied.setup) in
         quiet_applied before c started word kind (took count) (Ready (wrote_of link count)) h good k is
         (record {
           lived = took_life l b.created c.turns count link (wrote_of link count) life;
-          creds = took_creds l conn.wants c.turns count (Ready (wrote_of link count)) (record { wanted_is = creds.wanted_is; sought = creds.sought });
+          creds = took_creds l conn.renewal.wanted c.turns count (Ready (wrote_of link count)) (record { wanted_is = creds.wanted_is; sought = creds.sought });
+          renewal_is = took_renewal l conn.renewal c.turns count (Ready (wrote_of link count)) (subst (TiedRenewal l conn.renewal) e h.sound.tied.renewal);
           said = setup_ready (noted l (hears c.turns (took count))) conn.info started link (wrote_of link count) said;
           linked = λ n. wrote_tied (owner_of conn.requests) l link c.turns count life.1 few tied;
           lines = wrote_lines b.story conn.requests link count conn.waiting conn.admitted [] started (subst (λ (x : Life). TiedLines b.story conn.requests (link_in x) conn.waiting conn.admitted [] started) e h.sound.tied.lines);

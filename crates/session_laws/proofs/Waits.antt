@@ -9,10 +9,11 @@ use Rattle.driver_model.specs.declared.action.Owner.TheVariants as owner
 use Rattle.driver_model.specs.declared.action.WaitKind.{WaitKind}
 use Rattle.driver_model.specs.declared.action.WaitKind.TheVariants as wait
 use Rattle.link_core.specs.declared.message.Entry.{Entry}
-use Rattle.link_core.specs.Link.{LinkState, first_in, holds_back, is_full}
+use Rattle.link_core.specs.Link.{LinkState, first_in, holds_back, is_full_beside}
 use Rattle.link_core.specs.declared.message.Queued.{Queued}
 use Rattle.link_laws.specs.Settles.{awaited_ids, wanted}
-use Rattle.mux_conn.specs.Connection.{has_no_permit, is_ready}
+use Rattle.mux_conn.specs.Connection.{has_no_permit, is_ready, in_front}
+use Rattle.mux_conn.specs.Renewals.{renewal_id}
 use Rattle.mux_conn.specs.Requests.{if_there, is_admitted, is_admitted_at, is_open_at, is_placed, is_placed_at, is_waiting, is_waiting_at, name_at}
 use Rattle.mux_conn.specs.Turn.{is_from}
 use Rattle.mux_conn.specs.declared.life.Life.{Life}
@@ -24,13 +25,13 @@ use Rattle.legal_trace.specs.Book.{Book, entered, if_own}
 use Rattle.legal_trace.specs.Legal.{IsWaiting, IsWritten, MayWait, WaitHolds}
 use Rattle.legal_trace.specs.Steps.{starts_or_waits}
 use Rattle.legal_trace.specs.Story.{Story, awaited_in, is_no_error, is_told, waits as waits_now}
-use Rattle.session_laws.proofs.Ahead.{IsRunning, dialing_step, full_step, permit_step, queue_step, queue_within, running_of, setup_step, waiting_open, admitted_open, creds_step}
+use Rattle.session_laws.proofs.Ahead.{IsRunning, dialing_step, full_step, permit_step, queue_step, queue_within, running_of, setup_step, waiting_open, admitted_open, creds_step, HasSeats}
 use Rattle.session_laws.proofs.Closing.{one_of}
 use Rattle.session_laws.proofs.InLine.{awaited_in as in_queue, chosen_in, kept_ids, kept_in, row_ids, wanted_in}
 use Rattle.session_laws.proofs.Kept.{SameOutcomes, SameSubmissions, SameTimes, one_changed, packed_same, queued_same, tries_same}
 use Rattle.session_laws.proofs.Moves.{later_of, open_unstarted}
-use Rattle.session_laws.proofs.Names.{earlier_name, get_some, name_of_some, open_within, same_name, there_within}
-use Rattle.session_laws.proofs.Numbers.{IsIn, Rising, in_either, in_left, in_right, rising_apart, rising_from, rising_in, rising_right}
+use Rattle.session_laws.proofs.Names.{earlier_name, get_some, name_of_some, open_within, same_name, there_within, request_not}
+use Rattle.session_laws.proofs.Numbers.{IsIn, Rising, in_either, in_left, in_right, rising_apart, rising_from, rising_in, rising_right, requests_in, request_in, request_of}
 use Rattle.session_laws.proofs.Owes.{later_unstarted, none_open, open_request, request_story, row_in_line}
 use Rattle.session_laws.proofs.Permits.{IsHolding, permits_same}
 use Rattle.session_laws.proofs.States.{IsFit}
@@ -154,6 +155,8 @@ wait_tied b t p kind moved fresh within h waits =
       pushes = h.pushes;
       life = h.life;
       creds = h.creds;
+      count = h.count;
+      renewal = h.renewal;
       setup = h.setup;
       link = h.link;
       names = h.names;
@@ -182,7 +185,8 @@ pub record IsQuiet (t : Inner) : Type 0 where
   pub none : ((link : LinkState) → t.life ≡ Ready link → ⊥) → t.admitted ≡ []
   pub setup_held : (link : LinkState) (with_user : Bool) → t.life ≡ SettingUp link with_user → (link.queue ≡ []) ⊎ (holds_back link ≡ true)
   pub held : (link : LinkState) → t.life ≡ Ready link → (link.queue ≡ []) ⊎ (holds_back link ≡ true)
-  pub full : (link : LinkState) → t.life ≡ Ready link → (t.admitted ≡ []) ⊎ (is_full link ≡ true)
+  pub full : (link : LinkState) → t.life ≡ Ready link → (t.admitted ≡ []) ⊎ (is_full_beside link (in_front t.renewal) ≡ true)
+  pub seats : HasSeats t.moved (in_front t.renewal) (link_in t.life) t.size
   pub waiting : (link : LinkState) → t.life ≡ Ready link → (t.waiting ≡ []) ⊎ (has_no_permit t.limit t.free ≡ true)
   pub gone : has_ended t.life ≡ true → t.waiting ≡ []
 
@@ -195,7 +199,7 @@ IsPlacedOrKept t p = IsIn p (awaited_ids (link_in t.life).queue) ⊎ IsKept t.re
 -- or in the row
 pub located : (b : Book) (t : Inner) (p : ℕ) → Tied b t → t.pending ≡ [] → is_open_at t.requests p ≡ true → IsIn p (wanted (link_in t.life).row) ⊎ IsPlacedOrKept t p
 located b t p h none o = elim (h.lines.there p o) [
-  | inl i ↦ elim (in_either p (wanted (link_in t.life).row) (awaited_ids (link_in t.life).queue) (subst (λ ns. IsIn p (ns ++ (wanted (link_in t.life).row ++ awaited_ids (link_in t.life).queue))) none i)) [ inl j ↦ inl j | inr j ↦ inr (inl j) ]
+  | inl i ↦ elim (in_either p (requests_in (wanted (link_in t.life).row)) (awaited_ids (link_in t.life).queue) (subst (λ ns. IsIn p (ns ++ (requests_in (wanted (link_in t.life).row) ++ awaited_ids (link_in t.life).queue))) none i)) [ inl j ↦ inl (request_of p (wanted (link_in t.life).row) j) | inr j ↦ inr (inl j) ]
   | inr k ↦ inr (inr k)
 ]
 
@@ -211,8 +215,10 @@ there_untried b t p h within at =
     ap (λ x. (b.story x).tries) (name_of_some t.requests p g.0 g.1) ∙ h.tries.untried p g.0 g.1 (later_unstarted b t p h (placed_or_kept_in t p at))
 
 -- who is in the row stands before all others
-row_before : (b : Book) (t : Inner) (p q : ℕ) → Tied b t → has_ended t.life ≡ false → IsIn p (wanted (link_in t.life).row) → IsIn q (queue_ids (link_in t.life).queue ++ kept_ids t.admitted t.waiting) → p < q
-row_before b t p q h up i j = rising_apart 0 (row_ids (link_in t.life).row) (queue_ids (link_in t.life).queue ++ kept_ids t.admitted t.waiting) (length t.requests) p q (row_in_line b t h up) (wanted_in p (link_in t.life).row i) j
+row_before : (b : Book) (t : Inner) (p q : ℕ) → Tied b t → has_ended t.life ≡ false → p < length t.requests → IsIn p (wanted (link_in t.life).row) → IsIn q (queue_ids (link_in t.life).queue ++ kept_ids t.admitted t.waiting) → p < q
+row_before b t p q h up within i j =
+    rising_apart 0 (requests_in (row_ids (link_in t.life).row)) (queue_ids (link_in t.life).queue ++ kept_ids t.admitted t.waiting) (length t.requests) p q (row_in_line b t h up)
+    (request_in p (row_ids (link_in t.life).row) (request_not b t p h within) (wanted_in p (link_in t.life).row i)) j
 
 -- an open one without a message is there
 untried_there : (b : Book) (t : Inner) (p : ℕ) → Tied b t → t.pending ≡ [] → has_ended t.life ≡ false → is_open_at t.requests p ≡ true → (b.story (name_at t.requests p)).tries ≡ [] → IsPlacedOrKept t p
@@ -225,16 +231,19 @@ untried_there b t p h none up o untried =
     let kept = kept_ids t.admitted t.waiting in
     let later : IsIn p (queue ++ kept) = subst (λ n. IsIn n (queue ++ kept)) same (elim l.later [ inl i ↦ in_left l.p queue kept i | inr w ↦ in_right l.p queue kept (kept_in t.requests t.waiting t.admitted l.p w) ]) in
     elim (located b t p h none o) [
-      | inl i ↦ absurd (let k = row_before b t p p h up i later in omega arith)
+      | inl i ↦ absurd (let k = row_before b t p p h up within i later in omega arith)
       | inr at ↦ at
     ]
 
 -- a message of the row that is wanted has its place
-wanted_placed : (requests : List Request) (row : List Entry) (p : ℕ) → AllByRecursion (IsEntry requests) row → IsIn p (wanted row) → is_placed_at requests p ≡ true
-wanted_placed requests [] p all i = absurd i
-wanted_placed requests (e ∷ es) p all i = elim (in_either p (if e.awaited then e.id ∷ [] else []) (wanted es) i) [
-  | inl j ↦ subst (λ n. is_placed_at requests n ≡ true) (chosen_in e.awaited p e.id j) (all.0.placed_at (own e.awaited j))
-  | inr j ↦ wanted_placed requests es p all.1 j
+wanted_placed : (requests : List Request) (row : List Entry) (p : ℕ) → p ≢ renewal_id → AllByRecursion (IsEntry requests) row → IsIn p (wanted row) → is_placed_at requests p ≡ true
+wanted_placed requests [] p other all i = absurd i
+wanted_placed requests (e ∷ es) p other all i = elim (in_either p (if e.awaited then e.id ∷ [] else []) (wanted es) i) [
+  | inl j ↦ elim all.0 [
+    | inl r ↦ subst (λ n. is_placed_at requests n ≡ true) (chosen_in e.awaited p e.id j) (r.placed_at (own e.awaited j))
+    | inr a ↦ absurd (other (sym (chosen_in e.awaited p e.id j) ∙ a.is))
+  ]
+  | inr j ↦ wanted_placed requests es p other all.1 j
 ]
   where
     own : (b : Bool) → IsIn p (if b then e.id ∷ [] else []) → b ≡ true
@@ -246,7 +255,7 @@ pub admitted_there : (b : Book) (t : Inner) (p : ℕ) → Tied b t → t.pending
 admitted_there b t p h none a =
     let unplaced = admitted_unplaced t.requests p a in
     elim (located b t p h none (admitted_open t.requests p a).0) [
-      | inl i ↦ absurd (not_both (is_placed_at t.requests p) unplaced (wanted_placed t.requests (link_in t.life).row p h.lines.entries i))
+      | inl i ↦ absurd (not_both (is_placed_at t.requests p) unplaced (wanted_placed t.requests (link_in t.life).row p (request_not b t p h (open_within t.requests p (admitted_open t.requests p a).0)) h.lines.entries i))
       | inr at ↦ elim at [
         | inl i ↦ absurd (not_both (is_placed_at t.requests p) unplaced (awaited_placed b.story t.requests (link_in t.life).queue p h.lines.queued i))
         | inr k ↦ elim k [
@@ -266,7 +275,7 @@ pub placed_there : (b : Book) (t : Inner) (p : ℕ) → Tied b t → t.pending �
 placed_there b t p h none up o placed from =
     let first = first_from (link_in t.life).queue p from in
     elim (located b t p h none o) [
-      | inl i ↦ absurd (let k = row_before b t p first.0 h up i (in_left first.0 (queue_ids (link_in t.life).queue) (kept_ids t.admitted t.waiting) first.1) in let l = first.2 in omega arith)
+      | inl i ↦ absurd (let k = row_before b t p first.0 h up (open_within t.requests p o) i (in_left first.0 (queue_ids (link_in t.life).queue) (kept_ids t.admitted t.waiting) first.1) in let l = first.2 in omega arith)
       | inr at ↦ elim at [
         | inl i ↦ i
         | inr k ↦ elim k [
@@ -280,7 +289,7 @@ placed_there b t p h none up o placed from =
 --
 -- on a link that is up
 pub quiet_running : (t : Inner) (link : LinkState) → IsQuiet t → t.life ≡ Ready link → IsRunning t
-quiet_running t link q e = running_of t link q.settled e (q.fit link e)
+quiet_running t link q e = running_of t link q.settled e (q.fit link e) (subst (λ (x : LinkState). HasSeats t.moved (in_front t.renewal) x t.size) (ap link_in e) q.seats)
 
 -- a message of the queue waits for room
 pub room_holds : (b : Book) (t : Inner) (p : ℕ) (link : LinkState) → Tied b t → IsQuiet t → t.life ≡ Ready link → IsIn p (queue_ids (link_in t.life).queue) → WaitHolds b (name_at t.requests p) wait.Room
@@ -294,7 +303,7 @@ room_holds b t p link h q e i =
 -- who waits for a place waits for it
 pub place_holds : (b : Book) (t : Inner) (p : ℕ) (link : LinkState) → Tied b t → IsQuiet t → t.life ≡ Ready link → is_admitted_at t.requests p ≡ true → IsIn p (waiting_ids t.admitted) → WaitHolds b (name_at t.requests p) wait.Place
 place_holds b t p link h q e a i =
-    let filled : is_full (link_in t.life) ≡ true = ap (λ (x : Life). is_full (link_in x)) e ∙ elim (q.full link e) as (λ _. is_full link ≡ true) [
+    let filled : is_full_beside (link_in t.life) (in_front t.renewal) ≡ true = ap (λ (x : Life). is_full_beside (link_in x) (in_front t.renewal)) e ∙ elim (q.full link e) as (λ _. is_full_beside link (in_front t.renewal) ≡ true) [
       | inl none ↦ absurd (subst (λ qs. IsIn p (waiting_ids qs)) none i)
       | inr on ↦ on
     ] in
@@ -400,7 +409,7 @@ pub waiting_there : (b : Book) (t : Inner) (p : ℕ) → Tied b t → t.pending 
 waiting_there b t p h none w =
     let apart = waiting_apart t.requests p w in
     elim (located b t p h none (waiting_open t.requests p w)) [
-      | inl i ↦ absurd (not_both (is_placed_at t.requests p) apart.1 (wanted_placed t.requests (link_in t.life).row p h.lines.entries i))
+      | inl i ↦ absurd (not_both (is_placed_at t.requests p) apart.1 (wanted_placed t.requests (link_in t.life).row p (request_not b t p h (open_within t.requests p (waiting_open t.requests p w))) h.lines.entries i))
       | inr at ↦ elim at as (λ _. IsIn p (waiting_ids t.waiting)) [
         | inl i ↦ absurd (not_both (is_placed_at t.requests p) apart.1 (awaited_placed b.story t.requests (link_in t.life).queue p h.lines.queued i))
         | inr k ↦ elim k as (λ _. IsIn p (waiting_ids t.waiting)) [
@@ -416,7 +425,7 @@ behind_places b t p m h none up i w less =
     let queue = queue_ids (link_in t.life).queue in
     let admitted = waiting_ids t.admitted in
     let last = waiting_ids t.waiting in
-    let line = rising_right 0 t.started (queue ++ (admitted ++ last)) (length t.requests) h.lines.line in
+    let line = rising_right 0 (requests_in t.started) (queue ++ (admitted ++ last)) (length t.requests) h.lines.line in
     let all = subst (λ ns. Rising 0 ns (length t.requests)) (sym (append_assoc queue admitted last)) line in
     let there = waiting_there b t m h none w in
     let k = rising_apart 0 (queue ++ admitted) last (length t.requests) p m all i there in
@@ -446,6 +455,7 @@ moved_waits b t p kind ps h is l so =
     let back : (q : ℕ) → IsIn q ps → IsIn q t.moved = λ q i. subst (IsIn q) (sym is) (inr i) in
     let still : (q : ℕ) → is_waiting_at requests q ≡ true → shown_wait after requests q ≡ shown_wait b.story requests q = λ q w.
     shown_then b t p q kind h l (there_within is_waiting requests q w) (λ e. so.moved (ap (is_waiting_at requests) e ∙ w)) in
+    let own_place : kind ≡ wait.Place → shown_wait after requests p ≡ Some wait.Room → ⊥ = λ is_place e. (let no : ◌≡◌ {A = Option WaitKind} (Some wait.Place) (Some wait.Room) = ap Some (sym is_place) ∙ sym (shown_own b.story requests p kind) ∙ e in cc) in
     record {
       early = λ q w. one_of (shown_wait after requests q) (shown_wait b.story requests q) (still q w) (h.waits.early q w);
       connect = λ q w d. elim (h.waits.connect q w d) [ inl i ↦ inl i | inr e ↦ inr (still q w ∙ e) ];
@@ -474,6 +484,9 @@ moved_waits b t p kind ps h is l so =
       no_creds = λ q link i w r e. h.waits.no_creds q link i w r (sym (still q w) ∙ e);
       no_setup = λ q link u i w r e. h.waits.no_setup q link u i w r (sym (still q w) ∙ e);
       no_permit = λ q link i w r e. h.waits.no_permit q link i w r (sym (still q w) ∙ e);
+      seatless = λ q a. by_test (p == q) _
+          (λ t1 e. own_place (so.place (ap (is_admitted_at requests) (eq_from p q t1) ∙ a)) (subst (λ m. shown_wait after requests m ≡ Some wait.Room) (sym (eq_from p q t1)) e))
+          (λ f e. h.waits.seatless q a (sym (shown_then b t p q kind h l (there_within is_admitted requests q a) (ne_from p q f)) ∙ e));
       no_place = λ q i a e. h.waits.no_place q (back q i) a (sym (shown_then b t p q kind h l (there_within is_admitted requests q a) (above q i)) ∙ e);
       no_room = λ q i r e. h.waits.no_room q (back q i) r (sym (shown_then b t p q kind h l (queue_within b t q h (in_queue q (link_in t.life).queue r)) (above q i)) ∙ e);
     }
@@ -503,6 +516,7 @@ passed_waits b t p ps h is gone none =
       no_creds = h.waits.no_creds;
       no_setup = h.waits.no_setup;
       no_permit = h.waits.no_permit;
+      seatless = h.waits.seatless;
       no_place = λ q i a. h.waits.no_place q (back q i) a;
       no_room = λ q i r. h.waits.no_room q (back q i) r;
     }
@@ -568,6 +582,7 @@ fresh_waits b t p kind ps h is w so =
       no_creds = λ q link i v r e. h.waits.no_creds q link (back q i) v r (sym (waits q v (rest_other p q ps (length requests) line i)) ∙ e);
       no_setup = λ q link u i v r e. h.waits.no_setup q link u (back q i) v r (sym (waits q v (rest_other p q ps (length requests) line i)) ∙ e);
       no_permit = λ q link i v r e. h.waits.no_permit q link (back q i) v r (sym (waits q v (rest_other p q ps (length requests) line i)) ∙ e);
+      seatless = λ q a e. h.waits.seatless q a (sym (admitted q a) ∙ e);
       no_place = λ q i a e. h.waits.no_place q i a (sym (admitted q a) ∙ e);
       no_room = λ q i r e. h.waits.no_room q i r (sym (queued q r) ∙ e);
     }
@@ -592,6 +607,7 @@ stale_waits b t p ps h is gone =
       no_creds = λ q link i w r. h.waits.no_creds q link (back q i) w r;
       no_setup = λ q link u i w r. h.waits.no_setup q link u (back q i) w r;
       no_permit = λ q link i w r. h.waits.no_permit q link (back q i) w r;
+      seatless = h.waits.seatless;
       no_place = h.waits.no_place;
       no_room = h.waits.no_room;
     }

@@ -6,11 +6,11 @@ use Rattle.driver_model.specs.declared.action.Action.{Action}
 use Rattle.driver_model.specs.declared.action.Action.TheVariants as action
 use Rattle.driver_model.specs.declared.action.Owner.{Owner}
 use Rattle.driver_model.specs.declared.action.Owner.TheVariants as owner
-use Rattle.link_core.specs.Link.{LinkState, holds_back, is_full, offered_of}
+use Rattle.link_core.specs.Link.{LinkState, holds_back, is_full_beside, offered_of}
 use Rattle.link_core.specs.Outbox.{all_offered, can_offer}
 use Rattle.link_core.specs.declared.outbox.Outbox.{Outbox}
 use Rattle.link_laws.proofs.TiedLink.{TiedLink, is_offered, offer_stands, offered_tied}
-use Rattle.mux_conn.specs.Connection.{Work, acted, with_link, with_setup}
+use Rattle.mux_conn.specs.Connection.{Work, acted, with_link, with_setup, in_front}
 use Rattle.mux_conn.specs.Turn.{written, written_at}
 use Rattle.mux_conn.specs.declared.act.LinkAct.TheVariants as act
 use Rattle.mux_conn.specs.declared.life.Life.{Life}
@@ -25,11 +25,13 @@ use Rattle.session_laws.proofs.Moved.{HasMoved}
 use Rattle.session_laws.proofs.Heard.{setting_waits}
 use Rattle.session_laws.proofs.Said.{setup_link, setup_on}
 use Rattle.session_laws.proofs.SetsUp.{setting_on}
+use Rattle.session_laws.proofs.Ahead.{HasSeats}
+use Rattle.session_laws.proofs.Renewals.{renewal_alike}
 use Rattle.session_laws.proofs.Settle.{book_of_more, holds_more, seen, trace_of_acts}
 use Rattle.session_laws.proofs.Start.{on_link}
 use Rattle.session_laws.proofs.Took.{queue_waits}
 use Rattle.session_laws.proofs.States.{IsFit}
-use Rattle.session_laws.proofs.Tied.{HasSaid, Inner, IsUnknown, Tied, TiedLife, carried, has_ended, numbers_kept, owner_of, whole_link}
+use Rattle.session_laws.proofs.Tied.{HasSaid, Inner, IsUnknown, Tied, TiedLife, carried, has_ended, numbers_kept, owner_of, whole_link, link_in}
 
 -- an offer
 --
@@ -43,6 +45,8 @@ write_tied b t link h =
       pushes = h.pushes;
       life = h.life;
       creds = record { wanted_is = h.creds.wanted_is; sought = h.creds.sought };
+      count = h.count;
+      renewal = renewal_alike l (noted l line) t.renewal (Ready link) refl refl refl h.renewal;
       setup = record { info_is = h.setup.info_is; sent = h.setup.sent; said = record { well = h.setup.said.well; none = h.setup.said.none } };
       link = λ e. offered_tied (owner_of t.requests) l link (h.link refl);
       names = h.names;
@@ -66,6 +70,8 @@ write_set_tied b t link with_user h =
       pushes = h.pushes;
       life = h.life;
       creds = record { wanted_is = h.creds.wanted_is; sought = h.creds.sought };
+      count = h.count;
+      renewal = renewal_alike l (noted l line) t.renewal (SettingUp link with_user) refl refl refl h.renewal;
       setup = setup_link (noted l line) t.info t.started link (offered_of link) with_user refl refl
           (setup_on l l.asked l.up l.end l.taken link.outbox.unwritten l.rest l.heard t.info t.started (SettingUp link with_user) h.setup);
       link = λ e. offered_tied (λ (p : ℕ). owner.Setup) l link (h.link refl);
@@ -112,7 +118,7 @@ pub record HasWritten (before : List Action) (f : Core) (w : Work) : Type 0 wher
 
 -- all requests of a session are moved
 pub moved_book : (before : List Action) (f : Core) (w : Work) → HasMoved before f w → IsMoved (book (trace_of_acts before f w.acts))
-moved_book before f w h = is_moved (book (trace_of_acts before f w.acts)) (seen f w.acts w.conn [] h.started) h.holds.tied refl (refl, refl) refl h.ended h.fit.link h.fit.none h.still.held h.still.full h.still.waiting h.still.none_waits h.fit.setup h.still.setup
+moved_book before f w h = is_moved (book (trace_of_acts before f w.acts)) (seen f w.acts w.conn [] h.started) h.holds.tied refl (refl, refl) refl h.ended h.fit.link h.fit.none h.still.held h.still.full h.still.waiting h.still.none_waits h.fit.setup h.still.setup h.seats h.still.renewed
 
 -- the link of a life
 same_link : (link other : LinkState) → Ready link ≡ Ready other → link ≡ other
@@ -141,10 +147,12 @@ write_shown before f w link life can h =
         still = record {
           setup = λ other u e. cc;
           held = λ other e. subst (λ (x : LinkState). (x.queue ≡ []) ⊎ (holds_back x ≡ true)) (same_link after other e) (h.still.held link life);
-          full = λ other e. subst (λ (x : LinkState). (w.conn.admitted ≡ []) ⊎ (is_full x ≡ true)) (same_link after other e) (h.still.full link life);
+          full = λ other e. subst (λ (x : LinkState). (w.conn.admitted ≡ []) ⊎ (is_full_beside x (in_front w.conn.renewal) ≡ true)) (same_link after other e) (h.still.full link life);
+          renewed = λ other e due. let k = h.still.renewed link life due in (k.0, subst (λ (x : LinkState). holds_back x ≡ true) (same_link after other e) k.1);
           waiting = λ other e. h.still.waiting link life;
           none_waits = λ e. cc;
         };
+        seats = subst (λ (x : Life). HasSeats w.conn.moved (in_front w.conn.renewal) (link_in x) w.conn.size) life h.seats;
       };
       offered = all_offered_can link.outbox;
     }
@@ -178,9 +186,11 @@ write_set_shown before f w link with_user life can h =
           setup = λ other u e. subst (λ (x : LinkState). (x.queue ≡ []) ⊎ (holds_back x ≡ true)) (same_set after other with_user u e) (h.still.setup link with_user life);
           held = λ other e. cc;
           full = λ other e. cc;
+          renewed = λ other e. cc;
           waiting = λ other e. cc;
           none_waits = λ e. cc;
         };
+        seats = λ p i k. absurd k;
       };
       offered = all_offered_can link.outbox;
     }

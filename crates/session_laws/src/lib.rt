@@ -4,14 +4,14 @@
 ghost use Rattle.session_laws.specs.Laws.{ReplaysAreLegal, BadByTheBook, OutcomesByTheBook};
 ghost use Rattle.session_laws.specs.Laws.{SpentHasRunOut, RunOutIsSpent};
 
-/// Does nothing. Its contract: the trace of each history without a bad event is legal, where nothing
-/// of the configuration is refused.
+/// Does nothing. Its contract: the trace of each history without a bad event, in which no step is
+/// spent, is legal, where nothing of the configuration is refused.
 pub fn every_replay_is_legal()
     ensures { ReplaysAreLegal }
 {}
 
-/// Does nothing. Its contract: behind a history without a bad event, the bad events are those that
-/// the book of its trace says are.
+/// Does nothing. Its contract: behind a history without a bad event, in which no step is spent, the
+/// bad events are those that the book of its trace says are.
 pub fn bad_events_are_those_of_the_book()
     ensures { BadByTheBook }
 {}
@@ -22,8 +22,8 @@ pub fn outcomes_are_those_of_the_trace()
     ensures { OutcomesByTheBook }
 {}
 
-/// Does nothing. Its contract: behind a history without a bad event, the step of a good event is
-/// spent exactly where numbers of a sort have run out by the end of its turn.
+/// Does nothing. Its contract: behind a history without a bad event, in which no step is spent, the
+/// step of a good event is spent exactly where numbers of a sort have run out by the end of its turn.
 pub fn a_spent_step_gives_out_the_last_number()
     ensures given { SpentHasRunOut }
     ensures spent { RunOutIsSpent }

@@ -1,0 +1,445 @@
+-- For how many new credentials a connection was asked: its effects leave it, and where a turn's moves ask for more, these are told,
+-- or wait on a link that is ready.
+use Rattle.std.proofs.Common.{◌≡◌, ◌⊎◌, inl, inr, ℕ, ◌+◌, ◌==◌, nat_le, Bool, true, false, ◌&&◌, List, [], ◌∷◌, length, Option, Some, None, slice_get, if◌then◌else◌, refl, ap, ◌∙◌}
+use Rattle.containers.proofs.Choices.{chosen, not_both, both_left, both_right}
+use Rattle.credentials.specs.Credentials.{Credentials}
+use Rattle.redis_error.specs.declared.redis_error.RedisError.{RedisError}
+use Rattle.redis_error.specs.declared.redis_error.RedisError.TheVariants as error
+use Rattle.redis_error.specs.declared.fault_kind.FaultKind.{FaultKind}
+use Rattle.connection_setup.specs.declared.judgement.SetupResult.{SetupResult}
+use Rattle.connection_setup.specs.declared.judgement.SetupResult.TheVariants as result
+use Rattle.driver_model.specs.Setup.{says_nothing}
+use Rattle.driver_model.specs.Shape.{outcome_of}
+use Rattle.driver_model.specs.Request.{packed_bytes, lacks_resp3}
+use Rattle.driver_model.specs.declared.action.Owner.TheVariants as owner
+use Rattle.driver_model.specs.declared.action.Purpose.{Purpose}
+use Rattle.driver_model.specs.declared.action.Purpose.TheVariants as purpose
+use Rattle.driver_model.specs.declared.action.WaitKind.{WaitKind}
+use Rattle.driver_model.specs.declared.event.EventKind.{EventKind}
+use Rattle.driver_model.specs.declared.event.EventKind.TheVariants as event
+use Rattle.driver_model.specs.declared.event.Submission.{Submission}
+use Rattle.driver_model.specs.declared.news.LinkFault.{LinkFault}
+use Rattle.driver_model.specs.declared.news.LinkFault.TheVariants as fault
+use Rattle.driver_model.specs.declared.outcome.Outcome.{Outcome}
+use Rattle.driver_model.specs.declared.outcome.Outcome.TheVariants as outcome
+use Rattle.driver_model.specs.News.{News, silence, connected, refused, overdue, took, came, failed, authorized, denied, deserted, renewed, unrenewed, late, shut, news_of}
+use Rattle.link_core.specs.declared.message.PushAt.{PushAt}
+use Rattle.link_core.specs.declared.message.Settled.{Settled}
+use Rattle.link_core.specs.declared.message.Started.{Started}
+use Rattle.link_core.specs.Link.{LinkState, closed_all, faulted, holds_back, started_all, piece_dealt, offered_of}
+use Rattle.link_core.specs.Outbox.{can_offer}
+use Rattle.mux_conn.specs.declared.act.LinkAct.TheVariants as act
+use Rattle.mux_conn.specs.declared.connection.MultiplexedConnection.{MultiplexedConnection}
+use Rattle.mux_conn.specs.declared.life.Life.{Life}
+use Rattle.mux_conn.specs.declared.life.Life.TheVariants.{Dialing, Wanting, SettingUp, Ready, Ended}
+use Rattle.mux_conn.specs.declared.request.Pending.{Pending}
+use Rattle.mux_conn.specs.declared.request.Waiting.{Waiting}
+use Rattle.mux_conn.specs.Connection.{Work, acted, admits_none, at_life, has_room, is_due, is_ready, with_link, with_setup, with_wanting}
+use Rattle.mux_conn.specs.Requests.{answered, is_admitted_at, is_open_at, is_waiting_at, name_at}
+use Rattle.mux_conn.specs.Renewals.{is_done, renewal_asked, renewal_id, renewal_moved, renewing, replied, takes_more, is_unanswered, asked_next, renewal_timed}
+use Rattle.mux_conn.specs.Renewals.{renewed as auth_told}
+use Rattle.mux_conn.specs.Effects.{all_answered, all_fresh, answered_setup, applied, authorized_at, behind_first, broken_at, cancelled_in, come_up, comes_to_want, connected_at, cut_short, failed_at, failed_each, heard_in, heard_on, judged_by, made_ready, new_link, nobody_waits, opening_failed, overdue_at, parted, pushed, pushed_each, read_at, refused_at, set_up_by, sets_up, settled_each, settled_one, shut_at, steps_of, taken_at, timed_out, told_each, unauthorized_at, waiting_failed, with_credentials}
+use Rattle.mux_conn.specs.Passes.{admitted, admitted_at, admitted_each, let_in, moved_up, moved_up_all, moved_up_each, passed, permits_taken, placed_at, put_behind, seated, set_up_each, shown_each, started, started_at, still_admitted, still_waiting, timer_asked, told_at_place, took_shown}
+use Rattle.mux_conn.specs.Passes.{took as took_permits}
+use Rattle.mux_conn.specs.Turn.{flushed, fresh_each_shown, fresh_wait, moved_each_shown, moved_shown, moved_wait, wait_shown, written, written_at}
+use Rattle.shared_session.specs.declared.core_state.Core.{Core}
+use Rattle.shared_session.specs.Turn.{Turning, asked_for, counted, effect, fired_by, heard, late_by, left_by, moved_on, refused_with, requested, submitted, work_of}
+use Rattle.session_laws.proofs.ComeUp.{made_conn}
+
+-- so many were asked for
+abbrev HasAsked : ℕ → Work → Type 0
+HasAsked n w = w.conn.renewal.asked ≡ n
+
+-- the effects of news
+--
+-- an answer to a request
+answered_asked : (n : ℕ) (w : Work) (p : ℕ) (o : Outcome) → HasAsked n w → HasAsked n (answered w p o)
+answered_asked n w p o h = chosen (HasAsked n) (is_open_at w.conn.requests p) _ w (λ t. h) (λ f. h)
+
+-- one message that was settled
+one_asked : (n : ℕ) (w : Work) (s : Settled) → HasAsked n w → HasAsked n (settled_one w s)
+one_asked n w s h = chosen (HasAsked n) (s.id == renewal_id) (renewing w (replied w.conn.renewal (is_done s.verdict))) (answered w s.id (outcome_of s.verdict)) (λ t. h) (λ f. answered_asked n w s.id (outcome_of s.verdict) h)
+
+-- each that was
+settled_asked : (n : ℕ) (w : Work) (ss : List Settled) → HasAsked n w → HasAsked n (settled_each w ss)
+settled_asked n w [] h = h
+settled_asked n w (s ∷ ss) h = settled_asked n (settled_one w s) ss (one_asked n w s h)
+
+-- errors for requests
+failed_asked : (n : ℕ) (w : Work) (e : RedisError) (qs : List Waiting) → HasAsked n w → HasAsked n (failed_each w e qs)
+failed_asked n w e [] h = h
+failed_asked n w e (q ∷ qs) h = failed_asked n (answered w q.number (outcome.Fault e)) e qs (answered_asked n w q.number (outcome.Fault e) h)
+
+-- for all that wait
+waiting_asked : (n : ℕ) (w : Work) (e : RedisError) → HasAsked n w → HasAsked n (waiting_failed w e)
+waiting_asked n w e h = failed_asked n (failed_each (nobody_waits w) e w.conn.admitted) e w.conn.waiting (failed_asked n (nobody_waits w) e w.conn.admitted h)
+
+-- pushes that are told
+pushed_asked : (n : ℕ) (w : Work) (ps : List PushAt) → HasAsked n w → HasAsked n (pushed_each w ps)
+pushed_asked n w [] h = h
+pushed_asked n w (p ∷ ps) h = pushed_asked n (pushed w p.info) ps h
+
+-- settled messages, and pushes between them
+told_asked : (n : ℕ) (w : Work) (k : ℕ) (ps : List PushAt) (ss : List Settled) → HasAsked n w → HasAsked n (told_each w k ps ss)
+told_asked n w k ps [] h = pushed_asked n w ps h
+told_asked n w k [] (s ∷ ss) h = settled_asked n w (s ∷ ss) h
+told_asked n w k (p ∷ ps) (s ∷ ss) h =
+    chosen (HasAsked n) (nat_le p.settled k) (told_each (pushed w p.info) k ps (s ∷ ss)) (told_each (settled_one w s) (k + 1) (p ∷ ps) ss) (λ t. told_asked n (pushed w p.info) k ps (s ∷ ss) h) (λ f. told_asked n (settled_one w s) (k + 1) (p ∷ ps) ss (one_asked n w s h))
+
+-- the answers of an end
+all_asked : (n : ℕ) (w : Work) (out : List Settled) → HasAsked n w → HasAsked n (all_answered w out)
+all_asked n w out h = waiting_asked n (settled_each w out) error.Closed (settled_asked n w out h)
+
+-- that it is told
+parted_asked : (n : ℕ) (w : Work) → HasAsked n w → HasAsked n (parted w)
+parted_asked n w h = chosen (HasAsked n) w.conn.hears _ w (λ t. h) (λ f. h)
+
+-- an opening that fails
+opening_asked : (n : ℕ) (w : Work) (e : RedisError) → HasAsked n w → HasAsked n (opening_failed w e)
+opening_asked n w e h = waiting_asked n (acted (at_life w (Ended e)) (act.Created (Some e))) e h
+
+-- a link that becomes ready
+made_asked : (n : ℕ) (w : Work) (link : LinkState) → HasAsked n w → HasAsked n (made_ready w link)
+made_asked n w link h = ap (λ (c : MultiplexedConnection). c.renewal.asked) (made_conn w link) ∙ h
+
+-- or comes up
+come_asked : (n : ℕ) (w : Work) (link : LinkState) → HasAsked n w → HasAsked n (come_up w link)
+come_asked n w link h = chosen (HasAsked n) (says_nothing (steps_of w.conn true)) (made_ready w link) (sets_up (all_fresh w) link true) (λ t. made_asked n w link h) (λ f. h)
+
+-- a connect that succeeds
+connected_asked : (n : ℕ) (w : Work) (life : Life) → HasAsked n w → HasAsked n (connected_at w life)
+connected_asked n w Dialing h = chosen (HasAsked n) w.conn.renewal.wanted (comes_to_want w (new_link w.conn)) (come_up w (new_link w.conn)) (λ t. h) (λ f. come_asked n w (new_link w.conn) h)
+connected_asked n w (Wanting link) h = h
+connected_asked n w (SettingUp link with_user) h = h
+connected_asked n w (Ready link) h = h
+connected_asked n w (Ended e) h = h
+
+-- the first credentials
+authorized_asked : (n : ℕ) (w : Work) (c : Credentials) (life : Life) → HasAsked n w → HasAsked n (authorized_at w c life)
+authorized_asked n w c (Wanting link) h = come_asked n (with_credentials w c) link h
+authorized_asked n w c Dialing h = h
+authorized_asked n w c (SettingUp link with_user) h = h
+authorized_asked n w c (Ready link) h = h
+authorized_asked n w c (Ended e) h = h
+
+-- that there are none
+unauthorized_asked : (n : ℕ) (w : Work) (e : RedisError) (life : Life) → HasAsked n w → HasAsked n (unauthorized_at w e life)
+unauthorized_asked n w e (Wanting link) h = opening_asked n (acted w act.Close) e h
+unauthorized_asked n w e Dialing h = h
+unauthorized_asked n w e (SettingUp link with_user) h = h
+unauthorized_asked n w e (Ready link) h = h
+unauthorized_asked n w e (Ended x) h = h
+
+-- a connect that fails
+refused_asked : (n : ℕ) (w : Work) (f : FaultKind) (life : Life) → HasAsked n w → HasAsked n (refused_at w f life)
+refused_asked n w f Dialing h = opening_asked n w (error.Io f) h
+refused_asked n w f (Wanting link) h = h
+refused_asked n w f (SettingUp link with_user) h = h
+refused_asked n w f (Ready link) h = h
+refused_asked n w f (Ended e) h = h
+
+-- the time of the opening that is over
+overdue_asked : (n : ℕ) (w : Work) (life : Life) → HasAsked n w → HasAsked n (overdue_at w life)
+overdue_asked n w Dialing h = opening_asked n (acted w act.Close) _ h
+overdue_asked n w (Wanting link) h = opening_asked n (acted w act.Close) _ h
+overdue_asked n w (SettingUp link with_user) h = opening_asked n (acted w act.Close) _ h
+overdue_asked n w (Ready link) h = h
+overdue_asked n w (Ended e) h = h
+
+-- bytes that were taken
+taken_asked : (n : ℕ) (w : Work) (count : ℕ) (life : Life) → HasAsked n w → HasAsked n (taken_at w count life)
+taken_asked n w count (Ready link) h = h
+taken_asked n w count Dialing h = h
+taken_asked n w count (Wanting link) h = h
+taken_asked n w count (SettingUp link with_user) h = h
+taken_asked n w count (Ended e) h = h
+
+-- a fault
+fault_asked : (n : ℕ) (w : Work) (f : LinkFault) (life : Life) → HasAsked n w → HasAsked n (failed_at w f life)
+fault_asked n w f (Ready link) h = all_asked n (parted (cut_short w)) (faulted (record { link = link; out = [] }) f).out (parted_asked n (cut_short w) h)
+fault_asked n w f Dialing h = h
+fault_asked n w f (Wanting link) h = opening_asked n (acted w act.Close) error.Closed h
+fault_asked n w f (SettingUp link with_user) h = opening_asked n (acted w act.Close) error.Closed h
+fault_asked n w f (Ended e) h = h
+
+-- bytes that begin no value
+broken_asked : (n : ℕ) (broken : Bool) (w : Work) → HasAsked n w → HasAsked n (broken_at broken w)
+broken_asked n broken w h = chosen (HasAsked n) broken (failed_at w fault.Parse w.conn.life) w (λ t. fault_asked n w fault.Parse w.conn.life h) (λ f. h)
+
+-- what the replies to the setup come to
+judged_asked : (n : ℕ) (w : Work) (link : LinkState) (r : SetupResult) → HasAsked n w → HasAsked n (set_up_by w link r)
+judged_asked n w link result.Ready h = made_asked n w link h
+judged_asked n w link result.RepeatWithoutUser h = h
+judged_asked n w link (result.Failed e) h = opening_asked n (acted w act.Close) e h
+judged_asked n w link result.NoMemory h = h
+
+-- the pushes behind it
+heard_asked : (n : ℕ) (w : Work) (ps : List PushAt) → HasAsked n w → HasAsked n (heard_on w ps)
+heard_asked n w ps h = chosen (HasAsked n) (is_ready w.conn.life) (pushed_each w ps) w (λ t. pushed_asked n w ps h) (λ f. h)
+
+-- the reply to the setup
+setup_asked : (n : ℕ) (w : Work) (link : LinkState) (with_user : Bool) (ps : List PushAt) (ss : List Settled) → HasAsked n w → HasAsked n (answered_setup w link with_user ps ss)
+setup_asked n w link with_user ps [] h = h
+setup_asked n w link with_user ps (s ∷ ss) h =
+    let r = judged_by (steps_of w.conn with_user) s.verdict in
+    heard_asked n (set_up_by w link r) (behind_first ps) (judged_asked n w link r h)
+
+-- bytes that come
+read_asked : (n : ℕ) (w : Work) (piece : List ℕ) (life : Life) → HasAsked n w → HasAsked n (read_at w piece life)
+read_asked n w piece (Ready link) h =
+    let s = piece_dealt (record { link = link; out = [] }) piece in
+    broken_asked n s.link.broken (told_each (with_link w s.link) 0 (heard_in w link piece) s.out) (told_asked n (with_link w s.link) 0 (heard_in w link piece) s.out h)
+read_asked n w piece Dialing h = h
+read_asked n w piece (Wanting link) h =
+    let s = piece_dealt (record { link = link; out = [] }) piece in
+    broken_asked n s.link.broken (with_wanting w s.link) h
+read_asked n w piece (SettingUp link with_user) h =
+    let s = piece_dealt (record { link = link; out = [] }) piece in
+    broken_asked n s.link.broken (answered_setup w s.link with_user (heard_in w link piece) s.out) (setup_asked n w s.link with_user (heard_in w link piece) s.out h)
+read_asked n w piece (Ended e) h = h
+
+-- the shutdown
+shut_asked : (n : ℕ) (w : Work) (life : Life) → HasAsked n w → HasAsked n (shut_at w life)
+shut_asked n w (Ready link) h = all_asked n (cut_short w) (closed_all (record { link = link; out = [] })).out h
+shut_asked n w Dialing h = all_asked n (cut_short w) [] h
+shut_asked n w (Wanting link) h = all_asked n (cut_short w) [] h
+shut_asked n w (SettingUp link with_user) h = all_asked n (cut_short w) [] h
+shut_asked n w (Ended e) h = h
+
+-- any news
+applied_asked : (n : ℕ) (w : Work) (news : News) → HasAsked n w → HasAsked n (applied w news)
+applied_asked n w silence h = h
+applied_asked n w connected h = connected_asked n w w.conn.life h
+applied_asked n w (refused f) h = refused_asked n w f w.conn.life h
+applied_asked n w overdue h = overdue_asked n w w.conn.life h
+applied_asked n w (took count) h = taken_asked n w count w.conn.life h
+applied_asked n w (came piece) h = read_asked n w piece w.conn.life h
+applied_asked n w (failed f) h = fault_asked n w f w.conn.life h
+applied_asked n w (authorized c) h = authorized_asked n w c w.conn.life h
+applied_asked n w (denied text) h = unauthorized_asked n w (error.Credentials text) w.conn.life h
+applied_asked n w deserted h = unauthorized_asked n w (error.AuthFailed []) w.conn.life h
+applied_asked n w (renewed c) h = chosen (λ (x : MultiplexedConnection). x.renewal.asked ≡ n) (is_ready w.conn.life && takes_more w.conn.renewal) _ w.conn (λ t. h) (λ f. h)
+applied_asked n w unrenewed h = h
+applied_asked n w (late k) h = chosen (λ (x : MultiplexedConnection). x.renewal.asked ≡ n) (is_unanswered w.conn.renewal k) _ w.conn (λ t. h) (λ f. h)
+applied_asked n w shut h = shut_asked n w w.conn.life h
+
+-- what the event is to submissions
+--
+-- the time of a request that is over
+timed_asked : (n : ℕ) (w : Work) (p : ℕ) → HasAsked n w → HasAsked n (timed_out w p)
+timed_asked n w p h = answered_asked n (if is_open_at w.conn.requests p then at_life w (cancelled_in w.conn.life p) else w) p _ (chosen (HasAsked n) (is_open_at w.conn.requests p) (at_life w (cancelled_in w.conn.life p)) w (λ t. h) (λ f. h))
+
+-- of a submission
+late_asked : (n : ℕ) (t : Turning) (x : Option (Option Pending)) → HasAsked n (work_of t) → HasAsked n (work_of (late_by t x))
+late_asked n t None h = h
+late_asked n t (Some None) h = h
+late_asked n t (Some (Some p)) h = timed_asked n (work_of t) p.number h
+
+-- a caller that goes
+left_asked : (n : ℕ) (t : Turning) (x : Option (Option Pending)) → HasAsked n (work_of t) → HasAsked n (work_of (left_by t x))
+left_asked n t None h = h
+left_asked n t (Some None) h = h
+left_asked n t (Some (Some p)) h = chosen (λ (x : MultiplexedConnection). x.renewal.asked ≡ n) (is_open_at t.core.single.connection.requests p.number) _ t.core.single.connection (λ e. h) (λ f. h)
+
+-- a timer that fires
+fired_asked : (n : ℕ) (t : Turning) (x : Option Purpose) → HasAsked n (work_of t) → HasAsked n (work_of (fired_by t x))
+fired_asked n t None h = h
+fired_asked n t (Some (purpose.Connect l)) h = h
+fired_asked n t (Some (purpose.Response owner.Setup)) h = h
+fired_asked n t (Some (purpose.Response owner.Auth)) h = h
+fired_asked n t (Some (purpose.Renewal l k)) h = h
+fired_asked n t (Some (purpose.Response (owner.Try m round))) h = late_asked n t (slice_get t.core.table m) h
+
+-- a submission
+submitted_asked : (n : ℕ) (t : Turning) (what : Submission) → HasAsked n (work_of t) → HasAsked n (work_of (submitted t what))
+submitted_asked n t what h =
+    let lacks = lacks_resp3 t.core.single.connection.info.protocol what in
+    let packed = if length (packed_bytes what) == 0 then refused_with t error.EmptyCommand else asked_for t what in
+    chosen (λ (x : Turning). HasAsked n (work_of x)) t.core.shut (refused_with t error.Closed) (if lacks then refused_with t error.Resp3Required else packed) (λ s. h)
+    (λ f. chosen (λ (x : Turning). HasAsked n (work_of x)) lacks (refused_with t error.Resp3Required) packed (λ s. h)
+    (λ d. chosen (λ (x : Turning). HasAsked n (work_of x)) (length (packed_bytes what) == 0) (refused_with t error.EmptyCommand) (asked_for t what) (λ s. h) (λ g. h)))
+
+-- any event
+requested_asked : (n : ℕ) (t : Turning) (kind : EventKind) → HasAsked n (work_of t) → HasAsked n (work_of (requested t kind))
+requested_asked n t (event.Submit what) h = submitted_asked n t what h
+requested_asked n t (event.Cancel m) h = left_asked n t (slice_get t.core.table m) h
+requested_asked n t (event.Connected l) h = h
+requested_asked n t (event.Refused l f) h = h
+requested_asked n t (event.Fired m) h = fired_asked n t (slice_get t.core.timers m) h
+requested_asked n t (event.Timeout ms) h = h
+requested_asked n t (event.Creds c auth) h = h
+requested_asked n t (event.CredsError c text) h = h
+requested_asked n t (event.CredsEnd c) h = h
+requested_asked n t (event.Wrote l count) h = h
+requested_asked n t (event.Bytes l piece) h = h
+requested_asked n t (event.Ended l) h = h
+requested_asked n t (event.ReadFault l kind) h = h
+requested_asked n t (event.WriteFault l kind) h = h
+requested_asked n t event.Shutdown h = h
+
+-- an event's effect asks for none
+effect_asked : (c : Core) (kind : EventKind) → (effect (counted c) kind).core.single.connection.renewal.asked ≡ c.single.connection.renewal.asked
+effect_asked c kind =
+    let n = c.single.connection.renewal.asked in
+    requested_asked n (heard (counted c) kind) kind (applied_asked n (work_of (counted c)) (news_of c.timers c.sources c.single.link kind) refl)
+
+-- the moves of a turn
+--
+-- so many were asked for, or the last that were wait on a link that is ready, or are told
+abbrev pub HasGrown : ℕ → MultiplexedConnection → Type 0
+HasGrown n c = (c.renewal.asked ≡ n) ⊎ ((is_ready c.life ≡ true) × ((c.renewal.pending ≡ false) ⊎ (is_due c.renewal ≡ true)))
+
+-- a link that is ready then, too
+ready_grown : (n : ℕ) (c : MultiplexedConnection) (link : LinkState) → HasGrown n c → HasGrown n (record c { life = Ready link })
+ready_grown n c link (inl same) = inl same
+ready_grown n c link (inr more) = inr (refl, more.1)
+
+-- starts that are shown
+shown_grown : (n : ℕ) (w : Work) (ss : List Started) → HasGrown n w.conn → HasGrown n (shown_each w ss).conn
+shown_grown n w [] h = h
+shown_grown n w (s ∷ ss) h = shown_grown n (acted w (act.Start s.msg (name_at w.conn.requests s.id) s.need s.len)) ss h
+
+-- also of a setup
+setups_grown : (n : ℕ) (w : Work) (ss : List Started) → HasGrown n w.conn → HasGrown n (set_up_each w ss).conn
+setups_grown n w [] h = h
+setups_grown n w (s ∷ ss) h = setups_grown n (acted w (act.SetUp s.msg s.need s.len)) ss h
+
+-- one that isn't has asked for no more
+unready_grown : (n : ℕ) (c : MultiplexedConnection) → is_ready c.life ≡ false → HasGrown n c → c.renewal.asked ≡ n
+unready_grown n c unready (inl same) = same
+unready_grown n c unready (inr more) = absurd (not_both (is_ready c.life) unready more.0)
+
+-- messages that start
+started_grown : (n : ℕ) (w : Work) → HasGrown n w.conn → HasGrown n (started w).conn
+started_grown n w h = by_life w.conn.life refl
+  where
+    by_life : (life : Life) → w.conn.life ≡ life → HasGrown n (started_at w life).conn
+    by_life Dialing e = h
+    by_life (Wanting link) e = h
+    by_life (Ended x) e = h
+    by_life (Ready link) e = let s = started_all (record { link = link; out = [] }) in shown_grown n (with_link w s.link) s.out (ready_grown n w.conn s.link h)
+    by_life (SettingUp link with_user) e = let s = started_all (record { link = link; out = [] }) in setups_grown n (with_setup w s.link with_user) s.out (inl (unready_grown n w.conn (ap is_ready e) h))
+
+-- an answer
+answered_grown : (n : ℕ) (w : Work) (p : ℕ) (o : Outcome) → HasGrown n w.conn → HasGrown n (answered w p o).conn
+answered_grown n w p o h = chosen (λ (x : Work). HasGrown n x.conn) (is_open_at w.conn.requests p) _ w (λ t. h) (λ f. h)
+
+-- a place that is taken
+placed_grown : (n : ℕ) (w : Work) (q : Waiting) (life : Life) → HasGrown n w.conn → HasGrown n (placed_at w q life).conn
+placed_grown n w q (Ready link) (inl same) = inl same
+placed_grown n w q (Ready link) (inr more) = inr (refl, more.1)
+placed_grown n w q Dialing h = h
+placed_grown n w q (Wanting link) h = h
+placed_grown n w q (SettingUp link with_user) h = h
+placed_grown n w q (Ended e) h = h
+
+-- with what starts then
+seated_grown : (n : ℕ) (w : Work) (q : Waiting) → HasGrown n w.conn → HasGrown n (seated w q).conn
+seated_grown n w q h =
+    let v = placed_at w q w.conn.life in
+    started_grown n (told_at_place v q) (chosen (λ (x : Work). HasGrown n x.conn) q.awaited v (answered v q.number _) (λ t. placed_grown n w q w.conn.life h) (λ f. answered_grown n v q.number _ (placed_grown n w q w.conn.life h)))
+
+-- those that wait for a place
+moved_grown : (n : ℕ) (w : Work) (qs : List Waiting) → HasGrown n w.conn → HasGrown n (moved_up_each w qs).conn
+moved_grown n w [] h = h
+moved_grown n w (q ∷ qs) h = chosen (λ (x : Work). HasGrown n x.conn) (has_room w.conn) (moved_up_each (moved_up w q) qs) (still_admitted w (q ∷ qs))
+    (λ t. moved_grown n (moved_up w q) qs (chosen (λ (x : Work). HasGrown n x.conn) (is_admitted_at w.conn.requests q.number) (seated w q) w (λ a. seated_grown n w q h) (λ f. h)))
+    (λ f. h)
+
+-- permits that are taken
+took_grown : (n : ℕ) (w : Work) (p count : ℕ) (limit : Option ℕ) → HasGrown n w.conn → HasGrown n (took_shown w p count limit).conn
+took_grown n w p count None h = h
+took_grown n w p count (Some k) h = h
+
+-- a timer that is asked for
+timer_grown : (n : ℕ) (w : Work) (p : ℕ) (time : Option ℕ) → HasGrown n w.conn → HasGrown n (timer_asked w p time).conn
+timer_grown n w p None h = h
+timer_grown n w p (Some ms) h = h
+
+-- a request that is let in
+let_in_grown : (n : ℕ) (w : Work) (q : Waiting) → HasGrown n w.conn → HasGrown n (let_in w q).conn
+let_in_grown n w q h =
+    let count = permits_taken w.conn.limit w.conn.free q.shape in
+    timer_grown n (took_permits w q.number count) q.number q.timeout (took_grown n _ q.number count w.conn.limit h)
+
+-- as far as it goes
+admitted_grown : (n : ℕ) (w : Work) (q : Waiting) (life : Life) → HasGrown n w.conn → HasGrown n (admitted_at w q life).conn
+admitted_grown n w q (Ready link) h = chosen (λ (x : Work). HasGrown n x.conn) (has_room (let_in w q).conn) (seated (let_in w q) q) (put_behind (let_in w q) q) (λ t. seated_grown n (let_in w q) q (let_in_grown n w q h)) (λ f. let_in_grown n w q h)
+admitted_grown n w q (Ended e) h = answered_grown n w q.number (outcome.Fault e) h
+admitted_grown n w q Dialing h = h
+admitted_grown n w q (Wanting link) h = h
+admitted_grown n w q (SettingUp link with_user) h = h
+
+-- all that wait for the connection
+each_grown : (n : ℕ) (w : Work) (qs : List Waiting) → HasGrown n w.conn → HasGrown n (admitted_each w qs).conn
+each_grown n w [] h = h
+each_grown n w (q ∷ qs) h = chosen (λ (x : Work). HasGrown n x.conn) (admits_none w.conn) (still_waiting w (q ∷ qs)) (admitted_each (admitted w q) qs)
+    (λ t. h)
+    (λ f. each_grown n (admitted w q) qs (chosen (λ (x : Work). HasGrown n x.conn) (is_waiting_at w.conn.requests q.number) (admitted_at w q w.conn.life) w (λ a. admitted_grown n w q w.conn.life h) (λ g. h)))
+
+-- new credentials are asked for, and told
+told_grown : (n : ℕ) (w : Work) (life : Life) (cs : List Credentials) → HasGrown n w.conn → HasGrown n (renewal_moved w life cs).conn
+told_grown n w (Ready link) (c ∷ cs) h = chosen (λ (x : Work). HasGrown n x.conn) (holds_back link) w _ (λ t. h) (λ f. inr (refl, inl refl))
+told_grown n w (Ready link) [] h = h
+told_grown n w Dialing cs h = h
+told_grown n w (Wanting link) cs h = h
+told_grown n w (SettingUp link with_user) cs h = h
+told_grown n w (Ended e) cs h = h
+
+-- where they are to be
+renewal_grown : (n : ℕ) (w : Work) → HasAsked n w → HasGrown n (auth_told w).conn
+renewal_grown n w h = chosen (λ (x : Work). HasGrown n x.conn) (is_ready w.conn.life && is_due w.conn.renewal) (renewal_moved (renewal_asked w) w.conn.life w.conn.renewal.waiting) w
+    (λ t. told_grown n (renewal_asked w) w.conn.life w.conn.renewal.waiting (asked_grown (both_left (is_ready w.conn.life) (is_due w.conn.renewal) t) (both_right (is_ready w.conn.life) (is_due w.conn.renewal) t)))
+    (λ f. inl h)
+  where
+    by_time : (o : Option ℕ) → is_ready w.conn.life ≡ true → is_due w.conn.renewal ≡ true → HasGrown n (renewal_timed (renewing w (asked_next w.conn.renewal)) w.conn.renewal.asked o).conn
+    by_time None ready due = inr (ready, inr due)
+    by_time (Some ms) ready due = inr (ready, inr due)
+
+    asked_grown : is_ready w.conn.life ≡ true → is_due w.conn.renewal ≡ true → HasGrown n (renewal_asked w).conn
+    asked_grown ready due =
+        let r = w.conn.renewal in
+        chosen (λ (x : Work). HasGrown n x.conn) r.pending w (renewal_timed (renewing w (asked_next r)) r.asked r.within) (λ t. inr (ready, inr due)) (λ f. by_time r.within ready due)
+
+-- bytes that are offered
+written_grown : (n : ℕ) (w : Work) (life : Life) → w.conn.life ≡ life → HasGrown n w.conn → HasGrown n (written_at w life).conn
+written_grown n w (Ready link) e h = chosen (λ (x : Work). HasGrown n x.conn) (can_offer link.outbox) _ w (λ t. ready_grown n w.conn (offered_of link) h) (λ f. h)
+written_grown n w Dialing e h = h
+written_grown n w (Wanting link) e h = h
+written_grown n w (SettingUp link with_user) e h = chosen (λ (x : Work). HasGrown n x.conn) (can_offer link.outbox) _ w (λ t. inl (unready_grown n w.conn (ap is_ready e) h)) (λ f. h)
+written_grown n w (Ended x) e h = h
+
+-- a wait that is shown
+wait_grown : (n : ℕ) (w : Work) (p : ℕ) (kind : Option WaitKind) → HasGrown n w.conn → HasGrown n (wait_shown w p kind).conn
+wait_grown n w p None h = h
+wait_grown n w p (Some kind) h = h
+
+-- the waits of those that were moved
+moves_shown_grown : (n : ℕ) (w : Work) (ps : List ℕ) → HasGrown n w.conn → HasGrown n (moved_each_shown w ps).conn
+moves_shown_grown n w [] h = h
+moves_shown_grown n w (p ∷ ps) h = moves_shown_grown n (wait_shown w p (moved_wait w.conn p)) ps (wait_grown n w p (moved_wait w.conn p) h)
+
+-- and of those that came
+fresh_shown_grown : (n : ℕ) (w : Work) (ps : List ℕ) → HasGrown n w.conn → HasGrown n (fresh_each_shown w ps).conn
+fresh_shown_grown n w [] h = h
+fresh_shown_grown n w (p ∷ ps) h = fresh_shown_grown n (wait_shown w p (fresh_wait w.conn p)) ps (wait_grown n w p (fresh_wait w.conn p) h)
+
+-- what a turn ends with
+flushed_grown : (n : ℕ) (w : Work) → HasGrown n w.conn → HasGrown n (flushed w).conn
+flushed_grown n w h =
+    let v = written w in
+    let m = moved_shown v in
+    fresh_shown_grown n (record m { conn = record m.conn { fresh = [] } }) m.conn.fresh (moves_shown_grown n (record v { conn = record v.conn { moved = [] } }) v.conn.moved (written_grown n w w.conn.life refl h))
+
+-- all moves
+passed_grown : (n : ℕ) (w : Work) → HasAsked n w → HasGrown n (passed w).conn
+passed_grown n w h =
+    let v = started (auth_told w) in
+    let u = moved_up_all v in
+    each_grown n (still_waiting u []) u.conn.waiting (moved_grown n (still_admitted v []) v.conn.admitted (started_grown n (auth_told w) (renewal_grown n w h)))
+
+-- a turn
+pub turn_grown : (c : Core) (kind : EventKind) → HasGrown c.single.connection.renewal.asked (moved_on (effect (counted c) kind)).core.single.connection
+turn_grown c kind =
+    let t = effect (counted c) kind in
+    flushed_grown c.single.connection.renewal.asked (passed (work_of t)) (passed_grown c.single.connection.renewal.asked (work_of t) (effect_asked c kind))
