@@ -236,11 +236,7 @@ impl MultiplexedConnection {
     }
 
     /// They are told, unless the link is held back: their message starts before those in the queue.
-    fn tell_renewal(
-        &mut self,
-        alloc: Global,
-        out: &mut Vec<LinkAct>,
-    ) -> Result<(), ConnectionError>
+    fn tell_renewal(&mut self, alloc: Global, out: &mut Vec<LinkAct>) -> Result<(), ConnectionError>
         requires { is_ready self.old.life ≡ true }
         ensures work { OnOk result (
             work_with self.new out.new.items
@@ -269,11 +265,7 @@ impl MultiplexedConnection {
     }
 
     /// The message that tells these credentials starts.
-    fn start_renewal(
-        &mut self,
-        alloc: Global,
-        auth: &BasicAuth,
-    ) -> Result<Started, ConnectionError>
+    fn start_renewal(&mut self, alloc: Global, auth: &BasicAuth) -> Result<Started, ConnectionError>
         requires { is_ready self.old.life ≡ true }
         ensures conn { OnOk result (
             self.new ≡ record self.old { life = begun_in self.old.life (renewal_queued auth.now) }
