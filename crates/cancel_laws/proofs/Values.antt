@@ -4,7 +4,8 @@ use Rattle.std.proofs.lemmas.List.{append-nil}
 use Rattle.containers.proofs.Choices.{taken_if, left_if, le_test, not_le_test}
 use Rattle.resp_value.specs.Data.{Data, push, list_of}
 use Rattle.resp_read.specs.Values.{values}
-use Rattle.resp_read.specs.Items.{is_item, items, items_among}
+use Rattle.resp_read.specs.Items.{items, items_among}
+use Rattle.resp_value.specs.Kinds.{is_item}
 use Rattle.driver_model.specs.Shape.{need_of}
 use Rattle.link_core.specs.declared.message.Entry.{Entry}
 use Rattle.link_core.specs.declared.message.PushAt.{PushAt}

@@ -4,3 +4,5 @@ pub mod Request
 pub mod Setup
 pub mod News
 pub mod Config
+pub mod Hearing
+pub mod Kind

@@ -16,7 +16,7 @@ use Rattle.driver_model.specs.declared.news.LinkNews.TheVariants as variant
 -- nothing; its connect succeeded; its connect failed; the time in which it was to be connected is over; so many of the
 -- offered bytes were taken; bytes came; its peer closed it, or a read or a write failed; credentials came for its setup, or there
 -- are none, since its source says this, or has ended; new credentials came, to be told to its server, or no more come; the time
--- for those of this number is over; everything is shut down
+-- for those of this number is over; the stream of messages is dropped; everything is shut down
 pub data News : Type 0 where
   silence : News
   connected : News
@@ -31,6 +31,7 @@ pub data News : Type 0 where
   renewed : Credentials → News
   unrenewed : News
   late : ℕ → News
+  dropped : News
   shut : News
 
 -- news for one link alone
@@ -72,6 +73,7 @@ news_of timers sources n (event.ReadFault l kind) = for_link (l == n) (failed (f
 news_of timers sources n (event.WriteFault l kind) = for_link (l == n) (failed (fault.Io kind))
 news_of timers sources n (event.Fired t) = of_timer n (slice_get timers t)
 news_of timers sources n (event.Timeout ms) = silence
+news_of timers sources n event.DropStream = dropped
 news_of timers sources n event.Shutdown = shut
 news_of timers sources n (event.Creds c auth) = of_source n (slice_get sources c) (authorized auth) (renewed auth)
 news_of timers sources n (event.CredsError c text) = of_source n (slice_get sources c) (denied text) silence
@@ -94,4 +96,5 @@ told variant.Deserted = deserted
 told (variant.Renewed auth) = renewed auth.now
 told variant.Unrenewed = unrenewed
 told (variant.Late k) = late k
+told variant.Dropped = dropped
 told variant.Shut = shut

@@ -2,10 +2,12 @@ ghost use Rattle.std.specs.Prelude.{◌≡◌, IfOk};
 
 use crate::config::Config;
 use crate::event::Event;
+use crate::msg::Msg;
 use crate::outcome::Outcome;
 use crate::push_info::PushInfo;
 use containers::Bytes;
 use redis_error::RedisError;
+use resp_value::Value;
 use std::alloc::{AllocError, Global};
 
 /// What a turn is the turn of: the opening, or an event.
@@ -23,6 +25,8 @@ pub enum Owner {
     Setup,
     /// New credentials, told to the server of a link that is set up.
     Auth,
+    /// MONITOR, which puts the server of a link into monitor mode.
+    Monitor,
 }
 
 /// What a request waits for.
@@ -92,6 +96,14 @@ pub enum Action {
     Push {
         link: u32,
         info: PushInfo,
+    },
+    /// A message of publish/subscribe came.
+    Message {
+        msg: Msg,
+    },
+    /// A server in monitor mode tells this.
+    Monitor {
+        value: Value,
     },
     /// A source of credentials is wanted for the link. Sources are numbered from 0.
     NeedCreds {
@@ -196,6 +208,14 @@ impl Action {
             Action::Push { link, info } => {
                 let info = info.clone(alloc)?;
                 Ok(Action::Push { link: *link, info })
+            }
+            Action::Message { msg } => {
+                let msg = msg.clone(alloc)?;
+                Ok(Action::Message { msg })
+            }
+            Action::Monitor { value } => {
+                let value = value.clone(alloc)?;
+                Ok(Action::Monitor { value })
             }
             Action::NeedCreds { source, link } => Ok(Action::NeedCreds {
                 source: *source,

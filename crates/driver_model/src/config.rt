@@ -1,17 +1,25 @@
 ghost use Rattle.std.specs.Prelude.{◌≡◌, Some, None, OnOk, IfOk, IfErr};
-ghost use Rattle.driver_model.specs.Config.{address, told_info, connect_timeout, buffer_size};
-ghost use Rattle.driver_model.specs.Config.{response_timeout, hears_pushes, wants_credentials};
-ghost use Rattle.driver_model.specs.Config.{boundary, first_fault, RefusesConfig};
+ghost use Rattle.driver_model.specs.Config.{config_of, address, told_info, connect_timeout};
+ghost use Rattle.driver_model.specs.Config.{response_timeout, permits, buffer_size, boundary};
+ghost use Rattle.driver_model.specs.Config.{hearing_of, wants_credentials};
+ghost use Rattle.driver_model.specs.Config.{first_fault, RefusesConfig};
+ghost use Rattle.driver_model.specs.Hearing.{hears_pushes};
 ghost use Rattle.connection_info.specs.Refusal.{RefusesUrl};
 
+use crate::hearing::Hearing;
+use crate::kind::SessionKind;
 use connection_info::{ConnectionInfo, IntoConnectionInfo, OpenError, RedisConnectionInfo};
 use containers::Bytes;
 use redis_error::ConfigName;
 use std::alloc::{AllocError, Global};
 
-/// What a session is made from: the words of the line `config single`, each where it was given.
+/// What a session is made from: the words of the line `config`, each where it was given. A link of publish/subscribe or of
+/// monitor mode goes by its address and by `lib` alone: it has no timers, no permits and no credentials of sources, and its
+/// queue holds whatever comes.
 #[derive(Drop)]
 pub struct Config {
+    /// What the session is.
+    pub kind: SessionKind,
     /// The server's address, a URL as it was given.
     pub url: Bytes,
     /// How many milliseconds the connect may take, `Some(None)` for any number. 1,000 where nothing is given.
@@ -33,22 +41,33 @@ pub struct Config {
 }
 
 impl Config {
-    /// A configuration of which nothing but the address is given.
+    /// One multiplexed connection, of which nothing but the address is given.
     pub fn new(url: Bytes) -> Config
-        ensures { result
-            ≡ record {
-              url = url;
-              connect = None;
-              response = None;
-              limit = None;
-              buffer = None;
-              boundary = None;
-              push = None;
-              creds = None;
-              lib = None;
-            } }
+        ensures { result ≡ config_of SessionKind.Single url }
+    {
+        Config::of(SessionKind::Single, url)
+    }
+
+    /// A link of publish/subscribe.
+    pub fn pubsub(url: Bytes) -> Config
+        ensures { result ≡ config_of SessionKind.PubSub url }
+    {
+        Config::of(SessionKind::PubSub, url)
+    }
+
+    /// A link in monitor mode.
+    pub fn monitor(url: Bytes) -> Config
+        ensures { result ≡ config_of SessionKind.Monitor url }
+    {
+        Config::of(SessionKind::Monitor, url)
+    }
+
+    /// A configuration of which nothing but the kind and the address is given.
+    fn of(kind: SessionKind, url: Bytes) -> Config
+        ensures { result ≡ config_of kind url }
     {
         Config {
+            kind,
             url,
             connect: None,
             response: None,
@@ -67,6 +86,7 @@ impl Config {
     {
         let url = self.url.clone(alloc)?;
         Ok(Config {
+            kind: self.kind,
             url,
             connect: self.connect,
             response: self.response,
@@ -83,6 +103,9 @@ impl Config {
     pub fn connect_timeout(&self) -> Option<u64>
         ensures { result ≡ connect_timeout self.now }
     {
+        if !self.kind.is_single() {
+            return None;
+        }
         self.connect.unwrap_or(Some(1000))
     }
 
@@ -90,13 +113,29 @@ impl Config {
     pub fn response_timeout(&self) -> Option<u64>
         ensures { result ≡ response_timeout self.now }
     {
+        if !self.kind.is_single() {
+            return None;
+        }
         self.response.unwrap_or(Some(500))
     }
 
-    /// How many messages the queue of the link holds.
+    /// How many permits the connection has, if they are counted.
+    pub fn permits(&self) -> Option<u32>
+        ensures { result ≡ permits self.now }
+    {
+        if !self.kind.is_single() {
+            return None;
+        }
+        self.limit
+    }
+
+    /// How many messages the queue of the link holds: where it is unbounded, more than there are numbers for submissions.
     pub fn buffer_size(&self) -> u32
         ensures { result ≡ buffer_size self.now }
     {
+        if !self.kind.is_single() {
+            return u32::MAX;
+        }
         self.buffer.unwrap_or(50)
     }
 
@@ -104,21 +143,36 @@ impl Config {
     pub fn boundary(&self) -> u64
         ensures { result ≡ boundary self.now }
     {
+        if !self.kind.is_single() {
+            return 8192;
+        }
         self.boundary.unwrap_or(8192)
+    }
+
+    /// What is heard, beside the replies to requests.
+    pub fn hearing(&self) -> Hearing
+        ensures { result ≡ hearing_of self.now }
+    {
+        match self.kind {
+            SessionKind::Single if self.push.unwrap_or(false) => Hearing::Pushes,
+            SessionKind::Single => Hearing::Nothing,
+            SessionKind::PubSub => Hearing::Messages,
+            SessionKind::Monitor => Hearing::Monitor,
+        }
     }
 
     /// Whether somebody hears the pushes that come.
     pub fn hears_pushes(&self) -> bool
-        ensures { result ≡ hears_pushes self.now }
+        ensures { result ≡ hears_pushes (hearing_of self.now) }
     {
-        self.push.unwrap_or(false)
+        self.hearing().hears_pushes()
     }
 
     /// Whether credentials come of a source.
     pub fn wants_credentials(&self) -> bool
         ensures { result ≡ wants_credentials self.now }
     {
-        self.creds.unwrap_or(false)
+        self.kind.is_single() && self.creds.unwrap_or(false)
     }
 
     /// What is said to the server before the first request, where this is its address.
@@ -165,7 +219,7 @@ impl Config {
         if self.hears_pushes() && !info.redis.protocol.supports_resp3() {
             return Err(OpenError::Config(ConfigName::Push));
         }
-        if self.limit == Some(0) {
+        if self.permits() == Some(0) {
             return Err(OpenError::Config(ConfigName::Limit));
         }
         if self.buffer_size() == 0 {

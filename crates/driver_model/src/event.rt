@@ -38,6 +38,10 @@ pub enum Submission {
         action: SubscriptionAction,
         names: Names,
     },
+    /// PING, with this message or without one, on a link of publish/subscribe.
+    Ping {
+        message: Option<Bytes>,
+    },
 }
 
 /// What happened. Links, submissions, timers and sources of credentials go by their numbers, counted from 0.
@@ -71,6 +75,8 @@ pub enum EventKind {
     CredsEnd { source: u32 },
     /// From now on a request that is handed in is to be answered within so many milliseconds, if within any.
     Timeout { ms: Option<u64> },
+    /// The stream of messages is dropped: a link of publish/subscribe ends.
+    DropStream,
     /// Everything is closed.
     Shutdown,
 }
@@ -80,6 +86,16 @@ pub enum EventKind {
 pub struct Event {
     pub word: u64,
     pub kind: EventKind,
+}
+
+/// An equal message of its own, if there is one.
+fn clone_message(alloc: Global, message: &Option<Bytes>) -> Result<Option<Bytes>, AllocError>
+    ensures { IfOk result (λ m. m ≡ message.now) }
+{
+    match message {
+        None => Ok(None),
+        Some(message) => Ok(Some(message.clone(alloc)?)),
+    }
 }
 
 impl Submission {
@@ -122,6 +138,10 @@ impl Submission {
                     action: *action,
                     names,
                 })
+            }
+            Submission::Ping { message } => {
+                let message = clone_message(alloc, message)?;
+                Ok(Submission::Ping { message })
             }
         }
     }
@@ -179,6 +199,7 @@ impl EventKind {
             }
             EventKind::CredsEnd { source } => Ok(EventKind::CredsEnd { source: *source }),
             EventKind::Timeout { ms } => Ok(EventKind::Timeout { ms: *ms }),
+            EventKind::DropStream => Ok(EventKind::DropStream),
             EventKind::Shutdown => Ok(EventKind::Shutdown),
         }
     }

@@ -141,6 +141,13 @@ impl Event {
         Event::of(EventKind::Timeout { ms })
     }
 
+    /// The stream of messages is dropped.
+    pub fn drop_stream() -> Event
+        ensures { result ≡ record { word = 0; kind = EventKind.DropStream } }
+    {
+        Event::of(EventKind::DropStream)
+    }
+
     /// Everything is closed.
     pub fn shutdown() -> Event
         ensures { result ≡ record { word = 0; kind = EventKind.Shutdown } }

@@ -46,6 +46,8 @@ pub enum LinkNews<'a> {
     Unrenewed,
     /// The time in which its credentials of this number were to be answered is over.
     Late { number: u32 },
+    /// The stream of messages is dropped.
+    Dropped,
     /// Everything is closed.
     Shut,
 }
@@ -150,6 +152,7 @@ impl EventKind {
             EventKind::CredsEnd { source } if renews(sources, *source, link) => {
                 LinkNews::Unrenewed
             }
+            EventKind::DropStream => LinkNews::Dropped,
             EventKind::Shutdown => LinkNews::Shut,
             _ => LinkNews::Silence,
         }

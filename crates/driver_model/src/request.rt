@@ -1,9 +1,12 @@
-ghost use Rattle.std.specs.Prelude.{◌≡◌, true, false, IfOk};
-ghost use Rattle.driver_model.specs.Request.{packed_bytes, shape_of, is_reply_awaited, has_no_form};
-ghost use Rattle.driver_model.specs.Request.{is_single_nameless, is_sharded};
-ghost use Rattle.driver_model.specs.Request.{needs_resp3, lacks_resp3};
+ghost use Rattle.std.specs.Prelude.{◌≡◌, ◌∷◌, true, false, codes, IfOk};
+ghost use Rattle.resp_write.specs.Pack.{pack};
+ghost use Rattle.driver_model.specs.Request.{packed_bytes, listed, shape_of, is_reply_awaited};
+ghost use Rattle.driver_model.specs.Request.{is_single_nameless, is_sharded, is_formless};
+ghost use Rattle.driver_model.specs.Request.{is_foreign, has_no_form, needs_resp3, lacks_resp3};
 
 use crate::event::Submission;
+use crate::hearing::Hearing;
+use crate::kind::SessionKind;
 use crate::outcome::Shape;
 use connection_info::ProtocolVersion;
 use containers::{Bytes, Names};
@@ -26,6 +29,7 @@ impl Submission {
                 commands,
             } => pack_lists(alloc, false, commands.as_slice()),
             Submission::Subscription { action, names } => pack_call(alloc, action.word(), names),
+            Submission::Ping { message } => pack_ping(alloc, message),
         }
     }
 
@@ -59,6 +63,7 @@ impl Submission {
                 action: _,
                 names: _,
             } => Shape::Confirmation,
+            Submission::Ping { message: _ } => Shape::Single,
         }
     }
 
@@ -80,6 +85,7 @@ impl Submission {
                 action: _,
                 names: _,
             } => true,
+            Submission::Ping { message: _ } => true,
         }
     }
 
@@ -101,20 +107,21 @@ impl Submission {
                 action: _,
                 names: _,
             } => true,
+            Submission::Ping { message: _ } => false,
         }
     }
 
-    /// Whether it needs RESP3 where its server is told to speak this protocol, which is another.
-    pub fn lacks_resp3(&self, protocol: ProtocolVersion) -> bool
-        ensures { result ≡ lacks_resp3 protocol self.now }
+    /// Whether a connection that hears this needs RESP3 for it, where its server is told to speak this protocol, which is another.
+    pub fn lacks_resp3(&self, hearing: Hearing, protocol: ProtocolVersion) -> bool
+        ensures { result ≡ lacks_resp3 hearing protocol self.now }
     {
-        self.needs_resp3() && !protocol.supports_resp3()
+        !hearing.hears_messages() && self.needs_resp3() && !protocol.supports_resp3()
     }
 
-    /// Whether it is a list of exactly one command without a name, which has no form of its own in a script, or a
-    /// subscription call of sharded channels, which a single connection doesn't have.
-    pub fn is_formless(&self) -> bool
-        ensures { result ≡ has_no_form self.now }
+    /// Whether it is a list of exactly one command without a name, which has no form of its own in a script, or a call that a
+    /// multiplexed connection doesn't have.
+    fn is_formless(&self) -> bool
+        ensures { result ≡ is_formless self.now }
     {
         match self {
             Submission::Cmd { args: _ } => false,
@@ -127,8 +134,50 @@ impl Submission {
                 commands,
             } => is_one_nameless(commands.as_slice()),
             Submission::Subscription { action, names: _ } => is_sharded(*action),
+            Submission::Ping { message: _ } => true,
         }
     }
+
+    /// Whether it is neither a subscription call of a link of publish/subscribe nor its ping.
+    fn is_foreign(&self) -> bool
+        ensures { result ≡ is_foreign self.now }
+    {
+        match self {
+            Submission::Subscription { action, names: _ } => is_sharded(*action),
+            Submission::Ping { message: _ } => false,
+            Submission::Cmd { args: _ } => true,
+            Submission::NoReply { args: _ } => true,
+            Submission::Pipe { commands: _ } => true,
+            Submission::Multi { commands: _ } => true,
+            Submission::Packed {
+                offset: _,
+                count: _,
+                commands: _,
+            } => true,
+        }
+    }
+
+    /// Whether a session of this kind has no submission of this form: one in monitor mode has none at all.
+    pub fn has_no_form(&self, kind: SessionKind) -> bool
+        ensures { result ≡ has_no_form kind self.now }
+    {
+        match kind {
+            SessionKind::Single => self.is_formless(),
+            SessionKind::PubSub => self.is_foreign(),
+            SessionKind::Monitor => true,
+        }
+    }
+}
+
+/// PING, with this message or without one.
+fn pack_ping(alloc: Global, message: &Option<Bytes>) -> Result<Bytes, AllocError>
+    ensures { IfOk result (λ bytes. bytes ≡ pack (codes "PING" ∷ listed message.now)) }
+{
+    let mut args = Names::new(alloc);
+    if let Some(message) = message {
+        args.push(message.clone(alloc)?)?;
+    }
+    pack_call(alloc, b"PING", &args)
 }
 
 /// Whether a call is about sharded channels.

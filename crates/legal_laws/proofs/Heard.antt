@@ -6,7 +6,8 @@ use Rattle.containers.proofs.Choices.{by_test, chosen, taken_if, left_if}
 use Rattle.redis_error.specs.declared.redis_error.RedisError.TheVariants as error
 use Rattle.resp_value.specs.Data.{Data, push, list_of}
 use Rattle.resp_read.specs.Values.{values}
-use Rattle.resp_read.specs.Items.{items, items_among, is_item}
+use Rattle.resp_read.specs.Items.{items, items_among}
+use Rattle.resp_value.specs.Kinds.{is_item}
 use Rattle.driver_model.specs.declared.action.Action.{Action}
 use Rattle.driver_model.specs.News.{News, silence, connected, refused, overdue, took, came, failed, shut, authorized, denied, deserted, renewed, unrenewed, late}
 use Rattle.legal_trace.specs.Ledger.{Ledger, Heard, Line, asks, hears, begins, offers, tells, ends, parts, blank_ledger, noted, with_news, refused_in, bytes_came, items_came, value_came, heard_at, heard_each, is_over, is_set_up, dials, reach, sources, awaits_credentials, authorized_by, times, may_renew, renewed_by, unrenewed_by, is_renewal_open, lost_by}

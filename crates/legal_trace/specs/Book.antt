@@ -14,12 +14,16 @@ use Rattle.driver_model.specs.declared.action.Owner.TheVariants as owner
 use Rattle.driver_model.specs.declared.event.EventKind.{EventKind}
 use Rattle.driver_model.specs.declared.event.EventKind.TheVariants as event
 use Rattle.connection_info.specs.declared.address.RedisConnectionInfo.{RedisConnectionInfo}
-use Rattle.driver_model.specs.Config.{response_timeout, told_info, bare_info, wants_credentials}
+use Rattle.driver_model.specs.Config.{response_timeout, told_info, bare_info, wants_credentials, hearing_of}
+use Rattle.driver_model.specs.declared.kind.SessionKind.{SessionKind}
+use Rattle.driver_model.specs.declared.kind.SessionKind.TheVariants as kind
+use Rattle.driver_model.specs.declared.hearing.Hearing.{Hearing}
+use Rattle.driver_model.specs.declared.hearing.Hearing.TheVariants as hearing
 use Rattle.driver_model.specs.declared.event.Submission.{Submission}
 use Rattle.driver_model.specs.News.{news_of}
 use Rattle.driver_model.specs.Request.{lacks_resp3}
 use Rattle.credentials.specs.Credentials.{Credentials}
-use Rattle.legal_trace.specs.Ledger.{Ledger, Start, Line, asks, hears, begins, offers, ends, blank_ledger, setup_count, setup_message, renewal_due, renewal_message, noted_each, tells, parts, sources, times}
+use Rattle.legal_trace.specs.Ledger.{Ledger, Start, Line, asks, hears, begins, offers, ends, blank_ledger, setup_count, setup_message, monitor_message, renewal_due, renewal_message, noted_each, tells, parts, sources, times}
 use Rattle.resp_value.specs.declared.push_kind.PushKind.{PushKind}
 use Rattle.driver_model.specs.Push.{is_disconnection}
 use Rattle.legal_trace.specs.Story.{Story, blank_story, bytes_of, shape, handed_in, left, holds, clocked, fires, tried, waits, answered}
@@ -55,6 +59,16 @@ abbrev pub wanted_in : Option Config → Bool
 wanted_in None = false
 wanted_in (Some config) = wants_credentials config
 
+-- and what is heard beside replies
+abbrev pub hearing_in : Option Config → Hearing
+hearing_in None = hearing.Nothing
+hearing_in (Some config) = hearing_of config
+
+-- and what the session is
+abbrev pub kind_in : Option Config → SessionKind
+kind_in None = kind.Single
+kind_in (Some config) = config.kind
+
 -- these credentials, where there are any
 abbrev pub credentials_in : Option Credentials → Credentials
 credentials_in None = record { username = []; password = [] }
@@ -68,6 +82,7 @@ renewal_in o = renewal_message (credentials_in o)
 abbrev pub message_of : Book → ℕ → Owner → Start
 message_of b l owner.Setup = setup_message (b.link l) (setup_count (b.link l).starts)
 message_of b l owner.Auth = renewal_in (renewal_due (b.link l))
+message_of b l owner.Monitor = monitor_message
 message_of b l (owner.Try n round) = record { owner = owner.Try n round; shape = shape (b.story n); bytes = bytes_of (b.story n) }
 
 -- a line of one link alone
@@ -84,15 +99,21 @@ is_renewal_of n (purpose.Renewal l k) = l == n
 is_renewal_of n (purpose.Connect l) = false
 is_renewal_of n (purpose.Response who) = false
 
+-- the link that submissions go to, and of which messages are told: the last that was asked for
+abbrev pub current : Book → ℕ
+current b = b.links - 1
+
 -- what an action tells of link n
 abbrev pub lines_of : Book → ℕ → Action → List Line
 lines_of b n (action.Turn number (cause.Opening config word)) = []
 lines_of b n (action.Turn number (cause.Event e)) = hears number (news_of b.timers b.sources n e.kind) ∷ []
-lines_of b n (action.Connect l host port) = if_mine (l == n) (asks (info_in b.config) (wanted_in b.config))
+lines_of b n (action.Connect l host port) = if_mine (l == n) (asks (info_in b.config) (wanted_in b.config) (hearing_in b.config))
 lines_of b n (action.Timer t ms what) = if_mine (is_renewal_of n what) times
 lines_of b n (action.NeedCreds c l) = if_mine (l == n) sources
 lines_of b n (action.Took who l count) = []
 lines_of b n (action.Push l info) = if_mine (l == n) (push_line info.kind)
+lines_of b n (action.Message m) = if_mine (current b == n) tells
+lines_of b n (action.Monitor v) = if_mine (current b == n) tells
 lines_of b n (action.Close l) = if_mine (l == n) (ends (b.turns - 1))
 lines_of b n (action.Write l bytes) = if_mine (l == n) (offers bytes)
 lines_of b n (action.Start l message who count len) = if_mine (l == n) (begins (message_of b l who))
@@ -100,13 +121,9 @@ lines_of b n (action.Wait who kind) = []
 lines_of b n (action.Created e) = []
 lines_of b n (action.Outcome m o) = []
 
--- the link that submissions go to: the last that was asked for
-abbrev pub current : Book → ℕ
-current b = b.links - 1
-
 -- a submission needs RESP3, and the server of the link that it goes to is told another protocol
 abbrev pub is_unspoken : Book → Submission → Bool
-is_unspoken b what = lacks_resp3 (b.link (current b)).info.protocol what
+is_unspoken b what = lacks_resp3 (b.link (current b)).hearing (b.link (current b)).info.protocol what
 
 -- a change of one story alone
 abbrev pub if_own : Bool → Story → Story → Story
@@ -118,6 +135,7 @@ is_clock_of n None = false
 is_clock_of n (Some (purpose.Connect l)) = false
 is_clock_of n (Some (purpose.Response owner.Setup)) = false
 is_clock_of n (Some (purpose.Response owner.Auth)) = false
+is_clock_of n (Some (purpose.Response owner.Monitor)) = false
 is_clock_of n (Some (purpose.Renewal l k)) = false
 is_clock_of n (Some (purpose.Response (owner.Try m round))) = m == n
 
@@ -137,6 +155,7 @@ after_event b n (event.Timeout ms) = b.story n
 after_event b n (event.Creds c auth) = b.story n
 after_event b n (event.CredsError c text) = b.story n
 after_event b n (event.CredsEnd c) = b.story n
+after_event b n event.DropStream = b.story n
 after_event b n event.Shutdown = b.story n
 
 -- what an action is to submission n
@@ -150,12 +169,17 @@ story_after b n (action.Connect l host port) = b.story n
 story_after b n (action.Timer t ms what) = if_own (is_clock_of n (Some what)) (clocked (b.story n) t) (b.story n)
 story_after b n (action.Took owner.Setup l count) = b.story n
 story_after b n (action.Took owner.Auth l count) = b.story n
+story_after b n (action.Took owner.Monitor l count) = b.story n
 story_after b n (action.Start l message owner.Setup count len) = b.story n
 story_after b n (action.Start l message owner.Auth count len) = b.story n
+story_after b n (action.Start l message owner.Monitor count len) = b.story n
 story_after b n (action.Wait owner.Setup kind) = b.story n
 story_after b n (action.Wait owner.Auth kind) = b.story n
+story_after b n (action.Wait owner.Monitor kind) = b.story n
 story_after b n (action.Took (owner.Try m round) l count) = if_own (m == n) (holds (b.story n) count) (b.story n)
 story_after b n (action.Push l info) = b.story n
+story_after b n (action.Message m) = b.story n
+story_after b n (action.Monitor v) = b.story n
 story_after b n (action.NeedCreds c l) = b.story n
 story_after b n (action.Close l) = b.story n
 story_after b n (action.Write l bytes) = b.story n
@@ -170,10 +194,10 @@ abbrev pub shuts : EventKind → Bool
 shuts event.Shutdown = true
 shuts _ = false
 
--- the time that an event sets
-abbrev pub timeout_after : Option ℕ → EventKind → Option ℕ
-timeout_after old (event.Timeout ms) = ms
-timeout_after old _ = old
+-- the time that an event sets, for the requests of a multiplexed connection
+abbrev pub timeout_after : SessionKind → Option ℕ → EventKind → Option ℕ
+timeout_after kind.Single old (event.Timeout ms) = ms
+timeout_after _ old _ = old
 
 -- what a turn's cause is to the counts of a book
 abbrev pub begun : Book → Cause → Book
@@ -182,7 +206,7 @@ begun b (cause.Event e) = record b {
   turns = b.turns + 1;
   running = Some (cause.Event e);
   submissions = b.submissions + submitted_by e.kind;
-  timeout = timeout_after b.timeout e.kind;
+  timeout = timeout_after (kind_in b.config) b.timeout e.kind;
   shut = b.shut || shuts e.kind;
 }
 
@@ -198,6 +222,8 @@ counted b (action.Timer t ms what) = record b { timers = b.timers ++ what ∷ []
 counted b (action.Took who l count) = b
 counted b (action.Created e) = record b { created = b.created + 1 }
 counted b (action.Push l info) = b
+counted b (action.Message m) = b
+counted b (action.Monitor v) = b
 counted b (action.NeedCreds c l) = record b { sources = b.sources ++ use_for b l ∷ [] }
 counted b (action.Close l) = b
 counted b (action.Write l bytes) = b

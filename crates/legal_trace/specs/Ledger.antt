@@ -1,9 +1,9 @@
 -- What is told of one link, line by line, and what it comes to: the link's ledger. It knows neither its number nor whose
 -- messages it carries.
-use Rattle.std.specs.Prelude.{◌≡◌, ◌≢◌, ◌⊎◌, ◌≤◌, ◌<◌, ℕ, zero, suc, ◌+◌, ◌-◌, ◌==◌, nat_le, nat_lt, Bool, true, false, ◌&&◌, ◌||◌, not, List, [], ◌∷◌, ◌++◌, length, take, drop, flat_map, Option, Some, None, is_some, slice_get, if◌then◌else◌}
-use Rattle.resp_value.specs.Data.{Data, push, list_of}
+use Rattle.std.specs.Prelude.{◌≡◌, ◌≢◌, ◌⊎◌, ◌≤◌, ◌<◌, ℕ, zero, suc, ◌+◌, ◌-◌, ◌==◌, nat_le, nat_lt, Bool, true, false, ◌&&◌, ◌||◌, not, List, [], ◌∷◌, ◌++◌, length, take, drop, flat_map, Option, Some, None, is_none, is_some, slice_get, codes, if◌then◌else◌}
+use Rattle.resp_value.specs.Data.{Data}
 use Rattle.resp_read.specs.Values.{values, left_over, is_spoiled}
-use Rattle.resp_read.specs.Items.{items, is_item}
+use Rattle.resp_write.specs.Pack.{pack}
 use Rattle.redis_error.specs.declared.fault_kind.FaultKind.TheVariants as kind
 use Rattle.redis_error.specs.declared.redis_error.RedisError.{RedisError}
 use Rattle.redis_error.specs.declared.redis_error.RedisError.TheVariants as error
@@ -16,16 +16,19 @@ use Rattle.connection_setup.specs.Setup.{Step, setup}
 use Rattle.connection_setup.specs.Judgement.{judged}
 use Rattle.driver_model.specs.Config.{bare_info}
 use Rattle.driver_model.specs.Setup.{says_nothing, setup_bytes, setup_shape}
-use Rattle.driver_model.specs.declared.push_info.PushInfo.{PushInfo}
+use Rattle.driver_model.specs.declared.hearing.Hearing.{Hearing}
+use Rattle.driver_model.specs.declared.hearing.Hearing.TheVariants as hearing
+use Rattle.driver_model.specs.declared.hearing.Notice.{Notice}
+use Rattle.driver_model.specs.Hearing.{Taking, taking, hears_messages, is_watching, felt}
 use Rattle.driver_model.specs.declared.action.Owner.{Owner}
 use Rattle.driver_model.specs.declared.action.Owner.TheVariants as owner
 use Rattle.driver_model.specs.declared.news.LinkFault.{LinkFault}
 use Rattle.driver_model.specs.declared.news.LinkFault.TheVariants as fault
 use Rattle.driver_model.specs.declared.outcome.Shape.{Shape}
-use Rattle.driver_model.specs.declared.outcome.Shape.TheVariants.{Confirmation}
+use Rattle.driver_model.specs.declared.outcome.Shape.TheVariants.{Single, Confirmation}
 use Rattle.driver_model.specs.declared.outcome.Verdict.{Verdict}
 use Rattle.driver_model.specs.declared.outcome.Verdict.TheVariants as verdict
-use Rattle.driver_model.specs.News.{News, silence, connected, refused, overdue, took, came, failed, authorized, denied, deserted, renewed, unrenewed, late, shut}
+use Rattle.driver_model.specs.News.{News, silence, connected, refused, overdue, took, came, failed, authorized, denied, deserted, renewed, unrenewed, late, dropped, shut}
 use Rattle.driver_model.specs.Shape.{need_of, verdict_of}
 
 -- a message that started: who owns it, how many items it takes and what they become, and its bytes
@@ -59,10 +62,10 @@ pub record End : Type 0 where
   pub why : Ending
   pub oldest : ℕ
 
--- a push that came on a link that was set up: how many items had been dealt before it, and what it says
+-- what came on a link that was set up and is to be told: how many items had been dealt before it, and what is told
 pub record Heard : Type 0 where
   pub after : ℕ
-  pub info : PushInfo
+  pub what : Notice
 
 -- the credentials of a link that come of sources: whether they are to, whether a source was asked for, and whether the first
 -- credentials have come; whether another source was asked for, for new ones; those that came to be told to its server since, in
@@ -80,13 +83,15 @@ pub record Sourced : Type 0 where
 abbrev pub unsourced : Bool → Sourced
 unsourced wanted = record { wanted = wanted; asked = false; given = false; renews = false; renewals = []; over = false; timed = 0; lost = false }
 
--- whether its connect was asked for, what is to be said to its server then, and its credentials that come of sources; whether
--- the connect succeeded and it has not ended; how it ended; its starts in order; the bytes that were taken from it; the bytes
--- of its unanswered offer; what came behind the last whole value; the items dealt; the pushes that came once it was set up,
--- how many of them were told, and whether its end was told as one; and what it was told by the turn that runs
+-- whether its connect was asked for, what is to be said to its server then, what is heard on it beside replies, and its
+-- credentials that come of sources; whether the connect succeeded and it has not ended; how it ended; its starts in order; the
+-- bytes that were taken from it; the bytes of its unanswered offer; what came behind the last whole value, and whether that value
+-- ends it; the items dealt; what came once it was set up and is to be told, how much of it was, and whether its end was told as a
+-- push; and what it was told by the turn that runs
 pub record Ledger : Type 0 where
   pub asked : Bool
   pub info : RedisConnectionInfo
+  pub hearing : Hearing
   pub creds : Sourced
   pub up : Bool
   pub end : Option End
@@ -94,14 +99,15 @@ pub record Ledger : Type 0 where
   pub taken : List ℕ
   pub offer : List ℕ
   pub rest : List ℕ
+  pub strange : Bool
   pub dealt : List Data
-  pub pushes : List Heard
+  pub notices : List Heard
   pub told : ℕ
   pub parted : Bool
   pub heard : News
 
 abbrev pub blank_ledger : Ledger
-blank_ledger = record { asked = false; info = bare_info; creds = unsourced false; up = false; end = None; starts = []; taken = []; offer = []; rest = []; dealt = []; pushes = []; told = 0; parted = false; heard = silence }
+blank_ledger = record { asked = false; info = bare_info; hearing = hearing.Nothing; creds = unsourced false; up = false; end = None; starts = []; taken = []; offer = []; rest = []; strange = false; dealt = []; notices = []; told = 0; parted = false; heard = silence }
 
 abbrev pub is_over : Ledger → Bool
 is_over l = is_some l.end
@@ -133,6 +139,7 @@ abbrev pub is_of_setup : Owner → Bool
 is_of_setup owner.Setup = true
 is_of_setup (owner.Try n round) = false
 is_of_setup owner.Auth = false
+is_of_setup owner.Monitor = false
 
 -- how many of these starts are of the setup: they are the first ones
 abbrev pub setup_count : List Start → ℕ
@@ -164,9 +171,34 @@ abbrev pub is_well : Option SetupResult → Bool
 is_well (Some Ready) = true
 is_well _ = false
 
--- the link is set up
+-- what is said to its server before the first request is answered well
+abbrev pub is_greeted : Ledger → Bool
+is_greeted l = is_well (setup_result l)
+
+-- a start that puts its server into monitor mode
+abbrev pub is_of_monitor : Owner → Bool
+is_of_monitor owner.Monitor = true
+is_of_monitor owner.Setup = false
+is_of_monitor (owner.Try n round) = false
+is_of_monitor owner.Auth = false
+
+-- the number of the first of these starts that does, where the first of them has the number k
+abbrev pub monitor_among : List Start → ℕ → Option ℕ
+monitor_among [] k = None
+monitor_among (s ∷ ss) k = if is_of_monitor s.owner then Some k else monitor_among ss (suc k)
+
+abbrev pub monitor_of : Ledger → Option ℕ
+monitor_of l = monitor_among l.starts 0
+
+-- its message of that number has its items; false where there is no such message
+abbrev pub is_answered : Ledger → Option ℕ → Bool
+is_answered l None = false
+is_answered l (Some k) = is_full l k
+
+-- the link is set up: what is said before the first request is answered well, and so is MONITOR, where its server is put into
+-- monitor mode
 abbrev pub is_set_up : Ledger → Bool
-is_set_up l = is_well (setup_result l)
+is_set_up l = is_greeted l && (not (is_watching l.hearing) || is_answered l (monitor_of l))
 
 -- it is up, and set up
 abbrev pub is_ready : Ledger → Bool
@@ -180,23 +212,39 @@ is_full_by l count k = nat_le (reached l (k + 1)) count
 abbrev pub items_came : Ledger → List Data → Ledger
 items_came l more = record l { dealt = l.dealt ++ take (reach l.starts l.dealt - length l.dealt) more }
 
--- a value comes: it is an item, but for a push without reply
+-- some message takes more items than were dealt
+abbrev pub is_awaiting : Ledger → Bool
+is_awaiting l = nat_lt (length l.dealt) (reach l.starts l.dealt)
+
+-- what becomes of a value that comes
+abbrev pub taking_of : Ledger → Data → Taking
+taking_of l v = taking l.hearing (is_set_up l) (is_awaiting l) v
+
+-- what is told of it, behind the items dealt so far
+abbrev pub heard_at : Ledger → Option Notice → List Heard
+heard_at l None = []
+heard_at l (Some n) = record { after = length l.dealt; what = n } ∷ []
+
+-- a value is dealt, or isn't
+abbrev pub dealt_if : Bool → Ledger → Data → Ledger
+dealt_if dealt l v = if dealt then items_came l (v ∷ []) else l
+
+-- a value comes, of which this becomes
+abbrev pub value_by : Ledger → Taking → Data → Ledger
+value_by l t v = dealt_if t.dealt (record l { notices = l.notices ++ heard_at l t.told; strange = t.ends }) v
+
+-- a value comes; behind one that ends the link nothing is read
 abbrev pub value_came : Ledger → Data → Ledger
-value_came l v = if is_item v then items_came l (v ∷ []) else l
+value_came l v = if l.strange then l else value_by l (taking_of l v) v
 
--- a push that comes once the link is set up, behind the items dealt so far
-abbrev pub heard_at : Ledger → Data → List Heard
-heard_at l (push kind parts) = if is_set_up l then record { after = length l.dealt; info = record { kind = kind; parts = list_of parts } } ∷ [] else []
-heard_at l _ = []
+-- values come, one after another
+abbrev pub values_came : Ledger → List Data → Ledger
+values_came l [] = l
+values_came l (v ∷ vs) = values_came (value_came l v) vs
 
--- the pushes among these values that come once the link is set up, in order
-abbrev pub heard_each : Ledger → List Data → List Heard
-heard_each l [] = []
-heard_each l (v ∷ vs) = heard_at l v ++ heard_each (value_came l v) vs
-
--- bytes come: the values that are whole now are items, but for pushes without reply; and pushes are heard
+-- bytes come: the values that are whole now do
 abbrev pub bytes_came : Ledger → List ℕ → Ledger
-bytes_came l piece = items_came (record l { rest = left_over (l.rest ++ piece); pushes = l.pushes ++ heard_each l (values (l.rest ++ piece)) }) (items (l.rest ++ piece))
+bytes_came l piece = values_came (record l { rest = left_over (l.rest ++ piece) }) (values (l.rest ++ piece))
 
 -- its connect was asked for and isn't answered
 abbrev pub dials : Ledger → Bool
@@ -235,6 +283,7 @@ abbrev pub is_of_renewal : Owner → Bool
 is_of_renewal owner.Auth = true
 is_of_renewal owner.Setup = false
 is_of_renewal (owner.Try n round) = false
+is_of_renewal owner.Monitor = false
 
 -- how many of these starts do
 abbrev pub renewal_count : List Start → ℕ
@@ -300,6 +349,7 @@ with_news l turn (late k) = if l.up && is_renewal_open l k then lost_by l else l
 with_news l turn silence = l
 with_news l turn overdue = l
 with_news l turn (failed f) = l
+with_news l turn dropped = l
 with_news l turn shut = l
 
 -- the error with which a setup failed
@@ -327,10 +377,39 @@ setup_due l = if l.up then setup_after l (setup_count l.starts) else None
 abbrev pub setup_message : Ledger → ℕ → Start
 setup_message l k = record { owner = owner.Setup; shape = setup_shape (setup_steps l k); bytes = setup_bytes (setup_steps l k) }
 
--- what ends a link that is up and set up: its peer, a read or a write that failed, bytes that begin no value, or the shutdown
+-- the message by which its server is put into monitor mode
+abbrev pub monitor_message : Start
+monitor_message = record { owner = owner.Monitor; shape = Single; bytes = pack (codes "MONITOR" ∷ []) }
+
+-- it is to start on a link that is up: what is said before the first request is answered well
+abbrev pub monitor_due : Ledger → Bool
+monitor_due l = l.up && is_watching l.hearing && is_greeted l && is_none (monitor_of l)
+
+-- the error that a fault is
+abbrev pub fault_error : LinkFault → RedisError
+fault_error fault.Ended = error.Closed
+fault_error (fault.Io f) = error.Io f
+fault_error fault.Parse = error.Parse
+
+-- the error with which the opening of a link fails that a fault ends: MONITOR is a single command, which gets the fault itself
+-- once it has started; what is said before it gets the closed connection, as a pipeline does
+abbrev pub opening_error : Ledger → LinkFault → RedisError
+opening_error l f = if is_some (monitor_of l) then fault_error f else error.Closed
+
+-- what came can't be read on: it begins no value, or ended with one that ends the link
+abbrev pub is_unreadable : Ledger → Bool
+is_unreadable l = is_spoiled l.rest || l.strange
+
+-- the stream of messages is dropped: this ends a link of messages
+abbrev pub ending_dropped : Ledger → Ending → Option Ending
+ending_dropped l why = if hears_messages l.hearing then Some why else None
+
+-- what ends a link that is up and set up: its peer, a read or a write that failed, bytes that begin no value, a value that isn't
+-- taken, that the stream of messages is dropped, or the shutdown
 abbrev pub ending_up : Ledger → News → Option Ending
-ending_up l (came piece) = if is_spoiled l.rest then Some (by_fault fault.Parse) else None
-ending_up l (failed f) = Some (by_fault f)
+ending_up l (came piece) = if is_unreadable l then Some (by_fault (felt l.hearing fault.Parse)) else None
+ending_up l (failed f) = Some (by_fault (felt l.hearing f))
+ending_up l dropped = ending_dropped l (by_fault fault.Ended)
 ending_up l shut = Some by_shutdown
 ending_up l silence = None
 ending_up l connected = None
@@ -345,12 +424,13 @@ ending_up l unrenewed = None
 ending_up l (late k) = None
 
 -- what ends a link that is up and not set up: the setup failed, or there are no credentials for it, the time for it is over,
--- everything is shut down, or the link fails, which closes the connection for the setup, as for a pipeline
+-- the stream of messages is dropped, everything is shut down, or the link fails
 abbrev pub ending_unready : Ledger → News → Option Ending
 ending_unready l shut = Some by_shutdown
 ending_unready l overdue = Some (by_opening (error.Io kind.TimedOut))
-ending_unready l (failed f) = Some (by_opening error.Closed)
-ending_unready l (came piece) = if is_spoiled l.rest then Some (by_opening error.Closed) else None
+ending_unready l (failed f) = Some (by_opening (opening_error l f))
+ending_unready l (came piece) = if is_unreadable l then Some (by_opening (opening_error l fault.Parse)) else None
+ending_unready l dropped = ending_dropped l (by_opening error.Closed)
 ending_unready l silence = None
 ending_unready l connected = None
 ending_unready l (refused f) = None
@@ -370,26 +450,28 @@ ending_by (Some e) other = Some (by_opening e)
 abbrev pub ending_alive : Ledger → Option Ending
 ending_alive l = if is_set_up l then ending_up l l.heard else ending_by (error_in (setup_result l)) (ending_unready l l.heard)
 
--- what closes a link whose connect isn't answered: the shutdown, and the end of the time in which it was to be connected
-abbrev pub ending_asked : News → Option Ending
-ending_asked shut = Some by_shutdown
-ending_asked overdue = Some (by_opening (error.Io kind.TimedOut))
-ending_asked silence = None
-ending_asked connected = None
-ending_asked (refused f) = None
-ending_asked (took count) = None
-ending_asked (came piece) = None
-ending_asked (failed f) = None
-ending_asked (authorized c) = None
-ending_asked (denied text) = None
-ending_asked deserted = None
-ending_asked (renewed c) = None
-ending_asked unrenewed = None
-ending_asked (late k) = None
+-- what closes a link whose connect isn't answered: the shutdown, the end of the time in which it was to be connected, and that
+-- the stream of messages is dropped
+abbrev pub ending_asked : Ledger → News → Option Ending
+ending_asked l shut = Some by_shutdown
+ending_asked l overdue = Some (by_opening (error.Io kind.TimedOut))
+ending_asked l dropped = ending_dropped l (by_opening error.Closed)
+ending_asked l silence = None
+ending_asked l connected = None
+ending_asked l (refused f) = None
+ending_asked l (took count) = None
+ending_asked l (came piece) = None
+ending_asked l (failed f) = None
+ending_asked l (authorized c) = None
+ending_asked l (denied text) = None
+ending_asked l deserted = None
+ending_asked l (renewed c) = None
+ending_asked l unrenewed = None
+ending_asked l (late k) = None
 
 -- what must end the link in the turn that runs, if anything does
 abbrev pub ending : Ledger → Option Ending
-ending l = if l.up then ending_alive l else (if l.asked && not (is_over l) then ending_asked l.heard else None)
+ending l = if l.up then ending_alive l else (if l.asked && not (is_over l) then ending_asked l l.heard else None)
 
 abbrev pub ending_or_shutdown : Option Ending → Ending
 ending_or_shutdown None = by_shutdown
@@ -404,12 +486,12 @@ full_count (s ∷ ss) dealt = if nat_le (need_in s.shape dealt) (length dealt) t
 abbrev pub ended : Ledger → ℕ → Ledger
 ended l turn = record l { up = false; end = Some (record { turn = turn; why = ending_or_shutdown (ending l); oldest = full_count l.starts l.dealt }) }
 
--- a line of what is told of a link: its connect is asked for, this is to be said to its server then, and whether credentials
--- are to come of sources; the turn of that number, with this news for it; a message begins; its unwritten bytes are offered;
--- the next push is told; a source of credentials is asked for; a timer for new credentials is; it is closed, in that turn; its
+-- a line of what is told of a link: its connect is asked for, this is to be said to its server then, whether credentials are to
+-- come of sources, and what is heard on it; the turn of that number, with this news for it; a message begins; its unwritten
+-- bytes are offered; the next notice is told; a source of credentials is asked for; a timer for new credentials is; it is closed, in that turn; its
 -- end is told as a push
 pub data Line : Type 0 where
-  asks : RedisConnectionInfo → Bool → Line
+  asks : RedisConnectionInfo → Bool → Hearing → Line
   hears : ℕ → News → Line
   begins : Start → Line
   offers : List ℕ → Line
@@ -421,7 +503,7 @@ pub data Line : Type 0 where
 
 -- what one more line makes of it
 abbrev pub noted : Ledger → Line → Ledger
-noted l (asks info wanted) = record l { asked = true; info = info; creds = unsourced wanted }
+noted l (asks info wanted hears_what) = record l { asked = true; info = info; hearing = hears_what; creds = unsourced wanted }
 noted l (hears turn news) = record (with_news l turn news) { heard = news }
 noted l (begins s) = record l { starts = l.starts ++ s ∷ [] }
 noted l (offers bytes) = record l { offer = bytes }
@@ -465,9 +547,9 @@ abbrev pub IsWithin : Ledger → News → Type 0
 IsWithin l (took count) = l.up ≡ true → count ≤ length l.offer
 IsWithin l _ = Unit {0}
 
--- the next push of a link that is to be told, if one came that wasn't
-abbrev pub next_push : Ledger → Option Heard
-next_push l = slice_get l.pushes l.told
+-- what is to be told of a link next, if something came that wasn't
+abbrev pub next_notice : Ledger → Option Heard
+next_notice l = slice_get l.notices l.told
 
 -- its link ended by a fault once it was set up, so that this is told as a push where somebody hears pushes
 abbrev pub is_cut : Option End → Bool
@@ -475,15 +557,15 @@ is_cut None = false
 is_cut (Some end) = is_fault end.why
 
 -- where a line may stand: a link is asked for once; its messages have bytes, and start while it is up; it is offered all
--- its unwritten bytes at once, where no offer is unanswered; a push is told that came; a source of credentials is asked for
+-- its unwritten bytes at once, where no offer is unanswered; something is told that came; a source of credentials is asked for
 -- that is to be, and a timer for credentials that were to be told; it ends where something must end it; and that a fault ended
 -- it is told once
 abbrev pub MayNote : Ledger → Line → Type 0
-MayNote l (asks info wanted) = l.asked ≡ false
+MayNote l (asks info wanted hears_what) = l.asked ≡ false
 MayNote l (hears turn news) = IsWithin l news
 MayNote l (begins s) = (l.up ≡ true) × (s.bytes ≢ [])
 MayNote l (offers bytes) = (l.up ≡ true) × (l.offer ≡ []) × (bytes ≡ unwritten l) × (bytes ≢ [])
-MayNote l tells = is_some (next_push l) ≡ true
+MayNote l tells = is_some (next_notice l) ≡ true
 MayNote l sources = source_due l ≡ true
 MayNote l times = l.creds.timed < renewals_asked l
 MayNote l (ends turn) = (why : Ending) × (ending l ≡ Some why)

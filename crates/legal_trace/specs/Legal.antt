@@ -19,12 +19,16 @@ use Rattle.driver_model.specs.declared.outcome.Outcome.{Outcome}
 use Rattle.driver_model.specs.declared.outcome.Outcome.TheVariants as outcome
 use Rattle.driver_model.specs.Push.{is_disconnection}
 use Rattle.driver_model.specs.declared.push_info.PushInfo.{PushInfo}
-use Rattle.driver_model.specs.Config.{address, connect_timeout, first_fault, hears_pushes, response_timeout}
+use Rattle.driver_model.specs.Config.{address, connect_timeout, first_fault, hearing_of, response_timeout}
+use Rattle.driver_model.specs.declared.hearing.Hearing.{Hearing}
+use Rattle.driver_model.specs.declared.hearing.Notice.{Notice}
+use Rattle.driver_model.specs.declared.hearing.Notice.TheVariants as notice
+use Rattle.driver_model.specs.Hearing.{hears_pushes, hears_something}
 use Rattle.credentials.specs.Credentials.{Credentials}
 use Rattle.driver_model.specs.Shape.{need_of}
-use Rattle.legal_trace.specs.Ledger.{Ledger, Heard, Ending, IsOffered, is_full, is_full_by, is_over, is_ready, is_cut, ending, failure_in, next_push, renewal_due, renewal_message, renewals_asked, setup_due, setup_message, source_due, unwritten}
+use Rattle.legal_trace.specs.Ledger.{Ledger, Heard, Ending, IsOffered, is_full, is_full_by, is_over, is_ready, is_cut, ending, failure_in, monitor_due, monitor_message, next_notice, renewal_due, renewal_message, renewals_asked, setup_due, setup_message, source_due, unwritten}
 use Rattle.legal_trace.specs.Story.{Try, last_of, is_open, is_unstarted, bytes_of, shape}
-use Rattle.legal_trace.specs.Book.{Book, blank_book, book, entered, current}
+use Rattle.legal_trace.specs.Book.{Book, blank_book, book, entered, current, hearing_in}
 use Rattle.legal_trace.specs.Owed.{owed}
 use Rattle.legal_trace.specs.Steps.{waits, takes, asks, tells, starts, is_due, is_held_back, next_step}
 use Rattle.legal_trace.specs.Events.{is_bad_event}
@@ -57,21 +61,21 @@ FailuresAreShown b = (l : ℕ) (e : RedisError) → failure_in (b.link l).end �
 abbrev pub ReadyIsShown : Book → Type 0
 ReadyIsShown b = (l : ℕ) → is_ready (b.link l) ≡ true → b.created ≢ 0
 
--- somebody hears the pushes of the connection
-abbrev pub is_heard_in : Option Config → Bool
-is_heard_in None = false
-is_heard_in (Some config) = hears_pushes config
-
+-- somebody hears what comes beside replies
 abbrev pub is_heard : Book → Bool
-is_heard b = is_heard_in b.config
+is_heard b = hears_something (hearing_in b.config)
 
--- all pushes that came were told, where somebody hears them
-abbrev pub PushesAreTold : Book → Type 0
-PushesAreTold b = (l : ℕ) → is_heard b ≡ true → next_push (b.link l) ≡ None
+-- somebody hears pushes
+abbrev pub are_pushes_heard : Book → Bool
+are_pushes_heard b = hears_pushes (hearing_in b.config)
+
+-- all that came was told, where somebody hears it
+abbrev pub NoticesAreTold : Book → Type 0
+NoticesAreTold b = (l : ℕ) → is_heard b ≡ true → next_notice (b.link l) ≡ None
 
 -- the end of each link that a fault ended, once it was set up, was told as a push, where somebody hears pushes
 abbrev pub EndsAreTold : Book → Type 0
-EndsAreTold b = (l : ℕ) → is_heard b ≡ true → is_cut (b.link l).end ≡ true → (b.link l).parted ≡ true
+EndsAreTold b = (l : ℕ) → are_pushes_heard b ≡ true → is_cut (b.link l).end ≡ true → (b.link l).parted ≡ true
 
 -- a link was asked for, and where a link is ready, or its opening failed, the creation was shown
 pub record IsCreated (b : Book) : Type 0 where
@@ -92,7 +96,7 @@ pub record IsApplied (b : Book) : Type 0 where
   pub answered : NoneIsOwed b
   pub ended : NoneEnds b
   pub created : IsCreated b
-  pub pushed : PushesAreTold b
+  pub pushed : NoticesAreTold b
   pub parted : EndsAreTold b
   pub sourced : SourcesAreAsked b
   pub timed : IsTimed b
@@ -100,6 +104,10 @@ pub record IsApplied (b : Book) : Type 0 where
 -- the setup of each link has started that is to start, but where the link is held back
 abbrev pub SetupsAreStarted : Book → Type 0
 SetupsAreStarted b = (l k : ℕ) → setup_due (b.link l) ≡ Some k → is_held_back b (b.link l) ≡ true
+
+-- MONITOR has started where it is to, but where the link is held back
+abbrev pub MonitorsAreStarted : Book → Type 0
+MonitorsAreStarted b = (l : ℕ) → monitor_due (b.link l) ≡ true → is_held_back b (b.link l) ≡ true
 
 -- within how many milliseconds what the driver says itself is to be answered, if within any
 abbrev pub answer_time : Option Config → Option ℕ
@@ -114,10 +122,11 @@ RenewalsAreTimed b = (l : ℕ) → answer_time b.config ≢ None → renewals_as
 abbrev pub RenewalsAreStarted : Book → Type 0
 RenewalsAreStarted b = (l : ℕ) (c : Credentials) → renewal_due (b.link l) ≡ Some c → is_held_back b (b.link l) ≡ true
 
--- the event has had its own effect, setups have started, and so have new credentials, which have their timers
+-- the event has had its own effect, setups have started, and so have MONITOR and new credentials, which have their timers
 pub record IsBegun (b : Book) : Type 0 where
   pub applied : IsApplied b
   pub setups : SetupsAreStarted b
+  pub monitors : MonitorsAreStarted b
   pub timed : RenewalsAreTimed b
   pub renewed : RenewalsAreStarted b
 
@@ -195,28 +204,28 @@ pub record MayTimeConnect (b : Book) (t ms : ℕ) (what : Purpose) : Type 0 wher
   pub next : t ≡ length b.timers
   pub is_for : what ≡ purpose.Connect (current b)
 
--- its last message was full before this push came
-pub record IsBefore (b : Book) (n : ℕ) (p : Heard) : Type 0 where
+-- its last message was full before this came
+pub record IsBefore (b : Book) (n : ℕ) (h : Heard) : Type 0 where
   pub try : Try
   pub last : last_of (b.story n).tries ≡ Some try
-  pub full : is_full_by (b.link try.link) p.after try.message ≡ true
+  pub full : is_full_by (b.link try.link) h.after try.message ≡ true
 
--- the next push of a link is told, where somebody hears it, in the order of the links, once the creation is shown of those that
+-- what came next on a link is told, where somebody hears it, in the order of the links, once the creation is shown of those that
 -- are ready, all sources were asked for, and the outcomes of messages are shown that were full before it came
-pub record MayTellPush (b : Book) (l : ℕ) (info : PushInfo) : Type 0 where
-  pub heard : is_heard b ≡ true
-  pub push : Heard
-  pub next : next_push (b.link l) ≡ Some push
-  pub says : info ≡ push.info
-  pub in_order : (m : ℕ) → m < l → next_push (b.link m) ≡ None
+pub record MayNotify (b : Book) (l : ℕ) (n : Notice) : Type 0 where
+  pub is_heard : is_heard b ≡ true
+  pub heard : Heard
+  pub next : next_notice (b.link l) ≡ Some heard
+  pub says : n ≡ heard.what
+  pub in_order : (m : ℕ) → m < l → next_notice (b.link m) ≡ None
   pub created : ReadyIsShown b
   pub sourced : SourcesAreAsked b
-  pub answered : (n : ℕ) → IsOpen b n → (b.story n).link ≡ l → IsBefore b n push → ⊥
+  pub answered : (m : ℕ) → IsOpen b m → (b.story m).link ≡ l → IsBefore b m heard → ⊥
 
--- that a fault ended a link, once it was set up, is told once as a push without parts, where somebody hears it, in the order of
--- the links, once all links that must end have, and the outcomes that values gave are shown
+-- that a fault ended a link, once it was set up, is told once as a push without parts, where somebody hears pushes, in the order
+-- of the links, once all links that must end have, and the outcomes that values gave are shown
 pub record MayPart (b : Book) (l : ℕ) (info : PushInfo) : Type 0 where
-  pub heard : is_heard b ≡ true
+  pub heard : are_pushes_heard b ≡ true
   pub ended : is_cut (b.link l).end ≡ true
   pub once : (b.link l).parted ≡ false
   pub bare : info.parts ≡ []
@@ -227,13 +236,13 @@ pub record MayPart (b : Book) (l : ℕ) (info : PushInfo) : Type 0 where
 
 abbrev pub MayPushBy : Bool → Book → ℕ → PushInfo → Type 0
 MayPushBy true b l info = MayPart b l info
-MayPushBy false b l info = MayTellPush b l info
+MayPushBy false b l info = MayNotify b l (notice.Push info)
 
 abbrev pub MayPush : Book → ℕ → PushInfo → Type 0
 MayPush b l info = MayPushBy (is_disconnection info.kind) b l info
 
--- a link is closed by what must end it, in the order of their numbers, once the outcomes that values gave are shown, and the
--- pushes that came told
+-- a link is closed by what must end it, in the order of their numbers, once the outcomes that values gave are shown, and what
+-- came is told
 pub record MayClose (b : Book) (l : ℕ) : Type 0 where
   pub why : Ending
   pub ends : ending (b.link l) ≡ Some why
@@ -241,7 +250,7 @@ pub record MayClose (b : Book) (l : ℕ) : Type 0 where
   pub answered : VerdictsAreShown b
   pub created : ReadyIsShown b
   pub sourced : SourcesAreAsked b
-  pub pushed : PushesAreTold b
+  pub pushed : NoticesAreTold b
 
 -- the creation is shown once, when a link is ready: once the outcomes that values gave are shown, and before a link ends
 pub record MayBeCreated (b : Book) : Type 0 where
@@ -266,14 +275,14 @@ abbrev pub MayShowCreation : Book → Option RedisError → Type 0
 MayShowCreation b None = MayBeCreated b
 MayShowCreation b (Some e) = MayFail b e
 
--- an open submission is answered with what it is owed: first those whose link has not ended, each before the pushes of its link
--- that came after its message was full, and then the others, once all links that must end have, a failed opening was shown, and
+-- an open submission is answered with what it is owed: first those whose link has not ended, each before what is told of its
+-- link and came after its message was full, and then the others, once all links that must end have, a failed opening was shown, and
 -- the ends that are told as pushes were; each in the order of their numbers
 pub record MayAnswer (b : Book) (n : ℕ) (o : Outcome) : Type 0 where
   pub asked : IsOpen b n
   pub owes : owed b n ≡ Some o
   pub in_order : (m : ℕ) → m < n → IsOpen b m → is_over (link_of b m) ≡ is_over (link_of b n) → owed b m ≡ None
-  pub after_pushes : is_heard b ≡ true → (push : Heard) → next_push (link_of b n) ≡ Some push → IsBefore b n push
+  pub after_notices : is_heard b ≡ true → (heard : Heard) → next_notice (link_of b n) ≡ Some heard → IsBefore b n heard
   pub after_closes : is_over (link_of b n) ≡ true → NoneEnds b × VerdictsAreShown b × FailuresAreShown b × EndsAreTold b
   pub after_sources : is_over (link_of b n) ≡ true → SourcesAreAsked b
 
@@ -288,6 +297,18 @@ pub record MaySetUp (b : Book) (l message count len : ℕ) : Type 0 where
   pub next : message ≡ length (b.link l).starts
   pub needs_its_items : count ≡ need_of (setup_message (b.link l) k).shape
   pub long_as_its_bytes : len ≡ length (setup_message (b.link l) k).bytes
+
+-- MONITOR starts on a link whose server is to be put into monitor mode, once what is said before it is answered well, while the
+-- link isn't held back
+pub record MayWatch (b : Book) (l message count len : ℕ) : Type 0 where
+  pub applied : IsApplied b
+  pub setups : SetupsAreStarted b
+  pub due : monitor_due (b.link l) ≡ true
+  pub free : is_held_back b (b.link l) ≡ false
+  pub in_order : (m : ℕ) → m < l → monitor_due (b.link m) ≡ true → is_held_back b (b.link m) ≡ true
+  pub next : message ≡ length (b.link l).starts
+  pub needs_its_items : count ≡ need_of monitor_message.shape
+  pub long_as_its_bytes : len ≡ length monitor_message.bytes
 
 -- no submission before n makes a step
 abbrev pub IsFirstToMove : Book → ℕ → Type 0
@@ -305,6 +326,7 @@ pub record MayNeed (b : Book) (c l : ℕ) : Type 0 where
 pub record MayTimeRenewal (b : Book) (t ms : ℕ) (what : Purpose) : Type 0 where
   pub applied : IsApplied b
   pub setups : SetupsAreStarted b
+  pub monitors : MonitorsAreStarted b
   pub l : ℕ
   pub within : answer_time b.config ≡ Some ms
   pub asked : (b.link l).creds.timed < renewals_asked (b.link l)
@@ -316,6 +338,7 @@ pub record MayTimeRenewal (b : Book) (t ms : ℕ) (what : Purpose) : Type 0 wher
 pub record MayRenew (b : Book) (l message count len : ℕ) : Type 0 where
   pub applied : IsApplied b
   pub setups : SetupsAreStarted b
+  pub monitors : MonitorsAreStarted b
   pub timed : RenewalsAreTimed b
   pub credentials : Credentials
   pub due : renewal_due (b.link l) ≡ Some credentials
@@ -392,15 +415,20 @@ MayStand b (action.Connect l host port) = MayConnect b l host port
 MayStand b (action.Timer t ms what) = MayTimer b t ms what
 MayStand b (action.Took owner.Setup l count) = ⊥
 MayStand b (action.Took owner.Auth l count) = ⊥
+MayStand b (action.Took owner.Monitor l count) = ⊥
 MayStand b (action.Took (owner.Try n round) l count) = (round ≡ 0) × MayTake b n l count
 MayStand b (action.Push l info) = MayPush b l info
+MayStand b (action.Message m) = MayNotify b (current b) (notice.Message m)
+MayStand b (action.Monitor v) = MayNotify b (current b) (notice.Monitor v)
 MayStand b (action.NeedCreds c l) = MayNeed b c l
 MayStand b (action.Close l) = MayClose b l
 MayStand b (action.Write l bytes) = MayWrite b l bytes
 MayStand b (action.Wait owner.Setup kind) = ⊥
 MayStand b (action.Wait owner.Auth kind) = ⊥
+MayStand b (action.Wait owner.Monitor kind) = ⊥
 MayStand b (action.Start l message owner.Auth count len) = MayRenew b l message count len
 MayStand b (action.Start l message owner.Setup count len) = MaySetUp b l message count len
+MayStand b (action.Start l message owner.Monitor count len) = MayWatch b l message count len
 MayStand b (action.Wait (owner.Try n round) kind) = (round ≡ 0) × MayWait b n kind
 MayStand b (action.Start l message (owner.Try n round) count len) = (round ≡ 0) × MayStart b l message n count len
 MayStand b (action.Created e) = MayShowCreation b e

@@ -10,15 +10,9 @@ use Rattle.driver_model.specs.declared.outcome.Outcome.TheVariants as outcome
 use Rattle.driver_model.specs.declared.outcome.Shape.{Shape}
 use Rattle.driver_model.specs.declared.outcome.Shape.TheVariants.{Single, Pipeline, Confirmation}
 use Rattle.driver_model.specs.Shape.{verdict_of, outcome_of}
-use Rattle.legal_trace.specs.Ledger.{Ledger, End, Ending, by_shutdown, by_fault, by_opening, cut, is_full}
+use Rattle.legal_trace.specs.Ledger.{Ledger, End, Ending, by_shutdown, by_fault, by_opening, cut, fault_error, is_full}
 use Rattle.legal_trace.specs.Story.{Story, Try, bytes_of, shape, last_of}
 use Rattle.legal_trace.specs.Book.{Book}
-
--- the error that a fault is
-abbrev pub fault_error : LinkFault → RedisError
-fault_error fault.Ended = error.Closed
-fault_error (fault.Io f) = error.Io f
-fault_error fault.Parse = error.Parse
 
 -- the error of the oldest message that takes items: a single command gets the fault itself, as a subscription call does, and
 -- a pipeline the closed connection

@@ -3,7 +3,7 @@ use Rattle.std.specs.Prelude.{ℕ, zero, suc, ◌+◌, ◌-◌, ◌==◌, nat_lt
 use Rattle.driver_model.specs.declared.action.WaitKind.{WaitKind}
 use Rattle.driver_model.specs.declared.action.WaitKind.TheVariants as wait
 use Rattle.driver_model.specs.declared.config.Config.{Config}
-use Rattle.driver_model.specs.Config.{buffer_size, boundary}
+use Rattle.driver_model.specs.Config.{permits, buffer_size, boundary}
 use Rattle.driver_model.specs.Shape.{permits_for}
 use Rattle.legal_trace.specs.Ledger.{Ledger, dials, is_set_up, lacks_credentials, renewal_due, unwritten}
 use Rattle.legal_trace.specs.Story.{Story, has_place, is_awaited, is_told, is_unstarted, shape}
@@ -48,7 +48,7 @@ is_held_back b l = is_held (configured boundary b.config) l
 -- how many permits the connection has, if they are counted
 abbrev pub permits_in : Option Config → Option ℕ
 permits_in None = None
-permits_in (Some config) = config.limit
+permits_in (Some config) = permits config
 
 -- the permits of a connection that a submission of link l holds
 abbrev pub permits_on : ℕ → Story → ℕ

@@ -1,20 +1,25 @@
--- Which message gets an item, and what it comes to.
-use Rattle.std.specs.Prelude.{ℕ, nat_lt, Bool, List, [], ◌∷◌, ◌++◌, length, if◌then◌else◌}
-use Rattle.resp_value.specs.Data.{Data, push, list_of}
-use Rattle.resp_read.specs.Items.{is_item}
+-- Which message gets an item, what it comes to, and what is told of values that come.
+use Rattle.std.specs.Prelude.{ℕ, ◌==◌, nat_lt, Bool, true, false, ◌||◌, not, List, [], ◌∷◌, ◌++◌, length, Option, Some, None, if◌then◌else◌}
+use Rattle.resp_value.specs.Data.{Data}
+use Rattle.driver_model.specs.Hearing.{Taking, taking}
 use Rattle.driver_model.specs.Shape.{need_of, verdict_of}
+use Rattle.driver_model.specs.declared.hearing.Hearing.{Hearing}
+use Rattle.driver_model.specs.declared.hearing.Notice.{Notice}
 use Rattle.link_core.specs.declared.message.Entry.{Entry}
 use Rattle.link_core.specs.declared.message.Settled.{Settled}
-use Rattle.link_core.specs.declared.message.PushAt.{PushAt}
+use Rattle.link_core.specs.declared.message.NoticeAt.{NoticeAt}
 
--- a row of started messages, and the messages that were settled
+-- a row of started messages, the messages that were settled, what is to be told, each behind as many settled messages as there
+-- were, and whether a value came that ends the link
 pub record Dealing : Type 0 where
   pub row : List Entry
   pub out : List Settled
+  pub notices : List NoticeAt
+  pub strange : Bool
 
--- this row, and these messages settled so far
-abbrev pub dealing_with : List Entry → List Settled → Dealing
-dealing_with row out = record { row = row; out = out }
+-- this row, of which nothing was dealt so far
+abbrev pub dealing_with : List Entry → Dealing
+dealing_with row = record { row = row; out = []; notices = []; strange = false }
 
 abbrev pub with_item : Entry → Data → Entry
 with_item e item = record e { got = e.got ++ item ∷ [] }
@@ -26,7 +31,7 @@ settled_by e = if e.awaited then record { id = e.id; verdict = verdict_of e.shap
 -- the oldest message has one item more: it takes further ones, or it is full
 abbrev pub given : Dealing → Entry → List Entry → Dealing
 given d e es =
-    if nat_lt (length e.got) (need_of e.shape) then record d { row = e ∷ es } else record { row = es; out = d.out ++ settled_by e }
+    if nat_lt (length e.got) (need_of e.shape) then record d { row = e ∷ es } else record d { row = es; out = d.out ++ settled_by e }
 
 abbrev pub dealt_to : Dealing → Data → List Entry → Dealing
 dealt_to d item [] = d
@@ -36,24 +41,37 @@ dealt_to d item (e ∷ es) = given d (with_item e item) es
 abbrev pub dealt : Dealing → Data → Dealing
 dealt d item = dealt_to d item d.row
 
-abbrev pub dealt_each : Dealing → List Data → Dealing
-dealt_each d [] = d
-dealt_each d (v ∷ vs) = dealt_each (dealt d v) vs
+-- a value is dealt, or isn't
+abbrev pub dealt_if : Bool → Dealing → Data → Dealing
+dealt_if is d v = if is then dealt d v else d
 
--- a value comes: an item is dealt, and a push without reply isn't
-abbrev pub value_dealt : Dealing → Data → Dealing
-value_dealt d v = if is_item v then dealt d v else d
+-- some of these messages take items: each in a row does
+abbrev pub is_awaiting : List Entry → Bool
+is_awaiting [] = false
+is_awaiting (e ∷ es) = true
 
--- a push behind n settled messages
-abbrev pub push_behind : ℕ → Data → List PushAt
-push_behind n (push k parts) = record { settled = n; info = record { kind = k; parts = list_of parts } } ∷ []
-push_behind n _ = []
+-- the link is set up: it was before, or its setup was settled since
+abbrev pub is_set_up_in : Bool → Dealing → Bool
+is_set_up_in ready d = ready || not (length d.out == 0)
 
--- the pushes among these values, in order, each with how many messages were settled before it
-abbrev pub pushes_each : Dealing → List Data → List PushAt
-pushes_each d [] = []
-pushes_each d (v ∷ vs) = push_behind (length d.out) v ++ pushes_each (value_dealt d v) vs
+-- what becomes of a value that comes
+abbrev pub taking_in : Hearing → Bool → Dealing → Data → Taking
+taking_in h ready d v = taking h (is_set_up_in ready d) (is_awaiting d.row) v
 
--- where nobody listens to pushes none is noted
-abbrev pub heard_of : Bool → List PushAt → List PushAt
-heard_of heard pushes = if heard then pushes else []
+-- what is told of it, behind n settled messages
+abbrev pub noticed_behind : ℕ → Option Notice → List NoticeAt
+noticed_behind n None = []
+noticed_behind n (Some what) = record { settled = n; notice = what } ∷ []
+
+-- a value comes, of which this becomes
+abbrev pub taken_as : Dealing → Taking → Data → Dealing
+taken_as d t v = dealt_if t.dealt (record d { notices = d.notices ++ noticed_behind (length d.out) t.told; strange = t.ends }) v
+
+-- a value comes; behind one that ends the link none is taken
+abbrev pub taken : Hearing → Bool → Dealing → Data → Dealing
+taken h ready d v = if d.strange then d else taken_as d (taking_in h ready d v) v
+
+-- values come, one after another
+abbrev pub taken_each : Hearing → Bool → Dealing → List Data → Dealing
+taken_each h ready d [] = d
+taken_each h ready d (v ∷ vs) = taken_each h ready (taken h ready d v) vs

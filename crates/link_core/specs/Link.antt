@@ -1,16 +1,19 @@
 -- One link as plain data, and what each call does to it.
 use Rattle.std.specs.Prelude.{ℕ, ◌+◌, ◌^◌, nat_lt, nat_le, Bool, false, ◌&&◌, List, [], ◌∷◌, ◌++◌, length, Option, Some, None, if◌then◌else◌}
 use Rattle.resp_read.specs.Values.{values, left_over, is_spoiled}
-use Rattle.resp_read.specs.Items.{items}
 use Rattle.driver_model.specs.Shape.{need_of}
 use Rattle.driver_model.specs.declared.news.LinkFault.{LinkFault}
 use Rattle.link_core.specs.declared.message.Queued.{Queued}
 use Rattle.link_core.specs.declared.message.Entry.{Entry}
 use Rattle.link_core.specs.declared.message.Started.{Started}
 use Rattle.link_core.specs.declared.message.Settled.{Settled}
+use Rattle.driver_model.specs.declared.hearing.Hearing.{Hearing}
+use Rattle.driver_model.specs.declared.hearing.Notice.{Notice}
+use Rattle.driver_model.specs.declared.hearing.Notice.TheVariants as notice
+use Rattle.link_core.specs.declared.message.NoticeAt.{NoticeAt}
 use Rattle.link_core.specs.declared.message.PushAt.{PushAt}
 use Rattle.link_core.specs.declared.outbox.Outbox.{Outbox}
-use Rattle.link_core.specs.Dealing.{Dealing, dealt_each, pushes_each}
+use Rattle.link_core.specs.Dealing.{Dealing, dealing_with, taken_each}
 use Rattle.link_core.specs.Ends.{row_closed, row_hit, queue_closed}
 use Rattle.link_core.specs.Outbox.{added, all_offered, taken}
 use Rattle.link_core.specs.Row.{silenced}
@@ -128,23 +131,39 @@ settling_with link out = record { link = link; out = out }
 abbrev pub read_on : LinkState → List ℕ → LinkState
 read_on s bytes = record s { rest = left_over bytes; broken = is_spoiled bytes }
 
-abbrev pub with_dealt : Settling → Dealing → Settling
-with_dealt s d = record { link = record s.link { row = d.row }; out = s.out ++ d.out }
+-- a link that was read on: the messages that this settled, what is to be told, each behind as many of these messages as were
+-- settled before it, and whether a value came that ends the link
+pub record Reading : Type 0 where
+  pub link : LinkState
+  pub out : List Settled
+  pub notices : List NoticeAt
+  pub strange : Bool
 
-abbrev pub came_all : Settling → List ℕ → Settling
-came_all d bytes = with_dealt (record d { link = read_on d.link bytes }) (dealt_each (record { row = d.link.row; out = [] }) (items bytes))
+-- nothing was read
+abbrev pub nothing_read : LinkState → Reading
+nothing_read s = record { link = s; out = []; notices = []; strange = false }
 
--- bytes come: each item in them is dealt. A broken link reads no more
-abbrev pub piece_dealt : Settling → List ℕ → Settling
-piece_dealt d piece = if d.link.broken then d else came_all d (d.link.rest ++ piece)
+abbrev pub read_with : LinkState → Dealing → Reading
+read_with s d = record { link = record s { row = d.row }; out = d.out; notices = d.notices; strange = d.strange }
 
--- the pushes in these bytes, each with how many messages they settle before it
-abbrev pub pushes_of : LinkState → List ℕ → List PushAt
-pushes_of s bytes = pushes_each (record { row = s.row; out = [] }) (values bytes)
+-- these bytes follow the last whole value: each value that is whole now comes
+abbrev pub came_all : Hearing → Bool → LinkState → List ℕ → Reading
+came_all h ready s bytes = read_with (read_on s bytes) (taken_each h ready (dealing_with s.row) (values bytes))
 
--- the pushes that come with bytes
-abbrev pub pushes_came : LinkState → List ℕ → List PushAt
-pushes_came s piece = if s.broken then [] else pushes_of s (s.rest ++ piece)
+-- bytes come on a link on which this is heard, and which is set up or not. A broken link reads no more
+abbrev pub piece_read : Hearing → Bool → LinkState → List ℕ → Reading
+piece_read h ready s piece = if s.broken then nothing_read s else came_all h ready s (s.rest ++ piece)
+
+-- the push that is told, behind n settled messages
+abbrev pub push_at : ℕ → Notice → List PushAt
+push_at n (notice.Push info) = record { settled = n; info = info } ∷ []
+push_at n (notice.Message m) = []
+push_at n (notice.Monitor v) = []
+
+-- the pushes among what is told
+abbrev pub pushes_among : List NoticeAt → List PushAt
+pushes_among [] = []
+pushes_among (n ∷ ns) = push_at n.settled n.notice ++ pushes_among ns
 
 abbrev pub emptied : Settling → List Settled → Settling
 emptied d more = record { link = record d.link { queue = []; row = [] }; out = d.out ++ more }

@@ -3,7 +3,8 @@ ghost use Rattle.link_core.specs.Dealing.{dealing_with, dealt_each, value_dealt,
 ghost use Rattle.link_core.specs.Dealing.{pushes_each, heard_of};
 ghost use Rattle.resp_value.specs.View.{data_of};
 ghost use Rattle.resp_read.specs.Values.{values, left_over, is_spoiled};
-ghost use Rattle.resp_read.specs.Items.{items, items_among, is_item};
+ghost use Rattle.resp_read.specs.Items.{items, items_among};
+ghost use Rattle.resp_value.specs.Kinds.{is_item};
 ghost use Rattle.resp_read.specs.Limits.{default_limits};
 
 use crate::message::{PushAt, Settled};

@@ -12,7 +12,7 @@ mod spare;
 pub use driver_model::{LinkFault, PushInfo};
 pub use errors::{EnqueueError, StartError};
 pub use link::LinkCore;
-pub use message::{Entry, PushAt, Queued, Settled, Started};
+pub use message::{Entry, NoticeAt, PushAt, Queued, Settled, Started};
 pub use outbox::Outbox;
 pub use row::Row;
 pub use spare::{Rest, Spare};

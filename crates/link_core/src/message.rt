@@ -1,5 +1,5 @@
 use containers::Bytes;
-use driver_model::{PushInfo, Shape, Verdict};
+use driver_model::{Notice, PushInfo, Shape, Verdict};
 use resp_value::Values;
 
 /// A message that has its place in the queue.
@@ -36,6 +36,13 @@ pub struct Started {
 pub struct Settled {
     pub id: u64,
     pub verdict: Verdict,
+}
+
+/// What is told, and how many messages the call had settled before it.
+#[derive(Drop)]
+pub struct NoticeAt {
+    pub settled: u64,
+    pub notice: Notice,
 }
 
 /// A push, and how many messages the call had settled before it.

@@ -5,7 +5,8 @@ use Rattle.containers.proofs.Choices.{chosen, if_true, if_false, not_both}
 use Rattle.resp_value.specs.Data.{Data, Items, push, list_of}
 use Rattle.resp_value.specs.declared.push_kind.PushKind.{PushKind}
 use Rattle.resp_read.specs.Values.{values, left_over, is_spoiled}
-use Rattle.resp_read.specs.Items.{is_item, items_among, items}
+use Rattle.resp_read.specs.Items.{items_among, items}
+use Rattle.resp_value.specs.Kinds.{is_item}
 use Rattle.resp_read.proofs.ValueLaws.{values-append, left_over-append, is_spoiled-append, values-spoiled}
 use Rattle.driver_model.specs.Shape.{need_of}
 use Rattle.link_core.specs.declared.message.Entry.{Entry}

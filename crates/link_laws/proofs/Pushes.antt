@@ -7,7 +7,8 @@ use Rattle.containers.proofs.Places.{get_within}
 use Rattle.connection_setup.specs.declared.judgement.SetupResult.TheVariants as result
 use Rattle.resp_value.specs.Data.{Data, push, list_of}
 use Rattle.resp_read.specs.Values.{values}
-use Rattle.resp_read.specs.Items.{is_item, items, items_among}
+use Rattle.resp_read.specs.Items.{items, items_among}
+use Rattle.resp_value.specs.Kinds.{is_item}
 use Rattle.driver_model.specs.declared.action.Owner.{Owner}
 use Rattle.driver_model.specs.declared.outcome.Shape.{Shape}
 use Rattle.driver_model.specs.Config.{bare_info}

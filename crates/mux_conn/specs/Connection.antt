@@ -4,6 +4,7 @@ use Rattle.credentials.specs.Credentials.{Credentials}
 use Rattle.link_core.specs.Link.{LinkState, first_in, holds_back, is_full_beside}
 use Rattle.mux_conn.specs.declared.act.LinkAct.{LinkAct}
 use Rattle.mux_conn.specs.declared.connection.MultiplexedConnection.{MultiplexedConnection}
+use Rattle.mux_conn.specs.declared.life.Greeting.{Greeting}
 use Rattle.mux_conn.specs.declared.life.Life.{Life}
 use Rattle.mux_conn.specs.declared.life.Life.TheVariants.{Dialing, Wanting, SettingUp, Ready, Ended}
 use Rattle.mux_conn.specs.declared.renewal.Renewal.{Renewal}
@@ -33,14 +34,14 @@ abbrev pub with_wanting : Work → LinkState → Work
 with_wanting w link = at_life w (Wanting link)
 
 -- the link of a connection that is set up
-abbrev pub with_setup : Work → LinkState → Bool → Work
-with_setup w link with_user = at_life w (SettingUp link with_user)
+abbrev pub with_setup : Work → LinkState → Greeting → Work
+with_setup w link greeting = at_life w (SettingUp link greeting)
 
 -- its connect isn't answered
 abbrev pub awaits_connect : Life → Bool
 awaits_connect Dialing = true
 awaits_connect (Wanting link) = false
-awaits_connect (SettingUp link with_user) = false
+awaits_connect (SettingUp link greeting) = false
 awaits_connect (Ready link) = false
 awaits_connect (Ended e) = false
 
@@ -48,7 +49,7 @@ awaits_connect (Ended e) = false
 abbrev pub awaits_credentials : Life → Bool
 awaits_credentials Dialing = false
 awaits_credentials (Wanting link) = true
-awaits_credentials (SettingUp link with_user) = false
+awaits_credentials (SettingUp link greeting) = false
 awaits_credentials (Ready link) = false
 awaits_credentials (Ended e) = false
 
@@ -56,14 +57,14 @@ awaits_credentials (Ended e) = false
 abbrev pub is_setting_up : Life → Bool
 is_setting_up Dialing = false
 is_setting_up (Wanting link) = false
-is_setting_up (SettingUp link with_user) = true
+is_setting_up (SettingUp link greeting) = true
 is_setting_up (Ready link) = false
 is_setting_up (Ended e) = false
 
 abbrev pub is_ready : Life → Bool
 is_ready Dialing = false
 is_ready (Wanting link) = false
-is_ready (SettingUp link with_user) = false
+is_ready (SettingUp link greeting) = false
 is_ready (Ready link) = true
 is_ready (Ended e) = false
 
@@ -76,7 +77,7 @@ has_no_permit (Some limit) free = free == 0
 abbrev pub admits_none_at : Life → Bool → Bool
 admits_none_at Dialing empty = true
 admits_none_at (Wanting link) empty = true
-admits_none_at (SettingUp link with_user) empty = true
+admits_none_at (SettingUp link greeting) empty = true
 admits_none_at (Ready link) empty = empty
 admits_none_at (Ended e) empty = false
 
@@ -100,7 +101,7 @@ in_front r = if is_due r then 1 else 0
 abbrev pub has_room_at : Life → ℕ → Bool
 has_room_at Dialing n = false
 has_room_at (Wanting link) n = false
-has_room_at (SettingUp link with_user) n = false
+has_room_at (SettingUp link greeting) n = false
 has_room_at (Ready link) n = not (is_full_beside link n)
 has_room_at (Ended e) n = false
 
@@ -111,7 +112,7 @@ has_room c = has_room_at c.life (in_front c.renewal)
 abbrev pub is_held_back : Life → Bool
 is_held_back Dialing = false
 is_held_back (Wanting link) = false
-is_held_back (SettingUp link with_user) = false
+is_held_back (SettingUp link greeting) = false
 is_held_back (Ready link) = holds_back link
 is_held_back (Ended e) = false
 
@@ -119,7 +120,7 @@ is_held_back (Ended e) = false
 abbrev pub first_queued : Life → Option ℕ
 first_queued Dialing = None
 first_queued (Wanting link) = None
-first_queued (SettingUp link with_user) = None
+first_queued (SettingUp link greeting) = None
 first_queued (Ready link) = first_in link.queue
 first_queued (Ended e) = None
 
@@ -127,7 +128,7 @@ first_queued (Ended e) = None
 abbrev pub started_in : Life → ℕ
 started_in Dialing = 0
 started_in (Wanting link) = link.started
-started_in (SettingUp link with_user) = link.started
+started_in (SettingUp link greeting) = link.started
 started_in (Ready link) = link.started
 started_in (Ended e) = 0
 

@@ -1,5 +1,5 @@
 -- What news of its link does to a connection, and the leave of a caller. No request is moved.
-use Rattle.std.specs.Prelude.{◌≤◌, ℕ, ◌+◌, ◌^◌, ◌==◌, nat_le, Bool, true, false, List, [], ◌∷◌, Some, None, if◌then◌else◌}
+use Rattle.std.specs.Prelude.{◌≤◌, ℕ, ◌+◌, ◌^◌, ◌==◌, nat_le, Bool, true, false, ◌&&◌, ◌||◌, List, [], ◌∷◌, Some, None, codes, if◌then◌else◌}
 use Rattle.redis_error.specs.declared.fault_kind.FaultKind.{FaultKind}
 use Rattle.redis_error.specs.declared.fault_kind.FaultKind.TheVariants as kind
 use Rattle.redis_error.specs.declared.redis_error.RedisError.{RedisError}
@@ -9,7 +9,7 @@ use Rattle.driver_model.specs.declared.news.LinkFault.TheVariants as fault
 use Rattle.driver_model.specs.declared.outcome.Outcome.TheVariants as outcome
 use Rattle.resp_value.specs.declared.push_kind.PushKind.TheVariants.{Disconnection}
 use Rattle.driver_model.specs.declared.push_info.PushInfo.{PushInfo}
-use Rattle.driver_model.specs.News.{News, silence, connected, refused, overdue, took, came, failed, authorized, denied, deserted, renewed, unrenewed, late, shut}
+use Rattle.driver_model.specs.News.{News, silence, connected, refused, overdue, took, came, failed, authorized, denied, deserted, renewed, unrenewed, late, dropped, shut}
 use Rattle.connection_setup.specs.declared.judgement.SetupResult.{SetupResult}
 use Rattle.connection_setup.specs.declared.judgement.SetupResult.TheVariants as result
 use Rattle.connection_setup.specs.Setup.{Step, setup}
@@ -20,12 +20,24 @@ use Rattle.driver_model.specs.Setup.{says_nothing, setup_bytes, setup_shape}
 use Rattle.driver_model.specs.Shape.{outcome_of}
 use Rattle.link_core.specs.declared.message.Queued.{Queued}
 use Rattle.link_core.specs.declared.message.Settled.{Settled}
-use Rattle.link_core.specs.Link.{LinkState, Settling, fresh, enqueued, wrote_of, cancelled, faulted, closed_all}
-use Rattle.link_core.specs.declared.message.PushAt.{PushAt}
-use Rattle.link_core.specs.Dealing.{heard_of}
-use Rattle.link_core.specs.Link.{piece_dealt, pushes_came}
+use Rattle.link_core.specs.Link.{LinkState, fresh, enqueued, wrote_of, cancelled, faulted, closed_all}
+use Rattle.link_core.specs.declared.message.Entry.{Entry}
+use Rattle.link_core.specs.declared.message.NoticeAt.{NoticeAt}
+use Rattle.link_core.specs.Dealing.{is_awaiting}
+use Rattle.link_core.specs.Ends.{error_of}
+use Rattle.link_core.specs.Link.{Reading, piece_read}
+use Rattle.mux_conn.specs.declared.act.LinkAct.{LinkAct}
 use Rattle.mux_conn.specs.declared.act.LinkAct.TheVariants as act
 use Rattle.mux_conn.specs.declared.connection.MultiplexedConnection.{MultiplexedConnection}
+use Rattle.driver_model.specs.declared.hearing.Hearing.{Hearing}
+use Rattle.driver_model.specs.declared.hearing.Hearing.TheVariants as hearing
+use Rattle.driver_model.specs.declared.hearing.Notice.{Notice}
+use Rattle.driver_model.specs.declared.hearing.Notice.TheVariants as notice
+use Rattle.driver_model.specs.declared.outcome.Shape.TheVariants.{Single}
+use Rattle.driver_model.specs.Hearing.{hears_pushes, hears_messages, hears_something, is_watching, felt}
+use Rattle.resp_write.specs.Pack.{pack}
+use Rattle.mux_conn.specs.declared.life.Greeting.{Greeting}
+use Rattle.mux_conn.specs.declared.life.Greeting.TheVariants as greet
 use Rattle.mux_conn.specs.declared.life.Life.{Life}
 use Rattle.mux_conn.specs.declared.life.Life.TheVariants.{Dialing, Wanting, SettingUp, Ready, Ended}
 use Rattle.mux_conn.specs.declared.request.Waiting.{Waiting}
@@ -60,26 +72,32 @@ nobody_waits w = record w { conn = record w.conn { waiting = []; admitted = [] }
 abbrev pub waiting_failed : Work → RedisError → Work
 waiting_failed w e = failed_each (failed_each (nobody_waits w) e w.conn.admitted) e w.conn.waiting
 
--- a push is told
-abbrev pub pushed : Work → PushInfo → Work
-pushed w info = acted w (act.Push info)
+-- what shows a notice
+abbrev pub notice_act : Notice → LinkAct
+notice_act (notice.Push info) = act.Push info
+notice_act (notice.Message m) = act.Message m
+notice_act (notice.Monitor v) = act.Monitor v
 
--- these pushes are told, in order
-abbrev pub pushed_each : Work → List PushAt → Work
-pushed_each w [] = w
-pushed_each w (p ∷ ps) = pushed_each (pushed w p.info) ps
+-- something is told
+abbrev pub noticed : Work → Notice → Work
+noticed w n = acted w (notice_act n)
 
--- what the link has settled is answered, and the pushes that came are told, each behind as many of these messages as were
--- settled before it, where n were answered so far
-abbrev pub told_each : Work → ℕ → List PushAt → List Settled → Work
-told_each w n ps [] = pushed_each w ps
+-- this is told, in order
+abbrev pub noticed_each : Work → List NoticeAt → Work
+noticed_each w [] = w
+noticed_each w (n ∷ ns) = noticed_each (noticed w n.notice) ns
+
+-- what the link has settled is answered, and what came is told, each behind as many of these messages as were settled before it,
+-- where n were answered so far
+abbrev pub told_each : Work → ℕ → List NoticeAt → List Settled → Work
+told_each w n ns [] = noticed_each w ns
 told_each w n [] (s ∷ ss) = settled_each w (s ∷ ss)
-told_each w n (p ∷ ps) (s ∷ ss) = if nat_le p.settled n then told_each (pushed w p.info) n ps (s ∷ ss) else told_each (settled_one w s) (n + 1) (p ∷ ps) ss
+told_each w n (x ∷ xs) (s ∷ ss) = if nat_le x.settled n then told_each (noticed w x.notice) n xs (s ∷ ss) else told_each (settled_one w s) (n + 1) (x ∷ xs) ss
 
--- the pushes behind the first settled message
-abbrev pub behind_first : List PushAt → List PushAt
+-- what is told behind the first settled message
+abbrev pub behind_first : List NoticeAt → List NoticeAt
 behind_first [] = []
-behind_first (p ∷ ps) = if p.settled == 0 then behind_first ps else p ∷ ps
+behind_first (x ∷ xs) = if x.settled == 0 then behind_first xs else x ∷ xs
 
 -- the link is closed
 abbrev pub cut_short : Work → Work
@@ -95,7 +113,7 @@ ended w out = all_answered (cut_short w) out
 
 -- that the link has ended is told as a push, where somebody hears pushes
 abbrev pub parted : Work → Work
-parted w = if w.conn.hears then pushed w (record { kind = Disconnection; parts = [] }) else w
+parted w = if hears_pushes w.conn.hears then noticed w (notice.Push (record { kind = Disconnection; parts = [] })) else w
 
 -- a link that was set up ends by a fault: it is closed, which is told, its messages are answered, and then those that have no
 -- place
@@ -119,26 +137,43 @@ all_fresh w = record w { conn = record w.conn { fresh = numbers_of w.conn.waitin
 abbrev pub made_ready : Work → LinkState → Work
 made_ready w link = source_asked (acted (with_link (all_fresh w) link) (act.Created None))
 
--- the number of the message that sets a link up: no request has it
-abbrev pub setup_id : Bool → ℕ
-setup_id true = 2 ^ 32
-setup_id false = 2 ^ 32 + 1
+-- the number of a greeting's message: no request has it
+abbrev pub setup_id : Greeting → ℕ
+setup_id greet.WithUser = 2 ^ 32
+setup_id greet.WithoutUser = 2 ^ 32 + 1
+setup_id greet.Monitor = 2 ^ 32 + 3
+
+-- a greeting has the user name
+abbrev pub has_user : Greeting → Bool
+has_user greet.WithUser = true
+has_user greet.WithoutUser = false
+has_user greet.Monitor = false
 
 -- the setup, with the user name or without it
-abbrev pub steps_of : MultiplexedConnection → Bool → List Step
-steps_of c with_user = setup c.info with_user
+abbrev pub steps_of : MultiplexedConnection → Greeting → List Step
+steps_of c greeting = setup c.info (has_user greeting)
 
 -- the message that sets a link up
-abbrev pub setup_queued : List Step → Bool → Queued
-setup_queued steps with_user = record { id = setup_id with_user; packed = setup_bytes steps; shape = setup_shape steps; awaited = true }
+abbrev pub setup_queued : List Step → ℕ → Queued
+setup_queued steps id = record { id = id; packed = setup_bytes steps; shape = setup_shape steps; awaited = true }
 
--- the setup takes its place on this link, and starts with the next pass
-abbrev pub sets_up : Work → LinkState → Bool → Work
-sets_up w link with_user = with_setup w (enqueued link (setup_queued (steps_of w.conn with_user) with_user)) with_user
+-- the message of a greeting: MONITOR is one command
+abbrev pub greeting_queued : MultiplexedConnection → Greeting → Queued
+greeting_queued c greet.WithUser = setup_queued (steps_of c greet.WithUser) (setup_id greet.WithUser)
+greeting_queued c greet.WithoutUser = setup_queued (steps_of c greet.WithoutUser) (setup_id greet.WithoutUser)
+greeting_queued c greet.Monitor = record { id = setup_id greet.Monitor; packed = pack (codes "MONITOR" ∷ []); shape = Single; awaited = true }
 
--- this link is up: it is set up, or, where nothing is to be said, ready
+-- a greeting takes its place on this link, and starts with the next pass
+abbrev pub sets_up : Work → LinkState → Greeting → Work
+sets_up w link greeting = with_setup w (enqueued link (greeting_queued w.conn greeting)) greeting
+
+-- the setup is answered well: the link is ready, or its server is put into monitor mode first
+abbrev pub greeted : Work → LinkState → Work
+greeted w link = if is_watching w.conn.hears then sets_up w link greet.Monitor else made_ready w link
+
+-- this link is up: it is set up, or nothing is to be said for it
 abbrev pub come_up : Work → LinkState → Work
-come_up w link = if says_nothing (steps_of w.conn true) then made_ready w link else sets_up (all_fresh w) link true
+come_up w link = if says_nothing (steps_of w.conn greet.WithUser) then greeted w link else sets_up (all_fresh w) link greet.WithUser
 
 -- this link is up, and its setup waits for credentials, for which a source is asked
 abbrev pub comes_to_want : Work → LinkState → Work
@@ -148,7 +183,7 @@ comes_to_want w link = acted (with_wanting (all_fresh w) link) act.NeedCreds
 abbrev pub connected_at : Work → Life → Work
 connected_at w Dialing = if w.conn.renewal.wanted then comes_to_want w (new_link w.conn) else come_up w (new_link w.conn)
 connected_at w (Wanting link) = w
-connected_at w (SettingUp link with_user) = w
+connected_at w (SettingUp link greeting) = w
 connected_at w (Ready link) = w
 connected_at w (Ended e) = w
 
@@ -160,7 +195,7 @@ with_credentials w c = record w { conn = record w.conn { info = record w.conn.in
 abbrev pub authorized_at : Work → Credentials → Life → Work
 authorized_at w c (Wanting link) = come_up (with_credentials w c) link
 authorized_at w c Dialing = w
-authorized_at w c (SettingUp link with_user) = w
+authorized_at w c (SettingUp link greeting) = w
 authorized_at w c (Ready link) = w
 authorized_at w c (Ended e) = w
 
@@ -168,7 +203,7 @@ authorized_at w c (Ended e) = w
 abbrev pub unauthorized_at : Work → RedisError → Life → Work
 unauthorized_at w e (Wanting link) = opening_failed (acted w act.Close) e
 unauthorized_at w e Dialing = w
-unauthorized_at w e (SettingUp link with_user) = w
+unauthorized_at w e (SettingUp link greeting) = w
 unauthorized_at w e (Ready link) = w
 unauthorized_at w e (Ended x) = w
 
@@ -176,7 +211,7 @@ unauthorized_at w e (Ended x) = w
 abbrev pub refused_at : Work → FaultKind → Life → Work
 refused_at w f Dialing = opening_failed w (error.Io f)
 refused_at w f (Wanting link) = w
-refused_at w f (SettingUp link with_user) = w
+refused_at w f (SettingUp link greeting) = w
 refused_at w f (Ready link) = w
 refused_at w f (Ended e) = w
 
@@ -184,7 +219,7 @@ refused_at w f (Ended e) = w
 abbrev pub overdue_at : Work → Life → Work
 overdue_at w Dialing = opening_failed (acted w act.Close) (error.Io kind.TimedOut)
 overdue_at w (Wanting link) = opening_failed (acted w act.Close) (error.Io kind.TimedOut)
-overdue_at w (SettingUp link with_user) = opening_failed (acted w act.Close) (error.Io kind.TimedOut)
+overdue_at w (SettingUp link greeting) = opening_failed (acted w act.Close) (error.Io kind.TimedOut)
 overdue_at w (Ready link) = w
 overdue_at w (Ended e) = w
 
@@ -193,30 +228,48 @@ abbrev pub CanTake : Life → ℕ → Type 0
 CanTake (Ready link) count = count ≤ link.outbox.offered
 CanTake Dialing count = Unit {0}
 CanTake (Wanting link) count = count ≤ link.outbox.offered
-CanTake (SettingUp link with_user) count = count ≤ link.outbox.offered
+CanTake (SettingUp link greeting) count = count ≤ link.outbox.offered
 CanTake (Ended e) count = Unit {0}
 
 abbrev pub taken_at : Work → ℕ → Life → Work
 taken_at w count (Ready link) = with_link w (wrote_of link count)
 taken_at w count Dialing = w
 taken_at w count (Wanting link) = with_wanting w (wrote_of link count)
-taken_at w count (SettingUp link with_user) = with_setup w (wrote_of link count) with_user
+taken_at w count (SettingUp link greeting) = with_setup w (wrote_of link count) greeting
 taken_at w count (Ended e) = w
 
--- the link ends where it is up; before it is set up its opening fails, and the connection is closed for the setup
+-- the error with which the opening fails that a fault ends: MONITOR gets the fault itself once it has started, as a single command,
+-- and what is said before it gets the closed connection, as a pipeline
+abbrev pub greeting_error : Greeting → List Entry → LinkFault → RedisError
+greeting_error greet.WithUser row f = error.Closed
+greeting_error greet.WithoutUser row f = error.Closed
+greeting_error greet.Monitor row f = if is_awaiting row then error_of f else error.Closed
+
+-- the link ends where it is up; before it is set up its opening fails
 abbrev pub failed_at : Work → LinkFault → Life → Work
-failed_at w f (Ready link) = ended_by w link f
+failed_at w f (Ready link) = ended_by w link (felt w.conn.hears f)
 failed_at w f Dialing = w
 failed_at w f (Wanting link) = opening_failed (acted w act.Close) error.Closed
-failed_at w f (SettingUp link with_user) = opening_failed (acted w act.Close) error.Closed
+failed_at w f (SettingUp link greeting) = opening_failed (acted w act.Close) (greeting_error greeting link.row f)
 failed_at w f (Ended e) = w
+
+-- the stream of messages is dropped: a link of messages ends
+abbrev pub dropped_at : Work → Life → Work
+dropped_at w (Ready link) = ended_by w link fault.Ended
+dropped_at w Dialing = opening_failed (acted w act.Close) error.Closed
+dropped_at w (Wanting link) = opening_failed (acted w act.Close) error.Closed
+dropped_at w (SettingUp link greeting) = opening_failed (acted w act.Close) error.Closed
+dropped_at w (Ended e) = w
+
+abbrev pub dropped_by : Work → Work
+dropped_by w = if hears_messages w.conn.hears then dropped_at w w.conn.life else w
 
 abbrev pub broken_at : Bool → Work → Work
 broken_at broken w = if broken then failed_at w fault.Parse w.conn.life else w
 
--- what the link has settled is answered, the pushes that came are told, and bytes that begin no value end it
-abbrev pub read_to : Work → List PushAt → Settling → Work
-read_to w pushes s = broken_at s.link.broken (told_each (with_link w s.link) 0 pushes s.out)
+-- what the link has settled is answered, what came is told, and what can't be read on ends it
+abbrev pub read_to : Work → Reading → Work
+read_to w r = broken_at (r.link.broken || r.strange) (told_each (with_link w r.link) 0 r.notices r.out)
 
 -- what the replies to the setup come to
 abbrev pub judged_by : List Step → Verdict → SetupResult
@@ -225,40 +278,48 @@ judged_by steps (verdict.One value) = result.Ready
 judged_by steps verdict.Done = result.Ready
 judged_by steps (verdict.Fault e) = result.Failed e
 
--- the setup is answered: the link is ready, the setup is sent once more without the user name, or the opening failed
-abbrev pub set_up_by : Work → LinkState → SetupResult → Work
-set_up_by w link result.Ready = made_ready w link
-set_up_by w link result.RepeatWithoutUser = sets_up w link false
-set_up_by w link (result.Failed e) = opening_failed (acted w act.Close) e
-set_up_by w link result.NoMemory = w
+-- a greeting is answered well: behind MONITOR the link is ready
+abbrev pub greeted_by : Work → LinkState → Greeting → Work
+greeted_by w link greet.WithUser = greeted w link
+greeted_by w link greet.WithoutUser = greeted w link
+greeted_by w link greet.Monitor = made_ready w link
 
--- these pushes are told on a link that is set up, and reach nobody before
-abbrev pub heard_on : Work → List PushAt → Work
-heard_on w pushes = if is_ready w.conn.life then pushed_each w pushes else w
+-- a greeting is answered: well, or the setup is sent once more without the user name, or the opening failed
+abbrev pub set_up_by : Work → LinkState → Greeting → SetupResult → Work
+set_up_by w link greeting result.Ready = greeted_by w link greeting
+set_up_by w link greeting result.RepeatWithoutUser = sets_up w link greet.WithoutUser
+set_up_by w link greeting (result.Failed e) = opening_failed (acted w act.Close) e
+set_up_by w link greeting result.NoMemory = w
 
-abbrev pub answered_setup : Work → LinkState → Bool → List PushAt → List Settled → Work
-answered_setup w link with_user pushes [] = with_setup w link with_user
-answered_setup w link with_user pushes (s ∷ ss) = heard_on (set_up_by w link (judged_by (steps_of w.conn with_user) s.verdict)) (behind_first pushes)
+-- this is told on a link that is set up, and reaches nobody before
+abbrev pub heard_on : Work → List NoticeAt → Work
+heard_on w notices = if is_ready w.conn.life then noticed_each w notices else w
 
--- the setup is answered, if it is, the pushes behind it are told, and bytes that begin no value end the link
-abbrev pub read_setup : Work → Bool → List PushAt → Settling → Work
-read_setup w with_user pushes s = broken_at s.link.broken (answered_setup w s.link with_user pushes s.out)
+abbrev pub answered_setup : Work → LinkState → Greeting → List NoticeAt → List Settled → Work
+answered_setup w link greeting notices [] = with_setup w link greeting
+answered_setup w link greeting notices (s ∷ ss) = heard_on (set_up_by w link greeting (judged_by (steps_of w.conn greeting) s.verdict)) (behind_first notices)
 
--- bytes come while the setup waits for credentials: they answer nothing, no push in them is told, and bytes that begin no value
+-- what came can't be read on: it begins no value, or, where the link is set up now, ended with one that ends the link
+abbrev pub is_unreadable : Reading → Work → Bool
+is_unreadable r w = r.link.broken || (r.strange && is_ready w.conn.life)
+
+-- a greeting is answered, if it is, what came behind it is told, and what can't be read on ends the link
+abbrev pub read_setup : Work → Greeting → Reading → Work
+read_setup w greeting r =
+    let answered = answered_setup w r.link greeting r.notices r.out in
+    broken_at (is_unreadable r answered) answered
+
+-- bytes come while the setup waits for credentials: they answer nothing, nothing in them is told, and bytes that begin no value
 -- end the link
-abbrev pub read_wanting : Work → Settling → Work
-read_wanting w s = broken_at s.link.broken (with_wanting w s.link)
-
--- the pushes that come with bytes, where somebody hears them
-abbrev pub heard_in : Work → LinkState → List ℕ → List PushAt
-heard_in w link piece = heard_of w.conn.hears (pushes_came link piece)
+abbrev pub read_wanting : Work → Reading → Work
+read_wanting w r = broken_at r.link.broken (with_wanting w r.link)
 
 -- bytes come
 abbrev pub read_at : Work → List ℕ → Life → Work
-read_at w piece (Ready link) = read_to w (heard_in w link piece) (piece_dealt (record { link = link; out = [] }) piece)
+read_at w piece (Ready link) = read_to w (piece_read w.conn.hears true link piece)
 read_at w piece Dialing = w
-read_at w piece (Wanting link) = read_wanting w (piece_dealt (record { link = link; out = [] }) piece)
-read_at w piece (SettingUp link with_user) = read_setup w with_user (heard_in w link piece) (piece_dealt (record { link = link; out = [] }) piece)
+read_at w piece (Wanting link) = read_wanting w (piece_read hearing.Nothing false link piece)
+read_at w piece (SettingUp link greeting) = read_setup w greeting (piece_read w.conn.hears false link piece)
 read_at w piece (Ended e) = w
 
 -- everything is closed
@@ -266,7 +327,7 @@ abbrev pub shut_at : Work → Life → Work
 shut_at w (Ready link) = ended w (closed_all (record { link = link; out = [] })).out
 shut_at w Dialing = ended w []
 shut_at w (Wanting link) = ended w []
-shut_at w (SettingUp link with_user) = ended w []
+shut_at w (SettingUp link greeting) = ended w []
 shut_at w (Ended e) = w
 
 -- that message of a link that is set up leaves its queue, or is answered to nobody
@@ -274,7 +335,7 @@ abbrev pub cancelled_in : Life → ℕ → Life
 cancelled_in (Ready link) p = Ready (cancelled link p)
 cancelled_in Dialing p = Dialing
 cancelled_in (Wanting link) p = Wanting link
-cancelled_in (SettingUp link with_user) p = SettingUp link with_user
+cancelled_in (SettingUp link greeting) p = SettingUp link greeting
 cancelled_in (Ended e) p = Ended e
 
 -- no more bytes are taken than were offered
@@ -292,6 +353,7 @@ IsWithin life deserted = Unit {0}
 IsWithin life (renewed c) = Unit {0}
 IsWithin life unrenewed = Unit {0}
 IsWithin life (late k) = Unit {0}
+IsWithin life dropped = Unit {0}
 IsWithin life shut = Unit {0}
 
 -- the effect of news
@@ -309,6 +371,7 @@ applied w deserted = unauthorized_at w (error.AuthFailed []) w.conn.life
 applied w (renewed c) = record w { conn = expecting w.conn c }
 applied w unrenewed = record w { conn = none_follow w.conn }
 applied w (late k) = record w { conn = late_for w.conn k }
+applied w dropped = dropped_by w
 applied w shut = shut_at w w.conn.life
 
 -- the caller of request p has gone: its message leaves the queue, or is answered to nobody

@@ -8,8 +8,11 @@ use Rattle.link_core.specs.declared.message.Queued.{Queued}
 use Rattle.link_core.specs.declared.message.Started.{Started}
 use Rattle.link_core.specs.First.{first_replaced}
 use Rattle.link_core.specs.Link.{Starting, enqueued, started_all}
+use Rattle.mux_conn.specs.declared.act.LinkAct.{LinkAct}
 use Rattle.mux_conn.specs.declared.act.LinkAct.TheVariants as act
 use Rattle.mux_conn.specs.declared.connection.MultiplexedConnection.{MultiplexedConnection}
+use Rattle.mux_conn.specs.declared.life.Greeting.{Greeting}
+use Rattle.mux_conn.specs.declared.life.Greeting.TheVariants as greet
 use Rattle.mux_conn.specs.declared.life.Life.{Life}
 use Rattle.mux_conn.specs.declared.life.Life.TheVariants.{Dialing, Wanting, SettingUp, Ready, Ended}
 use Rattle.mux_conn.specs.declared.request.Progress.TheVariants as progress
@@ -26,18 +29,24 @@ shown_each w (s ∷ ss) = shown_each (acted w (act.Start s.msg (name_at w.conn.r
 abbrev pub starts_with : Work → Starting → Work
 starts_with w s = shown_each (with_link w s.link) s.out
 
--- the start of a setup is shown
-abbrev pub set_up_each : Work → List Started → Work
-set_up_each w [] = w
-set_up_each w (s ∷ ss) = set_up_each (acted w (act.SetUp s.msg s.need s.len)) ss
+-- what shows that a greeting starts
+abbrev pub greeting_act : Greeting → Started → LinkAct
+greeting_act greet.WithUser s = act.SetUp s.msg s.need s.len
+greeting_act greet.WithoutUser s = act.SetUp s.msg s.need s.len
+greeting_act greet.Monitor s = act.Watch s.msg s.need s.len
 
-abbrev pub sets_up_with : Work → Bool → Starting → Work
-sets_up_with w with_user s = set_up_each (with_setup w s.link with_user) s.out
+-- the start of a greeting is shown
+abbrev pub greeted_each : Work → Greeting → List Started → Work
+greeted_each w greeting [] = w
+greeted_each w greeting (s ∷ ss) = greeted_each (acted w (greeting_act greeting s)) greeting ss
+
+abbrev pub greets_with : Work → Greeting → Starting → Work
+greets_with w greeting s = greeted_each (with_setup w s.link greeting) greeting s.out
 
 -- messages start as far as they can
 abbrev pub started_at : Work → Life → Work
 started_at w (Ready link) = starts_with w (started_all (record { link = link; out = [] }))
-started_at w (SettingUp link with_user) = sets_up_with w with_user (started_all (record { link = link; out = [] }))
+started_at w (SettingUp link greeting) = greets_with w greeting (started_all (record { link = link; out = [] }))
 started_at w Dialing = w
 started_at w (Wanting link) = w
 started_at w (Ended e) = w
@@ -57,7 +66,7 @@ abbrev pub placed_at : Work → Waiting → Life → Work
 placed_at w q (Ready link) = with_link (progressed (noted w q.number) q.number progress.Placed) (enqueued link (message_of q))
 placed_at w q Dialing = w
 placed_at w q (Wanting link) = w
-placed_at w q (SettingUp link with_user) = w
+placed_at w q (SettingUp link greeting) = w
 placed_at w q (Ended e) = w
 
 -- a command whose reply nobody awaits is answered with Nil at its place
@@ -124,7 +133,7 @@ admitted_at w q (Ready link) = seated_or_behind (let_in w q) q
 admitted_at w q (Ended e) = answered w q.number (outcome.Fault e)
 admitted_at w q Dialing = w
 admitted_at w q (Wanting link) = w
-admitted_at w q (SettingUp link with_user) = w
+admitted_at w q (SettingUp link greeting) = w
 
 abbrev pub admitted : Work → Waiting → Work
 admitted w q = if is_waiting_at w.conn.requests q.number then admitted_at w q w.conn.life else w

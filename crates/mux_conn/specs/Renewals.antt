@@ -97,7 +97,7 @@ abbrev pub begun_in : Life → Queued → Life
 begun_in (Ready link) q = Ready (begun link q)
 begun_in Dialing q = Dialing
 begun_in (Wanting link) q = Wanting link
-begun_in (SettingUp link with_user) q = SettingUp link with_user
+begun_in (SettingUp link greeting) q = SettingUp link greeting
 begun_in (Ended e) q = Ended e
 
 -- what shows that new credentials are told
@@ -116,7 +116,7 @@ renewal_moved w (Ready link) (c ∷ cs) = if holds_back link then w else renewal
 renewal_moved w (Ready link) [] = w
 renewal_moved w Dialing cs = w
 renewal_moved w (Wanting link) cs = w
-renewal_moved w (SettingUp link with_user) cs = w
+renewal_moved w (SettingUp link greeting) cs = w
 renewal_moved w (Ended e) cs = w
 
 -- the new credentials that are next are told, where the link is set up

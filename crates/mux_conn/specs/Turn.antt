@@ -3,12 +3,14 @@ use Rattle.std.specs.Prelude.{ℕ, nat_le, Bool, false, ◌&&◌, Option, None, 
 use Rattle.connection_info.specs.declared.address.RedisConnectionInfo.{RedisConnectionInfo}
 use Rattle.driver_model.specs.declared.action.WaitKind.{WaitKind}
 use Rattle.driver_model.specs.declared.action.WaitKind.TheVariants as wait
+use Rattle.driver_model.specs.declared.hearing.Hearing.{Hearing}
 use Rattle.driver_model.specs.News.{News}
 use Rattle.link_core.specs.Link.{LinkState, offered_of}
 use Rattle.link_core.specs.Outbox.{can_offer}
 use Rattle.mux_conn.specs.declared.act.LinkAct.TheVariants as act
 use Rattle.mux_conn.specs.declared.connection.MultiplexedConnection.{MultiplexedConnection}
 use Rattle.mux_conn.specs.declared.renewal.Renewal.{Renewal}
+use Rattle.mux_conn.specs.declared.life.Greeting.{Greeting}
 use Rattle.mux_conn.specs.declared.life.Life.{Life}
 use Rattle.mux_conn.specs.declared.life.Life.TheVariants.{Dialing, Wanting, SettingUp, Ready, Ended}
 use Rattle.mux_conn.specs.Connection.{Work, acted, with_link, with_setup, first_queued}
@@ -17,7 +19,7 @@ use Rattle.mux_conn.specs.Effects.{applied}
 use Rattle.mux_conn.specs.Passes.{passed}
 
 -- a connection whose connect isn't answered, without requests
-abbrev pub dialing : ℕ → ℕ → Option ℕ → Bool → RedisConnectionInfo → Renewal → MultiplexedConnection
+abbrev pub dialing : ℕ → ℕ → Option ℕ → Hearing → RedisConnectionInfo → Renewal → MultiplexedConnection
 dialing size boundary limit hears info renewal = record {
   size = size;
   boundary = boundary;
@@ -34,7 +36,7 @@ dialing size boundary limit hears info renewal = record {
   moved = [];
   starts = tt;
   settled = tt;
-  pushes = tt;
+  notices = tt;
   failure = None;
 }
 
@@ -43,14 +45,14 @@ abbrev pub offers : Work → LinkState → Work
 offers w link = if can_offer link.outbox then acted (with_link w (offered_of link)) (act.Write link.outbox.unwritten) else w
 
 -- the same while the link is set up
-abbrev pub setup_offered : Work → LinkState → Bool → Work
-setup_offered w link with_user = if can_offer link.outbox then acted (with_setup w (offered_of link) with_user) (act.Write link.outbox.unwritten) else w
+abbrev pub setup_offered : Work → LinkState → Greeting → Work
+setup_offered w link greeting = if can_offer link.outbox then acted (with_setup w (offered_of link) greeting) (act.Write link.outbox.unwritten) else w
 
 abbrev pub written_at : Work → Life → Work
 written_at w (Ready link) = offers w link
 written_at w Dialing = w
 written_at w (Wanting link) = w
-written_at w (SettingUp link with_user) = setup_offered w link with_user
+written_at w (SettingUp link greeting) = setup_offered w link greeting
 written_at w (Ended e) = w
 
 abbrev pub written : Work → Work
@@ -71,7 +73,7 @@ moved_wait c p =
 abbrev pub early_wait : Life → WaitKind
 early_wait Dialing = wait.Connect
 early_wait (Wanting link) = wait.Creds
-early_wait (SettingUp link with_user) = wait.Setup
+early_wait (SettingUp link greeting) = wait.Setup
 early_wait (Ready link) = wait.Permit
 early_wait (Ended e) = wait.Permit
 

@@ -1,6 +1,7 @@
 use containers::Bytes;
-use driver_model::{Outcome, PushInfo, WaitKind};
+use driver_model::{Msg, Outcome, PushInfo, WaitKind};
 use redis_error::RedisError;
+use resp_value::Value;
 
 /// What a connection asks of the outside, or tells it. A request goes by the name that its maker gave it.
 #[derive(Drop)]
@@ -31,6 +32,14 @@ pub enum LinkAct {
     Push {
         info: PushInfo,
     },
+    /// A message of publish/subscribe came.
+    Message {
+        msg: Msg,
+    },
+    /// A server in monitor mode tells this.
+    Monitor {
+        value: Value,
+    },
     /// The link ended, or is to be closed.
     Close,
     /// All unwritten bytes of the link are offered.
@@ -52,6 +61,12 @@ pub enum LinkAct {
     },
     /// The setup starts: which message of the link it is, how many items it takes, and how many bytes it has.
     SetUp {
+        message: u32,
+        need: u64,
+        len: u64,
+    },
+    /// MONITOR starts: which message of the link it is, how many items it takes, and how many bytes it has.
+    Watch {
         message: u32,
         need: u64,
         len: u64,

@@ -76,7 +76,7 @@ impl MultiplexedConnection {
     {
         let mut starts = Vec::new(alloc);
         let ready = match &mut self.life {
-            Life::SettingUp { link, with_user: _ } => start_ready(alloc, link, &mut starts),
+            Life::SettingUp { link, greeting: _ } => start_ready(alloc, link, &mut starts),
             Life::Ready { link: _ } => unreachable!(),
             Life::Dialing => unreachable!(),
             Life::Wanting { link: _ } => unreachable!(),
@@ -108,7 +108,7 @@ impl MultiplexedConnection {
             Life::Ready { link } => start_ready(alloc, link, &mut starts),
             Life::SettingUp {
                 link: _,
-                with_user: _,
+                greeting: _,
             } => unreachable!(),
             Life::Dialing => return Ok(()),
             Life::Wanting { link: _ } => return Ok(()),
@@ -242,7 +242,7 @@ impl MultiplexedConnection {
             Life::Ready { link } => link,
             Life::SettingUp {
                 link: _,
-                with_user: _,
+                greeting: _,
             } => return Ok(()),
             Life::Dialing => return Ok(()),
             Life::Wanting { link: _ } => return Ok(()),

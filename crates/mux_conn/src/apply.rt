@@ -298,19 +298,19 @@ impl MultiplexedConnection {
         &mut self,
         alloc: Global,
         link: LinkCore,
-        with_user: bool,
+        greeting: bool,
     ) -> Result<(), AllocError>
         ensures conn { OnOk result (
-            self.new ≡ (sets_up (work_with self.old []) link with_user).conn
+            self.new ≡ (sets_up (work_with self.old []) link greeting).conn
             ) }
         ensures count { length self.new.requests ≡ length self.old.requests }
         ensures failure { self.new.failure ≡ self.old.failure }
     {
         let mut link = link;
-        let mut packed = setup_bytes(alloc, &self.info, with_user)?;
-        let shape = setup_shape(&self.info, with_user);
-        link.enqueue_beyond(alloc, setup_id(with_user), &mut packed, shape)?;
-        self.life = Life::SettingUp { link, with_user };
+        let mut packed = setup_bytes(alloc, &self.info, greeting)?;
+        let shape = setup_shape(&self.info, greeting);
+        link.enqueue_beyond(alloc, setup_id(greeting), &mut packed, shape)?;
+        self.life = Life::SettingUp { link, greeting };
         Ok(())
     }
 
@@ -417,7 +417,7 @@ impl MultiplexedConnection {
             Life::Dialing => unreachable!(),
             Life::SettingUp {
                 link: _,
-                with_user: _,
+                greeting: _,
             } => unreachable!(),
             Life::Ready { link: _ } => unreachable!(),
             Life::Ended { error: _ } => unreachable!(),
@@ -451,7 +451,7 @@ impl MultiplexedConnection {
     {
         match &mut self.life {
             Life::Ready { link } => link.wrote(count),
-            Life::SettingUp { link, with_user: _ } => link.wrote(count),
+            Life::SettingUp { link, greeting: _ } => link.wrote(count),
             Life::Wanting { link } => link.wrote(count),
             Life::Dialing => {}
             Life::Ended { error: _ } => {}
@@ -480,7 +480,7 @@ impl MultiplexedConnection {
             Life::Ready { link } => link.fault(fault, &mut settled)?,
             Life::SettingUp {
                 link: _,
-                with_user: _,
+                greeting: _,
             } => unreachable!(),
             Life::Wanting { link: _ } => unreachable!(),
             Life::Dialing => return Ok(()),
@@ -503,7 +503,7 @@ impl MultiplexedConnection {
             Life::Ready { link } => link.close(&mut settled)?,
             Life::SettingUp {
                 link: _,
-                with_user: _,
+                greeting: _,
             } => {}
             Life::Wanting { link: _ } => {}
             Life::Dialing => {}
@@ -568,7 +568,7 @@ impl MultiplexedConnection {
             Life::Ready { link } => link.cancel(number),
             Life::SettingUp {
                 link: _,
-                with_user: _,
+                greeting: _,
             } => {}
             Life::Wanting { link: _ } => {}
             Life::Dialing => {}
@@ -623,8 +623,8 @@ fn numbers(alloc: Global, waiting: &Queue<Waiting>) -> Result<Queue<u32>, AllocE
 }
 
 /// The number of the message that sets a link up, with the user name or without it: no request has it.
-fn setup_id(with_user: bool) -> u64
-    ensures { result ≡ setup_id with_user }
+fn setup_id(greeting: bool) -> u64
+    ensures { result ≡ setup_id greeting }
 {
-    if with_user { 1 << 32 } else { (1 << 32) + 1 }
+    if greeting { 1 << 32 } else { (1 << 32) + 1 }
 }

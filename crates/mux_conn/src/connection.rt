@@ -9,8 +9,8 @@ use crate::renewal::Renewal;
 use crate::request::{Pending, Progress, Request, Waiting};
 use connection_info::RedisConnectionInfo;
 use containers::{Bytes, Queue, Seq};
-use driver_model::{Outcome, Shape};
-use link_core::{PushAt, Settled, Spare, Started};
+use driver_model::{Hearing, Outcome, Shape};
+use link_core::{NoticeAt, Settled, Spare, Started};
 use std::alloc::{AllocError, Global};
 
 /// The numbers of one sort are 0 to 2^32 - 2: so many given out are one too many.
@@ -25,8 +25,8 @@ pub struct MultiplexedConnection {
     /// How many permits there are, if they are counted, and how many of them nobody holds.
     pub limit: Option<u32>,
     pub free: u32,
-    /// Whether somebody hears the pushes that come.
-    pub hears: bool,
+    /// What is heard, beside the replies to requests.
+    pub hears: Hearing,
     /// What is said to the server before the first request.
     pub info: RedisConnectionInfo,
     /// The credentials that come of sources.
@@ -37,10 +37,10 @@ pub struct MultiplexedConnection {
     pub admitted: Queue<Waiting>,
     pub fresh: Queue<u32>,
     pub moved: Queue<u32>,
-    /// Room for the lists of a turn: of what starts, of what the link settles, and of the pushes that come.
+    /// Room for the lists of a turn: of what starts, of what the link settles, and of what is to be told.
     pub(crate) starts: Spare<Started>,
     pub(crate) settled: Spare<Settled>,
-    pub(crate) pushes: Spare<PushAt>,
+    pub(crate) notices: Spare<NoticeAt>,
     /// Why every call fails, if it does: a call was refused memory, or a number has run out.
     pub failure: Option<ConnectionError>,
 }
@@ -63,7 +63,7 @@ impl Drop for MultiplexedConnection {
             moved,
             starts,
             settled,
-            pushes,
+            notices,
             failure: _,
         } = self;
         drop(info);
@@ -76,7 +76,7 @@ impl Drop for MultiplexedConnection {
         drop(moved);
         drop(starts);
         drop(settled);
-        drop(pushes);
+        drop(notices);
     }
 }
 
@@ -90,15 +90,15 @@ impl MultiplexedConnection {
 
     /// A connection whose connect isn't answered. The queue of its link will hold `size` messages, at least one, and no
     /// message will start on it while `boundary` bytes or more, and at least one, are unwritten. Its requests will hold no
-    /// more than `limit` permits, at least one, and where there is no limit they need none. Where it `hears`, the pushes that
-    /// come are told, and so is an end by a fault. `info` is what is said to the server before the first of them, and `renewal`
-    /// says whether credentials come of sources. Takes no memory.
+    /// more than `limit` permits, at least one, and where there is no limit they need none. What it `hears` is told, and where that
+    /// is pushes, so is an end by a fault. `info` is what is said to the server before the first of them, and `renewal` says
+    /// whether credentials come of sources. Takes no memory.
     pub fn new(
         alloc: Global,
         size: u32,
         boundary: u64,
         limit: Option<u32>,
-        hears: bool,
+        hears: Hearing,
         info: RedisConnectionInfo,
         renewal: Renewal,
     ) -> MultiplexedConnection
@@ -120,7 +120,7 @@ impl MultiplexedConnection {
             moved: Queue::new(alloc),
             starts: Spare::new(alloc),
             settled: Spare::new(alloc),
-            pushes: Spare::new(alloc),
+            notices: Spare::new(alloc),
             failure: None,
         }
     }
@@ -150,7 +150,7 @@ impl MultiplexedConnection {
         match &self.life {
             Life::Dialing => 0,
             Life::Wanting { link } => link.started(),
-            Life::SettingUp { link, with_user: _ } => link.started(),
+            Life::SettingUp { link, greeting: _ } => link.started(),
             Life::Ready { link } => link.started(),
             Life::Ended { error: _ } => 0,
         }

@@ -24,7 +24,7 @@ impl MultiplexedConnection {
     {
         let mut bytes = Vec::new(alloc);
         let offers = match &mut self.life {
-            Life::SettingUp { link, with_user: _ } => link.offer(&mut bytes)?,
+            Life::SettingUp { link, greeting: _ } => link.offer(&mut bytes)?,
             Life::Ready { link: _ } => unreachable!(),
             Life::Dialing => unreachable!(),
             Life::Wanting { link: _ } => unreachable!(),
@@ -54,7 +54,7 @@ impl MultiplexedConnection {
             Life::Ready { link } => link.offer(&mut bytes)?,
             Life::SettingUp {
                 link: _,
-                with_user: _,
+                greeting: _,
             } => unreachable!(),
             Life::Dialing => return Ok(()),
             Life::Wanting { link: _ } => return Ok(()),

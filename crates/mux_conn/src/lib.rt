@@ -18,7 +18,7 @@ mod step;
 pub use act::LinkAct;
 pub use connection::MultiplexedConnection;
 pub use errors::ConnectionError;
-pub use life::Life;
+pub use life::{Greeting, Life};
 pub use link_core::{Rest, Spare};
 pub use renewal::Renewal;
 pub use request::{Pending, Progress, Request, Waiting};

@@ -2,6 +2,17 @@ use driver_model::WaitKind;
 use link_core::LinkCore;
 use redis_error::RedisError;
 
+/// What is said to a server before the first request.
+#[derive(Clone, Copy, PartialEq, Eq)]
+pub enum Greeting {
+    /// The setup, with the user name.
+    WithUser,
+    /// The setup, without it.
+    WithoutUser,
+    /// MONITOR, behind the setup.
+    Monitor,
+}
+
 /// How far a link has come.
 #[derive(Drop)]
 pub enum Life {
@@ -9,8 +20,8 @@ pub enum Life {
     Dialing,
     /// It is up, and the credentials for its setup have not come.
     Wanting { link: LinkCore },
-    /// It is up, and what is said to the server before the first request isn't answered, with the user name or without it.
-    SettingUp { link: LinkCore, with_user: bool },
+    /// It is up, and what is said to the server before the first request isn't answered.
+    SettingUp { link: LinkCore, greeting: Greeting },
     /// It is up and set up, and takes messages.
     Ready { link: LinkCore },
     /// It takes no more messages: a request gets this error. It is that of its opening where this failed, and else the closed
@@ -34,7 +45,7 @@ impl Life {
             Life::Wanting { link: _ } => false,
             Life::SettingUp {
                 link: _,
-                with_user: _,
+                greeting: _,
             } => false,
             Life::Ready { link: _ } => false,
             Life::Ended { error: _ } => false,
@@ -50,7 +61,7 @@ impl Life {
             Life::Wanting { link: _ } => true,
             Life::SettingUp {
                 link: _,
-                with_user: _,
+                greeting: _,
             } => false,
             Life::Ready { link: _ } => false,
             Life::Ended { error: _ } => false,
@@ -66,7 +77,7 @@ impl Life {
             Life::Wanting { link: _ } => false,
             Life::SettingUp {
                 link: _,
-                with_user: _,
+                greeting: _,
             } => true,
             Life::Ready { link: _ } => false,
             Life::Ended { error: _ } => false,
@@ -82,7 +93,7 @@ impl Life {
             Life::Wanting { link: _ } => false,
             Life::SettingUp {
                 link: _,
-                with_user: _,
+                greeting: _,
             } => false,
             Life::Ready { link: _ } => true,
             Life::Ended { error: _ } => false,
@@ -99,7 +110,7 @@ impl Life {
             Life::Wanting { link: _ } => true,
             Life::SettingUp {
                 link: _,
-                with_user: _,
+                greeting: _,
             } => true,
             Life::Ready { link: _ } => empty,
             Life::Ended { error: _ } => false,
@@ -115,7 +126,7 @@ impl Life {
             Life::Wanting { link: _ } => false,
             Life::SettingUp {
                 link: _,
-                with_user: _,
+                greeting: _,
             } => false,
             Life::Ready { link } => !link.is_full_beside(in_front),
             Life::Ended { error: _ } => false,
@@ -131,7 +142,7 @@ impl Life {
             Life::Wanting { link: _ } => false,
             Life::SettingUp {
                 link: _,
-                with_user: _,
+                greeting: _,
             } => false,
             Life::Ready { link } => link.is_held_back(),
             Life::Ended { error: _ } => false,
@@ -147,7 +158,7 @@ impl Life {
             Life::Wanting { link: _ } => None,
             Life::SettingUp {
                 link: _,
-                with_user: _,
+                greeting: _,
             } => None,
             Life::Ready { link } => link.first_queued(),
             Life::Ended { error: _ } => None,
@@ -164,7 +175,7 @@ impl Life {
             Life::Wanting { link: _ } => WaitKind::Creds,
             Life::SettingUp {
                 link: _,
-                with_user: _,
+                greeting: _,
             } => WaitKind::Setup,
             Life::Ready { link: _ } => WaitKind::Permit,
             Life::Ended { error: _ } => WaitKind::Permit,

@@ -123,19 +123,19 @@ impl MultiplexedConnection {
         &mut self,
         alloc: Global,
         link: LinkCore,
-        with_user: bool,
+        greeting: bool,
         verdict: Verdict,
         out: &mut Vec<LinkAct>,
     ) -> Result<(), AllocError>
         ensures work { OnOk result (
             work_with self.new out.new.items
             ≡ set_up_by (work_with self.old out.old.items) link
-            (judged_by (steps_of self.old with_user) verdict)
+            (judged_by (steps_of self.old greeting) verdict)
             ) }
         ensures count { length self.new.requests ≡ length self.old.requests }
         ensures failure { self.new.failure ≡ self.old.failure }
     {
-        match judged(alloc, &self.info, with_user, verdict) {
+        match judged(alloc, &self.info, greeting, verdict) {
             SetupResult::Ready => {
                 self.make_ready(alloc, link, out)?;
                 Ok(())
@@ -157,14 +157,14 @@ impl MultiplexedConnection {
         &mut self,
         alloc: Global,
         link: LinkCore,
-        with_user: bool,
+        greeting: bool,
         settled: Vec<Settled>,
         pushes: Vec<PushAt>,
         out: &mut Vec<LinkAct>,
     ) -> Result<(), AllocError>
         ensures work { OnOk result (
             work_with self.new out.new.items
-            ≡ answered_setup (work_with self.old out.old.items) link with_user pushes.items
+            ≡ answered_setup (work_with self.old out.old.items) link greeting pushes.items
             settled.items
             ) }
         ensures count { length self.new.requests ≡ length self.old.requests }
@@ -173,12 +173,12 @@ impl MultiplexedConnection {
         let mut rest = Queue::from_vec(settled);
         match rest.pop_front() {
             Some(message) => {
-                self.judge(alloc, link, with_user, message.verdict, out)?;
+                self.judge(alloc, link, greeting, message.verdict, out)?;
                 self.tell_behind_first(pushes, out)?;
                 Ok(())
             }
             None => {
-                self.life = Life::SettingUp { link, with_user };
+                self.life = Life::SettingUp { link, greeting };
                 Ok(())
             }
         }
@@ -190,13 +190,13 @@ impl MultiplexedConnection {
         &mut self,
         alloc: Global,
         link: LinkCore,
-        with_user: bool,
+        greeting: bool,
         piece: &[u8],
         out: &mut Vec<LinkAct>,
     ) -> Result<(), AllocError>
         ensures work { OnOk result (
             work_with self.new out.new.items
-            ≡ read_setup (work_with self.old out.old.items) with_user
+            ≡ read_setup (work_with self.old out.old.items) greeting
             (heard_of self.old.hears (pushes_came link piece.now))
             (piece_dealt (settling_with link []) piece.now)
             ) }
@@ -211,7 +211,7 @@ impl MultiplexedConnection {
             Err(ReadError::Parse) => true,
             Err(ReadError::NoMemory) => return Err(AllocError),
         };
-        self.answer_setup(alloc, link, with_user, settled, pushes, out)?;
+        self.answer_setup(alloc, link, greeting, settled, pushes, out)?;
         if broken {
             self.fail(alloc, LinkFault::Parse, out)?;
         }
@@ -239,7 +239,7 @@ impl MultiplexedConnection {
             Life::Wanting { link } => link.bytes_unheard(alloc, piece, &mut settled),
             Life::SettingUp {
                 link: _,
-                with_user: _,
+                greeting: _,
             } => unreachable!(),
             Life::Ready { link: _ } => unreachable!(),
             Life::Dialing => unreachable!(),
@@ -277,7 +277,7 @@ impl MultiplexedConnection {
             }
             Life::SettingUp {
                 link: _,
-                with_user: _,
+                greeting: _,
             } => unreachable!(),
             Life::Wanting { link: _ } => unreachable!(),
             Life::Dialing => return Ok(()),
@@ -318,8 +318,8 @@ impl MultiplexedConnection {
         }
         let life = std::mem::replace(&mut self.life, Life::Dialing);
         match life {
-            Life::SettingUp { link, with_user } => {
-                self.read_setup(alloc, link, with_user, piece, out)?;
+            Life::SettingUp { link, greeting } => {
+                self.read_setup(alloc, link, greeting, piece, out)?;
                 Ok(())
             }
             Life::Dialing => unreachable!(),
@@ -342,13 +342,13 @@ fn show_push(push: PushAt, out: &mut Vec<LinkAct>) -> Result<(), AllocError>
 fn judged(
     alloc: Global,
     info: &RedisConnectionInfo,
-    with_user: bool,
+    greeting: bool,
     verdict: Verdict,
 ) -> SetupResult
-    ensures { Tells (judged_by (setup info.now with_user) verdict) result }
+    ensures { Tells (judged_by (setup info.now greeting) verdict) result }
 {
     match verdict {
-        Verdict::Many(replies) => check_setup(alloc, info, with_user, &replies),
+        Verdict::Many(replies) => check_setup(alloc, info, greeting, &replies),
         Verdict::One(_) => SetupResult::Ready,
         Verdict::Done => SetupResult::Ready,
         Verdict::Fault(error) => SetupResult::Failed(error),

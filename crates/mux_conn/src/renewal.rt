@@ -286,7 +286,7 @@ impl MultiplexedConnection {
             Life::Wanting { link: _ } => unreachable!(),
             Life::SettingUp {
                 link: _,
-                with_user: _,
+                greeting: _,
             } => unreachable!(),
             Life::Ended { error: _ } => unreachable!(),
         };

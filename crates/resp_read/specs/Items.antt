@@ -1,13 +1,8 @@
 -- Which values are items: those that a link gives to its messages.
-use Rattle.std.specs.Prelude.{ℕ, Bool, true, List, [], ◌∷◌, if◌then◌else◌}
-use Rattle.resp_value.specs.Data.{Data, push}
-use Rattle.resp_value.specs.Kinds.{has_reply}
+use Rattle.std.specs.Prelude.{ℕ, List, [], ◌∷◌, if◌then◌else◌}
+use Rattle.resp_value.specs.Data.{Data}
+use Rattle.resp_value.specs.Kinds.{is_item}
 use Rattle.resp_read.specs.Values.{values}
-
--- a push without reply is no item, and every other value is one
-abbrev pub is_item : Data → Bool
-is_item (push k parts) = has_reply k
-is_item _ = true
 
 -- the items among these values
 abbrev pub items_among : List Data → List Data

@@ -1,5 +1,6 @@
 -- What a push is about, by the text of its kind, and which pushes are replies.
 use Rattle.std.specs.Prelude.{ℕ, Bool, true, false, List, Option, Some, None, codes, bytes_eq, if◌then◌else◌}
+use Rattle.resp_value.specs.Data.{Data, push}
 use Rattle.resp_value.specs.declared.push_kind.PushKind.{PushKind}
 use Rattle.resp_value.specs.declared.push_kind.PushKind.TheVariants.{Disconnection, Other, Invalidate, Message, PMessage, SMessage, Unsubscribe, PUnsubscribe, SUnsubscribe, Subscribe, PSubscribe, SSubscribe}
 
@@ -40,6 +41,11 @@ has_reply PMessage = false
 has_reply SMessage = false
 has_reply Disconnection = false
 has_reply (Other text) = false
+
+-- an item, which a link may give to a message: every value but a push without reply
+abbrev pub is_item : Data → Bool
+is_item (push k parts) = has_reply k
+is_item _ = true
 
 -- the name of a kind; that of a disconnection is read from no text
 abbrev pub kind_text : PushKind → List ℕ

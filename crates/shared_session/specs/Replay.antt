@@ -12,7 +12,7 @@ use Rattle.driver_model.specs.declared.event.Event.{Event}
 use Rattle.driver_model.specs.declared.event.EventKind.{EventKind}
 use Rattle.driver_model.specs.declared.event.EventKind.TheVariants as event
 use Rattle.driver_model.specs.declared.outcome.Outcome.{Outcome}
-use Rattle.driver_model.specs.Config.{address, connect_timeout, response_timeout, buffer_size, boundary, hears_pushes, wants_credentials, told_info, first_fault}
+use Rattle.driver_model.specs.Config.{address, connect_timeout, response_timeout, buffer_size, boundary, permits, hearing_of, wants_credentials, told_info, first_fault}
 use Rattle.mux_conn.specs.Renewals.{no_renewal}
 use Rattle.mux_conn.specs.Turn.{dialing}
 use Rattle.shared_session.specs.declared.core_state.Core.{Core}
@@ -30,6 +30,7 @@ connect_timers (Some ms) = purpose.Connect first_link ∷ []
 -- after turn 0: the first link was asked for, and its timer
 abbrev pub opening_core : Config → ℕ → Core
 opening_core config word = record {
+  kind = config.kind;
   turns = 1;
   links = first_link + 1;
   shut = false;
@@ -37,7 +38,7 @@ opening_core config word = record {
   timers = connect_timers (connect_timeout config);
   sources = [];
   table = [];
-  single = record { link = first_link; connection = dialing (buffer_size config) (boundary config) config.limit (hears_pushes config) (told_info config) (no_renewal (wants_credentials config) (response_timeout config)) };
+  single = record { link = first_link; connection = dialing (buffer_size config) (boundary config) (permits config) (hearing_of config) (told_info config) (no_renewal (wants_credentials config) (response_timeout config)) };
 }
 
 -- the timer of the opening is asked for
@@ -90,6 +91,7 @@ with_room os (event.Bytes l piece) = os
 with_room os (event.Ended l) = os
 with_room os (event.ReadFault l kind) = os
 with_room os (event.WriteFault l kind) = os
+with_room os event.DropStream = os
 with_room os event.Shutdown = os
 
 -- what an action tells of outcomes
@@ -101,6 +103,8 @@ told os (action.Connect l host port) = os
 told os (action.Timer t ms what) = os
 told os (action.Took who l count) = os
 told os (action.Push l info) = os
+told os (action.Message m) = os
+told os (action.Monitor v) = os
 told os (action.NeedCreds c l) = os
 told os (action.Close l) = os
 told os (action.Write l bytes) = os

@@ -15,6 +15,7 @@ use Rattle.driver_model.specs.declared.event.EventKind.{EventKind}
 use Rattle.driver_model.specs.declared.event.EventKind.TheVariants as event
 use Rattle.driver_model.specs.declared.event.Submission.{Submission}
 use Rattle.driver_model.specs.declared.outcome.Outcome.TheVariants as outcome
+use Rattle.driver_model.specs.Kind.{is_single}
 use Rattle.driver_model.specs.News.{news_of}
 use Rattle.driver_model.specs.Request.{packed_bytes, shape_of, is_reply_awaited, lacks_resp3, has_no_form}
 use Rattle.mux_conn.specs.declared.act.LinkAct.{LinkAct}
@@ -56,6 +57,7 @@ is_shutdown (event.Creds c auth) = false
 is_shutdown (event.CredsError c text) = false
 is_shutdown (event.CredsEnd c) = false
 is_shutdown (event.Timeout ms) = false
+is_shutdown event.DropStream = false
 is_shutdown (event.Wrote l count) = false
 is_shutdown (event.Bytes l piece) = false
 is_shutdown (event.Ended l) = false
@@ -91,7 +93,7 @@ asked_for t what =
 abbrev pub submitted : Turning → Submission → Turning
 submitted t what =
     if t.core.shut then refused_with t error.Closed
-    else if lacks_resp3 t.core.single.connection.info.protocol what then refused_with t error.Resp3Required
+    else if lacks_resp3 t.core.single.connection.hears t.core.single.connection.info.protocol what then refused_with t error.Resp3Required
     else if length (packed_bytes what) == 0 then refused_with t error.EmptyCommand
     else asked_for t what
 
@@ -113,8 +115,13 @@ fired_by t None = t
 fired_by t (Some (purpose.Connect l)) = t
 fired_by t (Some (purpose.Response owner.Setup)) = t
 fired_by t (Some (purpose.Response owner.Auth)) = t
+fired_by t (Some (purpose.Response owner.Monitor)) = t
 fired_by t (Some (purpose.Renewal l k)) = t
 fired_by t (Some (purpose.Response (owner.Try n round))) = late_by t (slice_get t.core.table n)
+
+-- a new time for the requests of a multiplexed connection
+abbrev pub timed_by : Core → Option ℕ → Core
+timed_by c ms = if is_single c.kind then record c { timeout = ms } else c
 
 -- what an event is to the submissions
 abbrev pub requested : Turning → EventKind → Turning
@@ -123,7 +130,7 @@ requested t (event.Cancel n) = left_by t (slice_get t.core.table n)
 requested t (event.Connected l) = t
 requested t (event.Refused l f) = t
 requested t (event.Fired n) = fired_by t (slice_get t.core.timers n)
-requested t (event.Timeout ms) = record t { core = record t.core { timeout = ms } }
+requested t (event.Timeout ms) = record t { core = timed_by t.core ms }
 requested t (event.Creds c auth) = t
 requested t (event.CredsError c text) = t
 requested t (event.CredsEnd c) = t
@@ -132,6 +139,7 @@ requested t (event.Bytes l piece) = t
 requested t (event.Ended l) = t
 requested t (event.ReadFault l kind) = t
 requested t (event.WriteFault l kind) = t
+requested t event.DropStream = t
 requested t event.Shutdown = t
 
 -- the event's own effect
@@ -160,6 +168,9 @@ timer_of l act.NeedCreds = []
 timer_of l (act.SetUp message need len) = []
 timer_of l (act.Renewed message need len) = []
 timer_of l (act.Push info) = []
+timer_of l (act.Message m) = []
+timer_of l (act.Monitor v) = []
+timer_of l (act.Watch message need len) = []
 timer_of l act.Close = []
 timer_of l (act.Write bytes) = []
 timer_of l (act.Wait n kind) = []
@@ -187,6 +198,9 @@ source_of l n (act.RenewalTimer k ms) = []
 source_of l n (act.SetUp message need len) = []
 source_of l n (act.Renewed message need len) = []
 source_of l n (act.Push info) = []
+source_of l n (act.Message m) = []
+source_of l n (act.Monitor v) = []
+source_of l n (act.Watch message need len) = []
 source_of l n act.Close = []
 source_of l n (act.Write bytes) = []
 source_of l n (act.Wait m kind) = []
@@ -221,6 +235,9 @@ shown l t c act.NeedCreds = action.NeedCreds c l
 shown l t c (act.SetUp message need len) = action.Start l message owner.Setup need len
 shown l t c (act.Renewed message need len) = action.Start l message owner.Auth need len
 shown l t c (act.Push info) = action.Push l info
+shown l t c (act.Message m) = action.Message m
+shown l t c (act.Monitor v) = action.Monitor v
+shown l t c (act.Watch message need len) = action.Start l message owner.Monitor need len
 shown l t c act.Close = action.Close l
 shown l t c (act.Write bytes) = action.Write l bytes
 shown l t c (act.Wait n kind) = action.Wait (owner.Try n 0) kind
@@ -252,7 +269,7 @@ IsFewer c = length c.single.connection.requests ≤ length c.table
 abbrev pub exceeds_offer : Life → ℕ → Bool
 exceeds_offer Dialing count = nat_lt 0 count
 exceeds_offer (Wanting link) count = nat_lt link.outbox.offered count
-exceeds_offer (SettingUp link with_user) count = nat_lt link.outbox.offered count
+exceeds_offer (SettingUp link greeting) count = nat_lt link.outbox.offered count
 exceeds_offer (Ready link) count = nat_lt link.outbox.offered count
 exceeds_offer (Ended e) count = false
 
@@ -260,10 +277,10 @@ exceeds_offer (Ended e) count = false
 abbrev pub is_no_link : Core → ℕ → Bool
 is_no_link c l = nat_le c.links l
 
--- the event hands in a submission without a form, or names a link, a timer, a source of credentials or a submission that was
+-- the event hands in a submission that the session has no form for, or names a link, a timer, a source of credentials or a submission that was
 -- never given out, or more written bytes than were offered
 unfoldable pub is_bad : Core → EventKind → Bool
-is_bad c (event.Submit what) = has_no_form what
+is_bad c (event.Submit what) = has_no_form c.kind what
 is_bad c (event.Cancel n) = nat_le (length c.table) n
 is_bad c (event.Connected l) = is_no_link c l
 is_bad c (event.Refused l f) = is_no_link c l
@@ -277,6 +294,7 @@ is_bad c (event.Bytes l piece) = is_no_link c l
 is_bad c (event.Ended l) = is_no_link c l
 is_bad c (event.ReadFault l kind) = is_no_link c l
 is_bad c (event.WriteFault l kind) = is_no_link c l
+is_bad c event.DropStream = false
 is_bad c event.Shutdown = false
 
 -- the number 2^32 - 1 was given to a message, to new credentials, a submission, a timer or a source of credentials

@@ -4,7 +4,7 @@ ghost use Rattle.std.specs.Prelude.{nat_le};
 ghost use Rattle.shared_session.specs.Turn.{timer_of, timers_of, source_of, sources_of, use_after};
 
 use containers::{Bytes, Seq};
-use driver_model::{EventKind, Outcome, Owner, Purpose, SourceUse, Submission};
+use driver_model::{EventKind, Outcome, Owner, Purpose, SessionKind, SourceUse, Submission};
 use mux_conn::{ConnectionError, Life, LinkAct, MultiplexedConnection, Pending};
 use redis_error::RedisError;
 use std::alloc::{AllocError, Global};
@@ -32,6 +32,8 @@ impl Drop for Single {
 /// everything was shut down, what each timer and each source of credentials was asked for, the request of each submission,
 /// where it has one, and its connection.
 pub struct Core {
+    /// What the session is.
+    pub kind: SessionKind,
     pub turns: u64,
     pub links: u32,
     pub shut: bool,
@@ -46,6 +48,7 @@ pub struct Core {
 impl Drop for Core {
     fn drop(self) {
         let Core {
+            kind: _,
             turns: _,
             links: _,
             shut: _,
