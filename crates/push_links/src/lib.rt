@@ -9,10 +9,11 @@ mod monitor_stream;
 mod ping;
 mod pubsub;
 mod sink;
+mod sorting;
 mod stream;
 
 pub use driver_model::Msg;
-pub use held::Held;
+pub use held::{Held, Next};
 pub use messages::PubSubMessages;
 pub use monitor::Monitor;
 pub use monitor_stream::{MonitorMessages, MonitorStream};

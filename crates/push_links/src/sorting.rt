@@ -56,3 +56,48 @@ fn sort_each(
     }
     Ok(())
 }
+
+/// What a server in monitor mode tells by these acts is held, and that the link has ended where they close it; the others go to
+/// `out`. An error leaves `out` as it was.
+pub fn sort_told(
+    acts: Vec<ConnectionAct>,
+    held: &mut Held<Value>,
+    out: &mut Vec<ConnectionAct>,
+) -> Result<(), AllocError>
+    ensures held { OnOk result (held.new ≡ with_told held.old acts.items) }
+    ensures out { OnOk result (out.new.items ≡ out.old.items ++ others_of_told acts.items) }
+    ensures err { OnErr result (out.new.items ≡ out.old.items) }
+{
+    let before = out.len();
+    match sort_told_each(acts, held, out) {
+        Ok(()) => Ok(()),
+        Err(error) => {
+            out.truncate(before);
+            Err(error)
+        }
+    }
+}
+
+/// The same, but for an error, after which `out` may have gained some acts.
+fn sort_told_each(
+    acts: Vec<ConnectionAct>,
+    held: &mut Held<Value>,
+    out: &mut Vec<ConnectionAct>,
+) -> Result<(), AllocError>
+    ensures held { OnOk result (held.new ≡ with_told held.old acts.items) }
+    ensures out { OnOk result (out.new.items ≡ out.old.items ++ others_of_told acts.items) }
+    ensures err { OnErr result (take (length out.old.items) out.new.items ≡ out.old.items) }
+{
+    let mut rest = Queue::from_vec(acts);
+    while let Some(act) = rest.pop_front() {
+        match act {
+            ConnectionAct::Monitor { value } => held.put(value)?,
+            ConnectionAct::Close => {
+                held.finish();
+                out.push(ConnectionAct::Close)?;
+            }
+            other => out.push(other)?,
+        }
+    }
+    Ok(())
+}
