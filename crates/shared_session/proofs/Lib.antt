@@ -2,3 +2,4 @@ pub mod Within
 pub mod Spent
 pub mod Replays
 pub mod Threads
+pub mod Kinds
