@@ -33,6 +33,7 @@ kind_allowed word (event.Creds c auth) form = tt
 kind_allowed word (event.CredsError c text) form = tt
 kind_allowed word (event.CredsEnd c) form = tt
 kind_allowed word (event.Timeout ms) form = tt
+kind_allowed word event.DropStream form = tt
 kind_allowed word event.Shutdown form = tt
 
 -- the submission that a line is

@@ -165,6 +165,7 @@ submits (event.Ended l) = 0
 submits (event.ReadFault l kind) = 0
 submits (event.WriteFault l kind) = 0
 submits (event.Timeout ms) = 0
+submits event.DropStream = 0
 submits event.Shutdown = 0
 
 -- how many submissions a history has
