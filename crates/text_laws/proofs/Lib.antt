@@ -8,5 +8,6 @@ pub mod Records
 pub mod ScriptConfigs
 pub mod ScriptEvents
 pub mod Scripts
+pub mod Stays
 pub mod Traces
 pub mod Turns
