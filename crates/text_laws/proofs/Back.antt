@@ -1,14 +1,14 @@
 -- The configuration, the word and the events are read back from the words of their causes.
 use Rattle.std.proofs.Common.{◌≡◌, ℕ, Bool, true, false, ◌&&◌, ◌<◌, ◌^◌, ◌==◌, List, [], ◌∷◌, ◌++◌, All, Option, Some, None, map, option_map, option_and_then, decimal, codes, append_assoc, refl, sym, ap, ◌∙◌, subst, if◌then◌else◌, arith}
+use Rattle.std.proofs.lemmas.Bool.{and_parts}
 use Rattle.std.proofs.lemmas.List.Elements.{All-head, All-tail}
-use Rattle.std.specs.Prelude.{is_some}
+use Rattle.std.specs.Prelude.{is_some, is_none}
 use Rattle.std.specs.List.{list_all}
 use Rattle.driver_model.specs.declared.action.Cause.TheVariants as cause
 use Rattle.driver_model.specs.declared.config.Config.{Config}
 use Rattle.driver_model.specs.declared.kind.SessionKind.{SessionKind}
 use Rattle.driver_model.specs.declared.kind.SessionKind.TheVariants as kind
-use Rattle.driver_model.specs.Config.{config_of as given_alone}
-use Rattle.driver_model.specs.Kind.{is_single}
+use Rattle.driver_model.specs.Config.{config_of as given_alone, is_bare}
 use Rattle.driver_model.specs.declared.event.Event.{Event}
 use Rattle.driver_model.specs.declared.event.EventKind.{EventKind}
 use Rattle.driver_model.specs.declared.event.EventKind.TheVariants as event
@@ -403,26 +403,58 @@ connection_back c fits =
     ∙ ap (λ s. config_by c.url (as_given c.connect) (as_given c.response) (as_given c.limit) (as_given c.buffer) (as_given c.boundary) (as_given c.push) s (switch_given c.lib)) (switch_back c.creds)
     ∙ ap (λ s. config_by c.url (as_given c.connect) (as_given c.response) (as_given c.limit) (as_given c.buffer) (as_given c.boundary) (as_given c.push) (as_given c.creds) s) (switch_back c.lib)
 
--- a link of publish/subscribe or of monitor mode, of which nothing but its address and whether the library is named is given
-link_back : (k : SessionKind) (address : List ℕ) (lib : Option Bool) → is_single k ≡ false → ReadBack (record (given_alone k address) { lib = lib })
-unfolding url config_of
-link_back kind.Single address lib other = cc other
-link_back kind.PubSub address None other = refl
-link_back kind.PubSub address (Some true) other = refl
-link_back kind.PubSub address (Some false) other = refl
-link_back kind.Monitor address None other = refl
-link_back kind.Monitor address (Some true) other = refl
-link_back kind.Monitor address (Some false) other = refl
+-- the configuration of a link with this address
+abbrev link_at : SessionKind → List ℕ → Option Bool → Config
+link_at k address lib = record (given_alone k address) { lib = lib }
 
-back_by : (k : SessionKind) (c : Config) → c.kind ≡ k → FitsConfig c → HasLine c → ReadBack c
-back_by kind.Single c is fits line = subst (λ (k : SessionKind). ReadBack (record c { kind = k })) (sym is) (connection_back c fits)
-back_by kind.PubSub c is fits line =
-    let other = ap is_single is in subst ReadBack (sym (line other)) (link_back c.kind c.url c.lib other)
-back_by kind.Monitor c is fits line =
-    let other = ap is_single is in subst ReadBack (sym (line other)) (link_back c.kind c.url c.lib other)
+-- a link of publish/subscribe
+pubsub_back : (address : List ℕ) (lib : Option Bool) → ReadBack (link_at kind.PubSub address lib)
+unfolding url config_of
+pubsub_back address None = refl
+pubsub_back address (Some true) = refl
+pubsub_back address (Some false) = refl
+
+-- and one of monitor mode
+monitor_back : (address : List ℕ) (lib : Option Bool) → ReadBack (link_at kind.Monitor address lib)
+unfolding url config_of
+monitor_back address None = refl
+monitor_back address (Some true) = refl
+monitor_back address (Some false) = refl
+
+is_missing : {A : Type 0} (o : Option A) → is_none o ≡ true → o ≡ None
+is_missing None is = refl
+is_missing (Some a) is = cc is
+
+-- a configuration of which nothing else is given
+bare_is : (c : Config) → is_bare c ≡ true → c ≡ link_at c.kind c.url c.lib
+bare_is c bare =
+    let creds = and_parts (is_none c.connect && is_none c.response && is_none c.limit && is_none c.buffer && is_none c.boundary && is_none c.push) (is_none c.creds) bare in
+    let push = and_parts (is_none c.connect && is_none c.response && is_none c.limit && is_none c.buffer && is_none c.boundary) (is_none c.push) creds.0 in
+    let boundary = and_parts (is_none c.connect && is_none c.response && is_none c.limit && is_none c.buffer) (is_none c.boundary) push.0 in
+    let buffer = and_parts (is_none c.connect && is_none c.response && is_none c.limit) (is_none c.buffer) boundary.0 in
+    let limit = and_parts (is_none c.connect && is_none c.response) (is_none c.limit) buffer.0 in
+    let times = and_parts (is_none c.connect) (is_none c.response) limit.0 in
+    λ i. record {
+      kind = c.kind;
+      url = c.url;
+      connect = is_missing c.connect times.0 i;
+      response = is_missing c.response times.1 i;
+      limit = is_missing c.limit limit.1 i;
+      buffer = is_missing c.buffer buffer.1 i;
+      boundary = is_missing c.boundary boundary.1 i;
+      push = is_missing c.push push.1 i;
+      creds = is_missing c.creds creds.1 i;
+      lib = c.lib;
+    }
+
+-- a configuration of this kind that has a line
+back_by : (k : SessionKind) (c : Config) → FitsConfig c → HasLine (record c { kind = k }) → ReadBack (record c { kind = k })
+back_by kind.Single c fits line = connection_back c fits
+back_by kind.PubSub c fits line = subst ReadBack (sym (bare_is (record c { kind = kind.PubSub }) line)) (pubsub_back c.url c.lib)
+back_by kind.Monitor c fits line = subst ReadBack (sym (bare_is (record c { kind = kind.Monitor }) line)) (monitor_back c.url c.lib)
 
 config_back : (c : Config) → FitsConfig c → HasLine c → ReadBack c
-config_back c fits line = back_by c.kind c refl fits line
+config_back c fits line = back_by c.kind c fits line
 
 config_undrawn : (config : Config) → IsUndrawn (config_words config)
 config_undrawn config = refl

@@ -7,14 +7,15 @@ use Rattle.std.specs.Option.{option_to_list}
 use Rattle.std.proofs.lemmas.List.Elements.{All-nil, All-cons, All-head, All-tail, All-append}
 use Rattle.containers.proofs.Choices.{chosen}
 use Rattle.driver_model.specs.declared.config.Config.{Config}
+use Rattle.driver_model.specs.Config.{is_bare}
+use Rattle.std.specs.Prelude.{is_none}
 use Rattle.driver_model.specs.declared.kind.SessionKind.{SessionKind}
 use Rattle.driver_model.specs.declared.kind.SessionKind.TheVariants as kind
-use Rattle.driver_model.specs.Kind.{is_single}
 use Rattle.script_text.specs.Words.{LineWords, cut_at}
 use Rattle.script_text.specs.Numbers.{number, max_u32, max_u64, time_limit, switch}
 use Rattle.script_text.specs.Draws.{drawn}
 use Rattle.script_text.specs.EventLine.{by_first, whole}
-use Rattle.script_text.specs.ConfigLine.{has_key, is_setting, link_keys, keys, are_allowed, value_of, values, only, config_with, session, kind_named, named_session, config_of, opening_of}
+use Rattle.script_text.specs.ConfigLine.{has_key, is_setting, link_keys, keys, are_allowed, value_of, values, only, given, config_with, session, kind_named, named_session, config_of, opening_of}
 use Rattle.text_laws.specs.Fits.{IsByte, AreBytes, FitsLimit, FitsNumber, FitsConfig, HasLine}
 use Rattle.text_laws.proofs.Held.{mapped, then_read, if_read, any_read, number_within}
 use Rattle.text_laws.proofs.ScriptEvents.{IsByteLine, FitsDrawn, drawn_fits, by_form, whole_fits, time_fits}
@@ -75,41 +76,37 @@ with_url k words url small = record {
 abbrev IsOther : List (List ℕ) → List ℕ → Type 0
 IsOther keys key = list_any (bytes_eq key) keys ≡ false
 
-other_key : (keys : List (List ℕ)) (key : List ℕ) → IsOther keys key → (c : List ℕ × List ℕ) (same : Bool) → bytes_eq c.0 key ≡ same → has_key keys (Some c) ≡ true → (if same then Some c.1 else None) ≡ None
-other_key keys key other c true is has =
-    both_ways (list_any (bytes_eq key) keys) other (subst (λ (k : List ℕ). list_any (bytes_eq k) keys ≡ true) ((bytes_eq-Decides c.0 key).0 is) has)
-other_key keys key other c false is has = refl
+other_key : (given : List (List ℕ)) (key : List ℕ) → IsOther given key → (c : List ℕ × List ℕ) (same : Bool) → bytes_eq c.0 key ≡ same → has_key given (Some c) ≡ true → (if same then Some c.1 else None) ≡ None
+other_key given key other c true is has =
+    absurd (both_ways (list_any (bytes_eq key) given) other (subst (λ (k : List ℕ). list_any (bytes_eq k) given ≡ true) ((bytes_eq-Decides c.0 key).0 is) has))
+other_key given key other c false is has = refl
 
-no_value : (keys : List (List ℕ)) (key : List ℕ) → IsOther keys key → (cut : Option (List ℕ × List ℕ)) → has_key keys cut ≡ true → option_and_then (λ c. if bytes_eq c.0 key then Some c.1 else None) cut ≡ None
-no_value keys key other None has = refl
-no_value keys key other (Some c) has = other_key keys key other c (bytes_eq c.0 key) refl has
+no_value : (given : List (List ℕ)) (key : List ℕ) → IsOther given key → (cut : Option (List ℕ × List ℕ)) → has_key given cut ≡ true → option_and_then (λ c. if bytes_eq c.0 key then Some c.1 else None) cut ≡ None
+no_value given key other None has = refl
+no_value given key other (Some c) has = other_key given key other c (bytes_eq c.0 key) refl has
 
 -- words that give these keys alone give any other key no value
-no_values : (keys : List (List ℕ)) (key : List ℕ) → IsOther keys key → (words : List (List ℕ)) → list_all (is_setting keys) words ≡ true → values key words ≡ []
-no_values keys key other [] are = refl
-no_values keys key other (word ∷ words) are =
-    let each = and_parts (is_setting keys word) (list_all (is_setting keys) words) are in
-    ap (λ o. option_to_list o ++ values key words) (no_value keys key other (cut_at 61 word) each.0) ∙ no_values keys key other words each.1
+no_values : (given : List (List ℕ)) (key : List ℕ) → IsOther given key → (words : List (List ℕ)) → list_all (is_setting given) words ≡ true → values key words ≡ []
+no_values given key other [] are = refl
+no_values given key other (word ∷ words) are =
+    let each = and_parts (is_setting given word) (list_all (is_setting given) words) are in
+    ap (λ o. option_to_list o ++ values key words) (no_value given key other (cut_at 61 word) each.0) ∙ no_values given key other words each.1
 
--- of a link nothing else is given
-link_line : (k : SessionKind) (words : List (List ℕ)) (url : List ℕ) → list_all (is_setting link_keys) words ≡ true → HasLine (config_with k words url)
-link_line k words url are other = λ i. record {
-  kind = k;
-  url = url;
-  connect = option_and_then time_limit (only (no_values link_keys (codes "connect") refl words are i));
-  response = option_and_then time_limit (only (no_values link_keys (codes "response") refl words are i));
-  limit = option_and_then (number max_u32) (only (no_values link_keys (codes "limit") refl words are i));
-  buffer = option_and_then (number max_u32) (only (no_values link_keys (codes "buffer") refl words are i));
-  boundary = option_and_then (number max_u64) (only (no_values link_keys (codes "boundary") refl words are i));
-  push = option_and_then switch (only (no_values link_keys (codes "push") refl words are i));
-  creds = option_and_then switch (only (no_values link_keys (codes "creds") refl words are i));
-  lib = option_and_then switch (only (values (codes "lib") words));
-}
+-- so nothing is read of it
+nothing_given : {A : Type 0} (read : List ℕ → Option A) (key : List ℕ) → IsOther link_keys key → (words : List (List ℕ)) → list_all (is_setting link_keys) words ≡ true → is_none (given read (values key words)) ≡ true
+nothing_given read key other words are = ap (λ vs. is_none (given read vs)) (no_values link_keys key other words are)
+
+-- of a link nothing is given but its address and whether the library is named
+link_bare : (k : SessionKind) (words : List (List ℕ)) (url : List ℕ) → list_all (is_setting link_keys) words ≡ true → is_bare (config_with k words url) ≡ true
+link_bare k words url are = λ i.
+    nothing_given time_limit (codes "connect") refl words are i && nothing_given time_limit (codes "response") refl words are i && nothing_given (number max_u32) (codes "limit") refl words are i
+    && nothing_given (number max_u32) (codes "buffer") refl words are i && nothing_given (number max_u64) (codes "boundary") refl words are i && nothing_given switch (codes "push") refl words are i
+    && nothing_given switch (codes "creds") refl words are i
 
 line_of : (k : SessionKind) (words : List (List ℕ)) (url : List ℕ) → list_all (is_setting (keys k)) words ≡ true → HasLine (config_with k words url)
-line_of kind.Single words url are other = cc other
-line_of kind.PubSub words url are = link_line kind.PubSub words url are
-line_of kind.Monitor words url are = link_line kind.Monitor words url are
+line_of kind.Single words url are = refl
+line_of kind.PubSub words url are = link_bare kind.PubSub words url are
+line_of kind.Monitor words url are = link_bare kind.Monitor words url are
 
 -- a configuration that its type holds, and that has a line
 abbrev pub SaidConfig : Config → Type 0

@@ -1,10 +1,9 @@
 -- What the types of a history hold: each number is in the range of its type, and each byte is one. And which histories have
 -- lines: a configuration that has one, and submissions with forms alone.
-use Rattle.std.specs.Prelude.{◌≡◌, ℕ, ◌^◌, ◌<◌, false, List, Option, Some, None, IfSome, All}
+use Rattle.std.specs.Prelude.{◌≡◌, ℕ, ◌^◌, ◌<◌, true, false, List, Option, Some, None, IfSome, All}
 use Rattle.driver_model.specs.declared.config.Config.{Config}
 use Rattle.driver_model.specs.declared.kind.SessionKind.{SessionKind}
-use Rattle.driver_model.specs.Config.{config_of}
-use Rattle.driver_model.specs.Kind.{is_single}
+use Rattle.driver_model.specs.Config.{has_line}
 use Rattle.driver_model.specs.declared.event.Event.{Event}
 use Rattle.driver_model.specs.declared.event.EventKind.{EventKind}
 use Rattle.driver_model.specs.declared.event.EventKind.TheVariants as event
@@ -82,29 +81,28 @@ pub record FitsHistory (c : Config) (w : ℕ) (es : List Event) : Type 0 where
   pub word : w < 2 ^ 64
   pub events : All FitsEvent es
 
--- a configuration of a link of publish/subscribe or of monitor mode has a line where nothing is given but its address and
--- whether the library is named; any other has one
+-- nothing is given but what its kind has, so that it is a line; of what is refused in no way this is true
 abbrev pub HasLine : Config → Type 0
-HasLine c = is_single c.kind ≡ false → c ≡ record (config_of c.kind c.url) { lib = c.lib }
+HasLine c = has_line c ≡ true
 
 -- an event that hands in no submission for which a session of this kind has no form
 abbrev pub HasForm : SessionKind → EventKind → Type 0
-HasForm kind (event.Submit s) = has_no_form kind s ≡ false
-HasForm kind (event.Cancel s) = Unit {0}
-HasForm kind (event.Connected link) = Unit {0}
-HasForm kind (event.Refused link kind) = Unit {0}
-HasForm kind (event.Wrote link count) = Unit {0}
-HasForm kind (event.Bytes link piece) = Unit {0}
-HasForm kind (event.Ended link) = Unit {0}
-HasForm kind (event.ReadFault link kind) = Unit {0}
-HasForm kind (event.WriteFault link kind) = Unit {0}
-HasForm kind (event.Fired timer) = Unit {0}
-HasForm kind (event.Creds source auth) = Unit {0}
-HasForm kind (event.CredsError source text) = Unit {0}
-HasForm kind (event.CredsEnd source) = Unit {0}
-HasForm kind (event.Timeout ms) = Unit {0}
-HasForm kind event.DropStream = Unit {0}
-HasForm kind event.Shutdown = Unit {0}
+HasForm session (event.Submit s) = has_no_form session s ≡ false
+HasForm session (event.Cancel s) = Unit {0}
+HasForm session (event.Connected link) = Unit {0}
+HasForm session (event.Refused link kind) = Unit {0}
+HasForm session (event.Wrote link count) = Unit {0}
+HasForm session (event.Bytes link piece) = Unit {0}
+HasForm session (event.Ended link) = Unit {0}
+HasForm session (event.ReadFault link kind) = Unit {0}
+HasForm session (event.WriteFault link kind) = Unit {0}
+HasForm session (event.Fired timer) = Unit {0}
+HasForm session (event.Creds source auth) = Unit {0}
+HasForm session (event.CredsError source text) = Unit {0}
+HasForm session (event.CredsEnd source) = Unit {0}
+HasForm session (event.Timeout ms) = Unit {0}
+HasForm session event.DropStream = Unit {0}
+HasForm session event.Shutdown = Unit {0}
 
 -- the configuration has a line, and each submission a form
 pub record HaveForms (c : Config) (es : List Event) : Type 0 where
