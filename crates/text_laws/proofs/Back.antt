@@ -23,9 +23,9 @@ use Rattle.script_text.specs.Numbers.{number, max_u32, max_u64, time_limit, swit
 use Rattle.script_text.specs.ConfigLine.{is_setting, keys, values, only, allows, given, config_of, opening_of}
 use Rattle.script_text.specs.Draws.{drawn}
 use Rattle.script_text.specs.EventLine.{by_first, commands, calls, requests, submissions, faults, fault_among, failed, others, events, drawing, event_of}
-use Rattle.script_text.specs.Words.{LineWords, all_of}
+use Rattle.script_text.specs.Words.{all_of}
 use Rattle.legal_trace.specs.Legal.{event_causes}
-use Rattle.trace_text.specs.Show.{url, kind_word, draw_words, connect_words, response_words, buffer_words, limit_words, boundary_words, push_words, creds_words, lib_words, switch_words, times_words, numbers_words, later_words, config_words, time_word, first_of, behind_first, submission_words, submission_more, event_words, event_more}
+use Rattle.trace_text.specs.Show.{url, draw_words, connect_words, response_words, buffer_words, limit_words, boundary_words, push_words, creds_words, lib_words, switch_words, times_words, numbers_words, later_words, config_words, time_word, first_of, behind_first, submission_words, submission_more, event_words, event_more}
 use Rattle.containers.proofs.Choices.{chosen, eq_from}
 use Rattle.text_laws.specs.Fits.{FitsSubmission, FitsKind, FitsEvent, FitsLimit, FitsNumber, FitsConfig, FitsHistory, HasLine, HasForm, HaveForms}
 use Rattle.text_laws.specs.History.{script_with, history_in}

@@ -1,5 +1,5 @@
 -- The configurations of scripts are configurations that their type holds, and have lines.
-use Rattle.std.proofs.Common.{◌≡◌, ℕ, ◌^◌, ◌<◌, ◌≤◌, ◌==◌, ◌&&◌, Bool, true, false, List, [], ◌∷◌, ◌++◌, All, Option, Some, None, IfSome, bytes_eq, option_map, option_and_then, codes, if◌then◌else◌, refl, sym, ap, ◌∙◌, subst, arith}
+use Rattle.std.proofs.Common.{◌≡◌, ℕ, ◌^◌, ◌<◌, ◌≤◌, ◌==◌, ◌&&◌, Bool, true, false, List, [], ◌∷◌, ◌++◌, All, Option, Some, None, IfSome, bytes_eq, option_map, option_and_then, codes, if◌then◌else◌, refl, ap, ◌∙◌, subst, arith}
 use Rattle.std.specs.List.{list_all, list_any}
 use Rattle.std.proofs.lemmas.Bool.{and_parts, both_ways}
 use Rattle.std.proofs.lemmas.Slice.Eq.{bytes_eq-Decides}
@@ -14,7 +14,7 @@ use Rattle.driver_model.specs.declared.kind.SessionKind.TheVariants as kind
 use Rattle.script_text.specs.Words.{LineWords, cut_at}
 use Rattle.script_text.specs.Numbers.{number, max_u32, max_u64, time_limit, switch}
 use Rattle.script_text.specs.Draws.{drawn}
-use Rattle.script_text.specs.EventLine.{by_first, whole}
+use Rattle.script_text.specs.EventLine.{whole}
 use Rattle.script_text.specs.ConfigLine.{has_key, is_setting, link_keys, keys, are_allowed, value_of, values, only, given, config_with, session, kind_named, named_session, config_of, opening_of}
 use Rattle.text_laws.specs.Fits.{IsByte, AreBytes, FitsLimit, FitsNumber, FitsConfig, HasLine}
 use Rattle.text_laws.proofs.Held.{mapped, then_read, if_read, any_read, number_within}

@@ -1,5 +1,5 @@
 -- The history that a script is has nothing but what its types hold, its configuration has a line, and its submissions have forms.
-use Rattle.std.proofs.Common.{◌≡◌, ℕ, ◌+◌, ◌-◌, Bool, ◌&&◌, ◌==◌, bytes_eq, codes, nat_le, nat_lt, List, [], ◌∷◌, length, All, Some, None, Option, IfSome, IfOk, Ok, Err, Result, map, option_and_then, if◌then◌else◌, arith}
+use Rattle.std.proofs.Common.{◌≡◌, ℕ, ◌+◌, ◌-◌, Bool, ◌&&◌, ◌==◌, bytes_eq, codes, nat_le, nat_lt, List, [], ◌∷◌, length, All, Some, None, Option, IfSome, IfOk, Ok, Err, Result, map, option_and_then, if◌then◌else◌}
 use Rattle.std.specs.List.{onto_first, slice_split}
 use Rattle.std.specs.Result.{result_map_both}
 use Rattle.std.proofs.lemmas.List.Elements.{All-nil, All-cons, All-head, All-tail, All-map, All-weaker}

@@ -1,5 +1,5 @@
 -- A session stays what it is.
-use Rattle.std.proofs.Common.{◌≡◌, ℕ, Bool, ◌==◌, length, Option, Some, None, refl, ap, ◌∙◌}
+use Rattle.std.proofs.Common.{◌≡◌, ℕ, ◌==◌, length, Option, Some, None, refl}
 use Rattle.std.specs.Prelude.{slice_get}
 use Rattle.containers.proofs.Choices.{chosen}
 use Rattle.driver_model.specs.declared.action.Owner.TheVariants as owner
