@@ -27,7 +27,7 @@ use Rattle.script_text.specs.Words.{all_of}
 use Rattle.legal_trace.specs.Legal.{event_causes}
 use Rattle.trace_text.specs.Show.{url, draw_words, connect_words, response_words, buffer_words, limit_words, boundary_words, push_words, creds_words, lib_words, switch_words, times_words, numbers_words, later_words, config_words, time_word, first_of, behind_first, submission_words, submission_more, event_words, event_more}
 use Rattle.containers.proofs.Choices.{chosen, eq_from}
-use Rattle.text_laws.specs.Fits.{FitsSubmission, FitsKind, FitsEvent, FitsLimit, FitsNumber, FitsConfig, FitsHistory, HasLine, HasForm, HaveForms}
+use Rattle.text_laws.specs.Fits.{FitsSubmission, FitsKind, FitsEvent, FitsLimit, FitsNumber, FitsConfig, FitsHistory, HasLine, HasForm, WithForm, HaveForms}
 use Rattle.text_laws.specs.History.{script_with, history_in}
 use Rattle.text_laws.proofs.Bytes.{number_back, decimal_is_no_none}
 use Rattle.text_laws.proofs.Turns.{cause_line}
@@ -463,9 +463,6 @@ pub opening_back : (config : Config) (word : ℕ) → FitsConfig config → HasL
 opening_back config word fits line small =
     ap (option_and_then (λ d. option_map (λ c. (c, d.0)) (config_of (record { words = d.1; more = [] })))) (drawn_back word (config_words config) small (config_undrawn config))
     ∙ ap (option_map (λ c. (c, word))) (config_back config fits line)
-
-abbrev WithForm : SessionKind → Event → Type 0
-WithForm session e = HasForm session e.kind
 
 events_back : (session : SessionKind) (events : List Event) → All FitsEvent events → All (WithForm session) events → all_of (map (event_of session) (map cause_line (event_causes events))) ≡ Some events
 events_back session [] fits forms = refl

@@ -25,7 +25,7 @@ use Rattle.trace_text.specs.Words.{escaped, line_of}
 use Rattle.trace_text.specs.Show.{cause_words, cause_more, event_words, event_more, script_line}
 use Rattle.trace_text.proofs.ScriptLines.{some_cause}
 use Rattle.containers.proofs.Choices.{chosen}
-use Rattle.text_laws.specs.Fits.{AreBytes, FitsEvent, FitsHistory, HasLine, HasForm, HaveForms}
+use Rattle.text_laws.specs.Fits.{AreBytes, FitsEvent, FitsHistory, HasLine, HasForm, WithForm, HaveForms}
 use Rattle.text_laws.specs.Records.{event_lines, record_text, TellsRecord}
 use Rattle.text_laws.proofs.Back.{event_back, opening_back}
 use Rattle.text_laws.proofs.Bytes.{FitsCause, cause_bytes, more_bytes, looked, word_and, no_words}
@@ -141,7 +141,7 @@ the_end session number room keeps =
     ap (λ o. line_then session number (option_and_then words_of_line o) true left) (kept_line number room line ([] ∷ []) (omega arith) keeps)
     ∙ ap (λ o. line_then session number o true left) end_told
 
-events_told : (session : SessionKind) (es : List Event) → All FitsEvent es → All (λ e. HasForm session e.kind) es → (number room : ℕ) → Keeps number room (parts 10 (lines_behind es))
+events_told : (session : SessionKind) (es : List Event) → All FitsEvent es → All (WithForm session) es → (number room : ℕ) → Keeps number room (parts 10 (lines_behind es))
     → events_from session number room (parts 10 (lines_behind es)) ≡ Ok es
 events_told session [] fits forms number room keeps =
     let lines = parts_line end_words [] [] in
@@ -152,8 +152,8 @@ events_told session (e ∷ es) fits forms number room keeps =
     let some = some_parts 10 (lines_behind es) in
     let lines = parts_line (cause_words c) (cause_more c) (lines_behind es) in
     let kept = subst (Keeps number room) lines keeps in
-    let rest = events_told session es (All-tail FitsEvent e es fits) (All-tail (λ x. HasForm session x.kind) e es forms) (number + 1) (room - (length (raw_cause c) + 1)) (kept_behind number room (raw_cause c) behind some kept) in
-    ap (events_from session number room) lines ∙ an_event session number room e (All-head FitsEvent e es fits) (All-head (λ x. HasForm session x.kind) e es forms) behind some kept es rest
+    let rest = events_told session es (All-tail FitsEvent e es fits) (All-tail (WithForm session) e es forms) (number + 1) (room - (length (raw_cause c) + 1)) (kept_behind number room (raw_cause c) behind some kept) in
+    ap (events_from session number room) lines ∙ an_event session number room e (All-head FitsEvent e es fits) (All-head (WithForm session) e es forms) behind some kept es rest
 
 an_opening : (config : Config) (word : ℕ) → FitsCause (cause.Opening config word) → HasLine config → (behind : List (List ℕ)) → 0 < length behind → Keeps 1 max_text (raw_cause (cause.Opening config word) ∷ behind) → (es : List Event)
     → events_from config.kind 2 (max_text - (length (raw_cause (cause.Opening config word)) + 1)) behind ≡ Ok es

@@ -15,7 +15,7 @@ use Rattle.script_text.specs.EventLine.{event_of}
 use Rattle.script_text.specs.ConfigLine.{opening_of}
 use Rattle.script_text.specs.Script.{max_lines, max_line, max_text, line_at, words_at, is_end, is_nothing, event_then, line_then, events_from, config_then, script_from, script_of}
 use Rattle.containers.proofs.Choices.{chosen}
-use Rattle.text_laws.specs.Fits.{IsByte, AreBytes, FitsEvent, FitsHistory, HasForm, HaveForms}
+use Rattle.text_laws.specs.Fits.{IsByte, AreBytes, FitsEvent, FitsHistory, HasForm, WithForm, HaveForms}
 use Rattle.text_laws.specs.History.{script_with}
 use Rattle.text_laws.proofs.Held.{then_read, if_read, all_read}
 use Rattle.text_laws.proofs.ScriptEvents.{IsByteLine, SaidEvent, event_fits}
@@ -107,7 +107,7 @@ with_opening : (opening : Config × ℕ) → FitsOpening opening → (rest : Res
     → IfOk (result_map_both (λ events. script_with opening events) (λ n. n) rest) FitsScript
 with_opening opening fits (Ok es) each = (
   record { config = fits.0.0; word = fits.1; events = All-weaker (SaidEvent opening.0.kind) FitsEvent (λ e said. said.0) es each },
-  record { config = fits.0.1; events = All-weaker (SaidEvent opening.0.kind) (λ e. HasForm opening.0.kind e.kind) (λ e said. said.1) es each },
+  record { config = fits.0.1; events = All-weaker (SaidEvent opening.0.kind) (WithForm opening.0.kind) (λ e said. said.1) es each },
 )
 with_opening opening fits (Err n) each = tt
 

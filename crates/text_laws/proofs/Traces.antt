@@ -20,7 +20,7 @@ use Rattle.shared_session.specs.Turn.{next_turn, is_bad, shown_each, actions_of}
 use Rattle.shared_session.specs.Replay.{opening_core, connect_asked, turns_on, trace_of, AreGoodOn, AreGood}
 use Rattle.legal_trace.specs.Legal.{causes, event_causes}
 use Rattle.trace_text.specs.Show.{show}
-use Rattle.text_laws.specs.Fits.{FitsEvent, FitsHistory, HasLine, HasForm, HaveForms}
+use Rattle.text_laws.specs.Fits.{FitsEvent, FitsHistory, HasLine, HasForm, WithForm, HaveForms}
 use Rattle.text_laws.specs.History.{history_in, history_of}
 use Rattle.text_laws.proofs.Back.{causes_back}
 use Rattle.text_laws.proofs.Bytes.{FitsCause}
@@ -125,9 +125,6 @@ good_form c (event.CredsEnd source) good = tt
 good_form c (event.Timeout ms) good = tt
 good_form c event.DropStream good = tt
 good_form c event.Shutdown good = tt
-
-abbrev WithForm : SessionKind → Event → Type 0
-WithForm session e = HasForm session e.kind
 
 good_forms_on : (c : Core) (es : List Event) → AreGoodOn c es → All (WithForm c.kind) es
 good_forms_on c [] good = All-nil (WithForm c.kind)

@@ -104,7 +104,11 @@ HasForm session (event.Timeout ms) = Unit {0}
 HasForm session event.DropStream = Unit {0}
 HasForm session event.Shutdown = Unit {0}
 
+-- the same, of the event with its word
+abbrev pub WithForm : SessionKind → Event → Type 0
+WithForm session e = HasForm session e.kind
+
 -- the configuration has a line, and each submission a form
 pub record HaveForms (c : Config) (es : List Event) : Type 0 where
   pub config : HasLine c
-  pub events : All (λ e. HasForm c.kind e.kind) es
+  pub events : All (WithForm c.kind) es
