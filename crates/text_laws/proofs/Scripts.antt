@@ -15,7 +15,7 @@ use Rattle.script_text.specs.EventLine.{event_of}
 use Rattle.script_text.specs.ConfigLine.{opening_of}
 use Rattle.script_text.specs.Script.{max_lines, max_line, max_text, line_at, words_at, is_end, is_nothing, event_then, line_then, events_from, config_then, script_from, script_of}
 use Rattle.containers.proofs.Choices.{chosen}
-use Rattle.text_laws.specs.Fits.{IsByte, AreBytes, FitsEvent, FitsHistory, HasForm, WithForm, HaveForms}
+use Rattle.text_laws.specs.Fits.{IsByte, AreBytes, FitsEvent, FitsHistory, WithForm, HaveForms}
 use Rattle.text_laws.specs.History.{script_with}
 use Rattle.text_laws.proofs.Held.{then_read, if_read, all_read}
 use Rattle.text_laws.proofs.ScriptEvents.{IsByteLine, SaidEvent, event_fits}
