@@ -8,6 +8,5 @@ pub mod Records
 pub mod ScriptConfigs
 pub mod ScriptEvents
 pub mod Scripts
-pub mod Stays
 pub mod Traces
 pub mod Turns

@@ -23,7 +23,7 @@ use Rattle.text_laws.specs.Fits.{FitsEvent, FitsHistory, HasLine, HasForm, WithF
 use Rattle.text_laws.specs.History.{history_in, history_of}
 use Rattle.text_laws.proofs.Back.{causes_back}
 use Rattle.text_laws.proofs.Bytes.{FitsCause}
-use Rattle.text_laws.proofs.Stays.{turn_kind}
+use Rattle.shared_session.proofs.Stays.{turn_kind}
 use Rattle.text_laws.proofs.Turns.{cause_line, turns_told}
 
 -- what a connection shows begins no turn
