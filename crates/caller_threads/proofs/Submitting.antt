@@ -9,7 +9,7 @@ use Rattle.shared_session.specs.declared.errors.StepError.{StepError}
 use Rattle.shared_session.specs.declared.errors.StepError.TheVariants.{BadEvent, Spent, NoMemory}
 use Rattle.session_callers.specs.Calls.{Known, Turned, Added, Refused}
 use Rattle.session_callers.proofs.Totals.{prefix_of, prefix_all, prefix_length}
-use Rattle.shared_session.proofs.Kinds.{kind_after}
+use Rattle.shared_session.proofs.Stays.{state_kind}
 use Rattle.session_callers.specs.Rule.{Ascends}
 use Rattle.caller_threads.specs.declared.job.Turn.{Turn}
 use Rattle.caller_threads.specs.Submits.{Line, IsAllowed, event_of, IsTurnOf, AreTurnsOf, places_of, IsSameCaller, HasSubmitted, HasTried, HasLooked, IsCause}
@@ -132,7 +132,7 @@ pub cause_of : (error : StepError) (v w : Known) (line : Line) (shown after : Li
 unfolding is_bad
 cause_of BadEvent v w line shown after allowed turned refused =
     let e = refused.why.1 in
-    let k = kind_after w.view.config w.view.word w.view.seen in
+    let k = state_kind w.view.config w.view.word w.view.seen in
     let c = turned.config in cc
 cause_of (Spent n) v w line shown after allowed turned refused = ((let e = turned.drawn in omega arith), refused.why.0, refused.why.1, refused.spent refused.why.0)
 cause_of NoMemory v w line shown after allowed turned refused = tt

@@ -1,5 +1,5 @@
 pub mod Within
 pub mod Spent
 pub mod Replays
+pub mod Stays
 pub mod Threads
-pub mod Kinds

@@ -2,7 +2,7 @@ use Rattle.std.proofs.Common.{◌≡◌, ◌≤◌, ◌∷◌, ◌==◌, false, 
 use Rattle.std.proofs.lemmas.Bool.Decides.{nat_tests}
 use Rattle.script_text.specs.EventLine.{by_first, events}
 use Rattle.script_text.proofs.Forms.{event_refused}
-use Rattle.script_text.proofs.event_line.kind.Goals as goal
+use Rattle.script_text.proofs.event_line.happening.Goals as goal
 
 pub returns-then-not-is_empty : goal.returns-then-not-is_empty
 returns-then-not-is_empty c =
@@ -14,4 +14,4 @@ returns-then-not-is_empty c =
     ap (λ t. bytes_eq t (codes "submit")) (sym c.as_slice-name.ensures) ∙ ap (bytes_eq c.as_slice-name.result.now) (sym c.as_slice.ensures) ∙ sym c.eq.ensures ∙ c.if-eq.false in
     let empty : (length more == 0) ≡ false = search rules in
     let some : 1 ≤ length more = grind (arith, nat_tests) in
-    sym (ap (λ ws. by_first events ws more) words ∙ event_refused name rest more other some)
+    sym (ap (λ ws. by_first (events c.args.kind) ws more) words ∙ event_refused c.args.kind name rest more other some)

@@ -1,10 +1,12 @@
 -- A session stays what it is.
-use Rattle.std.proofs.Common.{◌≡◌, ℕ, ◌==◌, length, List, [], ◌∷◌, Option, Some, None, refl, ◌∙◌}
+use Rattle.std.proofs.Common.{◌≡◌, ℕ, List, [], ◌∷◌, length, Option, Some, None, refl, ◌∙◌, ◌==◌}
 use Rattle.std.specs.Prelude.{slice_get}
 use Rattle.containers.proofs.Choices.{chosen}
 use Rattle.driver_model.specs.declared.action.Owner.TheVariants as owner
 use Rattle.driver_model.specs.declared.action.Purpose.{Purpose}
 use Rattle.driver_model.specs.declared.action.Purpose.TheVariants as purpose
+use Rattle.driver_model.specs.declared.config.Config.{Config}
+use Rattle.driver_model.specs.declared.event.Event.{Event}
 use Rattle.driver_model.specs.declared.event.EventKind.{EventKind}
 use Rattle.driver_model.specs.declared.event.EventKind.TheVariants as event
 use Rattle.driver_model.specs.declared.event.Submission.{Submission}
@@ -12,8 +14,6 @@ use Rattle.driver_model.specs.Kind.{is_single}
 use Rattle.driver_model.specs.Request.{packed_bytes, lacks_resp3}
 use Rattle.mux_conn.specs.declared.request.Pending.{Pending}
 use Rattle.shared_session.specs.declared.core_state.Core.{Core}
-use Rattle.driver_model.specs.declared.config.Config.{Config}
-use Rattle.driver_model.specs.declared.event.Event.{Event}
 use Rattle.shared_session.specs.Replay.{opening_core, run_on, state_after}
 use Rattle.shared_session.specs.Turn.{Turning, counted, heard, submitted, left_by, late_by, fired_by, timed_by, requested, next_turn}
 
@@ -69,12 +69,11 @@ pub turn_kind : (c : Core) (kind : EventKind) → (next_turn c kind).core.kind �
 unfolding next_turn
 turn_kind c kind = requested_kind (heard (counted c) kind) kind
 
--- and over any events
-kind_on : (c : Core) (events : List Event) → (run_on c events).kind ≡ c.kind
-kind_on c [] = refl
-kind_on c (e ∷ es) = kind_on (next_turn c e.kind).core es ∙ turn_kind c e.kind
+run_on_kind : (c : Core) (es : List Event) → (run_on c es).kind ≡ c.kind
+run_on_kind c [] = refl
+run_on_kind c (e ∷ es) = run_on_kind (next_turn c e.kind).core es ∙ turn_kind c e.kind
 
--- so it is what its configuration says
-pub kind_after : (config : Config) (word : ℕ) (events : List Event) → (state_after config word events).kind ≡ config.kind
+-- so where a history leads it is what it was opened as
+pub state_kind : (config : Config) (word : ℕ) (es : List Event) → (state_after config word es).kind ≡ config.kind
 unfolding state_after
-kind_after config word events = kind_on (opening_core config word) events
+state_kind config word es = run_on_kind (opening_core config word) es
