@@ -5,6 +5,7 @@ mod dealing;
 mod errors;
 mod link;
 mod message;
+mod msg_reading;
 mod outbox;
 mod row;
 mod spare;
