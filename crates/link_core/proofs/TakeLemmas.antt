@@ -53,9 +53,9 @@ front_stays n before more now there is = ap (take n) is ∙ take-append-le n bef
 pub front_within : {X : Type 0} (n : ℕ) (before more now : List X) → n ≤ length before → now ≡ before ++ more → n ≤ length now
 front_within n before more now there is = omega (arith, there, ap length is, length_more before more)
   where
-  length_more : {X : Type 0} (xs ys : List X) → length xs ≤ length (xs ++ ys)
-  length_more [] ys = omega arith
-  length_more (x ∷ xs) ys = let more = length_more xs ys in omega (arith, more)
+    length_more : {X : Type 0} (xs ys : List X) → length xs ≤ length (xs ++ ys)
+    length_more [] ys = omega arith
+    length_more (x ∷ xs) ys = let more = length_more xs ys in omega (arith, more)
 
 -- one value is taken by a call that began with n settled messages and k notices
 module _ (h : Hearing) (ready : Bool) (n k : ℕ) (row now : List Entry) (out later : List Settled) (notices told : List NoticeAt) (settled : ℕ) (heard : Hearing) (ends : Bool) (v : Data) where
@@ -89,8 +89,8 @@ none_behind h ready d (v ∷ vs) ended =
 
 -- a call that began with all that the lists held
 module _ (h : Hearing) (ready : Bool) (n k : ℕ) (row now : List Entry) (out later : List Settled) (notices told : List NoticeAt) (strange : Bool) (vs : List Data)
-  (n_is : n ≡ length out) (k_is : k ≡ length notices)
-  (all : dealing_on now (drop n later) (drop k told) strange ≡ taken_each h ready (dealing_on row (drop n out) (drop k notices) false) vs) where
+    (n_is : n ≡ length out) (k_is : k ≡ length notices)
+    (all : dealing_on now (drop n later) (drop k told) strange ≡ taken_each h ready (dealing_on row (drop n out) (drop k notices) false) vs) where
   all_is : dealing_on now (drop n later) (drop k told) strange ≡ taken_each h ready (dealing_with row) vs
   all_is = all ∙ (λ i. taken_each h ready (dealing_on row (drop_all n out (omega (arith, n_is)) i) (drop_all k notices (omega (arith, k_is)) i) false) vs)
 

@@ -311,11 +311,7 @@ fn note_push(
 
 /// An item that a server in monitor mode tells is noted, behind so many settled messages. An error leaves the notices as they
 /// were.
-fn tell_item(
-    value: Value,
-    settled: u64,
-    notices: &mut Vec<NoticeAt>,
-) -> Result<(), AllocError>
+fn tell_item(value: Value, settled: u64, notices: &mut Vec<NoticeAt>) -> Result<(), AllocError>
     ensures ok { OnOk result (
         notices.new.items
         ≡ notices.old.items ++ noticed_behind settled (item_told (data_of value))

@@ -615,8 +615,15 @@ impl LinkCore {
         let reader = &mut self.reader;
         let broken = read_piece::<Brand>(alloc, reader, piece, &mut came, Blank::new(1))?;
         let mut came = Rest::of(came);
-        let strange =
-            take_into(alloc, hearing, ready, &mut came, &mut self.row, out, notices)?;
+        let strange = take_into(
+            alloc,
+            hearing,
+            ready,
+            &mut came,
+            &mut self.row,
+            out,
+            notices,
+        )?;
         self.came.give(came.into_list());
         self.broken = broken;
         self.failed = false;
