@@ -15,5 +15,5 @@ pub use errors::{EnqueueError, StartError};
 pub use link::LinkCore;
 pub use message::{Entry, NoticeAt, PushAt, Queued, Settled, Started};
 pub use outbox::Outbox;
-pub use row::Row;
+pub use row::{Row, error_of};
 pub use spare::{Rest, Spare};

@@ -91,6 +91,7 @@ impl LinkCore {
     ghost use Rattle.link_core.specs.Link.{begun, start_of, started_one, is_spent, offered_of, wrote_of, cancelled};
     ghost use Rattle.link_core.specs.Link.{settling_with, closed_all, faulted};
     ghost use Rattle.link_core.specs.Link.{piece_read, came_all};
+    ghost use Rattle.link_core.specs.Dealing.{is_awaiting};
     ghost use Rattle.driver_model.specs.declared.hearing.Hearing.TheVariants.{Pushes};
     ghost use Rattle.link_core.specs.Outbox.{can_offer};
     ghost use Rattle.link_core.specs.Row.{lack_of_row};
@@ -711,6 +712,13 @@ impl LinkCore {
                 Err(error)
             }
         }
+    }
+
+    /// Whether some started message takes items.
+    pub fn is_awaiting(&self) -> bool
+        ensures { result ≡ is_awaiting self.now.row }
+    {
+        self.row.is_awaiting()
     }
 
     /// Whether bytes came that begin no value.

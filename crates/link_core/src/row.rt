@@ -215,7 +215,7 @@ impl Row {
 }
 
 /// The error that a fault is.
-fn error_of(fault: LinkFault) -> RedisError
+pub fn error_of(fault: LinkFault) -> RedisError
     ensures { result ≡ error_of fault }
 {
     match fault {
