@@ -130,6 +130,14 @@ impl Taken {
 }
 
 impl Place {
+    /// Whether too few bytes are there for the next step, where that is no line.
+    pub fn has_too_few(&self, tape: &Tape) -> bool
+        requires { IsPlace tape.now self.now }
+        ensures { result ≡ is_too_few (length tape.now - self.now.next) self.now.stage }
+    {
+        self.stage.has_too_few(tape.len() - self.next)
+    }
+
     /// Comes to another stage.
     fn enter(&mut self, stage: Stage)
         ensures { self.new ≡ record self.old { stage = stage } }
