@@ -330,9 +330,11 @@ pub fn advance<L: Ledger>(
     if place.stage.has_too_few(tape.len() - place.next) {
         return Err(Refusal::Short);
     }
+    if let Stage::First = &place.stage {
+        return pass_first(alloc, limits, around, tape, place, steps);
+    }
     match place.take_stage() {
-        Stage::First => pass_first(alloc, limits, around, tape, place, steps),
-        Stage::Line(_) => Err(Refusal::Bad),
+        Stage::First | Stage::Line(_) => Err(Refusal::Bad),
         Stage::End(follow) => pass_end(limits, around, follow, tape, place, steps),
         Stage::Want(want) => pass_want(alloc, limits, around, want, tape, place, steps),
     }
