@@ -23,8 +23,7 @@ use crate::place::{Place, Taken};
 use crate::stages::{Head, Part, Stage, Want};
 use crate::tape::{Steps, Tape};
 use crate::waiting::Front;
-use crate::{forms, frames};
-use containers::Bytes;
+use crate::{forms, frames, takes};
 use resp_value::{Value, Values};
 use std::alloc::{AllocError, Global};
 use std::sync::ledger::Ledger;
@@ -117,6 +116,7 @@ fn keep<L: Ledger>(
 
 /// Reads a number of at most `most` that stands in a line of that head. Where the line isn't whole or has no such number, it
 /// is kept.
+#[inline(always)]
 fn read_size<L: Ledger>(
     limits: Limits,
     most: u64,
@@ -226,11 +226,10 @@ fn pass_body<L: Ledger>(
     if tape.at((next + n + 1) as u64, steps) != b'\n' {
         return Err(Refusal::Bad);
     }
-    let mut text = Vec::new(alloc);
-    match tape.copy(next as u64, size, &mut text, steps) {
-        Ok(()) => {
+    match takes::copied(alloc, n, tape, next, steps) {
+        Ok(text) => {
             place.next = end - (there - n - 2);
-            Ok(Some(Begun::Whole(Value::BulkString(Bytes::from_vec(text)))))
+            Ok(Some(Begun::Whole(Value::BulkString(text))))
         }
         Err(_) => Err(Refusal::NoMemory),
     }
