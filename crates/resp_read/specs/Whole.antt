@@ -4,14 +4,13 @@ use Rattle.resp_value.specs.Data.{Data}
 use Rattle.resp_read.specs.Grammar.{natural}
 use Rattle.resp_read.specs.Parser.{bad, Found, ended, line}
 use Rattle.resp_read.specs.Limits.{bounds}
-use Rattle.resp_read.specs.Stages.{head_on, stage_as}
+use Rattle.resp_read.specs.Stages.{head_on}
 use Rattle.resp_read.specs.Places.{reached_as, IsPlace}
 use Rattle.resp_read.specs.declared.limits.Limits.{Limits}
 use Rattle.resp_read.specs.declared.forms.Refusal.{Refusal}
 use Rattle.resp_read.specs.declared.forms.Refusal.TheVariants.{Short, Bad, NoMemory}
 use Rattle.resp_read.specs.declared.frames.Begun.{Begun}
 use Rattle.resp_read.specs.declared.stages.Head.{Head}
-use Rattle.resp_read.specs.declared.stages.Stage.{Stage}
 use Rattle.resp_read.specs.declared.stages.Stage.TheVariants as stage
 use Rattle.resp_read.specs.declared.place.Place.{Place}
 
