@@ -7,7 +7,7 @@ use Rattle.resp_value.specs.Data.{Data}
 use Rattle.resp_value.specs.View.{data_of}
 use Rattle.resp_value.specs.declared.value.Value.{Value as RespValue}
 use Rattle.resp_read.specs.Grammar.{natural, size}
-use Rattle.resp_read.specs.Parser.{bad, Found, ended, broken, Line, line, size_line, bulk_of, array_of}
+use Rattle.resp_read.specs.Parser.{bad, Found, ended, broken, line, size_line, bulk_of, array_of}
 use Rattle.resp_read.specs.Limits.{bounds, reading}
 use Rattle.resp_read.specs.declared.limits.Limits.{Limits}
 use Rattle.resp_read.specs.Parts.{line_form}

@@ -40,7 +40,7 @@ EndCosts before (Err e) after = after ≤ before + 1
 abbrev pub IsKept : List ℕ → Head → Place → Place → Type 0
 IsKept tape h old new = IsPlace tape new × (new.next ≡ old.next) × (new.stage ≡ stage.Line h)
 
--- a number of at most that stands there, and the place is behind its line; or the line is kept, or it is none
+-- a number within that limit stands there, and the place is behind its line; or the line is kept, or it is none
 abbrev pub IsSize : Limits → ℕ → Head → List ℕ → Place → Result (Option ℕ) Refusal → Place → Type 0
 IsSize limits most h tape old (Ok (Some n)) new = (new ≡ record old { next = new.next }) × (old.next ≤ new.next) × (new.next ≤ length tape) × (n ≤ most) × (l : List ℕ) × (natural (Some most) l ≡ Some n) × IsWholeLine limits (drop old.next tape) l (drop new.next tape)
 IsSize limits most h tape old (Ok None) new = IsKept tape h old new
