@@ -43,14 +43,10 @@ fn digit_behind(sign: Sign, n: u64, b: u8) -> Digits
     if !is_decimal(b) {
         return Digits::Never;
     }
-    let digit = u64::from(b - b'0');
-    if n < GREATEST / 10 {
-        return Digits::Number(sign, 10 * n + digit);
-    }
     if n > GREATEST / 10 {
         return Digits::Above;
     }
-    let next = 10 * n + digit;
+    let next = 10 * n + u64::from(b - b'0');
     if next <= GREATEST {
         Digits::Number(sign, next)
     } else {
