@@ -5,7 +5,7 @@ use Rattle.containers.proofs.Choices.{chosen}
 use Rattle.resp_value.specs.Data.{Data}
 use Rattle.resp_read.specs.Values.{values, left_over}
 use Rattle.driver_model.specs.Hearing.{Taking}
-use Rattle.legal_trace.specs.Ledger.{Ledger, Heard, taking_of, value_by, value_came, values_came, bytes_came, items_came, heard_at, reach}
+use Rattle.legal_trace.specs.Ledger.{Ledger, Heard, taking_of, value_by, value_came, values_came, bytes_came, items_came, heard_at}
 
 -- a link on which this came: what is left of it, whether its last value ends the link, what is to be told of it, and which items
 -- were dealt

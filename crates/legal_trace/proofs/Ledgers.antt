@@ -2,7 +2,6 @@
 use Rattle.std.proofs.Common.{◌≡◌, ◌≢◌, ℕ, ◌+◌, ◌-◌, ◌<◌, ◌≤◌, ◌==◌, min, if◌then◌else◌, Bool, true, false, ◌&&◌, not, List, [], ◌∷◌, ◌++◌, length, take, drop, None, refl, sym, ap, ◌∙◌, subst, arith, append_assoc, length-append}
 use Rattle.containers.proofs.Choices.{chosen, if_false, ne_from, not_both}
 use Rattle.std.proofs.lemmas.List.{append-nil, length-take, take-append-le}
-use Rattle.resp_read.specs.Values.{left_over}
 use Rattle.resp_value.specs.Data.{Data}
 use Rattle.redis_error.specs.declared.redis_error.RedisError.TheVariants as error
 use Rattle.driver_model.specs.News.{News, silence, connected, refused, overdue, took, came, failed, authorized, denied, deserted, renewed, unrenewed, late, dropped, shut}
@@ -12,7 +11,7 @@ use Rattle.driver_model.specs.Shape.{need_of}
 use Rattle.legal_trace.specs.Ledger.{Ledger, Line, Start, asks, hears, begins, offers, tells, sources, times, ends, parts, noted, noted_each, with_news, refused_in, bytes_came, value_came, items_came, awaits_credentials, authorized_by, may_renew, renewed_by, unrenewed_by, is_renewal_open, lost_by, is_over, dials, reach, joined, reached, AllNoted}
 use Rattle.legal_trace.specs.Book.{if_mine}
 use Rattle.legal_trace.proofs.Plain.{none_from}
-use Rattle.legal_trace.proofs.Came.{grown, holds_bytes, value_keeps, bytes_keep}
+use Rattle.legal_trace.proofs.Came.{holds_bytes, value_keeps, bytes_keep}
 
 -- a fact that each line keeps is kept by any lines
 pub each_keeps : (P : Ledger → Type 0) → ((l : Ledger) (x : Line) → P l → P (noted l x)) → (l : Ledger) (lines : List Line) → P l → P (noted_each l lines)

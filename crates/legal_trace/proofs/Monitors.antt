@@ -1,9 +1,9 @@
 -- The message that puts a server into monitor mode: which it is of those that started, and that it stays answered.
-use Rattle.std.proofs.Common.{◌≡◌, ℕ, zero, suc, ◌+◌, ◌<◌, ◌≤◌, nat_le, Bool, true, false, ◌||◌, not, if◌then◌else◌, List, [], ◌∷◌, ◌++◌, length, Option, Some, None, slice_get, refl, sym, ap, ◌∙◌, subst, arith, length-append}
+use Rattle.std.proofs.Common.{◌≡◌, ℕ, suc, ◌+◌, ◌<◌, ◌≤◌, nat_le, Bool, true, false, ◌||◌, not, if◌then◌else◌, List, [], ◌∷◌, ◌++◌, length, Option, Some, None, slice_get, refl, sym, ap, ◌∙◌, arith, length-append}
 use Rattle.containers.proofs.Choices.{by_test, taken_if, left_if, le_from, le_test}
 use Rattle.resp_value.specs.Data.{Data}
 use Rattle.driver_model.specs.Hearing.{is_watching}
-use Rattle.legal_trace.specs.Ledger.{Ledger, Start, reached, is_full, is_answered, is_of_monitor, monitor_among, monitor_of}
+use Rattle.legal_trace.specs.Ledger.{Ledger, Start, reached, is_answered, is_of_monitor, monitor_among, monitor_of}
 use Rattle.legal_trace.proofs.Ledgers.{reached_more, reached_dealt}
 use Rattle.legal_trace.proofs.Plain.{item_within, not_none, same_some}
 

@@ -1,5 +1,5 @@
 -- Links that are set up: what makes them so, and that they stay so.
-use Rattle.std.proofs.Common.{◌≡◌, ◌≢◌, ◌⊎◌, inl, inr, ℕ, zero, suc, ◌+◌, ◌-◌, ◌<◌, ◌≤◌, ◌==◌, nat_le, if◌then◌else◌, Bool, true, false, ◌&&◌, ◌||◌, not, List, [], ◌∷◌, ◌++◌, length, take, drop, Option, Some, None, refl, sym, ap, ◌∙◌, subst, arith, length-append, slice_get}
+use Rattle.std.proofs.Common.{◌≡◌, ◌≢◌, ◌⊎◌, inl, inr, ℕ, zero, suc, ◌+◌, ◌<◌, ◌≤◌, ◌==◌, nat_le, if◌then◌else◌, Bool, true, false, ◌&&◌, ◌||◌, not, List, [], ◌∷◌, ◌++◌, length, take, drop, Option, Some, None, refl, sym, ap, ◌∙◌, subst, arith, length-append, slice_get}
 use Rattle.std.proofs.lemmas.List.{take-append-le, drop-append-le, take_all, length_push}
 use Rattle.std.specs.Prelude.{ℤ, pos, negsuc}
 use Rattle.containers.proofs.Choices.{by_test, chosen, taken_if, left_if, le_from, le_test, not_le_test, not_both, or_right, both_left, both_right}
