@@ -36,6 +36,7 @@ pub mod Brought
 pub mod Renewed
 pub mod Telling
 pub mod Timed
-pub mod Pushes
+pub mod Notices
+pub mod Values
 pub mod Parted
 pub mod Among

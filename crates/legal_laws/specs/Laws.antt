@@ -9,7 +9,8 @@ use Rattle.legal_laws.specs.Links.{lines_for, TakesInOrder}
 use Rattle.legal_laws.specs.Segments.{AreInOrder}
 use Rattle.legal_laws.specs.Starts.{StaysWithin}
 use Rattle.legal_laws.specs.Permits.{KeepsPermits, AsksTimers}
-use Rattle.legal_laws.specs.Pushes.{TellsPushes, TellsEnds}
+use Rattle.legal_laws.specs.Notices.{TellsNotices}
+use Rattle.legal_laws.specs.Pushes.{TellsEnds}
 use Rattle.legal_laws.specs.Sources.{StartsAuthorized}
 use Rattle.legal_laws.specs.Renewals.{TimesRenewals}
 
@@ -52,11 +53,11 @@ EachAsksTimers =
     (config : Config) (word : ℕ) (events : List Event) (trace : List Action) → Legal config word events trace
     → AsksTimers config trace
 
--- each legal trace tells the pushes that come
-abbrev pub EachTellsPushes : Type 0
-EachTellsPushes =
+-- each legal trace tells what is heard beside replies
+abbrev pub EachTellsNotices : Type 0
+EachTellsNotices =
     (config : Config) (word : ℕ) (events : List Event) (trace : List Action) → Legal config word events trace
-    → TellsPushes config trace
+    → TellsNotices config trace
 
 -- and that links have ended
 abbrev pub EachTellsEnds : Type 0

@@ -8,5 +8,7 @@ pub mod Opened
 pub mod Sources
 pub mod Renewals
 pub mod Permits
+pub mod Notices
+pub mod Values
 pub mod Pushes
 pub mod Laws

@@ -14,9 +14,9 @@ ghost use Rattle.legal_laws.specs.Sources.{StartsNoneLacking};
 ghost use Rattle.legal_laws.specs.Renewals.{TellsInTurn};
 ghost use Rattle.legal_laws.specs.Laws.{OfEachLegal, LinksTakeInOrder, OneIsLegal, TurnsAreInOrder};
 ghost use Rattle.legal_laws.specs.Permits.{TimedOutStartNoMore, FiredStartNoMore};
-ghost use Rattle.legal_laws.specs.Pushes.{TellsInOrder};
+ghost use Rattle.legal_laws.specs.Notices.{TellsInOrder};
 ghost use Rattle.legal_laws.specs.Laws.{EachStaysWithin, EachKeepsPermits, EachAsksTimers};
-ghost use Rattle.legal_laws.specs.Laws.{EachTellsPushes, EachTellsEnds, EachStartsAuthorized};
+ghost use Rattle.legal_laws.specs.Laws.{EachTellsNotices, EachTellsEnds, EachStartsAuthorized};
 ghost use Rattle.legal_laws.specs.Laws.{EachTimesRenewals};
 
 /// Does nothing. Its contract: what a legal trace tells of each link is legal by itself. What the
@@ -139,13 +139,13 @@ pub fn a_timer_is_asked_once()
     ensures of_renewals { EachTimesRenewals }
 {}
 
-/// Does nothing. Its contract: where nobody hears pushes, a legal trace tells none. Where somebody
-/// does, behind each whole turn it has told of each link the pushes that came on it once it was set
-/// up, in order, each once. A push stands behind the outcomes of the messages that were full before
-/// it came, where their items gave them, and before the outcomes of those that take an item behind
-/// it.
-pub fn each_push_is_told()
-    ensures told { EachTellsPushes }
+/// Does nothing. Its contract: a legal trace tells no push, no message of publish/subscribe and no
+/// report of a monitor where nobody hears such. Where somebody does, behind each whole turn it has
+/// told of each link what came on it once it was set up, in order, each once. It stands behind the
+/// outcomes of the messages that were full before it came, where their items gave them, and before
+/// the outcomes of those that take an item behind it.
+pub fn each_notice_is_told()
+    ensures told { EachTellsNotices }
     ensures in_order { OfEachLegal TellsInOrder }
 {}
 
