@@ -38,5 +38,7 @@ pub mod Telling
 pub mod Timed
 pub mod Notices
 pub mod Values
+pub mod WhatCame
+pub mod Suits
 pub mod Parted
 pub mod Among

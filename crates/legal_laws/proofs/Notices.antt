@@ -203,7 +203,7 @@ step_said b l shown a may h = elim (step_tells b l a may) [
 ]
 
 -- and with many
-each_said : (b : Book) (l : ℕ) (shown : List Notice) (trace : List Action) → AllStand b trace → IsSaid shown (b.link l) → IsSaid (shown ++ told_each b l trace) ((entered_each b trace).link l)
+pub each_said : (b : Book) (l : ℕ) (shown : List Notice) (trace : List Action) → AllStand b trace → IsSaid shown (b.link l) → IsSaid (shown ++ told_each b l trace) ((entered_each b trace).link l)
 each_said b l shown [] all h = subst (λ (is : List Notice). IsSaid is (b.link l)) (sym (append-nil shown)) h
 each_said b l shown (a ∷ more) all h =
     subst (λ (is : List Notice). IsSaid is ((entered_each (entered b a) more).link l)) (append_assoc shown (told_by b l a) (told_each (entered b a) l more))
@@ -224,7 +224,7 @@ all_said l front all none =
     h.said ∙ ap said_by (take_whole ((book front).link l).notices ((book front).link l).told none)
 
 -- a turn that is over is settled
-settled_whole : (config : Config) (word : ℕ) (events : List Event) (front more : List Action) → Legal config word events (front ++ more) → IsWhole more → IsSettled (book front)
+pub settled_whole : (config : Config) (word : ℕ) (events : List Event) (front more : List Action) → Legal config word events (front ++ more) → IsWhole more → IsSettled (book front)
 settled_whole config word events front [] h whole = subst (λ t. IsSettled (book t)) (append-nil front) h.settled
 settled_whole config word events front (action.Turn k (cause.Event e) ∷ more) h whole = (next_may config word events front more (action.Turn k (cause.Event e)) h).is_for.1
 settled_whole config word events front (action.Turn k (cause.Opening c w) ∷ more) h whole = absurd whole

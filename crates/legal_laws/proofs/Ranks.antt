@@ -339,11 +339,11 @@ creation_reached b (Some e) may h =
     let over = failed_is_over (b.link may.l).end e may.fails in (may.ended, (told_over b may.l over.0 h over.1 may.answered may.sourced, over_is_begun b may.l over.0 h over.1))
 
 -- before what is told of what came
-notice_reached : (b : Book) (l : ℕ) (n : Notice) → MayNotify b l n → Sound b → Reached 3 b
+pub notice_reached : (b : Book) (l : ℕ) (n : Notice) → MayNotify b l n → Sound b → Reached 3 b
 notice_reached b l n may h = up_is_begun b l h (h.waits l may.is_heard may.heard may.next)
 
 -- and before a push
-push_reached : (b : Book) (l : ℕ) (info : PushInfo) (disconnects : Bool) → MayPushBy disconnects b l info → Sound b → Reached (push_rank disconnects) b
+pub push_reached : (b : Book) (l : ℕ) (info : PushInfo) (disconnects : Bool) → MayPushBy disconnects b l info → Sound b → Reached (push_rank disconnects) b
 push_reached b l info false may h = notice_reached b l (notice.Push info) may h
 push_reached b l info true may h =
     let over = cut_is_over (b.link l).end may.ended in

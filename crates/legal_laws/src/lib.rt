@@ -17,6 +17,8 @@ ghost use Rattle.legal_laws.specs.Permits.{TimedOutStartNoMore, FiredStartNoMore
 ghost use Rattle.legal_laws.specs.Notices.{TellsInOrder};
 ghost use Rattle.legal_laws.specs.Laws.{EachStaysWithin, EachKeepsPermits, EachAsksTimers};
 ghost use Rattle.legal_laws.specs.Laws.{EachTellsNotices, EachTellsEnds, EachStartsAuthorized};
+ghost use Rattle.legal_laws.specs.Laws.{EachTellsMessages, EachTellsReports};
+ghost use Rattle.legal_laws.specs.Values.{ConfirmationsAreNone};
 ghost use Rattle.legal_laws.specs.Laws.{EachTimesRenewals};
 
 /// Does nothing. Its contract: what a legal trace tells of each link is legal by itself. What the
@@ -147,6 +149,21 @@ pub fn a_timer_is_asked_once()
 pub fn each_notice_is_told()
     ensures told { EachTellsNotices }
     ensures in_order { OfEachLegal TellsInOrder }
+{}
+
+/// Does nothing. Its contract: behind each whole turn a legal trace has told of each link what the
+/// values say that came on it once it was set up, in their order, and nothing else. Where messages
+/// of publish/subscribe are heard, that is each value that is a message: no such value is dealt to
+/// a request, and no confirmation is one.
+pub fn a_message_is_told_where_it_came()
+    ensures told { EachTellsMessages }
+    ensures unconfirmed { ConfirmationsAreNone }
+{}
+
+/// Does nothing. Its contract: a monitor's link is set up once MONITOR is answered, which is the last
+/// item that is dealt on it. Behind each whole turn a legal trace has told each later item, in order.
+pub fn a_monitor_tells_all_behind_its_answer()
+    ensures { EachTellsReports }
 {}
 
 /// Does nothing. Its contract: a legal trace tells at most once that a link has ended, and only
