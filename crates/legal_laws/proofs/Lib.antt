@@ -40,5 +40,7 @@ pub mod Notices
 pub mod Values
 pub mod WhatCame
 pub mod Suits
+pub mod Dealt
+pub mod Reports
 pub mod Parted
 pub mod Among

@@ -1,5 +1,5 @@
 -- All that came is told where it is heard, once and in order.
-use Rattle.std.proofs.Common.{◌≡◌, ◌≢◌, ◌⊎◌, inl, inr, ℕ, zero, suc, ◌+◌, ◌-◌, ◌<◌, ◌≤◌, ◌==◌, Bool, true, false, ◌&&◌, not, List, [], ◌∷◌, ◌++◌, length, take, Some, None, if◌then◌else◌, refl, sym, ◌∙◌, ap, subst, append_assoc, arith, length-append}
+use Rattle.std.proofs.Common.{◌≡◌, ◌⊎◌, inl, inr, ℕ, zero, suc, ◌+◌, ◌-◌, ◌<◌, ◌≤◌, ◌==◌, Bool, true, false, ◌&&◌, not, List, [], ◌∷◌, ◌++◌, length, take, Some, None, if◌then◌else◌, refl, sym, ◌∙◌, ap, subst, append_assoc, arith, length-append}
 use Rattle.std.specs.Prelude.{slice_get}
 use Rattle.std.proofs.lemmas.List.{append-nil, take-append-le}
 use Rattle.containers.proofs.Choices.{by_test, chosen, taken_if, left_if, eq_from, not_both}
@@ -25,7 +25,6 @@ use Rattle.legal_trace.proofs.Plain.{same_some}
 use Rattle.legal_trace.proofs.Came.{holds_bytes}
 use Rattle.legal_laws.specs.Notices.{told_by, told_each, notices_told, said_by, IsWhole, Tells, TellsEach}
 use Rattle.legal_laws.proofs.Bounds.{ready_behind, next_may, applied_began}
-use Rattle.legal_laws.proofs.Sound.{Sound}
 
 -- what may tell that a link has ended, and what may tell a push that came
 pub parting_of : (b : Book) (l : ℕ) (info : PushInfo) → is_disconnection info.kind ≡ true → MayPush b l info → MayPart b l info

@@ -8,7 +8,7 @@ use Rattle.driver_model.specs.declared.action.Cause.TheVariants as cause
 use Rattle.driver_model.specs.declared.action.Owner.TheVariants as owner
 use Rattle.driver_model.specs.declared.event.EventKind.{EventKind}
 use Rattle.driver_model.specs.declared.event.EventKind.TheVariants as event
-use Rattle.driver_model.specs.News.{News, dropped, shut, news_of}
+use Rattle.driver_model.specs.News.{News, shut, news_of}
 use Rattle.legal_trace.specs.Ledger.{Ledger, End, Ending, by_shutdown, hears, begins, offers, ends, noted, is_set_up, setup_result, error_in, ending, ending_up, ending_by, ending_unready, ending_alive, ending_asked, sources, times}
 use Rattle.legal_trace.specs.Book.{Book, entered, message_of, shuts, is_renewal_of, current}
 use Rattle.legal_trace.specs.Legal.{MayStand, NoneEnds}

@@ -2,7 +2,7 @@
 use Rattle.std.proofs.Common.{◌≡◌, ◌≢◌, ℕ, zero, suc, ◌<◌, Bool, true, false, List, [], ◌∷◌, ◌++◌, take, Option, Some, None, if◌then◌else◌, refl, sym, ◌∙◌, ap, subst, arith}
 use Rattle.std.specs.Prelude.{slice_get, option_map}
 use Rattle.containers.proofs.Choices.{by_test, not_both}
-use Rattle.resp_value.specs.Data.{Data, push, list_of}
+use Rattle.resp_value.specs.Data.{Data, push}
 use Rattle.resp_value.specs.View.{value_of}
 use Rattle.resp_value.specs.Kinds.{is_item}
 use Rattle.driver_model.specs.declared.action.Action.{Action}
@@ -16,17 +16,17 @@ use Rattle.driver_model.specs.declared.hearing.Notice.TheVariants as notice
 use Rattle.driver_model.specs.declared.msg.Msg.{Msg}
 use Rattle.driver_model.specs.declared.push_info.PushInfo.{PushInfo}
 use Rattle.driver_model.specs.Config.{hearing_of}
-use Rattle.driver_model.specs.Hearing.{hears_something, hears_pushes, hears_messages, is_watching, push_told, item_told}
+use Rattle.driver_model.specs.Hearing.{hears_something, hears_pushes, hears_messages, is_watching, push_told}
 use Rattle.driver_model.specs.Push.{is_disconnection}
-use Rattle.legal_trace.specs.Ledger.{Ledger, Heard, next_notice}
+use Rattle.legal_trace.specs.Ledger.{Ledger, Heard}
 use Rattle.legal_trace.specs.Book.{Book, blank_book, book, current, hearing_in}
-use Rattle.legal_trace.specs.Legal.{MayStand, MayNotify, MayPushBy, AllStand, Legal}
+use Rattle.legal_trace.specs.Legal.{MayNotify, MayPushBy, AllStand, Legal}
 use Rattle.legal_trace.proofs.Plain.{same_some}
-use Rattle.legal_laws.specs.Notices.{said_by, notices_told, IsPush, IsMessage, IsReport, HasNone, TellsNotices}
+use Rattle.legal_laws.specs.Notices.{said_by, notices_told, IsPush, IsMessage, IsReport, TellsNotices}
 use Rattle.legal_laws.specs.Values.{message_in, notice_in, listed, notices_in, values_heard, TellsWhatCame}
 use Rattle.legal_laws.proofs.Bounds.{ready_behind, next_may, applied_began}
 use Rattle.legal_laws.proofs.Notices.{each_said, settled_whole, front_stands, tells_each}
-use Rattle.legal_laws.proofs.Ranks.{push_rank, rank, reached, step_of, notice_reached, push_reached}
+use Rattle.legal_laws.proofs.Ranks.{push_rank, step_of, notice_reached, push_reached}
 use Rattle.legal_laws.proofs.Sound.{Sound}
 use Rattle.legal_laws.proofs.WhatCame.{heard_behind, heard_says}
 

@@ -1,31 +1,23 @@
 -- What is told of a link is what the values say that came on it once it was set up.
-use Rattle.std.proofs.Common.{◌≡◌, ◌≢◌, ℕ, ◌-◌, ◌<◌, ◌≤◌, ◌==◌, nat_le, Bool, true, false, ◌&&◌, not, List, [], ◌∷◌, ◌++◌, take, Option, Some, None, if◌then◌else◌, refl, sym, ◌∙◌, ap, subst, append_assoc, arith}
+use Rattle.std.proofs.Common.{◌≡◌, ℕ, Bool, true, false, ◌&&◌, not, List, [], ◌∷◌, ◌++◌, Option, Some, None, if◌then◌else◌, refl, sym, ◌∙◌, ap, subst, append_assoc}
 use Rattle.std.proofs.lemmas.List.{append-nil}
-use Rattle.std.specs.Prelude.{slice_get, option_map, codes, bytes_eq}
+use Rattle.std.specs.Prelude.{option_map, codes, bytes_eq}
 use Rattle.std.proofs.lemmas.Slice.Eq.{bytes_eq-Decides}
-use Rattle.containers.proofs.Choices.{by_test, chosen, taken_if, left_if, eq_from, le_from, not_both}
-use Rattle.redis_error.specs.declared.redis_error.RedisError.TheVariants as error
-use Rattle.resp_value.specs.Data.{Data, nil, int, bulk, array, simple, okay, dict, attribute, set, double, boolean, verbatim, big, push, error as fault, Items, list_of}
+use Rattle.containers.proofs.Choices.{by_test, chosen, not_both}
+use Rattle.resp_value.specs.Data.{Data, bulk, array, push, list_of}
 use Rattle.resp_value.specs.declared.push_kind.PushKind.{PushKind}
 use Rattle.resp_value.specs.declared.push_kind.PushKind.TheVariants as kind
 use Rattle.resp_value.specs.Kinds.{has_reply, kind_of}
-use Rattle.resp_read.specs.Values.{values, left_over}
-use Rattle.driver_model.specs.declared.action.Action.{Action}
-use Rattle.driver_model.specs.declared.action.Action.TheVariants as action
-use Rattle.driver_model.specs.declared.action.Cause.TheVariants as cause
-use Rattle.driver_model.specs.declared.config.Config.{Config}
-use Rattle.driver_model.specs.declared.event.Event.{Event}
 use Rattle.driver_model.specs.declared.hearing.Hearing.{Hearing}
 use Rattle.driver_model.specs.declared.hearing.Hearing.TheVariants as hearing
 use Rattle.driver_model.specs.declared.hearing.Notice.{Notice}
 use Rattle.driver_model.specs.declared.hearing.Notice.TheVariants as notice
 use Rattle.driver_model.specs.declared.msg.Msg.{Msg}
 use Rattle.driver_model.specs.Hearing.{Taking, taking, taken_by, array_taken, as_message, answers, strange, message_taken, push_taken, other_taken, is_answer_named, bulk_text, plain_text, message_of, message_named}
-use Rattle.driver_model.specs.News.{News, silence, connected, refused, overdue, took, came, failed, dropped, shut, news_of, authorized, denied, deserted, renewed, unrenewed, late}
-use Rattle.legal_trace.specs.Ledger.{Ledger, Heard, items_came, is_awaiting, is_set_up, taking_of, heard_at, value_by, value_came, values_came, bytes_came}
+use Rattle.legal_trace.specs.Ledger.{Ledger, Heard, items_came, is_awaiting, is_set_up, taking_of, heard_at, value_by, value_came, values_came}
 use Rattle.legal_laws.specs.Notices.{said_by}
-use Rattle.legal_laws.specs.Values.{message_in, named_message, is_confirmation, begins_as_answer, notice_in, listed, notices_in, is_hearing, heard_of, ConfirmationsAreNone}
-use Rattle.legal_trace.proofs.Came.{Came, holds_came, value_is}
+use Rattle.legal_laws.specs.Values.{message_in, named_message, begins_as_answer, notice_in, listed, notices_in, is_hearing, heard_of, ConfirmationsAreNone}
+use Rattle.legal_trace.proofs.Came.{holds_came, value_is}
 
 -- texts that are alike are one
 one_text : (x y : List ℕ) → bytes_eq x y ≡ true → x ≡ y
@@ -58,12 +50,12 @@ answer_none parts name =
     (no_more (bytes_eq name (codes "psubscribe")) _ g
     (no_more (bytes_eq name (codes "subscribe")) _ f e))))))))))
 
-answer_is_none : (name : Data) (parts : List Data) → is_answer_named (bulk_text name) ≡ true → message_named (plain_text name) parts ≡ None
+pub answer_is_none : (name : Data) (parts : List Data) → is_answer_named (bulk_text name) ≡ true → message_named (plain_text name) parts ≡ None
 answer_is_none (bulk text) parts e = answer_none parts text e
 answer_is_none _ parts e = cc
 
 -- nor is a push that answers
-reply_is_none : (k : PushKind) (parts : List Data) → has_reply k ≡ true → message_of k parts ≡ None
+pub reply_is_none : (k : PushKind) (parts : List Data) → has_reply k ≡ true → message_of k parts ≡ None
 reply_is_none kind.Subscribe parts e = refl
 reply_is_none kind.PSubscribe parts e = refl
 reply_is_none kind.SSubscribe parts e = refl

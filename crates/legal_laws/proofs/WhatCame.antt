@@ -1,34 +1,25 @@
 -- What a trace tells of a link is what the values say that came on it once it was set up.
-use Rattle.std.proofs.Common.{◌≡◌, ◌≢◌, ℕ, zero, suc, ◌+◌, ◌-◌, ◌<◌, ◌≤◌, ◌==◌, Bool, true, false, ◌&&◌, not, List, [], ◌∷◌, ◌++◌, length, take, Option, Some, None, if◌then◌else◌, refl, sym, ◌∙◌, ap, subst, append_assoc, arith}
+use Rattle.std.proofs.Common.{◌≡◌, ℕ, ◌-◌, ◌==◌, Bool, true, false, ◌&&◌, List, [], ◌∷◌, ◌++◌, take, if◌then◌else◌, refl, sym, ◌∙◌, ap, subst, append_assoc, arith}
 use Rattle.std.proofs.lemmas.List.{append-nil}
-use Rattle.std.specs.Prelude.{slice_get, option_map}
-use Rattle.containers.proofs.Choices.{by_test, chosen, taken_if, eq_from, not_both}
+use Rattle.containers.proofs.Choices.{by_test, chosen, eq_from, not_both}
 use Rattle.redis_error.specs.declared.redis_error.RedisError.TheVariants as error
 use Rattle.resp_value.specs.Data.{Data}
 use Rattle.resp_read.specs.Values.{values, left_over}
 use Rattle.driver_model.specs.declared.action.Action.{Action}
 use Rattle.driver_model.specs.declared.action.Action.TheVariants as action
 use Rattle.driver_model.specs.declared.action.Cause.TheVariants as cause
-use Rattle.driver_model.specs.declared.action.Owner.TheVariants as owner
-use Rattle.driver_model.specs.declared.config.Config.{Config}
-use Rattle.driver_model.specs.declared.event.Event.{Event}
 use Rattle.driver_model.specs.declared.hearing.Hearing.{Hearing}
-use Rattle.driver_model.specs.Config.{hearing_of}
-use Rattle.driver_model.specs.Hearing.{hears_something}
 use Rattle.driver_model.specs.News.{News, silence, connected, refused, overdue, took, came, failed, dropped, shut, news_of, authorized, denied, deserted, renewed, unrenewed, late}
-use Rattle.legal_trace.specs.Ledger.{Ledger, Heard, asks, hears, begins, offers, tells, ends, parts, sources, times, noted, noted_each, with_news, refused_in, bytes_came, is_over, dials, awaits_credentials, authorized_by, may_renew, renewed_by, unrenewed_by, is_renewal_open, lost_by}
+use Rattle.legal_trace.specs.Ledger.{Ledger, asks, hears, begins, offers, ends, sources, times, noted, with_news, refused_in, bytes_came, is_over, dials, awaits_credentials, authorized_by, may_renew, renewed_by, unrenewed_by, is_renewal_open, lost_by}
 use Rattle.legal_trace.specs.Book.{Book, blank_book, book, entered, entered_each, current, hearing_in, info_in, message_of, wanted_in, is_renewal_of}
-use Rattle.legal_trace.specs.Legal.{MayStand, AllStand, Legal}
-use Rattle.legal_trace.proofs.Books.{stand_front}
+use Rattle.legal_trace.specs.Legal.{MayStand, AllStand}
 use Rattle.legal_trace.proofs.Came.{holds_bytes}
 use Rattle.legal_trace.proofs.Ledgers.{mine_keeps}
-use Rattle.legal_laws.specs.Notices.{said_by, told_each, notices_told}
-use Rattle.legal_laws.specs.Values.{notices_in, heard_of, heard_in, heard_by, heard_each, values_heard, TellsWhatCame}
-use Rattle.legal_laws.proofs.Bounds.{ready_behind, applied_began}
+use Rattle.legal_laws.specs.Notices.{said_by}
+use Rattle.legal_laws.specs.Values.{notices_in, heard_of, heard_in, heard_by, heard_each, values_heard}
 use Rattle.legal_laws.proofs.Numbers.{HasLinks, up_is_asked}
-use Rattle.legal_laws.proofs.Notices.{each_said, IsSaid, settled_whole, front_stands, tells_each}
 use Rattle.legal_laws.proofs.Pushed.{push_keeps, tell_keeps}
-use Rattle.legal_laws.proofs.Sound.{Sound, stays_sound, blank_is_sound, sound_behind}
+use Rattle.legal_laws.proofs.Sound.{Sound, stays_sound, blank_is_sound}
 use Rattle.legal_laws.proofs.Values.{values_say, notices_append}
 
 -- what is to be told of a link is what these values say, which it heard; it hears what it is to, once it was asked for, and nothing

@@ -202,7 +202,7 @@ abbrev pub FewAreDealt : Ledger → Type 0
 FewAreDealt l = length l.dealt ≤ reach l.starts l.dealt
 
 -- items that come are dealt as far as there is room
-few_come : (l : Ledger) (more : List Data) → FewAreDealt l → FewAreDealt (items_came l more)
+pub few_come : (l : Ledger) (more : List Data) → FewAreDealt l → FewAreDealt (items_came l more)
 few_come l more h =
     let room : ℕ = reach l.starts l.dealt - length l.dealt in
     let d : List Data = l.dealt ++ take room more in
@@ -212,7 +212,7 @@ few_come l more h =
     omega arith
 
 -- so with each value
-few_value : (l : Ledger) (v : Data) → FewAreDealt l → FewAreDealt (value_came l v)
+pub few_value : (l : Ledger) (v : Data) → FewAreDealt l → FewAreDealt (value_came l v)
 few_value l v h = value_keeps FewAreDealt (λ m told strange k. k) (λ m w k. few_come m (w ∷ []) k) l v h
 
 -- so with any news

@@ -1,0 +1,151 @@
+-- A monitor's link is set up once MONITOR is answered, and deals nothing from then on.
+use Rattle.std.proofs.Common.{◌≡◌, ℕ, ◌+◌, ◌-◌, ◌==◌, Bool, true, false, ◌&&◌, ◌||◌, not, List, [], ◌∷◌, ◌++◌, take, Option, Some, None, refl, sym, ◌∙◌, ap, subst, arith}
+use Rattle.std.specs.Prelude.{slice_get}
+use Rattle.containers.proofs.Choices.{chosen, eq_from, not_both}
+use Rattle.redis_error.specs.declared.redis_error.RedisError.TheVariants as error
+use Rattle.resp_value.specs.Data.{Data}
+use Rattle.driver_model.specs.declared.action.Action.{Action}
+use Rattle.driver_model.specs.declared.action.Action.TheVariants as action
+use Rattle.driver_model.specs.declared.action.Cause.TheVariants as cause
+use Rattle.driver_model.specs.declared.action.Owner.TheVariants as owner
+use Rattle.driver_model.specs.declared.config.Config.{Config}
+use Rattle.driver_model.specs.declared.event.Event.{Event}
+use Rattle.driver_model.specs.declared.hearing.Hearing.{Hearing}
+use Rattle.driver_model.specs.declared.hearing.Hearing.TheVariants as hearing
+use Rattle.driver_model.specs.Hearing.{taking, is_watching}
+use Rattle.driver_model.specs.News.{News, silence, connected, refused, overdue, took, came, failed, dropped, shut, news_of, authorized, denied, deserted, renewed, unrenewed, late}
+use Rattle.legal_trace.specs.Ledger.{Ledger, asks, begins, offers, ends, sources, times, with_news, refused_in, bytes_came, is_answered, is_awaiting, is_over, is_set_up, dials, items_came, heard_at, monitor_of, taking_of, value_by, value_came, awaits_credentials, authorized_by, may_renew, renewed_by, unrenewed_by, is_renewal_open, lost_by}
+use Rattle.legal_trace.specs.Book.{Book, blank_book, book, entered, entered_each, current, hearing_in, info_in, message_of, wanted_in, is_renewal_of}
+use Rattle.legal_trace.specs.Legal.{MayStand, AllStand, Legal}
+use Rattle.legal_trace.proofs.Books.{stand_front, stand_behind, book_append}
+use Rattle.legal_trace.proofs.Came.{ValueKeeps, bytes_keep, holds_came, value_is}
+use Rattle.legal_trace.proofs.Ledgers.{mine_keeps}
+use Rattle.legal_trace.proofs.Monitors.{monitor_is}
+use Rattle.legal_trace.proofs.Setups.{AreSetups, set_begins, set_is_undue, set_is_watched, set_stays}
+use Rattle.legal_trace.proofs.Sources.{awaits_unset}
+use Rattle.legal_laws.specs.Values.{AnswersFirst, DealsNoMore, IsWatched, TellsReports}
+use Rattle.legal_laws.proofs.Dealt.{asked_hears}
+use Rattle.legal_laws.proofs.Pushed.{push_keeps, tell_keeps}
+use Rattle.legal_laws.proofs.Sound.{Sound, stays_sound, sound_behind}
+use Rattle.legal_laws.proofs.Suits.{tells_what_came}
+
+-- where a server is put into monitor mode, and the link is set up, MONITOR is answered
+watched_by : (l : Ledger) (o : Option ℕ) → monitor_of l ≡ o → is_answered l o ≡ true → IsWatched l
+watched_by l None e h = absurd (cc h)
+watched_by l (Some k) e h =
+    let there = monitor_is l.starts 0 k e in
+    let placed : k ≡ there.0 = let far : k ≡ 0 + there.0 = there.2 in omega (arith, far) in
+    record { k = k; start = there.1; stands = ap (slice_get l.starts) placed ∙ there.3; watches = there.4; answered = h }
+
+answers_of : (watching : Bool) (answered : Bool) → watching ≡ true → (not watching || answered) ≡ true → answered ≡ true
+answers_of true answered w e = e
+answers_of false answered w e = cc w
+
+set_watches : (l : Ledger) → is_watching l.hearing ≡ true → is_set_up l ≡ true → IsWatched l
+set_watches l watching set = watched_by l (monitor_of l) refl (answers_of (is_watching l.hearing) (is_answered l (monitor_of l)) watching (set_is_watched l set))
+
+-- such a link was asked for, and has dealt these items
+record IsDone (ds : List Data) (l : Ledger) : Type 0 where
+  asked : l.asked ≡ true
+  watching : is_watching l.hearing ≡ true
+  ready : is_set_up l ≡ true
+  dealt : l.dealt ≡ ds
+
+-- no value is dealt there
+none_dealt : (h : Hearing) (ready awaited : Bool) (v : Data) → is_watching h ≡ true → ready ≡ true → (taking h ready awaited v).dealt ≡ false
+none_dealt hearing.Monitor true awaited v w r = refl
+none_dealt hearing.Monitor false awaited v w r = cc r
+none_dealt hearing.Nothing ready awaited v w r = cc w
+none_dealt hearing.Pushes ready awaited v w r = cc w
+none_dealt hearing.Messages ready awaited v w r = cc w
+
+-- so a value leaves it, whose setups started as they are to
+record Keeps (ds : List Data) (l : Ledger) : Type 0 where
+  done : IsDone ds l
+  are : AreSetups l
+
+done_value : (ds : List Data) → ValueKeeps (Keeps ds)
+done_value ds l v h =
+    let m : Ledger = value_came l v in
+    let t = taking_of l v in
+    let n : Ledger = record l { notices = l.notices ++ heard_at l t.told; strange = t.ends } in
+    record {
+      done = record {
+        asked = holds_came (λ (x : Ledger). x.asked ≡ true) l m (value_is l v) (λ rest odd told more. h.done.asked);
+        watching = holds_came (λ (x : Ledger). is_watching x.hearing ≡ true) l m (value_is l v) (λ rest odd told more. h.done.watching);
+        ready = set_stays l m (value_is l v) h.are h.done.ready;
+        dealt = chosen (λ (x : Ledger). x.dealt ≡ ds) l.strange l (value_by l t v) (λ e. h.done.dealt)
+            (λ e. chosen (λ (x : Ledger). x.dealt ≡ ds) t.dealt (items_came n (v ∷ [])) n
+            (λ d. absurd (not_both t.dealt (none_dealt l.hearing (is_set_up l) (is_awaiting l) v h.done.watching h.done.ready) d)) (λ d. h.done.dealt));
+      };
+      are = holds_came AreSetups l m (value_is l v) (λ rest odd told more. h.are);
+    }
+
+-- so with any news
+news_done : (ds : List Data) (l : Ledger) (turn : ℕ) (news : News) → AreSetups l → IsDone ds l → IsDone ds (with_news l turn news)
+news_done ds l turn silence are h = h
+news_done ds l turn connected are h = chosen (IsDone ds) (is_over l) l (record l { up = true }) (λ t. h) (λ e. record { asked = h.asked; watching = h.watching; ready = h.ready; dealt = h.dealt })
+news_done ds l turn (refused f) are h = chosen (IsDone ds) (dials l) (refused_in l turn (error.Io f)) l (λ t. record { asked = h.asked; watching = h.watching; ready = h.ready; dealt = h.dealt }) (λ e. h)
+news_done ds l turn overdue are h = h
+news_done ds l turn (took count) are h = chosen (IsDone ds) l.up (record l { taken = l.taken ++ take count l.offer; offer = [] }) l (λ t. record { asked = h.asked; watching = h.watching; ready = h.ready; dealt = h.dealt }) (λ e. h)
+news_done ds l turn (came piece) are h = chosen (IsDone ds) l.up (bytes_came l piece) l
+    (λ t. (bytes_keep (Keeps ds) (done_value ds) l piece (record { done = record { asked = h.asked; watching = h.watching; ready = h.ready; dealt = h.dealt }; are = are })).done) (λ e. h)
+news_done ds l turn (failed f) are h = h
+news_done ds l turn (authorized c) are h = chosen (IsDone ds) (awaits_credentials l) (authorized_by l c) l (λ t. absurd (awaits_unset l t h.ready)) (λ e. h)
+news_done ds l turn (denied text) are h = h
+news_done ds l turn deserted are h = h
+news_done ds l turn (renewed c) are h = chosen (IsDone ds) (may_renew l) (renewed_by l c) l (λ t. record { asked = h.asked; watching = h.watching; ready = h.ready; dealt = h.dealt }) (λ e. h)
+news_done ds l turn unrenewed are h = chosen (IsDone ds) l.up (unrenewed_by l) l (λ t. record { asked = h.asked; watching = h.watching; ready = h.ready; dealt = h.dealt }) (λ e. h)
+news_done ds l turn (late k) are h = chosen (IsDone ds) (l.up && is_renewal_open l k) (lost_by l) l (λ t. record { asked = h.asked; watching = h.watching; ready = h.ready; dealt = h.dealt }) (λ e. h)
+news_done ds l turn dropped are h = h
+news_done ds l turn shut are h = h
+
+-- and with each action that may stand
+done_kept : (b : Book) (l : ℕ) (ds : List Data) (a : Action) → MayStand b a → Sound b → IsDone ds (b.link l) → IsDone ds ((entered b a).link l)
+done_kept b l ds (action.Turn k (cause.Opening config word)) may s h = h
+done_kept b l ds (action.Turn k (cause.Event e)) may s h = let m = news_done ds (b.link l) k (news_of b.timers b.sources l e.kind) (s.shaped l).are h in record { asked = m.asked; watching = m.watching; ready = m.ready; dealt = m.dealt }
+done_kept b l ds (action.Connect m host port) may s h = mine_keeps (IsDone ds) (m == l) (b.link l) (asks (info_in b.config) (wanted_in b.config) (hearing_in b.config))
+    (λ t. let same : m ≡ l = eq_from m l t in let next : m ≡ b.links = may.next in absurd (not_both (b.link l).asked (s.links.unasked l (omega (arith, same, next))).0 h.asked)) h
+done_kept b l ds (action.Timer t ms what) may s h = mine_keeps (IsDone ds) (is_renewal_of l what) (b.link l) times (λ e. record { asked = h.asked; watching = h.watching; ready = h.ready; dealt = h.dealt }) h
+done_kept b l ds (action.Took who m count) may s h = h
+done_kept b l ds (action.Push m info) may s h = push_keeps (IsDone ds) (m == l) info.kind (b.link l) (record { asked = h.asked; watching = h.watching; ready = h.ready; dealt = h.dealt }) (record { asked = h.asked; watching = h.watching; ready = h.ready; dealt = h.dealt }) h
+done_kept b l ds (action.Message msg) may s h = tell_keeps (IsDone ds) (current b == l) (b.link l) (record { asked = h.asked; watching = h.watching; ready = h.ready; dealt = h.dealt }) h
+done_kept b l ds (action.Monitor v) may s h = tell_keeps (IsDone ds) (current b == l) (b.link l) (record { asked = h.asked; watching = h.watching; ready = h.ready; dealt = h.dealt }) h
+done_kept b l ds (action.NeedCreds c m) may s h = mine_keeps (IsDone ds) (m == l) (b.link l) sources (λ t. record { asked = h.asked; watching = h.watching; ready = h.ready; dealt = h.dealt }) h
+done_kept b l ds (action.Close m) may s h = mine_keeps (IsDone ds) (m == l) (b.link l) (ends (b.turns - 1)) (λ t. record { asked = h.asked; watching = h.watching; ready = h.ready; dealt = h.dealt }) h
+done_kept b l ds (action.Write m bytes) may s h = mine_keeps (IsDone ds) (m == l) (b.link l) (offers bytes) (λ t. record { asked = h.asked; watching = h.watching; ready = h.ready; dealt = h.dealt }) h
+done_kept b l ds (action.Wait who kind) may s h = h
+done_kept b l ds (action.Start m k owner.Setup count len) may s h = mine_keeps (IsDone ds) (m == l) (b.link l) (begins (message_of b m owner.Setup))
+    (λ t. absurd (set_is_undue (b.link m) may.k (subst (λ j. is_set_up (b.link j) ≡ true) (sym (eq_from m l t)) h.ready) may.due)) h
+done_kept b l ds (action.Start m k owner.Monitor count len) may s h = mine_keeps (IsDone ds) (m == l) (b.link l) (begins (message_of b m owner.Monitor)) (λ t. record { asked = h.asked; watching = h.watching; ready = set_begins (b.link l) (message_of b m owner.Monitor) refl h.ready; dealt = h.dealt }) h
+done_kept b l ds (action.Start m k owner.Auth count len) may s h = mine_keeps (IsDone ds) (m == l) (b.link l) (begins (message_of b m owner.Auth)) (λ t. record { asked = h.asked; watching = h.watching; ready = set_begins (b.link l) (message_of b m owner.Auth) refl h.ready; dealt = h.dealt }) h
+done_kept b l ds (action.Start m k (owner.Try n round) count len) may s h = mine_keeps (IsDone ds) (m == l) (b.link l) (begins (message_of b m (owner.Try n round))) (λ t. record { asked = h.asked; watching = h.watching; ready = set_begins (b.link l) (message_of b m (owner.Try n round)) refl h.ready; dealt = h.dealt }) h
+done_kept b l ds (action.Created e) may s h = h
+done_kept b l ds (action.Outcome n o) may s h = h
+
+-- and with many
+each_done : (b : Book) (l : ℕ) (ds : List Data) (more : List Action) → AllStand b more → Sound b → IsDone ds (b.link l) → IsDone ds ((entered_each b more).link l)
+each_done b l ds [] all s h = h
+each_done b l ds (a ∷ more) all s h = each_done (entered b a) l ds more all.1 (stays_sound b a all.0 s) (done_kept b l ds a all.0 s h)
+
+-- so a legal trace deals nothing behind the answer
+answers_first : (config : Config) (word : ℕ) (events : List Event) (trace : List Action) → Legal config word events trace → AnswersFirst config trace
+answers_first config word events trace h front more l watching is asked set =
+    set_watches ((book front).link l) (ap is_watching (asked_hears config word events front more l (subst (Legal config word events) is h) asked) ∙ watching) set
+
+deals_no_more : (config : Config) (word : ℕ) (events : List Event) (trace : List Action) → Legal config word events trace → DealsNoMore config trace
+unfolding book
+deals_no_more config word events trace h front middle more l watching is asked set =
+    let legal : Legal config word events (front ++ (middle ++ more)) = subst (Legal config word events) is h in
+    let all : AllStand blank_book front = stand_front blank_book front (middle ++ more) legal.each in
+    let behind : AllStand (book front) middle = stand_front (book front) middle more (stand_behind blank_book front (middle ++ more) legal.each) in
+    let heard : is_watching ((book front).link l).hearing ≡ true = ap is_watching (asked_hears config word events front (middle ++ more) l legal asked) ∙ watching in
+    ap (λ (b : Book). (b.link l).dealt) (book_append front middle)
+    ∙ (each_done (book front) l ((book front).link l).dealt middle behind (sound_behind front all) (record { asked = asked; watching = heard; ready = set; dealt = refl })).dealt
+
+pub tells_reports : (config : Config) (word : ℕ) (events : List Event) (trace : List Action) → Legal config word events trace → TellsReports config trace
+tells_reports config word events trace h = record {
+  told = tells_what_came config word events trace h;
+  answered = answers_first config word events trace h;
+  undealt = deals_no_more config word events trace h;
+}
