@@ -125,7 +125,7 @@ each_well b l vs (a ∷ more) all s h =
 -- so behind actions that may stand
 pub heard_behind : (l : ℕ) (front : List Action) → AllStand blank_book front → HeardWell (hearing_in (book front).config) ((book front).link l) (values_heard l front)
 unfolding book
-heard_behind l front all = each_well blank_book l [] front all blank_is_sound (record { says = refl; hears = λ a. cc a; none = λ a. refl })
+heard_behind l front all = each_well blank_book l [] front all blank_is_sound (record { says = refl; hears = λ a. cc; none = λ a. refl })
 
 -- what is to be told is what the values say, which the link heard
 pub heard_says : (wanted : Hearing) (l : Ledger) (vs : List Data) → HeardWell wanted l vs → said_by l.notices ≡ notices_in wanted vs

@@ -10,7 +10,8 @@ use Rattle.legal_laws.specs.Segments.{AreInOrder}
 use Rattle.legal_laws.specs.Starts.{StaysWithin}
 use Rattle.legal_laws.specs.Permits.{KeepsPermits, AsksTimers}
 use Rattle.legal_laws.specs.Notices.{TellsNotices}
-use Rattle.legal_laws.specs.Values.{TellsMessages, TellsReports}
+use Rattle.legal_laws.specs.Values.{TellsMessages}
+use Rattle.legal_laws.specs.Reports.{TellsReports}
 use Rattle.legal_laws.specs.Pushes.{TellsEnds}
 use Rattle.legal_laws.specs.Sources.{StartsAuthorized}
 use Rattle.legal_laws.specs.Renewals.{TimesRenewals}

@@ -10,5 +10,6 @@ pub mod Renewals
 pub mod Permits
 pub mod Notices
 pub mod Values
+pub mod Reports
 pub mod Pushes
 pub mod Laws

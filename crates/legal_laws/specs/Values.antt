@@ -13,9 +13,9 @@ use Rattle.driver_model.specs.declared.hearing.Notice.{Notice}
 use Rattle.driver_model.specs.declared.hearing.Notice.TheVariants as notice
 use Rattle.driver_model.specs.declared.msg.Msg.{Msg}
 use Rattle.driver_model.specs.Config.{hearing_of}
-use Rattle.driver_model.specs.Hearing.{hears_messages, is_watching, bulk_text, plain_text, is_answer_named, message_named, message_of, push_told, item_told}
+use Rattle.driver_model.specs.Hearing.{hears_messages, bulk_text, plain_text, is_answer_named, message_named, message_of, push_told, item_told}
 use Rattle.driver_model.specs.News.{News, came, news_of}
-use Rattle.legal_trace.specs.Ledger.{Ledger, Start, cut, is_full, is_of_monitor, is_of_setup, is_set_up, value_came}
+use Rattle.legal_trace.specs.Ledger.{Ledger, Start, cut, is_of_setup, is_set_up, value_came}
 use Rattle.legal_trace.specs.Book.{Book, blank_book, book, entered}
 use Rattle.legal_laws.specs.Notices.{notices_told, IsWhole}
 
@@ -104,30 +104,3 @@ DealsNoMessage config trace =
 pub record TellsMessages (config : Config) (trace : List Action) : Type 0 where
   pub told : TellsWhatCame config trace
   pub undealt : DealsNoMessage config trace
-
--- MONITOR has started on a link, and is answered
-pub record IsWatched (l : Ledger) : Type 0 where
-  pub k : ℕ
-  pub start : Start
-  pub stands : slice_get l.starts k ≡ Some start
-  pub watches : is_of_monitor start.owner ≡ true
-  pub answered : is_full l k ≡ true
-
--- so it is of a link that is set up, where the session is a monitor
-abbrev pub AnswersFirst : Config → List Action → Type 0
-AnswersFirst config trace =
-    (front more : List Action) (l : ℕ) → is_watching (hearing_of config) ≡ true → trace ≡ front ++ more
-    → ((book front).link l).asked ≡ true → is_set_up ((book front).link l) ≡ true → IsWatched ((book front).link l)
-
--- from then on no item is dealt
-abbrev pub DealsNoMore : Config → List Action → Type 0
-DealsNoMore config trace =
-    (front middle more : List Action) (l : ℕ) → is_watching (hearing_of config) ≡ true → trace ≡ front ++ (middle ++ more)
-    → ((book front).link l).asked ≡ true → is_set_up ((book front).link l) ≡ true
-    → ((book (front ++ middle)).link l).dealt ≡ ((book front).link l).dealt
-
--- what a server in monitor mode reports is told from the answer to MONITOR on, which is the last item that is dealt
-pub record TellsReports (config : Config) (trace : List Action) : Type 0 where
-  pub told : TellsWhatCame config trace
-  pub answered : AnswersFirst config trace
-  pub undealt : DealsNoMore config trace

@@ -48,7 +48,8 @@ pub fn after_a_shutdown_all_are_answered()
 {}
 
 /// Does nothing. Its contract: in a legal trace a subscription call that came before any shutdown,
-/// to a link whose server is told another protocol than RESP3, is answered with that error alone.
+/// to a multiplexed connection whose server is told another protocol than RESP3, is answered with
+/// that error alone.
 pub fn subscription_calls_need_resp3()
     ensures { OfEachLegal RefusesUnspoken }
 {}
@@ -101,8 +102,8 @@ pub fn new_credentials_are_told_in_turn()
     ensures { OfEachLegal TellsInTurn }
 {}
 
-/// Does nothing. Its contract: in a legal trace a message, of a submission, of a setup or of new
-/// credentials, starts only where no bytes of its link are unwritten, or fewer than the boundary of
+/// Does nothing. Its contract: in a legal trace a message, of a submission, of a setup, of MONITOR or
+/// of new credentials, starts only where no bytes of its link are unwritten, or fewer than the boundary of
 /// the configuration. Where that of a submission starts, and where a submission is answered without
 /// an error before it has a message, fewer submissions stand in line before it than the queue holds.
 pub fn no_message_starts_past_the_boundary()
@@ -160,8 +161,10 @@ pub fn a_message_is_told_where_it_came()
     ensures unconfirmed { ConfirmationsAreNone }
 {}
 
-/// Does nothing. Its contract: a monitor's link is set up once MONITOR is answered, which is the last
-/// item that is dealt on it. Behind each whole turn a legal trace has told each later item, in order.
+/// Does nothing. Its contract: in a legal trace MONITOR starts only where the session is a monitor,
+/// once what is said before the first request is answered well, and once on a link. This link is set
+/// up once MONITOR is answered, which is the last item that is dealt on it; behind each whole turn the
+/// trace has told each later item, in order. Nothing is submitted to such a session.
 pub fn a_monitor_tells_all_behind_its_answer()
     ensures { EachTellsReports }
 {}
