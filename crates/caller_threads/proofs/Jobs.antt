@@ -10,8 +10,8 @@ use Rattle.caller_threads.specs.declared.job.Job.{Job}
 use Rattle.caller_threads.specs.declared.job.Turn.{Turn}
 use Rattle.caller_threads.specs.Each.{EachAt, AnyAt}
 use Rattle.caller_threads.specs.Lines.{one_if, share, count_from}
-use Rattle.caller_threads.specs.Submits.{Line, IsAllowed, HasSubmitted, HasTried, IsCause, HaveRun, HaveStopped, HasCause, IsTurnOf}
-use Rattle.caller_threads.specs.Jobs.{callers_of, IsOfTable, IsNew, Fed, WasFed, IsReady, HasRun, Took, HasTurns, first_of, first_error_of}
+use Rattle.caller_threads.specs.Submits.{Line, IsAllowed, Allows, HasSubmitted, HasTried, IsCause, HaveRun, HaveStopped, HasCause, IsTurnOf}
+use Rattle.caller_threads.specs.Jobs.{callers_of, IsAllowing, IsOfTable, IsNew, Fed, WasFed, IsReady, HasRun, Took, HasTurns, first_of, first_error_of}
 use Rattle.caller_threads.proofs.Shares.{share_more, length_share, each_share, count_less}
 use Rattle.caller_threads.proofs.Places.{each_length, each_map, any_map, each_then, each_same, each_set, each_with, all_from, each_first, each_second, each_after, each_before, any_after, any_never, some_at}
 use Rattle.caller_threads.proofs.Submitting.{submitted_none, tried_so_far}
@@ -165,19 +165,27 @@ callers_left k all = each_map (Left k all) (λ c j m. m.caller ≡ j.caller) (λ
 
 -- All together
 
+-- a new job that was fed has lines that its caller's session has
+allowed_share : (lines : List Line) (k c : ℕ) (j m : Job) → IsNew j → Fed (share k c lines) j m → IsAllowing lines j → Allows m.lines m.caller
+allowed_share lines k c j m new fed allowed =
+    subst (λ (v : Known). Allows m.lines v) (sym fed.caller)
+    (subst (λ (l : List Line). Allows l j.caller) (sym (fed.lines ∙ ap (λ l. l ++ share k c lines) new.lines))
+    (each_share (IsAllowed j.caller.view.config.kind) k c 0 lines allowed))
+
 -- a new job that was fed may run
-pub all_ready : (z : TableId) (k : ℕ) (lines : List Line) (js ks : List Job) → Each IsNew js → Each (IsOfTable z) js → Each IsAllowed lines → EachAt (λ c. Fed (share k c lines)) 0 js ks → All (IsReady z) ks
+pub all_ready : (z : TableId) (k : ℕ) (lines : List Line) (js ks : List Job) → Each IsNew js → Each (IsOfTable z) js → Each (IsAllowing lines) js → EachAt (λ c. Fed (share k c lines)) 0 js ks → All (IsReady z) ks
 all_ready z k lines js ks new of allowed fed =
     all_from (IsReady z) 0 js ks
-    (each_map (λ c j m. IsOfTable z j × (IsNew j × Fed (share k c lines) j m)) (λ c j m. IsReady z m) (λ c j m h.
+    (each_map (λ c j m. IsAllowing lines j × (IsOfTable z j × (IsNew j × Fed (share k c lines) j m))) (λ c j m. IsReady z m) (λ c j m (may, h).
     record {
       of = ap (λ (v : Known). v.table) h.1.1.caller ∙ h.0;
-      allowed = subst (Each IsAllowed) (sym (h.1.1.lines ∙ ap (λ l. l ++ share k c lines) h.1.0.lines)) (each_share IsAllowed k c 0 lines allowed);
+      allowed = allowed_share lines k c j m h.1.0 h.1.1 may;
       turns = h.1.1.turns ∙ h.1.0.turns;
       error = h.1.1.error ∙ h.1.0.error;
     })
     0 js ks
-    (each_with (IsOfTable z) (λ c j m. IsNew j × Fed (share k c lines) j m) 0 js ks of (each_with IsNew (λ c. Fed (share k c lines)) 0 js ks new fed)))
+    (each_with (IsAllowing lines) (λ c j m. IsOfTable z j × (IsNew j × Fed (share k c lines) j m)) 0 js ks allowed
+    (each_with (IsOfTable z) (λ c j m. IsNew j × Fed (share k c lines) j m) 0 js ks of (each_with IsNew (λ c. Fed (share k c lines)) 0 js ks new fed))))
 
 -- a job that was dealt its lines, and has run
 pub record Ran (lines : List Line) (j k : Job) : Type 0 where
@@ -323,6 +331,10 @@ pub seated_more : (js ks : List Job) (j : Job) (rest left all : List Known) → 
 seated_more js ks j rest left all e r h =
     ap (λ l. callers_of l ++ left) e ∙ ap (λ l. l ++ left) (callers_append js (j ∷ []))
     ∙ append_assoc (callers_of js) (j.caller ∷ []) left ∙ sym (ap (λ l. callers_of js ++ l) r) ∙ h
+
+pub each_allowing : (lines : List Line) (js : List Job) → Each (Allows lines) (callers_of js) → Each (IsAllowing lines) js
+each_allowing lines [] h = tt
+each_allowing lines (j ∷ js) h = (h.0, each_allowing lines js h.1)
 
 pub each_of : (z : TableId) (js : List Job) → Each (λ (v : Known). v.table ≡ z) (callers_of js) → Each (IsOfTable z) js
 each_of z [] h = tt

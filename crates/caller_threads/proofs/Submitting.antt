@@ -9,6 +9,7 @@ use Rattle.shared_session.specs.declared.errors.StepError.{StepError}
 use Rattle.shared_session.specs.declared.errors.StepError.TheVariants.{BadEvent, Spent, NoMemory}
 use Rattle.session_callers.specs.Calls.{Known, Turned, Added, Refused}
 use Rattle.session_callers.proofs.Totals.{prefix_of, prefix_all, prefix_length}
+use Rattle.shared_session.proofs.Stays.{state_kind}
 use Rattle.session_callers.specs.Rule.{Ascends}
 use Rattle.caller_threads.specs.declared.job.Turn.{Turn}
 use Rattle.caller_threads.specs.Submits.{Line, IsAllowed, event_of, IsTurnOf, AreTurnsOf, places_of, IsSameCaller, HasSubmitted, HasTried, HasLooked, IsCause}
@@ -127,9 +128,12 @@ one_look v w error event shown after table turned refused = record {
   mine = refused.mine;
 }
 
-pub cause_of : (error : StepError) (v w : Known) (line : Line) (shown after : List Action) → IsAllowed line → Turned v.view w.view → Refused error v.view w.view (event_of line) shown after → IsCause error v w
+pub cause_of : (error : StepError) (v w : Known) (line : Line) (shown after : List Action) → IsAllowed v.view.config.kind line → Turned v.view w.view → Refused error v.view w.view (event_of line) shown after → IsCause error v w
 unfolding is_bad
-cause_of BadEvent v w line shown after allowed turned refused = let e = refused.why.1 in cc
+cause_of BadEvent v w line shown after allowed turned refused =
+    let e = refused.why.1 in
+    let k = state_kind w.view.config w.view.word w.view.seen in
+    let c = turned.config in cc
 cause_of (Spent n) v w line shown after allowed turned refused = ((let e = turned.drawn in omega arith), refused.why.0, refused.why.1, refused.spent refused.why.0)
 cause_of NoMemory v w line shown after allowed turned refused = tt
 

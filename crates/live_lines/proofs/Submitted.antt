@@ -81,7 +81,7 @@ module _ (config : Config) (word : ℕ) (vs ws : List Known) (lines : List Line)
       times_places p turns ∙ sym (total_shares f k 0 some turns) ∙ sym (total_by_place HasShare (λ (c : Known). times p c.view.mine) (λ (c : ℕ). total f (share_from k c 0 turns)) 0 vs ws own have_shares) ∙ counted
 
 -- what was asked is the trace of the history, and all is well with its events
-pub asked_well : (plan : Plan) (word : ℕ) (vs ws : List Known) (lines : List Line) (given numbers : List ℕ) (s : History) (shown actions : List Action) → Each IsAllowed lines → Each (IsBare plan.config word) vs
+pub asked_well : (plan : Plan) (word : ℕ) (vs ws : List Known) (lines : List Line) (given numbers : List ℕ) (s : History) (shown actions : List Action) → Each (IsAllowed plan.config.kind) lines → Each (IsBare plan.config word) vs
     → length vs ≡ callers_of plan → HaveSubmitted vs ws lines given numbers shown actions → shown ≡ opening_actions plan.config word → Each (λ (c : Known). IsPrefix c.view.seen s.events) ws
     → ((p : ℕ) → total (λ (c : Known). times p c.view.mine) ws ≡ below p (length s.events)) → IsWell plan.config word s.events actions
 asked_well plan word vs ws lines given numbers s shown actions allowed bare count h opened seen once =
@@ -90,7 +90,7 @@ asked_well plan word vs ws lines given numbers s shown actions allowed bare coun
     (λ p. lines_once plan.config word vs ws lines h.turns bare h.run p (length s.events) some (once p)) (subst (λ (xs : List Action). IsTold h.turns xs actions) opened h.told)
 
 -- all of it
-pub are_submitted : (plan : Plan) (word : ℕ) (vs ws : List Known) (lines : List Line) (given numbers : List ℕ) (s : History) (shown actions : List Action) → Each IsAllowed lines → Each (IsBare plan.config word) vs
+pub are_submitted : (plan : Plan) (word : ℕ) (vs ws : List Known) (lines : List Line) (given numbers : List ℕ) (s : History) (shown actions : List Action) → Each (IsAllowed plan.config.kind) lines → Each (IsBare plan.config word) vs
     → length vs ≡ callers_of plan → HaveSubmitted vs ws lines given numbers shown actions → given ≡ [] → shown ≡ opening_actions plan.config word → Each (λ (c : Known). IsPrefix c.view.seen s.events) ws
     → ((p : ℕ) → total (λ (c : Known). times p c.view.mine) ws ≡ below p (length s.events)) → IsShared ws s.config s.word → MaySpend s.config s.word s.events s.failure → AreSubmitted plan word lines numbers s
 are_submitted plan word vs ws lines given numbers s shown actions allowed bare count h none opened seen once shared spent =
