@@ -8,5 +8,8 @@ pub mod Opened
 pub mod Sources
 pub mod Renewals
 pub mod Permits
+pub mod Notices
+pub mod Values
+pub mod Reports
 pub mod Pushes
 pub mod Laws
