@@ -42,5 +42,6 @@ pub mod WhatCame
 pub mod Suits
 pub mod Dealt
 pub mod Reports
+pub mod Drops
 pub mod Parted
 pub mod Among

@@ -12,6 +12,7 @@ use Rattle.legal_laws.specs.Permits.{KeepsPermits, AsksTimers}
 use Rattle.legal_laws.specs.Notices.{TellsNotices}
 use Rattle.legal_laws.specs.Values.{TellsMessages}
 use Rattle.legal_laws.specs.Reports.{TellsReports}
+use Rattle.legal_laws.specs.Drops.{EndsWhereDropped}
 use Rattle.legal_laws.specs.Pushes.{TellsEnds}
 use Rattle.legal_laws.specs.Sources.{StartsAuthorized}
 use Rattle.legal_laws.specs.Renewals.{TimesRenewals}
@@ -72,6 +73,12 @@ abbrev pub EachTellsReports : Type 0
 EachTellsReports =
     (config : Config) (word : ℕ) (events : List Event) (trace : List Action) → Legal config word events trace
     → TellsReports config trace
+
+-- a dropped stream of messages ends its link
+abbrev pub EachEndsDropped : Type 0
+EachEndsDropped =
+    (config : Config) (word : ℕ) (events : List Event) (trace : List Action) → Legal config word events trace
+    → EndsWhereDropped config trace
 
 -- and that links have ended
 abbrev pub EachTellsEnds : Type 0

@@ -11,5 +11,6 @@ pub mod Permits
 pub mod Notices
 pub mod Values
 pub mod Reports
+pub mod Drops
 pub mod Pushes
 pub mod Laws

@@ -5,7 +5,7 @@ ghost use Rattle.std.specs.Prelude.{List};
 ghost use Rattle.driver_model.specs.declared.action.Action.{Action};
 ghost use Rattle.legal_trace.specs.Ledger.{Line, LinkLegal};
 ghost use Rattle.legal_laws.specs.Links.{LinksAreLegal, LedgersAreTold, TakesInOrder};
-ghost use Rattle.legal_laws.specs.Answers.{AnswersOnce, AnswersAll, RefusesUnspoken};
+ghost use Rattle.legal_laws.specs.Answers.{AnswersOnce, AnswersAll, AnswersOver, RefusesUnspoken};
 ghost use Rattle.legal_laws.specs.Next.{OneIsNextBehind};
 ghost use Rattle.legal_laws.specs.Creation.{TellsOfOpening};
 ghost use Rattle.legal_laws.specs.Starts.{StartsRise, LeftStartNoMore};
@@ -17,7 +17,7 @@ ghost use Rattle.legal_laws.specs.Permits.{TimedOutStartNoMore, FiredStartNoMore
 ghost use Rattle.legal_laws.specs.Notices.{TellsInOrder};
 ghost use Rattle.legal_laws.specs.Laws.{EachStaysWithin, EachKeepsPermits, EachAsksTimers};
 ghost use Rattle.legal_laws.specs.Laws.{EachTellsNotices, EachTellsEnds, EachStartsAuthorized};
-ghost use Rattle.legal_laws.specs.Laws.{EachTellsMessages, EachTellsReports};
+ghost use Rattle.legal_laws.specs.Laws.{EachTellsMessages, EachTellsReports, EachEndsDropped};
 ghost use Rattle.legal_laws.specs.Values.{ConfirmationsAreNone};
 ghost use Rattle.legal_laws.specs.Laws.{EachTimesRenewals};
 
@@ -45,6 +45,12 @@ pub fn a_legal_trace_answers_once()
 /// cancelled has one outcome.
 pub fn after_a_shutdown_all_are_answered()
     ensures { OfEachLegal AnswersAll }
+{}
+
+/// Does nothing. Its contract: in a legal trace each submission that was not cancelled has one
+/// outcome, once its link has ended, whatever ended it.
+pub fn after_an_end_all_are_answered()
+    ensures { OfEachLegal AnswersOver }
 {}
 
 /// Does nothing. Its contract: in a legal trace a subscription call that came before any shutdown,
@@ -159,6 +165,12 @@ pub fn each_notice_is_told()
 pub fn a_message_is_told_where_it_came()
     ensures told { EachTellsMessages }
     ensures unconfirmed { ConfirmationsAreNone }
+{}
+
+/// Does nothing. Its contract: where messages are heard, in a legal trace each link that was asked for
+/// has ended behind the turn in which their stream is dropped.
+pub fn a_dropped_stream_ends_its_link()
+    ensures { EachEndsDropped }
 {}
 
 /// Does nothing. Its contract: in a legal trace MONITOR starts only where the session is a monitor,

@@ -86,31 +86,32 @@ up_keeps l parts h = h
 abbrev pub IsAsked : Ledger → Type 0
 IsAsked l = l.asked ≡ true
 
--- of a second ledger: it was asked for and has started messages as the first, and where it has not ended, nor has the first
+-- of a second ledger: it was asked for, hears and has started messages as the first, and where it has not ended, nor has the first
 pub record SamePast (l m : Ledger) : Type 0 where
   pub asked : m.asked ≡ l.asked
+  pub hearing : m.hearing ≡ l.hearing
   pub end : m.end ≡ None → l.end ≡ None
   pub starts : m.starts ≡ l.starts
 
 -- each has its own past
 same_past : (l : Ledger) → SamePast l l
-same_past l = record { asked = refl; end = λ e. e; starts = refl }
+same_past l = record { asked = refl; hearing = refl; end = λ e. e; starts = refl }
 
 -- news leaves these as they are
 pub hears_past : (l : Ledger) (turn : ℕ) (news : News) → SamePast l (with_news l turn news)
 hears_past l turn silence = same_past l
-hears_past l turn connected = chosen (SamePast l) (is_over l) l (record l { up = true }) (λ t. same_past l) (λ e. record { asked = refl; end = λ n. n; starts = refl })
-hears_past l turn (refused f) = chosen (SamePast l) (dials l) (refused_in l turn (error.Io f)) l (λ t. record { asked = refl; end = λ n. none_from l.end (dials_from l t).2; starts = refl }) (λ e. same_past l)
+hears_past l turn connected = chosen (SamePast l) (is_over l) l (record l { up = true }) (λ t. same_past l) (λ e. record { asked = refl; hearing = refl; end = λ n. n; starts = refl })
+hears_past l turn (refused f) = chosen (SamePast l) (dials l) (refused_in l turn (error.Io f)) l (λ t. record { asked = refl; hearing = refl; end = λ n. none_from l.end (dials_from l t).2; starts = refl }) (λ e. same_past l)
 hears_past l turn overdue = same_past l
-hears_past l turn (took count) = chosen (SamePast l) l.up (record l { taken = l.taken ++ take count l.offer; offer = [] }) l (λ t. record { asked = refl; end = λ n. n; starts = refl }) (λ e. same_past l)
-hears_past l turn (came piece) = chosen (SamePast l) l.up (bytes_came l piece) l (λ t. holds_bytes (SamePast l) l piece (λ rest strange told more. record { asked = refl; end = λ n. n; starts = refl })) (λ e. same_past l)
+hears_past l turn (took count) = chosen (SamePast l) l.up (record l { taken = l.taken ++ take count l.offer; offer = [] }) l (λ t. record { asked = refl; hearing = refl; end = λ n. n; starts = refl }) (λ e. same_past l)
+hears_past l turn (came piece) = chosen (SamePast l) l.up (bytes_came l piece) l (λ t. holds_bytes (SamePast l) l piece (λ rest strange told more. record { asked = refl; hearing = refl; end = λ n. n; starts = refl })) (λ e. same_past l)
 hears_past l turn (failed f) = same_past l
-hears_past l turn (authorized c) = chosen (SamePast l) (awaits_credentials l) (authorized_by l c) l (λ t. record { asked = refl; end = λ n. n; starts = refl }) (λ e. same_past l)
+hears_past l turn (authorized c) = chosen (SamePast l) (awaits_credentials l) (authorized_by l c) l (λ t. record { asked = refl; hearing = refl; end = λ n. n; starts = refl }) (λ e. same_past l)
 hears_past l turn (denied text) = same_past l
 hears_past l turn deserted = same_past l
-hears_past l turn (renewed c) = chosen (SamePast l) (may_renew l) (renewed_by l c) l (λ t. record { asked = refl; end = λ n. n; starts = refl }) (λ e. same_past l)
-hears_past l turn unrenewed = chosen (SamePast l) l.up (unrenewed_by l) l (λ t. record { asked = refl; end = λ n. n; starts = refl }) (λ e. same_past l)
-hears_past l turn (late k) = chosen (SamePast l) (l.up && is_renewal_open l k) (lost_by l) l (λ t. record { asked = refl; end = λ n. n; starts = refl }) (λ e. same_past l)
+hears_past l turn (renewed c) = chosen (SamePast l) (may_renew l) (renewed_by l c) l (λ t. record { asked = refl; hearing = refl; end = λ n. n; starts = refl }) (λ e. same_past l)
+hears_past l turn unrenewed = chosen (SamePast l) l.up (unrenewed_by l) l (λ t. record { asked = refl; hearing = refl; end = λ n. n; starts = refl }) (λ e. same_past l)
+hears_past l turn (late k) = chosen (SamePast l) (l.up && is_renewal_open l k) (lost_by l) l (λ t. record { asked = refl; hearing = refl; end = λ n. n; starts = refl }) (λ e. same_past l)
 hears_past l turn dropped = same_past l
 hears_past l turn shut = same_past l
 
