@@ -1,4 +1,4 @@
-ghost use Rattle.std.specs.Prelude.{◌≡◌, length, OnOk, IfOk};
+ghost use Rattle.std.specs.Prelude.{◌≡◌, [], length, OnOk, IfOk};
 ghost use Rattle.mux_conn.specs.Effects.{setup_id, has_user, greeting_error};
 ghost use Rattle.mux_conn.specs.Passes.{greeting_act};
 
