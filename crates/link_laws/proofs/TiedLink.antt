@@ -403,7 +403,7 @@ left_is l piece =
     values_keep P (value_keeps P (λ x told strange e. e) (λ x v e. e)) (reading l piece) (values (l.rest ++ piece)) refl
 
 -- a link with a row that its ledger has, behind these bytes
-came_with : (name : ℕ → Owner) (l : Ledger) (s : LinkState) (piece : List ℕ) (row : List Entry) → (let m = has_heard l piece in length m.dealt ≤ reach m.starts m.dealt) → (let m = has_heard l piece in open_list name row ≡ open_rows m.starts m.dealt) → TiedLink name l s
+pub came_with : (name : ℕ → Owner) (l : Ledger) (s : LinkState) (piece : List ℕ) (row : List Entry) → (let m = has_heard l piece in length m.dealt ≤ reach m.starts m.dealt) → (let m = has_heard l piece in open_list name row ≡ open_rows m.starts m.dealt) → TiedLink name l s
     → TiedLink name (has_heard l piece) (record (read_on s (s.rest ++ piece)) { row = row })
 came_with name l s piece row within rows k = holds_came
     (λ (m : Ledger). m.rest ≡ left_over (l.rest ++ piece) → length m.dealt ≤ reach m.starts m.dealt → open_list name row ≡ open_rows m.starts m.dealt → TiedLink name (record m { heard = came piece }) (record (read_on s (s.rest ++ piece)) { row = row }))
