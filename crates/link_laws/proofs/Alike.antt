@@ -209,8 +209,8 @@ as_tells id ready d d' t v k =
       sets = elim k.sets [
         | inl set ↦ inl set
         | inr alike ↦ inr (chosen_both SetsAlike t.dealt (dealt m v) m (dealt m' v) m'
-              (λ y. item_sets id m m' v d.row d'.row refl k.same.row (record { both = alike.both; first = alike.first }))
-              (λ n. record { both = alike.both; first = alike.first }))
+            (λ y. item_sets id m m' v d.row d'.row refl k.same.row (record { both = alike.both; first = alike.first }))
+            (λ n. record { both = alike.both; first = alike.first }))
       ];
       says = chosen_both (λ (x y : Dealing). told x.notices ≡ told y.notices) t.dealt (dealt m v) m (dealt m' v) m'
           (λ y. ap told (item_tells m v d.row).0 ∙ says ∙ sym (ap told (item_tells m' v d'.row).0))

@@ -12,7 +12,7 @@ use Rattle.link_core.specs.declared.message.Settled.{Settled}
 use Rattle.link_core.specs.declared.message.Started.{Started}
 use Rattle.link_core.specs.Dealing.{Dealing, dealing_with, taken_each}
 use Rattle.link_core.specs.Ends.{row_closed, row_hit, queue_closed, hit_by, failed_by}
-use Rattle.link_core.specs.Link.{LinkState, Starting, Settling, entry_of, begun, enqueued, holds_back, started_one, started_each, started_all, offered_of, wrote_of, Reading, cancelled, came_all, nothing_read, piece_read, read_on, read_with, emptied, closed_all, faulted}
+use Rattle.link_core.specs.Link.{LinkState, Starting, entry_of, begun, enqueued, holds_back, started_one, started_each, started_all, offered_of, wrote_of, Reading, cancelled, came_all, nothing_read, piece_read, read_on, read_with, emptied, closed_all, faulted}
 use Rattle.link_core.specs.Row.{silent, silenced}
 use Rattle.link_core.specs.Waiting.{without}
 use Rattle.link_laws.specs.Alike.{SameEntry, SameRow, SameDealing, SameLink, SameStarting, SameSettling, SameReading, SetsUp, others, told}

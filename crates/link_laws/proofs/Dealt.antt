@@ -1,5 +1,5 @@
 -- Items that are dealt fill the started messages in the order of their starts.
-use Rattle.std.proofs.Common.{◌≡◌, ℕ, suc, ◌+◌, ◌-◌, ◌<◌, ◌≤◌, nat_le, nat_lt, true, false, if◌then◌else◌, List, [], ◌∷◌, ◌++◌, length, take, drop, refl, sym, ap, ◌∙◌, subst, append_assoc, arith, length-drop, length-append}
+use Rattle.std.proofs.Common.{◌≡◌, ℕ, suc, ◌+◌, ◌-◌, ◌<◌, ◌≤◌, nat_le, nat_lt, true, false, List, [], ◌∷◌, ◌++◌, length, take, drop, refl, sym, ap, ◌∙◌, subst, arith, length-drop, length-append}
 use Rattle.std.specs.List.{AllByRecursion}
 use Rattle.std.proofs.lemmas.List.{append-nil, drop-append-le, take_all, take-append-le, length_push, drop-drop}
 use Rattle.containers.proofs.Places.{get_within}
@@ -10,7 +10,7 @@ use Rattle.driver_model.specs.declared.outcome.Shape.{Shape}
 use Rattle.driver_model.specs.Shape.{need_of, verdict_of}
 use Rattle.link_core.specs.declared.message.Entry.{Entry}
 use Rattle.link_core.specs.declared.message.Settled.{Settled}
-use Rattle.link_core.specs.Dealing.{Dealing, with_item, settled_by, given, dealt_to, dealt, is_awaiting}
+use Rattle.link_core.specs.Dealing.{Dealing, with_item, settled_by, given, dealt_to, is_awaiting}
 use Rattle.legal_trace.specs.Ledger.{Start, need_in, reach}
 use Rattle.link_laws.specs.Settles.{StandsAs}
 use Rattle.link_laws.proofs.Choices.{lt_test, not_lt_test}

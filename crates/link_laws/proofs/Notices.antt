@@ -1,14 +1,13 @@
 -- What a link tells is what its ledger hears, and each notice stands among the settled messages where it came.
-use Rattle.std.proofs.Common.{◌≡◌, ℕ, zero, suc, ◌+◌, ◌<◌, ◌≤◌, ◌==◌, nat_le, nat_lt, Bool, true, false, ◌||◌, not, if◌then◌else◌, List, [], ◌∷◌, ◌++◌, length, take, Option, Some, None, slice_get, refl, sym, ap, ◌∙◌, subst, arith, add-one}
+use Rattle.std.proofs.Common.{◌≡◌, ℕ, zero, suc, ◌+◌, ◌<◌, ◌≤◌, ◌==◌, nat_le, nat_lt, Bool, true, false, not, List, [], ◌∷◌, ◌++◌, length, take, Option, Some, None, slice_get, refl, sym, ap, ◌∙◌, subst, arith, add-one}
 use Rattle.std.specs.List.{AllByRecursion}
 use Rattle.std.proofs.lemmas.List.{append-nil}
-use Rattle.containers.proofs.Choices.{by_test, chosen, left_if, le_from, lt_from, ne_from, ne_test, not_lt_from}
+use Rattle.containers.proofs.Choices.{by_test, chosen, le_from, lt_from, not_lt_from}
 use Rattle.resp_value.specs.Data.{Data, push, array, list_of}
 use Rattle.resp_value.specs.Kinds.{has_reply, is_item}
-use Rattle.resp_value.specs.declared.push_kind.PushKind.{PushKind}
 use Rattle.resp_read.specs.Values.{values, left_over}
 use Rattle.driver_model.specs.Push.{is_disconnection}
-use Rattle.driver_model.specs.Hearing.{Taking, taking, taken_by, as_message, array_taken, message_taken, message_of, message_named, is_answer_named, bulk_text, plain_text, answers, push_told, item_told}
+use Rattle.driver_model.specs.Hearing.{Taking, taking, as_message, array_taken, message_taken, message_of, message_named, is_answer_named, bulk_text, plain_text, answers, push_told, item_told}
 use Rattle.driver_model.specs.declared.action.Owner.{Owner}
 use Rattle.driver_model.specs.declared.hearing.Hearing.{Hearing}
 use Rattle.driver_model.specs.declared.hearing.Hearing.TheVariants as hearing
@@ -20,21 +19,19 @@ use Rattle.link_core.specs.declared.message.NoticeAt.{NoticeAt}
 use Rattle.link_core.specs.declared.message.Settled.{Settled}
 use Rattle.link_core.specs.Dealing.{Dealing, dealing_with, dealt, is_awaiting, is_set_up_in, noticed_behind, taking_in, taken_as, taken, taken_each}
 use Rattle.link_core.specs.Link.{LinkState, read_on}
-use Rattle.legal_trace.specs.Ledger.{Ledger, Start, Heard, full_count, is_full, is_full_by, is_set_up, reach, bytes_came, values_came}
+use Rattle.legal_trace.specs.Ledger.{Ledger, Start, Heard, full_count, is_full, is_set_up, reach, bytes_came, values_came}
 use Rattle.legal_trace.proofs.Came.{Came, came_on}
 use Rattle.legal_trace.proofs.Plain.{same_some}
 use Rattle.legal_trace.proofs.Setups.{AreSetups, start_at}
-use Rattle.link_laws.specs.Settles.{StandsAs}
 use Rattle.link_laws.specs.Notices.{SayTheSame, AreApart}
-use Rattle.link_laws.proofs.Choices.{lt_test}
 use Rattle.link_laws.proofs.Dealt.{IsDealt, all_append}
 use Rattle.link_laws.proofs.PushKinds.{IsFromText, values_from_text}
-use Rattle.link_laws.proofs.Rows.{open_list, open_rows, rows_length, unfilled}
+use Rattle.link_laws.proofs.Rows.{open_rows, rows_length, unfilled}
 use Rattle.link_laws.proofs.Settles.{full_owes}
 use Rattle.link_laws.proofs.Started.{open_list_length}
 use Rattle.link_laws.proofs.SetUp.{SetBy, StaysSetUp, few_same, greeted_take, nothing_told, set_take, settles_greeting, unset_take}
 use Rattle.link_laws.proofs.Taken.{ApartFrom, AreAmong, IsTaken, item_tells, none_taken}
-use Rattle.link_laws.proofs.TiedLink.{ReadsAlike, TiedLink, came_with, deals, has_heard, has_read, read_taken, reading}
+use Rattle.link_laws.proofs.TiedLink.{ReadsAlike, TiedLink, came_with, deals, has_heard, read_taken, reading}
 
 -- where a notice stands, by a ledger with these starts and items
 --

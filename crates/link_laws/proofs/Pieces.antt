@@ -1,5 +1,5 @@
 -- Bytes that come in pieces, and where what is told of a value stands.
-use Rattle.std.proofs.Common.{◌≡◌, ℕ, ◌+◌, ◌==◌, nat_lt, Bool, true, false, ◌||◌, not, if◌then◌else◌, List, [], ◌∷◌, ◌++◌, length, Option, Some, None, refl, sym, ap, ◌∙◌, subst, append_assoc, arith, length-append}
+use Rattle.std.proofs.Common.{◌≡◌, ℕ, ◌+◌, ◌==◌, nat_lt, Bool, true, false, ◌||◌, not, List, [], ◌∷◌, ◌++◌, length, Option, Some, None, refl, sym, ap, ◌∙◌, subst, append_assoc, arith, length-append}
 use Rattle.std.proofs.lemmas.List.{append-nil}
 use Rattle.containers.proofs.Choices.{by_test, chosen, if_true, if_false, left_if, ne_test, taken_if, not_both}
 use Rattle.resp_value.specs.Data.{Data}
@@ -12,8 +12,8 @@ use Rattle.driver_model.specs.declared.hearing.Notice.{Notice}
 use Rattle.link_core.specs.declared.message.Entry.{Entry}
 use Rattle.link_core.specs.declared.message.NoticeAt.{NoticeAt}
 use Rattle.link_core.specs.declared.message.Settled.{Settled}
-use Rattle.link_core.specs.Dealing.{Dealing, dealing_with, with_item, settled_by, given, dealt_to, dealt, dealt_if, is_awaiting, is_set_up_in, noticed_behind, taking_in, taken_as, taken, taken_each}
-use Rattle.link_core.specs.Link.{LinkState, Reading, nothing_read, read_on, read_with, came_all, piece_read}
+use Rattle.link_core.specs.Dealing.{Dealing, dealing_with, with_item, settled_by, dealt_to, dealt, dealt_if, is_awaiting, noticed_behind, taking_in, taken_as, taken, taken_each}
+use Rattle.link_core.specs.Link.{LinkState, Reading, nothing_read, read_with, came_all, piece_read}
 use Rattle.link_laws.proofs.Choices.{chosen_both}
 use Rattle.link_laws.proofs.Taken.{item_tells}
 use Rattle.link_laws.specs.Pieces.{taken_by, later_each, read_then, is_set_up_behind, pieces_read, EndsAlike}

@@ -14,7 +14,7 @@ use Rattle.link_core.specs.declared.message.Queued.{Queued}
 use Rattle.link_core.specs.declared.message.Settled.{Settled}
 use Rattle.link_core.specs.Dealing.{Dealing, dealing_with, taken_each}
 use Rattle.link_core.specs.Ends.{row_closed, row_hit, queue_closed}
-use Rattle.link_core.specs.Link.{LinkState, Starting, Reading, is_full, enqueued, entry_of, holds_back, started_one, started_each, offered_of, wrote_of, nothing_read, piece_read, came_all, emptied, closed_all, faulted}
+use Rattle.link_core.specs.Link.{LinkState, Starting, Reading, is_full, enqueued, entry_of, holds_back, started_one, started_each, offered_of, wrote_of, nothing_read, piece_read, came_all, emptied, closed_all}
 use Rattle.link_core.specs.Outbox.{can_offer}
 use Rattle.legal_trace.specs.Ledger.{begins, offers}
 use Rattle.link_laws.specs.Settles.{settled_ids, wanted, awaited_ids, awaited_of}

@@ -1,7 +1,7 @@
 -- Whether a link is set up is the same of the link and of its ledger, value by value.
-use Rattle.std.proofs.Common.{◌≡◌, ◌⊎◌, inl, inr, ℕ, zero, suc, ◌+◌, ◌<◌, ◌≤◌, ◌==◌, nat_le, nat_lt, Bool, true, false, ◌&&◌, ◌||◌, not, if◌then◌else◌, List, [], ◌∷◌, ◌++◌, length, take, Option, Some, None, refl, sym, ap, ◌∙◌, subst, arith, add-one}
+use Rattle.std.proofs.Common.{◌≡◌, ◌⊎◌, inl, inr, ℕ, suc, ◌+◌, ◌≤◌, ◌==◌, nat_le, nat_lt, Bool, true, false, ◌&&◌, ◌||◌, not, if◌then◌else◌, List, [], ◌∷◌, ◌++◌, length, Some, None, refl, sym, ap, ◌∙◌, subst, arith}
 use Rattle.std.proofs.lemmas.List.{take_all}
-use Rattle.containers.proofs.Choices.{by_test, chosen, taken_if, left_if, le_test, lt_from, not_le_test, not_lt_from, not_both}
+use Rattle.containers.proofs.Choices.{by_test, chosen, left_if, le_test, lt_from, not_le_test, not_lt_from, not_both}
 use Rattle.connection_setup.specs.declared.judgement.SetupResult.TheVariants as result
 use Rattle.resp_value.specs.Data.{Data}
 use Rattle.resp_value.specs.Kinds.{is_item}
@@ -18,9 +18,8 @@ use Rattle.link_core.specs.declared.message.Settled.{Settled}
 use Rattle.link_core.specs.Dealing.{Dealing, dealing_with, with_item, settled_by, dealt, dealt_if, dealt_to, is_awaiting, is_set_up_in, noticed_behind, taking_in, taken_as, taken, taken_each}
 use Rattle.legal_trace.specs.Ledger.{Ledger, Start, Heard, is_answered, is_full, is_greeted, is_set_up, is_well, lacks_credentials, last_result, monitor_of, reach, result_of, setup_count, setup_steps, value_came, values_came}
 use Rattle.legal_trace.proofs.Came.{Came, came_on, grown, holds_came, none_came, value_is, values_are}
-use Rattle.legal_trace.proofs.Ledgers.{reach_alike}
 use Rattle.legal_trace.proofs.Monitors.{unwatched}
-use Rattle.legal_trace.proofs.Setups.{AreSetups, bare_is_set, count_within, greeted_more, result_same, set_is_given, set_is_greeted, set_stays, setup_said, start_at}
+use Rattle.legal_trace.proofs.Setups.{AreSetups, bare_is_set, count_within, greeted_more, result_same, set_is_given, set_stays, setup_said, start_at}
 use Rattle.link_laws.proofs.Choices.{chosen_both}
 use Rattle.link_laws.proofs.Dealt.{awaits_alike}
 use Rattle.link_laws.proofs.Taken.{IsTaken, TakesAlike, TakeAlike, item_tells, value_taken}

@@ -1,5 +1,5 @@
 -- Values that come one after another are taken alike by a link and by its ledger, and what is told of them stands where it came.
-use Rattle.std.proofs.Common.{◌≡◌, ◌⊎◌, inl, inr, ℕ, suc, ◌+◌, ◌-◌, ◌<◌, ◌≤◌, nat_le, nat_lt, Bool, true, false, if◌then◌else◌, List, [], ◌∷◌, ◌++◌, length, take, Option, Some, None, slice_get, refl, sym, ap, ◌∙◌, subst, append_assoc, arith, add-one, length-append}
+use Rattle.std.proofs.Common.{◌≡◌, ◌⊎◌, inl, inr, ℕ, suc, ◌+◌, ◌-◌, ◌<◌, ◌≤◌, nat_le, nat_lt, Bool, true, false, List, [], ◌∷◌, ◌++◌, length, take, Option, Some, None, refl, sym, ap, ◌∙◌, subst, append_assoc, arith, length-append}
 use Rattle.std.specs.List.{AllByRecursion}
 use Rattle.std.proofs.lemmas.List.{append-nil}
 use Rattle.containers.proofs.Choices.{chosen, left_if, taken_if, le_test, not_le_test}
@@ -12,12 +12,12 @@ use Rattle.driver_model.specs.Shape.{need_of, verdict_of}
 use Rattle.link_core.specs.declared.message.Entry.{Entry}
 use Rattle.link_core.specs.declared.message.NoticeAt.{NoticeAt}
 use Rattle.link_core.specs.declared.message.Settled.{Settled}
-use Rattle.link_core.specs.Dealing.{Dealing, dealing_with, with_item, settled_by, given, dealt_to, dealt, dealt_if, is_awaiting, is_set_up_in, taking_in, noticed_behind, taken_as, taken, taken_each}
+use Rattle.link_core.specs.Dealing.{Dealing, dealing_with, with_item, settled_by, dealt_to, dealt, dealt_if, is_set_up_in, taking_in, noticed_behind, taken_as, taken, taken_each}
 use Rattle.legal_trace.specs.Ledger.{Ledger, Start, Heard, reach, items_came, is_set_up, is_awaiting as ledger_awaits, taking_of, heard_at, dealt_if as ledger_deals, value_by, value_came, values_came}
 use Rattle.legal_trace.proofs.Ledgers.{reach_alike}
 use Rattle.link_laws.specs.Notices.{SayTheSame}
 use Rattle.link_laws.proofs.Choices.{lt_test, not_lt_test}
-use Rattle.link_laws.proofs.Dealt.{HasCut, IsCutOf, IsDealt, all_append, awaits_alike, cut_stays, full_cut, full_from, items_with, one_dealt, one_wanted}
+use Rattle.link_laws.proofs.Dealt.{IsCutOf, IsDealt, all_append, awaits_alike, cut_stays, full_cut, full_from, items_with, one_dealt, one_wanted}
 use Rattle.link_laws.proofs.Rows.{open_list, open_of, open_rows, open_rows-item}
 
 -- where a notice stands

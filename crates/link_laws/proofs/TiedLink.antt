@@ -4,7 +4,6 @@ use Rattle.std.specs.List.{AllByRecursion}
 use Rattle.std.proofs.Math.Seq.{drop-append_seam}
 use Rattle.std.proofs.lemmas.List.{take-append-le, take_all, take-take, take-append-drop, length_push}
 use Rattle.containers.proofs.Choices.{left_if, by_test, chosen, if_true, if_false, both_left, both_right, eq_from, ne_from, ne_test}
-use Rattle.resp_value.specs.Data.{Data}
 use Rattle.resp_read.specs.Values.{values, left_over, is_spoiled}
 use Rattle.resp_read.proofs.ValueLaws.{values-empty, left_over-settled}
 use Rattle.connection_info.specs.declared.address.RedisConnectionInfo.{RedisConnectionInfo}
@@ -19,7 +18,7 @@ use Rattle.link_core.specs.declared.message.Queued.{Queued}
 use Rattle.link_core.specs.declared.message.Settled.{Settled}
 use Rattle.link_core.specs.declared.message.Started.{Started}
 use Rattle.link_core.specs.Dealing.{Dealing, dealing_with, taken_each}
-use Rattle.link_core.specs.Link.{LinkState, Starting, Settling, fresh, entry_of, enqueued, holds_back, started_one, started_each, offered_of, wrote_of, Reading, cancelled, nothing_read, read_on, read_with, came_all, piece_read, emptied}
+use Rattle.link_core.specs.Link.{LinkState, Starting, fresh, entry_of, enqueued, holds_back, started_one, started_each, offered_of, wrote_of, Reading, cancelled, nothing_read, read_on, read_with, came_all, piece_read, emptied}
 use Rattle.link_core.specs.Outbox.{can_offer}
 use Rattle.link_core.specs.Row.{silent, silenced}
 use Rattle.link_core.specs.Waiting.{without}
