@@ -18,6 +18,7 @@ use Rattle.link_core.specs.Link.{LinkState, Starting, enqueued, is_full, holds_b
 use Rattle.link_core.specs.Outbox.{can_offer}
 use Rattle.link_core.specs.Waiting.{without}
 use Rattle.mux_conn.specs.declared.connection.MultiplexedConnection.{MultiplexedConnection}
+use Rattle.mux_conn.specs.declared.life.Greeting.{Greeting}
 use Rattle.mux_conn.specs.declared.life.Life.{Life}
 use Rattle.mux_conn.specs.declared.life.Life.TheVariants.{Dialing, Wanting, SettingUp, Ready, Ended}
 use Rattle.mux_conn.specs.declared.request.Pending.{Pending}
@@ -52,8 +53,8 @@ same_link : (k l : LinkState) → Ready k ≡ Ready l → k ≡ l
 same_link k l e = cc
 
 -- and not one that is set up
-not_set_up : (k l : LinkState) (with_user : Bool) → Ready k ≡ SettingUp l with_user → ⊥
-not_set_up k l with_user e = cc
+not_set_up : (k l : LinkState) (greeting : Greeting) → Ready k ≡ SettingUp l greeting → ⊥
+not_set_up k l greeting e = cc
 
 -- nor does it wait for credentials
 not_wanting : (k l : LinkState) → Ready k ≡ Wanting l → ⊥
@@ -75,7 +76,7 @@ written_from p w (Ready l) e h =
     (λ f. h)
 written_from p w Dialing e h = h
 written_from p w (Wanting l) e h = absurd (not_wanting h.link l (sym h.up ∙ e))
-written_from p w (SettingUp l with_user) e h = absurd (not_set_up h.link l with_user (sym h.up ∙ e))
+written_from p w (SettingUp l greeting) e h = absurd (not_set_up h.link l greeting (sym h.up ∙ e))
 written_from p w (Ended x) e h = h
 
 -- what a turn ends with leaves a started message as it is

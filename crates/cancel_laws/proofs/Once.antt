@@ -46,7 +46,7 @@ places p (q ∷ qs) = one p q.id + places p qs
 abbrev pub all_of : ℕ → Life → ℕ
 all_of p Dialing = 0
 all_of p (Wanting l) = 0
-all_of p (SettingUp l with_user) = 0
+all_of p (SettingUp l greeting) = 0
 all_of p (Ready l) = times p l.row + places p l.queue
 all_of p (Ended e) = 0
 
@@ -70,7 +70,7 @@ share r p = share_of (slice_get r p)
 abbrev pub HasOne : Life → Type 0
 HasOne Dialing = Unit {0}
 HasOne (Wanting l) = count_on l ≤ 0
-HasOne (SettingUp l with_user) = count_on l ≤ 1
+HasOne (SettingUp l greeting) = count_on l ≤ 1
 HasOne (Ready l) = Unit {0}
 HasOne (Ended e) = Unit {0}
 
@@ -174,7 +174,7 @@ starts_same p s (q ∷ qs) =
 cancelled_once : (p q : ℕ) (life : Life) → all_of p (cancelled_in life q) ≤ all_of p life
 cancelled_once p q Dialing = omega arith
 cancelled_once p q (Wanting l) = omega arith
-cancelled_once p q (SettingUp l with_user) = omega arith
+cancelled_once p q (SettingUp l greeting) = omega arith
 cancelled_once p q (Ready l) = omega (arith, times_silenced p q l.row, places_without p q l.queue)
 cancelled_once p q (Ended e) = omega arith
 
@@ -182,7 +182,7 @@ cancelled_once p q (Ended e) = omega arith
 cancelled_alone : (q : ℕ) (life : Life) → HasOne life → HasOne (cancelled_in life q)
 cancelled_alone q Dialing h = h
 cancelled_alone q (Wanting l) h = h
-cancelled_alone q (SettingUp l with_user) h = h
+cancelled_alone q (SettingUp l greeting) h = h
 cancelled_alone q (Ready l) h = tt
 cancelled_alone q (Ended e) h = h
 
@@ -214,10 +214,10 @@ once_there p apart = record {
   want = λ r size bound h. record { within = omega arith; alone = omega arith };
   wait_on = λ r l k few h. record { within = omega arith; alone = omega (arith, few, h.alone) };
   connect = λ r l h. record { within = omega (arith, h.alone, times_count p l.row, places_count p l.queue); alone = tt };
-  set_up = λ r l q with_user h. record { within = omega arith; alone = omega (arith, h.alone, count_push l q) };
-  go_on = λ r l k with_user few h. record { within = omega arith; alone = omega (arith, few, h.alone) };
-  repeat = λ r l k q with_user few h. record { within = omega arith; alone = omega (arith, few, h.alone, count_push k q) };
-  ready = λ r l k with_user few h. record { within = omega (arith, few, h.alone, times_count p k.row, places_count p k.queue); alone = tt };
+  set_up = λ r l q greeting h. record { within = omega arith; alone = omega (arith, h.alone, count_push l q) };
+  go_on = λ r l k greeting few h. record { within = omega arith; alone = omega (arith, few, h.alone) };
+  repeat = λ r l k q greeting next few h. record { within = omega arith; alone = omega (arith, few, h.alone, count_push k q) };
+  ready = λ r l k greeting few h. record { within = omega (arith, few, h.alone, times_count p k.row, places_count p k.queue); alone = tt };
   admit = λ r life q count t h. record { within = omega (arith, h.within, share_admit r p q count t); alone = h.alone };
   place = λ r l q t h. record { within = omega (arith, placed_once p q.number r (all_of p (Ready l)) t h.within, places_push p l.queue (message_of q)); alone = tt };
   start = λ r l h. record { within = omega (arith, h.within, starts_same p (record { link = l; out = [] }) l.queue); alone = tt };
@@ -226,7 +226,7 @@ once_there p apart = record {
       record { within = omega (arith, h.within, times_push p l.row (entry_of q), other); alone = tt };
   offer = λ r l h. record { within = h.within; alone = tt };
   write = λ r l k h. record { within = h.within; alone = tt };
-  come = λ r l piece h. chosen (λ (x : Settling). IsOnce p r (Ready x.link)) l.broken _ _ (λ t. h)
+  come = λ r l what piece h. chosen (λ (x : Settling). IsOnce p r (Ready x.link)) l.broken _ _ (λ t. h)
       (λ f. record { within = omega (arith, h.within, times_dealt p (record { row = l.row; out = [] }) (items (l.rest ++ piece))); alone = tt });
   end = λ r life e h. record { within = omega arith; alone = tt };
 }

@@ -40,17 +40,17 @@ names_there ns = record {
   want = λ r size bound h. h;
   wait_on = λ r l k few h. h;
   connect = λ r l h. h;
-  set_up = λ r l q with_user h. h;
-  go_on = λ r l k with_user few h. h;
-  repeat = λ r l k q with_user few h. h;
-  ready = λ r l k with_user few h. h;
+  set_up = λ r l q greeting h. h;
+  go_on = λ r l k greeting few h. h;
+  repeat = λ r l k q greeting next few h. h;
+  ready = λ r l k greeting few h. h;
   admit = λ r life q count t h. names_stay r q progress.Admitted count ∙ h;
   place = λ r l q t h. names_stay r q.number progress.Placed (permits_at r q.number) ∙ h;
   start = λ r l h. h;
   renew = λ r l q own h. h;
   offer = λ r l h. h;
   write = λ r l k h. h;
-  come = λ r l piece h. h;
+  come = λ r l what piece h. h;
   end = λ r life e h. h;
 }
 
@@ -92,6 +92,7 @@ table_fired t None = refl
 table_fired t (Some (purpose.Connect l)) = refl
 table_fired t (Some (purpose.Response owner.Setup)) = refl
 table_fired t (Some (purpose.Response owner.Auth)) = refl
+table_fired t (Some (purpose.Response owner.Monitor)) = refl
 table_fired t (Some (purpose.Renewal l k)) = refl
 table_fired t (Some (purpose.Response (owner.Try n round))) = table_late t (slice_get t.core.table n)
 
@@ -122,6 +123,7 @@ named_requested t (event.Ended l) h = h
 named_requested t (event.ReadFault l kind) h = h
 named_requested t (event.WriteFault l kind) h = h
 named_requested t event.Shutdown h = h
+named_requested t event.DropStream h = h
 
 -- and the rest of the turn
 named_moved_on : (t : Turning) → NamedIn t → NamedIn (moved_on t)

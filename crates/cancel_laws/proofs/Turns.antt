@@ -90,6 +90,7 @@ bare_fired n p t None h = refl
 bare_fired n p t (Some (purpose.Connect l)) h = refl
 bare_fired n p t (Some (purpose.Response owner.Setup)) h = refl
 bare_fired n p t (Some (purpose.Response owner.Auth)) h = refl
+bare_fired n p t (Some (purpose.Response owner.Monitor)) h = refl
 bare_fired n p t (Some (purpose.Renewal l k)) h = refl
 bare_fired n p t (Some (purpose.Response (owner.Try m round))) h = bare_late_by n p t (slice_get t.core.table m) h
 
@@ -110,6 +111,7 @@ bare_requested n p t (event.Ended m) l h = refl
 bare_requested n p t (event.ReadFault m kind) l h = refl
 bare_requested n p t (event.WriteFault m kind) l h = refl
 bare_requested n p t event.Shutdown l h = refl
+bare_requested n p t event.DropStream l h = refl
 
 -- the event's own effect
 bare_effect : (n p : ℕ) (t : Turning) (kind : EventKind) → n < length t.core.table → At (IsAway n p) (work_of t) → bare_turning n p (effect t kind) ≡ effect (bare_turning n p t) kind
@@ -128,6 +130,8 @@ no_timer n l (act.Created e) more = refl
 no_timer n l (act.Took m count) more = refl
 no_timer n l (act.Timer m ms) more = refl
 no_timer n l (act.Push info) more = refl
+no_timer n l (act.Message m) more = refl
+no_timer n l (act.Monitor v) more = refl
 no_timer n l act.NeedCreds more = refl
 no_timer n l act.Close more = refl
 no_timer n l (act.Write bytes) more = refl
@@ -136,6 +140,7 @@ no_timer n l (act.Start message m need len) more = refl
 no_timer n l (act.SetUp message need len) more = refl
 no_timer n l (act.RenewalTimer k ms) more = refl
 no_timer n l (act.Renewed message need len) more = refl
+no_timer n l (act.Watch message need len) more = refl
 no_timer n l (act.Outcome m o) more = chosen (λ (xs : List LinkAct). timers_of l (xs ++ more) ≡ timers_of l more) (m == n) [] (act.Outcome m o ∷ []) (λ t. refl) (λ f. refl)
 
 -- so the timers of a turn are those of all other acts
@@ -149,6 +154,8 @@ no_source n l c (act.Created e) more = refl
 no_source n l c (act.Took m count) more = refl
 no_source n l c (act.Timer m ms) more = refl
 no_source n l c (act.Push info) more = refl
+no_source n l c (act.Message m) more = refl
+no_source n l c (act.Monitor v) more = refl
 no_source n l c act.NeedCreds more = refl
 no_source n l c act.Close more = refl
 no_source n l c (act.Write bytes) more = refl
@@ -157,6 +164,7 @@ no_source n l c (act.Start message m need len) more = refl
 no_source n l c (act.SetUp message need len) more = refl
 no_source n l c (act.RenewalTimer k ms) more = refl
 no_source n l c (act.Renewed message need len) more = refl
+no_source n l c (act.Watch message need len) more = refl
 no_source n l c (act.Outcome m o) more =
     let same : c ≡ c + 0 = omega arith in
     chosen (λ (xs : List LinkAct). sources_of l c (xs ++ more) ≡ sources_of l (c + 0) more) (m == n) [] (act.Outcome m o ∷ []) (λ t. ap (λ (k : ℕ). sources_of l k more) same) (λ f. refl)
@@ -217,6 +225,7 @@ more_requested n t (event.Fired m) l = more_fired (slice_get t.core.timers m)
     more_fired (Some (purpose.Connect k)) = l
     more_fired (Some (purpose.Response owner.Setup)) = l
     more_fired (Some (purpose.Response owner.Auth)) = l
+    more_fired (Some (purpose.Response owner.Monitor)) = l
     more_fired (Some (purpose.Renewal link k)) = l
     more_fired (Some (purpose.Response (owner.Try k round))) = more_late (slice_get t.core.table k)
 more_requested n t (event.Timeout ms) l = l
@@ -229,6 +238,7 @@ more_requested n t (event.Ended m) l = l
 more_requested n t (event.ReadFault m kind) l = l
 more_requested n t (event.WriteFault m kind) l = l
 more_requested n t event.Shutdown l = l
+more_requested n t event.DropStream l = l
 
 -- nor does a turn
 pub more_after : (n : ℕ) (c : Core) (kind : EventKind) → n < length c.table → n < length (next_turn c kind).core.table

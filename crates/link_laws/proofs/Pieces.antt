@@ -94,7 +94,7 @@ all_behind h ready out ns d (v ∷ vs) =
 -- one text in two pieces
 --
 -- values in two parts, of which the first doesn't end the link
-two_taken : (h : Hearing) (ready : Bool) (row : List Entry) (xs ys : List Data) → (let d = taken_each h ready (dealing_with row) xs in d.strange ≡ false
+pub two_taken : (h : Hearing) (ready : Bool) (row : List Entry) (xs ys : List Data) → (let d = taken_each h ready (dealing_with row) xs in d.strange ≡ false
     → taken_each h ready (dealing_with row) (xs ++ ys) ≡ behind d.out d.notices (taken_each h (ready || not (length d.out == 0)) (dealing_with d.row) ys))
 two_taken h ready row xs ys tame =
     let d = taken_each h ready (dealing_with row) xs in
