@@ -3,12 +3,13 @@ use Rattle.std.proofs.Common.{◌≡◌, ◌≢◌, ℕ, zero, suc, ◌+◌, ◌
 use Rattle.std.proofs.Math.Bool.{and-false}
 use Rattle.containers.proofs.Choices.{by_test, chosen, taken_if, left_if, eq_from, ne_test}
 use Rattle.resp_value.specs.Data.{Data}
-use Rattle.resp_read.specs.Items.{items}
+use Rattle.resp_read.specs.Values.{values}
 use Rattle.driver_model.specs.Shape.{need_of}
+use Rattle.driver_model.specs.declared.hearing.Hearing.{Hearing}
 use Rattle.link_core.specs.declared.message.Entry.{Entry}
 use Rattle.link_core.specs.declared.message.Queued.{Queued}
-use Rattle.link_core.specs.Dealing.{Dealing, with_item, dealt_to, dealt, dealt_each}
-use Rattle.link_core.specs.Link.{LinkState, Starting, Settling, entry_of, holds_back, started_one, started_each}
+use Rattle.link_core.specs.Dealing.{Dealing, dealing_with, with_item, dealt_to, dealt, noticed_behind, taking_in, taken_as, taken, taken_each}
+use Rattle.link_core.specs.Link.{LinkState, Starting, Reading, entry_of, holds_back, started_one, started_each, nothing_read, came_all, piece_read}
 use Rattle.link_core.specs.Row.{silenced}
 use Rattle.link_core.specs.Waiting.{is_wanted, without}
 use Rattle.mux_conn.specs.declared.life.Life.{Life}
@@ -158,10 +159,18 @@ times_dealt_to p d item [] l = l
 times_dealt_to p d item (e ∷ es) l =
     chosen (λ (x : Dealing). times p x.row ≤ times p (e ∷ es)) (nat_lt (length (with_item e item).got) (need_of e.shape)) _ _ (λ t. omega arith) (λ f. omega arith)
 
--- nor where more are
-times_dealt : (p : ℕ) (d : Dealing) (items : List Data) → times p (dealt_each d items).row ≤ times p d.row
-times_dealt p d [] = omega arith
-times_dealt p d (v ∷ vs) = omega (arith, times_dealt p (dealt d v) vs, times_dealt_to p d v d.row (omega arith))
+-- nor where a value comes
+times_taken : (p : ℕ) (what : Hearing) (d : Dealing) (v : Data) → times p (taken what true d v).row ≤ times p d.row
+times_taken p what d v =
+    let t = taking_in what true d v in
+    let m : Dealing = record d { notices = d.notices ++ noticed_behind (length d.out) t.told; strange = t.ends } in
+    chosen (λ (x : Dealing). times p x.row ≤ times p d.row) d.strange d (taken_as d t v) (λ y. omega arith)
+    (λ n. chosen (λ (x : Dealing). times p x.row ≤ times p d.row) t.dealt (dealt m v) m (λ y. times_dealt_to p m v d.row (omega arith)) (λ y. omega arith))
+
+-- nor where more do
+times_values : (p : ℕ) (what : Hearing) (d : Dealing) (vs : List Data) → times p (taken_each what true d vs).row ≤ times p d.row
+times_values p what d [] = omega arith
+times_values p what d (v ∷ vs) = omega (arith, times_values p what (taken what true d v) vs, times_taken p what d v)
 
 -- who starts is on the link before and after
 starts_same : (p : ℕ) (s : Starting) (queue : List Queued) → all_of p (Ready (started_each s queue).link) ≡ times p s.link.row + places p queue
@@ -226,8 +235,8 @@ once_there p apart = record {
       record { within = omega (arith, h.within, times_push p l.row (entry_of q), other); alone = tt };
   offer = λ r l h. record { within = h.within; alone = tt };
   write = λ r l k h. record { within = h.within; alone = tt };
-  come = λ r l what piece h. chosen (λ (x : Settling). IsOnce p r (Ready x.link)) l.broken _ _ (λ t. h)
-      (λ f. record { within = omega (arith, h.within, times_dealt p (record { row = l.row; out = [] }) (items (l.rest ++ piece))); alone = tt });
+  come = λ r l what piece h. chosen (λ (x : Reading). IsOnce p r (Ready x.link)) l.broken (nothing_read l) (came_all what true l (l.rest ++ piece)) (λ t. h)
+      (λ f. record { within = omega (arith, h.within, times_values p what (dealing_with l.row) (values (l.rest ++ piece))); alone = tt });
   end = λ r life e h. record { within = omega arith; alone = tt };
 }
 

@@ -8,6 +8,8 @@ use Rattle.driver_model.specs.declared.config.Config.{Config}
 use Rattle.driver_model.specs.declared.event.Event.{Event}
 use Rattle.driver_model.specs.declared.event.EventKind.{EventKind}
 use Rattle.driver_model.specs.declared.event.EventKind.TheVariants as event
+use Rattle.driver_model.specs.Config.{permits}
+use Rattle.driver_model.specs.Kind.{is_single}
 use Rattle.driver_model.specs.Request.{packed_bytes, lacks_resp3}
 use Rattle.mux_conn.specs.declared.life.Life.{Life}
 use Rattle.mux_conn.specs.declared.request.Pending.{Pending}
@@ -106,14 +108,14 @@ named_requested t (event.Submit s) h =
     let r = t.core.single.connection.requests in
     let x : Request = record { name = length t.core.table; progress = progress.Waiting; permits = 0 } in
     chosen NamedIn t.core.shut _ _ (λ u. named_refused t.core.table (names r) h)
-    (λ f. chosen NamedIn (lacks_resp3 t.core.single.connection.info.protocol s) _ _ (λ u. named_refused t.core.table (names r) h)
+    (λ f. chosen NamedIn (lacks_resp3 t.core.single.connection.hears t.core.single.connection.info.protocol s) _ _ (λ u. named_refused t.core.table (names r) h)
     (λ d. chosen NamedIn (length (packed_bytes s) == 0) _ _ (λ u. named_refused t.core.table (names r) h)
     (λ g. subst (AreNamed (t.core.table ++ Some (record { number = length r }) ∷ [])) (sym (names_push r x)) (named_asked t.core.table (names r) (length r) (names_count r) h))))
 named_requested t (event.Cancel n) h = named_left_by t (slice_get t.core.table n) h
 named_requested t (event.Connected l) h = h
 named_requested t (event.Refused l f) h = h
 named_requested t (event.Fired n) h = named_fired_by t (slice_get t.core.timers n) h
-named_requested t (event.Timeout ms) h = h
+named_requested t (event.Timeout ms) h = chosen (λ (c : Core). NamedIn (record t { core = c })) (is_single t.core.kind) (record t.core { timeout = ms }) t.core (λ y. h) (λ y. h)
 named_requested t (event.Creds c auth) h = h
 named_requested t (event.CredsError c text) h = h
 named_requested t (event.CredsEnd c) h = h
@@ -175,6 +177,6 @@ unlimited_on c [] none = none
 unlimited_on c (e ∷ es) none = unlimited_on (next_turn c e.kind).core es (turn_unlimited c e.kind none)
 
 -- after any history of such a configuration
-pub unlimited_after : (config : Config) (word : ℕ) (es : List Event) → config.limit ≡ None → AtCore Unlimited (state_after config word es)
+pub unlimited_after : (config : Config) (word : ℕ) (es : List Event) → permits config ≡ None → AtCore Unlimited (state_after config word es)
 unfolding state_after
 unlimited_after config word es none = unlimited_on (opening_core config word) es none

@@ -21,7 +21,7 @@ use Rattle.mux_conn.specs.Renewals as renewals
 use Rattle.mux_conn.specs.Renewals.{renewing, asked_next, renewal_timed, renewal_asked, renewal_told, renewal_moved}
 use Rattle.mux_conn.specs.Requests.{is_open_at, is_waiting_at, is_admitted_at, name_at, closed, answered}
 use Rattle.mux_conn.specs.Effects.{cancelled_in, left}
-use Rattle.mux_conn.specs.Passes.{shown_each, starts_with, set_up_each, sets_up_with, started_at, started, placed_at, told_at_place, seated, still_admitted, moved_up, moved_up_each, moved_up_all, put_behind, seated_or_behind, let_in, admitted_at, admitted, still_waiting, admitted_each, admitted_all, passed}
+use Rattle.mux_conn.specs.Passes.{shown_each, starts_with, greeting_act, greeted_each, greets_with, started_at, started, placed_at, told_at_place, seated, still_admitted, moved_up, moved_up_each, moved_up_all, put_behind, seated_or_behind, let_in, admitted_at, admitted, still_waiting, admitted_each, admitted_all, passed}
 use Rattle.mux_conn.specs.Turn.{written_at, written, moved_wait, fresh_wait, wait_shown, moved_each_shown, moved_shown, fresh_each_shown, fresh_shown, waits_shown, flushed}
 use Rattle.cancel_laws.proofs.Links.{none_leaves}
 use Rattle.cancel_laws.proofs.Kept.{let_in_conn}
@@ -118,10 +118,10 @@ pub conn_shown : (w : Work) (ss : List Started) → (shown_each w ss).conn ≡ w
 conn_shown w [] = refl
 conn_shown w (s ∷ ss) = conn_shown (acted w (act.Start s.msg (name_at w.conn.requests s.id) s.need s.len)) ss
 
--- nor does the start of a setup
-setup_shown : (w : Work) (ss : List Started) → (set_up_each w ss).conn ≡ w.conn
-setup_shown w [] = refl
-setup_shown w (s ∷ ss) = setup_shown (acted w (act.SetUp s.msg s.need s.len)) ss
+-- nor does the start of a greeting
+setup_shown : (w : Work) (greeting : Greeting) (ss : List Started) → (greeted_each w greeting ss).conn ≡ w.conn
+setup_shown w greeting [] = refl
+setup_shown w greeting (s ∷ ss) = setup_shown (acted w (greeting_act greeting s)) greeting ss
 
 -- a function of the life that a connection has is looked at with a life that is known to be it
 started_from : (w : Work) (life : Life) → w.conn.life ≡ life → HasRenewed w.conn.renewal life → Through (started_at w life).conn
@@ -131,7 +131,7 @@ started_from w (Ready l) e h =
     (record { queue = queue_starts (record { link = l; out = [] }) l.queue; renewed = λ t. let k = h t in (k.0, held_starts (record { link = l; out = [] }) l.queue k.1) })
 started_from w (SettingUp l greeting) e h =
     let s = started_all (record { link = l; out = [] }) in
-    subst Through (sym (setup_shown (with_setup w s.link greeting) s.out)) (record { queue = queue_starts (record { link = l; out = [] }) l.queue; renewed = λ t. cc })
+    subst Through (sym (setup_shown (with_setup w s.link greeting) greeting s.out)) (record { queue = queue_starts (record { link = l; out = [] }) l.queue; renewed = λ t. cc })
 started_from w (Wanting l) e h = subst (IsStartedOn w.conn.renewal) (sym e) (record { queue = tt; renewed = h })
 started_from w Dialing e h = subst (IsStartedOn w.conn.renewal) (sym e) (record { queue = tt; renewed = h })
 started_from w (Ended x) e h = subst (IsStartedOn w.conn.renewal) (sym e) (record { queue = tt; renewed = h })
@@ -175,7 +175,7 @@ admitted_started w (Ready l) =
 admitted_started w (Wanting l) = refl
 admitted_started w (SettingUp l greeting) =
     let s = started_all (record { link = l; out = [] }) in
-    ap (λ (c : MultiplexedConnection). c.admitted) (setup_shown (with_setup w s.link greeting) s.out)
+    ap (λ (c : MultiplexedConnection). c.admitted) (setup_shown (with_setup w s.link greeting) greeting s.out)
 admitted_started w Dialing = refl
 admitted_started w (Ended e) = refl
 
@@ -370,7 +370,7 @@ none_starts l (q ∷ qs) e (inr held) =
 pub started_stays : (w : Work) (life : Life) → w.conn.life ≡ life → HasStartedAll life → started_at w life ≡ w
 started_stays w (Ready l) e h = ap (starts_with w) (none_starts l l.queue refl h) ∙ ap (at_life w) (sym e)
 started_stays w (Wanting l) e h = refl
-started_stays w (SettingUp l greeting) e h = ap (sets_up_with w greeting) (none_starts l l.queue refl h) ∙ ap (at_life w) (sym e)
+started_stays w (SettingUp l greeting) e h = ap (greets_with w greeting) (none_starts l l.queue refl h) ∙ ap (at_life w) (sym e)
 started_stays w Dialing e h = refl
 started_stays w (Ended x) e h = refl
 

@@ -12,6 +12,7 @@ use Rattle.driver_model.specs.declared.event.EventKind.TheVariants as event
 use Rattle.driver_model.specs.declared.event.Submission.{Submission}
 use Rattle.driver_model.specs.declared.outcome.Outcome.TheVariants as outcome
 use Rattle.driver_model.specs.News.{news_of}
+use Rattle.driver_model.specs.Kind.{is_single}
 use Rattle.driver_model.specs.Request.{packed_bytes, shape_of, is_reply_awaited, lacks_resp3}
 use Rattle.mux_conn.specs.declared.act.LinkAct.{LinkAct}
 use Rattle.mux_conn.specs.declared.act.LinkAct.TheVariants as act
@@ -67,7 +68,7 @@ bare_submitted : (n p : ℕ) (t : Turning) (s : Submission) → n < length t.cor
     → bare_turning n p (submitted t s) ≡ submitted (bare_turning n p t) s
 bare_submitted n p t s l k =
     either (bare_turning n p) t.core.shut _ _ _ _ (λ u. bare_refused n p t error.Closed l)
-    (λ f. either (bare_turning n p) (lacks_resp3 t.core.single.connection.info.protocol s) _ _ _ _ (λ u. bare_refused n p t error.Resp3Required l)
+    (λ f. either (bare_turning n p) (lacks_resp3 t.core.single.connection.hears t.core.single.connection.info.protocol s) _ _ _ _ (λ u. bare_refused n p t error.Resp3Required l)
     (λ d. either (bare_turning n p) (length (packed_bytes s) == 0) _ _ _ _ (λ u. bare_refused n p t error.EmptyCommand l) (λ g. bare_asked_for n p t s k)))
 
 -- one that is left
@@ -101,7 +102,9 @@ bare_requested n p t (event.Cancel m) l h = bare_left_by n p t (slice_get t.core
 bare_requested n p t (event.Connected m) l h = refl
 bare_requested n p t (event.Refused m f) l h = refl
 bare_requested n p t (event.Fired m) l h = bare_fired n p t (slice_get t.core.timers m) h
-bare_requested n p t (event.Timeout ms) l h = refl
+bare_requested n p t (event.Timeout ms) l h =
+    either (λ (c : Core). record (bare_turning n p t) { core = bare_core p c }) (is_single t.core.kind) (record t.core { timeout = ms }) t.core (record (bare_turning n p t) { core = record (bare_core p t.core) { timeout = ms } }) (bare_turning n p t) (λ y. refl) (λ y. refl)
+    ∙ sym (either (λ (c : Core). record (bare_turning n p t) { core = c }) (is_single t.core.kind) (record (bare_core p t.core) { timeout = ms }) (bare_core p t.core) (record (bare_turning n p t) { core = record (bare_core p t.core) { timeout = ms } }) (bare_turning n p t) (λ y. refl) (λ y. refl))
 bare_requested n p t (event.Creds c auth) l h = refl
 bare_requested n p t (event.CredsError c text) l h = refl
 bare_requested n p t (event.CredsEnd c) l h = refl
@@ -202,7 +205,7 @@ bare_turn n p c kind l none h =
 more_requested : (n : ℕ) (t : Turning) (kind : EventKind) → n < length t.core.table → n < length (requested t kind).core.table
 more_requested n t (event.Submit s) l =
     chosen (λ (x : Turning). n < length x.core.table) t.core.shut _ _ (λ u. omega (arith, length-append t.core.table (None ∷ [])))
-    (λ f. chosen (λ (x : Turning). n < length x.core.table) (lacks_resp3 t.core.single.connection.info.protocol s) _ _ (λ u. omega (arith, length-append t.core.table (None ∷ [])))
+    (λ f. chosen (λ (x : Turning). n < length x.core.table) (lacks_resp3 t.core.single.connection.hears t.core.single.connection.info.protocol s) _ _ (λ u. omega (arith, length-append t.core.table (None ∷ [])))
     (λ d. chosen (λ (x : Turning). n < length x.core.table) (length (packed_bytes s) == 0) _ _ (λ u. omega (arith, length-append t.core.table (None ∷ [])))
     (λ g. omega (arith, length-append t.core.table (Some (pending (length t.core.single.connection.requests)) ∷ [])))))
 more_requested n t (event.Cancel m) l = more_left (slice_get t.core.table m)
@@ -228,7 +231,7 @@ more_requested n t (event.Fired m) l = more_fired (slice_get t.core.timers m)
     more_fired (Some (purpose.Response owner.Monitor)) = l
     more_fired (Some (purpose.Renewal link k)) = l
     more_fired (Some (purpose.Response (owner.Try k round))) = more_late (slice_get t.core.table k)
-more_requested n t (event.Timeout ms) l = l
+more_requested n t (event.Timeout ms) l = chosen (λ (c : Core). n < length c.table) (is_single t.core.kind) (record t.core { timeout = ms }) t.core (λ y. l) (λ y. l)
 more_requested n t (event.Creds c auth) l = l
 more_requested n t (event.CredsError c text) l = l
 more_requested n t (event.CredsEnd c) l = l
