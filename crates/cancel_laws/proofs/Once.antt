@@ -9,7 +9,7 @@ use Rattle.driver_model.specs.declared.hearing.Hearing.{Hearing}
 use Rattle.link_core.specs.declared.message.Entry.{Entry}
 use Rattle.link_core.specs.declared.message.Queued.{Queued}
 use Rattle.link_core.specs.Dealing.{Dealing, dealing_with, with_item, dealt_to, dealt, noticed_behind, taking_in, taken_as, taken, taken_each}
-use Rattle.link_core.specs.Link.{LinkState, Starting, Reading, entry_of, holds_back, started_one, started_each, nothing_read, came_all, piece_read}
+use Rattle.link_core.specs.Link.{LinkState, Starting, Reading, entry_of, holds_back, started_one, started_each, nothing_read, came_all}
 use Rattle.link_core.specs.Row.{silenced}
 use Rattle.link_core.specs.Waiting.{is_wanted, without}
 use Rattle.mux_conn.specs.declared.life.Life.{Life}

@@ -1,6 +1,6 @@
 -- A submission that is handed in after the link's connect has started, where the configuration is sound and nothing is to be
 -- said to the server before it.
-use Rattle.std.proofs.Common.{◌≡◌, ◌≢◌, ℕ, zero, suc, ◌<◌, ◌==◌, Bool, true, false, ◌&&◌, not, List, [], ◌∷◌, Option, Some, None, if◌then◌else◌, refl, sym, ap, subst, arith}
+use Rattle.std.proofs.Common.{◌≡◌, ◌≢◌, ℕ, zero, suc, ◌<◌, ◌==◌, Bool, true, false, ◌&&◌, not, List, [], ◌∷◌, Option, Some, None, if◌then◌else◌, refl, sym, ap, ◌∙◌, subst, arith}
 use Rattle.containers.proofs.Choices.{not_le_test}
 use Rattle.std.specs.Prelude.{unwrap_or}
 use Rattle.connection_info.specs.declared.address.ConnectionInfo.{ConnectionInfo}

@@ -1,7 +1,7 @@
 -- What a link gives with bytes, value by value: what is told of a value is told where it stands, and then what it settles is answered.
 use Rattle.std.proofs.Common.{◌≡◌, inl, ℕ, ◌+◌, ◌≤◌, nat_le, Bool, true, false, List, [], ◌∷◌, ◌++◌, length, Option, Some, None, if◌then◌else◌, refl, sym, ap, ◌∙◌, subst, arith}
 use Rattle.std.proofs.lemmas.List.{append-nil}
-use Rattle.containers.proofs.Choices.{by_test, chosen, taken_if, left_if, le_from, le_test, not_le_from, not_le_test}
+use Rattle.containers.proofs.Choices.{by_test, chosen, left_if, le_from, le_test, not_le_from, not_le_test}
 use Rattle.resp_value.specs.Data.{Data}
 use Rattle.resp_read.specs.Values.{values}
 use Rattle.driver_model.specs.Hearing.{taking}
@@ -11,11 +11,11 @@ use Rattle.link_core.specs.declared.message.Entry.{Entry}
 use Rattle.link_core.specs.declared.message.NoticeAt.{NoticeAt}
 use Rattle.link_core.specs.declared.message.Settled.{Settled}
 use Rattle.link_core.specs.Dealing.{Dealing, dealing_with, dealt, is_awaiting, noticed_behind, taken, taken_each}
-use Rattle.link_core.specs.Link.{LinkState, Reading, nothing_read, came_all, piece_read}
+use Rattle.link_core.specs.Link.{LinkState, nothing_read, came_all, piece_read}
 use Rattle.link_laws.specs.Alike.{SameRow, SameDealing}
 use Rattle.link_laws.specs.Pieces.{later_each}
 use Rattle.link_laws.proofs.Alike.{tells_taken, tells_with}
-use Rattle.link_laws.proofs.Pieces.{behind, strange_stays, two_taken}
+use Rattle.link_laws.proofs.Pieces.{strange_stays, two_taken}
 use Rattle.link_laws.proofs.Taken.{item_tells}
 use Rattle.mux_conn.specs.Connection.{Work}
 use Rattle.mux_conn.specs.Effects.{settled_one, settled_each, noticed, noticed_each, told_each}
