@@ -10,7 +10,8 @@ use Rattle.redis_error.specs.declared.config_name.ConfigName.{ConfigName}
 use Rattle.redis_error.specs.declared.config_name.ConfigName.TheVariants as name
 use Rattle.driver_model.specs.declared.config.Config.{Config}
 use Rattle.driver_model.specs.declared.event.Submission.{Submission}
-use Rattle.driver_model.specs.declared.event.Submission.TheVariants.{Cmd, Pipe, Multi}
+use Rattle.driver_model.specs.declared.event.Submission.TheVariants.{Cmd, Pipe, Multi, Subscription, Ping}
+use Rattle.resp_write.specs.declared.subscription.SubscriptionAction.{SubscriptionAction}
 use Rattle.connection_setup.specs.Setup.{setup}
 use Rattle.driver_model.specs.Config.{address, buffer_size, buffer_fault, has_line, hearing_of, permits, room_fault, fault_in, told_info}
 use Rattle.driver_model.specs.Hearing.{hears_messages, hears_pushes, is_watching}
@@ -100,6 +101,35 @@ pub any_started : (config : Config) (word draw later : ℕ) (s : Submission) →
 unfolding state_after next_turn
 any_started config word draw later s some awaited plain sound silent =
     free_started config word later (connected_at draw ∷ []) s some awaited (connected_free config word draw sound silent) (let c = (state_after config word (connected_at draw ∷ [])).single.connection in needs_none c.hears c.info.protocol s plain)
+
+-- what is heard is what the configuration has heard
+connected_hears : (config : Config) (word draw : ℕ) → SaysNothing config → (state_after config word (connected_at draw ∷ [])).single.connection.hears ≡ hearing_of config
+unfolding state_after next_turn
+connected_hears config word draw silent =
+    let says = says_nothing (setup (told_info config) true) in
+    subst (λ (b : Bool). (up_at config word draw b says (is_watching (hearing_of config))).single.connection.hears ≡ hearing_of config) (sym silent.0)
+    (subst (λ (b : Bool). (up_at config word draw false b (is_watching (hearing_of config))).single.connection.hears ≡ hearing_of config) (sym silent.1)
+    (subst (λ (b : Bool). (up_at config word draw false true b).single.connection.hears ≡ hearing_of config) (sym silent.2) refl))
+
+-- where messages are heard nothing is refused for want of RESP3
+listening_none : (h : Hearing) (protocol : ProtocolVersion) (s : Submission) → hears_messages h ≡ true → lacks_resp3 h protocol s ≡ false
+listening_none h protocol s listens = ap (λ hears. not hears && needs_resp3 s && not (is_resp3 protocol)) listens
+
+-- any submission on a link of messages that has bytes, and whose reply is awaited
+listening_started : (config : Config) (word draw later : ℕ) (s : Submission) → packed_bytes s ≢ [] → is_reply_awaited s ≡ true → IsSound config → SaysNothing config → hears_messages (hearing_of config) ≡ true
+    → HasStarted 0 (handed_in_after_connect config word draw later s)
+unfolding state_after next_turn
+listening_started config word draw later s some awaited sound silent listens =
+    free_started config word later (connected_at draw ∷ []) s some awaited (connected_free config word draw sound silent)
+    (let c = (state_after config word (connected_at draw ∷ [])).single.connection in listening_none c.hears c.info.protocol s (ap hears_messages (connected_hears config word draw silent) ∙ listens))
+
+-- a subscription call there
+pub subscription_started : (config : Config) (word draw later : ℕ) (what : SubscriptionAction) (names : List (List ℕ)) → IsSound config → SaysNothing config → hears_messages (hearing_of config) ≡ true → HasStarted 0 (handed_in_after_connect config word draw later (Subscription what names))
+subscription_started config word draw later what names sound silent listens = listening_started config word draw later (Subscription what names) (λ e. cc) refl sound silent listens
+
+-- and a ping
+pub ping_started : (config : Config) (word draw later : ℕ) (message : Option (List ℕ)) → IsSound config → SaysNothing config → hears_messages (hearing_of config) ≡ true → HasStarted 0 (handed_in_after_connect config word draw later (Ping message))
+ping_started config word draw later message sound silent listens = listening_started config word draw later (Ping message) (λ e. cc) refl sound silent listens
 
 -- a command
 pub command_started : (config : Config) (word draw later : ℕ) (name : List ℕ) (args : List (List ℕ)) → IsSound config → SaysNothing config → HasStarted 0 (handed_in_after_connect config word draw later (Cmd (name ∷ args)))

@@ -1,10 +1,11 @@
 -- The laws of cancels, each as one statement. They speak of a history behind which submission n has started and is open.
-use Rattle.std.specs.Prelude.{◌≡◌, ◌≢◌, ℕ, false, List, [], ◌∷◌, ◌++◌, length, Option, None}
+use Rattle.std.specs.Prelude.{◌≡◌, ◌≢◌, ℕ, false, true, List, [], ◌∷◌, ◌++◌, length, Option, None}
 use Rattle.driver_model.specs.declared.config.Config.{Config}
 use Rattle.driver_model.specs.declared.event.Event.{Event}
 use Rattle.driver_model.specs.declared.event.Submission.{Submission}
 use Rattle.driver_model.specs.declared.outcome.Outcome.{Outcome}
-use Rattle.driver_model.specs.Config.{permits}
+use Rattle.driver_model.specs.Config.{hearing_of, permits}
+use Rattle.driver_model.specs.Hearing.{hears_messages}
 use Rattle.driver_model.specs.Request.{lacks_resp3}
 use Rattle.mux_conn.specs.declared.life.Life.{Life}
 use Rattle.shared_session.specs.Replay.{IsSound, state_after, trace_of, outcomes_in, outcome_at, is_bad_after}
@@ -79,4 +80,10 @@ StartsOnFreeLink s =
 abbrev pub StartsWhereHandedIn : Submission → Type 0
 StartsWhereHandedIn s =
     (config : Config) (word draw later : ℕ) → IsSound config → SaysNothing config
+    → HasStarted 0 (handed_in_after_connect config word draw later s)
+
+-- so has one that is handed in on a link of publish/subscribe, also where a server of any other link has to speak RESP3 for it
+abbrev pub StartsWhereListening : Submission → Type 0
+StartsWhereListening s =
+    (config : Config) (word draw later : ℕ) → IsSound config → SaysNothing config → hears_messages (hearing_of config) ≡ true
     → HasStarted 0 (handed_in_after_connect config word draw later s)

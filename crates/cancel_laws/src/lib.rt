@@ -2,13 +2,16 @@
 //! request changes nothing but its own outcome.
 #![tactic(auto)]
 
-ghost use Rattle.std.specs.Prelude.{◌≡◌, ◌≢◌, ℕ, true, false, List, [], ◌∷◌};
+ghost use Rattle.std.specs.Prelude.{◌≡◌, ◌≢◌, ℕ, true, false, List, [], ◌∷◌, Option};
 ghost use Rattle.driver_model.specs.declared.event.Submission.{Submission};
 ghost use Rattle.driver_model.specs.declared.event.Submission.TheVariants.{Cmd, Pipe, Multi};
+ghost use Rattle.driver_model.specs.declared.event.Submission.TheVariants.{Subscription, Ping};
+ghost use Rattle.resp_write.specs.declared.subscription.SubscriptionAction.{SubscriptionAction};
 ghost use Rattle.driver_model.specs.Request.{packed_bytes, is_reply_awaited, needs_resp3};
 ghost use Rattle.cancel_laws.specs.Laws.{CancelIsGood, OthersKeepOutcomes, CancelledGetsNone};
 ghost use Rattle.cancel_laws.specs.Laws.{TurnsGoOn, ItemsGoTheSameWay, SameAreBad};
 ghost use Rattle.cancel_laws.specs.Laws.{StartsOnFreeLink, StartsWhereHandedIn};
+ghost use Rattle.cancel_laws.specs.Laws.{StartsWhereListening};
 
 /// Does nothing. Its contract: where submission n has started and is open after a history, its
 /// cancel there is not bad, and n never gets an outcome. Where the configuration has no limit, the
@@ -32,7 +35,8 @@ pub fn a_cancel_changes_one_outcome()
 /// needs RESP3 and the link speaks another protocol. So has any that is no subscription call after
 /// the link's connect, where nothing of the configuration is refused, no credentials are to come of
 /// a source, nothing is to be said to the server first, and it isn't put into monitor mode: so a
-/// command, a pipeline whose first command has a name, and a transaction.
+/// command, a pipeline whose first command has a name, and a transaction; and on a link of
+/// publish/subscribe a subscription call and a ping.
 pub fn a_submission_on_a_link_that_is_up_has_started()
     ensures free { (s : Submission) → packed_bytes s ≢ [] → is_reply_awaited s ≡ true
         → StartsOnFreeLink s }
@@ -44,4 +48,7 @@ pub fn a_submission_on_a_link_that_is_up_has_started()
         → StartsWhereHandedIn (Pipe ((name ∷ args) ∷ more)) }
     ensures transaction { (args : List (List ℕ)) (more : List (List (List ℕ)))
         → StartsWhereHandedIn (Multi (args ∷ more)) }
+    ensures subscription { (what : SubscriptionAction) (names : List (List ℕ))
+        → StartsWhereListening (Subscription what names) }
+    ensures ping { (message : Option (List ℕ)) → StartsWhereListening (Ping message) }
 {}
