@@ -4,9 +4,9 @@ use Rattle.std.specs.List.Sorted.{IsNonDecreasingBy}
 use mathlib.Core.List.{IsPrefix}
 use Rattle.driver_model.specs.declared.action.Action.{Action}
 use Rattle.driver_model.specs.declared.config.Config.{Config}
+use Rattle.driver_model.specs.declared.kind.SessionKind.{SessionKind}
 use Rattle.driver_model.specs.declared.event.Event.{Event}
 use Rattle.driver_model.specs.declared.event.Submission.{Submission}
-use Rattle.driver_model.specs.declared.kind.SessionKind.{SessionKind}
 use Rattle.driver_model.specs.Request.{has_no_form}
 use Rattle.shared_session.specs.Turn.{actions_of}
 use Rattle.shared_session.specs.Replay.{state_after, is_spent_after}
@@ -24,13 +24,13 @@ use Rattle.caller_threads.specs.Lines.{share}
 abbrev pub Line : Type 0
 Line = Submission × ℕ
 
--- a session of this kind has such a line
+-- a script of a session of this kind may have it
 abbrev pub IsAllowed : SessionKind → Line → Type 0
 IsAllowed kind line = has_no_form kind line.0 ≡ false
 
--- the session of a caller has such lines
-abbrev pub Allows : List Line → Known → Type 0
-Allows lines v = Each (IsAllowed v.view.config.kind) lines
+-- a script of this caller's session may have each of them
+abbrev pub AreAllowed : List Line → Known → Type 0
+AreAllowed lines caller = Each (IsAllowed caller.view.config.kind) lines
 
 abbrev pub event_of : Line → Event
 event_of line = submission_event line.0 line.1

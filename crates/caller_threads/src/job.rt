@@ -1,6 +1,6 @@
 //! A caller with its lines.
 ghost use Rattle.std.specs.Prelude.{◌≡◌, IfOk, IfErr, OnOk, [], ◌∷◌};
-ghost use Rattle.caller_threads.specs.Submits.{IsAllowed, Allows, HasSubmitted, HasTried};
+ghost use Rattle.caller_threads.specs.Submits.{IsAllowed, AreAllowed, HasSubmitted, HasTried};
 ghost use Rattle.caller_threads.specs.Submits.{HasLooked, IsCause};
 ghost use Rattle.caller_threads.specs.Jobs.{IsReady, HasRun};
 
@@ -73,7 +73,7 @@ fn submit_each<R: Wait>(
     turns: &mut Queue<Turn>,
 ) -> Result<(), StepError>
     requires of { caller.old.table ≡ shared.now.table.shared.table_id }
-    requires allowed { Allows lines.old caller.old }
+    requires allowed { AreAllowed lines.old caller.old }
     requires none { turns.old ≡ [] }
     ensures ok { OnOk result (HasSubmitted caller.old caller.new lines.old turns.new) }
     ensures err { IfErr result (λ error.

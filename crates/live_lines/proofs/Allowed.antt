@@ -11,6 +11,12 @@ use Rattle.script_text.specs.Words.{LineWords, parts}
 use Rattle.session_callers.specs.Rule.{Each}
 use Rattle.caller_threads.specs.Submits.{Line, IsAllowed}
 use Rattle.containers.proofs.Choices.{chosen}
+use Rattle.program_ends.specs.Sides.{Side}
+use Rattle.live_lines.specs.Live.{HasNoLines, IsRefused}
+use Rattle.live_lines.specs.Plans.{plan_of}
+use Rattle.live_lines.specs.declared.planning.Plan.{Plan}
+use Rattle.live_lines.specs.declared.reading.Refusal.{Refusal}
+use Rattle.live_lines.specs.declared.reading.Refusal.TheVariants as refusal
 use Rattle.text_laws.specs.Fits.{AreBytes, HasForm}
 use Rattle.text_laws.proofs.Held.{then_read}
 use Rattle.text_laws.proofs.ScriptEvents.{IsByteLine, SaidEvent, event_fits}
@@ -69,3 +75,13 @@ module _ (session : SessionKind) where
   pub all_allowed : (text : List ℕ) → AreBytes text → IfOk (lines_of session text) AllAllowed
   unfolding lines_of
   all_allowed text bytes = lines_allowed 1 max_text (parts 10 text) (parts_bytes 10 text bytes)
+
+-- a source without lines for a plan is why there is no live run of it
+pub refused_lines : (refusal : Refusal) (words : List (List ℕ)) (plan : Plan) (source source' : Side) → plan_of words ≡ Some plan → HasNoLines plan.config.kind refusal source source' → IsRefused refusal words source source'
+refused_lines refusal.ReadFault words plan source source' plans why = (record { plan = plan; plans = plans }, why)
+refused_lines (refusal.Line n) words plan source source' plans why =
+    (record { plan = plan; plans = plans }, λ bytes told. record { plan = plan; plans = plans; fault = why bytes told })
+refused_lines refusal.NoMemory words plan source source' plans why = why
+refused_lines refusal.Usage words plan source source' plans why = absurd why
+refused_lines (refusal.Config name) words plan source source' plans why = absurd why
+refused_lines (refusal.Spent events) words plan source source' plans why = absurd why

@@ -1,5 +1,5 @@
 -- What is written of a live run, and why there is none.
-use Rattle.std.specs.Prelude.{◌≡◌, ⊤, ◌⊎◌, ℕ, ◌+◌, List, [], Option, Some, None, Ok, Err, codes}
+use Rattle.std.specs.Prelude.{◌≡◌, ⊤, ⊥, ◌⊎◌, ℕ, ◌+◌, List, [], Option, Some, None, Ok, Err, codes}
 use Rattle.caller_threads.specs.Submits.{Line}
 use Rattle.driver_model.specs.declared.kind.SessionKind.{SessionKind}
 use Rattle.redis_error.specs.declared.config_name.ConfigName.{ConfigName}
@@ -56,6 +56,15 @@ pub record IsRunOut (words : List (List ℕ)) (bytes : List ℕ) (events : ℕ) 
 pub record IsPlan (words : List (List ℕ)) : Type 0 where
   pub plan : Plan
   pub plans : plan_of words ≡ Some plan
+
+-- why a source has no lines to a session of this kind: it failed, this line of its bytes is the first at fault, or memory was refused
+abbrev pub HasNoLines : SessionKind → Refusal → Side → Side → Type 0
+HasNoLines kind refusal.ReadFault source source' = Fails source source'
+HasNoLines kind (refusal.Line n) source source' = IfTold source (λ bytes. lines_of kind bytes ≡ Err n)
+HasNoLines kind refusal.NoMemory source source' = ⊤
+HasNoLines kind refusal.Usage source source' = ⊥
+HasNoLines kind (refusal.Config name) source source' = ⊥
+HasNoLines kind (refusal.Spent events) source source' = ⊥
 
 -- Why there was no live run, in this order: the words are no plan; the source failed; this line of its bytes is the first at
 -- fault; the configuration is refused. Numbers run out only behind all of these, and memory may be refused at any moment.

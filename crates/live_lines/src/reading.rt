@@ -1,10 +1,10 @@
-ghost use Rattle.std.specs.Prelude.{◌≡◌, Some, Err, OnOk, IfOk, IfErr, IsErrOf, [], ℕ, List};
+ghost use Rattle.std.specs.Prelude.{◌≡◌, Some, Err, OnOk, IfOk, IfErr};
 ghost use Rattle.outside.specs.Ends.{Rose};
 ghost use Rattle.caller_threads.specs.Submits.{IsAllowed};
 ghost use Rattle.program_ends.specs.Sides.{side, IfTold};
 ghost use Rattle.script_text.specs.Lines.{lines_of, texts};
 ghost use Rattle.session_callers.specs.Rule.{Each};
-ghost use Rattle.live_lines.specs.Live.{AreLines, IsLive, IsPlan, IsRefused};
+ghost use Rattle.live_lines.specs.Live.{AreLines, HasNoLines, IsLive, IsPlan, IsRefused};
 
 use crate::flying::{Flight, FlightError, fly};
 use crate::planning::plan_of;
@@ -46,9 +46,8 @@ fn source_lines<S: Source>(
         AreLines kind (S.left source.old) (S.left source.new) lines.items
         ) }
     ensures allowed { IfOk result (λ lines. Each (IsAllowed kind) lines.items) }
-    ensures refused { (words : List (List ℕ)) (plan : IsPlan words) → plan.plan.config.kind ≡ kind
-        → IfErr result (λ refusal.
-        IsRefused refusal words
+    ensures refused { IfErr result (λ refusal.
+        HasNoLines kind refusal
         (side (S.left source.old) (S.fault_count source.old))
         (side (S.left source.new) (S.fault_count source.new))
         ) }

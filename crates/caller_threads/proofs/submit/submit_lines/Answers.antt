@@ -2,10 +2,10 @@ use Rattle.std.proofs.Common.{◌≡◌, length, List, sym, ap, ◌∙◌, subst
 use Rattle.shared_session.specs.declared.errors.StepError.TheVariants.{NoMemory}
 use Rattle.session_callers.specs.Calls.{Known}
 use Rattle.session_callers.specs.Rule.{Each}
-use Rattle.caller_threads.specs.Submits.{Allows, HaveRun, HaveStopped}
-use Rattle.caller_threads.specs.Jobs.{callers_of, IsAllowing, IsOfTable}
+use Rattle.caller_threads.specs.Submits.{AreAllowed, HaveRun, HaveStopped}
+use Rattle.caller_threads.specs.Jobs.{callers_of, IsOfTable}
 use Rattle.caller_threads.proofs.Results.{written_over}
-use Rattle.caller_threads.proofs.Jobs.{length_callers, each_allowing, each_of, none_submitted, run_and_refused}
+use Rattle.caller_threads.proofs.Jobs.{length_callers, each_of, none_submitted, run_and_refused}
 use Rattle.caller_threads.proofs.submit.submit_lines.Goals as goal
 
 pub returns-in_default-clause-err : goal.returns-in_default-clause-err
@@ -22,8 +22,8 @@ submit_all-answer-requires-clause-of g c κs within =
 pub submit_all-answer-requires-clause-allowed : goal.submit_all-answer-requires-clause-allowed
 submit_all-answer-requires-clause-allowed g c κs within =
     let lines = c.args.lines.items in
-    subst (Each (IsAllowing lines)) (sym c.as_mut_slice.ensures.value)
-    (each_allowing lines c.in-Ok.seated.items (subst (Each (Allows lines)) (sym c.in-Ok.ensures.callers) c.requires.allowed))
+    let before = ap callers_of c.as_mut_slice.ensures.value ∙ c.in-Ok.ensures.callers in
+    subst (Each (AreAllowed lines)) (sym before) c.requires.allowed
 
 pub unseat-requires-clause-room : goal.unseat-requires-clause-room
 unseat-requires-clause-room g c =
