@@ -30,7 +30,7 @@ use Rattle.legal_trace.specs.Story.{Story, fires}
 use Rattle.legal_trace.specs.Book.{Book, book, entered, is_clock_of}
 use Rattle.legal_trace.specs.Events.{is_bad_event}
 use Rattle.legal_trace.specs.Legal.{MayTurn, is_heard}
-use Rattle.session_laws.proofs.Tied.{AreAimed, AreUses, IsAim, owners_of, owners_each, setup_owners, Inner, inner, link_in, carried, whole_link, IsUnknown, TiedCreds, TiedLife, TiedSetup, TiedTries, TiedLines, AreQueued, TiedWaits, Tied, Sound, no_opening, has_ended, TiedPushes, TiedRenewal, sources_asked_in}
+use Rattle.session_laws.proofs.Tied.{AreAimed, AreUses, IsAim, owners_of, owners_each, setup_owners, Inner, inner, link_in, carried, whole_link, IsUnknown, TiedCreds, TiedLife, TiedSetup, TiedTries, TiedLines, AreQueued, TiedWaits, Tied, Sound, no_opening, has_ended, TiedNotices, TiedRenewal, sources_asked_in}
 use Rattle.session_laws.proofs.States.{Between}
 use Rattle.session_laws.proofs.Entered.{book_more, sound_more}
 use Rattle.session_laws.proofs.Answer.{some_end}
@@ -49,7 +49,7 @@ offered_length name l s h = ap length h.offer ∙ (let e = length-take s.outbox.
 too_much : (l : Ledger) (created : ℕ) (life : Life) (requests : List Request) (count : ℕ) → TiedLife l created life → (has_ended life ≡ false → TiedLink (carried life requests) l (whole_link life)) → (not (is_over l) && nat_lt (length l.offer) count) ≡ exceeds_offer life count
 too_much l created Dialing requests count h link = (λ i. not (is_some (h.2 i)) && nat_lt (offered_length (carried Dialing requests) l (whole_link Dialing) (link refl) i) count)
 too_much l created (Wanting s) requests count h link = (λ i. not (is_some (h.2 i)) && nat_lt (offered_length (carried (Wanting s) requests) l s (link refl) i) count)
-too_much l created (SettingUp s with_user) requests count h link = (λ i. not (is_some (h.2 i)) && nat_lt (offered_length (carried (SettingUp s with_user) requests) l s (link refl) i) count)
+too_much l created (SettingUp s greeting) requests count h link = (λ i. not (is_some (h.2 i)) && nat_lt (offered_length (carried (SettingUp s greeting) requests) l s (link refl) i) count)
 too_much l created (Ready s) requests count h link = (λ i. not (is_some (h.2 i)) && nat_lt (offered_length (carried (Ready s) requests) l s (link refl) i) count)
 too_much l created (Ended e) requests count h link = ap (λ o. not o && nat_lt (length l.offer) count) (some_end l.end (outcome.Fault e) h.1)
 
@@ -147,8 +147,8 @@ elsewhere c m event.Shutdown only aims uses good other = inr refl
 
 -- and stay unknown
 unknown_heard : (l : Ledger) (turn : ℕ) (n : News) → (n ≡ silence) ⊎ (n ≡ shut) → IsUnknown l → IsUnknown (noted l (hears turn n))
-unknown_heard l turn n (inl e) h = subst (λ (x : News). IsUnknown (noted l (hears turn x))) (sym e) (record { asked = h.asked; up = h.up; end = h.end; starts = h.starts; pushes = h.pushes })
-unknown_heard l turn n (inr e) h = subst (λ (x : News). IsUnknown (noted l (hears turn x))) (sym e) (record { asked = h.asked; up = h.up; end = h.end; starts = h.starts; pushes = h.pushes })
+unknown_heard l turn n (inl e) h = subst (λ (x : News). IsUnknown (noted l (hears turn x))) (sym e) (record { asked = h.asked; up = h.up; end = h.end; starts = h.starts; notices = h.notices })
+unknown_heard l turn n (inr e) h = subst (λ (x : News). IsUnknown (noted l (hears turn x))) (sym e) (record { asked = h.asked; up = h.up; end = h.end; starts = h.starts; notices = h.notices })
 
 -- so all other links stay unknown
 pub others_heard : (b : Book) (c : Core) (started : List ℕ) (kind : EventKind) → Tied b (inner c started) → is_bad c kind ≡ false → (m : ℕ) → m ≢ c.single.link → IsUnknown (noted (b.link m) (hears c.turns (news_of b.timers b.sources m kind)))
@@ -297,7 +297,7 @@ pub record ComesAs (b : Book) (c : Core) (l : Ledger) (created : ℕ) (info : Re
   pub lines : TiedLines b.story c.single.connection.requests (link_in life) c.single.connection.waiting c.single.connection.admitted pending started
   pub told : has_ended life ≡ false → AreQueued b.story c.single.connection.requests (link_in life)
   pub waits : TiedWaits b.story c.single.connection.requests life fresh c.single.connection.moved
-  pub pushes : TiedPushes (is_heard b) c.single.connection.hears l.pushes l.told l.end l.parted untold false
+  pub notices : TiedNotices (is_heard b) c.single.connection.hears l.notices l.told l.end l.parted untold false
 
 -- where its new credentials are as they were
 abbrev pub ComesTo : Book → Core → Ledger → ℕ → RedisConnectionInfo → Life → List ℕ → List ℕ → List Heard → List ℕ → Type 0
@@ -338,7 +338,7 @@ heard_tied_as b c started word created kind info renewal life fresh pending unto
         only = h.numbers.only;
       };
       others = others;
-      pushes = k.pushes;
+      notices = k.notices;
       life = k.lived;
       creds = k.creds;
       count = counted;

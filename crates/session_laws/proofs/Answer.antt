@@ -81,7 +81,7 @@ over_not_asked l over = ap (λ o. l.asked && not o) over ∙ none_of l.asked
 ended_over : (l : Ledger) (created : ℕ) (life : Life) → has_ended life ≡ true → TiedLife l created life → is_over l ≡ true
 ended_over l created Dialing over h = cc
 ended_over l created (Wanting link) over h = cc
-ended_over l created (SettingUp link with_user) over h = cc
+ended_over l created (SettingUp link greeting) over h = cc
 ended_over l created (Ready link) over h = cc
 ended_over l created (Ended e) over h = some_end l.end (outcome.Fault e) h.1
 
@@ -89,7 +89,7 @@ ended_over l created (Ended e) over h = some_end l.end (outcome.Fault e) h.1
 ended_ends : (l : Ledger) (created : ℕ) (life : Life) → has_ended life ≡ true → TiedLife l created life → ending l ≡ None
 ended_ends l created Dialing over h = cc
 ended_ends l created (Wanting link) over h = cc
-ended_ends l created (SettingUp link with_user) over h = cc
+ended_ends l created (SettingUp link greeting) over h = cc
 ended_ends l created (Ready link) over h = cc
 ended_ends l created (Ended e) over h = not_up_ends l h.0 (over_not_asked l (some_end l.end (outcome.Fault e) h.1))
 
@@ -225,7 +225,7 @@ answer_apart b t p pending o l apart told h =
     record {
       numbers = numbers_kept b b.link (entered b (action.Outcome n o)).story now t.life (given_back t.limit t.free (permits_at t.requests p)) (with_permits t.requests p progress.Closed 0) t.waiting t.admitted t.fresh t.moved t.letting pending t.started h.numbers;
       others = h.others;
-      pushes = h.pushes;
+      notices = h.notices;
       life = h.life;
       creds = h.creds;
       count = h.count;

@@ -245,7 +245,7 @@ left_lines table story requests link waiting admitted p started closed names l o
 pub left_life : (l : Ledger) (created : ℕ) (life : Life) (p : ℕ) → TiedLife l created life → TiedLife (record l { heard = silence }) created (cancelled_in life p)
 left_life l created Dialing p h = h
 left_life l created (Wanting link) p h = h
-left_life l created (SettingUp link with_user) p h = h
+left_life l created (SettingUp link greeting) p h = h
 left_life l created (Ready link) p h = h
 left_life l created (Ended e) p h = h
 
@@ -253,7 +253,7 @@ left_life l created (Ended e) p h = h
 pub left_creds : (c : Sourced) (wants : Bool) (life : Life) (p : ℕ) → TiedCreds c wants life → TiedCreds c wants (cancelled_in life p)
 left_creds c wants Dialing p h = h
 left_creds c wants (Wanting link) p h = h
-left_creds c wants (SettingUp link with_user) p h = h
+left_creds c wants (SettingUp link greeting) p h = h
 left_creds c wants (Ready link) p h = record { wanted_is = h.wanted_is; sought = h.sought }
 left_creds c wants (Ended e) p h = h
 
@@ -261,7 +261,7 @@ left_creds c wants (Ended e) p h = h
 pub left_renewal : (l : Ledger) (r : Renewal) (life : Life) (p : ℕ) → TiedRenewal l r life → TiedRenewal l r (cancelled_in life p)
 left_renewal l r Dialing p h = h
 left_renewal l r (Wanting link) p h = h
-left_renewal l r (SettingUp link with_user) p h = h
+left_renewal l r (SettingUp link greeting) p h = h
 left_renewal l r (Ready link) p h = h
 left_renewal l r (Ended e) p h = h
 
@@ -269,7 +269,7 @@ left_renewal l r (Ended e) p h = h
 pub left_setup : (l : Ledger) (info : RedisConnectionInfo) (started : List ℕ) (life : Life) (p : ℕ) → TiedSetup l info started life → TiedSetup (record l { heard = silence }) info started (cancelled_in life p)
 left_setup l info started Dialing p h = setup_on l l.asked l.up l.end l.taken l.offer l.rest silence info started Dialing h
 left_setup l info started (Wanting link) p h = setup_on l l.asked l.up l.end l.taken l.offer l.rest silence info started (Wanting link) h
-left_setup l info started (SettingUp link with_user) p h = setup_on l l.asked l.up l.end l.taken l.offer l.rest silence info started (SettingUp link with_user) h
+left_setup l info started (SettingUp link greeting) p h = setup_on l l.asked l.up l.end l.taken l.offer l.rest silence info started (SettingUp link greeting) h
 left_setup l info started (Ready link) p h = let k = setup_on l l.asked l.up l.end l.taken l.offer l.rest silence info started (Ready link) h in record { info_is = k.info_is; sent = k.sent; said = k.said }
 left_setup l info started (Ended e) p h = setup_on l l.asked l.up l.end l.taken l.offer l.rest silence info started (Ended e) h
 
@@ -278,7 +278,7 @@ pub left_link : (requests : List Request) (l : Ledger) (life : Life) (p : ℕ) �
     → TiedLink (carried (cancelled_in life p) requests) (record l { heard = silence }) (whole_link (cancelled_in life p))
 left_link requests l Dialing p h n = told_tied (owner_of requests) l (whole_link Dialing) l.asked l.up silence (h refl)
 left_link requests l (Wanting link) p h n = told_tied (λ (q : ℕ). owner.Setup) l link l.asked l.up silence (h refl)
-left_link requests l (SettingUp link with_user) p h n = told_tied (λ (q : ℕ). owner.Setup) l link l.asked l.up silence (h refl)
+left_link requests l (SettingUp link greeting) p h n = told_tied (λ (q : ℕ). owner.Setup) l link l.asked l.up silence (h refl)
 left_link requests l (Ready link) p h n = told_tied (owner_of requests) l (cancelled link p) l.asked l.up silence (cancelled_tied (owner_of requests) l link p (h refl))
 left_link requests l (Ended e) p h n = cc
 
@@ -286,7 +286,7 @@ left_link requests l (Ended e) p h n = cc
 pub still_dials : (life : Life) (p : ℕ) → cancelled_in life p ≡ Dialing → life ≡ Dialing
 still_dials Dialing p e = refl
 still_dials (Wanting link) p e = cc
-still_dials (SettingUp link with_user) p e = cc
+still_dials (SettingUp link greeting) p e = cc
 still_dials (Ready link) p e = cc
 still_dials (Ended x) p e = cc
 
@@ -294,7 +294,7 @@ still_dials (Ended x) p e = cc
 pub was_ready : (life : Life) (p : ℕ) → WasReady life (cancelled_in life p)
 was_ready Dialing p x e = cc
 was_ready (Wanting link) p x e = cc
-was_ready (SettingUp link with_user) p x e = cc
+was_ready (SettingUp link greeting) p x e = cc
 was_ready (Ready link) p x e = (link, refl)
 was_ready (Ended y) p x e = cc
 
@@ -302,7 +302,7 @@ was_ready (Ended y) p x e = cc
 pub was_wanting : (life : Life) (p : ℕ) → WasWanting life (cancelled_in life p)
 was_wanting Dialing p x e = cc
 was_wanting (Wanting link) p x e = (x, e)
-was_wanting (SettingUp link with_user) p x e = cc
+was_wanting (SettingUp link greeting) p x e = cc
 was_wanting (Ready link) p x e = cc
 was_wanting (Ended y) p x e = cc
 
@@ -310,7 +310,7 @@ was_wanting (Ended y) p x e = cc
 pub was_setting : (life : Life) (p : ℕ) → WasSettingUp life (cancelled_in life p)
 was_setting Dialing p x u e = cc
 was_setting (Wanting link) p x u e = cc
-was_setting (SettingUp link with_user) p x u e = (x, e)
+was_setting (SettingUp link greeting) p x u e = (x, e)
 was_setting (Ready link) p x u e = cc
 was_setting (Ended y) p x u e = cc
 
@@ -332,7 +332,7 @@ left_lines_in table story requests life waiting admitted p started closed names 
     by_life (Ready link) r h = left_lines table story requests link waiting admitted p started closed names l other asked c (r refl) h
     by_life Dialing r h = bare h
     by_life (Wanting link) r h = bare h
-    by_life (SettingUp link with_user) r h = bare h
+    by_life (SettingUp link greeting) r h = bare h
     by_life (Ended e) r h = bare h
 
 -- who was told is none that leaves, and is in the queue still
@@ -350,7 +350,7 @@ left_told story requests life p asked h = by_life life h
     by_life (Ready link) g n = told_closed story requests p (λ m. left (story m)) link (cancelled link p) own (λ q is i. without_others link.queue p q (other q is) i) (g refl)
     by_life Dialing g n = told_closed story requests p (λ m. left (story m)) no_link no_link own (λ q is i. i) (g refl)
     by_life (Wanting link) g n = told_closed story requests p (λ m. left (story m)) no_link no_link own (λ q is i. i) (g refl)
-    by_life (SettingUp link with_user) g n = told_closed story requests p (λ m. left (story m)) no_link no_link own (λ q is i. i) (g refl)
+    by_life (SettingUp link greeting) g n = told_closed story requests p (λ m. left (story m)) no_link no_link own (λ q is i. i) (g refl)
     by_life (Ended e) g n = cc
 
 -- those that are awaited in the queue then are others
@@ -361,7 +361,7 @@ left_others requests (Ready link) ys p lo r q i =
     ((λ same. without_apart link.queue ys p lo (length requests) r (subst (λ n. IsIn n (awaited_ids (without link.queue p))) (sym same) i)), k.1, was)
 left_others requests Dialing ys p lo r q i = absurd i
 left_others requests (Wanting link) ys p lo r q i = absurd i
-left_others requests (SettingUp link with_user) ys p lo r q i = absurd i
+left_others requests (SettingUp link greeting) ys p lo r q i = absurd i
 left_others requests (Ended e) ys p lo r q i = absurd i
 
 -- the link is fit
@@ -373,11 +373,11 @@ left_fit c free requests (Wanting link) p is h = record {
   link = λ x e. cc;
   none = λ n. h.none (λ x e. (let no : Wanting link ≡ Ready x = sym is ∙ e in cc));
 }
-left_fit c free requests (SettingUp link with_user) p is h = record {
+left_fit c free requests (SettingUp link greeting) p is h = record {
   wanting = λ x e. cc;
-  setup = λ x u e. let same : link ≡ x = cc in subst (IsFit c.size c.boundary) same (h.setup link with_user is);
+  setup = λ x u e. let same : link ≡ x = cc in subst (IsFit c.size c.boundary) same (h.setup link greeting is);
   link = λ x e. cc;
-  none = λ n. h.none (λ x e. (let no : SettingUp link with_user ≡ Ready x = sym is ∙ e in cc));
+  none = λ n. h.none (λ x e. (let no : SettingUp link greeting ≡ Ready x = sym is ∙ e in cc));
 }
 left_fit c free requests (Ended y) p is h = record { wanting = λ x e. cc; setup = λ x u e. cc; link = λ x e. cc; none = λ n. h.none (λ x e. (let no : Ended y ≡ Ready x = sym is ∙ e in cc)) }
 left_fit c free requests (Ready link) p is h = record {
@@ -433,7 +433,7 @@ silent_numbers b c started word kind timeout story free life requests pending q 
 
 -- all other links stay unknown
 pub silent_others : (b : Book) (c : Core) (kind : EventKind) (timeout : Option ℕ) (m : ℕ) → IsSilent b c kind timeout → IsUnknown (b.link m) → IsUnknown (noted (b.link m) (hears c.turns (news_of b.timers b.sources m kind)))
-silent_others b c kind timeout m q u = subst (λ (x : News). IsUnknown (noted (b.link m) (hears c.turns x))) (sym (q.silent m)) (record { asked = u.asked; up = u.up; end = u.end; starts = u.starts; pushes = u.pushes })
+silent_others b c kind timeout m q u = subst (λ (x : News). IsUnknown (noted (b.link m) (hears c.turns x))) (sym (q.silent m)) (record { asked = u.asked; up = u.up; end = u.end; starts = u.starts; notices = u.notices })
 
 -- no link must end
 pub silent_ends : (b : Book) (c : Core) (kind : EventKind) (timeout : Option ℕ) → IsSilent b c kind timeout → NoneEnds b → (m : ℕ) → ending (noted (b.link m) (hears c.turns (news_of b.timers b.sources m kind))) ≡ None
@@ -453,7 +453,7 @@ still_tied b c started word kind timeout q same h =
     (tied_by (record now { story = b.story }) t (record ledger { heard = silence }) heard (record {
       numbers = silent_numbers b c started word kind timeout b.story conn.free conn.life conn.requests [] q h;
       others = λ m other. silent_others b c kind timeout m q (h.others m other);
-      pushes = h.pushes;
+      notices = h.notices;
       life = told_life ledger b.created conn.life silence h.life;
       creds = h.creds;
       count = counted_on c.sources ledger.creds h.count;
@@ -495,8 +495,8 @@ gone_tied b c started word p n h o named =
     subst (λ m. Tied (entered b (turn_of c word (event.Cancel m))) (seen (turned c (event.Cancel m)) [] (record (closed_conn conn p) { life = cancelled_in conn.life p }) [] started)) named
     (record {
       numbers = silent_numbers b c started word (event.Cancel own) c.timeout after free (cancelled_in conn.life p) requests [] (leave_silent b c word own started h) h;
-      others = λ m other. let u = h.others m other in record { asked = u.asked; up = u.up; end = u.end; starts = u.starts; pushes = u.pushes };
-      pushes = h.pushes;
+      others = λ m other. let u = h.others m other in record { asked = u.asked; up = u.up; end = u.end; starts = u.starts; notices = u.notices };
+      notices = h.notices;
       life = left_life ledger b.created conn.life p h.life;
       creds = left_creds ledger.creds conn.renewal.wanted conn.life p h.creds;
       count = counted_on c.sources ledger.creds h.count;

@@ -84,7 +84,7 @@ ended_waits story requests life e fresh moved h = record {
   early = h.early;
   connect = λ p w d. cc;
   creds = λ p link w s. cc;
-  setup = λ p link with_user w s. cc;
+  setup = λ p link greeting w s. cc;
   permit = λ p link w r. cc;
   place = h.place;
   room = λ p i. absurd i;
@@ -92,7 +92,7 @@ ended_waits story requests life e fresh moved h = record {
   rising = h.rising;
   no_connect = λ p i w d. cc;
   no_creds = λ p link i w s. cc;
-  no_setup = λ p link with_user i w s. cc;
+  no_setup = λ p link greeting i w s. cc;
   no_permit = λ p link i w r. cc;
   no_place = h.no_place;
   seatless = h.seatless;
@@ -117,13 +117,13 @@ close_tied b t created why e parting pending ids must is shown mild up h =
     tied_by after (record t { life = Ended e; pending = pending; untold = []; parting = parting }) (noted (b.link t.link) (ends turn)) (mine_noted (b.link t.link) t.link (ends turn)) (record {
       numbers = record { turns = h.numbers.turns; links = h.numbers.links; timers = h.numbers.timers; sources = h.numbers.sources; uses = h.numbers.uses; aims = h.numbers.aims; timed = h.numbers.timed; submissions = h.numbers.submissions; timeout = h.numbers.timeout; shut = h.numbers.shut; within = h.numbers.within; few = h.numbers.few; settings = record { size_is = h.numbers.settings.size_is; bound_is = h.numbers.settings.bound_is; limit_is = h.numbers.settings.limit_is; some = h.numbers.settings.some; limited = h.numbers.settings.limited }; one = h.numbers.one; only = h.numbers.only };
       others = others_kept b t.link (ends turn) h.others;
-      pushes = record {
-        heard_is = h.pushes.heard_is;
-        within = h.pushes.within;
-        untold_is = h.pushes.untold_is;
+      notices = record {
+        heard_is = h.notices.heard_is;
+        within = h.notices.within;
+        untold_is = h.notices.untold_is;
         parts = λ heard done cut. absurd (not_both (is_fault why) (mild heard done) (sym (ap (λ w. is_fault (ending_or_shutdown w)) must) ∙ cut));
         alive = λ none. cc;
-        due = λ parted. h.pushes.alive (lives (b.link t.link) b.created t.life h.life up);
+        due = λ parted. h.notices.alive (lives (b.link t.link) b.created t.life h.life up);
       };
       life = (refl, ends_owed (b.link t.link) turn why e must is, ends_failed (b.link t.link) turn created why must shown);
       creds = record { wanted_is = h.creds.wanted_is; sought = tt };
@@ -405,9 +405,9 @@ parts_may : (b : Book) (t : Inner) (e : RedisError) → Tied b t → t.life ≡ 
 parts_may b t e h over hears due cut =
     let a = after_end b t h (ap has_ended over) in
     record {
-      heard = h.pushes.heard_is ∙ hears;
+      heard = h.notices.heard_is ∙ hears;
       ended = cut;
-      once = h.pushes.due due;
+      once = h.notices.due due;
       bare = refl;
       in_order = λ m less other. absurd (not_both (is_cut (b.link m).end) (ap is_cut (h.others m (λ same. absurd (omega arith))).end) other);
       closed = a.0;
@@ -429,9 +429,9 @@ parted_holds before f w ids row queue started hears cut h =
     record {
       holds = sound_told before f w.acts (act.Push info) w.conn [] false ns started h.holds.stands (parts_may b t error.Closed h.holds.tied h.over hears refl cut)
           (push_tied b t info l.told true [] false refl (record {
-            heard_is = h.holds.tied.pushes.heard_is;
-            within = h.holds.tied.pushes.within;
-            untold_is = h.holds.tied.pushes.untold_is;
+            heard_is = h.holds.tied.notices.heard_is;
+            within = h.holds.tied.notices.within;
+            untold_is = h.holds.tied.notices.untold_is;
             parts = λ heard done was. refl;
             alive = λ none. absurd (not_both (is_cut l.end) (ap is_cut none) cut);
             due = λ no_more. cc;
@@ -489,7 +489,7 @@ ended_applied before f w e started began none_moved h = record {
   moved = none_moved;
   fit = record {
     wanting = λ link is. (let no : Ended e ≡ Wanting link = sym h.over ∙ is in cc);
-    setup = λ link with_user is. (let no : Ended e ≡ SettingUp link with_user = sym h.over ∙ is in cc);
+    setup = λ link greeting is. (let no : Ended e ≡ SettingUp link greeting = sym h.over ∙ is in cc);
     link = λ link is. (let no : Ended e ≡ Ready link = sym h.over ∙ is in cc);
     none = λ n. h.none_admitted;
   };

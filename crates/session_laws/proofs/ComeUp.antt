@@ -35,7 +35,7 @@ use Rattle.legal_trace.specs.Book.{Book, blank_book, book, entered, use_for, if_
 use Rattle.legal_trace.specs.Story.{Story}
 use Rattle.legal_trace.specs.Legal.{AllStand, MayBeCreated, is_heard, MayNeed}
 use Rattle.legal_trace.proofs.Setups.{ends_where_set, silent_is_set}
-use Rattle.session_laws.proofs.Tied.{AreSetups, AreQueued, HasCredentials, IsEntry, IsQueued, IsSettingUp, IsSetupDue, IsSetUp, Inner, Tied, TiedLines, TiedPushes, TiedWaits, has_ended, inner, link_in, no_link, owner_of, queue_ids, shown_wait, waiting_ids, AreSought, AreUses, HasSaid, sources_asked_in}
+use Rattle.session_laws.proofs.Tied.{AreSetups, AreQueued, HasCredentials, IsEntry, IsQueued, IsSettingUp, IsSetupDue, IsSetUp, Inner, Tied, TiedLines, TiedNotices, TiedWaits, has_ended, inner, link_in, no_link, owner_of, queue_ids, shown_wait, waiting_ids, AreSought, AreUses, HasSaid, sources_asked_in}
 use Rattle.session_laws.proofs.States.{Between, HasApplied, IsFit, IsFitIn}
 use Rattle.session_laws.proofs.Creds.{has_credentials, IsOfRenewals, down_sourced}
 use Rattle.session_laws.proofs.Said.{PushesOf, ending_setting, readied, setup_recredited, well_readied}
@@ -89,7 +89,7 @@ fresh_rises b t h =
 shown_early : (b : Book) (t : Inner) (p : ℕ) (life : Life) → Tied b t → t.fresh ≡ [] → t.life ≡ life → is_ready life ≡ false → has_ended life ≡ false → is_waiting_at t.requests p ≡ true → shown_wait b.story t.requests p ≡ Some (early_wait life)
 shown_early b t p Dialing h none e f g w = elim (h.waits.connect p w e) [ inl i ↦ absurd (subst (IsIn p) none i) | inr s ↦ s ]
 shown_early b t p (Wanting link) h none e f g w = elim (h.waits.creds p link w e) [ inl i ↦ absurd (subst (IsIn p) none i) | inr s ↦ s ]
-shown_early b t p (SettingUp link with_user) h none e f g w = elim (h.waits.setup p link with_user w e) [ inl i ↦ absurd (subst (IsIn p) none i) | inr s ↦ s ]
+shown_early b t p (SettingUp link greeting) h none e f g w = elim (h.waits.setup p link greeting w e) [ inl i ↦ absurd (subst (IsIn p) none i) | inr s ↦ s ]
 shown_early b t p (Ready link) h none e f g w = cc
 shown_early b t p (Ended x) h none e f g w = cc
 
@@ -154,7 +154,7 @@ pub record IsEarly (life : Life) (after : WaitKind) : Type 0 where
 early_started : (l : Ledger) (started : List ℕ) (life : Life) → is_ready life ≡ false → has_ended life ≡ false → HasSaid l started life → started ≡ []
 early_started l started Dialing unready alive h = h.1
 early_started l started (Wanting link) unready alive h = h.1
-early_started l started (SettingUp link with_user) unready alive h = h.0
+early_started l started (SettingUp link greeting) unready alive h = h.0
 early_started l started (Ready link) unready alive h = cc
 early_started l started (Ended e) unready alive h = cc
 
@@ -162,7 +162,7 @@ early_started l started (Ended e) unready alive h = cc
 pub early_sources : (c : Sourced) (life : Life) → is_ready life ≡ false → has_ended life ≡ false → AreSought c life → c.renews ≡ false
 early_sources c Dialing unready alive h = h.2
 early_sources c (Wanting link) unready alive h = h.3
-early_sources c (SettingUp link with_user) unready alive h = h.1
+early_sources c (SettingUp link greeting) unready alive h = h.1
 early_sources c (Ready link) unready alive h = cc
 early_sources c (Ended e) unready alive h = cc
 
@@ -173,7 +173,7 @@ pub record IsReadied (b : Book) (c : Core) (l : Ledger) (info : RedisConnectionI
   pub wanted_is : l.creds.wanted ≡ c.single.connection.renewal.wanted
   pub has : HasCredentials l.creds
   pub made : IsMade l b.created c.single.connection.requests link
-  pub pushes : TiedPushes (is_heard b) c.single.connection.hears l.pushes l.told l.end l.parted untold false
+  pub notices : TiedNotices (is_heard b) c.single.connection.hears l.notices l.told l.end l.parted untold false
 
 -- what the session needs of it, also where a second source is asked for
 readied_comes : (b : Book) (c : Core) (started : List ℕ) (n : News) (info : RedisConnectionInfo) (link : LinkState) (untold : List Heard) (more : Bool) → Tied b (inner c started) → IsFitIn c.single.connection → c.single.connection.fresh ≡ [] → (IsOfRenewals n → ⊥) → IsEarly c.single.connection.life wait.Permit
@@ -216,7 +216,7 @@ readied_comes b c started n info link untold more h0 fit no_fresh other early fa
       lines = bare_lines b.story conn.requests link conn.waiting conn.admitted started made.queue made.row (subst (λ (x : LinkState). TiedLines b.story conn.requests x conn.waiting conn.admitted [] started) early.bare h0.lines);
       told = λ z m told none. absurd (let q = subst (λ (x : LinkState). AreQueued b.story conn.requests x) early.bare (h0.told early.alive) m told none in q.3);
       waits = fresh_waits b (inner c started) conn.life (Ready link) h0 refl nobody no_fresh refl early.bare early.unready early.alive early.other made.queue;
-      pushes = facts.pushes;
+      notices = facts.notices;
     }
 
 -- the creation may be shown then
@@ -405,7 +405,7 @@ comes_ready : (before : List Action) (c : Core) (started : List ℕ) (word : ℕ
     → (let l = heard_by (book before) c n in IsUpNow l (book before).created c.single.connection info started link → HasCredentials l.creds → PushesOf (is_heard (book before)) c.single.connection.hears l → ((more : Bool) → ending_up (readied more l) n ≡ None)
     → says_nothing (setup info true) ≡ true
     → HasApplied (before ++ turn_of c word kind ∷ []) (with_work (record { core = turned c kind; acts = [] }) (made_ready (record { conn = record c.single.connection { info = info }; acts = [] }) link)) started)
-comes_ready before c started word kind n info link h good k is other early u has pushes calm nothing =
+comes_ready before c started word kind n info link h good k is other early u has notices calm nothing =
     let conn = record c.single.connection { info = info } in
     let l = heard_by (book before) c n in
     let more = c.single.connection.renewal.wanted in
@@ -413,7 +413,7 @@ comes_ready before c started word kind n info link h good k is other early u has
     let said : IsSetUp l = record { well = silent_is_set l (has_credentials l.creds has) silent; none = λ t. ap setup_count u.starts } in
     let made : IsMade l (book before).created conn.requests link = record { asked = u.asked; up = u.up; alive = u.alive; unshown = u.unshown; said = said; tied = u.tied (owner_of conn.requests); queue = u.queue; row = u.row } in
     ready_applied (before ++ turn_of c word kind ∷ []) (turned c kind) conn link (readied more l) started (λ z. absurd (omega arith)) h.moved u.fit (ends_where_set (readied more l) u.up (well_readied more l ∙ said.well) ∙ calm more)
-    (makes_ready before c started word kind n info link [] h good k is other early (record { info_is = u.info_is; sent = u.sent; wanted_is = u.wanted_is; has = has; made = made; pushes = pushes }))
+    (makes_ready before c started word kind n info link [] h good k is other early (record { info_is = u.info_is; sent = u.sent; wanted_is = u.wanted_is; has = has; made = made; notices = notices }))
 
 -- or its setup is to start
 comes_to_say : (before : List Action) (c : Core) (started : List ℕ) (word : ℕ) (kind : EventKind) (n : News) (info : RedisConnectionInfo) (link : LinkState) → Between before c started → is_bad c kind ≡ false → IsNewsKind c.timers kind → news_of c.timers c.sources c.single.link kind ≡ n
@@ -421,7 +421,7 @@ comes_to_say : (before : List Action) (c : Core) (started : List ℕ) (word : �
     → (let l = heard_by (book before) c n in IsUpNow l (book before).created c.single.connection info started link → HasCredentials l.creds → PushesOf (is_heard (book before)) c.single.connection.hears l → ending_unready l n ≡ None
     → says_nothing (setup info true) ≡ false
     → HasApplied (before ++ turn_of c word kind ∷ []) (with_work (record { core = turned c kind; acts = [] }) (sets_up (all_fresh (record { conn = record c.single.connection { info = info }; acts = [] })) link true)) started)
-comes_to_say before c started word kind n info link h good k is other early u has pushes calm something =
+comes_to_say before c started word kind n info link h good k is other early u has notices calm something =
     let b = book before in
     let h0 = h.sound.tied in
     let conn = c.single.connection in
@@ -459,7 +459,7 @@ comes_to_say before c started word kind n info link h good k is other early u ha
       lines = subst (λ (x : LinkState). TiedLines b.story conn.requests x conn.waiting conn.admitted [] started) early.bare h0.lines;
       told = λ z. subst (λ (x : LinkState). AreQueued b.story conn.requests x) early.bare (h0.told early.alive);
       waits = fresh_waits b (inner c started) conn.life life h0 refl nobody h.fresh refl early.bare early.unready early.alive early.other refl;
-      pushes = pushes;
+      notices = notices;
     })
     (ending_setting l next true u.up said ∙ calm)
     (record {
@@ -474,9 +474,9 @@ pub comes_up : (before : List Action) (c : Core) (started : List ℕ) (word : �
     → (IsOfRenewals n → ⊥) → IsEarly c.single.connection.life wait.Permit → IsEarly c.single.connection.life wait.Setup
     → (let l = heard_by (book before) c n in IsUpNow l (book before).created c.single.connection info started link → HasCredentials l.creds → PushesOf (is_heard (book before)) c.single.connection.hears l → ((more : Bool) → ending_up (readied more l) n ≡ None) × (ending_unready l n ≡ None)
     → HasApplied (before ++ turn_of c word kind ∷ []) (with_work (record { core = turned c kind; acts = [] }) (come_up (record { conn = record c.single.connection { info = info }; acts = [] }) link)) started)
-comes_up before c started word kind n info link h good k is other ready setting u has pushes calm =
+comes_up before c started word kind n info link h good k is other ready setting u has notices calm =
     let w : Work = record { conn = record c.single.connection { info = info }; acts = [] } in
     chosen (λ (x : Work). HasApplied (before ++ turn_of c word kind ∷ []) (with_work (record { core = turned c kind; acts = [] }) x) started) (says_nothing (steps_of w.conn true))
     (made_ready w link) (sets_up (all_fresh w) link true)
-    (λ t. comes_ready before c started word kind n info link h good k is other ready u has pushes calm.0 t)
-    (λ f. comes_to_say before c started word kind n info link h good k is other setting u has pushes calm.1 f)
+    (λ t. comes_ready before c started word kind n info link h good k is other ready u has notices calm.0 t)
+    (λ f. comes_to_say before c started word kind n info link h good k is other setting u has notices calm.1 f)

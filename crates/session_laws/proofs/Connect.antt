@@ -177,7 +177,7 @@ connected_wants before c started word kind h good k is e wants =
       lines = subst (λ (x : LinkState). TiedLines b.story conn.requests x conn.waiting conn.admitted [] started) early.bare h0.lines;
       told = λ z. subst (λ (x : LinkState). AreQueued b.story conn.requests x) early.bare (h0.told early.alive);
       waits = fresh_waits b (inner c started) conn.life life h0 refl nobody h.fresh refl early.bare early.unready early.alive early.other refl;
-      pushes = pushes_still before c started connected h (inl tt);
+      notices = pushes_still before c started connected h (inl tt);
     }) in
     let may : MayNeed now (length c.sources) mine = record {
       due = ap source_due own ∙ (λ i. u.up i && wanted_is i && (not (unasked i) || (is_set_up l && not l.creds.renews)));
@@ -225,9 +225,9 @@ connected_applied before c started word kind h good k is = by_life c.single.conn
     by_life (Wanting link) e =
         let s = wanting_tied (book before) (inner c started) link e h.sound.tied in
         again s.up s.alive (ending_wanting (record l { heard = connected }) s.up s.lacks)
-    by_life (SettingUp link with_user) e =
-        let s = setting_tied (book before) (inner c started) link with_user e h.sound.tied in
-        again s.up s.alive (setting_heard l connected link with_user s.up s.said)
+    by_life (SettingUp link greeting) e =
+        let s = setting_tied (book before) (inner c started) link greeting e h.sound.tied in
+        again s.up s.alive (setting_heard l connected link greeting s.up s.said)
     by_life (Ready link) e =
         let u = up_tied (book before) (inner c started) link e h.sound.tied in
         again u.up u.alive (ready_heard l connected u.up u.well)
@@ -271,7 +271,7 @@ refused_fails before c started word kind f h good k is e =
       lines = subst (λ (x : Life). TiedLines b.story conn.requests (link_in x) conn.waiting conn.admitted [] started) e h0.lines;
       told = λ n. cc;
       waits = ended_waits b.story conn.requests conn.life (error.Io f) conn.fresh conn.moved h0.waits;
-      pushes = pushes_still before c started (refused f) h (inl tt);
+      notices = pushes_still before c started (refused f) h (inl tt);
     }) in
     let book_is : book front ≡ now = book_more before (turn_of c word kind) ∙ heard_is b c.turns word kind (book_kind b c kind h0.numbers.timers k) in
     record {
@@ -314,9 +314,9 @@ refused_applied before c started word kind f h good k is = by_life c.single.conn
     by_life (Wanting link) e =
         let s = wanting_tied (book before) (inner c started) link e h.sound.tied in
         late s.up (ending_wanting (record l { heard = refused f }) s.up s.lacks)
-    by_life (SettingUp link with_user) e =
-        let s = setting_tied (book before) (inner c started) link with_user e h.sound.tied in
-        late s.up (setting_heard l (refused f) link with_user s.up s.said)
+    by_life (SettingUp link greeting) e =
+        let s = setting_tied (book before) (inner c started) link greeting e h.sound.tied in
+        late s.up (setting_heard l (refused f) link greeting s.up s.said)
     by_life (Ready link) e =
         let u = up_tied (book before) (inner c started) link e h.sound.tied in
         late u.up (ready_heard l (refused f) u.up u.well)
@@ -366,7 +366,7 @@ overdue_applied before c started word kind h good k is = by_life c.single.connec
         failing_applied (before ++ turn_of c word kind ∷ []) (turned c kind) (record { conn = c.single.connection; acts = act.Close ∷ [] }) (error.Io kinds.TimedOut) started (λ z. absurd (omega arith)) h.moved
         (overdue_fails before c started word kind h good k is e)
     by_life (Wanting link) e = wanting_overdue before c started word kind link h good k is e
-    by_life (SettingUp link with_user) e = setting_overdue before c started word kind link with_user h good k is e
+    by_life (SettingUp link greeting) e = setting_overdue before c started word kind link greeting h good k is e
     by_life (Ready link) e =
         let u = up_tied (book before) (inner c started) link e h.sound.tied in
         passed_over before c started word kind overdue h good k is refl (ready_heard ((book before).link c.single.link) overdue u.up u.well)

@@ -40,7 +40,7 @@ by_news before c started word kind heard n e h = subst (λ (x : News). HasApplie
 can_take : (life : Life) (count : ℕ) → exceeds_offer life count ≡ false → CanTake life count
 can_take Dialing count f = tt
 can_take (Wanting link) count f = not_lt_from link.outbox.offered count f
-can_take (SettingUp link with_user) count f = not_lt_from link.outbox.offered count f
+can_take (SettingUp link greeting) count f = not_lt_from link.outbox.offered count f
 can_take (Ready link) count f = not_lt_from link.outbox.offered count f
 can_take (Ended e) count f = tt
 

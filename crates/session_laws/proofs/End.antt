@@ -21,6 +21,7 @@ use Rattle.link_laws.proofs.Dealt.{all_append}
 use Rattle.link_laws.proofs.Once.{closed_ids, hit_ids}
 use Rattle.link_laws.proofs.Settles.{row_hit_owed, row_closed_owed}
 use Rattle.link_laws.proofs.TiedLink.{TiedLink}
+use Rattle.mux_conn.specs.declared.life.Greeting.{Greeting}
 use Rattle.mux_conn.specs.declared.life.Life.{Life}
 use Rattle.mux_conn.specs.declared.life.Life.TheVariants.{Dialing, Wanting, SettingUp, Ready, Ended}
 use Rattle.mux_conn.specs.Connection.{Work}
@@ -118,7 +119,7 @@ wanting_tied b t link is h =
     }
 
 -- a link that is set up, with its ledger
-pub record IsSetting (l : Ledger) (created : ℕ) (started : List ℕ) (link : LinkState) (with_user : Bool) : Type 0 where
+pub record IsSetting (l : Ledger) (created : ℕ) (started : List ℕ) (link : LinkState) (greeting : Greeting) : Type 0 where
   pub asked : l.asked ≡ true
   pub up : l.up ≡ true
   pub alive : l.end ≡ None
@@ -126,12 +127,12 @@ pub record IsSetting (l : Ledger) (created : ℕ) (started : List ℕ) (link : L
   pub has : HasCredentials l.creds
   pub once : l.creds.renews ≡ false
   pub none : started ≡ []
-  pub said : IsSettingUp l link with_user
+  pub said : IsSettingUp l link greeting
   pub tied : TiedLink (λ p. owner.Setup) l link
 
 -- so it is while the connection says so
-pub setting_tied : (b : Book) (t : Inner) (link : LinkState) (with_user : Bool) → t.life ≡ SettingUp link with_user → Tied b t → IsSetting (b.link t.link) b.created t.started link with_user
-setting_tied b t link with_user is h =
+pub setting_tied : (b : Book) (t : Inner) (link : LinkState) (greeting : Greeting) → t.life ≡ SettingUp link greeting → Tied b t → IsSetting (b.link t.link) b.created t.started link greeting
+setting_tied b t link greeting is h =
     let l = b.link t.link in
     let lived = subst (λ (x : Life). TiedLife l b.created x) is h.life in
     let said = subst (λ (x : Life). HasSaid l t.started x) is h.setup.said in
@@ -207,29 +208,29 @@ pub plain_begins : (before : List Action) (c : Core) (started : List ℕ) (word 
 plain_begins before c started word kind n p h good k is = heard_begins before c started word kind n c.single.connection.life [] h good k is (plain_leads before c started n p h)
 
 -- a link that is set up still isn't ready
-pub setting_unready : (b : Book) (t : Inner) (link : LinkState) (with_user : Bool) → t.life ≡ SettingUp link with_user → Tied b t → IsUnready b.created t.life t.started
-setting_unready b t link with_user e h = let s = setting_tied b t link with_user e h in record { bare = ap link_in e; none = s.none; unshown = s.unshown }
+pub setting_unready : (b : Book) (t : Inner) (link : LinkState) (greeting : Greeting) → t.life ≡ SettingUp link greeting → Tied b t → IsUnready b.created t.life t.started
+setting_unready b t link greeting e h = let s = setting_tied b t link greeting e h in record { bare = ap link_in e; none = s.none; unshown = s.unshown }
 
 -- nor is one that waits for credentials
 pub wanting_unready : (b : Book) (t : Inner) (link : LinkState) → t.life ≡ Wanting link → Tied b t → IsUnready b.created t.life t.started
 wanting_unready b t link e h = let s = wanting_tied b t link e h in record { bare = ap link_in e; none = s.none; unshown = s.unshown }
 
 -- a link that is set up fails by news that leave its ledger
-plain_fails : (before : List Action) (c : Core) (started : List ℕ) (n : News) (x : RedisError) (link : LinkState) (with_user : Bool) → Between before c started → c.single.connection.life ≡ SettingUp link with_user
+plain_fails : (before : List Action) (c : Core) (started : List ℕ) (n : News) (x : RedisError) (link : LinkState) (greeting : Greeting) → Between before c started → c.single.connection.life ≡ SettingUp link greeting
     → (let l = record ((book before).link c.single.link) { heard = n } in ending_unready l n ≡ Some (by_opening x)) → Fails (record ((book before).link c.single.link) { heard = n }) c.single.connection.info c.single.connection.renewal.wanted (is_heard (book before)) c.single.connection.hears x
-plain_fails before c started n x link with_user h e is =
+plain_fails before c started n x link greeting h e is =
     let b = book before in
     let l = b.link c.single.link in
-    let s = setting_tied b (inner c started) link with_user e h.sound.tied in
+    let s = setting_tied b (inner c started) link greeting e h.sound.tied in
     record {
       alive = s.alive;
-      unready = (not_set_up (record l { heard = n }) link with_user (setting_told l n link with_user s.said)).unwell;
-      must = setting_heard l n link with_user s.up s.said ∙ is;
+      unready = (not_set_up (record l { heard = n }) link greeting (setting_told l n link greeting s.said)).unwell;
+      must = setting_heard l n link greeting s.up s.said ∙ is;
       info_is = h.sound.tied.setup.info_is;
       wanted_is = h.sound.tied.creds.wanted_is;
-      sourced = has_sourced (record l { heard = n }) s.has (not_set_up (record l { heard = n }) link with_user (setting_told l n link with_user s.said)).unwell;
+      sourced = has_sourced (record l { heard = n }) s.has (not_set_up (record l { heard = n }) link greeting (setting_told l n link greeting s.said)).unwell;
       sent = h.sound.tied.setup.sent;
-      pushes = h.sound.tied.pushes;
+      notices = h.sound.tied.notices;
     }
 
 -- and so does one that waits for credentials
@@ -247,7 +248,7 @@ wanting_fails before c started n x link h e is =
       wanted_is = h.sound.tied.creds.wanted_is;
       sourced = asked_sourced (record l { heard = n }) s.sought.1 (inl (lacking_undecided (record l { heard = n }) s.lacks).unwell);
       sent = h.sound.tied.setup.sent;
-      pushes = h.sound.tied.pushes;
+      notices = h.sound.tied.notices;
     }
 
 -- a fault, or the peer's end
@@ -258,9 +259,9 @@ failed_applied before c started word kind f h good k is = by_life c.single.conne
     by_life : (x : Life) → c.single.connection.life ≡ x → HasApplied (before ++ turn_of c word kind ∷ []) (with_work (record { core = turned c kind; acts = [] }) (failed_at (record { conn = c.single.connection; acts = [] }) f x)) started
     by_life Dialing e = dialing_quiet before c started word kind (failed f) tt h good k is e
     by_life (Ended x) e = ended_quiet before c started word kind (failed f) x h good k is e
-    by_life (SettingUp link with_user) e =
-        setup_failed before c started word kind (failed f) error.Closed h good k is (setting_unready (book before) (inner c started) link with_user e h.sound.tied)
-        (plain_fails before c started (failed f) error.Closed link with_user h e refl)
+    by_life (SettingUp link greeting) e =
+        setup_failed before c started word kind (failed f) error.Closed h good k is (setting_unready (book before) (inner c started) link greeting e h.sound.tied)
+        (plain_fails before c started (failed f) error.Closed link greeting h e refl)
     by_life (Wanting link) e =
         setup_failed before c started word kind (failed f) error.Closed h good k is (wanting_unready (book before) (inner c started) link e h.sound.tied)
         (wanting_fails before c started (failed f) error.Closed link h e refl)
@@ -274,12 +275,12 @@ failed_applied before c started word kind f h good k is = by_life c.single.conne
         (fault_ends (before ++ turn_of c word kind ∷ []) (turned c kind) (record { conn = c.single.connection; acts = [] }) link f started begins.holds e must)
 
 -- the time of the opening is over while the link is set up
-pub setting_overdue : (before : List Action) (c : Core) (started : List ℕ) (word : ℕ) (kind : EventKind) (link : LinkState) (with_user : Bool) → Between before c started → is_bad c kind ≡ false → IsNewsKind c.timers kind → news_of c.timers c.sources c.single.link kind ≡ overdue
-    → c.single.connection.life ≡ SettingUp link with_user
-    → HasApplied (before ++ turn_of c word kind ∷ []) (with_work (record { core = turned c kind; acts = [] }) (overdue_at (record { conn = c.single.connection; acts = [] }) (SettingUp link with_user))) started
-setting_overdue before c started word kind link with_user h good k is e =
+pub setting_overdue : (before : List Action) (c : Core) (started : List ℕ) (word : ℕ) (kind : EventKind) (link : LinkState) (greeting : Greeting) → Between before c started → is_bad c kind ≡ false → IsNewsKind c.timers kind → news_of c.timers c.sources c.single.link kind ≡ overdue
+    → c.single.connection.life ≡ SettingUp link greeting
+    → HasApplied (before ++ turn_of c word kind ∷ []) (with_work (record { core = turned c kind; acts = [] }) (overdue_at (record { conn = c.single.connection; acts = [] }) (SettingUp link greeting))) started
+setting_overdue before c started word kind link greeting h good k is e =
     let x = error.Io kinds.TimedOut in
-    setup_failed before c started word kind overdue x h good k is (setting_unready (book before) (inner c started) link with_user e h.sound.tied) (plain_fails before c started overdue x link with_user h e refl)
+    setup_failed before c started word kind overdue x h good k is (setting_unready (book before) (inner c started) link greeting e h.sound.tied) (plain_fails before c started overdue x link greeting h e refl)
 
 -- or while it waits for credentials
 pub wanting_overdue : (before : List Action) (c : Core) (started : List ℕ) (word : ℕ) (kind : EventKind) (link : LinkState) → Between before c started → is_bad c kind ≡ false → IsNewsKind c.timers kind → news_of c.timers c.sources c.single.link kind ≡ overdue
@@ -336,9 +337,9 @@ shut_applied before c started word kind h good k is = by_life c.single.connectio
     by_life (Wanting link) e =
         let s = wanting_tied (book before) (inner c started) link e h.sound.tied in
         bare (Wanting link) e refl refl (ending_wanting (record l { heard = shut }) s.up s.lacks)
-    by_life (SettingUp link with_user) e =
-        let s = setting_tied (book before) (inner c started) link with_user e h.sound.tied in
-        bare (SettingUp link with_user) e refl refl (setting_heard l shut link with_user s.up s.said)
+    by_life (SettingUp link greeting) e =
+        let s = setting_tied (book before) (inner c started) link greeting e h.sound.tied in
+        bare (SettingUp link greeting) e refl refl (setting_heard l shut link greeting s.up s.said)
     by_life (Ready link) e =
         let u = up_tied (book before) (inner c started) link e h.sound.tied in
         let must = ap ending begins.ledger ∙ ready_heard l shut u.up u.well in

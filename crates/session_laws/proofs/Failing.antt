@@ -113,7 +113,7 @@ pub record Fails (l : Ledger) (info : RedisConnectionInfo) (wants heard mine : B
   pub wanted_is : l.creds.wanted ≡ wants
   pub sourced : source_due l ≡ false
   pub sent : AreSetups l
-  pub pushes : PushesOf heard mine l
+  pub notices : PushesOf heard mine l
 
 -- a connection whose link is up and not set up, so that no message of a request has started
 pub record IsUnready (created : ℕ) (life : Life) (started : List ℕ) : Type 0 where
@@ -154,13 +154,13 @@ setup_fails before c started word kind n x h good k is u fails =
       lines = subst (λ (y : LinkState). TiedLines b.story conn.requests y conn.waiting conn.admitted [] started) u.bare h0.lines;
       told = λ z. cc;
       waits = ended_waits b.story conn.requests conn.life x conn.fresh conn.moved h0.waits;
-      pushes = record {
-        heard_is = fails.pushes.heard_is;
-        within = fails.pushes.within;
-        untold_is = fails.pushes.untold_is;
+      notices = record {
+        heard_is = fails.notices.heard_is;
+        within = fails.notices.within;
+        untold_is = fails.notices.untold_is;
         parts = λ heard done cut. absurd (not_both (is_fault (by_opening x)) refl (sym (ap (λ w. is_fault (ending_or_shutdown w)) fails.must) ∙ cut));
         alive = λ none. cc;
-        due = fails.pushes.due;
+        due = fails.notices.due;
       };
     }) in
     let first : book (trace_of_acts front f []) ≡ now = first_book before (turn_of c word kind) f ∙ heard_is b c.turns word kind (book_kind b c kind h0.numbers.timers k) in
@@ -178,8 +178,8 @@ setup_fails before c started word kind n x h good k is u fails =
           (λ same. subst (λ i. source_due (now.link i) ≡ false) (sym (eq_from m c.single.link same)) (ap source_due own ∙ fails.sourced))
           (λ other. down_sourced (now.link m) (others m (ne_from m c.single.link other)).up);
       pushed = λ m heard. by_test (m == c.single.link) _
-          (λ same. subst (λ i. next_push (now.link i) ≡ None) (sym (eq_from m c.single.link same)) (ap next_push own ∙ get_behind l.told l.pushes (fails.pushes.untold_is (sym fails.pushes.heard_is ∙ heard))))
-          (λ other. ap (λ (hs : List Heard). slice_get hs (now.link m).told) (others m (ne_from m c.single.link other)).pushes);
+          (λ same. subst (λ i. next_push (now.link i) ≡ None) (sym (eq_from m c.single.link same)) (ap next_push own ∙ get_behind l.told l.notices (fails.notices.untold_is (sym fails.notices.heard_is ∙ heard))))
+          (λ other. ap (λ (hs : List Heard). slice_get hs (now.link m).told) (others m (ne_from m c.single.link other)).notices);
     } in
     record {
       stands = subst (AllStand blank_book) (sym shown) (all_stand-append (trace_of_acts front f []) (close ∷ []) all (subst (λ (y : Book). MayClose y c.single.link) (sym first) may, tt));

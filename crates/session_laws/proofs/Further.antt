@@ -203,7 +203,7 @@ owners_of_row requests more (e ∷ es) longer all = (sym (owner_longer requests 
 pub link_longer : (l : Ledger) (requests more : List Request) (life : Life) → IsLonger requests more → AllByRecursion (IsEntry requests) (link_in life).row → TiedLink (carried life requests) l (whole_link life) → TiedLink (carried life more) l (whole_link life)
 link_longer l requests more Dialing longer all h = named_tied (owner_of requests) (owner_of more) l no_link tt h
 link_longer l requests more (Wanting link) longer all h = h
-link_longer l requests more (SettingUp link with_user) longer all h = h
+link_longer l requests more (SettingUp link greeting) longer all h = h
 link_longer l requests more (Ready link) longer all h = named_tied (owner_of requests) (owner_of more) l link (owners_of_row requests more link.row longer all) h
 link_longer l requests more (Ended e) longer all h = named_tied (owner_of requests) (owner_of more) l no_link tt h
 

@@ -94,7 +94,7 @@ given_up before c started word kind a link h good k is e =
     let same = given_is before c started a link h e in
     comes_up before c started word kind (authorized a) (said_by conn.info a) link h good k is (λ x. x) (early_wanting conn.life wait.Permit link e (λ x. cc)) (early_wanting conn.life wait.Setup link e (λ x. cc)) (given_now before c started a link h e)
     (inr (ap (λ (x : Ledger). x.creds.asked) same ∙ s.sought.1, ap (λ (x : Ledger). x.creds.given) same))
-    (subst (λ (x : Ledger). PushesOf (is_heard b) conn.hears x) (sym same) h.sound.tied.pushes) (λ more. refl, refl)
+    (subst (λ (x : Ledger). PushesOf (is_heard b) conn.hears x) (sym same) h.sound.tied.notices) (λ more. refl, refl)
 
 -- credentials come
 pub authorized_applied : (before : List Action) (c : Core) (started : List ℕ) (word : ℕ) (kind : EventKind) (a : Credentials) → Between before c started → is_bad c kind ≡ false → IsNewsKind c.timers kind → news_of c.timers c.sources c.single.link kind ≡ authorized a
@@ -111,9 +111,9 @@ authorized_applied before c started word kind a h good k is = by_life c.single.c
     by_life : (x : Life) → c.single.connection.life ≡ x → HasApplied (before ++ turn_of c word kind ∷ []) (with_work (record { core = turned c kind; acts = [] }) (authorized_at (record { conn = c.single.connection; acts = [] }) a x)) started
     by_life Dialing e = dialing_quiet before c started word kind (authorized a) tt h good k is e
     by_life (Wanting link) e = given_up before c started word kind a link h good k is e
-    by_life (SettingUp link with_user) e =
-        let s = setting_tied (book before) (inner c started) link with_user e h.sound.tied in
-        late (has_credentials l.creds s.has) (setting_heard l (authorized a) link with_user s.up s.said)
+    by_life (SettingUp link greeting) e =
+        let s = setting_tied (book before) (inner c started) link greeting e h.sound.tied in
+        late (has_credentials l.creds s.has) (setting_heard l (authorized a) link greeting s.up s.said)
     by_life (Ready link) e =
         let u = up_tied (book before) (inner c started) link e h.sound.tied in
         late (has_credentials l.creds u.has) (ready_heard l (authorized a) u.up u.well)
@@ -144,9 +144,9 @@ denied_applied before c started word kind n x d h good k is = by_life c.single.c
     by_life : (y : Life) → c.single.connection.life ≡ y → HasApplied (before ++ turn_of c word kind ∷ []) (with_work (record { core = turned c kind; acts = [] }) (unauthorized_at (record { conn = c.single.connection; acts = [] }) x y)) started
     by_life Dialing e = dialing_quiet before c started word kind n d.apart h good k is e
     by_life (Wanting link) e = denied_fails before c started word kind n x link d h good k is e
-    by_life (SettingUp link with_user) e =
-        let s = setting_tied (book before) (inner c started) link with_user e h.sound.tied in
-        late (setting_heard l n link with_user s.up s.said ∙ d.ends told ∙ left_if (lacks_credentials l) (Some (by_opening x)) None (has_credentials l.creds s.has))
+    by_life (SettingUp link greeting) e =
+        let s = setting_tied (book before) (inner c started) link greeting e h.sound.tied in
+        late (setting_heard l n link greeting s.up s.said ∙ d.ends told ∙ left_if (lacks_credentials l) (Some (by_opening x)) None (has_credentials l.creds s.has))
     by_life (Ready link) e =
         let u = up_tied (book before) (inner c started) link e h.sound.tied in
         late (ready_heard l n u.up u.well ∙ d.calm told)

@@ -13,6 +13,7 @@ use Rattle.mux_conn.specs.Connection.{has_no_permit, in_front, is_due as is_rene
 use Rattle.mux_conn.specs.Effects.{setup_queued}
 use Rattle.mux_conn.specs.Requests.{name_at}
 use Rattle.mux_conn.specs.declared.renewal.Renewal.{Renewal}
+use Rattle.mux_conn.specs.declared.life.Greeting.{Greeting}
 use Rattle.mux_conn.specs.declared.life.Life.{Life}
 use Rattle.mux_conn.specs.declared.life.Life.TheVariants.{Dialing, Ended, Ready, SettingUp, Wanting}
 use Rattle.legal_trace.specs.Book.{Book, blank_book, book, entered, if_mine}
@@ -57,7 +58,7 @@ pub applied_up : (b : Book) (t : Inner) → Tied b t → t.pending ≡ [] → Is
 applied_up b t h none told up ended = record { answered = none_owed b t h none up; ended = ended; created = created_is b t h; pushed = pushes_told b t h told.0; parted = ends_told b t h told.1; sourced = sources_asked b t h; timed = h.numbers.timed }
 
 -- each setup has started that is to start, but where its link is held back, where it is so of the link of the session
-pub setups_started : (b : Book) (t : Inner) → Tied b t → ((link : LinkState) (with_user : Bool) → t.life ≡ SettingUp link with_user → (setup_due (b.link t.link) ≡ None) ⊎ (is_held_back b (b.link t.link) ≡ true)) → SetupsAreStarted b
+pub setups_started : (b : Book) (t : Inner) → Tied b t → ((link : LinkState) (greeting : Greeting) → t.life ≡ SettingUp link greeting → (setup_due (b.link t.link) ≡ None) ⊎ (is_held_back b (b.link t.link) ≡ true)) → SetupsAreStarted b
 setups_started b t h mine m k due = by_test (m == t.link) _
     (λ same. subst (λ n. is_held_back b (b.link n) ≡ true) (sym (eq_from m t.link same)) (by_life t.life refl (subst (λ n. setup_due (b.link n) ≡ Some k) (eq_from m t.link same) due)))
     (λ other. absurd (undue (b.link m) (down_undue (b.link m) (h.others m (ne_from m t.link other)).up) due))
@@ -72,15 +73,15 @@ setups_started b t h mine m k due = by_test (m == t.link) _
         let said : HasSaid l t.started (Wanting link) = subst (HasSaid l t.started) e h.setup.said in
         let lacks : lacks_credentials l ≡ true = wanting_lacks l.creds link (subst (AreSought l.creds) e h.creds.sought) in
         absurd (undue l (none_due l (lacking_undue l lacks said.0)) d)
-    by_life (SettingUp link with_user) e d = elim (mine link with_user e) [ inl none ↦ absurd (undue (b.link t.link) none d) | inr held ↦ held ]
+    by_life (SettingUp link greeting) e d = elim (mine link greeting e) [ inl none ↦ absurd (undue (b.link t.link) none d) | inr held ↦ held ]
     by_life (Ready link) e d =
         let said : IsSetUp (b.link t.link) = subst (HasSaid (b.link t.link) t.started) e h.setup.said in
         absurd (undue (b.link t.link) (none_due (b.link t.link) (set_up_undue (b.link t.link) said)) d)
     by_life (Ended x) e d = absurd (undue (b.link t.link) (down_undue (b.link t.link) (subst (TiedLife (b.link t.link) b.created) e h.life).0) d)
 
 -- what is ready isn't being set up
-ready_not_setting : (life : Life) (link : LinkState) (with_user : Bool) → is_ready life ≡ true → life ≡ SettingUp link with_user → ⊥
-ready_not_setting life link with_user r e = not_both (is_ready life) (ap is_ready e) r
+ready_not_setting : (life : Life) (link : LinkState) (greeting : Greeting) → is_ready life ≡ true → life ≡ SettingUp link greeting → ⊥
+ready_not_setting life link greeting r e = not_both (is_ready life) (ap is_ready e) r
 
 -- new credentials
 --
@@ -116,7 +117,7 @@ renewals_timed b t h asked m some = by_test (m == t.link) _
         let r = subst (TiedRenewal l t.renewal) e h.renewal in
         let k = undue_asked l (none_renewed_due l t.renewal r) in
         omega (arith, r.unstarted)
-    by_life (SettingUp link with_user) e =
+    by_life (SettingUp link greeting) e =
         let r = subst (TiedRenewal l t.renewal) e h.renewal in
         let k = undue_asked l (none_renewed_due l t.renewal r) in
         omega (arith, r.unstarted)
@@ -141,7 +142,7 @@ renewals_started b t h bound renewed m c due = by_test (m == t.link) _
     by_life : (life : Life) → t.life ≡ life → renewal_due (b.link t.link) ≡ Some c → is_held_back b (b.link t.link) ≡ true
     by_life Dialing e d = absurd (no_due (b.link t.link) (down_renewed_due (b.link t.link) (subst (TiedLife (b.link t.link) b.created) e h.life).1) d)
     by_life (Wanting link) e d = let r = subst (TiedRenewal (b.link t.link) t.renewal) e h.renewal in absurd (no_due (b.link t.link) (none_renewed_due (b.link t.link) t.renewal r) d)
-    by_life (SettingUp link with_user) e d = let r = subst (TiedRenewal (b.link t.link) t.renewal) e h.renewal in absurd (no_due (b.link t.link) (none_renewed_due (b.link t.link) t.renewal r) d)
+    by_life (SettingUp link greeting) e d = let r = subst (TiedRenewal (b.link t.link) t.renewal) e h.renewal in absurd (no_due (b.link t.link) (none_renewed_due (b.link t.link) t.renewal r) d)
     by_life (Ready link) e d =
         let l = b.link t.link in
         let r = subst (TiedRenewal l t.renewal) e h.renewal in
@@ -154,7 +155,7 @@ renewals_started b t h bound renewed m c due = by_test (m == t.link) _
 pub begun_up : (b : Book) (t : Inner) → Tied b t → IsRunning t → IsToldIn t → NoneEnds b → HasRenewed t.renewal t.life → IsBegun b
 begun_up b t h r told ended renewed = record {
   applied = applied_up b t h r.settled told (ready_alive t.life r.up) ended;
-  setups = setups_started b t h (λ link with_user e. absurd (ready_not_setting t.life link with_user r.up e));
+  setups = setups_started b t h (λ link greeting e. absurd (ready_not_setting t.life link greeting r.up e));
   timed = renewals_timed b t h (λ link e due. (renewed link e due).0);
   renewed = renewals_started b t h (λ link e. ap (λ (x : Life). (link_in x).boundary) (sym e) ∙ r.fit.bound_is) renewed;
 }
@@ -248,7 +249,7 @@ down_moves_none b t h down n m =
 dialing_down : (l : Ledger) (created : ℕ) (life : Life) → life ≡ Dialing → TiedLife l created life → l.up ≡ false
 dialing_down l created Dialing e h = h.1
 dialing_down l created (Wanting link) e h = cc
-dialing_down l created (SettingUp link with_user) e h = cc
+dialing_down l created (SettingUp link greeting) e h = cc
 dialing_down l created (Ready link) e h = cc
 dialing_down l created (Ended x) e h = cc
 
@@ -259,21 +260,21 @@ wanting_moves_none b t link h e n m =
     not_both (is_due (next_step b n)) (ap (λ k. is_due (next_step b k)) (sym a.name) ∙ ap is_due (creds_step b t a.p link h e a.within)) m.due
 
 -- nor does one on a link that isn't set up
-setting_moves_none : (b : Book) (t : Inner) (link : LinkState) (with_user : Bool) → Tied b t → t.life ≡ SettingUp link with_user → (n : ℕ) → CanMove b n → ⊥
-setting_moves_none b t link with_user h e n m =
+setting_moves_none : (b : Book) (t : Inner) (link : LinkState) (greeting : Greeting) → Tied b t → t.life ≡ SettingUp link greeting → (n : ℕ) → CanMove b n → ⊥
+setting_moves_none b t link greeting h e n m =
     let a = alive_behind b t n h (unstarted_alive (b.story n) m.unstarted) in
-    not_both (is_due (next_step b n)) (ap (λ k. is_due (next_step b k)) (sym a.name) ∙ ap is_due (setup_step b t a.p link with_user h e a.within)) m.due
+    not_both (is_due (next_step b n)) (ap (λ k. is_due (next_step b k)) (sym a.name) ∙ ap is_due (setup_step b t a.p link greeting h e a.within)) m.due
 
 -- the setup of a link is to start no more, or is held back
-setting_done : (b : Book) (t : Inner) (link : LinkState) (with_user : Bool) → Tied b t → t.life ≡ SettingUp link with_user → IsFit t.size t.bound link → (link.queue ≡ []) ⊎ (holds_back link ≡ true) → (setup_due (b.link t.link) ≡ None) ⊎ (is_held_back b (b.link t.link) ≡ true)
-setting_done b t link with_user h e fit held =
+setting_done : (b : Book) (t : Inner) (link : LinkState) (greeting : Greeting) → Tied b t → t.life ≡ SettingUp link greeting → IsFit t.size t.bound link → (link.queue ≡ []) ⊎ (holds_back link ≡ true) → (setup_due (b.link t.link) ≡ None) ⊎ (is_held_back b (b.link t.link) ≡ true)
+setting_done b t link greeting h e fit held =
     let l = b.link t.link in
     let said = (subst (HasSaid l t.started) e h.setup.said).1 in
     let tied : TiedLink (λ (p : ℕ). owner.Setup) l link = subst (λ (x : Life). TiedLink (carried x t.requests) l (whole_link x)) e (h.link (ap has_ended e)) in
     elim held [
       | inl empty ↦ elim said.stage [
-        | inl due ↦ absurd (let no : [] ≡ setup_queued (setup_steps l (setup_count l.starts)) with_user ∷ [] = sym empty ∙ due.queue in cc)
-        | inr sent ↦ inl (none_due l (sent_undue l link with_user sent))
+        | inl due ↦ absurd (let no : [] ≡ setup_queued (setup_steps l (setup_count l.starts)) greeting ∷ [] = sym empty ∙ due.queue in cc)
+        | inr sent ↦ inl (none_due l (sent_undue l link greeting sent))
       ]
       | inr stuck ↦ inr (held_by b t (λ (p : ℕ). owner.Setup) link h.numbers fit.bound_is tied ∙ stuck)
     ]
@@ -302,12 +303,12 @@ up_moves_none b t h r nobody still full none n m =
 pub is_moved : (b : Book) (t : Inner) → Tied b t → t.pending ≡ [] → IsToldIn t → t.letting ≡ [] → NoneEnds b → ((link : LinkState) → t.life ≡ Ready link → IsFit t.size t.bound link) → (((link : LinkState) → t.life ≡ Ready link → ⊥) → t.admitted ≡ [])
     → ((link : LinkState) → t.life ≡ Ready link → (link.queue ≡ []) ⊎ (holds_back link ≡ true)) → ((link : LinkState) → t.life ≡ Ready link → (t.admitted ≡ []) ⊎ (is_full_beside link (in_front t.renewal) ≡ true))
     → ((link : LinkState) → t.life ≡ Ready link → (t.waiting ≡ []) ⊎ (has_no_permit t.limit t.free ≡ true)) → (has_ended t.life ≡ true → t.waiting ≡ [])
-    → ((link : LinkState) (with_user : Bool) → t.life ≡ SettingUp link with_user → IsFit t.size t.bound link) → ((link : LinkState) (with_user : Bool) → t.life ≡ SettingUp link with_user → (link.queue ≡ []) ⊎ (holds_back link ≡ true))
+    → ((link : LinkState) (greeting : Greeting) → t.life ≡ SettingUp link greeting → IsFit t.size t.bound link) → ((link : LinkState) (greeting : Greeting) → t.life ≡ SettingUp link greeting → (link.queue ≡ []) ⊎ (holds_back link ≡ true))
     → HasSeats t.moved (in_front t.renewal) (link_in t.life) t.size → HasRenewed t.renewal t.life → IsMoved b
 is_moved b t h none told alone ends fit nobody held full stuck gone setup_fit setup_held seats renewed = by_life t.life refl
   where
     setups : SetupsAreStarted b
-    setups = setups_started b t h (λ link with_user e. setting_done b t link with_user h e (setup_fit link with_user e) (setup_held link with_user e))
+    setups = setups_started b t h (λ link greeting e. setting_done b t link greeting h e (setup_fit link greeting e) (setup_held link greeting e))
 
     timed : RenewalsAreTimed b
     timed = renewals_timed b t h (λ link e due. (renewed link e due).0)
@@ -324,9 +325,9 @@ is_moved b t h none told alone ends fit nobody held full stuck gone setup_fit se
       begun = record { applied = applied_up b t h none told (ap has_ended e) ends; setups = setups; timed = timed; renewed = told_all };
       moved = wanting_moves_none b t link h e;
     }
-    by_life (SettingUp link with_user) e = record {
+    by_life (SettingUp link greeting) e = record {
       begun = record { applied = applied_up b t h none told (ap has_ended e) ends; setups = setups; timed = timed; renewed = told_all };
-      moved = setting_moves_none b t link with_user h e;
+      moved = setting_moves_none b t link greeting h e;
     }
     by_life (Ready link) e =
         let here : link_in t.life ≡ link = ap link_in e in

@@ -30,6 +30,7 @@ use Rattle.link_core.specs.Link.{LinkState, closed_all, faulted, holds_back, sta
 use Rattle.link_core.specs.Outbox.{can_offer}
 use Rattle.mux_conn.specs.declared.act.LinkAct.TheVariants as act
 use Rattle.mux_conn.specs.declared.connection.MultiplexedConnection.{MultiplexedConnection}
+use Rattle.mux_conn.specs.declared.life.Greeting.{Greeting}
 use Rattle.mux_conn.specs.declared.life.Life.{Life}
 use Rattle.mux_conn.specs.declared.life.Life.TheVariants.{Dialing, Wanting, SettingUp, Ready, Ended}
 use Rattle.mux_conn.specs.declared.request.Pending.{Pending}
@@ -110,7 +111,7 @@ come_asked n w link h = chosen (HasAsked n) (says_nothing (steps_of w.conn true)
 connected_asked : (n : ℕ) (w : Work) (life : Life) → HasAsked n w → HasAsked n (connected_at w life)
 connected_asked n w Dialing h = chosen (HasAsked n) w.conn.renewal.wanted (comes_to_want w (new_link w.conn)) (come_up w (new_link w.conn)) (λ t. h) (λ f. come_asked n w (new_link w.conn) h)
 connected_asked n w (Wanting link) h = h
-connected_asked n w (SettingUp link with_user) h = h
+connected_asked n w (SettingUp link greeting) h = h
 connected_asked n w (Ready link) h = h
 connected_asked n w (Ended e) h = h
 
@@ -118,7 +119,7 @@ connected_asked n w (Ended e) h = h
 authorized_asked : (n : ℕ) (w : Work) (c : Credentials) (life : Life) → HasAsked n w → HasAsked n (authorized_at w c life)
 authorized_asked n w c (Wanting link) h = come_asked n (with_credentials w c) link h
 authorized_asked n w c Dialing h = h
-authorized_asked n w c (SettingUp link with_user) h = h
+authorized_asked n w c (SettingUp link greeting) h = h
 authorized_asked n w c (Ready link) h = h
 authorized_asked n w c (Ended e) h = h
 
@@ -126,7 +127,7 @@ authorized_asked n w c (Ended e) h = h
 unauthorized_asked : (n : ℕ) (w : Work) (e : RedisError) (life : Life) → HasAsked n w → HasAsked n (unauthorized_at w e life)
 unauthorized_asked n w e (Wanting link) h = opening_asked n (acted w act.Close) e h
 unauthorized_asked n w e Dialing h = h
-unauthorized_asked n w e (SettingUp link with_user) h = h
+unauthorized_asked n w e (SettingUp link greeting) h = h
 unauthorized_asked n w e (Ready link) h = h
 unauthorized_asked n w e (Ended x) h = h
 
@@ -134,7 +135,7 @@ unauthorized_asked n w e (Ended x) h = h
 refused_asked : (n : ℕ) (w : Work) (f : FaultKind) (life : Life) → HasAsked n w → HasAsked n (refused_at w f life)
 refused_asked n w f Dialing h = opening_asked n w (error.Io f) h
 refused_asked n w f (Wanting link) h = h
-refused_asked n w f (SettingUp link with_user) h = h
+refused_asked n w f (SettingUp link greeting) h = h
 refused_asked n w f (Ready link) h = h
 refused_asked n w f (Ended e) h = h
 
@@ -142,7 +143,7 @@ refused_asked n w f (Ended e) h = h
 overdue_asked : (n : ℕ) (w : Work) (life : Life) → HasAsked n w → HasAsked n (overdue_at w life)
 overdue_asked n w Dialing h = opening_asked n (acted w act.Close) _ h
 overdue_asked n w (Wanting link) h = opening_asked n (acted w act.Close) _ h
-overdue_asked n w (SettingUp link with_user) h = opening_asked n (acted w act.Close) _ h
+overdue_asked n w (SettingUp link greeting) h = opening_asked n (acted w act.Close) _ h
 overdue_asked n w (Ready link) h = h
 overdue_asked n w (Ended e) h = h
 
@@ -151,7 +152,7 @@ taken_asked : (n : ℕ) (w : Work) (count : ℕ) (life : Life) → HasAsked n w 
 taken_asked n w count (Ready link) h = h
 taken_asked n w count Dialing h = h
 taken_asked n w count (Wanting link) h = h
-taken_asked n w count (SettingUp link with_user) h = h
+taken_asked n w count (SettingUp link greeting) h = h
 taken_asked n w count (Ended e) h = h
 
 -- a fault
@@ -159,7 +160,7 @@ fault_asked : (n : ℕ) (w : Work) (f : LinkFault) (life : Life) → HasAsked n 
 fault_asked n w f (Ready link) h = all_asked n (parted (cut_short w)) (faulted (record { link = link; out = [] }) f).out (parted_asked n (cut_short w) h)
 fault_asked n w f Dialing h = h
 fault_asked n w f (Wanting link) h = opening_asked n (acted w act.Close) error.Closed h
-fault_asked n w f (SettingUp link with_user) h = opening_asked n (acted w act.Close) error.Closed h
+fault_asked n w f (SettingUp link greeting) h = opening_asked n (acted w act.Close) error.Closed h
 fault_asked n w f (Ended e) h = h
 
 -- bytes that begin no value
@@ -178,10 +179,10 @@ heard_asked : (n : ℕ) (w : Work) (ps : List PushAt) → HasAsked n w → HasAs
 heard_asked n w ps h = chosen (HasAsked n) (is_ready w.conn.life) (pushed_each w ps) w (λ t. pushed_asked n w ps h) (λ f. h)
 
 -- the reply to the setup
-setup_asked : (n : ℕ) (w : Work) (link : LinkState) (with_user : Bool) (ps : List PushAt) (ss : List Settled) → HasAsked n w → HasAsked n (answered_setup w link with_user ps ss)
-setup_asked n w link with_user ps [] h = h
-setup_asked n w link with_user ps (s ∷ ss) h =
-    let r = judged_by (steps_of w.conn with_user) s.verdict in
+setup_asked : (n : ℕ) (w : Work) (link : LinkState) (greeting : Greeting) (ps : List PushAt) (ss : List Settled) → HasAsked n w → HasAsked n (answered_setup w link greeting ps ss)
+setup_asked n w link greeting ps [] h = h
+setup_asked n w link greeting ps (s ∷ ss) h =
+    let r = judged_by (steps_of w.conn greeting) s.verdict in
     heard_asked n (set_up_by w link r) (behind_first ps) (judged_asked n w link r h)
 
 -- bytes that come
@@ -193,9 +194,9 @@ read_asked n w piece Dialing h = h
 read_asked n w piece (Wanting link) h =
     let s = piece_dealt (record { link = link; out = [] }) piece in
     broken_asked n s.link.broken (with_wanting w s.link) h
-read_asked n w piece (SettingUp link with_user) h =
+read_asked n w piece (SettingUp link greeting) h =
     let s = piece_dealt (record { link = link; out = [] }) piece in
-    broken_asked n s.link.broken (answered_setup w s.link with_user (heard_in w link piece) s.out) (setup_asked n w s.link with_user (heard_in w link piece) s.out h)
+    broken_asked n s.link.broken (answered_setup w s.link greeting (heard_in w link piece) s.out) (setup_asked n w s.link greeting (heard_in w link piece) s.out h)
 read_asked n w piece (Ended e) h = h
 
 -- the shutdown
@@ -203,7 +204,7 @@ shut_asked : (n : ℕ) (w : Work) (life : Life) → HasAsked n w → HasAsked n 
 shut_asked n w (Ready link) h = all_asked n (cut_short w) (closed_all (record { link = link; out = [] })).out h
 shut_asked n w Dialing h = all_asked n (cut_short w) [] h
 shut_asked n w (Wanting link) h = all_asked n (cut_short w) [] h
-shut_asked n w (SettingUp link with_user) h = all_asked n (cut_short w) [] h
+shut_asked n w (SettingUp link greeting) h = all_asked n (cut_short w) [] h
 shut_asked n w (Ended e) h = h
 
 -- any news
@@ -318,7 +319,7 @@ started_grown n w h = by_life w.conn.life refl
     by_life (Wanting link) e = h
     by_life (Ended x) e = h
     by_life (Ready link) e = let s = started_all (record { link = link; out = [] }) in shown_grown n (with_link w s.link) s.out (ready_grown n w.conn s.link h)
-    by_life (SettingUp link with_user) e = let s = started_all (record { link = link; out = [] }) in setups_grown n (with_setup w s.link with_user) s.out (inl (unready_grown n w.conn (ap is_ready e) h))
+    by_life (SettingUp link greeting) e = let s = started_all (record { link = link; out = [] }) in setups_grown n (with_setup w s.link greeting) s.out (inl (unready_grown n w.conn (ap is_ready e) h))
 
 -- an answer
 answered_grown : (n : ℕ) (w : Work) (p : ℕ) (o : Outcome) → HasGrown n w.conn → HasGrown n (answered w p o).conn
@@ -330,7 +331,7 @@ placed_grown n w q (Ready link) (inl same) = inl same
 placed_grown n w q (Ready link) (inr more) = inr (refl, more.1)
 placed_grown n w q Dialing h = h
 placed_grown n w q (Wanting link) h = h
-placed_grown n w q (SettingUp link with_user) h = h
+placed_grown n w q (SettingUp link greeting) h = h
 placed_grown n w q (Ended e) h = h
 
 -- with what starts then
@@ -368,7 +369,7 @@ admitted_grown n w q (Ready link) h = chosen (λ (x : Work). HasGrown n x.conn) 
 admitted_grown n w q (Ended e) h = answered_grown n w q.number (outcome.Fault e) h
 admitted_grown n w q Dialing h = h
 admitted_grown n w q (Wanting link) h = h
-admitted_grown n w q (SettingUp link with_user) h = h
+admitted_grown n w q (SettingUp link greeting) h = h
 
 -- all that wait for the connection
 each_grown : (n : ℕ) (w : Work) (qs : List Waiting) → HasGrown n w.conn → HasGrown n (admitted_each w qs).conn
@@ -383,7 +384,7 @@ told_grown n w (Ready link) (c ∷ cs) h = chosen (λ (x : Work). HasGrown n x.c
 told_grown n w (Ready link) [] h = h
 told_grown n w Dialing cs h = h
 told_grown n w (Wanting link) cs h = h
-told_grown n w (SettingUp link with_user) cs h = h
+told_grown n w (SettingUp link greeting) cs h = h
 told_grown n w (Ended e) cs h = h
 
 -- where they are to be
@@ -406,7 +407,7 @@ written_grown : (n : ℕ) (w : Work) (life : Life) → w.conn.life ≡ life → 
 written_grown n w (Ready link) e h = chosen (λ (x : Work). HasGrown n x.conn) (can_offer link.outbox) _ w (λ t. ready_grown n w.conn (offered_of link) h) (λ f. h)
 written_grown n w Dialing e h = h
 written_grown n w (Wanting link) e h = h
-written_grown n w (SettingUp link with_user) e h = chosen (λ (x : Work). HasGrown n x.conn) (can_offer link.outbox) _ w (λ t. inl (unready_grown n w.conn (ap is_ready e) h)) (λ f. h)
+written_grown n w (SettingUp link greeting) e h = chosen (λ (x : Work). HasGrown n x.conn) (can_offer link.outbox) _ w (λ t. inl (unready_grown n w.conn (ap is_ready e) h)) (λ f. h)
 written_grown n w (Ended x) e h = h
 
 -- a wait that is shown

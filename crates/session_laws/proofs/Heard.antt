@@ -61,7 +61,7 @@ pub record Leads (b : Book) (c : Core) (n : News) (life : Life) (pending started
   pub lines : TiedLines b.story c.single.connection.requests (link_in life) c.single.connection.waiting c.single.connection.admitted pending started
   pub told : has_ended life ≡ false → AreQueued b.story c.single.connection.requests (link_in life)
   pub waits : TiedWaits b.story c.single.connection.requests life c.single.connection.fresh c.single.connection.moved
-  pub pushes : PushesOf (is_heard b) c.single.connection.hears (heard_by b c n)
+  pub notices : PushesOf (is_heard b) c.single.connection.hears (heard_by b c n)
 
 -- the news by the timers and the sources of the book
 pub book_news : (b : Book) (c : Core) (started : List ℕ) (kind : EventKind) (n : News) → Tied b (inner c started) → news_of c.timers c.sources c.single.link kind ≡ n → news_of b.timers b.sources c.single.link kind ≡ n
@@ -93,7 +93,7 @@ pub heard_begins : (before : List Action) (c : Core) (started : List ℕ) (word 
     → Leads (book before) c n life pending started → Begins (before ++ turn_of c word kind ∷ []) (turned c kind) (lives_as c life) (heard_by (book before) c n) (book before).story pending started
 heard_begins before c started word kind n life pending h good k is g =
     let s = fresh_begins before c started word kind n c.single.connection.info life c.single.connection.fresh pending h good k is
-    (record { starts = heard_starts ((book before).link c.single.link) c.turns n; lived = g.lived; creds = g.creds; renewal_is = g.renewal_is; said = g.said; linked = g.linked; lines = g.lines; told = g.told; waits = g.waits; pushes = g.pushes }) in
+    (record { starts = heard_starts ((book before).link c.single.link) c.turns n; lived = g.lived; creds = g.creds; renewal_is = g.renewal_is; said = g.said; linked = g.linked; lines = g.lines; told = g.told; waits = g.waits; notices = g.notices }) in
     record { holds = s.holds; ledger = s.ledger; stories = s.stories }
 
 -- where the link need not end then, and no act follows, the event has had its effect
@@ -126,7 +126,7 @@ quiet_applied before c started word kind n life h good k is g no_end fit =
 
 -- what is still to be told of the pushes
 pub pushes_still : (before : List Action) (c : Core) (started : List ℕ) (n : News) → Between before c started → BringsNothing n ⊎ (((book before).link c.single.link).up ≡ false) → PushesOf (is_heard (book before)) c.single.connection.hears (heard_by (book before) c n)
-pushes_still before c started n h k = pushes_hear ((book before).link c.single.link) c.turns n (is_heard (book before)) c.single.connection.hears k h.sound.tied.pushes
+pushes_still before c started n h k = pushes_hear ((book before).link c.single.link) c.turns n (is_heard (book before)) c.single.connection.hears k h.sound.tied.notices
 
 -- such news bring no new credentials, and deal nothing
 --
@@ -208,13 +208,13 @@ none_hears l turn n r other h =
 pub leads_on : (before : List Action) (c : Core) (started : List ℕ) (n : News) → Between before c started → BringsNothing n ⊎ (((book before).link c.single.link).up ≡ false) → (let l = heard_by (book before) c n in let life = c.single.connection.life in
     TiedLife l (book before).created life × TiedCreds l.creds c.single.connection.renewal.wanted life × TiedSetup l c.single.connection.info started life × (has_ended life ≡ false → TiedLink (carried life c.single.connection.requests) l (whole_link life)))
     → Leads (book before) c n c.single.connection.life [] started
-leads_on before c started n h k g = record { lived = g.0; creds = g.1; renewal_is = renewal_still ((book before).link c.single.link) c.turns n c.single.connection.renewal c.single.connection.life k h.sound.tied.renewal; said = g.2; linked = g.3; lines = h.sound.tied.lines; told = h.sound.tied.told; waits = h.sound.tied.waits; pushes = pushes_still before c started n h k }
+leads_on before c started n h k g = record { lived = g.0; creds = g.1; renewal_is = renewal_still ((book before).link c.single.link) c.turns n c.single.connection.renewal c.single.connection.life k h.sound.tied.renewal; said = g.2; linked = g.3; lines = h.sound.tied.lines; told = h.sound.tied.told; waits = h.sound.tied.waits; notices = pushes_still before c started n h k }
 
 -- what the news are is of no account for how far a link has come
 pub told_life : (l : Ledger) (created : ℕ) (life : Life) (n : News) → TiedLife l created life → TiedLife (record l { heard = n }) created life
 told_life l created Dialing n h = h
 told_life l created (Wanting link) n h = h
-told_life l created (SettingUp link with_user) n h = h
+told_life l created (SettingUp link greeting) n h = h
 told_life l created (Ready link) n h = h
 told_life l created (Ended e) n h = h
 
@@ -235,7 +235,7 @@ leads_still before c started n h stays =
       lines = t.lines;
       told = t.told;
       waits = t.waits;
-      pushes = subst (λ (x : Ledger). PushesOf (is_heard b) conn.hears x) (sym stays) t.pushes;
+      notices = subst (λ (x : Ledger). PushesOf (is_heard b) conn.hears x) (sym stays) t.notices;
     }
 
 -- a link that has ended hears nothing
@@ -392,8 +392,8 @@ silent_applied before c started word kind f conn h good no_end began none_moved 
 -- a link that is set up
 --
 -- is fit
-pub setting_fit : (c : MultiplexedConnection) (link after : LinkState) (was with_user : Bool) (fresh : List ℕ) → c.life ≡ SettingUp link was → IsFitIn c → IsFit c.size c.boundary after → IsFitIn (record c { life = SettingUp after with_user; fresh = fresh })
-setting_fit c link after was with_user fresh e h k = record {
+pub setting_fit : (c : MultiplexedConnection) (link after : LinkState) (was greeting : Bool) (fresh : List ℕ) → c.life ≡ SettingUp link was → IsFitIn c → IsFit c.size c.boundary after → IsFitIn (record c { life = SettingUp after greeting; fresh = fresh })
+setting_fit c link after was greeting fresh e h k = record {
   wanting = λ x is. cc;
   setup = λ x u is. (let same : after ≡ x = cc in subst (IsFit c.size c.boundary) same k);
   link = λ x is. cc;
@@ -401,8 +401,8 @@ setting_fit c link after was with_user fresh e h k = record {
 }
 
 -- its waits stay as long as it is set up
-pub setting_waits : (story : ℕ → Story) (requests : List Request) (link after : LinkState) (was with_user : Bool) (fresh moved : List ℕ) → TiedWaits story requests (SettingUp link was) fresh moved → TiedWaits story requests (SettingUp after with_user) fresh moved
-setting_waits story requests link after was with_user fresh moved h = record {
+pub setting_waits : (story : ℕ → Story) (requests : List Request) (link after : LinkState) (was greeting : Bool) (fresh moved : List ℕ) → TiedWaits story requests (SettingUp link was) fresh moved → TiedWaits story requests (SettingUp after greeting) fresh moved
+setting_waits story requests link after was greeting fresh moved h = record {
   early = h.early;
   connect = λ p w d. cc;
   creds = λ p x w s. cc;

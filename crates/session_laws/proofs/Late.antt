@@ -180,7 +180,7 @@ late_lines_in m story requests Dialing waiting admitted p started apart h =
 late_lines_in m story requests (Wanting link) waiting admitted p started apart h =
     let k = late_lines m story requests no_link waiting admitted p started apart h in
     record { line = k.line; queued = k.queued; entries = k.entries; packs = k.packs; packed_in = k.packed_in; there = k.there }
-late_lines_in m story requests (SettingUp link with_user) waiting admitted p started apart h =
+late_lines_in m story requests (SettingUp link greeting) waiting admitted p started apart h =
     let k = late_lines m story requests no_link waiting admitted p started apart h in
     record { line = k.line; queued = k.queued; entries = k.entries; packs = k.packs; packed_in = k.packed_in; there = k.there }
 late_lines_in m story requests (Ended e) waiting admitted p started apart h =
@@ -208,7 +208,7 @@ late_told story requests life p o h up n is none = by_life life h up
     by_life (Ready link) g f = let k = g refl n was untried in (k.0, k.1, k.2, without_others link.queue p k.0 (other k.0 k.2) k.3)
     by_life Dialing g f = g refl n was untried
     by_life (Wanting link) g f = g refl n was untried
-    by_life (SettingUp link with_user) g f = g refl n was untried
+    by_life (SettingUp link greeting) g f = g refl n was untried
     by_life (Ended e) g f = cc
 
 -- the waits that were shown
@@ -282,7 +282,7 @@ late_tied b c started word n p h is o =
     (tied_by (record now { story = after }) t (record ledger { heard = silence }) heard (record {
       numbers = silent_numbers b c started word (event.Fired n) c.timeout after conn.free (cancelled_in conn.life p) conn.requests (p ∷ []) q h;
       others = λ k other. silent_others b c (event.Fired n) c.timeout k q (h.others k other);
-      pushes = h.pushes;
+      notices = h.notices;
       life = left_life ledger b.created conn.life p h.life;
       creds = left_creds ledger.creds conn.renewal.wanted conn.life p h.creds;
       count = counted_on c.sources ledger.creds h.count;
@@ -329,7 +329,7 @@ fired_overdue b c started word n p h is o =
 late_apart : (b : Book) (t : Inner) (life : Life) (p : ℕ) → Tied b t → t.life ≡ life → has_ended life ≡ false → p ≢ renewal_id → is_open (b.story (name_at t.requests p)) ≡ true → IsIn p (wanted (link_in (cancelled_in life p)).row ++ queue_ids (link_in (cancelled_in life p)).queue) → ⊥
 late_apart b t Dialing p h e up other o i = i
 late_apart b t (Wanting link) p h e up other o i = i
-late_apart b t (SettingUp link with_user) p h e up other o i = i
+late_apart b t (SettingUp link greeting) p h e up other o i = i
 late_apart b t (Ended x) p h e up other o i = cc
 late_apart b t (Ready link) p h e up other o i =
     let here : link_in t.life ≡ link = ap link_in e in
@@ -361,7 +361,7 @@ open_alive before c started p h o = by_life c.single.connection.life refl
     by_life : (x : Life) → conn.life ≡ x → has_ended conn.life ≡ false
     by_life Dialing e = ap has_ended e
     by_life (Wanting link) e = ap has_ended e
-    by_life (SettingUp link with_user) e = ap has_ended e
+    by_life (SettingUp link greeting) e = ap has_ended e
     by_life (Ready link) e = ap has_ended e
     by_life (Ended x) e =
         let b = book before in
@@ -373,7 +373,7 @@ open_alive before c started p h o = by_life c.single.connection.life refl
 still_alive : (life : Life) (p : ℕ) → has_ended life ≡ false → has_ended (cancelled_in life p) ≡ false
 still_alive Dialing p e = refl
 still_alive (Wanting link) p e = refl
-still_alive (SettingUp link with_user) p e = refl
+still_alive (SettingUp link greeting) p e = refl
 still_alive (Ready link) p e = refl
 still_alive (Ended x) p e = e
 

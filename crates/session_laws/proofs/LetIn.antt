@@ -297,7 +297,7 @@ let_tied : (b : Book) (t : Inner) (p count free : ℕ) (g : ℕ → Story) (note
 let_tied b t p count free g noted timers w alone eased has sum numbers h = record {
   numbers = numbers;
   others = h.others;
-  pushes = h.pushes;
+  notices = h.notices;
   life = h.life;
   creds = h.creds;
   count = h.count;

@@ -188,7 +188,7 @@ wanted_entry name l k (e ∷ es) p all (inr i) = let w = wanted_entry name l (su
 pub lives : (l : Ledger) (created : ℕ) (life : Life) → TiedLife l created life → has_ended life ≡ false → l.end ≡ None
 lives l created Dialing h n = h.2
 lives l created (Wanting link) h n = h.2
-lives l created (SettingUp link with_user) h n = h.2
+lives l created (SettingUp link greeting) h n = h.2
 lives l created (Ready link) h n = h.2
 lives l created (Ended e) h n = cc
 
@@ -196,7 +196,7 @@ lives l created (Ended e) h n = cc
 pub row_link : (l : Ledger) (requests : List Request) (life : Life) (p : ℕ) → IsIn p (row_ids (link_in life).row) → TiedLink (carried life requests) l (whole_link life) → TiedLink (owner_of requests) l (link_in life)
 row_link l requests Dialing p i h = absurd i
 row_link l requests (Wanting link) p i h = absurd i
-row_link l requests (SettingUp link with_user) p i h = absurd i
+row_link l requests (SettingUp link greeting) p i h = absurd i
 row_link l requests (Ready link) p i h = h
 row_link l requests (Ended e) p i h = absurd i
 
@@ -251,7 +251,7 @@ alive_failure end created none e fails = absurd (let no : ◌≡◌ {A = Option 
 failure_shown : (l : Ledger) (created : ℕ) (life : Life) → TiedLife l created life → FailureIsShown l.end created
 failure_shown l created Dialing h = alive_failure l.end created h.2
 failure_shown l created (Wanting link) h = alive_failure l.end created h.2
-failure_shown l created (SettingUp link with_user) h = alive_failure l.end created h.2
+failure_shown l created (SettingUp link greeting) h = alive_failure l.end created h.2
 failure_shown l created (Ready link) h = alive_failure l.end created h.2
 failure_shown l created (Ended e) h = h.2
 
@@ -279,13 +279,13 @@ get_behind (suc n) (h ∷ hs) e = get_behind n hs e
 -- all pushes that came were told, where none is still to be
 pub pushes_told : (b : Book) (t : Inner) → Tied b t → t.untold ≡ [] → PushesAreTold b
 pushes_told b t h none m heard = by_test (m == t.link) _
-    (λ same. subst (λ k. next_push (b.link k) ≡ None) (sym (eq_from m t.link same)) (get_behind (b.link t.link).told (b.link t.link).pushes (h.pushes.untold_is (sym h.pushes.heard_is ∙ heard) ∙ none)))
-    (λ other. ap (λ (hs : List Heard). slice_get hs (b.link m).told) (h.others m (ne_from m t.link other)).pushes)
+    (λ same. subst (λ k. next_push (b.link k) ≡ None) (sym (eq_from m t.link same)) (get_behind (b.link t.link).told (b.link t.link).notices (h.notices.untold_is (sym h.notices.heard_is ∙ heard) ∙ none)))
+    (λ other. ap (λ (hs : List Heard). slice_get hs (b.link m).told) (h.others m (ne_from m t.link other)).notices)
 
 -- and so was the end of each link, where none is
 pub ends_told : (b : Book) (t : Inner) → Tied b t → t.parting ≡ false → EndsAreTold b
 ends_told b t h none m heard cut = by_test (m == t.link) _
-    (λ same. let e = eq_from m t.link same in subst (λ k. (b.link k).parted ≡ true) (sym e) (h.pushes.parts (sym h.pushes.heard_is ∙ heard) none (subst (λ k. is_cut (b.link k).end ≡ true) e cut)))
+    (λ same. let e = eq_from m t.link same in subst (λ k. (b.link k).parted ≡ true) (sym e) (h.notices.parts (sym h.notices.heard_is ∙ heard) none (subst (λ k. is_cut (b.link k).end ≡ true) e cut)))
     (λ other. absurd (not_both (is_cut (b.link m).end) (ap is_cut (h.others m (ne_from m t.link other)).end) cut))
 
 -- the entries of a row are started one after another

@@ -107,9 +107,9 @@ keeps_on u v w h k = record { admitted = k.admitted ∙ h.admitted; waiting = k.
 pub started_keeps : (w : Work) (life : Life) → Keeps w (started_at w life)
 started_keeps w Dialing = record { admitted = refl; waiting = refl }
 started_keeps w (Wanting link) = record { admitted = refl; waiting = refl }
-started_keeps w (SettingUp link with_user) =
+started_keeps w (SettingUp link greeting) =
     let s = started_all (record { link = link; out = [] }) in
-    let same = set_up_conn (with_setup w s.link with_user) s.out in
+    let same = set_up_conn (with_setup w s.link greeting) s.out in
     record { admitted = ap (λ (c : MultiplexedConnection). c.admitted) same; waiting = ap (λ (c : MultiplexedConnection). c.waiting) same }
 started_keeps w (Ready link) =
     let s = started_all (record { link = link; out = [] }) in
@@ -121,7 +121,7 @@ started_keeps w (Ended e) = record { admitted = refl; waiting = refl }
 placed_keeps : (w : Work) (q : Waiting) (life : Life) → Keeps w (placed_at w q life)
 placed_keeps w q Dialing = record { admitted = refl; waiting = refl }
 placed_keeps w q (Wanting link) = record { admitted = refl; waiting = refl }
-placed_keeps w q (SettingUp link with_user) = record { admitted = refl; waiting = refl }
+placed_keeps w q (SettingUp link greeting) = record { admitted = refl; waiting = refl }
 placed_keeps w q (Ready link) = record { admitted = refl; waiting = refl }
 placed_keeps w q (Ended e) = record { admitted = refl; waiting = refl }
 

@@ -488,7 +488,7 @@ place_tied b t link q waiting admitted yes_awaited next h =
     record {
       numbers = numbers_kept b _ _ (on_link t link) _ _ _ _ _ _ _ _ _ _ h.numbers;
       others = h.others;
-      pushes = h.pushes;
+      notices = h.notices;
       life = h.life;
       creds = record { wanted_is = h.creds.wanted_is; sought = h.creds.sought };
       count = h.count;
@@ -556,7 +556,7 @@ tell_tied b t link q waiting admitted not_awaited next h =
     record {
       numbers = numbers_kept b _ _ (on_link t link) _ _ _ _ _ _ _ _ _ _ h.numbers;
       others = h.others;
-      pushes = h.pushes;
+      notices = h.notices;
       life = h.life;
       creds = record { wanted_is = h.creds.wanted_is; sought = h.creds.sought };
       count = h.count;
@@ -608,7 +608,7 @@ admit_tied b t link q qs w is last h =
     record {
       numbers = numbers_kept b _ _ (record (on_link t link) { waiting = q ∷ qs; letting = q.number ∷ [] }) _ _ _ _ _ _ _ _ _ _ h.numbers;
       others = h.others;
-      pushes = h.pushes;
+      notices = h.notices;
       life = h.life;
       creds = record { wanted_is = h.creds.wanted_is; sought = h.creds.sought };
       count = h.count;

@@ -152,7 +152,7 @@ read_begins before c started word kind piece link untold h good k is e came_so =
       lines = read_lines b.story conn.requests link piece conn.waiting conn.admitted started lines;
       told = λ n. subst (λ (x : Life). AreQueued b.story conn.requests (link_in x)) e (h0.told (ap has_ended e));
       waits = queue_waits b.story conn.requests link (has_read link piece) conn.fresh conn.moved (λ p i. i) (subst (λ (x : Life). TiedWaits b.story conn.requests x conn.fresh conn.moved) e h0.waits);
-      pushes = heard_pushes l piece (is_heard b) conn.hears untold came_so h0.pushes;
+      notices = heard_pushes l piece (is_heard b) conn.hears untold came_so h0.notices;
     }) in
     let book_is : entered b (turn_of c word kind) ≡ heard_book b c.turns word kind = turn_is b c.turns word kind (book_kind b c kind h0.numbers.timers k) in
     let first = first_book before (turn_of c word kind) (turned c kind) ∙ book_is in
@@ -274,9 +274,9 @@ read_applied before c started word kind piece h good k is = by_life c.single.con
     by_life (Wanting link) e =
         subst (λ (s : Settling). HasApplied (before ++ turn_of c word kind ∷ []) (with_work (record { core = turned c kind; acts = [] }) (read_wanting (record { conn = c.single.connection; acts = [] }) s)) started)
         (sym (reads_on link [] piece (h.fit.wanting link e).sound)) (wanting_read before c started word kind piece link h good k is e)
-    by_life (SettingUp link with_user) e =
-        subst (λ (s : Settling). HasApplied (before ++ turn_of c word kind ∷ []) (with_work (record { core = turned c kind; acts = [] }) (read_setup (record { conn = c.single.connection; acts = [] }) with_user (heard_of c.single.connection.hears (pushes_came link piece)) s)) started)
-        (sym (reads_on link [] piece (h.fit.setup link with_user e).sound)) (setup_read before c started word kind piece link with_user h good k is e)
+    by_life (SettingUp link greeting) e =
+        subst (λ (s : Settling). HasApplied (before ++ turn_of c word kind ∷ []) (with_work (record { core = turned c kind; acts = [] }) (read_setup (record { conn = c.single.connection; acts = [] }) greeting (heard_of c.single.connection.hears (pushes_came link piece)) s)) started)
+        (sym (reads_on link [] piece (h.fit.setup link greeting e).sound)) (setup_read before c started word kind piece link greeting h good k is e)
     by_life (Ready link) e =
         subst (λ (s : Settling). HasApplied (before ++ turn_of c word kind ∷ []) (with_work (record { core = turned c kind; acts = [] }) (read_to (record { conn = c.single.connection; acts = [] }) (heard_of c.single.connection.hears (pushes_came link piece)) s)) started)
         (sym (reads_on link [] piece (h.fit.link link e).sound)) (read_on before c started word kind piece link h good k is e)

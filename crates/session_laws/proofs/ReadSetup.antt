@@ -45,6 +45,7 @@ use Rattle.link_laws.proofs.Settles.{is_full_from}
 use Rattle.link_laws.proofs.TiedLink.{TiedLink, SameNames, deals, dealt_alike, has_read, has_heard, heard_is, enqueued_tied, named_tied, read_tied}
 use Rattle.legal_trace.proofs.Ledgers.{reach_alike}
 use Rattle.mux_conn.specs.declared.act.LinkAct.TheVariants as act
+use Rattle.mux_conn.specs.declared.life.Greeting.{Greeting}
 use Rattle.mux_conn.specs.declared.life.Life.{Life}
 use Rattle.mux_conn.specs.declared.life.Life.TheVariants.{Wanting, SettingUp, Ended, Ready}
 use Rattle.mux_conn.specs.Connection.{Work, acted, at_life, is_ready, with_setup, with_link}
@@ -53,7 +54,7 @@ use Rattle.shared_session.specs.declared.core_state.Core.{Core}
 use Rattle.shared_session.specs.Turn.{with_work, is_bad}
 use Rattle.legal_trace.specs.Ledger.{Ledger, Start, by_fault, by_opening, cut, ending, is_full, is_set_up, is_well, lacks_credentials, last_result, reach, repeats, result_of, setup_after, setup_count, setup_result, setup_steps, Heard, heard_each}
 use Rattle.legal_trace.specs.Book.{Book, book}
-use Rattle.session_laws.proofs.Tied.{AreSetups, AreSought, IsSettingUp, IsSetupDue, IsSetupSent, IsSetUp, AreQueued, TiedCreds, TiedLife, TiedLines, TiedSetup, TiedWaits, has_ended, inner, link_in, owner_of, owners_each, owners_of, setup_owners, TiedPushes}
+use Rattle.session_laws.proofs.Tied.{AreSetups, AreSought, IsSettingUp, IsSetupDue, IsSetupSent, IsSetUp, AreQueued, TiedCreds, TiedLife, TiedLines, TiedSetup, TiedWaits, has_ended, inner, link_in, owner_of, owners_each, owners_of, setup_owners, TiedNotices}
 use Rattle.session_laws.proofs.States.{IsFit, Between, HasApplied, IsFitIn}
 use Rattle.session_laws.proofs.SetUp.{count_length, not_set_up}
 use Rattle.legal_trace.proofs.Setups.{ends_where_set, setup_said, AreSetups as SetUpsAre}
@@ -324,13 +325,13 @@ full_stays l piece j full =
     le_test _ _ (omega arith)
 
 -- a setup that isn't answered is the last
-sent_last : (l : Ledger) (link : LinkState) (with_user : Bool) → owners_of l.starts ≡ setup_owners (setup_count l.starts) [] → (s : IsSetupSent l link with_user) → IsLast l s.k
-sent_last l link with_user owners s = record { few = s.few; count = s.count; long = count_length l.starts (setup_count l.starts) owners ∙ s.count; earlier = s.earlier }
+sent_last : (l : Ledger) (link : LinkState) (greeting : Greeting) → owners_of l.starts ≡ setup_owners (setup_count l.starts) [] → (s : IsSetupSent l link greeting) → IsLast l s.k
+sent_last l link greeting owners s = record { few = s.few; count = s.count; long = count_length l.starts (setup_count l.starts) owners ∙ s.count; earlier = s.earlier }
 
 -- where nothing is settled the setup is to start still, or isn't answered
-reads_still : (name : ℕ → Owner) (l : Ledger) (link : LinkState) (with_user : Bool) (piece : List ℕ) → IsSettingUp l link with_user → owners_of l.starts ≡ setup_owners (setup_count l.starts) [] → l.end ≡ None → TiedLink name l link → (deals link piece).out ≡ []
-    → IsSettingUp (has_heard l piece) (has_read link piece) with_user
-reads_still name l link with_user piece h owners alive tied none = record {
+reads_still : (name : ℕ → Owner) (l : Ledger) (link : LinkState) (greeting : Greeting) (piece : List ℕ) → IsSettingUp l link greeting → owners_of l.starts ≡ setup_owners (setup_count l.starts) [] → l.end ≡ None → TiedLink name l link → (deals link piece).out ≡ []
+    → IsSettingUp (has_heard l piece) (has_read link piece) greeting
+reads_still name l link greeting piece h owners alive tied none = record {
   says = h.says;
   stage = elim h.stage [ inl d ↦ inl (due d) | inr s ↦ inr (sent s) ];
   awaited = dealt_all IsAwaited (λ e item wanted_one. wanted_one) (record { row = link.row; out = [] }) (items (link.rest ++ piece)) h.awaited;
@@ -339,7 +340,7 @@ reads_still name l link with_user piece h owners alive tied none = record {
     after : Ledger
     after = has_heard l piece
 
-    due : IsSetupDue l link with_user → IsSetupDue after (has_read link piece) with_user
+    due : IsSetupDue l link greeting → IsSetupDue after (has_read link piece) greeting
     due d =
         let vs = items (link.rest ++ piece) in
         let dropped = ap (λ row. dealt_each (record { row = row; out = [] }) vs) d.row ∙ dealt_none [] vs in
@@ -354,9 +355,9 @@ reads_still name l link with_user piece h owners alive tied none = record {
           row = ap (λ (x : Dealing). x.row) dropped;
         }
 
-    sent : IsSetupSent l link with_user → IsSetupSent after (has_read link piece) with_user
+    sent : IsSetupSent l link greeting → IsSetupSent after (has_read link piece) greeting
     sent s =
-        let last = sent_last l link with_user owners s in
+        let last = sent_last l link greeting owners s in
         record {
           k = s.k;
           few = s.few;
@@ -377,20 +378,20 @@ reads_still name l link with_user piece h owners alive tied none = record {
         }
 
 -- the setup that was answered
-pub record IsAnswered (l : Ledger) (link : LinkState) (piece : List ℕ) (with_user : Bool) (x : Settled) : Type 0 where
+pub record IsAnswered (l : Ledger) (link : LinkState) (piece : List ℕ) (greeting : Greeting) (x : Settled) : Type 0 where
   pub k : ℕ
   pub few : k < 2
   pub count : setup_count l.starts ≡ suc k
-  pub user : with_user ≡ (k == 0)
+  pub user : greeting ≡ (k == 0)
   pub queue : link.queue ≡ []
   pub row : (deals link piece).row ≡ []
   pub answers : Answers (has_heard l piece) k x
   pub last : IsLast l k
 
 -- where something is settled it was answered
-reads_answered : (name : ℕ → Owner) (l : Ledger) (link : LinkState) (with_user : Bool) (piece : List ℕ) (x : Settled) (xs : List Settled) → IsSettingUp l link with_user → owners_of l.starts ≡ setup_owners (setup_count l.starts) [] → AreSetups l → l.end ≡ None → TiedLink name l link
-    → (deals link piece).out ≡ x ∷ xs → IsAnswered l link piece with_user x
-reads_answered name l link with_user piece x xs h owners sents alive tied is = elim h.stage [
+reads_answered : (name : ℕ → Owner) (l : Ledger) (link : LinkState) (greeting : Greeting) (piece : List ℕ) (x : Settled) (xs : List Settled) → IsSettingUp l link greeting → owners_of l.starts ≡ setup_owners (setup_count l.starts) [] → AreSetups l → l.end ≡ None → TiedLink name l link
+    → (deals link piece).out ≡ x ∷ xs → IsAnswered l link piece greeting x
+reads_answered name l link greeting piece x xs h owners sents alive tied is = elim h.stage [
   | inl d ↦ absurd (
       let vs = items (link.rest ++ piece) in
       let dropped = ap (λ row. dealt_each (record { row = row; out = [] }) vs) d.row ∙ dealt_none [] vs in
@@ -398,7 +399,7 @@ reads_answered name l link with_user piece x xs h owners sents alive tied is = e
       cc)
   | inr s ↦ (
       let after = has_heard l piece in
-      let last = sent_last l link with_user owners s in
+      let last = sent_last l link greeting owners s in
       let a = setup_answers name l link piece s.k x xs last sents alive tied is in
       let rows = (read_tied name l link piece alive tied).row alive ∙ rows_full after.starts after.dealt (full_last after s.k last.long a.full) in
       record { k = s.k; few = s.few; count = s.count; user = s.user; queue = s.queue; row = no_entries name (deals link piece).row rows; answers = a; last = last })
@@ -409,36 +410,36 @@ setup_last : (l : Ledger) (n : ℕ) → lacks_credentials l ≡ false → says_n
 setup_last l n given says count = setup_said l given ∙ left_if (says_nothing (setup_steps l 0)) (Some result.Ready) (last_result l (setup_count l.starts)) says ∙ ap (last_result l) count
 
 -- what it comes to
-answered_result : (l : Ledger) (link : LinkState) (piece : List ℕ) (with_user : Bool) (x : Settled) (info : RedisConnectionInfo) → lacks_credentials l ≡ false → l.info ≡ info → says_nothing (setup_steps l 0) ≡ false → IsAnswered l link piece with_user x
-    → setup_result (has_heard l piece) ≡ Some (judged_by (setup info with_user) x.verdict)
-answered_result l link piece with_user x info given is says h =
+answered_result : (l : Ledger) (link : LinkState) (piece : List ℕ) (greeting : Greeting) (x : Settled) (info : RedisConnectionInfo) → lacks_credentials l ≡ false → l.info ≡ info → says_nothing (setup_steps l 0) ≡ false → IsAnswered l link piece greeting x
+    → setup_result (has_heard l piece) ≡ Some (judged_by (setup info greeting) x.verdict)
+answered_result l link piece greeting x info given is says h =
     let after = has_heard l piece in
     let replies = cut after h.k (setup_shape (setup_steps after h.k)) in
     setup_last after (suc h.k) given says h.count
     ∙ taken_if (is_full after h.k) (Some (judged (setup_steps after h.k) replies)) None h.answers.full
     ∙ ap (λ (i : RedisConnectionInfo). Some (judged (setup i (h.k == 0)) replies)) is
     ∙ ap (λ u. Some (judged (setup info u) replies)) (sym h.user)
-    ∙ ap (λ v. Some (judged_by (setup info with_user) v)) (sym h.answers.verdict_is)
+    ∙ ap (λ v. Some (judged_by (setup info greeting) v)) (sym h.answers.verdict_is)
 
 -- it is repeated only where it had the user name
-repeats_first : (l : Ledger) (link : LinkState) (piece : List ℕ) (with_user : Bool) (x : Settled) (info : RedisConnectionInfo) (h : IsAnswered l link piece with_user x) → judged_by (setup info with_user) x.verdict ≡ result.RepeatWithoutUser → h.k ≡ 0
-repeats_first l link piece with_user x info h e =
+repeats_first : (l : Ledger) (link : LinkState) (piece : List ℕ) (greeting : Greeting) (x : Settled) (info : RedisConnectionInfo) (h : IsAnswered l link piece greeting x) → judged_by (setup info greeting) x.verdict ≡ result.RepeatWithoutUser → h.k ≡ 0
+repeats_first l link piece greeting x info h e =
     by_test (h.k == 0) _
     (λ t. eq_from h.k 0 t)
     (λ f.
     let replies = cut (has_heard l piece) h.k (setup_shape (setup_steps l h.k)) in
-    let none : judged (setup info false) replies ≡ result.RepeatWithoutUser = ap (λ u. judged (setup info u) replies) (sym (h.user ∙ f)) ∙ ap (judged_by (setup info with_user)) (sym h.answers.verdict_is) ∙ e in
+    let none : judged (setup info false) replies ≡ result.RepeatWithoutUser = ap (λ u. judged (setup info u) replies) (sym (h.user ∙ f)) ∙ ap (judged_by (setup info greeting)) (sym h.answers.verdict_is) ∙ e in
     absurd (judged_repeats (setup info false) replies (setup_no_user info) none))
 
 -- what is still to be told of a link when bytes come
 pub heard_pushes : (l : Ledger) (piece : List ℕ) (heard mine : Bool) (untold : List Heard) → (mine ≡ true → untold ≡ heard_each l (values (l.rest ++ piece))) → PushesOf heard mine l
-    → (let after = has_heard l piece in TiedPushes heard mine after.pushes after.told after.end after.parted untold false)
+    → (let after = has_heard l piece in TiedNotices heard mine after.notices after.told after.end after.parted untold false)
 heard_pushes l piece heard mine untold is h =
     let hs = heard_each l (values (l.rest ++ piece)) in
     record {
       heard_is = h.heard_is;
-      within = λ y. let w = h.within y in let long = length-append l.pushes hs in omega arith;
-      untold_is = λ y. drop-append-le l.told l.pushes hs (h.within y) ∙ ap (λ xs. xs ++ hs) (h.untold_is y) ∙ sym (is y);
+      within = λ y. let w = h.within y in let long = length-append l.notices hs in omega arith;
+      untold_is = λ y. drop-append-le l.told l.notices hs (h.within y) ∙ ap (λ xs. xs ++ hs) (h.untold_is y) ∙ sym (is y);
       parts = h.parts;
       alive = h.alive;
       due = h.due;
@@ -470,10 +471,10 @@ behind_same (p ∷ ps) = λ i. if p.settled == 0 then behind_same ps i else p �
 -- bytes come on such a link
 --
 -- the event has its effect
-pub setup_read : (before : List Action) (c : Core) (started : List ℕ) (word : ℕ) (kind : EventKind) (piece : List ℕ) (link : LinkState) (with_user : Bool) → Between before c started → is_bad c kind ≡ false → IsNewsKind c.timers kind → news_of c.timers c.sources c.single.link kind ≡ came piece
-    → c.single.connection.life ≡ SettingUp link with_user
-    → HasApplied (before ++ turn_of c word kind ∷ []) (with_work (record { core = turned c kind; acts = [] }) (read_setup (record { conn = c.single.connection; acts = [] }) with_user (heard_of c.single.connection.hears (pushes_came link piece)) (record { link = has_read link piece; out = (deals link piece).out }))) started
-setup_read before c started word kind piece link with_user h good k is e = by_out (deals link piece).out refl
+pub setup_read : (before : List Action) (c : Core) (started : List ℕ) (word : ℕ) (kind : EventKind) (piece : List ℕ) (link : LinkState) (greeting : Greeting) → Between before c started → is_bad c kind ≡ false → IsNewsKind c.timers kind → news_of c.timers c.sources c.single.link kind ≡ came piece
+    → c.single.connection.life ≡ SettingUp link greeting
+    → HasApplied (before ++ turn_of c word kind ∷ []) (with_work (record { core = turned c kind; acts = [] }) (read_setup (record { conn = c.single.connection; acts = [] }) greeting (heard_of c.single.connection.hears (pushes_came link piece)) (record { link = has_read link piece; out = (deals link piece).out }))) started
+setup_read before c started word kind piece link greeting h good k is e = by_out (deals link piece).out refl
   where
     b : Book
     b = book before
@@ -499,8 +500,8 @@ setup_read before c started word kind piece link with_user h good k is e = by_ou
     name : ℕ → Owner
     name = λ p. owner.Setup
 
-    s : IsSetting l b.created started link with_user
-    s = setting_tied b (inner c started) link with_user e h.sound.tied
+    s : IsSetting l b.created started link greeting
+    s = setting_tied b (inner c started) link greeting e h.sound.tied
 
     applied : Work → Type 0
     applied x = HasApplied front (with_work (record { core = turned c kind; acts = [] }) x) started
@@ -521,7 +522,7 @@ setup_read before c started word kind piece link with_user h good k is e = by_ou
     tied = read_tied name l link piece s.alive s.tied
 
     fit : IsFit c.single.connection.size c.single.connection.boundary link
-    fit = h.fit.setup link with_user e
+    fit = h.fit.setup link greeting e
 
     sound : read.broken ≡ false → IsFit c.single.connection.size c.single.connection.boundary read
     sound f = record { sound = f; size_is = fit.size_is; bound_is = fit.bound_is; within = fit.within }
@@ -537,11 +538,11 @@ setup_read before c started word kind piece link with_user h good k is e = by_ou
 
     -- where it isn't set up then no push is to be told
     quiet : is_set_up after ≡ false → PushesOf (is_heard b) c.single.connection.hears after
-    quiet unready = heard_pushes l piece (is_heard b) c.single.connection.hears [] (λ y. sym (heard_none l piece sents unready)) h.sound.tied.pushes
+    quiet unready = heard_pushes l piece (is_heard b) c.single.connection.hears [] (λ y. sym (heard_none l piece sents unready)) h.sound.tied.notices
 
     fails : (x : RedisError) → is_set_up after ≡ false → ending after ≡ Some (by_opening x) → applied (opening_failed (record { conn = c.single.connection; acts = act.Close ∷ [] }) x)
     fails x unready must =
-        setup_failed before c started word kind (came piece) x h good k is (setting_unready b (inner c started) link with_user e h.sound.tied)
+        setup_failed before c started word kind (came piece) x h good k is (setting_unready b (inner c started) link greeting e h.sound.tied)
         (subst (λ (y : Ledger). Fails y info c.single.connection.renewal.wanted (is_heard b) c.single.connection.hears x) (sym same) (record {
           alive = s.alive;
           unready = unready;
@@ -550,7 +551,7 @@ setup_read before c started word kind piece link with_user h good k is e = by_ou
           wanted_is = h.sound.tied.creds.wanted_is;
           sourced = has_sourced after s.has unready;
           sent = h.sound.tied.setup.sent;
-          pushes = quiet unready;
+          notices = quiet unready;
         }))
 
     -- the link is set up still
@@ -565,11 +566,11 @@ setup_read before c started word kind piece link with_user h good k is e = by_ou
           linked = λ z. subst (λ (y : Ledger). TiedLink name y next) (sym same) tied_next;
           lines = subst (λ (x : Life). TiedLines b.story c.single.connection.requests (link_in x) c.single.connection.waiting c.single.connection.admitted [] started) e h.sound.tied.lines;
           told = λ z. subst (λ (x : Life). AreQueued b.story c.single.connection.requests (link_in x)) e (h.sound.tied.told (ap has_ended e));
-          waits = setting_waits b.story c.single.connection.requests link next with_user user c.single.connection.fresh c.single.connection.moved (subst (λ (x : Life). TiedWaits b.story c.single.connection.requests x c.single.connection.fresh c.single.connection.moved) e h.sound.tied.waits);
-          pushes = subst (λ (y : Ledger). PushesOf (is_heard b) c.single.connection.hears y) (sym same) (quiet (not_set_up after next user said).unwell);
+          waits = setting_waits b.story c.single.connection.requests link next greeting user c.single.connection.fresh c.single.connection.moved (subst (λ (x : Life). TiedWaits b.story c.single.connection.requests x c.single.connection.fresh c.single.connection.moved) e h.sound.tied.waits);
+          notices = subst (λ (y : Ledger). PushesOf (is_heard b) c.single.connection.hears y) (sym same) (quiet (not_set_up after next user said).unwell);
         })
         (ap ending same ∙ ending_setting after next user s.up said ∙ left_if (is_spoiled after.rest) (Some (by_opening reason.Closed)) None (spoiled false f))
-        (setting_fit c.single.connection link next with_user user c.single.connection.fresh e h.fit fits)
+        (setting_fit c.single.connection link next greeting user c.single.connection.fresh e h.fit fits)
 
     -- or its opening fails, where bytes came that begin no value
     stays : (next : LinkState) (user : Bool) → IsSettingUp after next user → TiedLink name after next → (read.broken ≡ false → IsFit c.single.connection.size c.single.connection.boundary next) → applied (broken_at read.broken (with_setup w next user))
@@ -592,7 +593,7 @@ setup_read before c started word kind piece link with_user h good k is e = by_ou
     later = readied c.single.connection.renewal.wanted after
 
     -- the link is ready, the pushes behind its setup are told, and it ends where bytes came that begin no value
-    ready_told : (ps : List PushAt) (untold : List Heard) (x : Settled) → IsAnswered l link piece with_user x → setup_result after ≡ Some result.Ready → (c.single.connection.hears ≡ true → untold ≡ heard_each l (values (l.rest ++ piece)))
+    ready_told : (ps : List PushAt) (untold : List Heard) (x : Settled) → IsAnswered l link piece greeting x → setup_result after ≡ Some result.Ready → (c.single.connection.hears ≡ true → untold ≡ heard_each l (values (l.rest ++ piece)))
         → ((owes : ℕ → Option Outcome) → IsTelling front (turned c kind) later owes (name_at c.single.connection.requests) (is_open_at c.single.connection.requests) now_ready untold [] started
         → IsTelling front (turned c kind) later owes (name_at c.single.connection.requests) (is_open_at c.single.connection.requests) (told_each now_ready 0 ps []) [] [] started)
         → applied (broken_at read.broken (told_each (made_ready w read) 0 ps []))
@@ -612,7 +613,7 @@ setup_read before c started word kind piece link with_user h good k is e = by_ou
           wanted_is = h.sound.tied.creds.wanted_is;
           has = s.has;
           made = made;
-          pushes = heard_pushes l piece (is_heard b) c.single.connection.hears untold came_so h.sound.tied.pushes;
+          notices = heard_pushes l piece (is_heard b) c.single.connection.hears untold came_so h.sound.tied.notices;
         }) in
         let readied_is = made_is w read in
         let shown = subst (λ (y : Work). IsShownReady front f y (readied c.single.connection.renewal.wanted (heard_by b c (came piece))) untold started) readied_is (makes_ready before c started word kind (came piece) info read untold h good k is (λ y. y) early facts) in
@@ -637,7 +638,7 @@ setup_read before c started word kind piece link with_user h good k is e = by_ou
         }))
 
     -- so it does, whether somebody hears them or not
-    ready : (x : Settled) (xs : List Settled) → (deals link piece).out ≡ x ∷ xs → IsAnswered l link piece with_user x → setup_result after ≡ Some result.Ready
+    ready : (x : Settled) (xs : List Settled) → (deals link piece).out ≡ x ∷ xs → IsAnswered l link piece greeting x → setup_result after ≡ Some result.Ready
         → applied (broken_at read.broken (told_each (made_ready w read) 0 (behind_first (heard_of c.single.connection.hears (pushes_came link piece))) []))
     ready x xs some a r =
         let conn = c.single.connection in
@@ -652,9 +653,9 @@ setup_read before c started word kind piece link with_user h good k is e = by_ou
         (λ n. ready_told [] [] x a r (λ y. absurd (not_both conn.hears n y)) (λ owes k. k))
 
     -- it is sent once more without the user name
-    again : (x : Settled) → IsAnswered l link piece with_user x → setup_result after ≡ Some result.RepeatWithoutUser → judged_by (setup info with_user) x.verdict ≡ result.RepeatWithoutUser → applied (broken_at read.broken (sets_up w read false))
+    again : (x : Settled) → IsAnswered l link piece greeting x → setup_result after ≡ Some result.RepeatWithoutUser → judged_by (setup info greeting) x.verdict ≡ result.RepeatWithoutUser → applied (broken_at read.broken (sets_up w read false))
     again x a r judged_so =
-        let first = repeats_first l link piece with_user x info a judged_so in
+        let first = repeats_first l link piece greeting x info a judged_so in
         let q = setup_queued (steps_of c.single.connection false) false in
         let count : setup_count l.starts ≡ 1 = a.count ∙ ap suc first in
         let last : result_of after 0 ≡ Some result.RepeatWithoutUser = sym (setup_last after 1 given s.said.says count) ∙ r in
@@ -680,7 +681,7 @@ setup_read before c started word kind piece link with_user h good k is e = by_ou
         (λ t. subst (λ (y : Life). applied (failed_at v fault.Parse y)) (sym over) done)
         (λ f. done)
 
-    by_result : (x : Settled) (xs : List Settled) → (deals link piece).out ≡ x ∷ xs → IsAnswered l link piece with_user x → (r : SetupResult) → judged_by (setup info with_user) x.verdict ≡ r → setup_result after ≡ Some r → applied (broken_at read.broken (heard_on (set_up_by w read r) behind))
+    by_result : (x : Settled) (xs : List Settled) → (deals link piece).out ≡ x ∷ xs → IsAnswered l link piece greeting x → (r : SetupResult) → judged_by (setup info greeting) x.verdict ≡ r → setup_result after ≡ Some r → applied (broken_at read.broken (heard_on (set_up_by w read r) behind))
     by_result x xs some a result.Ready j r =
         let v = made_ready w read in
         subst (λ (z : Work). applied (broken_at read.broken z)) (sym (taken_if (is_ready v.conn.life) (pushed_each v behind) v (ap (λ (y : MultiplexedConnection). is_ready y.life) (made_conn w read)))) (ready x xs some a r)
@@ -691,10 +692,10 @@ setup_read before c started word kind piece link with_user h good k is e = by_ou
         subst (λ (z : Work). applied (broken_at read.broken z)) (sym (left_if (is_ready v.conn.life) (pushed_each v behind) v (ap is_ready (waiting_leaves u y).life))) (failed y r)
     by_result x xs some a result.NoMemory j r =
         let replies = cut after a.k (setup_shape (setup_steps after a.k)) in
-        absurd (judged_memory (setup info with_user) replies (ap (judged_by (setup info with_user)) (sym a.answers.verdict_is) ∙ j))
+        absurd (judged_memory (setup info greeting) replies (ap (judged_by (setup info greeting)) (sym a.answers.verdict_is) ∙ j))
 
-    by_out : (out : List Settled) → (deals link piece).out ≡ out → applied (broken_at read.broken (answered_setup w read with_user (heard_of c.single.connection.hears (pushes_came link piece)) out))
-    by_out [] none = stays read with_user (reads_still name l link with_user piece s.said owners s.alive s.tied none) tied sound
+    by_out : (out : List Settled) → (deals link piece).out ≡ out → applied (broken_at read.broken (answered_setup w read greeting (heard_of c.single.connection.hears (pushes_came link piece)) out))
+    by_out [] none = stays read greeting (reads_still name l link greeting piece s.said owners s.alive s.tied none) tied sound
     by_out (x ∷ xs) some =
-        let a = reads_answered name l link with_user piece x xs s.said owners h.sound.tied.setup.sent s.alive s.tied some in
-        by_result x xs some a (judged_by (steps_of c.single.connection with_user) x.verdict) refl (answered_result l link piece with_user x info given h.sound.tied.setup.info_is s.said.says a)
+        let a = reads_answered name l link greeting piece x xs s.said owners h.sound.tied.setup.sent s.alive s.tied some in
+        by_result x xs some a (judged_by (steps_of c.single.connection greeting) x.verdict) refl (answered_result l link piece greeting x info given h.sound.tied.setup.info_is s.said.says a)

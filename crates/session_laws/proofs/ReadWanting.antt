@@ -79,7 +79,7 @@ wanting_read before c started word kind piece link h good k is e =
 
     -- no push is to be told
     quiet : PushesOf (is_heard b) c.single.connection.hears after
-    quiet = heard_pushes l piece (is_heard b) c.single.connection.hears [] (λ y. sym (heard_none l piece (λ i x less at. (h.sound.tied.setup.sent i x less at).1) unready)) h.sound.tied.pushes
+    quiet = heard_pushes l piece (is_heard b) c.single.connection.hears [] (λ y. sym (heard_none l piece (λ i x less at. (h.sound.tied.setup.sent i x less at).1) unready)) h.sound.tied.notices
 
     -- nothing takes items
     row : read.row ≡ []
@@ -96,7 +96,7 @@ wanting_read before c started word kind piece link h good k is e =
           wanted_is = h.sound.tied.creds.wanted_is;
           sourced = asked_sourced after s.sought.1 (inl unready);
           sent = h.sound.tied.setup.sent;
-          pushes = quiet;
+          notices = quiet;
         }))
 
     goes_on : read.broken ≡ false → applied v
@@ -112,7 +112,7 @@ wanting_read before c started word kind piece link h good k is e =
           lines = subst (λ (x : Life). TiedLines b.story c.single.connection.requests (link_in x) c.single.connection.waiting c.single.connection.admitted [] started) e h.sound.tied.lines;
           told = λ z. subst (λ (x : Life). AreQueued b.story c.single.connection.requests (link_in x)) e (h.sound.tied.told (ap has_ended e));
           waits = wanting_waits b.story c.single.connection.requests link read c.single.connection.fresh c.single.connection.moved (subst (λ (x : Life). TiedWaits b.story c.single.connection.requests x c.single.connection.fresh c.single.connection.moved) e h.sound.tied.waits);
-          pushes = subst (λ (y : Ledger). PushesOf (is_heard b) c.single.connection.hears y) (sym same) quiet;
+          notices = subst (λ (y : Ledger). PushesOf (is_heard b) c.single.connection.hears y) (sym same) quiet;
         })
         (ap ending same ∙ ending_wanting after s.up s.lacks ∙ left_if (is_spoiled after.rest) (Some (by_opening error.Closed)) None (spoiled false f))
         (wanting_fit c.single.connection link read e h.fit (record { sound = f; size_is = fit.size_is; bound_is = fit.bound_is; within = fit.within }))

@@ -82,7 +82,7 @@ ready_renewal before c started word kind n link renewals over lost r h good k is
       lines = h0.lines;
       told = h0.told;
       waits = h0.waits;
-      pushes = record { heard_is = h0.pushes.heard_is; within = h0.pushes.within; untold_is = h0.pushes.untold_is; parts = h0.pushes.parts; alive = h0.pushes.alive; due = h0.pushes.due };
+      notices = record { heard_is = h0.notices.heard_is; within = h0.notices.within; untold_is = h0.notices.untold_is; parts = h0.notices.parts; alive = h0.notices.alive; due = h0.notices.due };
     }) in
     let turn_is = heard_is b c.turns word kind (book_kind b c kind h0.numbers.timers k) in
     let holds = holds_first front f (with_renewal conn r) [] started (announced_sound before c started word kind t h good (subst (λ (x : Book). Tied x t) (sym turn_is) tied)) in
@@ -178,7 +178,7 @@ renewed_applied before c started word kind a h good k is two = by_life c.single.
     by_life : (x : Life) → conn.life ≡ x → done (expecting conn a)
     by_life Dialing e = early Dialing e refl refl
     by_life (Wanting link) e = early (Wanting link) e refl refl
-    by_life (SettingUp link with_user) e = early (SettingUp link with_user) e refl refl
+    by_life (SettingUp link greeting) e = early (SettingUp link greeting) e refl refl
     by_life (Ready link) e = ready link e
     by_life (Ended x) e = unready (Ended x) e refl (ended_quiet before c started word kind (renewed a) x h good k is e)
 
@@ -224,7 +224,7 @@ unrenewed_applied before c started word kind h good k is two = by_life c.single.
     by_life : (x : Life) → conn.life ≡ x → done (none_follow conn)
     by_life Dialing e = early Dialing e refl refl
     by_life (Wanting link) e = early (Wanting link) e refl refl
-    by_life (SettingUp link with_user) e = early (SettingUp link with_user) e refl refl
+    by_life (SettingUp link greeting) e = early (SettingUp link greeting) e refl refl
     by_life (Ready link) e =
         let u = up_tied (book before) (inner c started) link e h.sound.tied in
         let tied : AreRenewed l conn.renewal = subst (λ (x : Life). TiedRenewal l conn.renewal x) e h.sound.tied.renewal in
@@ -359,7 +359,7 @@ renewal_late before c started word kind m h good k is = by_life c.single.connect
     by_life : (x : Life) → conn.life ≡ x → done (late_for conn m)
     by_life Dialing e = early (subst (λ (x : Life). TiedRenewal l conn.renewal x) e h.sound.tied.renewal)
     by_life (Wanting link) e = early (subst (λ (x : Life). TiedRenewal l conn.renewal x) e h.sound.tied.renewal)
-    by_life (SettingUp link with_user) e = early (subst (λ (x : Life). TiedRenewal l conn.renewal x) e h.sound.tied.renewal)
+    by_life (SettingUp link greeting) e = early (subst (λ (x : Life). TiedRenewal l conn.renewal x) e h.sound.tied.renewal)
     by_life (Ready link) e = ready link e
     by_life (Ended x) e =
         let quiet = ended_quiet before c started word kind (late m) x h good k is e in

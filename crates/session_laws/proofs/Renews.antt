@@ -116,7 +116,7 @@ time_tied b t link number ms none due within h =
         only = k.only;
       };
       others = others_kept b t.link times h.others;
-      pushes = h.pushes;
+      notices = h.notices;
       life = h.life;
       creds = record { wanted_is = h.creds.wanted_is; sought = h.creds.sought };
       count = h.count;
@@ -235,7 +235,7 @@ auth_tied b t link c cs due pending waits h =
         only = k.only;
       };
       others = others_kept b t.link (begins (message_of b t.link owner.Auth)) h.others;
-      pushes = h.pushes;
+      notices = h.notices;
       life = h.life;
       creds = record { wanted_is = h.creds.wanted_is; sought = h.creds.sought };
       count = h.count;

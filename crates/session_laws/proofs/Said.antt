@@ -12,6 +12,7 @@ use Rattle.driver_model.specs.News.{News, silence, connected, refused, overdue, 
 use Rattle.link_core.specs.declared.message.Entry.{Entry}
 use Rattle.link_core.specs.Link.{LinkState}
 use Rattle.link_laws.proofs.TiedLink.{TiedLink}
+use Rattle.mux_conn.specs.declared.life.Greeting.{Greeting}
 use Rattle.mux_conn.specs.declared.life.Life.{Life}
 use Rattle.mux_conn.specs.declared.life.Life.TheVariants.{Dialing, Wanting, SettingUp, Ready, Ended}
 use Rattle.mux_conn.specs.declared.request.Request.{Request}
@@ -21,7 +22,7 @@ use Rattle.legal_trace.specs.Book.{Book}
 use Rattle.legal_trace.specs.Legal.{ReadyIsShown, SourcesAreAsked}
 use Rattle.session_laws.proofs.Creds.{down_unawaited, lacking_undecided, unawaited_is, wanting_lacks, down_may_renew, down_sourced, asked_sourced, has_sourced, ready_sourced}
 use Rattle.session_laws.proofs.SetUp.{not_set_up}
-use Rattle.session_laws.proofs.Tied.{AreSought, Inner, HasSaid, IsSettingUp, Tied, TiedLife, TiedSetup, carried, owner_of, whole_link, TiedPushes}
+use Rattle.session_laws.proofs.Tied.{AreSought, Inner, HasSaid, IsSettingUp, Tied, TiedLife, TiedSetup, carried, owner_of, whole_link, TiedNotices}
 use Rattle.credentials.specs.Credentials.{Credentials}
 
 -- whose messages a link carries
@@ -30,7 +31,7 @@ use Rattle.credentials.specs.Credentials.{Credentials}
 pub carried_same : (life : Life) (requests other : List Request) → owner_of requests ≡ owner_of other → carried life requests ≡ carried life other
 carried_same Dialing requests other e = λ i p. e i p
 carried_same (Wanting link) requests other e = λ i p. owner.Setup
-carried_same (SettingUp link with_user) requests other e = λ i p. owner.Setup
+carried_same (SettingUp link greeting) requests other e = λ i p. owner.Setup
 carried_same (Ready link) requests other e = λ i p. e i p
 carried_same (Ended x) requests other e = λ i p. e i p
 
@@ -67,7 +68,7 @@ well_on l asked up end taken offer rest heard = ap is_well (result_on l asked up
 pub said_on : (l : Ledger) (asked up : Bool) (end : Option End) (taken offer rest : List ℕ) (heard : News) (started : List ℕ) (life : Life) → HasSaid l started life → HasSaid (retold l asked up end taken offer rest heard) started life
 said_on l asked up end taken offer rest heard started Dialing h = h
 said_on l asked up end taken offer rest heard started (Wanting link) h = h
-said_on l asked up end taken offer rest heard started (SettingUp link with_user) h = (
+said_on l asked up end taken offer rest heard started (SettingUp link greeting) h = (
   h.0,
   record {
     says = h.1.says;
@@ -87,8 +88,8 @@ pub setup_on : (l : Ledger) (asked up : Bool) (end : Option End) (taken offer re
 setup_on l asked up end taken offer rest heard info started life h = record { info_is = h.info_is; sent = h.sent; said = said_on l asked up end taken offer rest heard started life h.said }
 
 -- on a link with the same messages
-pub setup_link : (l : Ledger) (info : RedisConnectionInfo) (started : List ℕ) (link after : LinkState) (with_user : Bool) → after.queue ≡ link.queue → after.row ≡ link.row → TiedSetup l info started (SettingUp link with_user) → TiedSetup l info started (SettingUp after with_user)
-setup_link l info started link after with_user queue row h = record {
+pub setup_link : (l : Ledger) (info : RedisConnectionInfo) (started : List ℕ) (link after : LinkState) (greeting : Greeting) → after.queue ≡ link.queue → after.row ≡ link.row → TiedSetup l info started (SettingUp link greeting) → TiedSetup l info started (SettingUp after greeting)
+setup_link l info started link after greeting queue row h = record {
   info_is = h.info_is;
   sent = h.sent;
   said = (
@@ -213,7 +214,7 @@ setup_unheard l turn shut info started life down h = setup_hears l turn shut inf
 --
 -- what is told of its pushes, in a record of its ledger
 abbrev pub PushesOf : Bool → Bool → Ledger → Type 0
-PushesOf heard mine l = TiedPushes heard mine l.pushes l.told l.end l.parted [] false
+PushesOf heard mine l = TiedNotices heard mine l.notices l.told l.end l.parted [] false
 
 -- so it does whatever news come that bring a link that is up nothing
 pub pushes_hear : (l : Ledger) (turn : ℕ) (n : News) (heard mine : Bool) → BringsNothing n ⊎ (l.up ≡ false) → PushesOf heard mine l → PushesOf heard mine (noted l (hears turn n))
@@ -246,8 +247,8 @@ ending_undecided l up r =
     taken_if l.up (ending_alive l) _ up ∙ left_if (is_set_up l) (ending_up l l.heard) _ r.unwell ∙ ap (λ x. ending_by x (ending_unready l l.heard)) r.no_error
 
 -- that is set up still
-pub ending_setting : (l : Ledger) (link : LinkState) (with_user : Bool) → l.up ≡ true → IsSettingUp l link with_user → ending l ≡ ending_unready l l.heard
-ending_setting l link with_user up h = ending_undecided l up (not_set_up l link with_user h)
+pub ending_setting : (l : Ledger) (link : LinkState) (greeting : Greeting) → l.up ≡ true → IsSettingUp l link greeting → ending l ≡ ending_unready l l.heard
+ending_setting l link greeting up h = ending_undecided l up (not_set_up l link greeting h)
 
 -- or waits for credentials
 pub ending_wanting : (l : Ledger) → l.up ≡ true → lacks_credentials l ≡ true → ending l ≡ ending_unready l l.heard
@@ -258,12 +259,12 @@ pub ready_heard : (l : Ledger) (n : News) → l.up ≡ true → is_set_up l ≡ 
 ready_heard l n up well = ends_where_set (record l { heard = n }) up (well_on l l.asked l.up l.end l.taken l.offer l.rest n ∙ well)
 
 -- it is set up still once it has heard something
-pub setting_told : (l : Ledger) (n : News) (link : LinkState) (with_user : Bool) → IsSettingUp l link with_user → IsSettingUp (record l { heard = n }) link with_user
-setting_told l n link with_user s = let k = said_on l l.asked l.up l.end l.taken l.offer l.rest n [] (SettingUp link with_user) (refl, s) in k.1
+pub setting_told : (l : Ledger) (n : News) (link : LinkState) (greeting : Greeting) → IsSettingUp l link greeting → IsSettingUp (record l { heard = n }) link greeting
+setting_told l n link greeting s = let k = said_on l l.asked l.up l.end l.taken l.offer l.rest n [] (SettingUp link greeting) (refl, s) in k.1
 
 -- and is ended by what it has heard
-pub setting_heard : (l : Ledger) (n : News) (link : LinkState) (with_user : Bool) → l.up ≡ true → IsSettingUp l link with_user → ending (record l { heard = n }) ≡ ending_unready (record l { heard = n }) n
-setting_heard l n link with_user up s = ending_setting (record l { heard = n }) link with_user up (setting_told l n link with_user s)
+pub setting_heard : (l : Ledger) (n : News) (link : LinkState) (greeting : Greeting) → l.up ≡ true → IsSettingUp l link greeting → ending (record l { heard = n }) ≡ ending_unready (record l { heard = n }) n
+setting_heard l n link greeting up s = ending_setting (record l { heard = n }) link greeting up (setting_told l n link greeting s)
 
 -- whose setup failed
 pub ending_failed : (l : Ledger) (e : RedisError) → l.up ≡ true → setup_result l ≡ Some (Failed e) → ending l ≡ Some (by_opening e)
@@ -321,7 +322,7 @@ mild_end l taken offer _ k none = absurd k
 ready_by : (l : Ledger) (created : ℕ) (info : RedisConnectionInfo) (started : List ℕ) (life : Life) → TiedLife l created life → AreSought l.creds life → TiedSetup l info started life → is_ready l ≡ true → created ≢ 0
 ready_by l created info started Dialing h c s r = absurd (not_both l.up h.1 (both_left l.up (is_set_up l) r))
 ready_by l created info started (Wanting link) h c s r = absurd (not_both (is_set_up l) (lacking_undecided l (wanting_lacks l.creds link c)).unwell (both_right l.up (is_set_up l) r))
-ready_by l created info started (SettingUp link with_user) h c s r = absurd (not_both (is_set_up l) (not_set_up l link with_user s.said.1).unwell (both_right l.up (is_set_up l) r))
+ready_by l created info started (SettingUp link greeting) h c s r = absurd (not_both (is_set_up l) (not_set_up l link greeting s.said.1).unwell (both_right l.up (is_set_up l) r))
 ready_by l created info started (Ready link) h c s r = h.3
 ready_by l created info started (Ended e) h c s r = absurd (not_both l.up h.0 (both_left l.up (is_set_up l) r))
 
@@ -337,7 +338,7 @@ ready_shown b t h m ready = by_test (m == t.link) _
 pub life_sourced : (l : Ledger) (created : ℕ) (started : List ℕ) (life : Life) → TiedLife l created life → AreSought l.creds life → HasSaid l started life → source_due l ≡ false
 life_sourced l created started Dialing h s said = down_sourced l h.1
 life_sourced l created started (Wanting link) h s said = asked_sourced l s.1 (inl (lacking_undecided l (wanting_lacks l.creds link s)).unwell)
-life_sourced l created started (SettingUp link with_user) h s said = has_sourced l s.0 (not_set_up l link with_user said.1).unwell
+life_sourced l created started (SettingUp link greeting) h s said = has_sourced l s.0 (not_set_up l link greeting said.1).unwell
 life_sourced l created started (Ready link) h s said = ready_sourced l s.0 (λ w. s.1 ∙ w)
 life_sourced l created started (Ended e) h s said = down_sourced l h.0
 

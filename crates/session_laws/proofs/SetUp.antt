@@ -14,6 +14,7 @@ use Rattle.legal_trace.proofs.Setups.{IsUndecided, count_more, count_within, rep
 use Rattle.link_core.specs.Link.{LinkState}
 use Rattle.link_laws.proofs.TiedLink.{has_heard}
 use Rattle.session_laws.proofs.Creds.{lacking_undecided}
+use Rattle.mux_conn.specs.declared.life.Greeting.{Greeting}
 use Rattle.session_laws.proofs.Tied.{AreSetups, IsSetUp, IsSettingUp, IsSetupSent, owners_of, setup_owners}
 
 -- what a setup has come to
@@ -40,8 +41,8 @@ pub none_yet : (l : Ledger) (k : ℕ) → is_full l k ≡ false → result_of l 
 none_yet l k f = left_if (is_full l k) _ None f
 
 -- so while a setup is to start, or isn't answered, the link isn't set up
-pub not_set_up : (l : Ledger) (link : LinkState) (with_user : Bool) → IsSettingUp l link with_user → IsUndecided (setup_result l)
-not_set_up l link with_user h =
+pub not_set_up : (l : Ledger) (link : LinkState) (greeting : Greeting) → IsSettingUp l link greeting → IsUndecided (setup_result l)
+not_set_up l link greeting h =
     by_test (lacks_credentials l) _ (lacking_undecided l)
     (λ given. subst IsUndecided (sym (setup_said l given ∙ left_if (says_nothing (setup_steps l 0)) (Some result.Ready) (last_result l (setup_count l.starts)) h.says)) (elim h.stage [
       | inl due ↦ due_open l (setup_count l.starts) due.due
@@ -51,8 +52,8 @@ not_set_up l link with_user h =
 -- what is due next
 --
 -- nothing while a setup isn't answered
-pub sent_undue : (l : Ledger) (link : LinkState) (with_user : Bool) → IsSetupSent l link with_user → setup_after l (setup_count l.starts) ≡ None
-sent_undue l link with_user h = ap (setup_after l) h.count ∙ after h.k (none_yet l h.k h.open_is)
+pub sent_undue : (l : Ledger) (link : LinkState) (greeting : Greeting) → IsSetupSent l link greeting → setup_after l (setup_count l.starts) ≡ None
+sent_undue l link greeting h = ap (setup_after l) h.count ∙ after h.k (none_yet l h.k h.open_is)
   where
     after : (k : ℕ) → result_of l k ≡ None → setup_after l (suc k) ≡ None
     after zero e = left_if (repeats (result_of l 0)) (Some 1) None (ap repeats e)

@@ -21,6 +21,7 @@ use Rattle.mux_conn.specs.Effects.{setup_queued}
 use Rattle.mux_conn.specs.Passes.{set_up_each, sets_up_with, started_at}
 use Rattle.mux_conn.specs.declared.act.LinkAct.{LinkAct}
 use Rattle.mux_conn.specs.declared.act.LinkAct.TheVariants as act
+use Rattle.mux_conn.specs.declared.life.Greeting.{Greeting}
 use Rattle.mux_conn.specs.declared.life.Life.{Life}
 use Rattle.mux_conn.specs.declared.life.Life.TheVariants.{SettingUp}
 use Rattle.mux_conn.specs.declared.request.Request.{Request}
@@ -102,7 +103,7 @@ tries_set l s story requests link (p ∷ ps) mine none h = cc
 
 -- the message that is due on a link
 abbrev due_queued : Ledger → Bool → Queued
-due_queued l with_user = setup_queued (setup_steps l (setup_count l.starts)) with_user
+due_queued l greeting = setup_queued (setup_steps l (setup_count l.starts)) greeting
 
 abbrev due_start : Ledger → Start
 due_start l = setup_message l (setup_count l.starts)
@@ -120,9 +121,9 @@ setups_next l all h k x less e =
     ]
 
 -- what is known of the setup once it has started
-setting_next : (l : Ledger) (link : LinkState) (with_user : Bool) → owners_of l.starts ≡ setup_owners (setup_count l.starts) [] → length l.dealt ≤ reach l.starts l.dealt → setup_after l (setup_count l.starts) ≡ Some (setup_count l.starts)
-    → with_user ≡ (setup_count l.starts == 0) → IsSettingUp l (with_queue link (due_queued l with_user ∷ [])) with_user → IsSettingUp (noted l (begins (due_start l))) (with_queue (begun link (due_queued l with_user)) []) with_user
-setting_next l link with_user all within due user h =
+setting_next : (l : Ledger) (link : LinkState) (greeting : Greeting) → owners_of l.starts ≡ setup_owners (setup_count l.starts) [] → length l.dealt ≤ reach l.starts l.dealt → setup_after l (setup_count l.starts) ≡ Some (setup_count l.starts)
+    → greeting ≡ (setup_count l.starts == 0) → IsSettingUp l (with_queue link (due_queued l greeting ∷ [])) greeting → IsSettingUp (noted l (begins (due_start l))) (with_queue (begun link (due_queued l greeting)) []) greeting
+setting_next l link greeting all within due user h =
     let c = setup_count l.starts in
     let long = count_length l.starts c all in
     record {
@@ -136,29 +137,29 @@ setting_next l link with_user all within due user h =
         earlier = λ j w. full_begins l (due_start l) j (omega arith) ∙ due_earlier l c j due w;
         open_is = begun_open l (due_start l) c (sym long) within;
       });
-      awaited = all_push (λ (e : Entry). e.awaited ≡ true) link.row (entry_of (due_queued l with_user)) h.awaited refl;
+      awaited = all_push (λ (e : Entry). e.awaited ≡ true) link.row (entry_of (due_queued l greeting)) h.awaited refl;
     }
 
 -- the session
 --
 -- whose link is set up, while nothing is to be answered
 abbrev pub setting_on : Inner → LinkState → Bool → Inner
-setting_on t link with_user = record t { life = SettingUp link with_user; pending = []; untold = []; parting = false }
+setting_on t link greeting = record t { life = SettingUp link greeting; pending = []; untold = []; parting = false }
 
 -- what the start of the setup shows
 abbrev set_up_action : Inner → LinkState → Queued → Action
 set_up_action t link q = action.Start t.link link.started owner.Setup (need_of q.shape) (length q.packed)
 
 -- the setup that is due may start, where nothing holds it back
-set_up_may : (b : Book) (t : Inner) (link : LinkState) (with_user : Bool)
-    → (let q = due_queued (b.link t.link) with_user in
-    setup_after (b.link t.link) (setup_count (b.link t.link).starts) ≡ Some (setup_count (b.link t.link).starts) → IsFit t.size t.bound link → holds_back link ≡ false → Tied b (setting_on t (with_queue link (q ∷ [])) with_user) → NoneEnds b
+set_up_may : (b : Book) (t : Inner) (link : LinkState) (greeting : Greeting)
+    → (let q = due_queued (b.link t.link) greeting in
+    setup_after (b.link t.link) (setup_count (b.link t.link).starts) ≡ Some (setup_count (b.link t.link).starts) → IsFit t.size t.bound link → holds_back link ≡ false → Tied b (setting_on t (with_queue link (q ∷ [])) greeting) → NoneEnds b
     → MaySetUp b t.link link.started (need_of q.shape) (length q.packed))
-set_up_may b t link with_user due fit free h ended =
+set_up_may b t link greeting due fit free h ended =
     let l = b.link t.link in
     let c = setup_count l.starts in
-    let q = due_queued l with_user in
-    let was = setting_on t (with_queue link (q ∷ [])) with_user in
+    let q = due_queued l greeting in
+    let was = setting_on t (with_queue link (q ∷ [])) greeting in
     record {
       applied = applied_up b was h refl (refl, refl) refl ended;
       k = c;
@@ -171,16 +172,16 @@ set_up_may b t link with_user due fit free h ended =
     }
 
 -- the session is tied to the book with that start
-set_up_tied : (b : Book) (t : Inner) (link : LinkState) (with_user : Bool)
-    → (let q = due_queued (b.link t.link) with_user in
-    setup_after (b.link t.link) (setup_count (b.link t.link).starts) ≡ Some (setup_count (b.link t.link).starts) → with_user ≡ (setup_count (b.link t.link).starts == 0) → Tied b (setting_on t (with_queue link (q ∷ [])) with_user)
-    → Tied (entered b (set_up_action t link q)) (setting_on t (with_queue (begun link q) []) with_user))
-set_up_tied b t link with_user due user h =
+set_up_tied : (b : Book) (t : Inner) (link : LinkState) (greeting : Greeting)
+    → (let q = due_queued (b.link t.link) greeting in
+    setup_after (b.link t.link) (setup_count (b.link t.link).starts) ≡ Some (setup_count (b.link t.link).starts) → greeting ≡ (setup_count (b.link t.link).starts == 0) → Tied b (setting_on t (with_queue link (q ∷ [])) greeting)
+    → Tied (entered b (set_up_action t link q)) (setting_on t (with_queue (begun link q) []) greeting))
+set_up_tied b t link greeting due user h =
     let l = b.link t.link in
-    let q = due_queued l with_user in
+    let q = due_queued l greeting in
     let s = due_start l in
-    let was = setting_on t (with_queue link (q ∷ [])) with_user in
-    let now = setting_on t (with_queue (begun link q) []) with_user in
+    let was = setting_on t (with_queue link (q ∷ [])) greeting in
+    let now = setting_on t (with_queue (begun link q) []) greeting in
     let name : ℕ → Owner = λ p. owner.Setup in
     let tied : TiedLink name l (with_queue link (q ∷ [])) = h.link refl in
     let said = h.setup.said in
@@ -189,98 +190,98 @@ set_up_tied b t link with_user due user h =
     (record {
       numbers = numbers_kept b _ _ was _ _ _ _ _ _ _ _ _ _ h.numbers;
       others = others_kept b t.link (begins s) h.others;
-      pushes = h.pushes;
+      notices = h.notices;
       life = h.life;
       creds = record { wanted_is = h.creds.wanted_is; sought = h.creds.sought };
       count = h.count;
       renewal = none_begins l t.renewal s refl h.renewal;
-      setup = record { info_is = h.setup.info_is; sent = setups_next l all h.setup.sent; said = (said.0, setting_next l link with_user all tied.within due user said.1) };
+      setup = record { info_is = h.setup.info_is; sent = setups_next l all h.setup.sent; said = (said.0, setting_next l link greeting all tied.within due user said.1) };
       link = λ e. queue_tied name (noted l (begins s)) (begun (with_queue link (q ∷ [])) q) [] (begun_tied name l (with_queue link (q ∷ [])) q (setup_packed l (setup_count l.starts) said.1.says) tied);
       names = h.names;
       story = h.story;
       tries = tries_set l s b.story t.requests t.link t.started refl said.0 h.tries;
       lines = h.lines;
       told = h.told;
-      waits = setting_waits b.story t.requests (with_queue link (q ∷ [])) (with_queue (begun link q) []) with_user with_user t.fresh t.moved h.waits;
+      waits = setting_waits b.story t.requests (with_queue link (q ∷ [])) (with_queue (begun link q) []) greeting greeting t.fresh t.moved h.waits;
       permits = h.permits;
       late = h.late;
     })
 
 -- which ends no link
-set_up_ends_none : (b : Book) (t : Inner) (link : LinkState) (with_user : Bool)
-    → (let q = due_queued (b.link t.link) with_user in
-    setup_after (b.link t.link) (setup_count (b.link t.link).starts) ≡ Some (setup_count (b.link t.link).starts) → Tied b (setting_on t (with_queue link (q ∷ [])) with_user) → NoneEnds b
+set_up_ends_none : (b : Book) (t : Inner) (link : LinkState) (greeting : Greeting)
+    → (let q = due_queued (b.link t.link) greeting in
+    setup_after (b.link t.link) (setup_count (b.link t.link).starts) ≡ Some (setup_count (b.link t.link).starts) → Tied b (setting_on t (with_queue link (q ∷ [])) greeting) → NoneEnds b
     → NoneEnds (entered b (set_up_action t link q)))
-set_up_ends_none b t link with_user due h ended =
+set_up_ends_none b t link greeting due h ended =
     let l = b.link t.link in
     let c = setup_count l.starts in
     none_ends_mine b t.link (begins (due_start l)) (setup_stays l (due_start l) c refl (taken_if l.up (setup_after l c) None h.life.1 ∙ due) (h.link refl).within (ended t.link)) ended
 
 -- so it goes on with it
-set_up_going : (trace : List Action) (t : Inner) (link : LinkState) (with_user : Bool)
+set_up_going : (trace : List Action) (t : Inner) (link : LinkState) (greeting : Greeting)
     → (let l = (book trace).link t.link in
-    let q = due_queued l with_user in
-    setup_after l (setup_count l.starts) ≡ Some (setup_count l.starts) → with_user ≡ (setup_count l.starts == 0) → IsFit t.size t.bound link → holds_back link ≡ false → IsGoing trace (setting_on t (with_queue link (q ∷ [])) with_user)
-    → IsGoing (trace ++ set_up_action t link q ∷ []) (setting_on t (with_queue (begun link q) []) with_user))
-set_up_going trace t link with_user due user fit free h =
+    let q = due_queued l greeting in
+    setup_after l (setup_count l.starts) ≡ Some (setup_count l.starts) → greeting ≡ (setup_count l.starts == 0) → IsFit t.size t.bound link → holds_back link ≡ false → IsGoing trace (setting_on t (with_queue link (q ∷ [])) greeting)
+    → IsGoing (trace ++ set_up_action t link q ∷ []) (setting_on t (with_queue (begun link q) []) greeting))
+set_up_going trace t link greeting due user fit free h =
     let b = book trace in
-    let q = due_queued (b.link t.link) with_user in
-    going_more trace (set_up_action t link q) (setting_on t (with_queue (begun link q) []) with_user) h.sound.stands
-    (set_up_may b t link with_user due fit free h.sound.tied h.ended)
-    (set_up_tied b t link with_user due user h.sound.tied)
-    (set_up_ends_none b t link with_user due h.sound.tied h.ended) (λ x e. cc)
+    let q = due_queued (b.link t.link) greeting in
+    going_more trace (set_up_action t link q) (setting_on t (with_queue (begun link q) []) greeting) h.sound.stands
+    (set_up_may b t link greeting due fit free h.sound.tied h.ended)
+    (set_up_tied b t link greeting due user h.sound.tied)
+    (set_up_ends_none b t link greeting due h.sound.tied h.ended) (λ x e. cc)
 
 -- the pass
 --
 -- a connection whose link is set up, and whose setup has started, or is held back
-pub record HasBegun (before : List Action) (f : Core) (w : Work) (started : List ℕ) (with_user : Bool) : Type 0 where
+pub record HasBegun (before : List Action) (f : Core) (w : Work) (started : List ℕ) (greeting : Greeting) : Type 0 where
   pub link : LinkState
-  pub life : w.conn.life ≡ SettingUp link with_user
+  pub life : w.conn.life ≡ SettingUp link greeting
   pub fit : IsFit w.conn.size w.conn.boundary link
   pub held : (link.queue ≡ []) ⊎ (holds_back link ≡ true)
   pub going : IsGoing (trace_of_acts before f w.acts) (seen f w.acts w.conn [] started)
   pub admitted : w.conn.admitted ≡ []
 
 -- where nothing starts, all stays
-none_set_up : (w : Work) (link : LinkState) (with_user : Bool) (queue : List Queued) → w.conn.life ≡ SettingUp link with_user → link.queue ≡ queue
-    → started_each (record { link = link; out = [] }) queue ≡ record { link = with_queue link queue; out = [] } → started_at w (SettingUp link with_user) ≡ w
-none_set_up w link with_user queue life same stays =
-    ap (λ (qs : List Queued). sets_up_with w with_user (started_each (record { link = link; out = [] }) qs)) same
-    ∙ ap (sets_up_with w with_user) stays
-    ∙ ap (λ (qs : List Queued). with_setup w (with_queue link qs) with_user) (sym same)
+none_set_up : (w : Work) (link : LinkState) (greeting : Greeting) (queue : List Queued) → w.conn.life ≡ SettingUp link greeting → link.queue ≡ queue
+    → started_each (record { link = link; out = [] }) queue ≡ record { link = with_queue link queue; out = [] } → started_at w (SettingUp link greeting) ≡ w
+none_set_up w link greeting queue life same stays =
+    ap (λ (qs : List Queued). sets_up_with w greeting (started_each (record { link = link; out = [] }) qs)) same
+    ∙ ap (sets_up_with w greeting) stays
+    ∙ ap (λ (qs : List Queued). with_setup w (with_queue link qs) greeting) (sym same)
     ∙ ap (at_life w) (sym life)
 
 -- the setup starts where nothing holds it back
-pub setting_begun : (before : List Action) (f : Core) (w : Work) (started : List ℕ) (link : LinkState) (with_user : Bool) → w.conn.life ≡ SettingUp link with_user → IsFit w.conn.size w.conn.boundary link → w.conn.admitted ≡ []
-    → IsGoing (trace_of_acts before f w.acts) (seen f w.acts w.conn [] started) → HasBegun before f (started_at w (SettingUp link with_user)) started with_user
-setting_begun before f w started link with_user life fit none h =
+pub setting_begun : (before : List Action) (f : Core) (w : Work) (started : List ℕ) (link : LinkState) (greeting : Greeting) → w.conn.life ≡ SettingUp link greeting → IsFit w.conn.size w.conn.boundary link → w.conn.admitted ≡ []
+    → IsGoing (trace_of_acts before f w.acts) (seen f w.acts w.conn [] started) → HasBegun before f (started_at w (SettingUp link greeting)) started greeting
+setting_begun before f w started link greeting life fit none h =
     let t = seen f w.acts w.conn [] started in
     let trace = trace_of_acts before f w.acts in
     let l = (book trace).link f.single.link in
-    let here : IsGoing trace (setting_on t link with_user) = subst (λ (x : Life). IsGoing trace (record t { life = x })) life h in
+    let here : IsGoing trace (setting_on t link greeting) = subst (λ (x : Life). IsGoing trace (record t { life = x })) life h in
     let stays : (queue : List Queued) → link.queue ≡ queue → started_each (record { link = link; out = [] }) queue ≡ record { link = with_queue link queue; out = [] } → (link.queue ≡ []) ⊎ (holds_back link ≡ true)
-    → HasBegun before f (started_at w (SettingUp link with_user)) started with_user = λ queue same e held.
-    subst (λ (x : Work). HasBegun before f x started with_user) (sym (none_set_up w link with_user queue life same e)) (record { link = link; life = life; fit = fit; held = held; going = h; admitted = none }) in
+    → HasBegun before f (started_at w (SettingUp link greeting)) started greeting = λ queue same e held.
+    subst (λ (x : Work). HasBegun before f x started greeting) (sym (none_set_up w link greeting queue life same e)) (record { link = link; life = life; fit = fit; held = held; going = h; admitted = none }) in
     elim here.sound.tied.setup.said.1.stage [
       | inl d ↦
-          let q = due_queued l with_user in
+          let q = due_queued l greeting in
           by_test (holds_back link) _
           (λ held. stays (q ∷ []) d.queue (taken_if (holds_back link) _ _ held) (inr held))
           (λ free.
-          let at : IsGoing trace (setting_on t (with_queue link (q ∷ [])) with_user) = subst (λ (qs : List Queued). IsGoing trace (setting_on t (with_queue link qs) with_user)) d.queue here in
-          let going = set_up_going trace t link with_user d.due d.user fit free at in
+          let at : IsGoing trace (setting_on t (with_queue link (q ∷ [])) greeting) = subst (λ (qs : List Queued). IsGoing trace (setting_on t (with_queue link qs) greeting)) d.queue here in
+          let going = set_up_going trace t link greeting d.due d.user fit free at in
           let a = act.SetUp link.started (need_of q.shape) (length q.packed) in
           let after = with_queue (begun link q) [] in
-          let is : started_at w (SettingUp link with_user) ≡ acted (with_setup w after with_user) a =
-          ap (λ (qs : List Queued). sets_up_with w with_user (started_each (record { link = link; out = [] }) qs)) d.queue
-          ∙ ap (sets_up_with w with_user) (left_if (holds_back link) (record { link = with_queue link (q ∷ []); out = [] }) (started_each (started_one (record { link = link; out = [] }) q) []) free) in
-          let there = subst (λ (x : List Action). IsGoing x (setting_on t after with_user)) (sym (shown_more before f.single.link (length f.timers) (length f.sources) w.acts a)) going in
-          subst (λ (x : Work). HasBegun before f x started with_user) (sym is) (record {
+          let is : started_at w (SettingUp link greeting) ≡ acted (with_setup w after greeting) a =
+          ap (λ (qs : List Queued). sets_up_with w greeting (started_each (record { link = link; out = [] }) qs)) d.queue
+          ∙ ap (sets_up_with w greeting) (left_if (holds_back link) (record { link = with_queue link (q ∷ []); out = [] }) (started_each (started_one (record { link = link; out = [] }) q) []) free) in
+          let there = subst (λ (x : List Action). IsGoing x (setting_on t after greeting)) (sym (shown_more before f.single.link (length f.timers) (length f.sources) w.acts a)) going in
+          subst (λ (x : Work). HasBegun before f x started greeting) (sym is) (record {
             link = after;
             life = refl;
             fit = record { sound = fit.sound; size_is = fit.size_is; bound_is = fit.bound_is; within = omega arith };
             held = inl refl;
-            going = subst (IsGoing (trace_of_acts before f (w.acts ++ a ∷ []))) (quiet_asks f (setting_on t after with_user) w.acts a refl refl) there;
+            going = subst (IsGoing (trace_of_acts before f (w.acts ++ a ∷ []))) (quiet_asks f (setting_on t after greeting) w.acts a refl refl) there;
             admitted = none;
           }))
       | inr sent ↦ stays [] sent.queue refl (inl sent.queue)

@@ -172,7 +172,7 @@ answering before f w pending started h line = record { holds = h; line = line; l
 over_life : (l : Ledger) (created : ℕ) (life : Life) → TiedLife l created life → is_over l ≡ true → has_ended life ≡ true
 over_life l created Dialing h over = absurd (not_both (is_over l) (ap is_some h.2) over)
 over_life l created (Wanting link) h over = absurd (not_both (is_over l) (ap is_some h.2) over)
-over_life l created (SettingUp link with_user) h over = absurd (not_both (is_over l) (ap is_some h.2) over)
+over_life l created (SettingUp link greeting) h over = absurd (not_both (is_over l) (ap is_some h.2) over)
 over_life l created (Ready link) h over = absurd (not_both (is_over l) (ap is_some h.2) over)
 over_life l created (Ended e) h over = refl
 
@@ -275,7 +275,7 @@ renewal_tied b t r within wanted tied h = record {
     only = h.numbers.only;
   };
   others = h.others;
-  pushes = h.pushes;
+  notices = h.notices;
   life = h.life;
   creds = record { wanted_is = h.creds.wanted_is ∙ sym wanted; sought = h.creds.sought };
   count = h.count;

@@ -18,6 +18,7 @@ use Rattle.link_laws.proofs.TiedLink.{all_push, begun_tied, queue_tied}
 use Rattle.link_laws.specs.Settles.{awaited_ids, wanted}
 use Rattle.link_laws.specs.Starts.{begun, start_from}
 use Rattle.mux_conn.specs.Requests.{is_admitted_at, is_open_at, is_placed_at, is_waiting_at, name_at}
+use Rattle.mux_conn.specs.declared.life.Greeting.{Greeting}
 use Rattle.mux_conn.specs.declared.life.Life.TheVariants.{Dialing, Ready, Wanting, SettingUp}
 use Rattle.mux_conn.specs.declared.request.Request.{Request}
 use Rattle.mux_conn.specs.declared.request.Waiting.{Waiting}
@@ -215,8 +216,8 @@ pub not_wanting : (link link' : LinkState) → Ready link ≡ Wanting link' → 
 not_wanting link link' e = cc
 
 -- nor is it being set up
-pub not_setting : (link link' : LinkState) (with_user : Bool) → Ready link ≡ SettingUp link' with_user → ⊥
-not_setting link link' with_user e = cc
+pub not_setting : (link link' : LinkState) (greeting : Greeting) → Ready link ≡ SettingUp link' greeting → ⊥
+not_setting link link' greeting e = cc
 
 -- what is shown of a submission's wait is the same, or nothing is shown any more
 abbrev pub LosesWaits : (ℕ → Story) → (ℕ → Story) → Type 0
@@ -323,7 +324,7 @@ start_tied b t link q qs h =
     (record {
       numbers = numbers_kept b _ _ was _ _ _ _ _ _ _ _ _ _ h.numbers;
       others = others_kept b t.link (begins (message_of b t.link (owner.Try n 0))) h.others;
-      pushes = h.pushes;
+      notices = h.notices;
       life = h.life;
       creds = record { wanted_is = h.creds.wanted_is; sought = h.creds.sought };
       count = h.count;

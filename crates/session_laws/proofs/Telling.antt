@@ -193,13 +193,13 @@ tells_line l false e = refl
 push_may : (b : Book) (t : Inner) (info : PushInfo) (h : Heard) (rest : List Heard) → Tied b t → t.untold ≡ h ∷ rest → t.hears ≡ true → has_ended t.life ≡ false → info ≡ h.info → is_disconnection h.info.kind ≡ false → h.after ≤ length (b.link t.link).dealt
     → ((p : ℕ) → IsIn p t.pending → p < length t.requests → IsLate (b.link t.link) (owner_of t.requests) h p) → MayPush b t.link info
 push_may b t info h rest tied untold hears alive says kind_is within pending =
-    let n = next_of (b.link t.link).told (b.link t.link).pushes h rest (tied.pushes.untold_is hears ∙ untold) in
+    let n = next_of (b.link t.link).told (b.link t.link).notices h rest (tied.notices.untold_is hears ∙ untold) in
     subst (λ (x : Bool). MayPushBy x b t.link info) (sym (ap (λ (x : PushInfo). is_disconnection x.kind) says ∙ kind_is)) (record {
-      heard = tied.pushes.heard_is ∙ hears;
+      heard = tied.notices.heard_is ∙ hears;
       push = h;
       next = n.next;
       says = says;
-      in_order = λ m less. ap (λ (hs : List Heard). slice_get hs (b.link m).told) (tied.others m (λ same. absurd (omega arith))).pushes;
+      in_order = λ m less. ap (λ (hs : List Heard). slice_get hs (b.link m).told) (tied.others m (λ same. absurd (omega arith))).notices;
       created = ready_shown b t tied;
       sourced = sources_asked b t tied;
       answered = λ m asked on before. none_was b t h tied alive within pending m asked before;
@@ -245,7 +245,7 @@ one_told before f ledger owes name was w info h rest pending started hears alive
     let l = b.link f.single.link in
     let a = act.Push info in
     let kind_is = ap (λ (x : PushInfo). is_disconnection x.kind) says ∙ heard.kind_is in
-    let n = next_of l.told l.pushes h rest (k.holds.tied.pushes.untold_is hears) in
+    let n = next_of l.told l.notices h rest (k.holds.tied.notices.untold_is hears) in
     let line_is = tells_line l (is_disconnection info.kind) kind_is in
     let next_is : (book (trace_of_acts before f (pushed w info).acts)).link f.single.link ≡ retells l (l.told + 1) l.parted = ap (λ (x : Book). x.link f.single.link) (book_of_more before f w.acts a) ∙ mine_noted l f.single.link (if is_disconnection info.kind then parts else tells) ∙ line_is in
     record {
@@ -253,12 +253,12 @@ one_told before f ledger owes name was w info h rest pending started hears alive
           (push_may b t info h rest k.holds.tied refl hears alive says heard.kind_is (subst (λ (x : Ledger). h.after ≤ length x.dealt) (sym k.ledger_is) heard.within)
           (λ p i less. late_now ledger l k.told name w.conn.requests h p k.ledger_is (k.named p) (late p i)))
           (push_tied b t info (l.told + 1) l.parted rest false line_is (record {
-            heard_is = k.holds.tied.pushes.heard_is;
+            heard_is = k.holds.tied.notices.heard_is;
             within = λ y. n.within;
             untold_is = λ y. n.behind;
-            parts = k.holds.tied.pushes.parts;
-            alive = k.holds.tied.pushes.alive;
-            due = k.holds.tied.pushes.due;
+            parts = k.holds.tied.notices.parts;
+            alive = k.holds.tied.notices.alive;
+            due = k.holds.tied.notices.due;
           }) k.holds.tied);
       line = k.line;
       told = l.told + 1;
@@ -292,7 +292,7 @@ answered_between before f ledger owes name was w h rest p o pending started hear
         let place = subst (λ n. StandsAs ledger.starts (if p == renewal_id then owner.Auth else owner.Try n 0) early.of_shape early.number) (sym (k.named p)) early.stands in
         let here = subst (λ (x : Ledger). StandsAs x.starts (owner_of w.conn.requests p) early.of_shape early.number) (sym k.ledger_is) place in
         let full = subst (λ (x : Ledger). is_full_by x h.after early.number ≡ true) (sym k.ledger_is) early.full in
-        let n = next_of l.told l.pushes h rest (k.holds.tied.pushes.untold_is hears) in
+        let n = next_of l.told l.notices h rest (k.holds.tied.notices.untold_is hears) in
         record {
           holds = sound_told before f w.acts a (closed w.conn p) (h ∷ rest) false pending started k.holds.stands
               (inl (first_may b t p pending o k.holds.tied k.line e owes_now

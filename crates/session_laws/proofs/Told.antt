@@ -16,7 +16,7 @@ use Rattle.legal_trace.specs.Ledger.{Ledger, Heard, noted, is_well, is_set_up, l
 use Rattle.legal_trace.specs.Book.{Book, entered, push_line}
 use Rattle.legal_trace.specs.Legal.{is_heard}
 use Rattle.session_laws.proofs.Kept.{mine_noted, others_kept, tied_by}
-use Rattle.session_laws.proofs.Tied.{Inner, HasSaid, Tied, TiedLife, TiedPushes, carried, whole_link}
+use Rattle.session_laws.proofs.Tied.{Inner, HasSaid, Tied, TiedLife, TiedNotices, carried, whole_link}
 use Rattle.session_laws.proofs.Renewals.{renewal_alike}
 
 -- a ledger of which so many pushes were told, and its end or not
@@ -42,7 +42,7 @@ well_told l told parted = ap is_well (λ i. if lacks_credentials l then None els
 said_told : (l : Ledger) (told : ℕ) (parted : Bool) (started : List ℕ) (life : Life) → HasSaid l started life → HasSaid (retells l told parted) started life
 said_told l told parted started Dialing h = h
 said_told l told parted started (Wanting link) h = h
-said_told l told parted started (SettingUp link with_user) h = (
+said_told l told parted started (SettingUp link greeting) h = (
   h.0,
   record {
     says = h.1.says;
@@ -60,7 +60,7 @@ said_told l told parted started (Ended e) h = tt
 life_told : (l : Ledger) (told : ℕ) (parted : Bool) (created : ℕ) (life : Life) → TiedLife l created life → TiedLife (retells l told parted) created life
 life_told l told parted created Dialing h = h
 life_told l told parted created (Wanting link) h = h
-life_told l told parted created (SettingUp link with_user) h = h
+life_told l told parted created (SettingUp link greeting) h = h
 life_told l told parted created (Ready link) h = h
 life_told l told parted created (Ended e) h = h
 
@@ -85,14 +85,14 @@ owed_told name l told parted (s ∷ ss) all = (record { number = all.0.number; o
 
 -- the session is tied to the book with such a push
 pub push_tied : (b : Book) (t : Inner) (info : PushInfo) (told : ℕ) (parted : Bool) (untold : List Heard) (parting : Bool) → noted (b.link t.link) (push_line info.kind) ≡ retells (b.link t.link) told parted
-    → (let l = b.link t.link in TiedPushes (is_heard b) t.hears l.pushes told l.end parted untold parting) → Tied b t → Tied (entered b (action.Push t.link info)) (record t { untold = untold; parting = parting })
+    → (let l = b.link t.link in TiedNotices (is_heard b) t.hears l.notices told l.end parted untold parting) → Tied b t → Tied (entered b (action.Push t.link info)) (record t { untold = untold; parting = parting })
 push_tied b t info told parted untold parting is pushed h =
     let l = b.link t.link in
     let line = push_line info.kind in
     tied_by (entered b (action.Push t.link info)) (record t { untold = untold; parting = parting }) (retells l told parted) (mine_noted l t.link line ∙ is) (record {
       numbers = record { turns = h.numbers.turns; links = h.numbers.links; submissions = h.numbers.submissions; timers = h.numbers.timers; sources = h.numbers.sources; uses = h.numbers.uses; aims = h.numbers.aims; timed = h.numbers.timed; timeout = h.numbers.timeout; shut = h.numbers.shut; within = h.numbers.within; few = h.numbers.few; settings = record { size_is = h.numbers.settings.size_is; bound_is = h.numbers.settings.bound_is; limit_is = h.numbers.settings.limit_is; some = h.numbers.settings.some; limited = h.numbers.settings.limited }; one = h.numbers.one; only = h.numbers.only };
       others = others_kept b t.link line h.others;
-      pushes = pushed;
+      notices = pushed;
       life = life_told l told parted b.created t.life h.life;
       creds = h.creds;
       count = h.count;
