@@ -26,14 +26,14 @@ use Rattle.legal_trace.specs.Ledger.{Ledger, dials, is_over, is_set_up, lacks_cr
 use Rattle.legal_trace.specs.Steps.{Step, asks, free_permits, is_held, is_held_back, is_in_line, is_let_in, is_outside, line_before, next_step, nothing, permits_in, queue_size, renewals_in_line, starts_or_waits, step_holding, step_open, step_placed, step_ready, step_taking, step_timed, takes, tells, unready_wait, waits}
 use Rattle.legal_trace.specs.Story.{Story, has_place, is_awaited, is_room, is_told, is_unstarted, shape}
 use Rattle.session_laws.proofs.Behind.{nil_told, open_untold}
-use Rattle.session_laws.proofs.Creds.{has_credentials, lacking_undecided, wanting_lacks}
+use Rattle.session_laws.proofs.Creds.{has_credentials, wanting_lacks}
 use Rattle.session_laws.proofs.InLine.{first_is_least, kept_ids, kept_in}
 use Rattle.session_laws.proofs.Moves.{IsLater, later_of, open_unstarted, told_unstarted, or_true}
 use Rattle.session_laws.proofs.Names.{earlier_name, get_some, name_of_some, names_rise, open_within}
 use Rattle.session_laws.proofs.Numbers.{IsIn, Rising, in_left, in_right, rising_apart, rising_in, rising_right, rising_within, requests_in}
 use Rattle.session_laws.proofs.Owes.{later_unstarted, request_story}
 use Rattle.session_laws.proofs.Renewals.{due_in}
-use Rattle.session_laws.proofs.SetUp.{not_set_up}
+use Rattle.session_laws.proofs.SetUp.{not_set_up, lacking_unset}
 use Rattle.session_laws.proofs.States.{IsFit}
 use Rattle.session_laws.proofs.Tied.{AreSought, HasSaid, Inner, IsQueued, Tied, TiedLife, TiedNames, TiedNumbers, carried, has_ended, link_in, owner_of, queue_ids, shown_wait, waiting_ids, whole_link}
 
@@ -645,7 +645,7 @@ setup_step b t p link greeting h setting within =
     let life = subst (TiedLife l b.created) setting h.life in
     let said = subst (HasSaid l t.started) setting h.setup.said in
     let has = has_credentials l.creds (subst (AreSought l.creds) setting h.creds.sought).0 in
-    unready_step b (name_at t.requests p) (ap (λ m. (b.link m).up) q.on ∙ life.1) (ap (λ m. is_set_up (b.link m)) q.on ∙ (not_set_up l link greeting said.1).unwell)
+    unready_step b (name_at t.requests p) (ap (λ m. (b.link m).up) q.on ∙ life.1) (ap (λ m. is_set_up (b.link m)) q.on ∙ (not_set_up l link greeting said.1).unset)
     ∙ ap (λ (kind : WaitKind). waits kind) (ap (λ m. unready_wait (b.link m)) q.on ∙ left_if (lacks_credentials l) wait.Creds wait.Setup has)
 
 -- and credentials, while they are to come
@@ -655,5 +655,5 @@ creds_step b t p link h wanting within =
     let l = b.link t.link in
     let life = subst (TiedLife l b.created) wanting h.life in
     let lacks = wanting_lacks l.creds link (subst (AreSought l.creds) wanting h.creds.sought) in
-    unready_step b (name_at t.requests p) (ap (λ m. (b.link m).up) q.on ∙ life.1) (ap (λ m. is_set_up (b.link m)) q.on ∙ (lacking_undecided l lacks).unwell)
+    unready_step b (name_at t.requests p) (ap (λ m. (b.link m).up) q.on ∙ life.1) (ap (λ m. is_set_up (b.link m)) q.on ∙ (lacking_unset l lacks).unset)
     ∙ ap (λ (kind : WaitKind). waits kind) (ap (λ m. unready_wait (b.link m)) q.on ∙ taken_if (lacks_credentials l) wait.Creds wait.Setup lacks)

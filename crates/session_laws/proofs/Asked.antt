@@ -242,6 +242,8 @@ asked_tied b c started word what h few no_fresh up speaks some =
         within = h.numbers.within;
         few = omega (arith, few, length-append c.table (next ∷ []));
         settings = record { size_is = h.numbers.settings.size_is; bound_is = h.numbers.settings.bound_is; limit_is = h.numbers.settings.limit_is; some = h.numbers.settings.some; limited = h.numbers.settings.limited };
+        kind_is = h.numbers.kind_is;
+        quiet = λ w. absurd (speaking w);
         one = h.numbers.one;
         only = h.numbers.only;
       };
@@ -269,7 +271,7 @@ asked_tied b c started word what h few no_fresh up speaks some =
           (omega (arith, h.names.few, few, length-append conn.requests (new_request c ∷ [])))
           (λ p other i. within_line conn.requests (requests_in started) queue last p h.lines.line (in_left p (requests_in started) (queue ++ last) (request_in p started other i))) (λ k p other i. started_within b (inner c started) k p h other i)
           (λ p r i past. ap (λ (s : Story). s.tries) (own_at p r i past))
-          (record { owners = h.tries.owners; shapes = h.tries.shapes; tried = h.tries.tried; untried = h.tries.untried });
+          (record { owners = h.tries.owners; greeted = h.tries.greeted; shapes = h.tries.shapes; tried = h.tries.tried; untried = h.tries.untried });
       lines = asked_lines b c started what h;
       told = λ up. told_longer c.table b.story after conn.requests (more_requests c) (link_in conn.life) same longer (λ u. absurd (new_untold (is_awaited (new_story b what)) (ap is_told (sym (story_is_new b c started what h)) ∙ u.0))) (h.told up);
       waits = asked_waits b c started what h no_fresh;

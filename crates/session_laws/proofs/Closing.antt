@@ -124,7 +124,8 @@ tries_closed l story requests link p closed started c h =
     let after = with_closed story requests p closed in
     let still = name_with requests p progress.Closed 0 in
     record {
-      owners = h.owners ∙ ap (setup_owners (setup_count l.starts)) (sym (owners_each_still requests p started));
+      owners = λ plain. h.owners plain ∙ ap (setup_owners (setup_count l.starts)) (sym (owners_each_still requests p started));
+      greeted = h.greeted;
       shapes = λ k q s w i j. h.shapes k q s (subst (λ n. q < n) (length_with requests p progress.Closed 0) w) i j ∙ ap shape_in (sym (closed_submission story requests p closed (name_at requests q) (c (name_at requests q)))) ∙ ap (λ n. shape (after n)) (sym (still q));
       tried = λ k q w i. ap (λ n. (after n).tries) (still q) ∙ closed_tries story requests p closed (name_at requests q) (c (name_at requests q)) ∙ h.tried k q (subst (λ n. q < n) (length_with requests p progress.Closed 0) w) i;
       untried = λ q r i not_started.

@@ -28,7 +28,7 @@ use Rattle.legal_trace.specs.Ledger.{Ledger, hears, lacks_credentials, noted, no
 use Rattle.legal_trace.specs.Book.{Book, blank_book, book, entered, if_mine, use_for}
 use Rattle.legal_trace.specs.Legal.{AllStand, MayNeed}
 use Rattle.session_laws.proofs.Tied.{AreQueued, AreSought, HasSaid, inner, no_link, link_in, carried, whole_link, owner_of, Tied, TiedLife, TiedLines, has_ended, sources_asked_in}
-use Rattle.session_laws.proofs.Creds.{down_sourced, lacking_undecided}
+use Rattle.session_laws.proofs.Creds.{down_sourced}
 use Rattle.session_laws.proofs.Said.{ending_wanting, ready_heard, setting_heard, setup_hears}
 use Rattle.session_laws.proofs.Failing.{IsFailing, failing_applied, unready_shown, unstarted_owed}
 use Rattle.session_laws.proofs.States.{IsFit, Between, HasApplied}
@@ -42,6 +42,7 @@ use Rattle.session_laws.proofs.Close.{may_close, close_tied, ended_waits}
 use Rattle.session_laws.proofs.ComeUp.{IsEarly, IsUpNow, comes_up, fresh_waits}
 use Rattle.session_laws.proofs.Renewals.{renewal_ended, early_renewal}
 use Rattle.session_laws.proofs.Numbers.{requests_in}
+use Rattle.session_laws.proofs.SetUp.{lacking_unset}
 
 -- news of no account
 --
@@ -184,7 +185,7 @@ connected_wants before c started word kind h good k is e wants =
       next = ap length (sym h0.numbers.sources);
       in_order = λ m less. down_sourced (now.link m) (others m (λ one. omega arith)).up;
       answered = unstarted_owed b now c started h0 u.none (λ m. refl) (ap (λ (y : Ledger). y.end) own ∙ u.alive);
-      created = unready_shown now mine l own others (lacking_undecided l lacks).unwell;
+      created = unready_shown now mine l own others (lacking_unset l lacks).unset;
     } in
     let book_is : book front ≡ now = book_more before (turn_of c word kind) ∙ heard_is b c.turns word kind (book_kind b c kind h0.numbers.timers k) in
     let all : AllStand blank_book front = all_stand-append before (turn_of c word kind ∷ []) h.sound.stands (may_turn before c started word kind h good, tt) in
@@ -260,7 +261,7 @@ refused_fails before c started word kind f h good k is e =
     let over : l ≡ record (refused_in l0 c.turns (error.Io f)) { heard = refused f } = refused_is l0 c.turns b.created f lived in
     let own_ledger : now.link c.single.link ≡ l = ap (heard_by b c) (book_news b c started kind (refused f) h0 is) in
     let said = setup_hears l0 c.turns (refused f) conn.info started conn.life tt h0.setup in
-    let tied : Tied (entered now (action.Created (Some (error.Io f)))) t = heard_tied b c started word (b.created + 1) kind conn.info life conn.fresh [] [] l h0 good own_ledger
+    let tied : Tied (entered now (action.Created (Some (error.Io f)))) t = heard_tied b c started word (b.created + 1) kind conn.info life conn.fresh [] [] false l h0 good own_ledger
     (record {
       starts = heard_starts l0 c.turns (refused f);
       lived = subst (λ (x : Ledger). TiedLife x (b.created + 1) life) (sym over) (lived.1, refl, λ x fails z. absurd (omega arith));

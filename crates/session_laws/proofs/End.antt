@@ -32,8 +32,8 @@ use Rattle.legal_trace.specs.Ledger.{Ledger, by_fault, by_opening, by_shutdown, 
 use Rattle.legal_trace.specs.Book.{Book, book}
 use Rattle.session_laws.proofs.Numbers.{IsIn}
 use Rattle.session_laws.proofs.Tied.{AreSought, HasCredentials, Inner, inner, link_in, no_link, carried, whole_link, owner_of, queue_ids, HasSaid, IsSettingUp, Tied, TiedLife, has_ended}
-use Rattle.session_laws.proofs.Creds.{asked_sourced, has_sourced, lacking_undecided, wanting_lacks}
-use Rattle.session_laws.proofs.SetUp.{not_set_up}
+use Rattle.session_laws.proofs.Creds.{asked_sourced, has_sourced, wanting_lacks}
+use Rattle.session_laws.proofs.SetUp.{not_set_up, lacking_unset}
 use Rattle.session_laws.proofs.Said.{ending_wanting, ready_heard, setting_heard, setting_told}
 use Rattle.session_laws.proofs.Failing.{Fails, IsUnready, setup_failed}
 use Rattle.session_laws.proofs.States.{Between, HasApplied}
@@ -224,11 +224,11 @@ plain_fails before c started n x link greeting h e is =
     let s = setting_tied b (inner c started) link greeting e h.sound.tied in
     record {
       alive = s.alive;
-      unready = (not_set_up (record l { heard = n }) link greeting (setting_told l n link greeting s.said)).unwell;
+      unready = (not_set_up (record l { heard = n }) link greeting (setting_told l n link greeting s.said)).unset;
       must = setting_heard l n link greeting s.up s.said ∙ is;
       info_is = h.sound.tied.setup.info_is;
       wanted_is = h.sound.tied.creds.wanted_is;
-      sourced = has_sourced (record l { heard = n }) s.has (not_set_up (record l { heard = n }) link greeting (setting_told l n link greeting s.said)).unwell;
+      sourced = has_sourced (record l { heard = n }) s.has (not_set_up (record l { heard = n }) link greeting (setting_told l n link greeting s.said)).unset;
       sent = h.sound.tied.setup.sent;
       notices = h.sound.tied.notices;
     }
@@ -242,11 +242,11 @@ wanting_fails before c started n x link h e is =
     let s = wanting_tied b (inner c started) link e h.sound.tied in
     record {
       alive = s.alive;
-      unready = (lacking_undecided (record l { heard = n }) s.lacks).unwell;
+      unready = (lacking_unset (record l { heard = n }) s.lacks).unset;
       must = ending_wanting (record l { heard = n }) s.up s.lacks ∙ is;
       info_is = h.sound.tied.setup.info_is;
       wanted_is = h.sound.tied.creds.wanted_is;
-      sourced = asked_sourced (record l { heard = n }) s.sought.1 (inl (lacking_undecided (record l { heard = n }) s.lacks).unwell);
+      sourced = asked_sourced (record l { heard = n }) s.sought.1 (inl (lacking_unset (record l { heard = n }) s.lacks).unset);
       sent = h.sound.tied.setup.sent;
       notices = h.sound.tied.notices;
     }

@@ -20,7 +20,7 @@ use Rattle.mux_conn.specs.Effects.{opening_failed}
 use Rattle.mux_conn.specs.Requests.{name_at}
 use Rattle.shared_session.specs.declared.core_state.Core.{Core}
 use Rattle.shared_session.specs.Turn.{with_work, is_bad}
-use Rattle.legal_trace.specs.Ledger.{Ledger, by_opening, ends, noted, noted_each, ending, ending_or_shutdown, failure_in, failure_of, is_ready, is_set_up, Heard, is_fault, next_push, source_due}
+use Rattle.legal_trace.specs.Ledger.{Ledger, by_opening, ends, noted, noted_each, ending, ending_or_shutdown, failure_in, failure_of, is_ready, is_set_up, Heard, is_fault, next_notice, source_due}
 use Rattle.legal_trace.specs.Story.{Story, bytes_of, is_open, last_of}
 use Rattle.legal_trace.specs.Book.{Book, blank_book, book, entered, if_mine}
 use Rattle.legal_trace.specs.Owed.{owed_to_try, owed_unstarted, unstarted_error}
@@ -178,7 +178,7 @@ setup_fails before c started word kind n x h good k is u fails =
           (λ same. subst (λ i. source_due (now.link i) ≡ false) (sym (eq_from m c.single.link same)) (ap source_due own ∙ fails.sourced))
           (λ other. down_sourced (now.link m) (others m (ne_from m c.single.link other)).up);
       pushed = λ m heard. by_test (m == c.single.link) _
-          (λ same. subst (λ i. next_push (now.link i) ≡ None) (sym (eq_from m c.single.link same)) (ap next_push own ∙ get_behind l.told l.notices (fails.notices.untold_is (sym fails.notices.heard_is ∙ heard))))
+          (λ same. subst (λ i. next_notice (now.link i) ≡ None) (sym (eq_from m c.single.link same)) (ap next_notice own ∙ get_behind l.told l.notices (fails.notices.untold_is (sym fails.notices.heard_is ∙ heard))))
           (λ other. ap (λ (hs : List Heard). slice_get hs (now.link m).told) (others m (ne_from m c.single.link other)).notices);
     } in
     record {

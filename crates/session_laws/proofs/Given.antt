@@ -94,7 +94,7 @@ given_up before c started word kind a link h good k is e =
     let same = given_is before c started a link h e in
     comes_up before c started word kind (authorized a) (said_by conn.info a) link h good k is (λ x. x) (early_wanting conn.life wait.Permit link e (λ x. cc)) (early_wanting conn.life wait.Setup link e (λ x. cc)) (given_now before c started a link h e)
     (inr (ap (λ (x : Ledger). x.creds.asked) same ∙ s.sought.1, ap (λ (x : Ledger). x.creds.given) same))
-    (subst (λ (x : Ledger). PushesOf (is_heard b) conn.hears x) (sym same) h.sound.tied.notices) (λ more. refl, refl)
+    (subst (λ (x : Ledger). PushesOf (hearing_in b.config) conn.hears x) (sym same) h.sound.tied.notices) (λ more. refl, refl)
 
 -- credentials come
 pub authorized_applied : (before : List Action) (c : Core) (started : List ℕ) (word : ℕ) (kind : EventKind) (a : Credentials) → Between before c started → is_bad c kind ≡ false → IsNewsKind c.timers kind → news_of c.timers c.sources c.single.link kind ≡ authorized a

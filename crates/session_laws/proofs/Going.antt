@@ -28,7 +28,7 @@ use Rattle.session_laws.proofs.InLine.{first_is_least, kept_ids, kept_in}
 use Rattle.session_laws.proofs.Moves.{IsLater, later_of, unstarted_alive}
 use Rattle.session_laws.proofs.Names.{earlier_name}
 use Rattle.session_laws.proofs.Numbers.{IsIn, Rising, in_left, in_right, rising_in, rising_right, requests_in}
-use Rattle.session_laws.proofs.Owes.{created_is, ends_told, none_open, none_owed, pushes_told}
+use Rattle.session_laws.proofs.Owes.{created_is, ends_told, none_open, none_owed, notices_told}
 use Rattle.session_laws.proofs.Renewals.{all_timed, down_renewed_due, due_is, none_renewed_due}
 use Rattle.session_laws.proofs.Said.{sources_asked}
 use Rattle.session_laws.proofs.SetUp.{down_undue, none_due, sent_undue, set_up_undue}
@@ -55,7 +55,7 @@ going_more trace a t stands may tied none renewed = record {
 
 -- the event has had its effect, while nothing is to be answered and the link has not ended
 pub applied_up : (b : Book) (t : Inner) → Tied b t → t.pending ≡ [] → IsToldIn t → has_ended t.life ≡ false → NoneEnds b → IsApplied b
-applied_up b t h none told up ended = record { answered = none_owed b t h none up; ended = ended; created = created_is b t h; pushed = pushes_told b t h told.0; parted = ends_told b t h told.1; sourced = sources_asked b t h; timed = h.numbers.timed }
+applied_up b t h none told up ended = record { answered = none_owed b t h none up; ended = ended; created = created_is b t h; pushed = notices_told b t h told.0; parted = ends_told b t h told.1; sourced = sources_asked b t h; timed = h.numbers.timed }
 
 -- each setup has started that is to start, but where its link is held back, where it is so of the link of the session
 pub setups_started : (b : Book) (t : Inner) → Tied b t → ((link : LinkState) (greeting : Greeting) → t.life ≡ SettingUp link greeting → (setup_due (b.link t.link) ≡ None) ⊎ (is_held_back b (b.link t.link) ≡ true)) → SetupsAreStarted b
@@ -166,7 +166,7 @@ applied_over b t e h none told over empty ended = record {
   answered = λ n o. absurd (none_open b t e n h none over empty o);
   ended = ended;
   created = created_is b t h;
-  pushed = pushes_told b t h told.0;
+  pushed = notices_told b t h told.0;
   parted = ends_told b t h told.1;
   sourced = sources_asked b t h;
   timed = h.numbers.timed;

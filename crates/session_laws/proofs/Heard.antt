@@ -61,7 +61,7 @@ pub record Leads (b : Book) (c : Core) (n : News) (life : Life) (pending started
   pub lines : TiedLines b.story c.single.connection.requests (link_in life) c.single.connection.waiting c.single.connection.admitted pending started
   pub told : has_ended life ≡ false → AreQueued b.story c.single.connection.requests (link_in life)
   pub waits : TiedWaits b.story c.single.connection.requests life c.single.connection.fresh c.single.connection.moved
-  pub notices : PushesOf (is_heard b) c.single.connection.hears (heard_by b c n)
+  pub notices : PushesOf (hearing_in b.config) c.single.connection.hears (heard_by b c n)
 
 -- the news by the timers and the sources of the book
 pub book_news : (b : Book) (c : Core) (started : List ℕ) (kind : EventKind) (n : News) → Tied b (inner c started) → news_of c.timers c.sources c.single.link kind ≡ n → news_of b.timers b.sources c.single.link kind ≡ n
@@ -80,7 +80,7 @@ fresh_begins before c started word kind n info life fresh pending h good k is g 
     let l = heard_by b c n in
     let t = seen (turned c kind) [] (comes_as c info life fresh) pending started in
     let same : noted (b.link c.single.link) (hears c.turns (news_of b.timers b.sources c.single.link kind)) ≡ l = ap (λ (x : News). heard_by b c x) (book_news b c started kind n h.sound.tied is) in
-    let tied : Tied (heard_book b c.turns word kind) t = heard_tied b c started word b.created kind info life fresh pending [] l h.sound.tied good same g in
+    let tied : Tied (heard_book b c.turns word kind) t = heard_tied b c started word b.created kind info life fresh pending [] false l h.sound.tied good same g in
     let book_is : entered b (turn_of c word kind) ≡ heard_book b c.turns word kind = heard_is b c.turns word kind (book_kind b c kind h.sound.tied.numbers.timers k) in
     record {
       holds = holds_first (before ++ turn_of c word kind ∷ []) (turned c kind) (comes_as c info life fresh) pending started (announced_sound before c started word kind t h good (subst (λ (x : Book). Tied x t) (sym book_is) tied));
@@ -98,7 +98,7 @@ heard_begins before c started word kind n life pending h good k is g =
 
 -- where the link need not end then, and no act follows, the event has had its effect
 pub fresh_applied : (before : List Action) (c : Core) (started : List ℕ) (word : ℕ) (kind : EventKind) (n : News) (info : RedisConnectionInfo) (life : Life) (fresh : List ℕ) → Between before c started → is_bad c kind ≡ false → IsNewsKind c.timers kind
-    → news_of c.timers c.sources c.single.link kind ≡ n → ComesTo (book before) c (heard_by (book before) c n) (book before).created info life fresh [] [] started → ending (heard_by (book before) c n) ≡ None → IsFitIn (comes_as c info life fresh)
+    → news_of c.timers c.sources c.single.link kind ≡ n → ComesTo (book before) c (heard_by (book before) c n) (book before).created info life fresh [] [] false started → ending (heard_by (book before) c n) ≡ None → IsFitIn (comes_as c info life fresh)
     → HasApplied (before ++ turn_of c word kind ∷ []) (with_work (record { core = turned c kind; acts = [] }) (record { conn = comes_as c info life fresh; acts = [] })) started
 fresh_applied before c started word kind n info life fresh h good k is g no_end fit =
     let s = fresh_begins before c started word kind n info life fresh [] h good k is g in
@@ -235,7 +235,7 @@ leads_still before c started n h stays =
       lines = t.lines;
       told = t.told;
       waits = t.waits;
-      notices = subst (λ (x : Ledger). PushesOf (is_heard b) conn.hears x) (sym stays) t.notices;
+      notices = subst (λ (x : Ledger). PushesOf (hearing_in b.config) conn.hears x) (sym stays) t.notices;
     }
 
 -- a link that has ended hears nothing

@@ -292,7 +292,7 @@ late_tied b c started word n p h is o =
       names = h.names;
       story = one_changed b (inner c started) p fires h l (fires_request (b.story m) conn.requests c.single.link p);
       tries = tries_same (record ledger { heard = silence }) b.story after conn.requests c.single.link started (λ k. (fired_at m b.story k).submission) (λ k. (fired_at m b.story k).tries)
-          (record { owners = h.tries.owners; shapes = h.tries.shapes; tried = h.tries.tried; untried = h.tries.untried });
+          (record { owners = h.tries.owners; greeted = h.tries.greeted; shapes = h.tries.shapes; tried = h.tries.tried; untried = h.tries.untried });
       lines = late_lines_in m b.story conn.requests conn.life conn.waiting conn.admitted p started (request_not b (inner c started) p h l) h.lines;
       told = late_told b.story conn.requests conn.life p asked h.told;
       waits = late_waits b.story conn.requests m conn.life p kept conn.fresh conn.moved line h.waits;

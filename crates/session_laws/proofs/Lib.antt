@@ -3,6 +3,7 @@ pub mod Tied
 pub mod States
 pub mod Creds
 pub mod SetUp
+pub mod SameSaid
 pub mod Said
 pub mod Entered
 pub mod Names

@@ -14,6 +14,7 @@ use Rattle.mux_conn.specs.Requests.{is_open, if_there, is_open_at, name_or_none,
 use Rattle.mux_conn.specs.Renewals.{renewal_id}
 use Rattle.legal_trace.specs.Book.{Book}
 use Rattle.session_laws.proofs.Tied.{owner_of, Inner, Tied, TiedNames}
+use Rattle.driver_model.specs.Hearing.{is_watching}
 
 -- what stands at a place within
 pub get_some : {X : Type 0} (xs : List X) (n : ℕ) → n < length xs → (x : X) × (slice_get xs n ≡ Some x)
@@ -252,6 +253,12 @@ request_not b t p h within = few_not p (let few = h.names.few in let all = h.num
   where
     few_not : (p : ℕ) → p < 2 ^ 32 → p ≢ renewal_id
     few_not p less e = omega (arith, less, e)
+
+-- and where there is one, the server isn't put into monitor mode
+pub asked_unwatched : (b : Book) (t : Inner) (p : ℕ) → Tied b t → p < length t.requests → is_watching (b.link t.link).hearing ≡ false
+asked_unwatched b t p h within = by_test (is_watching (b.link t.link).hearing) _
+    (λ w. absurd (let none = ap length (h.numbers.quiet (ap is_watching (sym h.notices.hearing_is) ∙ w)).none in let few = h.names.few in omega arith))
+    (λ f. f)
 
 -- so its message is its submission's
 pub owner_below : (requests : List Request) (p : ℕ) → p ≢ renewal_id → owner_of requests p ≡ owner.Try (name_at requests p) 0

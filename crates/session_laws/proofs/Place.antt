@@ -125,7 +125,8 @@ owners_further requests p now (m ∷ ms) = λ i. owners_still requests p now i m
 -- and so are the tries
 tries_further : (l : Ledger) (story : ℕ → Story) (requests : List Request) (link p : ℕ) (now : Progress) (started : List ℕ) → TiedTries l story requests link started → TiedTries l story (at_progress requests p now) link started
 tries_further l story requests link p now started h = record {
-  owners = h.owners ∙ ap (setup_owners (setup_count l.starts)) (sym (owners_further requests p now started));
+  owners = λ plain. h.owners plain ∙ ap (setup_owners (setup_count l.starts)) (sym (owners_further requests p now started));
+  greeted = h.greeted;
   shapes = λ k m s l i j. h.shapes k m s (subst (λ x. m < x) (length_still requests p now) l) i j ∙ ap (λ n. shape (story n)) (sym (name_still requests p now m));
   tried = λ k m l i. ap (λ n. (story n).tries) (name_still requests p now m) ∙ h.tried k m (subst (λ x. m < x) (length_still requests p now) l) i;
   untried = λ m r i out. let w = name_was requests p now m r i in ap (λ n. (story n).tries) (sym w.2) ∙ h.untried m w.0 w.1 out;

@@ -537,7 +537,7 @@ setup_read before c started word kind piece link greeting h good k is e = by_out
     sents i x less at = (h.sound.tied.setup.sent i x less at).1
 
     -- where it isn't set up then no push is to be told
-    quiet : is_set_up after ≡ false → PushesOf (is_heard b) c.single.connection.hears after
+    quiet : is_set_up after ≡ false → PushesOf (hearing_in b.config) c.single.connection.hears after
     quiet unready = heard_pushes l piece (is_heard b) c.single.connection.hears [] (λ y. sym (heard_none l piece sents unready)) h.sound.tied.notices
 
     fails : (x : RedisError) → is_set_up after ≡ false → ending after ≡ Some (by_opening x) → applied (opening_failed (record { conn = c.single.connection; acts = act.Close ∷ [] }) x)
@@ -567,7 +567,7 @@ setup_read before c started word kind piece link greeting h good k is e = by_out
           lines = subst (λ (x : Life). TiedLines b.story c.single.connection.requests (link_in x) c.single.connection.waiting c.single.connection.admitted [] started) e h.sound.tied.lines;
           told = λ z. subst (λ (x : Life). AreQueued b.story c.single.connection.requests (link_in x)) e (h.sound.tied.told (ap has_ended e));
           waits = setting_waits b.story c.single.connection.requests link next greeting user c.single.connection.fresh c.single.connection.moved (subst (λ (x : Life). TiedWaits b.story c.single.connection.requests x c.single.connection.fresh c.single.connection.moved) e h.sound.tied.waits);
-          notices = subst (λ (y : Ledger). PushesOf (is_heard b) c.single.connection.hears y) (sym same) (quiet (not_set_up after next user said).unwell);
+          notices = subst (λ (y : Ledger). PushesOf (hearing_in b.config) c.single.connection.hears y) (sym same) (quiet (not_set_up after next user said).unset);
         })
         (ap ending same ∙ ending_setting after next user s.up said ∙ left_if (is_spoiled after.rest) (Some (by_opening reason.Closed)) None (spoiled false f))
         (setting_fit c.single.connection link next greeting user c.single.connection.fresh e h.fit fits)
@@ -577,7 +577,7 @@ setup_read before c started word kind piece link greeting h good k is e = by_out
     stays next user said tied_next fits =
         let v = with_setup w next user in
         chosen applied read.broken (failed_at v fault.Parse v.conn.life) v
-        (λ t. fails reason.Closed (not_set_up after next user said).unwell (ending_setting after next user s.up said ∙ taken_if (is_spoiled after.rest) (Some (by_opening reason.Closed)) None (spoiled true t)))
+        (λ t. fails reason.Closed (not_set_up after next user said).unset (ending_setting after next user s.up said ∙ taken_if (is_spoiled after.rest) (Some (by_opening reason.Closed)) None (spoiled true t)))
         (λ f. goes_on next user said tied_next (fits f) f)
 
     -- its connection then

@@ -24,7 +24,7 @@ use Rattle.legal_trace.specs.Ledger.{Ledger, by_opening, ending, is_set_up}
 use Rattle.legal_trace.specs.Book.{Book, book}
 use Rattle.legal_trace.specs.Legal.{is_heard}
 use Rattle.session_laws.proofs.Tied.{AreQueued, TiedCreds, TiedLife, TiedLines, TiedSetup, TiedWaits, has_ended, inner, link_in}
-use Rattle.session_laws.proofs.Creds.{asked_sourced, lacking_undecided}
+use Rattle.session_laws.proofs.Creds.{asked_sourced}
 use Rattle.session_laws.proofs.States.{Between, HasApplied}
 use Rattle.session_laws.proofs.Said.{PushesOf, ending_wanting}
 use Rattle.session_laws.proofs.Failing.{Fails, setup_failed}
@@ -33,6 +33,7 @@ use Rattle.session_laws.proofs.Heard.{heard_by, quiet_applied, wanting_fit, want
 use Rattle.session_laws.proofs.End.{IsWanting, wanting_tied, wanting_unready}
 use Rattle.session_laws.proofs.ReadSetup.{dealt_none, heard_pushes}
 use Rattle.session_laws.proofs.Renewals.{early_renewal}
+use Rattle.session_laws.proofs.SetUp.{lacking_unset}
 
 -- the event has its effect
 pub wanting_read : (before : List Action) (c : Core) (started : List ℕ) (word : ℕ) (kind : EventKind) (piece : List ℕ) (link : LinkState) → Between before c started → is_bad c kind ≡ false → IsNewsKind c.timers kind → news_of c.timers c.sources c.single.link kind ≡ came piece
@@ -75,10 +76,10 @@ wanting_read before c started word kind piece link h good k is e =
     spoiled x t = ap is_spoiled tied.rest ∙ sym tied.broken ∙ t
 
     unready : is_set_up after ≡ false
-    unready = (lacking_undecided after s.lacks).unwell
+    unready = (lacking_unset after s.lacks).unset
 
     -- no push is to be told
-    quiet : PushesOf (is_heard b) c.single.connection.hears after
+    quiet : PushesOf (hearing_in b.config) c.single.connection.hears after
     quiet = heard_pushes l piece (is_heard b) c.single.connection.hears [] (λ y. sym (heard_none l piece (λ i x less at. (h.sound.tied.setup.sent i x less at).1) unready)) h.sound.tied.notices
 
     -- nothing takes items
@@ -112,7 +113,7 @@ wanting_read before c started word kind piece link h good k is e =
           lines = subst (λ (x : Life). TiedLines b.story c.single.connection.requests (link_in x) c.single.connection.waiting c.single.connection.admitted [] started) e h.sound.tied.lines;
           told = λ z. subst (λ (x : Life). AreQueued b.story c.single.connection.requests (link_in x)) e (h.sound.tied.told (ap has_ended e));
           waits = wanting_waits b.story c.single.connection.requests link read c.single.connection.fresh c.single.connection.moved (subst (λ (x : Life). TiedWaits b.story c.single.connection.requests x c.single.connection.fresh c.single.connection.moved) e h.sound.tied.waits);
-          notices = subst (λ (y : Ledger). PushesOf (is_heard b) c.single.connection.hears y) (sym same) quiet;
+          notices = subst (λ (y : Ledger). PushesOf (hearing_in b.config) c.single.connection.hears y) (sym same) quiet;
         })
         (ap ending same ∙ ending_wanting after s.up s.lacks ∙ left_if (is_spoiled after.rest) (Some (by_opening error.Closed)) None (spoiled false f))
         (wanting_fit c.single.connection link read e h.fit (record { sound = f; size_is = fit.size_is; bound_is = fit.bound_is; within = fit.within }))

@@ -112,6 +112,8 @@ time_tied b t link number ms none due within h =
         within = k.within;
         few = k.few;
         settings = record { size_is = k.settings.size_is; bound_is = k.settings.bound_is; limit_is = k.settings.limit_is; some = k.settings.some; limited = k.settings.limited };
+        kind_is = k.kind_is;
+        quiet = k.quiet;
         one = k.one;
         only = k.only;
       };
@@ -125,7 +127,7 @@ time_tied b t link number ms none due within h =
       link = λ e. timed_tied (owner_of t.requests) l link (h.link refl);
       names = h.names;
       story = h.story;
-      tries = record { owners = h.tries.owners; shapes = h.tries.shapes; tried = h.tries.tried; untried = h.tries.untried };
+      tries = record { owners = h.tries.owners; greeted = h.tries.greeted; shapes = h.tries.shapes; tried = h.tries.tried; untried = h.tries.untried };
       lines = h.lines;
       told = h.told;
       waits = h.waits;
@@ -231,6 +233,8 @@ auth_tied b t link c cs due pending waits h =
         within = k.within;
         few = k.few;
         settings = record { size_is = k.settings.size_is; bound_is = k.settings.bound_is; limit_is = k.settings.limit_is; some = k.settings.some; limited = k.settings.limited };
+        kind_is = k.kind_is;
+        quiet = k.quiet;
         one = k.one;
         only = k.only;
       };
@@ -305,7 +309,7 @@ asked_told before f w started link life holds ended fit moved due =
         let l = b.link f.single.link in
         let r = w.conn.renewal in
         let now = subst (TiedRenewal l (asked_next r)) (sym life) (asked_renewed l r n due e (subst (TiedRenewal l r) life holds.tied.renewal)) in
-        record { life = life; holds = record { stands = holds.stands; tied = renewal_tied b t (asked_next r) refl refl now holds.tied }; ended = ended; fit = fit; moved = moved; due = due; pending = refl }
+        record { life = life; holds = record { stands = holds.stands; tied = renewal_tied b t (asked_next r) refl refl refl now holds.tied }; ended = ended; fit = fit; moved = moved; due = due; pending = refl }
     by_within (Some ms) e n =
         let r = w.conn.renewal in
         let a = act.RenewalTimer r.asked ms in

@@ -17,7 +17,7 @@ use Rattle.mux_conn.specs.declared.request.Request.{Request}
 use Rattle.mux_conn.specs.Requests.{is_open as is_open_progress, is_waiting, is_admitted, is_placed, if_there}
 use Rattle.mux_conn.specs.declared.request.Progress.{Progress}
 use Rattle.shared_session.specs.declared.core_state.Core.{Core}
-use Rattle.legal_trace.specs.Ledger.{is_over, next_push}
+use Rattle.legal_trace.specs.Ledger.{is_over, next_notice}
 use Rattle.legal_trace.specs.Story.{Story, Try, blank_story, is_open, is_no_error, is_told, is_awaited, bytes_of, handed_in, answered, last_of}
 use Rattle.legal_trace.specs.Book.{Book, entered, if_own, current, is_unspoken}
 use Rattle.legal_trace.specs.Owed.{owed, owed_to_try}
@@ -26,7 +26,7 @@ use Rattle.session_laws.proofs.Renewals.{renewal_alike}
 use Rattle.session_laws.proofs.Numbers.{IsIn, in_left, in_right, Rising, rising_in, requests_in, request_in}
 use Rattle.session_laws.proofs.Tied.{carried, inner, link_in, queue_ids, waiting_ids, whole_link, IsRefused, TiedStory, Tied, no_opening}
 use Rattle.session_laws.proofs.Names.{there_within, names_refused}
-use Rattle.session_laws.proofs.Owes.{started_within, ends_told, pushes_told}
+use Rattle.session_laws.proofs.Owes.{started_within, ends_told, notices_told}
 use Rattle.session_laws.proofs.Answer.{owed_in, no_push}
 use Rattle.session_laws.proofs.Settle.{seen}
 use Rattle.session_laws.proofs.Announce.{aims_longer, aims_on, turn_of, turned, uses_on, counted_on}
@@ -112,7 +112,7 @@ may_refuse b c started word what e h none no_end shown why =
       asked = ap is_open own;
       owes = ap (owed_in now) own ∙ new_owed b now what e why;
       in_order = λ m less asked same. others m (λ x. absurd (omega arith)) asked;
-      after_pushes = λ heard push next. absurd (no_push (next_push (b.link (now.story size).link)) push (pushes_told b (inner c started) h refl (now.story size).link heard) next);
+      after_notices = λ heard push next. absurd (no_push (next_notice (b.link (now.story size).link)) push (notices_told b (inner c started) h refl (now.story size).link heard) next);
       after_closes = λ over. (
         (λ l. silent_no_end (b.link l) c.turns (no_end l)),
         (λ m asked alive. by_test (m == size) _
@@ -185,6 +185,8 @@ refused_tied b c started word what e h few no_fresh =
         within = h.numbers.within;
         few = omega (arith, few, length-append c.table (None ∷ []));
         settings = record { size_is = h.numbers.settings.size_is; bound_is = h.numbers.settings.bound_is; limit_is = h.numbers.settings.limit_is; some = h.numbers.settings.some; limited = h.numbers.settings.limited };
+        kind_is = h.numbers.kind_is;
+        quiet = λ w. absurd (speaking w);
         one = h.numbers.one;
         only = h.numbers.only;
       };
@@ -201,7 +203,7 @@ refused_tied b c started word what e h few no_fresh =
           (subst IsRefused (sym is) (record { what = what; handed_in = refl; untried = refl; error = e; answered = refl }));
       tries = tries_longer c.table (record ledger { heard = silence }) b.story after conn.requests conn.requests c.single.link started h.names same longer
           few_requests (λ p other i. at p (in_left p (requests_in started) (queue ++ last) (request_in p started other i))) (λ k p other i. started_within b (inner c started) k p h other i) (λ p r i past. absurd (let l = get_within conn.requests p r i in omega arith))
-          (record { owners = h.tries.owners; shapes = h.tries.shapes; tried = h.tries.tried; untried = h.tries.untried });
+          (record { owners = h.tries.owners; greeted = h.tries.greeted; shapes = h.tries.shapes; tried = h.tries.tried; untried = h.tries.untried });
       lines = record {
         line = h.lines.line;
         queued = queue_longer c.table b.story after conn.requests conn.requests (link_in conn.life).queue h.names same longer (λ p i. at p (in_right p (requests_in started) (queue ++ last) (in_left p queue last i))) h.lines.queued;

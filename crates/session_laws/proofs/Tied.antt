@@ -458,15 +458,15 @@ is_of_greeting owner.Auth = false
 is_of_greeting (owner.Try n round) = false
 
 -- nothing but greetings has started
-pub record HasGreetedAlone (l : Ledger) (started : List ℕ) : Type 0 where
+pub record HasGreetedAlone (starts : List Start) (started : List ℕ) : Type 0 where
   pub none : started ≡ []
-  pub greets : (k : ℕ) (s : Start) → slice_get l.starts k ≡ Some s → is_of_greeting s.owner ≡ true
+  pub greets : (k : ℕ) (s : Start) → slice_get starts k ≡ Some s → is_of_greeting s.owner ≡ true
 
 -- the messages that started, by the tries of their submissions, behind those of the setup, where the server isn't put into monitor
 -- mode; each request's has its submission's shape
 pub record TiedTries (l : Ledger) (story : ℕ → Story) (requests : List Request) (link : ℕ) (started : List ℕ) : Type 0 where
   pub owners : is_watching l.hearing ≡ false → owners_of l.starts ≡ setup_owners (setup_count l.starts) (owners_each requests started)
-  pub greeted : is_watching l.hearing ≡ true → HasGreetedAlone l started
+  pub greeted : is_watching l.hearing ≡ true → HasGreetedAlone l.starts started
   pub shapes : (k : ℕ) (p : ℕ) (s : Start) → p < length requests → slice_get started k ≡ Some p → slice_get l.starts (setup_count l.starts + k) ≡ Some s → s.shape ≡ shape (story (name_at requests p))
   pub tried : (k p : ℕ) → p < length requests → slice_get started k ≡ Some p → (story (name_at requests p)).tries ≡ record { link = link; message = setup_count l.starts + k } ∷ []
   pub untried : (p : ℕ) (r : Request) → slice_get requests p ≡ Some r → (IsIn p started → ⊥) → (story r.name).tries ≡ []

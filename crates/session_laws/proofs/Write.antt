@@ -52,7 +52,7 @@ write_tied b t link h =
       link = λ e. offered_tied (owner_of t.requests) l link (h.link refl);
       names = h.names;
       story = h.story;
-      tries = record { owners = h.tries.owners; shapes = h.tries.shapes; tried = h.tries.tried; untried = h.tries.untried };
+      tries = record { owners = h.tries.owners; greeted = h.tries.greeted; shapes = h.tries.shapes; tried = h.tries.tried; untried = h.tries.untried };
       lines = record { line = h.lines.line; queued = h.lines.queued; entries = h.lines.entries; packs = h.lines.packs; packed_in = h.lines.packed_in; there = h.lines.there };
       told = λ e. h.told refl;
       waits = queue_waits b.story t.requests link (offered_of link) t.fresh t.moved (λ p i. i) h.waits;
@@ -78,7 +78,7 @@ write_set_tied b t link greeting h =
       link = λ e. offered_tied (λ (p : ℕ). owner.Setup) l link (h.link refl);
       names = h.names;
       story = h.story;
-      tries = record { owners = h.tries.owners; shapes = h.tries.shapes; tried = h.tries.tried; untried = h.tries.untried };
+      tries = record { owners = h.tries.owners; greeted = h.tries.greeted; shapes = h.tries.shapes; tried = h.tries.tried; untried = h.tries.untried };
       lines = record { line = h.lines.line; queued = h.lines.queued; entries = h.lines.entries; packs = h.lines.packs; packed_in = h.lines.packed_in; there = h.lines.there };
       told = λ e. h.told refl;
       waits = setting_waits b.story t.requests link (offered_of link) greeting greeting t.fresh t.moved h.waits;
