@@ -1,5 +1,5 @@
 -- A turn of an event: where it may stand, and what its link and the others hear.
-use Rattle.std.proofs.Common.{◌≡◌, ◌≢◌, ◌⊎◌, inl, inr, ℕ, zero, suc, ◌+◌, ◌<◌, ◌≤◌, ◌==◌, nat_lt, nat_le, false, ◌&&◌, ◌||◌, not, is_some, List, [], ◌∷◌, ◌++◌, length, slice_get, Some, refl, sym, ap, ◌∙◌, subst, arith, length-take, None, Option, if◌then◌else◌, true}
+use Rattle.std.proofs.Common.{◌≡◌, ◌≢◌, ◌⊎◌, inl, inr, ℕ, zero, suc, ◌+◌, ◌<◌, ◌≤◌, ◌==◌, nat_lt, nat_le, false, ◌&&◌, ◌||◌, not, is_some, List, [], ◌∷◌, ◌++◌, length, slice_get, Some, refl, sym, ap, ◌∙◌, subst, arith, length-take, None, Option, if◌then◌else◌, true, Bool}
 use Rattle.std.proofs.lemmas.List.{append-nil}
 use Rattle.containers.proofs.Choices.{by_test, chosen, taken_if, left_if, eq_test, ne_test, not_le_from, or_left}
 use Rattle.redis_error.specs.declared.redis_error.RedisError.TheVariants as error
@@ -15,7 +15,7 @@ use Rattle.driver_model.specs.declared.action.Cause.TheVariants as cause
 use Rattle.driver_model.specs.declared.event.EventKind.{EventKind}
 use Rattle.driver_model.specs.declared.event.EventKind.TheVariants as event
 use Rattle.driver_model.specs.declared.news.LinkFault.TheVariants as fault
-use Rattle.driver_model.specs.News.{News, silence, connected, took, came, failed, authorized, denied, deserted, shut, for_link, news_of, refused, overdue, of_timer, renewed, unrenewed, late, of_source}
+use Rattle.driver_model.specs.News.{News, silence, connected, took, came, failed, authorized, denied, deserted, shut, for_link, news_of, refused, overdue, of_timer, renewed, unrenewed, late, of_source, dropped}
 use Rattle.driver_model.specs.declared.outcome.Outcome.TheVariants as outcome
 use Rattle.link_core.specs.Link.{LinkState}
 use Rattle.link_laws.proofs.TiedLink.{TiedLink}
@@ -40,6 +40,8 @@ use Rattle.session_laws.proofs.Names.{get_more}
 use Rattle.mux_conn.specs.declared.renewal.Renewal.{Renewal}
 use Rattle.driver_model.specs.Hearing.{is_watching}
 use Rattle.legal_trace.proofs.Came.{holds_bytes}
+use Rattle.driver_model.specs.declared.kind.SessionKind.{SessionKind}
+use Rattle.driver_model.specs.Request.{has_no_form}
 
 -- bad events
 --
@@ -58,7 +60,7 @@ too_much l created (Ended e) requests count h link = ap (λ o. not o && nat_lt (
 -- an event is bad after a trace where it is bad for its session
 pub same_badness : (b : Book) (c : Core) (started : List ℕ) (kind : EventKind) → Tied b (inner c started) → is_bad_event b kind ≡ is_bad c kind
 unfolding is_bad_event is_bad
-same_badness b c started (event.Submit what) h = refl
+same_badness b c started (event.Submit what) h = ap (λ (kind : SessionKind). has_no_form kind what) h.numbers.kind_is
 same_badness b c started (event.Cancel n) h = ap (λ k. nat_le k n) h.numbers.submissions
 same_badness b c started (event.Connected l) h = ap (λ k. nat_le k l) h.numbers.links
 same_badness b c started (event.Refused l f) h = ap (λ k. nat_le k l) h.numbers.links
@@ -71,6 +73,7 @@ same_badness b c started (event.Ended l) h = ap (λ k. nat_le k l) h.numbers.lin
 same_badness b c started (event.ReadFault l kind) h = ap (λ k. nat_le k l) h.numbers.links
 same_badness b c started (event.WriteFault l kind) h = ap (λ k. nat_le k l) h.numbers.links
 same_badness b c started (event.Timeout ms) h = refl
+same_badness b c started event.DropStream h = refl
 same_badness b c started event.Shutdown h = refl
 same_badness b c started (event.Wrote l count) h =
     ap (λ k. nat_le k l || (not (is_over (b.link l)) && nat_lt (length (b.link l).offer) count)) h.numbers.links
@@ -129,7 +132,7 @@ elsewhere_given link m n sources first later uses other = by_source (slice_get s
     by_source (Some what) e = ap (λ (x : SourceUse). of_source m (Some x) first later) (uses n what e) ∙ by_use n
 
 -- whatever the event is
-elsewhere : (c : Core) (m : ℕ) (kind : EventKind) → ((k : ℕ) → k < c.links → k ≡ c.single.link) → AreAimed c.timers c.single.link (length c.table) → AreUses c.sources c.single.link → is_bad c kind ≡ false → m ≢ c.single.link → (news_of c.timers c.sources m kind ≡ silence) ⊎ (news_of c.timers c.sources m kind ≡ shut)
+elsewhere : (c : Core) (m : ℕ) (kind : EventKind) → ((k : ℕ) → k < c.links → k ≡ c.single.link) → AreAimed c.timers c.single.link (length c.table) → AreUses c.sources c.single.link → is_bad c kind ≡ false → m ≢ c.single.link → (news_of c.timers c.sources m kind ≡ silence) ⊎ ((news_of c.timers c.sources m kind ≡ shut) ⊎ (news_of c.timers c.sources m kind ≡ dropped))
 unfolding is_bad
 elsewhere c m (event.Submit what) only aims uses good other = inl refl
 elsewhere c m (event.Cancel n) only aims uses good other = inl refl
@@ -216,6 +219,7 @@ IsNewsKind timers (event.Timeout ms) = ⊥
 IsNewsKind timers (event.Creds c auth) = Unit {0}
 IsNewsKind timers (event.CredsError c text) = Unit {0}
 IsNewsKind timers (event.CredsEnd c) = Unit {0}
+IsNewsKind timers event.DropStream = Unit {0}
 IsNewsKind timers event.Shutdown = Unit {0}
 
 -- leaves the stories

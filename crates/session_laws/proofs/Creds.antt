@@ -3,7 +3,7 @@ use Rattle.std.proofs.Common.{◌≡◌, inl, inr, ℕ, Bool, true, false, ◌&&
 use Rattle.containers.proofs.Choices.{by_test, chosen, taken_if, left_if}
 use Rattle.redis_error.specs.declared.redis_error.RedisError.TheVariants as error
 use Rattle.driver_model.specs.Setup.{says_nothing}
-use Rattle.driver_model.specs.News.{News, silence, connected, refused, overdue, took, came, failed, authorized, denied, deserted, shut, renewed, unrenewed, late}
+use Rattle.driver_model.specs.News.{News, silence, connected, refused, overdue, took, came, failed, authorized, denied, deserted, shut, renewed, unrenewed, late, dropped}
 use Rattle.credentials.specs.Credentials.{Credentials}
 use Rattle.link_core.specs.Link.{LinkState}
 use Rattle.mux_conn.specs.declared.life.Life.TheVariants.{Wanting}

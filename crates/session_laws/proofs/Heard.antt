@@ -7,7 +7,7 @@ use Rattle.driver_model.specs.declared.action.Action.{Action}
 use Rattle.connection_info.specs.declared.address.RedisConnectionInfo.{RedisConnectionInfo}
 use Rattle.driver_model.specs.declared.action.Purpose.{Purpose}
 use Rattle.driver_model.specs.declared.event.EventKind.{EventKind}
-use Rattle.driver_model.specs.News.{News, silence, connected, took, came, failed, authorized, denied, deserted, shut, news_of, refused, overdue, renewed, unrenewed, late}
+use Rattle.driver_model.specs.News.{News, silence, connected, took, came, failed, authorized, denied, deserted, shut, news_of, refused, overdue, renewed, unrenewed, late, dropped}
 use Rattle.driver_model.specs.declared.outcome.Outcome.TheVariants as outcome
 use Rattle.link_core.specs.Link.{LinkState}
 use Rattle.link_laws.proofs.TiedLink.{TiedLink, told_tied, unheard_tied}
@@ -18,7 +18,7 @@ use Rattle.mux_conn.specs.declared.life.Life.TheVariants.{Dialing, Wanting, Sett
 use Rattle.shared_session.specs.declared.core_state.Core.{Core}
 use Rattle.shared_session.specs.Turn.{with_work, is_bad}
 use Rattle.legal_trace.specs.Ledger.{Ledger, Ending, Sourced, hears, noted, ending, ending_alive, ending_asked, is_over, bytes_came, dials, refused_in, authorized_by, awaits_credentials, is_renewal_open, lost_by, may_renew, renewed_by, unrenewed_by, renewal_count}
-use Rattle.legal_trace.specs.Book.{Book, book, entered}
+use Rattle.legal_trace.specs.Book.{Book, book, entered, hearing_in}
 use Rattle.legal_trace.specs.Story.{Story}
 use Rattle.legal_trace.specs.Legal.{NoneEnds, is_heard}
 use Rattle.session_laws.proofs.Said.{mild_end, setup_on, setup_unheard, BringsNothing, PushesOf, pushes_hear}
@@ -30,6 +30,7 @@ use Rattle.session_laws.proofs.Settle.{seen, trace_of_acts, Holds}
 use Rattle.session_laws.proofs.Announce.{ComesTo, comes_as, turn_of, turned, IsNewsKind, heard_book, heard_is, heard_starts, heard_tied, announced_sound, holds_first, first_book}
 use Rattle.session_laws.proofs.Renewals.{renewal_alike}
 use Rattle.mux_conn.specs.declared.renewal.Renewal.{Renewal}
+use Rattle.legal_trace.proofs.Came.{holds_bytes}
 
 -- what a turn of news does to the ledger of the connection's link
 abbrev pub heard_by : Book → Core → News → Ledger
@@ -73,7 +74,7 @@ book_kind b c kind same k = subst (λ (ts : List Purpose). IsNewsKind ts kind) (
 
 -- the turn begins so, also with other waits to be shown, and where something else is said to the server
 pub fresh_begins : (before : List Action) (c : Core) (started : List ℕ) (word : ℕ) (kind : EventKind) (n : News) (info : RedisConnectionInfo) (life : Life) (fresh pending : List ℕ) → Between before c started → is_bad c kind ≡ false → IsNewsKind c.timers kind
-    → news_of c.timers c.sources c.single.link kind ≡ n → ComesTo (book before) c (heard_by (book before) c n) (book before).created info life fresh pending [] started
+    → news_of c.timers c.sources c.single.link kind ≡ n → ComesTo (book before) c (heard_by (book before) c n) (book before).created info life fresh pending [] false started
     → Begins (before ++ turn_of c word kind ∷ []) (turned c kind) (comes_as c info life fresh) (heard_by (book before) c n) (book before).story pending started
 fresh_begins before c started word kind n info life fresh pending h good k is g =
     let b = book before in
@@ -125,8 +126,8 @@ quiet_applied before c started word kind n life h good k is g no_end fit =
     }
 
 -- what is still to be told of the pushes
-pub pushes_still : (before : List Action) (c : Core) (started : List ℕ) (n : News) → Between before c started → BringsNothing n ⊎ (((book before).link c.single.link).up ≡ false) → PushesOf (is_heard (book before)) c.single.connection.hears (heard_by (book before) c n)
-pushes_still before c started n h k = pushes_hear ((book before).link c.single.link) c.turns n (is_heard (book before)) c.single.connection.hears k h.sound.tied.notices
+pub pushes_still : (before : List Action) (c : Core) (started : List ℕ) (n : News) → Between before c started → BringsNothing n ⊎ (((book before).link c.single.link).up ≡ false) → PushesOf (hearing_in (book before).config) c.single.connection.hears (heard_by (book before) c n)
+pushes_still before c started n h k = pushes_hear ((book before).link c.single.link) c.turns n (hearing_in (book before).config) c.single.connection.hears k h.sound.tied.notices
 
 -- such news bring no new credentials, and deal nothing
 --
@@ -145,6 +146,7 @@ creds_still l turn deserted (inl k) = refl
 creds_still l turn (renewed c) (inl k) = absurd k
 creds_still l turn unrenewed (inl k) = absurd k
 creds_still l turn (late m) (inl k) = absurd k
+creds_still l turn dropped (inl k) = refl
 creds_still l turn shut (inl k) = refl
 
 -- as many items
@@ -162,6 +164,7 @@ dealt_still l turn deserted k = refl
 dealt_still l turn (renewed c) k = chosen (λ (x : Ledger). x.dealt ≡ l.dealt) (may_renew l) (renewed_by l c) l (λ t. refl) (λ f. refl)
 dealt_still l turn unrenewed k = chosen (λ (x : Ledger). x.dealt ≡ l.dealt) l.up (unrenewed_by l) l (λ t. refl) (λ f. refl)
 dealt_still l turn (late m) k = chosen (λ (x : Ledger). x.dealt ≡ l.dealt) (l.up && is_renewal_open l m) (lost_by l) l (λ t. refl) (λ f. refl)
+dealt_still l turn dropped k = refl
 dealt_still l turn shut k = refl
 
 -- so they leave the new credentials
@@ -176,7 +179,7 @@ none_new l turn connected other = chosen (λ (x : Ledger). (x.creds.over ≡ l.c
 none_new l turn (refused f) other =
     chosen (λ (x : Ledger). (x.creds.over ≡ l.creds.over) × (x.creds.renewals ≡ l.creds.renewals) × (x.creds.timed ≡ l.creds.timed) × (x.creds.lost ≡ l.creds.lost)) (dials l) (refused_in l turn (error.Io f)) l (λ t. (refl, refl, refl, refl)) (λ d. (refl, refl, refl, refl))
 none_new l turn (took count) other = chosen (λ (x : Ledger). (x.creds.over ≡ l.creds.over) × (x.creds.renewals ≡ l.creds.renewals) × (x.creds.timed ≡ l.creds.timed) × (x.creds.lost ≡ l.creds.lost)) l.up _ l (λ t. (refl, refl, refl, refl)) (λ f. (refl, refl, refl, refl))
-none_new l turn (came piece) other = chosen (λ (x : Ledger). (x.creds.over ≡ l.creds.over) × (x.creds.renewals ≡ l.creds.renewals) × (x.creds.timed ≡ l.creds.timed) × (x.creds.lost ≡ l.creds.lost)) l.up (bytes_came l piece) l (λ t. (refl, refl, refl, refl)) (λ f. (refl, refl, refl, refl))
+none_new l turn (came piece) other = chosen (λ (x : Ledger). (x.creds.over ≡ l.creds.over) × (x.creds.renewals ≡ l.creds.renewals) × (x.creds.timed ≡ l.creds.timed) × (x.creds.lost ≡ l.creds.lost)) l.up (bytes_came l piece) l (λ t. holds_bytes (λ (x : Ledger). (x.creds.over ≡ l.creds.over) × (x.creds.renewals ≡ l.creds.renewals) × (x.creds.timed ≡ l.creds.timed) × (x.creds.lost ≡ l.creds.lost)) l piece (λ rest strange told more. (refl, refl, refl, refl))) (λ f. (refl, refl, refl, refl))
 none_new l turn (failed f) other = (refl, refl, refl, refl)
 none_new l turn (authorized c) other =
     chosen (λ (x : Ledger). (x.creds.over ≡ l.creds.over) × (x.creds.renewals ≡ l.creds.renewals) × (x.creds.timed ≡ l.creds.timed) × (x.creds.lost ≡ l.creds.lost)) (awaits_credentials l) (authorized_by l c) l (λ t. (refl, refl, refl, refl)) (λ f. (refl, refl, refl, refl))
@@ -185,6 +188,7 @@ none_new l turn deserted other = (refl, refl, refl, refl)
 none_new l turn (renewed c) other = absurd (other tt)
 none_new l turn unrenewed other = absurd (other tt)
 none_new l turn (late m) other = absurd (other tt)
+none_new l turn dropped other = (refl, refl, refl, refl)
 none_new l turn shut other = (refl, refl, refl, refl)
 
 -- so none are there then
@@ -264,6 +268,7 @@ ended_hears l created e turn unrenewed h = if_false (λ (x : Ledger). TiedLife x
 ended_hears l created e turn (late m) h = if_false (λ (x : Ledger). TiedLife x created (Ended e)) (l.up && is_renewal_open l m) (lost_by l) l (ap (λ u. u && is_renewal_open l m) h.0) h
 ended_hears l created e turn (denied text) h = h
 ended_hears l created e turn deserted h = h
+ended_hears l created e turn dropped h = h
 ended_hears l created e turn shut h = h
 
 -- and need not end again
@@ -308,6 +313,7 @@ IsOfAnother silence = ⊥
 IsOfAnother (refused f) = ⊥
 IsOfAnother overdue = ⊥
 IsOfAnother connected = ⊥
+IsOfAnother dropped = ⊥
 IsOfAnother shut = ⊥
 
 -- a link whose connect is not answered stays as it is
@@ -325,24 +331,26 @@ dialing_hears l created turn unrenewed k h = absurd k
 dialing_hears l created turn (late m) k h = absurd k
 dialing_hears l created turn (denied text) k h = h
 dialing_hears l created turn deserted k h = h
+dialing_hears l created turn dropped k h = absurd k
 dialing_hears l created turn shut k h = absurd k
 
 -- such news end no link that is not up
-asked_on : (n : News) → IsOfAnother n → ending_asked n ≡ None
-asked_on silence k = refl
-asked_on (refused f) k = refl
-asked_on overdue k = absurd k
-asked_on connected k = refl
-asked_on (took count) k = refl
-asked_on (came piece) k = refl
-asked_on (failed f) k = refl
-asked_on (authorized c) k = refl
-asked_on (renewed c) k = refl
-asked_on unrenewed k = refl
-asked_on (late m) k = refl
-asked_on (denied text) k = refl
-asked_on deserted k = refl
-asked_on shut k = absurd k
+asked_on : (l : Ledger) (n : News) → IsOfAnother n → ending_asked l n ≡ None
+asked_on l silence k = refl
+asked_on l (refused f) k = refl
+asked_on l overdue k = absurd k
+asked_on l connected k = refl
+asked_on l (took count) k = refl
+asked_on l (came piece) k = refl
+asked_on l (failed f) k = refl
+asked_on l (authorized c) k = refl
+asked_on l (renewed c) k = refl
+asked_on l unrenewed k = refl
+asked_on l (late m) k = refl
+asked_on l (denied text) k = refl
+asked_on l deserted k = refl
+asked_on l dropped k = absurd k
+asked_on l shut k = absurd k
 
 -- so it need not end
 dialing_no_end : (l : Ledger) (created turn : ℕ) (n : News) → IsOfAnother n → TiedLife l created Dialing → ending (noted l (hears turn n)) ≡ None

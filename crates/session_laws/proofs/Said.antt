@@ -8,7 +8,7 @@ use Rattle.connection_info.specs.declared.address.RedisConnectionInfo.{RedisConn
 use Rattle.connection_setup.specs.declared.judgement.SetupResult.TheVariants.{Ready as Well, Failed}
 use Rattle.driver_model.specs.Setup.{says_nothing}
 use Rattle.driver_model.specs.declared.action.Owner.TheVariants as owner
-use Rattle.driver_model.specs.News.{News, silence, connected, refused, overdue, took, came, failed, authorized, denied, deserted, shut, renewed, unrenewed, late}
+use Rattle.driver_model.specs.News.{News, silence, connected, refused, overdue, took, came, failed, authorized, denied, deserted, shut, renewed, unrenewed, late, dropped}
 use Rattle.link_core.specs.declared.message.Entry.{Entry}
 use Rattle.link_core.specs.Link.{LinkState}
 use Rattle.link_laws.proofs.TiedLink.{TiedLink}

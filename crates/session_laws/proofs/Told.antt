@@ -1,5 +1,5 @@
 -- One push is told of a link, or its end is: what this leaves as it is.
-use Rattle.std.proofs.Common.{◌≡◌, inl, inr, ℕ, zero, suc, Bool, if◌then◌else◌, List, [], ◌∷◌, None, Some, refl, ap, ◌∙◌, subst, arith, sym, ◌==◌, ◌+◌, ◌-◌}
+use Rattle.std.proofs.Common.{◌≡◌, inl, inr, ℕ, zero, suc, Bool, if◌then◌else◌, List, [], ◌∷◌, None, Some, refl, ap, ◌∙◌, subst, arith, sym, ◌==◌, ◌+◌, ◌-◌, false}
 use Rattle.std.specs.List.{AllByRecursion}
 use Rattle.connection_setup.specs.declared.judgement.SetupResult.TheVariants.{Ready as Well}
 use Rattle.driver_model.specs.declared.action.Action.TheVariants as action
