@@ -27,7 +27,7 @@ use Rattle.shared_session.specs.declared.core_state.Core.{Core}
 use Rattle.shared_session.specs.Turn.{is_shutdown, shut_by, exceeds_offer, is_no_link, is_bad, use_after}
 use Rattle.legal_trace.specs.Ledger.{Ledger, Start, setup_count, authorized_by, awaits_credentials, hears, noted, is_over, bytes_came, dials, refused_in, Heard, is_renewal_open, lost_by, may_renew, renewed_by, unrenewed_by, Sourced}
 use Rattle.legal_trace.specs.Story.{Story, fires}
-use Rattle.legal_trace.specs.Book.{Book, book, entered, is_clock_of, hearing_in}
+use Rattle.legal_trace.specs.Book.{Book, book, entered, is_clock_of, hearing_in, timeout_after, kind_in}
 use Rattle.legal_trace.specs.Events.{is_bad_event}
 use Rattle.legal_trace.specs.Legal.{MayTurn, is_heard}
 use Rattle.session_laws.proofs.Tied.{AreAimed, AreUses, IsAim, owners_of, owners_each, setup_owners, Inner, inner, link_in, carried, whole_link, IsUnknown, TiedCreds, TiedLife, TiedSetup, TiedTries, TiedLines, AreQueued, TiedWaits, Tied, Sound, no_opening, has_ended, TiedNotices, TiedRenewal, sources_asked_in, HasGreetedAlone}
@@ -42,6 +42,7 @@ use Rattle.driver_model.specs.Hearing.{is_watching}
 use Rattle.legal_trace.proofs.Came.{holds_bytes}
 use Rattle.driver_model.specs.declared.kind.SessionKind.{SessionKind}
 use Rattle.driver_model.specs.Request.{has_no_form}
+use Rattle.driver_model.specs.declared.kind.SessionKind.TheVariants as session
 
 -- bad events
 --
@@ -231,30 +232,75 @@ heard_book b number word kind = record b {
   link = λ m. noted (b.link m) (hears number (news_of b.timers b.sources m kind));
 }
 
--- with as many submissions as before
-still_as_many : (b : Book) (number word : ℕ) (kind : EventKind) → record (heard_book b number word kind) { submissions = b.submissions + 0 } ≡ heard_book b number word kind
-still_as_many b number word kind = let e : b.submissions + 0 ≡ b.submissions = omega arith in λ i. record (heard_book b number word kind) { submissions = e i }
+-- an event sets no time for requests
+abbrev pub SetsNoTime : EventKind → Type 0
+SetsNoTime (event.Timeout ms) = ⊥
+SetsNoTime (event.Submit what) = Unit {0}
+SetsNoTime (event.Cancel n) = Unit {0}
+SetsNoTime (event.Connected l) = Unit {0}
+SetsNoTime (event.Refused l f) = Unit {0}
+SetsNoTime (event.Fired n) = Unit {0}
+SetsNoTime (event.Wrote l count) = Unit {0}
+SetsNoTime (event.Bytes l piece) = Unit {0}
+SetsNoTime (event.Ended l) = Unit {0}
+SetsNoTime (event.ReadFault l f) = Unit {0}
+SetsNoTime (event.WriteFault l f) = Unit {0}
+SetsNoTime (event.Creds c auth) = Unit {0}
+SetsNoTime (event.CredsError c text) = Unit {0}
+SetsNoTime (event.CredsEnd c) = Unit {0}
+SetsNoTime event.DropStream = Unit {0}
+SetsNoTime event.Shutdown = Unit {0}
+
+-- so that stays
+pub time_still : (is : SessionKind) (old : Option ℕ) (kind : EventKind) → SetsNoTime kind → timeout_after is old kind ≡ old
+time_still session.PubSub old kind k = refl
+time_still session.Monitor old kind k = refl
+time_still session.Single old (event.Timeout ms) k = absurd k
+time_still session.Single old (event.Submit what) k = refl
+time_still session.Single old (event.Cancel n) k = refl
+time_still session.Single old (event.Connected l) k = refl
+time_still session.Single old (event.Refused l f) k = refl
+time_still session.Single old (event.Fired n) k = refl
+time_still session.Single old (event.Wrote l count) k = refl
+time_still session.Single old (event.Bytes l piece) k = refl
+time_still session.Single old (event.Ended l) k = refl
+time_still session.Single old (event.ReadFault l f) k = refl
+time_still session.Single old (event.WriteFault l f) k = refl
+time_still session.Single old (event.Creds c auth) k = refl
+time_still session.Single old (event.CredsError c text) k = refl
+time_still session.Single old (event.CredsEnd c) k = refl
+time_still session.Single old event.DropStream k = refl
+time_still session.Single old event.Shutdown k = refl
+
+-- with as many submissions as before, and the same time
+still_as_many : (b : Book) (number word : ℕ) (kind : EventKind) → SetsNoTime kind
+    → record (heard_book b number word kind) { submissions = b.submissions + 0; timeout = timeout_after (kind_in b.config) b.timeout kind } ≡ heard_book b number word kind
+still_as_many b number word kind k =
+    let e : b.submissions + 0 ≡ b.submissions = omega arith in
+    let same = time_still (kind_in b.config) b.timeout kind k in
+    λ i. record (heard_book b number word kind) { submissions = e i; timeout = same i }
 
 -- the book with its turn is that book
 pub heard_is : (b : Book) (number word : ℕ) (kind : EventKind) → IsNewsKind b.timers kind → entered b (action.Turn number (cause.Event (record { word = word; kind = kind }))) ≡ heard_book b number word kind
 heard_is b number word (event.Submit what) k = absurd k
 heard_is b number word (event.Cancel n) k = absurd k
-heard_is b number word (event.Connected l) k = still_as_many b number word (event.Connected l)
-heard_is b number word (event.Refused l f) k = still_as_many b number word (event.Refused l f)
+heard_is b number word (event.Connected l) k = still_as_many b number word (event.Connected l) tt
+heard_is b number word (event.Refused l f) k = still_as_many b number word (event.Refused l f) tt
 heard_is b number word (event.Fired n) k =
     let e : b.submissions + 0 ≡ b.submissions = omega arith in
-    λ i. record (heard_book b number word (event.Fired n)) { submissions = e i; story = λ m. left_if (is_clock_of m (slice_get b.timers n)) (fires (b.story m)) (b.story m) (k m) i }
-heard_is b number word (event.Wrote l count) k = still_as_many b number word (event.Wrote l count)
-heard_is b number word (event.Bytes l piece) k = still_as_many b number word (event.Bytes l piece)
-heard_is b number word (event.Ended l) k = still_as_many b number word (event.Ended l)
-heard_is b number word (event.ReadFault l kind) k = still_as_many b number word (event.ReadFault l kind)
-heard_is b number word (event.WriteFault l kind) k = still_as_many b number word (event.WriteFault l kind)
+    let same = time_still (kind_in b.config) b.timeout (event.Fired n) tt in
+    λ i. record (heard_book b number word (event.Fired n)) { submissions = e i; timeout = same i; story = λ m. left_if (is_clock_of m (slice_get b.timers n)) (fires (b.story m)) (b.story m) (k m) i }
+heard_is b number word (event.Wrote l count) k = still_as_many b number word (event.Wrote l count) tt
+heard_is b number word (event.Bytes l piece) k = still_as_many b number word (event.Bytes l piece) tt
+heard_is b number word (event.Ended l) k = still_as_many b number word (event.Ended l) tt
+heard_is b number word (event.ReadFault l kind) k = still_as_many b number word (event.ReadFault l kind) tt
+heard_is b number word (event.WriteFault l kind) k = still_as_many b number word (event.WriteFault l kind) tt
 heard_is b number word (event.Timeout ms) k = absurd k
-heard_is b number word (event.Creds c auth) k = still_as_many b number word (event.Creds c auth)
-heard_is b number word (event.CredsError c text) k = still_as_many b number word (event.CredsError c text)
-heard_is b number word (event.CredsEnd c) k = still_as_many b number word (event.CredsEnd c)
-heard_is b number word event.DropStream k = still_as_many b number word event.DropStream
-heard_is b number word event.Shutdown k = still_as_many b number word event.Shutdown
+heard_is b number word (event.Creds c auth) k = still_as_many b number word (event.Creds c auth) tt
+heard_is b number word (event.CredsError c text) k = still_as_many b number word (event.CredsError c text) tt
+heard_is b number word (event.CredsEnd c) k = still_as_many b number word (event.CredsEnd c) tt
+heard_is b number word event.DropStream k = still_as_many b number word event.DropStream tt
+heard_is b number word event.Shutdown k = still_as_many b number word event.Shutdown tt
 
 -- tries are of the starts
 tries_by : (l after : Ledger) (story : ℕ → Story) (requests : List Request) (link : ℕ) (started : List ℕ) → after.starts ≡ l.starts → after.hearing ≡ l.hearing → TiedTries l story requests link started → TiedTries after story requests link started

@@ -31,12 +31,12 @@ use Rattle.shared_session.specs.declared.core_state.Core.{Core}
 use Rattle.shared_session.specs.Turn.{with_work, heard, is_shutdown, left_by, effect, counted, is_bad}
 use Rattle.legal_trace.specs.Ledger.{Ledger, Sourced, ending, hears, noted}
 use Rattle.legal_trace.specs.Story.{Story, is_open, is_told, left}
-use Rattle.legal_trace.specs.Book.{Book, after_event, book, entered, if_own, shuts, submitted_by, timeout_after}
+use Rattle.legal_trace.specs.Book.{Book, after_event, book, entered, if_own, shuts, submitted_by, timeout_after, kind_in}
 use Rattle.mux_conn.specs.Renewals.{renewal_id}
 use Rattle.mux_conn.specs.declared.renewal.Renewal.{Renewal}
 use Rattle.session_laws.proofs.Renewals.{renewal_alike}
 use Rattle.session_laws.proofs.Numbers.{IsIn, in_left, in_right, in_either, Rising, rising_from, rising_in, rising_right, rising_tail, requests_in, request_in, request_of, request_other, requests_first}
-use Rattle.session_laws.proofs.Tied.{carried, inner, no_link, link_in, owner_of, queue_ids, whole_link, IsQueued, IsEntry, AreQueued, TiedCreds, TiedLife, TiedStory, TiedNames, TiedNumbers, TiedPermits, TiedLines, TiedSetup, IsUnknown, Tied, no_opening, has_ended, TiedRenewal}
+use Rattle.session_laws.proofs.Tied.{carried, inner, no_link, link_in, owner_of, queue_ids, whole_link, IsQueued, IsEntry, AreQueued, TiedCreds, TiedLife, TiedStory, TiedNames, TiedNumbers, TiedPermits, TiedLines, TiedSetup, IsUnknown, Tied, no_opening, has_ended, TiedRenewal, greeter}
 use Rattle.session_laws.proofs.States.{IsFit, IsFitIn, Between, HasApplied}
 use Rattle.session_laws.proofs.Names.{name_within, open_within, name_of_some, owners_with, length_with, names_with, with_other, with_then, request_not}
 use Rattle.session_laws.proofs.InLine.{row_ids, kept_ids, chosen_in, awaited_in, wanted_in}
@@ -46,7 +46,7 @@ use Rattle.legal_trace.specs.Legal.{NoneEnds}
 use Rattle.session_laws.proofs.Closing.{Closes, WasReady, WasSettingUp, WasWanting, closed_other, late_closed, with_closed, story_closed, tries_closed, packs_closed, queued_other, queue_closed, AreOthers, waits_closed, kept_other, IsUntried, told_closed}
 use Rattle.session_laws.proofs.Answer.{entries_answered}
 use Rattle.session_laws.proofs.Settle.{seen}
-use Rattle.session_laws.proofs.Announce.{aims_on, turn_of, turned, uses_on, counted_on}
+use Rattle.session_laws.proofs.Announce.{aims_on, turn_of, turned, uses_on, counted_on, time_still}
 use Rattle.session_laws.proofs.Kept.{tied_by}
 use Rattle.session_laws.proofs.Permits.{permits_closed}
 use Rattle.session_laws.proofs.Heard.{silent_applied, still_none, told_life, silent_no_end}
@@ -278,7 +278,7 @@ pub left_link : (requests : List Request) (l : Ledger) (life : Life) (p : ℕ) �
     → TiedLink (carried (cancelled_in life p) requests) (record l { heard = silence }) (whole_link (cancelled_in life p))
 left_link requests l Dialing p h n = told_tied (owner_of requests) l (whole_link Dialing) l.asked l.up silence (h refl)
 left_link requests l (Wanting link) p h n = told_tied (λ (q : ℕ). owner.Setup) l link l.asked l.up silence (h refl)
-left_link requests l (SettingUp link greeting) p h n = told_tied (λ (q : ℕ). owner.Setup) l link l.asked l.up silence (h refl)
+left_link requests l (SettingUp link greeting) p h n = told_tied (λ (q : ℕ). greeter greeting) l link l.asked l.up silence (h refl)
 left_link requests l (Ready link) p h n = told_tied (owner_of requests) l (cancelled link p) l.asked l.up silence (cancelled_tied (owner_of requests) l link p (h refl))
 left_link requests l (Ended e) p h n = cc
 
@@ -403,7 +403,7 @@ none_more n = omega arith
 pub record IsSilent (b : Book) (c : Core) (kind : EventKind) (timeout : Option ℕ) : Type 0 where
   pub silent : (m : ℕ) → news_of b.timers b.sources m kind ≡ silence
   pub none : submitted_by kind ≡ 0
-  pub time : timeout_after b.timeout kind ≡ timeout
+  pub time : timeout_after (kind_in b.config) b.timeout kind ≡ timeout
   pub shut : (b.shut || shuts kind) ≡ (c.shut || is_shutdown kind)
 
 -- the core of its turn
@@ -474,7 +474,7 @@ still_tied b c started word kind timeout q same h =
 
 -- a leave is silent
 leave_silent : (b : Book) (c : Core) (started n : ℕ) (line : List ℕ) → Tied b (inner c line) → IsSilent b c (event.Cancel n) c.timeout
-leave_silent b c started n line h = record { silent = λ m. refl; none = refl; time = h.numbers.timeout; shut = ap (λ s. s || false) h.numbers.shut }
+leave_silent b c started n line h = record { silent = λ m. refl; none = refl; time = time_still (kind_in b.config) b.timeout (event.Cancel n) tt ∙ h.numbers.timeout; shut = ap (λ s. s || false) h.numbers.shut }
 
 -- an open one has gone
 gone_tied : (b : Book) (c : Core) (started : List ℕ) (word p n : ℕ) → Tied b (inner c started) → is_open_at c.single.connection.requests p ≡ true → name_at c.single.connection.requests p ≡ n

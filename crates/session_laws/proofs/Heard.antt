@@ -31,6 +31,7 @@ use Rattle.session_laws.proofs.Announce.{ComesTo, comes_as, turn_of, turned, IsN
 use Rattle.session_laws.proofs.Renewals.{renewal_alike}
 use Rattle.mux_conn.specs.declared.renewal.Renewal.{Renewal}
 use Rattle.legal_trace.proofs.Came.{holds_bytes}
+use Rattle.mux_conn.specs.declared.life.Greeting.{Greeting}
 
 -- what a turn of news does to the ledger of the connection's link
 abbrev pub heard_by : Book → Core → News → Ledger
@@ -357,7 +358,7 @@ dialing_no_end : (l : Ledger) (created turn : ℕ) (n : News) → IsOfAnother n 
 dialing_no_end l created turn n k h =
     let after = noted l (hears turn n) in
     left_if after.up (ending_alive after) _ (dialing_hears l created turn n k h).1
-    ∙ chosen (λ (x : Option Ending). x ≡ None) (after.asked && not (is_over after)) (ending_asked n) None (λ t. asked_on n k) (λ f. refl)
+    ∙ chosen (λ (x : Option Ending). x ≡ None) (after.asked && not (is_over after)) (ending_asked after n) None (λ t. asked_on after n k) (λ f. refl)
 
 -- and the event has no effect
 pub dialing_quiet : (before : List Action) (c : Core) (started : List ℕ) (word : ℕ) (kind : EventKind) (n : News) → IsOfAnother n → Between before c started → is_bad c kind ≡ false → IsNewsKind c.timers kind → news_of c.timers c.sources c.single.link kind ≡ n → c.single.connection.life ≡ Dialing
@@ -400,7 +401,7 @@ silent_applied before c started word kind f conn h good no_end began none_moved 
 -- a link that is set up
 --
 -- is fit
-pub setting_fit : (c : MultiplexedConnection) (link after : LinkState) (was greeting : Bool) (fresh : List ℕ) → c.life ≡ SettingUp link was → IsFitIn c → IsFit c.size c.boundary after → IsFitIn (record c { life = SettingUp after greeting; fresh = fresh })
+pub setting_fit : (c : MultiplexedConnection) (link after : LinkState) (was greeting : Greeting) (fresh : List ℕ) → c.life ≡ SettingUp link was → IsFitIn c → IsFit c.size c.boundary after → IsFitIn (record c { life = SettingUp after greeting; fresh = fresh })
 setting_fit c link after was greeting fresh e h k = record {
   wanting = λ x is. cc;
   setup = λ x u is. (let same : after ≡ x = cc in subst (IsFit c.size c.boundary) same k);
@@ -409,7 +410,7 @@ setting_fit c link after was greeting fresh e h k = record {
 }
 
 -- its waits stay as long as it is set up
-pub setting_waits : (story : ℕ → Story) (requests : List Request) (link after : LinkState) (was greeting : Bool) (fresh moved : List ℕ) → TiedWaits story requests (SettingUp link was) fresh moved → TiedWaits story requests (SettingUp after greeting) fresh moved
+pub setting_waits : (story : ℕ → Story) (requests : List Request) (link after : LinkState) (was greeting : Greeting) (fresh moved : List ℕ) → TiedWaits story requests (SettingUp link was) fresh moved → TiedWaits story requests (SettingUp after greeting) fresh moved
 setting_waits story requests link after was greeting fresh moved h = record {
   early = h.early;
   connect = λ p w d. cc;

@@ -34,7 +34,7 @@ use Rattle.shared_session.specs.Turn.{with_work, late_by, effect, counted, is_ba
 use Rattle.legal_trace.specs.Ledger.{hears, is_over, noted}
 use Rattle.legal_trace.specs.Owed.{owed, owed_to_try}
 use Rattle.legal_trace.specs.Story.{Story, answered, awaited_in, bytes_of, fires, is_no_error, is_open, is_told, last_of}
-use Rattle.legal_trace.specs.Book.{Book, after_event, book, entered, if_own, is_clock_of}
+use Rattle.legal_trace.specs.Book.{Book, after_event, book, entered, if_own, is_clock_of, kind_in}
 use Rattle.legal_trace.specs.Legal.{NoneEnds}
 use Rattle.mux_conn.specs.Renewals.{renewal_id}
 use Rattle.session_laws.proofs.Renewals.{renewal_alike}
@@ -50,7 +50,7 @@ use Rattle.session_laws.proofs.Kept.{one_changed, packed_same, queued_same, tied
 use Rattle.session_laws.proofs.Closing.{one_of, told_closed}
 use Rattle.session_laws.proofs.Answer.{answer_apart, may_answer, owed_untold, none_before}
 use Rattle.session_laws.proofs.Settle.{book_of_more, holds_more, seen, trace_of_acts}
-use Rattle.session_laws.proofs.Announce.{announced_sound, first_book, holds_first, turn_of, turned, counted_on}
+use Rattle.session_laws.proofs.Announce.{announced_sound, first_book, holds_first, turn_of, turned, counted_on, time_still}
 use Rattle.session_laws.proofs.Heard.{silent_applied, still_none}
 use Rattle.session_laws.proofs.Cancel.{IsSilent, left_creds, left_fit, left_life, left_link, left_others, left_setup, none_more, queued_apart, silenced_wanted, silent_core, silent_ends, silent_numbers, silent_others, still_dials, still_tied, was_ready, was_setting, was_wanting, without_awaited, without_others, without_rises, apart_behind, rising_behind, left_renewal}
 
@@ -250,7 +250,7 @@ late_silent : (b : Book) (c : Core) (started : List ℕ) (n : ℕ) (who : Option
 late_silent b c started n who h is none = record {
   silent = λ m. ap (λ (ts : List Purpose). of_timer m (slice_get ts n)) h.numbers.timers ∙ ap (of_timer m) is ∙ none m;
   none = refl;
-  time = h.numbers.timeout;
+  time = time_still (kind_in b.config) b.timeout (event.Fired n) tt ∙ h.numbers.timeout;
   shut = ap (λ s. s || false) h.numbers.shut;
 }
 

@@ -36,7 +36,7 @@ use Rattle.legal_trace.specs.Story.{Story}
 use Rattle.legal_trace.proofs.Setups.{count_more}
 use Rattle.session_laws.proofs.Ahead.{held_by}
 use Rattle.session_laws.proofs.Behind.{some_more}
-use Rattle.session_laws.proofs.Going.{HasRenewed, applied_up, none_ends_kept, none_ends_mine, renewals_timed, setups_started, undue_asked}
+use Rattle.session_laws.proofs.Going.{HasRenewed, applied_up, none_ends_kept, none_ends_mine, renewals_timed, setups_started, undue_asked, monitors_started}
 use Rattle.session_laws.proofs.InLine.{kept_ids}
 use Rattle.session_laws.proofs.Kept.{mine_noted, others_kept, tied_by}
 use Rattle.session_laws.proofs.Names.{get_more}
@@ -49,6 +49,7 @@ use Rattle.session_laws.proofs.Starts.{begins_ends_none}
 use Rattle.session_laws.proofs.States.{IsFit}
 use Rattle.session_laws.proofs.Tied.{AreAimed, AreRenewed, Inner, IsAim, IsEntry, IsUnknown, Tied, TiedRenewal, TiedTries, numbers_kept, owner_of, owners_each, queue_ids, setup_owners, timed_of}
 use Rattle.session_laws.proofs.Took.{queue_waits}
+use Rattle.mux_conn.specs.declared.life.Greeting.TheVariants as greet
 
 -- their timer
 --
@@ -81,6 +82,7 @@ may_time_renewal b t link number ms counted none due within h ended =
     record {
       applied = applied_up b was h refl (refl, refl) refl ended;
       setups = setups_started b was h (λ x u e. absurd (not_setting link x u e));
+      monitors = monitors_started b was h (λ x e. absurd (not_setting link x greet.Monitor e));
       l = t.link;
       within = h.numbers.within ∙ within;
       asked = omega (arith, timed, one, unasked, h.renewal.asked_is);
@@ -193,6 +195,7 @@ may_renew b t link c cs due pending waits fit free h ended =
     record {
       applied = applied_up b was h refl (refl, refl) refl ended;
       setups = setups_started b was h (λ x u e. absurd (not_setting link x u e));
+      monitors = monitors_started b was h (λ x e. absurd (not_setting link x greet.Monitor e));
       timed = renewals_timed b was h (λ x e d. pending);
       credentials = c;
       due = due_first l t.renewal c cs h.life.1 h.renewal due waits;

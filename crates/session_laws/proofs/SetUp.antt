@@ -44,7 +44,7 @@ pub none_yet : (l : Ledger) (k : ℕ) → is_full l k ≡ false → result_of l 
 none_yet l k f = left_if (is_full l k) _ None f
 
 -- so while a setup is to start, or isn't answered, the link isn't set up
-setting_undecided : (l : Ledger) (link : LinkState) (greeting : Greeting) → IsSettingUp l link greeting → IsUndecided (setup_result l)
+pub setting_undecided : (l : Ledger) (link : LinkState) (greeting : Greeting) → IsSettingUp l link greeting → IsUndecided (setup_result l)
 setting_undecided l link greeting h =
     by_test (lacks_credentials l) _ (lacking_undecided l)
     (λ given. subst IsUndecided (sym (setup_said l given ∙ left_if (says_nothing (setup_steps l 0)) (Some result.Ready) (last_result l (setup_count l.starts)) h.says)) (elim h.stage [
