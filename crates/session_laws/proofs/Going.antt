@@ -96,7 +96,7 @@ monitors_started b t h mine m due = by_test (m == t.link) _
     by_life (Wanting link) e d = let l = b.link t.link in absurd (ungreeted l (lacking_undecided l (wanting_lacks l.creds link (subst (AreSought l.creds) e h.creds.sought))) d)
     by_life (SettingUp link greet.WithUser) e d = let l = b.link t.link in absurd (ungreeted l (setting_undecided l link greet.WithUser (subst (HasSaid l t.started) e h.setup.said).1) d)
     by_life (SettingUp link greet.WithoutUser) e d = let l = b.link t.link in absurd (ungreeted l (setting_undecided l link greet.WithoutUser (subst (HasSaid l t.started) e h.setup.said).1) d)
-    by_life (SettingUp link greet.Monitor) e d = elim (mine link e) [ inl no ↦ absurd (no d) | inr held ↦ held ]
+    by_life (SettingUp link greet.Monitor) e d = elim (mine link e) [ inl never ↦ absurd (never d) | inr held ↦ held ]
     by_life (Ready link) e d = let l = b.link t.link in absurd (not_both (is_set_up l) (watch_is_unset l d) (subst (HasSaid l t.started) e h.setup.said).well)
     by_life (Ended x) e d = absurd (not_both (b.link t.link).up (subst (TiedLife (b.link t.link) b.created) e h.life).0 (watch_is_up (b.link t.link) d))
 
@@ -288,9 +288,9 @@ setting_moves_none b t link greeting h e n m =
     not_both (is_due (next_step b n)) (ap (λ k. is_due (next_step b k)) (sym a.name) ∙ ap is_due (setup_step b t a.p link greeting h e a.within)) m.due
 
 -- what gives no number is nothing
-none_given : (o : Option ℕ) → ((k : ℕ) → o ≡ Some k → ⊥) → o ≡ None
-none_given None no = refl
-none_given (Some k) no = absurd (no k refl)
+pub none_given : (o : Option ℕ) → ((k : ℕ) → o ≡ Some k → ⊥) → o ≡ None
+none_given None never = refl
+none_given (Some k) never = absurd (never k refl)
 
 -- a link is held back by what is unwritten
 setting_held : (b : Book) (t : Inner) (link : LinkState) (greeting : Greeting) → Tied b t → t.life ≡ SettingUp link greeting → IsFit t.size t.bound link → holds_back link ≡ true → is_held_back b (b.link t.link) ≡ true

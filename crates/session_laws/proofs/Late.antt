@@ -34,7 +34,7 @@ use Rattle.shared_session.specs.Turn.{with_work, late_by, effect, counted, is_ba
 use Rattle.legal_trace.specs.Ledger.{hears, is_over, noted}
 use Rattle.legal_trace.specs.Owed.{owed, owed_to_try}
 use Rattle.legal_trace.specs.Story.{Story, answered, awaited_in, bytes_of, fires, is_no_error, is_open, is_told, last_of}
-use Rattle.legal_trace.specs.Book.{Book, after_event, book, entered, if_own, is_clock_of, kind_in}
+use Rattle.legal_trace.specs.Book.{Book, after_event, book, entered, if_own, is_clock_of, kind_in, timeout_after}
 use Rattle.legal_trace.specs.Legal.{NoneEnds}
 use Rattle.mux_conn.specs.Renewals.{renewal_id}
 use Rattle.session_laws.proofs.Renewals.{renewal_alike}
@@ -53,6 +53,9 @@ use Rattle.session_laws.proofs.Settle.{book_of_more, holds_more, seen, trace_of_
 use Rattle.session_laws.proofs.Announce.{announced_sound, first_book, holds_first, turn_of, turned, counted_on, time_still}
 use Rattle.session_laws.proofs.Heard.{silent_applied, still_none}
 use Rattle.session_laws.proofs.Cancel.{IsSilent, left_creds, left_fit, left_life, left_link, left_others, left_setup, none_more, queued_apart, silenced_wanted, silent_core, silent_ends, silent_numbers, silent_others, still_dials, still_tied, was_ready, was_setting, was_wanting, without_awaited, without_others, without_rises, apart_behind, rising_behind, left_renewal}
+use Rattle.driver_model.specs.declared.kind.SessionKind.{SessionKind}
+use Rattle.driver_model.specs.declared.kind.SessionKind.TheVariants as session
+use Rattle.driver_model.specs.Kind.{is_single}
 
 -- a story whose timer fires
 --
@@ -477,6 +480,21 @@ pub time_applied : (before : List Action) (c : Core) (started : List ℕ) (word 
     → HasApplied (before ++ turn_of c word (event.Timeout ms) ∷ []) (effect (counted c) (event.Timeout ms)) started
 time_applied before c started word ms h good =
     let b = book before in
-    let q : IsSilent b c (event.Timeout ms) ms = record { silent = λ m. refl; none = refl; time = refl; shut = ap (λ s. s || false) h.sound.tied.numbers.shut } in
-    silent_applied before c started word (event.Timeout ms) (silent_core c (event.Timeout ms) ms) c.single.connection h good (silent_ends b c (event.Timeout ms) ms q (still_none before c started h)) (λ z. absurd (omega arith)) h.moved h.fit
-    (still_tied b c started word (event.Timeout ms) ms q (λ m. refl) h.sound.tied)
+    let kind_is = h.sound.tied.numbers.kind_is in
+    let shut = ap (λ s. s || false) h.sound.tied.numbers.shut in
+    let set = λ (time : Option ℕ) (q : IsSilent b c (event.Timeout ms) time).
+    silent_applied before c started word (event.Timeout ms) (silent_core c (event.Timeout ms) time) c.single.connection h good (silent_ends b c (event.Timeout ms) time q (still_none before c started h)) (λ z. absurd (omega arith)) h.moved h.fit
+    (still_tied b c started word (event.Timeout ms) time q (λ m. refl) h.sound.tied) in
+    chosen (λ (x : Core). HasApplied (before ++ turn_of c word (event.Timeout ms) ∷ []) (record { core = x; acts = [] }) started) (is_single c.kind) (silent_core c (event.Timeout ms) ms) (turned c (event.Timeout ms))
+    (λ single. set ms (record { silent = λ m. refl; none = refl; time = single_time (kind_in b.config) b.timeout ms (ap is_single kind_is ∙ single); shut = shut }))
+    (λ other. set c.timeout (record { silent = λ m. refl; none = refl; time = other_time (kind_in b.config) b.timeout ms (ap is_single kind_is ∙ other) ∙ h.sound.tied.numbers.timeout; shut = shut }))
+  where
+    single_time : (is : SessionKind) (old new : Option ℕ) → is_single is ≡ true → timeout_after is old (event.Timeout new) ≡ new
+    single_time session.Single old new e = refl
+    single_time session.PubSub old new e = cc
+    single_time session.Monitor old new e = cc
+
+    other_time : (is : SessionKind) (old new : Option ℕ) → is_single is ≡ false → timeout_after is old (event.Timeout new) ≡ old
+    other_time session.Single old new e = cc
+    other_time session.PubSub old new e = refl
+    other_time session.Monitor old new e = refl

@@ -25,6 +25,7 @@ pub mod Place
 pub mod Settle
 pub mod LetIn
 pub mod SetsUp
+pub mod Watches
 pub mod Close
 pub mod Telling
 pub mod Replies

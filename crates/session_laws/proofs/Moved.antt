@@ -32,7 +32,7 @@ use Rattle.session_laws.proofs.InLine.{kept_ids}
 use Rattle.session_laws.proofs.Names.{open_within, with_other, with_then}
 use Rattle.session_laws.proofs.Numbers.{IsIn, Rising, rising_right, requests_in}
 use Rattle.session_laws.proofs.Passes.{IsDone, IsSeated, IsUp, admitted_done, moved_up_seated, moved_up_waits, moving, started_keeps, started_up, no_room}
-use Rattle.session_laws.proofs.SetsUp.{setting_begun}
+use Rattle.session_laws.proofs.Watches.{setting_begun}
 use Rattle.session_laws.proofs.Settle.{Holds, answered_leaves, failed_leaves, seen, trace_of_acts}
 use Rattle.session_laws.proofs.States.{IsFit, IsFitIn, IsStill}
 use Rattle.session_laws.proofs.Tied.{Inner, Sound, Tied, has_ended, link_in, queue_ids, waiting_ids}
@@ -230,7 +230,7 @@ setting_moved before f w started link greeting life h =
       seats = λ p i k. absurd (subst (λ (x : Life). IsIn p (queue_ids (link_in x).queue)) begun.life k);
     })
   where
-    one_setting : (life : Life) (link link' : LinkState) (u u' : Bool) → life ≡ SettingUp link u → life ≡ SettingUp link' u' → link ≡ link'
+    one_setting : (life : Life) (link link' : LinkState) (u u' : Greeting) → life ≡ SettingUp link u → life ≡ SettingUp link' u' → link ≡ link'
     one_setting life link link' u u' e k = let both : SettingUp link u ≡ SettingUp link' u' = sym e ∙ k in cc
 
 -- on a link that has ended

@@ -13,7 +13,8 @@ use Rattle.mux_conn.specs.declared.life.Life.{Life}
 use Rattle.mux_conn.specs.declared.life.Life.TheVariants.{Dialing, Wanting, SettingUp, Ready, Ended}
 use Rattle.mux_conn.specs.Effects.{setup_id, setup_queued}
 use Rattle.legal_trace.specs.Ledger.{Ledger, Start, is_answered, is_full, is_greeted, is_set_up, is_well, lacks_credentials, last_result, monitor_among, monitor_of, repeats, result_of, setup_after, setup_count, setup_result, setup_steps}
-use Rattle.session_laws.proofs.Tied.{AreSetupsAlone, HasSaid, IsGreeting, IsSettingUp, IsWatching, greeting_at, owners_of, setup_owners}
+use Rattle.session_laws.proofs.Tied.{AreSetupsAlone, HasSaid, IsGreeting, IsSettingUp, IsWatching, greeting_at, owners_of, setup_owners, greeter}
+use Rattle.driver_model.specs.declared.action.Owner.TheVariants as owner
 
 -- of the second ledger the same is known of what is said to its server as of the first
 pub record SameSaid (l m : Ledger) : Type 0 where
@@ -102,7 +103,7 @@ watching_alike l m link h s = record {
   greeted = greeted_alike l m h ∙ s.greeted;
   none = λ t. count_alike l m h ∙ s.none (sym (says_alike l m h) ∙ t);
   stage = elim s.stage [
-    | inl d ↦ inl (record { alone = subst (λ (ss : List Start). owners_of ss ≡ setup_owners (setup_count ss) []) (sym h.starts) d.alone; queue = d.queue; row = d.row })
+    | inl d ↦ inl (record { alone = subst (λ (ss : List Start). owners_of ss ≡ setup_owners (setup_count ss) []) (sym h.starts) d.alone; answered = λ j less. full_alike l m h j ∙ d.answered j (subst (λ n. j < n) (count_alike l m h) less); queue = d.queue; row = d.row })
     | inr s ↦ inr (record { k = s.k; sent = monitor_alike l m h ∙ s.sent; long = ap length h.starts ∙ s.long; queue = s.queue; earlier = λ j less. full_alike l m h j ∙ s.earlier j less; open_is = full_alike l m h s.k ∙ s.open_is })
   ];
   awaited = s.awaited;
@@ -147,8 +148,25 @@ greeting_link l link after greet.Monitor queue row s = record {
   greeted = s.greeted;
   none = s.none;
   stage = elim s.stage [
-    | inl d ↦ inl (record { alone = d.alone; queue = queue ∙ d.queue; row = row ∙ d.row })
+    | inl d ↦ inl (record { alone = d.alone; answered = d.answered; queue = queue ∙ d.queue; row = row ∙ d.row })
     | inr s ↦ inr (record { k = s.k; sent = s.sent; long = s.long; queue = queue ∙ s.queue; earlier = s.earlier; open_is = s.open_is })
   ];
   awaited = subst (AllByRecursion (λ (e : Entry). e.awaited ≡ true)) (sym row) s.awaited;
 }
+
+-- a setup's greeting is one
+pub greeter_at : (k : ℕ) → greeter (greeting_at k) ≡ owner.Setup
+greeter_at zero = refl
+greeter_at (suc k) = refl
+
+-- what is known of it
+pub setting_of : (l : Ledger) (link : LinkState) (greeting : Greeting) → greeter greeting ≡ owner.Setup → IsGreeting l link greeting → IsSettingUp l link greeting
+setting_of l link greet.WithUser own h = h
+setting_of l link greet.WithoutUser own h = h
+setting_of l link greet.Monitor own h = cc
+
+-- and the other way round
+pub greeting_of : (l : Ledger) (link : LinkState) (greeting : Greeting) → greeter greeting ≡ owner.Setup → IsSettingUp l link greeting → IsGreeting l link greeting
+greeting_of l link greet.WithUser own h = h
+greeting_of l link greet.WithoutUser own h = h
+greeting_of l link greet.Monitor own h = cc

@@ -367,6 +367,7 @@ watch_queued = record { id = setup_id greet.Monitor; packed = pack (codes "MONIT
 -- MONITOR is to start, and in the queue
 pub record IsWatchDue (l : Ledger) (link : LinkState) : Type 0 where
   pub alone : AreSetupsAlone l
+  pub answered : (j : ℕ) → j < setup_count l.starts → is_full l j ≡ true
   pub queue : link.queue ≡ watch_queued ∷ []
   pub row : link.row ≡ []
 

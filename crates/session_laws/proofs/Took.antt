@@ -22,7 +22,7 @@ use Rattle.legal_trace.specs.Book.{book}
 use Rattle.mux_conn.specs.declared.renewal.Renewal.{Renewal}
 use Rattle.session_laws.proofs.Renewals.{renewal_alike}
 use Rattle.session_laws.proofs.Numbers.{IsIn}
-use Rattle.session_laws.proofs.Tied.{carried, link_in, owner_of, whole_link, TiedLife, TiedLines, TiedSetup, AreQueued, TiedCreds, TiedWaits, has_ended, TiedRenewal}
+use Rattle.session_laws.proofs.Tied.{carried, link_in, owner_of, whole_link, TiedLife, TiedLines, TiedSetup, AreQueued, TiedCreds, TiedWaits, has_ended, TiedRenewal, greeter}
 use Rattle.session_laws.proofs.States.{IsFit, Between, HasApplied}
 use Rattle.session_laws.proofs.Announce.{turn_of, turned, IsNewsKind}
 use Rattle.session_laws.proofs.Heard.{quiet_applied, ended_quiet, dialing_quiet, setting_waits, still_none, pushes_still, wanting_waits}
@@ -140,7 +140,7 @@ took_applied before c started word count kind h good k is can = by_life c.single
         let conn = c.single.connection in
         let life = subst (TiedLife l b.created) e h.sound.tied.life in
         let creds = subst (TiedCreds l.creds conn.renewal.wanted) e h.sound.tied.creds in
-        let tied : TiedLink (λ (p : ℕ). owner.Setup) l link = subst (λ (x : Life). TiedLink (carried x conn.requests) l (whole_link x)) e (h.sound.tied.link (ap has_ended e)) in
+        let tied : TiedLink (λ (p : ℕ). greeter greeting) l link = subst (λ (x : Life). TiedLink (carried x conn.requests) l (whole_link x)) e (h.sound.tied.link (ap has_ended e)) in
         let few : count ≤ link.outbox.offered = subst (λ (x : Life). CanTake x count) e can in
         let said = setup_hears l c.turns (took count) conn.info started (SettingUp link greeting) tt (subst (TiedSetup l conn.info started) e h.sound.tied.setup) in
         quiet_applied before c started word kind (took count) (SettingUp (wrote_of link count) greeting) h good k is
@@ -149,7 +149,7 @@ took_applied before c started word count kind h good k is can = by_life c.single
           creds = took_creds l conn.renewal.wanted c.turns count (SettingUp (wrote_of link count) greeting) (record { wanted_is = creds.wanted_is; sought = creds.sought });
           renewal_is = took_renewal l conn.renewal c.turns count (SettingUp (wrote_of link count) greeting) (subst (TiedRenewal l conn.renewal) e h.sound.tied.renewal);
           said = setup_link (noted l (hears c.turns (took count))) conn.info started link (wrote_of link count) greeting refl refl said;
-          linked = λ n. wrote_tied (λ (p : ℕ). owner.Setup) l link c.turns count life.1 few tied;
+          linked = λ n. wrote_tied (λ (p : ℕ). greeter greeting) l link c.turns count life.1 few tied;
           lines = subst (λ (x : Life). TiedLines b.story conn.requests (link_in x) conn.waiting conn.admitted [] started) e h.sound.tied.lines;
           told = λ n. subst (λ (x : Life). AreQueued b.story conn.requests (link_in x)) e (h.sound.tied.told (ap has_ended e));
           waits = setting_waits b.story conn.requests link (wrote_of link count) greeting greeting conn.fresh conn.moved (subst (λ (x : Life). TiedWaits b.story conn.requests x conn.fresh conn.moved) e h.sound.tied.waits);

@@ -32,7 +32,7 @@ use Rattle.session_laws.proofs.Settle.{book_of_more, holds_more, seen, trace_of_
 use Rattle.session_laws.proofs.Start.{on_link}
 use Rattle.session_laws.proofs.Took.{queue_waits}
 use Rattle.session_laws.proofs.States.{IsFit}
-use Rattle.session_laws.proofs.Tied.{HasSaid, Inner, IsUnknown, Tied, TiedLife, carried, has_ended, numbers_kept, owner_of, whole_link, link_in}
+use Rattle.session_laws.proofs.Tied.{HasSaid, Inner, IsUnknown, Tied, TiedLife, carried, has_ended, numbers_kept, owner_of, whole_link, link_in, greeter}
 
 -- an offer
 --
@@ -75,7 +75,7 @@ write_set_tied b t link greeting h =
       renewal = renewal_alike l (noted l line) t.renewal (SettingUp link greeting) refl refl refl h.renewal;
       setup = setup_link (noted l line) t.info t.started link (offered_of link) greeting refl refl
           (setup_on l l.asked l.up l.end l.taken link.outbox.unwritten l.rest l.heard t.info t.started (SettingUp link greeting) h.setup);
-      link = λ e. offered_tied (λ (p : ℕ). owner.Setup) l link (h.link refl);
+      link = λ e. offered_tied (λ (p : ℕ). greeter greeting) l link (h.link refl);
       names = h.names;
       story = h.story;
       tries = record { owners = h.tries.owners; greeted = h.tries.greeted; shapes = h.tries.shapes; tried = h.tries.tried; untried = h.tries.untried };
@@ -159,7 +159,7 @@ write_shown before f w link life can h =
     }
 
 -- the link of a life that is set up
-same_set : (link other : LinkState) (u v : Bool) → SettingUp link u ≡ SettingUp other v → link ≡ other
+same_set : (link other : LinkState) (u v : Greeting) → SettingUp link u ≡ SettingUp other v → link ≡ other
 same_set link other u v e = cc
 
 -- while the link is set up
@@ -175,7 +175,7 @@ write_set_shown before f w link greeting life can h =
     record {
       moved = record {
         started = h.started;
-        holds = holds_more before f w a (with_setup w (offered_of link) greeting).conn [] [] h.started h.holds (write_may b t (λ (p : ℕ). owner.Setup) link tied.others tied.life.1 (tied.link refl) (moved_book before f w h) can) (write_set_tied b t link greeting tied);
+        holds = holds_more before f w a (with_setup w (offered_of link) greeting).conn [] [] h.started h.holds (write_may b t (λ (p : ℕ). greeter greeting) link tied.others tied.life.1 (tied.link refl) (moved_book before f w h) can) (write_set_tied b t link greeting tied);
         ended = subst NoneEnds (sym (book_of_more before f w.acts a)) (none_ends_kept b f.single.link (offers link.outbox.unwritten) (λ l e. e) h.ended);
         fit = record {
           wanting = λ other e. cc;
