@@ -268,7 +268,7 @@ asked_unwatched b t p h within = by_test (is_watching (b.link t.link).hearing) _
     (λ f. f)
 
 -- what is put into monitor mode is a session of that kind
-watching_kind : (is : SessionKind) (pushes : Bool) → is_watching (Configs.hearing_in is pushes) ≡ true → is ≡ session.Monitor
+pub watching_kind : (is : SessionKind) (pushes : Bool) → is_watching (Configs.hearing_in is pushes) ≡ true → is ≡ session.Monitor
 watching_kind session.Single true w = cc
 watching_kind session.Single false w = cc
 watching_kind session.PubSub pushes w = cc

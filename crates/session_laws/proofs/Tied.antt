@@ -189,7 +189,7 @@ pub record IsConfigured (b : Book) (size bound : ℕ) (limit : Option ℕ) : Typ
   pub limited : limit ≢ Some 0
 
 -- where the server is put into monitor mode nothing is submitted, and no credentials come of sources
-pub record IsQuiet (table : List (Option Pending)) (r : Renewal) : Type 0 where
+pub record IsBare (table : List (Option Pending)) (r : Renewal) : Type 0 where
   pub none : table ≡ []
   pub unwanted : r.wanted ≡ false
   pub unrenewed : r.waiting ≡ []
@@ -212,7 +212,7 @@ pub record TiedNumbers (b : Book) (t : Inner) : Type 0 where
   pub few : length t.table ≤ 2 ^ 32
   pub settings : IsConfigured b t.size t.bound t.limit
   pub kind_is : kind_in b.config ≡ t.kind
-  pub quiet : is_watching t.hears ≡ true → IsQuiet t.table t.renewal
+  pub quiet : is_watching t.hears ≡ true → IsBare t.table t.renewal
   pub one : t.links ≡ t.link + 1
   pub only : (m : ℕ) → m < t.links → m ≡ t.link
 
