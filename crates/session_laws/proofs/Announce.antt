@@ -30,7 +30,7 @@ use Rattle.legal_trace.specs.Story.{Story, fires}
 use Rattle.legal_trace.specs.Book.{Book, book, entered, is_clock_of, hearing_in, timeout_after, kind_in}
 use Rattle.legal_trace.specs.Events.{is_bad_event}
 use Rattle.legal_trace.specs.Legal.{MayTurn, is_heard}
-use Rattle.session_laws.proofs.Tied.{AreAimed, AreUses, IsAim, owners_of, owners_each, setup_owners, Inner, inner, link_in, carried, whole_link, IsUnknown, TiedCreds, TiedLife, TiedSetup, TiedTries, TiedLines, AreQueued, TiedWaits, Tied, Sound, no_opening, has_ended, TiedNotices, TiedRenewal, sources_asked_in, HasGreetedAlone}
+use Rattle.session_laws.proofs.Tied.{AreAimed, AreUses, IsAim, owners_of, owners_each, setup_owners, Inner, inner, link_in, carried, whole_link, IsUnknown, TiedCreds, TiedLife, TiedSetup, TiedTries, TiedLines, AreQueued, TiedWaits, Tied, Sound, no_opening, has_ended, TiedNotices, TiedRenewal, sources_asked_in, HasGreetedAlone, is_reading}
 use Rattle.session_laws.proofs.States.{Between}
 use Rattle.session_laws.proofs.Entered.{book_more, sound_more}
 use Rattle.session_laws.proofs.Answer.{some_end}
@@ -345,7 +345,7 @@ aims_longer timers link count more l h k what e = by_purpose what (h k what e)
 
 -- what the session needs of the life, and of the new credentials, that the turn leads to, by the ledger that its link has come
 -- to, and by what is said to its server then; the creation may be shown with it
-pub record ComesAs (b : Book) (c : Core) (l : Ledger) (created : ℕ) (info : RedisConnectionInfo) (renewal : Renewal) (life : Life) (fresh pending : List ℕ) (untold : List Heard) (strange : Bool) (started : List ℕ) : Type 0 where
+pub record ComesAs (b : Book) (c : Core) (l : Ledger) (created : ℕ) (info : RedisConnectionInfo) (renewal : Renewal) (life : Life) (fresh pending : List ℕ) (untold : List Heard) (started : List ℕ) : Type 0 where
   pub starts : l.starts ≡ (b.link c.single.link).starts
   pub lived : TiedLife l created life
   pub creds : TiedCreds l.creds renewal.wanted life
@@ -355,11 +355,11 @@ pub record ComesAs (b : Book) (c : Core) (l : Ledger) (created : ℕ) (info : Re
   pub lines : TiedLines b.story c.single.connection.requests (link_in life) c.single.connection.waiting c.single.connection.admitted pending started
   pub told : has_ended life ≡ false → AreQueued b.story c.single.connection.requests (link_in life)
   pub waits : TiedWaits b.story c.single.connection.requests life fresh c.single.connection.moved
-  pub notices : TiedNotices (hearing_in b.config) c.single.connection.hears l.hearing l.notices l.told l.end l.parted l.strange untold false strange
+  pub notices : TiedNotices (hearing_in b.config) c.single.connection.hears l.hearing l.notices l.told l.end l.parted l.strange (is_reading l) untold false
 
 -- where its new credentials are as they were
-abbrev pub ComesTo : Book → Core → Ledger → ℕ → RedisConnectionInfo → Life → List ℕ → List ℕ → List Heard → Bool → List ℕ → Type 0
-ComesTo b c l created info life fresh pending untold strange started = ComesAs b c l created info c.single.connection.renewal life fresh pending untold strange started
+abbrev pub ComesTo : Book → Core → Ledger → ℕ → RedisConnectionInfo → Life → List ℕ → List ℕ → List Heard → List ℕ → Type 0
+ComesTo b c l created info life fresh pending untold started = ComesAs b c l created info c.single.connection.renewal life fresh pending untold started
 
 -- the connection then
 abbrev pub renews_as : Core → RedisConnectionInfo → Renewal → Life → List ℕ → MultiplexedConnection
@@ -378,13 +378,13 @@ pub quiet_still : (b : Book) (c : Core) (started : List ℕ) → Tied b (inner c
 quiet_still b c started h w = let q = h.numbers.quiet w in (q.unwanted, q.unrenewed)
 
 -- the session tied to a book with these ledgers, and with these sources of credentials, where new credentials came to this
-pub heard_tied_as : (b : Book) (c : Core) (started : List ℕ) (word created : ℕ) (kind : EventKind) (info : RedisConnectionInfo) (renewal : Renewal) (life : Life) (fresh pending : List ℕ) (untold : List Heard) (strange : Bool) (links : ℕ → Ledger) (l : Ledger) (asked uses : List SourceUse) → Tied b (inner c started)
+pub heard_tied_as : (b : Book) (c : Core) (started : List ℕ) (word created : ℕ) (kind : EventKind) (info : RedisConnectionInfo) (renewal : Renewal) (life : Life) (fresh pending : List ℕ) (untold : List Heard) (links : ℕ → Ledger) (l : Ledger) (asked uses : List SourceUse) → Tied b (inner c started)
     → renewal.within ≡ c.single.connection.renewal.within → StaysQuiet c renewal
-    → ((m : ℕ) → m ≢ c.single.link → IsUnknown (links m)) → links c.single.link ≡ l → asked ≡ uses → AreUses uses c.single.link → length uses ≡ sources_asked_in l.creds → ComesAs b c l created info renewal life fresh pending untold strange started
-    → Tied (record (heard_book b c.turns word kind) { created = created; link = links; sources = asked }) (record (seen (turned c kind) [] (renews_as c info renewal life fresh) pending started) { untold = untold; strange = strange; sources = uses })
-heard_tied_as b c started word created kind info renewal life fresh pending untold strange links l asked uses h within quiet others is sourced used counted k =
+    → ((m : ℕ) → m ≢ c.single.link → IsUnknown (links m)) → links c.single.link ≡ l → asked ≡ uses → AreUses uses c.single.link → length uses ≡ sources_asked_in l.creds → ComesAs b c l created info renewal life fresh pending untold started
+    → Tied (record (heard_book b c.turns word kind) { created = created; link = links; sources = asked }) (record (seen (turned c kind) [] (renews_as c info renewal life fresh) pending started) { untold = untold; sources = uses })
+heard_tied_as b c started word created kind info renewal life fresh pending untold links l asked uses h within quiet others is sourced used counted k =
     let after = record (heard_book b c.turns word kind) { created = created; link = links; sources = asked } in
-    let t = record (seen (turned c kind) [] (renews_as c info renewal life fresh) pending started) { untold = untold; strange = strange; sources = uses } in
+    let t = record (seen (turned c kind) [] (renews_as c info renewal life fresh) pending started) { untold = untold; sources = uses } in
     tied_by after t l is (record {
       numbers = record {
         turns = ap (λ n. n + 1) h.numbers.turns;
@@ -424,11 +424,11 @@ heard_tied_as b c started word created kind info renewal life fresh pending unto
     })
 
 -- where they are as they were
-pub heard_tied_by : (b : Book) (c : Core) (started : List ℕ) (word created : ℕ) (kind : EventKind) (info : RedisConnectionInfo) (life : Life) (fresh pending : List ℕ) (untold : List Heard) (strange : Bool) (links : ℕ → Ledger) (l : Ledger) (asked uses : List SourceUse) → Tied b (inner c started)
-    → ((m : ℕ) → m ≢ c.single.link → IsUnknown (links m)) → links c.single.link ≡ l → asked ≡ uses → AreUses uses c.single.link → length uses ≡ sources_asked_in l.creds → ComesTo b c l created info life fresh pending untold strange started
-    → Tied (record (heard_book b c.turns word kind) { created = created; link = links; sources = asked }) (record (seen (turned c kind) [] (comes_as c info life fresh) pending started) { untold = untold; strange = strange; sources = uses })
-heard_tied_by b c started word created kind info life fresh pending untold strange links l asked uses h others is sourced used counted k =
-    heard_tied_as b c started word created kind info c.single.connection.renewal life fresh pending untold strange links l asked uses h refl (quiet_still b c started h) others is sourced used counted k
+pub heard_tied_by : (b : Book) (c : Core) (started : List ℕ) (word created : ℕ) (kind : EventKind) (info : RedisConnectionInfo) (life : Life) (fresh pending : List ℕ) (untold : List Heard) (links : ℕ → Ledger) (l : Ledger) (asked uses : List SourceUse) → Tied b (inner c started)
+    → ((m : ℕ) → m ≢ c.single.link → IsUnknown (links m)) → links c.single.link ≡ l → asked ≡ uses → AreUses uses c.single.link → length uses ≡ sources_asked_in l.creds → ComesTo b c l created info life fresh pending untold started
+    → Tied (record (heard_book b c.turns word kind) { created = created; link = links; sources = asked }) (record (seen (turned c kind) [] (comes_as c info life fresh) pending started) { untold = untold; sources = uses })
+heard_tied_by b c started word created kind info life fresh pending untold links l asked uses h others is sourced used counted k =
+    heard_tied_as b c started word created kind info c.single.connection.renewal life fresh pending untold links l asked uses h refl (quiet_still b c started h) others is sourced used counted k
 
 -- news ask for no source
 pub sources_hear : (l : Ledger) (turn : ℕ) (n : News) → sources_asked_in (noted l (hears turn n)).creds ≡ sources_asked_in l.creds
@@ -489,19 +489,19 @@ pub counted_on : (sources : List SourceUse) (c : Sourced) → length sources ≡
 counted_on sources c h = ap (λ (ss : List SourceUse). length ss) (append-nil sources) ∙ h
 
 -- by what its link hears, where new credentials came to this
-pub heard_tied_new : (b : Book) (c : Core) (started : List ℕ) (word created : ℕ) (kind : EventKind) (info : RedisConnectionInfo) (renewal : Renewal) (life : Life) (fresh pending : List ℕ) (untold : List Heard) (strange : Bool) (l : Ledger) → Tied b (inner c started) → renewal.within ≡ c.single.connection.renewal.within → StaysQuiet c renewal → is_bad c kind ≡ false
-    → noted (b.link c.single.link) (hears c.turns (news_of b.timers b.sources c.single.link kind)) ≡ l → ComesAs b c l created info renewal life fresh pending untold strange started
-    → Tied (record (heard_book b c.turns word kind) { created = created }) (record (seen (turned c kind) [] (renews_as c info renewal life fresh) pending started) { untold = untold; strange = strange })
-heard_tied_new b c started word created kind info renewal life fresh pending untold strange l h within quiet good is k =
-    heard_tied_as b c started word created kind info renewal life fresh pending untold strange (heard_book b c.turns word kind).link l b.sources (c.sources ++ []) h within quiet (others_heard b c started kind h good) is
+pub heard_tied_new : (b : Book) (c : Core) (started : List ℕ) (word created : ℕ) (kind : EventKind) (info : RedisConnectionInfo) (renewal : Renewal) (life : Life) (fresh pending : List ℕ) (untold : List Heard) (l : Ledger) → Tied b (inner c started) → renewal.within ≡ c.single.connection.renewal.within → StaysQuiet c renewal → is_bad c kind ≡ false
+    → noted (b.link c.single.link) (hears c.turns (news_of b.timers b.sources c.single.link kind)) ≡ l → ComesAs b c l created info renewal life fresh pending untold started
+    → Tied (record (heard_book b c.turns word kind) { created = created }) (record (seen (turned c kind) [] (renews_as c info renewal life fresh) pending started) { untold = untold })
+heard_tied_new b c started word created kind info renewal life fresh pending untold l h within quiet good is k =
+    heard_tied_as b c started word created kind info renewal life fresh pending untold (heard_book b c.turns word kind).link l b.sources (c.sources ++ []) h within quiet (others_heard b c started kind h good) is
     (h.numbers.sources ∙ sym (append-nil c.sources)) (uses_on c.sources c.single.link h.numbers.uses)
     (counted_on c.sources l.creds (h.count ∙ sym (sources_hear (b.link c.single.link) c.turns (news_of b.timers b.sources c.single.link kind)) ∙ ap (λ (x : Ledger). sources_asked_in x.creds) is)) k
 
 -- where they are as they were
-pub heard_tied : (b : Book) (c : Core) (started : List ℕ) (word created : ℕ) (kind : EventKind) (info : RedisConnectionInfo) (life : Life) (fresh pending : List ℕ) (untold : List Heard) (strange : Bool) (l : Ledger) → Tied b (inner c started) → is_bad c kind ≡ false
-    → noted (b.link c.single.link) (hears c.turns (news_of b.timers b.sources c.single.link kind)) ≡ l → ComesTo b c l created info life fresh pending untold strange started
-    → Tied (record (heard_book b c.turns word kind) { created = created }) (record (seen (turned c kind) [] (comes_as c info life fresh) pending started) { untold = untold; strange = strange })
-heard_tied b c started word created kind info life fresh pending untold strange l h good is k = heard_tied_new b c started word created kind info c.single.connection.renewal life fresh pending untold strange l h refl (quiet_still b c started h) good is k
+pub heard_tied : (b : Book) (c : Core) (started : List ℕ) (word created : ℕ) (kind : EventKind) (info : RedisConnectionInfo) (life : Life) (fresh pending : List ℕ) (untold : List Heard) (l : Ledger) → Tied b (inner c started) → is_bad c kind ≡ false
+    → noted (b.link c.single.link) (hears c.turns (news_of b.timers b.sources c.single.link kind)) ≡ l → ComesTo b c l created info life fresh pending untold started
+    → Tied (record (heard_book b c.turns word kind) { created = created }) (record (seen (turned c kind) [] (comes_as c info life fresh) pending started) { untold = untold })
+heard_tied b c started word created kind info life fresh pending untold l h good is k = heard_tied_new b c started word created kind info c.single.connection.renewal life fresh pending untold l h refl (quiet_still b c started h) good is k
 
 -- the trace begins
 --

@@ -34,8 +34,8 @@ use Rattle.session_laws.proofs.Names.{there_within, names_asked, submits_unwatch
 use Rattle.session_laws.proofs.Owes.{started_within}
 use Rattle.session_laws.proofs.Settle.{seen}
 use Rattle.session_laws.proofs.Announce.{aims_longer, aims_on, turn_of, turned, may_turn, uses_on, counted_on, time_still}
-use Rattle.session_laws.proofs.Heard.{told_life, silent_no_end, silent_applied, still_none}
-use Rattle.session_laws.proofs.Said.{setup_on}
+use Rattle.session_laws.proofs.Heard.{told_life, silent_no_end, silent_applied, still_none, tame_between}
+use Rattle.session_laws.proofs.Said.{setup_on, IsTame, renoticed}
 use Rattle.session_laws.proofs.Further.{one_longer, there_longer, before_or_new, further_story, tries_longer, queue_longer, packs_longer, entries_longer, link_longer, told_longer, IsNext, waits_longer, permits_longer, late_longer}
 use Rattle.session_laws.proofs.InLine.{kept_ids, awaited_in}
 use Rattle.session_laws.proofs.Submit.{stories_with, new_story, story_is_new, others_before, within_line, IsErrorOf, may_refuse, core_refused, refused_tied}
@@ -60,7 +60,7 @@ refused_applied before c started word what e h few good why =
     let may : MayAnswer now (length c.table) (outcome.Fault e) = may_refuse b c started word what e h.sound.tied applied.answered applied.ended applied.created.failed why in
     record {
       sound = sound_more front a t all (inl (subst (λ (x : Book). MayAnswer x (length c.table) (outcome.Fault e)) (sym book_is) may))
-          (subst (λ (x : Book). Tied (entered x a) t) (sym book_is) (refused_tied b c started word what e h.sound.tied (formed c what good) few h.fresh));
+          (subst (λ (x : Book). Tied (entered x a) t) (sym book_is) (refused_tied b c started word what e h.sound.tied (tame_between before c started h) (formed c what good) few h.fresh));
       ended = subst NoneEnds (sym (book_more front a ∙ ap (λ (x : Book). entered x a) book_is)) (λ m. silent_no_end (b.link m) c.turns (still_none before c started h m));
       began = λ z. absurd (omega arith);
       moved = h.moved;
@@ -216,9 +216,9 @@ abbrev core_asked : Core → Submission → Core
 core_asked c what = record (turned c (event.Submit what)) { table = c.table ++ Some (pending (length c.single.connection.requests)) ∷ [] }
 
 -- the session is tied with it
-asked_tied : (b : Book) (c : Core) (started : List ℕ) (word : ℕ) (what : Submission) → Tied b (inner c started) → has_no_form c.kind what ≡ false → length c.table < 2 ^ 32 → c.single.connection.fresh ≡ [] → b.shut ≡ false → is_unspoken b what ≡ false → packed_bytes what ≢ []
+asked_tied : (b : Book) (c : Core) (started : List ℕ) (word : ℕ) (what : Submission) → Tied b (inner c started) → IsTame (b.link c.single.link) → has_no_form c.kind what ≡ false → length c.table < 2 ^ 32 → c.single.connection.fresh ≡ [] → b.shut ≡ false → is_unspoken b what ≡ false → packed_bytes what ≢ []
     → Tied (entered b (turn_of c word (event.Submit what))) (seen (core_asked c what) [] (asked c.single.connection (length c.table) (packed_bytes what) (shape_of what) (is_reply_awaited what) c.timeout) [] started)
-asked_tied b c started word what h form few no_fresh up speaks some =
+asked_tied b c started word what h tame form few no_fresh up speaks some =
     let conn = c.single.connection in
     let ledger = b.link c.single.link in
     let after = stories_with b what in
@@ -253,7 +253,7 @@ asked_tied b c started word what h form few no_fresh up speaks some =
         only = h.numbers.only;
       };
       others = λ m other. let u = h.others m other in record { asked = u.asked; up = u.up; end = u.end; starts = u.starts; notices = u.notices };
-      notices = h.notices;
+      notices = renoticed tame h.notices;
       life = told_life ledger b.created conn.life silence h.life;
       creds = h.creds;
       count = counted_on c.sources ledger.creds h.count;
@@ -291,7 +291,7 @@ pub asked_applied : (before : List Action) (c : Core) (started : List ℕ) (word
 asked_applied before c started word what h few good up speaks some =
     let b = book before in
     silent_applied before c started word (event.Submit what) (core_asked c what) (asked c.single.connection (length c.table) (packed_bytes what) (shape_of what) (is_reply_awaited what) c.timeout) h good (λ m. silent_no_end (b.link m) c.turns (still_none before c started h m)) (λ z. absurd (omega arith)) h.moved (record { wanting = h.fit.wanting; setup = h.fit.setup; link = h.fit.link; none = h.fit.none })
-    (asked_tied b c started word what h.sound.tied (formed c what good) few h.fresh up speaks some)
+    (asked_tied b c started word what h.sound.tied (tame_between before c started h) (formed c what good) few h.fresh up speaks some)
 
 -- one or the other
 --

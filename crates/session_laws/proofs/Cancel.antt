@@ -49,8 +49,8 @@ use Rattle.session_laws.proofs.Settle.{seen}
 use Rattle.session_laws.proofs.Announce.{aims_on, turn_of, turned, uses_on, counted_on, time_still}
 use Rattle.session_laws.proofs.Kept.{tied_by}
 use Rattle.session_laws.proofs.Permits.{permits_closed}
-use Rattle.session_laws.proofs.Heard.{silent_applied, still_none, told_life, silent_no_end}
-use Rattle.session_laws.proofs.Said.{carried_tied, setup_on}
+use Rattle.session_laws.proofs.Heard.{silent_applied, still_none, told_life, silent_no_end, tame_between}
+use Rattle.session_laws.proofs.Said.{carried_tied, setup_on, IsTame, renoticed}
 
 -- one who leaves closes its story
 --
@@ -442,9 +442,9 @@ pub silent_ends : (b : Book) (c : Core) (kind : EventKind) (timeout : Option ℕ
 silent_ends b c kind timeout q none m = ap (λ (x : News). ending (noted (b.link m) (hears c.turns x))) (q.silent m) ∙ silent_no_end (b.link m) c.turns (none m)
 
 -- where nothing else changes, the session is tied as it was
-pub still_tied : (b : Book) (c : Core) (started : List ℕ) (word : ℕ) (kind : EventKind) (timeout : Option ℕ) → IsSilent b c kind timeout → ((m : ℕ) → after_event b m kind ≡ b.story m) → Tied b (inner c started)
+pub still_tied : (b : Book) (c : Core) (started : List ℕ) (word : ℕ) (kind : EventKind) (timeout : Option ℕ) → IsSilent b c kind timeout → ((m : ℕ) → after_event b m kind ≡ b.story m) → Tied b (inner c started) → IsTame (b.link c.single.link)
     → Tied (entered b (turn_of c word kind)) (seen (silent_core c kind timeout) [] c.single.connection [] started)
-still_tied b c started word kind timeout q same h =
+still_tied b c started word kind timeout q same h tame =
     let conn = c.single.connection in
     let ledger = b.link c.single.link in
     let now = entered b (turn_of c word kind) in
@@ -455,7 +455,7 @@ still_tied b c started word kind timeout q same h =
     (tied_by (record now { story = b.story }) t (record ledger { heard = silence }) heard (record {
       numbers = silent_numbers b c started word kind timeout b.story conn.free conn.life conn.requests [] q h;
       others = λ m other. silent_others b c kind timeout m q (h.others m other);
-      notices = h.notices;
+      notices = renoticed tame h.notices;
       life = told_life ledger b.created conn.life silence h.life;
       creds = h.creds;
       count = counted_on c.sources ledger.creds h.count;
@@ -477,9 +477,9 @@ leave_silent : (b : Book) (c : Core) (started n : ℕ) (line : List ℕ) → Tie
 leave_silent b c started n line h = record { silent = λ m. refl; none = refl; time = time_still (kind_in b.config) b.timeout (event.Cancel n) tt ∙ h.numbers.timeout; shut = ap (λ s. s || false) h.numbers.shut }
 
 -- an open one has gone
-gone_tied : (b : Book) (c : Core) (started : List ℕ) (word p n : ℕ) → Tied b (inner c started) → is_open_at c.single.connection.requests p ≡ true → name_at c.single.connection.requests p ≡ n
+gone_tied : (b : Book) (c : Core) (started : List ℕ) (word p n : ℕ) → Tied b (inner c started) → IsTame (b.link c.single.link) → is_open_at c.single.connection.requests p ≡ true → name_at c.single.connection.requests p ≡ n
     → Tied (entered b (turn_of c word (event.Cancel n))) (seen (turned c (event.Cancel n)) [] (record (closed_conn c.single.connection p) { life = cancelled_in c.single.connection.life p }) [] started)
-gone_tied b c started word p n h o named =
+gone_tied b c started word p n h tame o named =
     let conn = c.single.connection in
     let requests = with_permits conn.requests p progress.Closed 0 in
     let free = given_back conn.limit conn.free (permits_at conn.requests p) in
@@ -498,7 +498,7 @@ gone_tied b c started word p n h o named =
     (record {
       numbers = silent_numbers b c started word (event.Cancel own) c.timeout after free (cancelled_in conn.life p) requests [] (leave_silent b c word own started h) h;
       others = λ m other. let u = h.others m other in record { asked = u.asked; up = u.up; end = u.end; starts = u.starts; notices = u.notices };
-      notices = h.notices;
+      notices = renoticed tame h.notices;
       life = left_life ledger b.created conn.life p h.life;
       creds = left_creds ledger.creds conn.renewal.wanted conn.life p h.creds;
       count = counted_on c.sources ledger.creds h.count;
@@ -532,7 +532,7 @@ cancel_applied before c started word n h good = by_entry (slice_get c.table n) r
 
     still : is_open (b.story n) ≡ false → HasApplied (before ++ turn_of c word (event.Cancel n) ∷ []) (with_work (record { core = turned c (event.Cancel n); acts = [] }) (record { conn = c.single.connection; acts = [] })) started
     still f = silent_applied before c started word (event.Cancel n) (turned c (event.Cancel n)) c.single.connection h good (λ m. silent_no_end (b.link m) c.turns (still_none before c started h m)) (λ z. absurd (omega arith)) h.moved h.fit
-        (still_tied b c started word (event.Cancel n) c.timeout (leave_silent b c word n started h.sound.tied) (stays_left b n f) h.sound.tied)
+        (still_tied b c started word (event.Cancel n) c.timeout (leave_silent b c word n started h.sound.tied) (stays_left b n f) h.sound.tied (tame_between before c started h))
 
     by_entry : (x : Option (Option Pending)) → slice_get c.table n ≡ x → TiedStory (b.story n) c.single.connection.requests c.single.link x → HasApplied (before ++ turn_of c word (event.Cancel n) ∷ []) (left_by (heard (counted c) (event.Cancel n)) x) started
     by_entry None e s = still (ap is_open s)
@@ -545,5 +545,5 @@ cancel_applied before c started word n h good = by_entry (slice_get c.table n) r
         (is_open_at conn.requests p.number) (record (closed_conn conn p.number) { life = cancelled_in conn.life p.number }) conn
         (λ t. silent_applied before c started word (event.Cancel n) (turned c (event.Cancel n)) (record (closed_conn conn p.number) { life = cancelled_in conn.life p.number }) h good
         (λ m. silent_no_end (b.link m) c.turns (still_none before c started h m)) (λ z. absurd (omega arith)) h.moved (left_fit conn (given_back conn.limit conn.free (permits_at conn.requests p.number)) (with_permits conn.requests p.number progress.Closed 0) conn.life p.number refl h.fit)
-        (gone_tied b c started word p.number n h.sound.tied t named))
+        (gone_tied b c started word p.number n h.sound.tied (tame_between before c started h) t named))
         (λ f. still (s.open_is ∙ f))

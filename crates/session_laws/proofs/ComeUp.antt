@@ -178,7 +178,7 @@ pub record IsReadied (b : Book) (c : Core) (l : Ledger) (info : RedisConnectionI
 -- what the session needs of it, also where a second source is asked for
 readied_comes : (b : Book) (c : Core) (started : List ℕ) (n : News) (info : RedisConnectionInfo) (link : LinkState) (untold : List Heard) (more : Bool) → Tied b (inner c started) → IsFitIn c.single.connection → c.single.connection.fresh ≡ [] → (IsOfRenewals n → ⊥) → IsEarly c.single.connection.life wait.Permit
     → (let l = heard_by b c n in IsReadied b c l info link untold → l.creds.wanted ≡ more → (more ≡ true → l.creds.asked ≡ true)
-    → ComesTo b c (readied more l) (b.created + 1) info (Ready link) (numbers_of c.single.connection.waiting) [] untold strange started)
+    → ComesTo b c (readied more l) (b.created + 1) info (Ready link) (numbers_of c.single.connection.waiting) [] untold started)
 readied_comes b c started n info link untold more h0 fit no_fresh other early facts needs some =
     let conn = c.single.connection in
     let l = heard_by b c n in
@@ -289,7 +289,7 @@ makes_ready before c started word kind n info link untold h good k is other earl
         let t = record (seen f [] (comes_as c info (Ready link) ns) [] started) { untold = untold } in
         let same : readied c.single.connection.renewal.wanted l ≡ l = ap (λ (x : Bool). readied x l) w in
         let comes = readied_comes b c started n info link untold false h0 h.fit h.fresh other early facts (facts.wanted_is ∙ w) (λ none. cc) in
-        let tied : Tied (entered now shown) t = heard_tied b c started word (b.created + 1) kind info (Ready link) ns [] untold strange l h0 good own comes in
+        let tied : Tied (entered now shown) t = heard_tied b c started word (b.created + 1) kind info (Ready link) ns [] untold l h0 good own comes in
         record {
           holds = sound_more front shown t all (subst MayBeCreated (sym book_is) may) (subst (λ (x : Book). Tied (entered x shown) t) (sym book_is) tied);
           ledger = ap (λ (x : Book). x.link mine) (book_more front shown ∙ ap (λ (x : Book). entered x shown) book_is) ∙ own ∙ sym same;

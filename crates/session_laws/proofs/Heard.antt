@@ -21,7 +21,7 @@ use Rattle.legal_trace.specs.Ledger.{Ledger, Ending, Sourced, hears, noted, endi
 use Rattle.legal_trace.specs.Book.{Book, book, entered, hearing_in}
 use Rattle.legal_trace.specs.Story.{Story}
 use Rattle.legal_trace.specs.Legal.{NoneEnds, is_heard}
-use Rattle.session_laws.proofs.Said.{mild_end, setup_on, setup_unheard, BringsNothing, PushesOf, pushes_hear}
+use Rattle.session_laws.proofs.Said.{mild_end, setup_on, setup_unheard, BringsNothing, PushesOf, pushes_hear, IsTame, is_tame, renoticed}
 use Rattle.session_laws.proofs.Creds.{creds_hear, down_unawaited, unawaited_is, down_may_renew, IsOfRenewals}
 use Rattle.session_laws.proofs.Tied.{Inner, inner, link_in, carried, whole_link, TiedCreds, TiedLife, TiedSetup, TiedLines, AreQueued, TiedWaits, Tied, has_ended, TiedRenewal, NoneRenewed}
 use Rattle.session_laws.proofs.States.{IsFit, IsFitIn, Between, HasApplied}
@@ -75,14 +75,14 @@ book_kind b c kind same k = subst (λ (ts : List Purpose). IsNewsKind ts kind) (
 
 -- the turn begins so, also with other waits to be shown, and where something else is said to the server
 pub fresh_begins : (before : List Action) (c : Core) (started : List ℕ) (word : ℕ) (kind : EventKind) (n : News) (info : RedisConnectionInfo) (life : Life) (fresh pending : List ℕ) → Between before c started → is_bad c kind ≡ false → IsNewsKind c.timers kind
-    → news_of c.timers c.sources c.single.link kind ≡ n → ComesTo (book before) c (heard_by (book before) c n) (book before).created info life fresh pending [] false started
+    → news_of c.timers c.sources c.single.link kind ≡ n → ComesTo (book before) c (heard_by (book before) c n) (book before).created info life fresh pending [] started
     → Begins (before ++ turn_of c word kind ∷ []) (turned c kind) (comes_as c info life fresh) (heard_by (book before) c n) (book before).story pending started
 fresh_begins before c started word kind n info life fresh pending h good k is g =
     let b = book before in
     let l = heard_by b c n in
     let t = seen (turned c kind) [] (comes_as c info life fresh) pending started in
     let same : noted (b.link c.single.link) (hears c.turns (news_of b.timers b.sources c.single.link kind)) ≡ l = ap (λ (x : News). heard_by b c x) (book_news b c started kind n h.sound.tied is) in
-    let tied : Tied (heard_book b c.turns word kind) t = heard_tied b c started word b.created kind info life fresh pending [] false l h.sound.tied good same g in
+    let tied : Tied (heard_book b c.turns word kind) t = heard_tied b c started word b.created kind info life fresh pending [] l h.sound.tied good same g in
     let book_is : entered b (turn_of c word kind) ≡ heard_book b c.turns word kind = heard_is b c.turns word kind (book_kind b c kind h.sound.tied.numbers.timers k) in
     record {
       holds = holds_first (before ++ turn_of c word kind ∷ []) (turned c kind) (comes_as c info life fresh) pending started (announced_sound before c started word kind t h good (subst (λ (x : Book). Tied x t) (sym book_is) tied));
@@ -100,7 +100,7 @@ heard_begins before c started word kind n life pending h good k is g =
 
 -- where the link need not end then, and no act follows, the event has had its effect
 pub fresh_applied : (before : List Action) (c : Core) (started : List ℕ) (word : ℕ) (kind : EventKind) (n : News) (info : RedisConnectionInfo) (life : Life) (fresh : List ℕ) → Between before c started → is_bad c kind ≡ false → IsNewsKind c.timers kind
-    → news_of c.timers c.sources c.single.link kind ≡ n → ComesTo (book before) c (heard_by (book before) c n) (book before).created info life fresh [] [] false started → ending (heard_by (book before) c n) ≡ None → IsFitIn (comes_as c info life fresh)
+    → news_of c.timers c.sources c.single.link kind ≡ n → ComesTo (book before) c (heard_by (book before) c n) (book before).created info life fresh [] [] started → ending (heard_by (book before) c n) ≡ None → IsFitIn (comes_as c info life fresh)
     → HasApplied (before ++ turn_of c word kind ∷ []) (with_work (record { core = turned c kind; acts = [] }) (record { conn = comes_as c info life fresh; acts = [] })) started
 fresh_applied before c started word kind n info life fresh h good k is g no_end fit =
     let s = fresh_begins before c started word kind n info life fresh [] h good k is g in
@@ -126,9 +126,17 @@ quiet_applied before c started word kind n life h good k is g no_end fit =
       fit = fit;
     }
 
+-- between two turns no link must end
+pub still_none : (before : List Action) (c : Core) (started : List ℕ) → Between before c started → NoneEnds (book before)
+still_none before c started h = h.settled.written.moved.begun.applied.ended
+
+-- no value came that ends the link
+pub tame_between : (before : List Action) (c : Core) (started : List ℕ) → Between before c started → IsTame ((book before).link c.single.link)
+tame_between before c started h = is_tame (book before) (inner c started) h.sound.tied (still_none before c started h c.single.link)
+
 -- what is still to be told of the pushes
 pub pushes_still : (before : List Action) (c : Core) (started : List ℕ) (n : News) → Between before c started → BringsNothing n ⊎ (((book before).link c.single.link).up ≡ false) → PushesOf (hearing_in (book before).config) c.single.connection.hears (heard_by (book before) c n)
-pushes_still before c started n h k = pushes_hear ((book before).link c.single.link) c.turns n (hearing_in (book before).config) c.single.connection.hears k h.sound.tied.notices
+pushes_still before c started n h k = pushes_hear ((book before).link c.single.link) c.turns n (hearing_in (book before).config) c.single.connection.hears (tame_between before c started h) k h.sound.tied.notices
 
 -- such news bring no new credentials, and deal nothing
 --
@@ -240,7 +248,7 @@ leads_still before c started n h stays =
       lines = t.lines;
       told = t.told;
       waits = t.waits;
-      notices = subst (λ (x : Ledger). PushesOf (hearing_in b.config) conn.hears x) (sym stays) t.notices;
+      notices = subst (λ (x : Ledger). PushesOf (hearing_in b.config) conn.hears x) (sym stays) (renoticed (tame_between before c started h) t.notices);
     }
 
 -- a link that has ended hears nothing
@@ -379,10 +387,6 @@ dialing_quiet before c started word kind n o h good k is dialing =
 -- a link that hears nothing need not end, where it need not before
 pub silent_no_end : (l : Ledger) (turn : ℕ) → ending l ≡ None → ending (noted l (hears turn silence)) ≡ None
 silent_no_end l turn none = mild_end l l.taken l.offer silence tt none
-
--- between two turns no link must end
-pub still_none : (before : List Action) (c : Core) (started : List ℕ) → Between before c started → NoneEnds (book before)
-still_none before c started h = h.settled.written.moved.begun.applied.ended
 
 -- a turn in which nothing is heard, and no act follows
 pub silent_applied : (before : List Action) (c : Core) (started : List ℕ) (word : ℕ) (kind : EventKind) (f : Core) (conn : MultiplexedConnection) → Between before c started → is_bad c kind ≡ false → ((m : ℕ) → ending ((entered (book before) (turn_of c word kind)).link m) ≡ None)

@@ -15,13 +15,13 @@ use Rattle.legal_trace.specs.Legal.{is_heard}
 use Rattle.legal_trace.specs.Story.{Story, awaited_in, packed_in, shape_in, tried}
 use Rattle.session_laws.proofs.Names.{name_placed}
 use Rattle.session_laws.proofs.Owes.{request_story}
-use Rattle.session_laws.proofs.Tied.{AreLate, AreQueued, Inner, IsOf, IsPacked, IsQueued, IsRequest, IsUnknown, Tied, TiedCreds, TiedLife, TiedLines, TiedNames, TiedNumbers, TiedPermits, TiedNotices, TiedSetup, TiedStory, TiedTries, TiedWaits, carried, has_ended, link_in, whole_link, TiedRenewal, sources_asked_in}
+use Rattle.session_laws.proofs.Tied.{AreLate, AreQueued, Inner, IsOf, IsPacked, IsQueued, IsRequest, IsUnknown, Tied, TiedCreds, TiedLife, TiedLines, TiedNames, TiedNumbers, TiedPermits, TiedNotices, TiedSetup, TiedStory, TiedTries, TiedWaits, carried, has_ended, link_in, whole_link, TiedRenewal, sources_asked_in, is_reading}
 
 -- a session and the ledger of its link, which is that of the book
 pub record TiedBy (b : Book) (t : Inner) (l : Ledger) : Type 0 where
   pub numbers : TiedNumbers b t
   pub others : (m : ℕ) → m ≢ t.link → IsUnknown (b.link m)
-  pub notices : TiedNotices (hearing_in b.config) t.hears l.hearing l.notices l.told l.end l.parted l.strange t.untold t.parting t.strange
+  pub notices : TiedNotices (hearing_in b.config) t.hears l.hearing l.notices l.told l.end l.parted l.strange (is_reading l) t.untold t.parting
   pub life : TiedLife l b.created t.life
   pub creds : TiedCreds l.creds t.renewal.wanted t.life
   pub count : length t.sources ≡ sources_asked_in l.creds
@@ -42,7 +42,7 @@ pub tied_by : (b : Book) (t : Inner) (l : Ledger) → b.link t.link ≡ l → Ti
 tied_by b t l e h = record {
   numbers = h.numbers;
   others = h.others;
-  notices = subst (λ (x : Ledger). TiedNotices (hearing_in b.config) t.hears x.hearing x.notices x.told x.end x.parted x.strange t.untold t.parting t.strange) (sym e) h.notices;
+  notices = subst (λ (x : Ledger). TiedNotices (hearing_in b.config) t.hears x.hearing x.notices x.told x.end x.parted x.strange (is_reading x) t.untold t.parting) (sym e) h.notices;
   life = subst (λ (x : Ledger). TiedLife x b.created t.life) (sym e) h.life;
   creds = subst (λ (x : Ledger). TiedCreds x.creds t.renewal.wanted t.life) (sym e) h.creds;
   count = h.count ∙ ap (λ (x : Ledger). sources_asked_in x.creds) (sym e);

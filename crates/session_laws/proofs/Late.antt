@@ -51,11 +51,12 @@ use Rattle.session_laws.proofs.Closing.{one_of, told_closed}
 use Rattle.session_laws.proofs.Answer.{answer_apart, may_answer, owed_untold, none_before}
 use Rattle.session_laws.proofs.Settle.{book_of_more, holds_more, seen, trace_of_acts}
 use Rattle.session_laws.proofs.Announce.{announced_sound, first_book, holds_first, turn_of, turned, counted_on, time_still}
-use Rattle.session_laws.proofs.Heard.{silent_applied, still_none}
+use Rattle.session_laws.proofs.Heard.{silent_applied, still_none, tame_between}
 use Rattle.session_laws.proofs.Cancel.{IsSilent, left_creds, left_fit, left_life, left_link, left_others, left_setup, none_more, queued_apart, silenced_wanted, silent_core, silent_ends, silent_numbers, silent_others, still_dials, still_tied, was_ready, was_setting, was_wanting, without_awaited, without_others, without_rises, apart_behind, rising_behind, left_renewal}
 use Rattle.driver_model.specs.declared.kind.SessionKind.{SessionKind}
 use Rattle.driver_model.specs.declared.kind.SessionKind.TheVariants as session
 use Rattle.driver_model.specs.Kind.{is_single}
+use Rattle.session_laws.proofs.Said.{IsTame, renoticed}
 
 -- a story whose timer fires
 --
@@ -262,9 +263,9 @@ abbrev late_conn : Core → ℕ → MultiplexedConnection
 late_conn c p = record c.single.connection { life = cancelled_in c.single.connection.life p }
 
 -- the session with the turn in which the time of an open request is over
-late_tied : (b : Book) (c : Core) (started : List ℕ) (word n p : ℕ) → Tied b (inner c started) → IsClock c n p → is_open_at c.single.connection.requests p ≡ true
+late_tied : (b : Book) (c : Core) (started : List ℕ) (word n p : ℕ) → Tied b (inner c started) → IsTame (b.link c.single.link) → IsClock c n p → is_open_at c.single.connection.requests p ≡ true
     → Tied (entered b (turn_of c word (event.Fired n))) (seen (turned c (event.Fired n)) [] (late_conn c p) (p ∷ []) started)
-late_tied b c started word n p h is o =
+late_tied b c started word n p h tame is o =
     let conn = c.single.connection in
     let m = name_at conn.requests p in
     let l = open_within conn.requests p o in
@@ -285,7 +286,7 @@ late_tied b c started word n p h is o =
     (tied_by (record now { story = after }) t (record ledger { heard = silence }) heard (record {
       numbers = silent_numbers b c started word (event.Fired n) c.timeout after conn.free (cancelled_in conn.life p) conn.requests (p ∷ []) q h;
       others = λ k other. silent_others b c (event.Fired n) c.timeout k q (h.others k other);
-      notices = h.notices;
+      notices = renoticed tame h.notices;
       life = left_life ledger b.created conn.life p h.life;
       creds = left_creds ledger.creds conn.renewal.wanted conn.life p h.creds;
       count = counted_on c.sources ledger.creds h.count;
@@ -396,7 +397,7 @@ late_answered before c started word n p h good is o =
     let m = name_at conn.requests p in
     let a = act.Outcome m over in
     let t = seen f [] (late_conn c p) (p ∷ []) started in
-    let tied = late_tied b0 c started word n p h.sound.tied is o in
+    let tied = late_tied b0 c started word n p h.sound.tied (tame_between before c started h) is o in
     let holds = holds_first front f (late_conn c p) (p ∷ []) started (announced_sound before c started word kind t h good tied) in
     let b = book (trace_of_acts front f []) in
     let book_is : b ≡ now = first_book before (turn_of c word kind) f in
@@ -453,7 +454,7 @@ late_applied before c started word n m h good is = by_entry (slice_get c.table m
         let timer = ap (λ (ts : List Purpose). slice_get ts n) h.sound.tied.numbers.timers ∙ is in
         let q = late_silent b c started n (Some (purpose.Response (owner.Try m 0))) h.sound.tied is (λ k. refl) in
         silent_applied before c started word (event.Fired n) (turned c (event.Fired n)) conn h good (silent_ends b c (event.Fired n) c.timeout q (still_none before c started h)) (λ z. absurd (omega arith)) h.moved h.fit
-        (still_tied b c started word (event.Fired n) c.timeout q (stays_fired b n m timer f) h.sound.tied)
+        (still_tied b c started word (event.Fired n) c.timeout q (stays_fired b n m timer f) h.sound.tied (tame_between before c started h))
 
     by_entry : (x : Option (Option Pending)) → slice_get c.table m ≡ x → TiedStory (b.story m) conn.requests c.single.link x
         → HasApplied (before ++ turn_of c word (event.Fired n) ∷ []) (late_by (with_work (record { core = turned c (event.Fired n); acts = [] }) work) x) started
@@ -484,7 +485,7 @@ time_applied before c started word ms h good =
     let shut = ap (λ s. s || false) h.sound.tied.numbers.shut in
     let set = λ (time : Option ℕ) (q : IsSilent b c (event.Timeout ms) time).
     silent_applied before c started word (event.Timeout ms) (silent_core c (event.Timeout ms) time) c.single.connection h good (silent_ends b c (event.Timeout ms) time q (still_none before c started h)) (λ z. absurd (omega arith)) h.moved h.fit
-    (still_tied b c started word (event.Timeout ms) time q (λ m. refl) h.sound.tied) in
+    (still_tied b c started word (event.Timeout ms) time q (λ m. refl) h.sound.tied (tame_between before c started h)) in
     chosen (λ (x : Core). HasApplied (before ++ turn_of c word (event.Timeout ms) ∷ []) (record { core = x; acts = [] }) started) (is_single c.kind) (silent_core c (event.Timeout ms) ms) (turned c (event.Timeout ms))
     (λ single. set ms (record { silent = λ m. refl; none = refl; time = single_time (kind_in b.config) b.timeout ms (ap is_single kind_is ∙ single); shut = shut }))
     (λ other. set c.timeout (record { silent = λ m. refl; none = refl; time = other_time (kind_in b.config) b.timeout ms (ap is_single kind_is ∙ other) ∙ h.sound.tied.numbers.timeout; shut = shut }))

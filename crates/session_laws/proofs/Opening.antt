@@ -172,7 +172,7 @@ opening_tied : (config : Config) (word : ℕ) (info : ConnectionInfo) (timeout :
 opening_tied config word info timeout some is = record {
   numbers = opening_numbers config word info timeout some is;
   others = λ m other. subst IsUnknown (sym (opened_link config word info (connect_timers timeout) m other)) (record { asked = refl; up = refl; end = refl; starts = refl; notices = refl });
-  notices = record { heard_is = refl; hearing_is = refl; within = λ y. omega arith; untold_is = λ y. refl; parts = λ y d z. cc; alive = λ z. refl; due = λ z. cc; reads = λ z. refl };
+  notices = record { heard_is = refl; hearing_is = refl; within = λ y. omega arith; untold_is = λ y. refl; parts = λ y d z. cc; alive = λ z. refl; due = λ z. cc; tame = λ z r. refl };
   life = (refl, refl, refl, refl);
   creds = record { wanted_is = refl; sought = (refl, refl, refl) };
   count = refl;

@@ -1,5 +1,5 @@
 -- How far the setup of a link has come: what it stands on, and what it is to the end of the link.
-use Rattle.std.proofs.Common.{◌≡◌, ◌≢◌, inl, inr, ℕ, zero, suc, ◌==◌, Bool, true, false, ◌&&◌, not, if◌then◌else◌, List, [], ◌++◌, take, Option, None, Some, refl, sym, ap, ◌∙◌, subst, ◌⊎◌}
+use Rattle.std.proofs.Common.{◌≡◌, ◌≢◌, inl, inr, ℕ, zero, suc, ◌==◌, Bool, true, false, ◌&&◌, not, if◌then◌else◌, List, [], ◌++◌, take, Option, None, Some, refl, sym, ap, ◌∙◌, subst, ◌⊎◌, ◌||◌}
 use Rattle.std.specs.List.{AllByRecursion}
 use Rattle.containers.proofs.Choices.{by_test, chosen, taken_if, left_if, if_false, both_left, both_right, eq_from, ne_from, not_both}
 use Rattle.redis_error.specs.declared.redis_error.RedisError.{RedisError}
@@ -16,16 +16,19 @@ use Rattle.mux_conn.specs.declared.life.Greeting.{Greeting}
 use Rattle.mux_conn.specs.declared.life.Life.{Life}
 use Rattle.mux_conn.specs.declared.life.Life.TheVariants.{Dialing, Wanting, SettingUp, Ready, Ended}
 use Rattle.mux_conn.specs.declared.request.Request.{Request}
-use Rattle.legal_trace.specs.Ledger.{Ledger, End, Ending, by_opening, hears, noted, authorized_by, awaits_credentials, is_over, dials, refused_in, bytes_came, ending, ending_up, ending_asked, ending_unready, ending_by, ending_alive, error_in, is_well, is_set_up, is_ready, lacks_credentials, last_result, setup_after, setup_count, setup_result, setup_steps, is_renewal_open, lost_by, may_renew, renewed_by, unrenewed_by, source_due}
+use Rattle.legal_trace.specs.Ledger.{Ledger, End, Ending, by_opening, hears, noted, authorized_by, awaits_credentials, is_over, dials, refused_in, bytes_came, ending, ending_up, ending_asked, ending_unready, ending_by, ending_alive, error_in, is_well, is_set_up, is_ready, lacks_credentials, last_result, setup_after, setup_count, setup_result, setup_steps, is_renewal_open, lost_by, may_renew, renewed_by, unrenewed_by, source_due, is_unreadable, opening_error, by_fault, Heard}
 use Rattle.legal_trace.proofs.Setups.{IsUndecided, ends_where_set, ungreeted_is_unset}
 use Rattle.legal_trace.specs.Book.{Book}
 use Rattle.legal_trace.specs.Legal.{ReadyIsShown, SourcesAreAsked}
 use Rattle.session_laws.proofs.Creds.{down_unawaited, lacking_undecided, unawaited_is, wanting_lacks, down_may_renew, down_sourced, asked_sourced, has_sourced, ready_sourced}
 use Rattle.session_laws.proofs.SetUp.{not_set_up, lacking_unset, IsUnset}
-use Rattle.session_laws.proofs.Tied.{AreSought, Inner, HasSaid, IsSettingUp, Tied, TiedLife, TiedSetup, carried, owner_of, whole_link, TiedNotices, IsGreeting, greeter}
+use Rattle.session_laws.proofs.Tied.{AreSought, Inner, HasSaid, IsSettingUp, Tied, TiedLife, TiedSetup, carried, owner_of, whole_link, TiedNotices, IsGreeting, greeter, is_reading, brings_bytes}
 use Rattle.credentials.specs.Credentials.{Credentials}
 use Rattle.session_laws.proofs.SameSaid.{SameSaid, after_alike, greeting_link, said_alike, set_alike, setup_alike}
 use Rattle.driver_model.specs.declared.hearing.Hearing.{Hearing}
+use Rattle.driver_model.specs.Hearing.{felt}
+use Rattle.driver_model.specs.declared.news.LinkFault.TheVariants as fault
+use Rattle.resp_read.specs.Values.{is_spoiled}
 
 -- whose messages a link carries
 --
@@ -186,31 +189,94 @@ setup_unheard l turn shut info started life down h = setup_hears l turn shut inf
 --
 -- what is told of its pushes, in a record of its ledger
 abbrev pub PushesOf : Hearing → Hearing → Ledger → Type 0
-PushesOf heard mine l = TiedNotices heard mine l.hearing l.notices l.told l.end l.parted l.strange [] false false
+PushesOf heard mine l = TiedNotices heard mine l.hearing l.notices l.told l.end l.parted l.strange (is_reading l) [] false
+
+-- another turn brings it, where no value came that ends the link
+pub renoticed : {heard hears hearing : Hearing} {notices : List Heard} {told : ℕ} {end : Option End} {parted strange was now : Bool} {untold : List Heard} {parting : Bool} → (end ≡ None → strange ≡ false)
+    → TiedNotices heard hears hearing notices told end parted strange was untold parting → TiedNotices heard hears hearing notices told end parted strange now untold parting
+renoticed tame h = record { heard_is = h.heard_is; hearing_is = h.hearing_is; within = h.within; untold_is = h.untold_is; parts = h.parts; alive = h.alive; due = h.due; tame = λ e r. tame e }
+
+-- no value came that ends the link, where it has not ended
+abbrev pub IsTame : Ledger → Type 0
+IsTame l = l.end ≡ None → l.strange ≡ false
 
 -- so it does whatever news come that bring a link that is up nothing
-pub pushes_hear : (l : Ledger) (turn : ℕ) (n : News) (heard mine : Hearing) → BringsNothing n ⊎ (l.up ≡ false) → PushesOf heard mine l → PushesOf heard mine (noted l (hears turn n))
-pushes_hear l turn silence heard mine k h = h
-pushes_hear l turn overdue heard mine k h = h
-pushes_hear l turn (refused f) heard mine k h =
-    chosen (λ (x : Ledger). PushesOf heard mine x) (dials l) (refused_in l turn (error.Io f)) l
-    (λ t. record { heard_is = h.heard_is; hearing_is = h.hearing_is; within = h.within; untold_is = h.untold_is; parts = λ y d cut. cc; alive = λ e. cc; due = h.due; reads = λ e. cc })
-    (λ t. h)
-pushes_hear l turn connected heard mine k h = chosen (λ (x : Ledger). PushesOf heard mine x) (is_over l) l (record l { up = true }) (λ t. h) (λ f. h)
-pushes_hear l turn (took count) heard mine k h = chosen (λ (x : Ledger). PushesOf heard mine x) l.up (record l { taken = l.taken ++ take count l.offer; offer = [] }) l (λ t. h) (λ f. h)
-pushes_hear l turn (came piece) heard mine k h = elim k [
+pub pushes_hear : (l : Ledger) (turn : ℕ) (n : News) (heard mine : Hearing) → IsTame l → BringsNothing n ⊎ (l.up ≡ false) → PushesOf heard mine l → PushesOf heard mine (noted l (hears turn n))
+pushes_hear l turn silence heard mine tame k h = renoticed tame h
+pushes_hear l turn overdue heard mine tame k h = renoticed tame h
+pushes_hear l turn (refused f) heard mine tame k h =
+    chosen (λ (x : Ledger). PushesOf heard mine (record x { heard = refused f })) (dials l) (refused_in l turn (error.Io f)) l
+    (λ t. record { heard_is = h.heard_is; hearing_is = h.hearing_is; within = h.within; untold_is = h.untold_is; parts = λ y d cut. cc; alive = λ e. cc; due = h.due; tame = λ e. cc })
+    (λ t. renoticed tame h)
+pushes_hear l turn connected heard mine tame k h = chosen (λ (x : Ledger). PushesOf heard mine (record x { heard = connected })) (is_over l) l (record l { up = true }) (λ t. renoticed tame h) (λ f. renoticed tame h)
+pushes_hear l turn (took count) heard mine tame k h = chosen (λ (x : Ledger). PushesOf heard mine (record x { heard = took count })) l.up (record l { taken = l.taken ++ take count l.offer; offer = [] }) l (λ t. renoticed tame h) (λ f. renoticed tame h)
+pushes_hear l turn (came piece) heard mine tame k h = elim k [
   | inl piece_is ↦ absurd piece_is
-  | inr down ↦ if_false (λ (x : Ledger). PushesOf heard mine x) l.up (bytes_came l piece) l down h
+  | inr down ↦ if_false (λ (x : Ledger). PushesOf heard mine (record x { heard = came piece })) l.up (bytes_came l piece) l down (renoticed tame h)
 ]
-pushes_hear l turn (failed f) heard mine k h = h
-pushes_hear l turn (authorized c) heard mine k h = chosen (λ (x : Ledger). PushesOf heard mine x) (awaits_credentials l) (authorized_by l c) l (λ t. h) (λ f. h)
-pushes_hear l turn (renewed c) heard mine k h = chosen (λ (x : Ledger). PushesOf heard mine x) (may_renew l) (renewed_by l c) l (λ t. h) (λ f. h)
-pushes_hear l turn unrenewed heard mine k h = chosen (λ (x : Ledger). PushesOf heard mine x) l.up (unrenewed_by l) l (λ t. h) (λ f. h)
-pushes_hear l turn (late m) heard mine k h = chosen (λ (x : Ledger). PushesOf heard mine x) (l.up && is_renewal_open l m) (lost_by l) l (λ t. h) (λ f. h)
-pushes_hear l turn (denied text) heard mine k h = h
-pushes_hear l turn deserted heard mine k h = h
-pushes_hear l turn dropped heard mine k h = h
-pushes_hear l turn shut heard mine k h = h
+pushes_hear l turn (failed f) heard mine tame k h = renoticed tame h
+pushes_hear l turn (authorized c) heard mine tame k h = chosen (λ (x : Ledger). PushesOf heard mine (record x { heard = authorized c })) (awaits_credentials l) (authorized_by l c) l (λ t. renoticed tame h) (λ f. renoticed tame h)
+pushes_hear l turn (renewed c) heard mine tame k h = chosen (λ (x : Ledger). PushesOf heard mine (record x { heard = renewed c })) (may_renew l) (renewed_by l c) l (λ t. renoticed tame h) (λ f. renoticed tame h)
+pushes_hear l turn unrenewed heard mine tame k h = chosen (λ (x : Ledger). PushesOf heard mine (record x { heard = unrenewed })) l.up (unrenewed_by l) l (λ t. renoticed tame h) (λ f. renoticed tame h)
+pushes_hear l turn (late m) heard mine tame k h = chosen (λ (x : Ledger). PushesOf heard mine (record x { heard = late m })) (l.up && is_renewal_open l m) (lost_by l) l (λ t. renoticed tame h) (λ f. renoticed tame h)
+pushes_hear l turn (denied text) heard mine tame k h = renoticed tame h
+pushes_hear l turn deserted heard mine tame k h = renoticed tame h
+pushes_hear l turn dropped heard mine tame k h = renoticed tame h
+pushes_hear l turn shut heard mine tame k h = renoticed tame h
+
+-- what ends by an error, or by this, by nothing ends
+both_none : (x : Option RedisError) (y : Option Ending) → ending_by x y ≡ None → y ≡ None
+both_none None y e = e
+both_none (Some z) y e = cc
+
+-- what doesn't end a link isn't there
+unended : (b : Bool) (why : Ending) → (if b then Some why else None) ≡ None → b ≡ false
+unended true why e = cc
+unended false why e = refl
+
+-- what ends nothing was no value that ends
+no_ending : (l : Ledger) (piece : List ℕ) → l.up ≡ true → (let m = record l { heard = came piece } in ending m ≡ None) → l.strange ≡ false
+no_ending l piece up none =
+    let m = record l { heard = came piece } in
+    let alive : ending_alive m ≡ None = sym (taken_if m.up (ending_alive m) _ up) ∙ none in
+    let unready : is_unreadable m ≡ false =
+    by_test (is_set_up m) _
+    (λ t. unended (is_unreadable m) (by_fault (felt m.hearing fault.Parse)) (sym (taken_if (is_set_up m) (ending_up m (came piece)) _ t) ∙ alive))
+    (λ f. unended (is_unreadable m) (by_opening (opening_error m fault.Parse)) (both_none (error_in (setup_result m)) (ending_unready m (came piece)) (sym (left_if (is_set_up m) (ending_up m (came piece)) (ending_by (error_in (setup_result m)) (ending_unready m (came piece))) f) ∙ alive))) in
+    right_false (is_spoiled l.rest) l.strange unready
+  where
+    right_false : (p q : Bool) → (p || q) ≡ false → q ≡ false
+    right_false true q e = cc
+    right_false false q e = e
+
+-- so no such value came where nothing must end
+pub is_tame : (b : Book) (t : Inner) → Tied b t → ending (b.link t.link) ≡ None → IsTame (b.link t.link)
+is_tame b t h none lives = by_news (b.link t.link).heard refl
+  where
+    l : Ledger
+    l = b.link t.link
+
+    other : (n : News) → l.heard ≡ n → brings_bytes n ≡ false → l.strange ≡ false
+    other n e q = h.notices.tame lives (ap (λ x. brings_bytes x && l.up) e ∙ ap (λ x. x && l.up) q)
+
+    by_news : (n : News) → l.heard ≡ n → l.strange ≡ false
+    by_news (came piece) e = by_test l.up _
+        (λ up. no_ending l piece up (ap (λ (x : News). ending (record l { heard = x })) (sym e) ∙ none))
+        (λ down. h.notices.tame lives (ap (λ x. brings_bytes x && l.up) e ∙ down))
+    by_news silence e = other silence e refl
+    by_news connected e = other connected e refl
+    by_news (refused f) e = other (refused f) e refl
+    by_news overdue e = other overdue e refl
+    by_news (took count) e = other (took count) e refl
+    by_news (failed f) e = other (failed f) e refl
+    by_news (authorized c) e = other (authorized c) e refl
+    by_news (denied text) e = other (denied text) e refl
+    by_news deserted e = other deserted e refl
+    by_news (renewed c) e = other (renewed c) e refl
+    by_news unrenewed e = other unrenewed e refl
+    by_news (late k) e = other (late k) e refl
+    by_news dropped e = other dropped e refl
+    by_news shut e = other shut e refl
 
 -- what ends a link
 --

@@ -57,7 +57,6 @@ seen f acts conn pending started = record {
   hears = conn.hears;
   untold = [];
   parting = false;
-  strange = false;
   info = conn.info;
   renewal = conn.renewal;
   life = conn.life;

@@ -31,7 +31,7 @@ use Rattle.session_laws.proofs.Answer.{owed_in, no_push}
 use Rattle.session_laws.proofs.Settle.{seen}
 use Rattle.session_laws.proofs.Announce.{aims_longer, aims_on, turn_of, turned, uses_on, counted_on, time_still}
 use Rattle.session_laws.proofs.Heard.{told_life, silent_no_end}
-use Rattle.session_laws.proofs.Said.{setup_on, sources_asked}
+use Rattle.session_laws.proofs.Said.{setup_on, sources_asked, IsTame, renoticed}
 use Rattle.session_laws.proofs.Further.{get_beyond, no_longer, SameBefore, further_story, tries_longer, queue_longer, packs_longer, told_longer, IsNext, waits_longer, permits_longer, late_longer}
 use Rattle.session_laws.proofs.InLine.{kept_ids, awaited_in}
 
@@ -148,9 +148,9 @@ abbrev pub core_refused : Core → Submission → Core
 core_refused c what = record (turned c (event.Submit what)) { table = c.table ++ None ∷ [] }
 
 -- the session is tied with it
-pub refused_tied : (b : Book) (c : Core) (started : List ℕ) (word : ℕ) (what : Submission) (e : RedisError) → Tied b (inner c started) → has_no_form c.kind what ≡ false → length c.table < 2 ^ 32 → c.single.connection.fresh ≡ []
+pub refused_tied : (b : Book) (c : Core) (started : List ℕ) (word : ℕ) (what : Submission) (e : RedisError) → Tied b (inner c started) → IsTame (b.link c.single.link) → has_no_form c.kind what ≡ false → length c.table < 2 ^ 32 → c.single.connection.fresh ≡ []
     → Tied (entered (entered b (turn_of c word (event.Submit what))) (action.Outcome (length c.table) (outcome.Fault e))) (seen (core_refused c what) [] c.single.connection [] started)
-refused_tied b c started word what e h form few no_fresh =
+refused_tied b c started word what e h tame form few no_fresh =
     let conn = c.single.connection in
     let ledger = b.link c.single.link in
     let after = stories_refused b (length c.table) what e in
@@ -191,7 +191,7 @@ refused_tied b c started word what e h form few no_fresh =
         only = h.numbers.only;
       };
       others = λ m other. let u = h.others m other in record { asked = u.asked; up = u.up; end = u.end; starts = u.starts; notices = u.notices };
-      notices = h.notices;
+      notices = renoticed tame h.notices;
       life = told_life ledger b.created conn.life silence h.life;
       creds = h.creds;
       count = counted_on c.sources ledger.creds h.count;

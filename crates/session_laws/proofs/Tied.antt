@@ -1,5 +1,5 @@
 -- What ties a session to the book of its trace.
-use Rattle.std.proofs.Common.{◌≡◌, ◌≢◌, ◌⊎◌, ℕ, zero, suc, ◌+◌, ◌^◌, ◌<◌, ◌≤◌, ◌==◌, if◌then◌else◌, Bool, true, false, List, [], ◌∷◌, ◌++◌, length, drop, Option, Some, None, slice_get, codes}
+use Rattle.std.proofs.Common.{◌≡◌, ◌≢◌, ◌⊎◌, ℕ, zero, suc, ◌+◌, ◌^◌, ◌<◌, ◌≤◌, ◌==◌, if◌then◌else◌, Bool, true, false, List, [], ◌∷◌, ◌++◌, length, drop, Option, Some, None, slice_get, codes, ◌&&◌}
 use Rattle.std.specs.List.{AllByRecursion}
 use Rattle.redis_error.specs.declared.redis_error.RedisError.{RedisError}
 use Rattle.resp_value.specs.declared.value.Value.TheVariants.{Nil}
@@ -53,13 +53,14 @@ use Rattle.legal_trace.specs.Steps.{configured, queue_size, permits_in, permits_
 use Rattle.legal_trace.specs.Legal.{AllStand, IsTimed, answer_time}
 use Rattle.legal_trace.specs.Owed.{owed_unstarted}
 use Rattle.session_laws.proofs.Numbers.{IsIn, Rising, requests_in}
+use Rattle.driver_model.specs.News.{News, came}
 
 -- what counts of a session in the middle of a turn: how many turns it has begun, how many links it has asked for and
 -- which of them is its connection's, what each timer, and each source of credentials, was asked for, whether everything was
 -- shut down, the request of each submission, and within how many milliseconds one that comes now is to be answered; how many
 -- messages the queue of its connection's link holds, at how many unwritten bytes none starts, how many permits there are, if
--- they are counted, and how many are free; what is heard beside replies, what of that which came is still to be told, whether the
--- end of the link is, and whether a value came that ends it; what the session is; what is said to the server before the first request, and its credentials
+-- they are counted, and how many are free; what is heard beside replies, what of that which came is still to be told, and whether
+-- the end of the link is; what the session is; what is said to the server before the first request, and its credentials
 -- that come of sources; its connection's life and requests, those that wait for the connection, those that wait for a place, those
 -- that came in this turn and those that were moved in it, whose waits aren't shown yet; the one that is being let in; the
 -- requests that are settled and not answered yet; and the numbers of the messages that started behind the setups, in order: a
@@ -81,7 +82,6 @@ pub record Inner : Type 0 where
   pub hears : Hearing
   pub untold : List Heard
   pub parting : Bool
-  pub strange : Bool
   pub info : RedisConnectionInfo
   pub renewal : Renewal
   pub life : Life
@@ -224,10 +224,19 @@ pub record IsUnknown (l : Ledger) : Type 0 where
   pub starts : l.starts ≡ []
   pub notices : l.notices ≡ []
 
+-- these are bytes that came
+abbrev pub brings_bytes : News → Bool
+brings_bytes (came piece) = true
+brings_bytes _ = false
+
+-- the turn that runs brings bytes for a link that is up
+abbrev pub is_reading : Ledger → Bool
+is_reading l = brings_bytes l.heard && l.up
+
 -- what is heard is what the configuration says, also for the link; where something is, that is still to be told which wasn't; where
--- pushes are, its end, by a fault once it was set up, was told but where it is still to be; and until it ends, a value came that
--- ends it where it says so
-pub record TiedNotices (heard hears hearing : Hearing) (notices : List Heard) (told : ℕ) (end : Option End) (parted strange : Bool) (untold : List Heard) (parting ends : Bool) : Type 0 where
+-- pushes are, its end, by a fault once it was set up, was told but where it is still to be; and until it ends, no value came that
+-- ends it, but in a turn that brings bytes
+pub record TiedNotices (heard hears hearing : Hearing) (notices : List Heard) (told : ℕ) (end : Option End) (parted strange reading : Bool) (untold : List Heard) (parting : Bool) : Type 0 where
   pub heard_is : heard ≡ hears
   pub hearing_is : hearing ≡ hears
   pub within : hears_something hears ≡ true → told ≤ length notices
@@ -235,7 +244,7 @@ pub record TiedNotices (heard hears hearing : Hearing) (notices : List Heard) (t
   pub parts : hears_pushes hears ≡ true → parting ≡ false → is_cut end ≡ true → parted ≡ true
   pub alive : end ≡ None → parted ≡ false
   pub due : parting ≡ true → parted ≡ false
-  pub reads : end ≡ None → strange ≡ ends
+  pub tame : end ≡ None → reading ≡ false → strange ≡ false
 
 -- where the opening failed, this was shown
 abbrev pub FailureIsShown : Option End → ℕ → Type 0
@@ -563,7 +572,7 @@ AreLate story requests pending = (p : ℕ) → is_open_at requests p ≡ true �
 pub record Tied (b : Book) (t : Inner) : Type 0 where
   pub numbers : TiedNumbers b t
   pub others : (m : ℕ) → m ≢ t.link → IsUnknown (b.link m)
-  pub notices : TiedNotices (hearing_in b.config) t.hears (b.link t.link).hearing (b.link t.link).notices (b.link t.link).told (b.link t.link).end (b.link t.link).parted (b.link t.link).strange t.untold t.parting t.strange
+  pub notices : TiedNotices (hearing_in b.config) t.hears (b.link t.link).hearing (b.link t.link).notices (b.link t.link).told (b.link t.link).end (b.link t.link).parted (b.link t.link).strange (is_reading (b.link t.link)) t.untold t.parting
   pub life : TiedLife (b.link t.link) b.created t.life
   pub creds : TiedCreds (b.link t.link).creds t.renewal.wanted t.life
   pub count : length t.sources ≡ sources_asked_in (b.link t.link).creds
@@ -607,7 +616,6 @@ inner c started = record {
   hears = c.single.connection.hears;
   untold = [];
   parting = false;
-  strange = false;
   info = c.single.connection.info;
   renewal = c.single.connection.renewal;
   life = c.single.connection.life;

@@ -16,7 +16,7 @@ use Rattle.legal_trace.specs.Ledger.{Ledger, Heard, noted, is_well, is_set_up, l
 use Rattle.legal_trace.specs.Book.{Book, entered, push_line, current, hearing_in, if_mine}
 use Rattle.legal_trace.specs.Legal.{is_heard}
 use Rattle.session_laws.proofs.Kept.{mine_noted, others_kept, tied_by}
-use Rattle.session_laws.proofs.Tied.{Inner, HasSaid, Tied, TiedLife, TiedNotices, carried, whole_link}
+use Rattle.session_laws.proofs.Tied.{Inner, HasSaid, Tied, TiedLife, TiedNotices, carried, whole_link, is_reading}
 use Rattle.session_laws.proofs.Renewals.{renewal_alike}
 use Rattle.session_laws.proofs.SameSaid.{SameSaid, said_alike, set_alike}
 use Rattle.driver_model.specs.declared.hearing.Notice.{Notice}
@@ -24,6 +24,7 @@ use Rattle.driver_model.specs.declared.hearing.Notice.TheVariants as notice
 use Rattle.driver_model.specs.declared.action.Action.{Action}
 use Rattle.driver_model.specs.Push.{is_disconnection}
 use Rattle.containers.proofs.Choices.{left_if}
+use Rattle.link_laws.proofs.Notices.{IsNoEnd}
 
 -- a ledger of which so many pushes were told, and its end or not
 abbrev pub retells : Ledger → ℕ → Bool → Ledger
@@ -70,7 +71,7 @@ lined b n line = record b { link = λ m. noted_each (b.link m) (if_mine (n == m)
 
 -- the session is tied to the book with such a line
 pub line_tied : (b : Book) (t : Inner) (line : Line) (told : ℕ) (parted : Bool) (untold : List Heard) (parting : Bool) → noted (b.link t.link) line ≡ retells (b.link t.link) told parted
-    → (let l = b.link t.link in TiedNotices (hearing_in b.config) t.hears l.hearing l.notices told l.end parted l.strange untold parting t.strange) → Tied b t → Tied (lined b t.link line) (record t { untold = untold; parting = parting })
+    → (let l = b.link t.link in TiedNotices (hearing_in b.config) t.hears l.hearing l.notices told l.end parted l.strange (is_reading l) untold parting) → Tied b t → Tied (lined b t.link line) (record t { untold = untold; parting = parting })
 line_tied b t line told parted untold parting is pushed h =
     let l = b.link t.link in
     tied_by (lined b t.link line) (record t { untold = untold; parting = parting }) (retells l told parted) (mine_noted l t.link line ∙ is) (record {
@@ -95,7 +96,7 @@ line_tied b t line told parted untold parting is pushed h =
 
 -- so with a push
 pub push_tied : (b : Book) (t : Inner) (info : PushInfo) (told : ℕ) (parted : Bool) (untold : List Heard) (parting : Bool) → noted (b.link t.link) (push_line info.kind) ≡ retells (b.link t.link) told parted
-    → (let l = b.link t.link in TiedNotices (hearing_in b.config) t.hears l.hearing l.notices told l.end parted l.strange untold parting t.strange) → Tied b t → Tied (entered b (action.Push t.link info)) (record t { untold = untold; parting = parting })
+    → (let l = b.link t.link in TiedNotices (hearing_in b.config) t.hears l.hearing l.notices told l.end parted l.strange (is_reading l) untold parting) → Tied b t → Tied (entered b (action.Push t.link info)) (record t { untold = untold; parting = parting })
 push_tied b t info told parted untold parting is pushed h = line_tied b t (push_line info.kind) told parted untold parting is pushed h
 
 -- what shows that something is told of a link
@@ -104,19 +105,13 @@ notice_action l (notice.Push info) = action.Push l info
 notice_action l (notice.Message m) = action.Message m
 notice_action l (notice.Monitor v) = action.Monitor v
 
--- it came: it is no push that tells that the link has ended
-abbrev pub HasCome : Notice → Type 0
-HasCome (notice.Push info) = is_disconnection info.kind ≡ false
-HasCome (notice.Message m) = Unit {0}
-HasCome (notice.Monitor v) = Unit {0}
-
 -- messages are told of the session's link
 pub current_is : (b : Book) (t : Inner) → Tied b t → current b ≡ t.link
 current_is b t h = let links = h.numbers.links in let one = h.numbers.one in omega arith
 
 -- so with anything that came
-pub notice_tied : (b : Book) (t : Inner) (n : Notice) (untold : List Heard) → HasCome n
-    → (let l = b.link t.link in TiedNotices (hearing_in b.config) t.hears l.hearing l.notices (l.told + 1) l.end l.parted l.strange untold t.parting t.strange) → Tied b t → Tied (entered b (notice_action t.link n)) (record t { untold = untold })
+pub notice_tied : (b : Book) (t : Inner) (n : Notice) (untold : List Heard) → IsNoEnd n
+    → (let l = b.link t.link in TiedNotices (hearing_in b.config) t.hears l.hearing l.notices (l.told + 1) l.end l.parted l.strange (is_reading l) untold t.parting) → Tied b t → Tied (entered b (notice_action t.link n)) (record t { untold = untold })
 notice_tied b t (notice.Push info) untold come pushed h =
     push_tied b t info ((b.link t.link).told + 1) (b.link t.link).parted untold t.parting (ap (noted (b.link t.link)) (left_if (is_disconnection info.kind) parts tells come)) pushed h
 notice_tied b t (notice.Message m) untold come pushed h =
