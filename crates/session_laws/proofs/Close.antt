@@ -21,7 +21,7 @@ use Rattle.mux_conn.specs.declared.request.Request.{Request}
 use Rattle.mux_conn.specs.declared.request.Waiting.{Waiting}
 use Rattle.mux_conn.specs.Connection.{Work, acted, at_life}
 use Rattle.mux_conn.specs.Requests.{is_open_at, name_at}
-use Rattle.mux_conn.specs.Effects.{waiting_failed, nobody_waits, failed_each, settled_each, ended, all_answered, cut_short, parted, pushed}
+use Rattle.mux_conn.specs.Effects.{waiting_failed, nobody_waits, failed_each, settled_each, ended, all_answered, cut_short, parted, noticed}
 use Rattle.shared_session.specs.declared.core_state.Core.{Core}
 use Rattle.shared_session.specs.Turn.{with_work}
 use Rattle.legal_trace.specs.Ledger.{Ledger, Ending, ends, noted, ending, ending_or_shutdown, failure_of, is_fault, is_cut, parts, by_fault}
@@ -46,6 +46,8 @@ use Rattle.driver_model.specs.declared.news.LinkFault.{LinkFault}
 use Rattle.session_laws.proofs.Names.{open_within, request_not}
 use Rattle.session_laws.proofs.Renewals.{renewal_ended}
 use Rattle.mux_conn.specs.Renewals.{renewing}
+use Rattle.driver_model.specs.Hearing.{hears_pushes}
+use Rattle.driver_model.specs.declared.hearing.Notice.TheVariants as notice
 
 -- the link is closed
 --
@@ -109,7 +111,7 @@ ends_failed l turn created why must shown e fails = shown e (sym (ap (λ w. fail
 
 -- the session is tied to the book with the end of the link; the creation may be shown with it
 pub close_tied : (b : Book) (t : Inner) (created : ℕ) (why : Ending) (e : RedisError) (parting : Bool) (pending : List ℕ) → pending ≡ requests_in (wanted (link_in t.life).row) ++ awaited_ids (link_in t.life).queue → ending (b.link t.link) ≡ Some why → unstarted_error why ≡ e
-    → ((f : RedisError) → failure_of why ≡ Some f → created ≢ 0) → (t.hears ≡ true → parting ≡ false → is_fault why ≡ false) → has_ended t.life ≡ false → Tied b (record t { pending = []; untold = []; parting = false })
+    → ((f : RedisError) → failure_of why ≡ Some f → created ≢ 0) → (hears_pushes t.hears ≡ true → parting ≡ false → is_fault why ≡ false) → has_ended t.life ≡ false → Tied b (record t { pending = []; untold = []; parting = false })
     → Tied (record (entered b (action.Close t.link)) { created = created }) (record t { life = Ended e; pending = pending; untold = []; parting = parting })
 close_tied b t created why e parting pending ids must is shown mild up h =
     let turn = b.turns - 1 in
@@ -119,11 +121,13 @@ close_tied b t created why e parting pending ids must is shown mild up h =
       others = others_kept b t.link (ends turn) h.others;
       notices = record {
         heard_is = h.notices.heard_is;
+        hearing_is = h.notices.hearing_is;
         within = h.notices.within;
         untold_is = h.notices.untold_is;
         parts = λ heard done cut. absurd (not_both (is_fault why) (mild heard done) (sym (ap (λ w. is_fault (ending_or_shutdown w)) must) ∙ cut));
         alive = λ none. cc;
         due = λ parted. h.notices.alive (lives (b.link t.link) b.created t.life h.life up);
+        tame = λ none r. cc;
       };
       life = (refl, ends_owed (b.link t.link) turn why e must is, ends_failed (b.link t.link) turn created why must shown);
       creds = record { wanted_is = h.creds.wanted_is; sought = tt };
@@ -341,7 +345,7 @@ no_failure e is = cc
 
 -- so is a link that must end; where a fault ends it that somebody hears, this is still to be told
 pub cut_holds : (before : List Action) (f : Core) (w : Work) (row queue : List Settled) (why : Ending) (parting : Bool) (started : List ℕ) → Holds before f w [] started → has_ended w.conn.life ≡ false → unstarted_error why ≡ error.Closed → failure_of why ≡ None
-    → (w.conn.hears ≡ true → parting ≡ false → is_fault why ≡ false)
+    → (hears_pushes w.conn.hears ≡ true → parting ≡ false → is_fault why ≡ false)
     → (let b = book (trace_of_acts before f w.acts) in let l = b.link f.single.link in
     (ending l ≡ Some why) × SettlesAll (owner_of w.conn.requests) (noted l (ends (b.turns - 1))) (link_in w.conn.life) row queue)
     → IsCutShort before f (cut_short w) parting (queue_ids (link_in w.conn.life).queue) row queue started
@@ -401,11 +405,11 @@ ended_holds before f w row queue why started h alive closes opened mild must =
     all_ends before f (cut_short w) (queue_ids (link_in w.conn.life).queue) row queue started (cut_holds before f w row queue why false started h alive closes opened (λ heard done. mild) must)
 
 -- that it was closed by a fault is told, where somebody hears it
-parts_may : (b : Book) (t : Inner) (e : RedisError) → Tied b t → t.life ≡ Ended e → t.hears ≡ true → t.parting ≡ true → is_cut (b.link t.link).end ≡ true → MayPart b t.link (record { kind = Disconnection; parts = [] })
+parts_may : (b : Book) (t : Inner) (e : RedisError) → Tied b t → t.life ≡ Ended e → hears_pushes t.hears ≡ true → t.parting ≡ true → is_cut (b.link t.link).end ≡ true → MayPart b t.link (record { kind = Disconnection; parts = [] })
 parts_may b t e h over hears due cut =
     let a = after_end b t h (ap has_ended over) in
     record {
-      heard = h.notices.heard_is ∙ hears;
+      heard = ap hears_pushes h.notices.heard_is ∙ hears;
       ended = cut;
       once = h.notices.due due;
       bare = refl;
@@ -416,8 +420,8 @@ parts_may b t e h over hears due cut =
     }
 
 -- so all are answered then
-pub parted_holds : (before : List Action) (f : Core) (w : Work) (ids : List ℕ) (row queue : List Settled) (started : List ℕ) → w.conn.hears ≡ true → is_cut ((book (trace_of_acts before f w.acts)).link f.single.link).end ≡ true → IsCutShort before f w true ids row queue started
-    → IsCutShort before f (pushed w (record { kind = Disconnection; parts = [] })) false ids row queue started
+pub parted_holds : (before : List Action) (f : Core) (w : Work) (ids : List ℕ) (row queue : List Settled) (started : List ℕ) → hears_pushes w.conn.hears ≡ true → is_cut ((book (trace_of_acts before f w.acts)).link f.single.link).end ≡ true → IsCutShort before f w true ids row queue started
+    → IsCutShort before f (noticed w (notice.Push (record { kind = Disconnection; parts = [] }))) false ids row queue started
 parted_holds before f w ids row queue started hears cut h =
     let info : PushInfo = record { kind = Disconnection; parts = [] } in
     let b = book (trace_of_acts before f w.acts) in
@@ -425,16 +429,18 @@ parted_holds before f w ids row queue started hears cut h =
     let t = record (seen f w.acts w.conn ns started) { parting = true } in
     let l = b.link f.single.link in
     let after = record l { parted = true } in
-    let link_is : (book (trace_of_acts before f (pushed w info).acts)).link f.single.link ≡ after = ap (λ (x : Book). x.link f.single.link) (book_of_more before f w.acts (act.Push info)) ∙ mine_noted l f.single.link parts in
+    let link_is : (book (trace_of_acts before f (noticed w (notice.Push info)).acts)).link f.single.link ≡ after = ap (λ (x : Book). x.link f.single.link) (book_of_more before f w.acts (act.Push info)) ∙ mine_noted l f.single.link parts in
     record {
       holds = sound_told before f w.acts (act.Push info) w.conn [] false ns started h.holds.stands (parts_may b t error.Closed h.holds.tied h.over hears refl cut)
           (push_tied b t info l.told true [] false refl (record {
             heard_is = h.holds.tied.notices.heard_is;
+            hearing_is = h.holds.tied.notices.hearing_is;
             within = h.holds.tied.notices.within;
             untold_is = h.holds.tied.notices.untold_is;
             parts = λ heard done was. refl;
             alive = λ none. absurd (not_both (is_cut l.end) (ap is_cut none) cut);
             due = λ no_more. cc;
+            tame = h.holds.tied.notices.tame;
           }) h.holds.tied);
       over = h.over;
       line = h.line;
@@ -460,11 +466,11 @@ faulted_holds before f w row queue fault started h alive must =
     let ids = queue_ids (link_in w.conn.life).queue in
     let cut : is_cut ((book (trace_of_acts before f v.acts)).link f.single.link).end ≡ true =
     ap (λ (x : Book). is_cut (x.link f.single.link).end) (book_of_more before f w.acts act.Close) ∙ ap (λ (x : Ledger). is_cut x.end) (mine_noted l f.single.link (ends (b.turns - 1))) ∙ ap (λ x. is_fault (ending_or_shutdown x)) must.0 in
-    chosen (λ (x : Work). HasEnded before f (all_answered x (row ++ queue)) error.Closed started) w.conn.hears (pushed v (record { kind = Disconnection; parts = [] })) v
+    chosen (λ (x : Work). HasEnded before f (all_answered x (row ++ queue)) error.Closed started) (hears_pushes w.conn.hears) (noticed v (notice.Push (record { kind = Disconnection; parts = [] }))) v
     (λ t.
-    all_ends before f (pushed v (record { kind = Disconnection; parts = [] })) ids row queue started
+    all_ends before f (noticed v (notice.Push (record { kind = Disconnection; parts = [] }))) ids row queue started
     (parted_holds before f v ids row queue started t cut (cut_holds before f w row queue (by_fault fault) true started h alive refl refl (λ heard done. cc) must)))
-    (λ n. all_ends before f v ids row queue started (cut_holds before f w row queue (by_fault fault) false started h alive refl refl (λ heard done. absurd (not_both w.conn.hears n heard)) must))
+    (λ n. all_ends before f v ids row queue started (cut_holds before f w row queue (by_fault fault) false started h alive refl refl (λ heard done. absurd (not_both (hears_pushes w.conn.hears) n heard)) must))
 
 -- those that were moved in this turn stay
 pub ended_moved : (w : Work) (out : List Settled) → (ended w out).conn.moved ≡ w.conn.moved
@@ -476,8 +482,8 @@ ended_moved w out =
 pub parted_moved : (w : Work) (out : List Settled) → (all_answered (parted (cut_short w)) out).conn.moved ≡ w.conn.moved
 parted_moved w out =
     let v = cut_short w in
-    chosen (λ (x : Work). (all_answered x out).conn.moved ≡ w.conn.moved) v.conn.hears (pushed v (record { kind = Disconnection; parts = [] })) v
-    (λ t. answered_moved (pushed v (record { kind = Disconnection; parts = [] })) out)
+    chosen (λ (x : Work). (all_answered x out).conn.moved ≡ w.conn.moved) (hears_pushes v.conn.hears) (noticed v (notice.Push (record { kind = Disconnection; parts = [] }))) v
+    (λ t. answered_moved (noticed v (notice.Push (record { kind = Disconnection; parts = [] }))) out)
     (λ t. answered_moved v out)
 
 -- so the event has had its effect

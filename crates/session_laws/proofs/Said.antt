@@ -26,7 +26,7 @@ use Rattle.session_laws.proofs.Tied.{AreSought, Inner, HasSaid, IsSettingUp, Tie
 use Rattle.credentials.specs.Credentials.{Credentials}
 use Rattle.session_laws.proofs.SameSaid.{SameSaid, after_alike, greeting_link, said_alike, set_alike, setup_alike}
 use Rattle.driver_model.specs.declared.hearing.Hearing.{Hearing}
-use Rattle.driver_model.specs.Hearing.{felt}
+use Rattle.driver_model.specs.Hearing.{felt, hears_messages}
 use Rattle.driver_model.specs.declared.news.LinkFault.TheVariants as fault
 use Rattle.resp_read.specs.Values.{is_spoiled}
 
@@ -354,6 +354,12 @@ mild_end l taken offer silence k none = by_test l.up _ (mild_up l taken offer si
 mild_end l taken offer (took count) k none = by_test l.up _ (mild_up l taken offer (took count) (refl, refl) none) (mild_down l taken offer (took count) refl)
 mild_end l taken offer (late m) k none = by_test l.up _ (mild_up l taken offer (late m) (refl, refl) none) (mild_down l taken offer (late m) refl)
 mild_end l taken offer _ k none = absurd k
+
+-- nor does a stream of messages that is dropped, on a link of no messages
+pub dropped_end : (l : Ledger) → hears_messages l.hearing ≡ false → ending l ≡ None → ending (record l { heard = dropped }) ≡ None
+dropped_end l deaf none = by_test l.up _
+    (mild_up l l.taken l.offer dropped (left_if (hears_messages l.hearing) (Some (by_fault fault.Ended)) None deaf, left_if (hears_messages l.hearing) (Some (by_opening error.Closed)) None deaf) none)
+    (mild_down l l.taken l.offer dropped (left_if (hears_messages l.hearing) (Some (by_opening error.Closed)) None deaf))
 
 -- where a link is ready
 --
