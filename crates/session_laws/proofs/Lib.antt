@@ -28,6 +28,9 @@ pub mod SetsUp
 pub mod Watches
 pub mod Close
 pub mod Telling
+pub mod NewlySettled
+pub mod Judged
+pub mod ReadGreeting
 pub mod Replies
 pub mod Announce
 pub mod Heard
@@ -38,6 +41,7 @@ pub mod Connect
 pub mod Given
 pub mod Renewed
 pub mod Took
+pub mod HeardBytes
 pub mod ReadSetup
 pub mod ReadWanting
 pub mod Read
