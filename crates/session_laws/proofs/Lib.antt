@@ -28,6 +28,8 @@ pub mod SetsUp
 pub mod Watches
 pub mod Close
 pub mod Telling
+pub mod More
+pub mod New
 pub mod Replies
 pub mod Announce
 pub mod Heard
