@@ -30,6 +30,8 @@ pub mod Close
 pub mod Telling
 pub mod More
 pub mod New
+pub mod Judged
+pub mod Greeted
 pub mod Replies
 pub mod Announce
 pub mod Heard

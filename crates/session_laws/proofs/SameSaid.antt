@@ -1,5 +1,5 @@
 -- Ledgers with the same starts, the same items, and the same to be said: how far they have come is the same.
-use Rattle.std.proofs.Common.{◌≡◌, ◌⊎◌, inl, inr, ℕ, zero, suc, ◌==◌, ◌<◌, Bool, true, false, ◌&&◌, ◌||◌, not, if◌then◌else◌, List, [], ◌∷◌, length, Option, Some, None, refl, ap, ◌∙◌, sym, subst}
+use Rattle.std.proofs.Common.{◌≡◌, ◌⊎◌, inl, inr, ℕ, zero, suc, ◌==◌, ◌<◌, Bool, true, false, ◌&&◌, ◌||◌, not, if◌then◌else◌, List, [], ◌∷◌, length, Option, Some, None, refl, ap, ◌∙◌, sym, subst, slice_get}
 use Rattle.std.specs.List.{AllByRecursion}
 use Rattle.connection_setup.specs.declared.judgement.SetupResult.TheVariants.{Ready as Well}
 use Rattle.connection_setup.specs.Setup.{setup}
@@ -104,7 +104,7 @@ watching_alike l m link h s = record {
   none = λ t. count_alike l m h ∙ s.none (sym (says_alike l m h) ∙ t);
   stage = elim s.stage [
     | inl d ↦ inl (record { alone = subst (λ (ss : List Start). owners_of ss ≡ setup_owners (setup_count ss) []) (sym h.starts) d.alone; answered = λ j less. full_alike l m h j ∙ d.answered j (subst (λ n. j < n) (count_alike l m h) less); queue = d.queue; row = d.row })
-    | inr s ↦ inr (record { k = s.k; sent = monitor_alike l m h ∙ s.sent; long = ap length h.starts ∙ s.long; queue = s.queue; earlier = λ j less. full_alike l m h j ∙ s.earlier j less; open_is = full_alike l m h s.k ∙ s.open_is })
+    | inr s ↦ inr (record { k = s.k; sent = monitor_alike l m h ∙ s.sent; long = ap length h.starts ∙ s.long; shaped = λ x at. s.shaped x (ap (λ (ss : List Start). slice_get ss s.k) (sym h.starts) ∙ at); queue = s.queue; earlier = λ j less. full_alike l m h j ∙ s.earlier j less; open_is = full_alike l m h s.k ∙ s.open_is })
   ];
   awaited = s.awaited;
 }
@@ -149,7 +149,7 @@ greeting_link l link after greet.Monitor queue row s = record {
   none = s.none;
   stage = elim s.stage [
     | inl d ↦ inl (record { alone = d.alone; answered = d.answered; queue = queue ∙ d.queue; row = row ∙ d.row })
-    | inr s ↦ inr (record { k = s.k; sent = s.sent; long = s.long; queue = queue ∙ s.queue; earlier = s.earlier; open_is = s.open_is })
+    | inr s ↦ inr (record { k = s.k; sent = s.sent; long = s.long; shaped = s.shaped; queue = queue ∙ s.queue; earlier = s.earlier; open_is = s.open_is })
   ];
   awaited = subst (AllByRecursion (λ (e : Entry). e.awaited ≡ true)) (sym row) s.awaited;
 }

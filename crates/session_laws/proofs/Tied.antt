@@ -385,6 +385,7 @@ pub record IsWatchSent (l : Ledger) (link : LinkState) : Type 0 where
   pub k : ℕ
   pub sent : monitor_of l ≡ Some k
   pub long : length l.starts ≡ suc k
+  pub shaped : (s : Start) → slice_get l.starts k ≡ Some s → s.shape ≡ Single
   pub queue : link.queue ≡ []
   pub earlier : (j : ℕ) → j < k → is_full l j ≡ true
   pub open_is : is_full l k ≡ false

@@ -1,5 +1,5 @@
 -- MONITOR starts on a link whose server is put into monitor mode.
-use Rattle.std.proofs.Common.{Bool, List, None, Option, Some, [], ap, arith, false, inl, inr, length, refl, subst, suc, sym, true, zero, ℕ, ◌+◌, ◌++◌, ◌<◌, ◌≤◌, ◌∙◌, ◌∷◌, ◌≡◌, ◌⊎◌, ◌&&◌}
+use Rattle.std.proofs.Common.{Bool, List, None, Option, Some, [], ap, arith, false, inl, inr, length, refl, subst, suc, sym, true, zero, ℕ, ◌+◌, ◌++◌, ◌<◌, ◌≤◌, ◌∙◌, ◌∷◌, ◌≡◌, ◌⊎◌, ◌&&◌, slice_get}
 use Rattle.std.proofs.lemmas.List.{length_push}
 use Rattle.std.specs.Prelude.{is_none}
 use Rattle.containers.proofs.Choices.{by_test, left_if, not_both, taken_if}
@@ -66,6 +66,11 @@ queued link = with_queue link (watch_queued ∷ [])
 abbrev watched : LinkState → LinkState
 watched link = with_queue (begun link watch_queued) []
 
+-- the last that started
+last_there : (ss : List Start) (s x : Start) → slice_get (ss ++ s ∷ []) (length ss) ≡ Some x → x ≡ s
+last_there [] s x at = cc
+last_there (y ∷ ss) s x at = last_there ss s x at
+
 -- what is known of it once it has started
 watching_next : (l : Ledger) (link : LinkState) → length l.dealt ≤ reach l.starts l.dealt → IsWatchDue l (queued link) → IsWatching l (queued link) → IsWatching (noted l (begins monitor_message)) (watched link)
 watching_next l link within due h =
@@ -78,6 +83,7 @@ watching_next l link within due h =
       stage = inr (record {
         k = length l.starts;
         sent = monitor_begun l.starts s 0 (alone_unwatched l.starts (setup_count l.starts) 0 due.alone) refl ∙ ap Some (let same : 0 + length l.starts ≡ length l.starts = omega arith in same);
+        shaped = λ x at. ap (λ (y : Start). y.shape) (last_there l.starts s x at);
         long = (let more = length_push l.starts s in omega arith);
         queue = refl;
         earlier = λ j less. full_begins l s j less ∙ due.answered j (omega arith);
