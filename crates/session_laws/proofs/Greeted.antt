@@ -125,7 +125,7 @@ values_all P one h ready d [] all = all
 values_all P one h ready d (v ∷ vs) all = values_all P one h ready (taken h ready d v) vs (value_all P one h ready d v all)
 
 -- so it is when bytes come
-still_awaited : (h : Hearing) (link : LinkState) (piece : List ℕ) → AreAwaited link.row → AreAwaited (deals h false link piece).row
+pub still_awaited : (h : Hearing) (link : LinkState) (piece : List ℕ) → AreAwaited link.row → AreAwaited (deals h false link piece).row
 still_awaited h link piece all = values_all IsAwaited (λ e item is. is) h false (dealing_with link.row) (values (link.rest ++ piece)) all
 
 -- what bytes leave
@@ -201,7 +201,7 @@ none_dealt name l link piece g lives row tied =
     ap (λ (xs : List Data). l.dealt ++ xs) none ∙ append-nil l.dealt
 
 -- so its ledger has come as far
-due_same : (name : ℕ → Owner) (l : Ledger) (link : LinkState) (piece : List ℕ) (g : Came l (bytes_came l piece)) → l.end ≡ None → link.row ≡ [] → TiedLink name l link → SameSaid l (after_came l piece g)
+pub due_same : (name : ℕ → Owner) (l : Ledger) (link : LinkState) (piece : List ℕ) (g : Came l (bytes_came l piece)) → l.end ≡ None → link.row ≡ [] → TiedLink name l link → SameSaid l (after_came l piece g)
 due_same name l link piece g lives row tied = record { starts = refl; dealt = none_dealt name l link piece g lives row tied; info = refl; hearing = refl; wanted = refl; given = refl }
 
 -- a greeting that isn't answered
@@ -222,7 +222,7 @@ some_row name l link lives s tied none =
     not_both (is_full l s.k) s.open_is (all_full l s.k s.long far)
 
 -- alone
-few_rows : (name : ℕ → Owner) (l : Ledger) (link : LinkState) → l.end ≡ None → IsLast l link → TiedLink name l link → length link.row ≤ 1
+pub few_rows : (name : ℕ → Owner) (l : Ledger) (link : LinkState) → l.end ≡ None → IsLast l link → TiedLink name l link → length link.row ≤ 1
 few_rows name l link lives s tied = few_open name l link s.k lives (record { long = s.long; earlier = s.earlier }) tied
 
 -- where it sets the link up, and has its items behind the bytes, they are read as by the ledger
@@ -238,13 +238,13 @@ sets_of name h l link piece g s is tame lives sets tied =
     }) tied
 
 -- where it has its items its row is empty
-full_row : (name : ℕ → Owner) (l : Ledger) (link : LinkState) (piece : List ℕ) (g : Came l (bytes_came l piece)) (row : List Entry) (out : List Settled) (s : IsLast l link) → IsReadOf name l link piece g row out → is_full (after_came l piece g) s.k ≡ true → row ≡ []
+pub full_row : (name : ℕ → Owner) (l : Ledger) (link : LinkState) (piece : List ℕ) (g : Came l (bytes_came l piece)) (row : List Entry) (out : List Settled) (s : IsLast l link) → IsReadOf name l link piece g row out → is_full (after_came l piece g) s.k ≡ true → row ≡ []
 full_row name l link piece g row out s r full =
     let m = after_came l piece g in
     no_entries name row (r.deals.row ∙ rows_full m.starts m.dealt (full_last m s.k s.long full))
 
 -- and it is settled
-full_settled : (name : ℕ → Owner) (h : Hearing) (l : Ledger) (link : LinkState) (piece : List ℕ) (g : Came l (bytes_came l piece)) (s : IsLast l link) → l.end ≡ None → (let d = deals h false link piece in IsReadOf name l link piece g d.row d.out) → TiedLink name l link
+pub full_settled : (name : ℕ → Owner) (h : Hearing) (l : Ledger) (link : LinkState) (piece : List ℕ) (g : Came l (bytes_came l piece)) (s : IsLast l link) → l.end ≡ None → (let d = deals h false link piece in IsReadOf name l link piece g d.row d.out) → TiedLink name l link
     → is_full (after_came l piece g) s.k ≡ true → (deals h false link piece).out ≢ []
 full_settled name h l link piece g s lives r tied full none =
     let d = deals h false link piece in
@@ -260,7 +260,7 @@ open_still name h l link piece g s lives r tied none =
     by_test (is_full (after_came l piece g) s.k) _ (λ t. absurd (full_settled name h l link piece g s lives r tied t none)) (λ f. f)
 
 -- what it was before stays full
-still_full : (l : Ledger) (link : LinkState) (piece : List ℕ) (g : Came l (bytes_came l piece)) (s : IsLast l link) (j : ℕ) → j < s.k → is_full (after_came l piece g) j ≡ true
+pub still_full : (l : Ledger) (link : LinkState) (piece : List ℕ) (g : Came l (bytes_came l piece)) (s : IsLast l link) (j : ℕ) → j < s.k → is_full (after_came l piece g) j ≡ true
 still_full l link piece g s j less = ap (λ (x : Ledger). is_full x j) (sym (after_is l piece g)) ∙ full_still l piece j (s.earlier j less)
 
 -- what is settled is that message
@@ -306,7 +306,7 @@ settled_last name l link piece g row x xs out s r is =
 -- a setup
 --
 -- it is one
-pub sent_last : (l : Ledger) (link : LinkState) (greeting : Greeting) → IsSettingUp l link greeting → (s : IsSetupSent l link greeting) → IsLast l link
+abbrev pub sent_last : (l : Ledger) (link : LinkState) (greeting : Greeting) → IsSettingUp l link greeting → (s : IsSetupSent l link greeting) → IsLast l link
 sent_last l link greeting h s = record { k = s.k; long = count_length l.starts (setup_count l.starts) h.alone ∙ s.count; earlier = s.earlier; open_is = s.open_is; queue = s.queue; awaited = h.awaited }
 
 -- a setup that is answered
@@ -329,7 +329,7 @@ reads_answered l link greeting piece g x sents s a =
     }
 
 -- where something is said, and no credentials are waited for, the last of so many setups says what all come to
-setup_last : (l : Ledger) (n : ℕ) → lacks_credentials l ≡ false → says_nothing (setup_steps l 0) ≡ false → setup_count l.starts ≡ n → setup_result l ≡ last_result l n
+pub setup_last : (l : Ledger) (n : ℕ) → lacks_credentials l ≡ false → says_nothing (setup_steps l 0) ≡ false → setup_count l.starts ≡ n → setup_result l ≡ last_result l n
 setup_last l n given says count = setup_said l given ∙ left_if (says_nothing (setup_steps l 0)) (Some result.Ready) (last_result l (setup_count l.starts)) says ∙ ap (last_result l) count
 
 -- which setup has the user name
@@ -372,20 +372,20 @@ well_full : (l : Ledger) (k : ℕ) → is_well (result_of l k) ≡ true → is_f
 well_full l k well = by_test (is_full l k) _ (λ t. t) (λ f. absurd (let none : ◌≡◌ {A = Bool} false true = sym (ap is_well (left_if (is_full l k) _ None f)) ∙ well in cc))
 
 -- the setup that sets a link up has its items
-setup_full : (l : Ledger) (k : ℕ) → lacks_credentials l ≡ false → says_nothing (setup_steps l 0) ≡ false → setup_count l.starts ≡ suc k → is_set_up l ≡ true → is_full l k ≡ true
+pub setup_full : (l : Ledger) (k : ℕ) → lacks_credentials l ≡ false → says_nothing (setup_steps l 0) ≡ false → setup_count l.starts ≡ suc k → is_set_up l ≡ true → is_full l k ≡ true
 setup_full l k given says count set = well_full l k (sym (ap is_well (setup_last l (suc k) given says count)) ∙ set_is_greeted l set)
 
 -- and so has MONITOR
-watch_full : (l : Ledger) (k : ℕ) → is_watching l.hearing ≡ true → monitor_of l ≡ Some k → is_set_up l ≡ true → is_full l k ≡ true
+pub watch_full : (l : Ledger) (k : ℕ) → is_watching l.hearing ≡ true → monitor_of l ≡ Some k → is_set_up l ≡ true → is_full l k ≡ true
 watch_full l k watches sent set = by_test (is_full l k) _ (λ t. t) (λ f. absurd (not_both (is_set_up l) (unanswered_is_unset l (Some k) watches sent f) set))
 
 -- MONITOR is the last message that started
-pub watch_last : (l : Ledger) (link : LinkState) → IsWatching l link → (s : IsWatchSent l link) → IsLast l link
+abbrev pub watch_last : (l : Ledger) (link : LinkState) → IsWatching l link → (s : IsWatchSent l link) → IsLast l link
 watch_last l link h s = record { k = s.k; long = s.long; earlier = s.earlier; open_is = s.open_is; queue = s.queue; awaited = h.awaited }
 
 -- it sets the link up
-pub watch_sets : (l : Ledger) (link : LinkState) (greeting : Greeting) (m : Ledger) → SetUpsAre l → IsWatching l link → (s : IsWatchSent l link) → SetBy l m s.k
-watch_sets l link greeting m shaped h s = monitor_sets l m s.k h.watches s.sent shaped h.greeted
+pub watch_sets : (l : Ledger) (link : LinkState) (m : Ledger) → SetUpsAre l → IsWatching l link → (s : IsWatchSent l link) → SetBy l m s.k
+watch_sets l link m shaped h s = monitor_sets l m s.k h.watches s.sent shaped h.greeted
 
 -- what is settled of it is a value, which is well
 pub watch_answered : (l : Ledger) (link : LinkState) (piece : List ℕ) (g : Came l (bytes_came l piece)) (x : Settled) (steps : List Step) → (s : IsWatchSent l link) → IsAnswer (after_came l piece g) s.k x → (judged_by steps x.verdict ≡ result.Ready)
