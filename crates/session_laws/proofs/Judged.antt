@@ -1,5 +1,5 @@
--- What a setup is judged to be: never that memory was wanted, and to be repeated only where it had the user name.
-use Rattle.std.proofs.Common.{◌≡◌, ◌≢◌, zero, suc, ℕ, Bool, true, false, List, [], ◌∷◌, ◌++◌, Option, Some, None, refl}
+-- What a setup is judged to be.
+use Rattle.std.proofs.Common.{◌≢◌, ℕ, zero, suc, Bool, true, false, List, [], ◌∷◌, Option, Some, None, refl}
 use Rattle.std.specs.List.{AllByRecursion}
 use Rattle.std.specs.Prelude.{ℤ, pos, negsuc}
 use Rattle.containers.proofs.Choices.{chosen}
@@ -16,7 +16,9 @@ use Rattle.connection_setup.specs.Judgement.{judged, judged_error, judged_reply,
 use Rattle.connection_setup.specs.Setup.{Step, choices, library, opening, selection, setup}
 use Rattle.link_laws.proofs.Dealt.{all_append}
 
--- memory is never wanted
+-- what a setup is judged to be
+--
+-- never that memory was wanted
 error_memory : (m : Meaning) (e : ServerError) → judged_error m e ≢ result.NoMemory
 error_memory meaning.User e = chosen (λ (x : SetupResult). x ≢ result.NoMemory) (counts_arguments e.detail) _ _ (λ t same. cc) (λ f same. cc)
 error_memory meaning.Password e = λ same. cc
@@ -42,7 +44,7 @@ judged_memory (s ∷ steps) [] = λ same. cc
 judged_memory (s ∷ steps) (d ∷ replies) = first_or_rest result.NoMemory (judged_reply s.meaning d) (judged steps replies) (reply_memory s.meaning d) (judged_memory steps replies)
 
 -- and to be repeated without the user name only where it has one
-abbrev pub HasNoUser : Step → Type 0
+abbrev HasNoUser : Step → Type 0
 HasNoUser s = s.meaning ≢ meaning.User
 
 -- the reply to any other command

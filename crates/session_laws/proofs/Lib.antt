@@ -28,9 +28,10 @@ pub mod SetsUp
 pub mod Watches
 pub mod Close
 pub mod Telling
-pub mod NewlySettled
+pub mod More
+pub mod New
 pub mod Judged
-pub mod ReadGreeting
+pub mod Greeted
 pub mod Replies
 pub mod Announce
 pub mod Heard

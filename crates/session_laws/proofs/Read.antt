@@ -1,5 +1,5 @@
 -- Bytes come: what they settle is answered, and bytes that begin no value end the link.
-use Rattle.std.proofs.Common.{◌≡◌, inl, inr, ℕ, Bool, true, false, ◌||◌, List, [], ◌∷◌, ◌++◌, length, drop, Some, None, if◌then◌else◌, refl, sym, ap, ◌∙◌, subst, append_assoc, arith}
+use Rattle.std.proofs.Common.{◌≡◌, inl, inr, ℕ, Bool, true, false, ◌||◌, List, [], ◌∷◌, ◌++◌, length, Some, None, if◌then◌else◌, refl, sym, ap, ◌∙◌, subst, append_assoc, arith}
 use Rattle.std.specs.List.{AllByRecursion}
 use Rattle.std.proofs.lemmas.List.{append-nil}
 use Rattle.containers.proofs.Choices.{by_test, chosen, taken_if, left_if, not_both}
@@ -40,8 +40,9 @@ use Rattle.session_laws.proofs.Tied.{inner, link_in, owner_of, queue_ids, IsEntr
 use Rattle.session_laws.proofs.SetUp.{set_up_hears}
 use Rattle.legal_trace.proofs.Setups.{ends_where_set}
 use Rattle.legal_trace.proofs.Came.{Came, bytes_are}
-use Rattle.session_laws.proofs.HeardBytes.{after_is, after_of, all_heard, heard_notices, none_noticed, told_behind}
-use Rattle.session_laws.proofs.ReadGreeting.{taken_all}
+use Rattle.session_laws.proofs.Greeted.{values_all}
+use Rattle.session_laws.proofs.HeardBytes.{all_heard, heard_notices, none_noticed}
+use Rattle.session_laws.proofs.More.{after_came, after_is}
 use Rattle.session_laws.proofs.ReadSetup.{setup_read, fit_by}
 use Rattle.session_laws.proofs.ReadWanting.{wanting_read}
 use Rattle.session_laws.proofs.States.{IsFit, Between, HasApplied}
@@ -68,7 +69,7 @@ use Rattle.driver_model.specs.Hearing.{felt, hears_something}
 
 -- values that are taken leave entries as they are, but for what they got
 taken_entries : (requests : List Request) (h : Hearing) (d : Dealing) (vs : List Data) → AllByRecursion (IsEntry requests) d.row → AllByRecursion (IsEntry requests) (taken_each h true d vs).row
-taken_entries requests h d vs all = taken_all (IsEntry requests) (λ e item k. elim k [ inl r ↦ inl (record { below = r.below; placed_at = r.placed_at }) | inr a ↦ inr (record { is = a.is; awaited_is = a.awaited_is; shape_is = a.shape_is }) ]) h true d vs all
+taken_entries requests h d vs all = values_all (IsEntry requests) (λ e item k. elim k [ inl r ↦ inl (record { below = r.below; placed_at = r.placed_at }) | inr a ↦ inr (record { is = a.is; awaited_is = a.awaited_is; shape_is = a.shape_is }) ]) h true d vs all
 
 -- those that bytes settle, and those still wanted, are those wanted before
 read_wanted : (h : Hearing) (link : LinkState) (piece : List ℕ) → settled_ids (deals h true link piece).out ++ wanted (deals h true link piece).row ≡ wanted link.row
@@ -172,7 +173,7 @@ reads_up before c started piece link h e =
 
 -- of the ledger on which this came
 reads_after : (before : List Action) (c : Core) (started : List ℕ) (piece : List ℕ) (link : LinkState) (it : Came ((book before).link c.single.link) (bytes_came ((book before).link c.single.link) piece)) → Between before c started → c.single.connection.life ≡ Ready link
-    → (let l = (book before).link c.single.link in IsReadUp l (after_of l piece it) c.single.connection.requests (read_of c link piece) (deals_of c link piece) c.single.connection.renewal)
+    → (let l = (book before).link c.single.link in IsReadUp l (after_came l piece it) c.single.connection.requests (read_of c link piece) (deals_of c link piece) c.single.connection.renewal)
 reads_after before c started piece link it h e =
     let l = (book before).link c.single.link in
     let conn = c.single.connection in
@@ -187,14 +188,14 @@ record BeginsTelling (before : List Action) (f : Core) (conn : MultiplexedConnec
 -- so it does
 read_begins : (before : List Action) (c : Core) (started : List ℕ) (word : ℕ) (kind : EventKind) (piece : List ℕ) (link : LinkState) (untold : List Heard) → Between before c started → is_bad c kind ≡ false → IsNewsKind c.timers kind → news_of c.timers c.sources c.single.link kind ≡ came piece
     → c.single.connection.life ≡ Ready link
-    → (let l = (book before).link c.single.link in (it : Came l (bytes_came l piece)) → (r : IsReadUp l (after_of l piece it) c.single.connection.requests (read_of c link piece) (deals_of c link piece) c.single.connection.renewal)
+    → (let l = (book before).link c.single.link in (it : Came l (bytes_came l piece)) → (r : IsReadUp l (after_came l piece it) c.single.connection.requests (read_of c link piece) (deals_of c link piece) c.single.connection.renewal)
     → (hears_something c.single.connection.hears ≡ true → untold ≡ r.heard)
-    → BeginsTelling (before ++ turn_of c word kind ∷ []) (turned c kind) (renewing (reads c link piece) (replied_each c.single.connection.renewal (deals_of c link piece).out)).conn (after_of l piece it) (book before).story untold (requests_in (settled_ids (deals_of c link piece).out)) started)
+    → BeginsTelling (before ++ turn_of c word kind ∷ []) (turned c kind) (renewing (reads c link piece) (replied_each c.single.connection.renewal (deals_of c link piece).out)).conn (after_came l piece it) (book before).story untold (requests_in (settled_ids (deals_of c link piece).out)) started)
 read_begins before c started word kind piece link untold h good k is e it r came_so =
     let b = book before in
     let h0 = h.sound.tied in
     let l = b.link c.single.link in
-    let after = after_of l piece it in
+    let after = after_came l piece it in
     let conn = c.single.connection in
     let d = deals_of c link piece in
     let read = read_of c link piece in
@@ -209,7 +210,6 @@ read_begins before c started word kind piece link untold h good k is e it r came
     let quiet : StaysQuiet c come = λ w. (let q = h0.numbers.quiet w in (keeps.1 ∙ q.unwanted, keeps.2 ∙ q.unrenewed)) in
     let same : noted l (hears c.turns (news_of b.timers b.sources c.single.link kind)) ≡ after = ap (λ (x : News). heard_by b c x) (book_news b c started kind (came piece) h0 is) ∙ heard_is l c.turns piece u.up ∙ after_is l piece it in
     let t = record (seen (turned c kind) [] (renewing (reads c link piece) come).conn ids started) { untold = untold } in
-    let behind : hears_something conn.hears ≡ true → drop l.told (l.notices ++ it.told) ≡ untold = λ y. told_behind l it.told r.heard r.notices (h0.notices.within y) (h0.notices.untold_is y) ∙ sym (came_so y) in
     let tied : Tied (heard_book b c.turns word kind) t = heard_tied_new b c started word b.created kind conn.info come life conn.fresh ids untold after h0 keeps.0 quiet good same
     (record {
       starts = refl;
@@ -221,7 +221,7 @@ read_begins before c started word kind piece link untold h good k is e it r came
       lines = read_lines b.story conn.requests conn.hears link piece conn.waiting conn.admitted started lines;
       told = λ n. subst (λ (x : Life). AreQueued b.story conn.requests (link_in x)) e (h0.told (ap has_ended e));
       waits = queue_waits b.story conn.requests link read conn.fresh conn.moved (λ p i. i) (subst (λ (x : Life). TiedWaits b.story conn.requests x conn.fresh conn.moved) e h0.waits);
-      notices = heard_notices l piece it (hearing_in b.config) conn.hears untold u.up behind h0.notices;
+      notices = heard_notices l piece it (hearing_in b.config) conn.hears r.heard untold u.up r.notices came_so h0.notices;
     }) in
     let book_is : entered b (turn_of c word kind) ≡ heard_book b c.turns word kind = turn_is b c.turns word kind (book_kind b c kind h0.numbers.timers k) in
     let first = first_book before (turn_of c word kind) (turned c kind) ∙ book_is in
@@ -244,9 +244,9 @@ record Reads (front : List Action) (f : Core) (l : Ledger) (w : Work) (untold : 
 -- so it is
 read_due : (before : List Action) (c : Core) (started : List ℕ) (word : ℕ) (kind : EventKind) (piece : List ℕ) (link : LinkState) (untold : List Heard) → Between before c started → is_bad c kind ≡ false → IsNewsKind c.timers kind → news_of c.timers c.sources c.single.link kind ≡ came piece
     → c.single.connection.life ≡ Ready link
-    → (let l = (book before).link c.single.link in (it : Came l (bytes_came l piece)) → (r : IsReadUp l (after_of l piece it) c.single.connection.requests (read_of c link piece) (deals_of c link piece) c.single.connection.renewal)
+    → (let l = (book before).link c.single.link in (it : Came l (bytes_came l piece)) → (r : IsReadUp l (after_came l piece it) c.single.connection.requests (read_of c link piece) (deals_of c link piece) c.single.connection.renewal)
     → (hears_something c.single.connection.hears ≡ true → untold ≡ r.heard)
-    → Reads (before ++ turn_of c word kind ∷ []) (turned c kind) (after_of l piece it) (reads c link piece) untold (deals_of c link piece).out started)
+    → Reads (before ++ turn_of c word kind ∷ []) (turned c kind) (after_came l piece it) (reads c link piece) untold (deals_of c link piece).out started)
 read_due before c started word kind piece link untold h good k is e it r came_so =
     let b = book before in
     let l = b.link c.single.link in
@@ -274,14 +274,14 @@ read_due before c started word kind piece link untold h good k is e it r came_so
 -- what the bytes settle is answered, and what came is told
 read_answered : (before : List Action) (c : Core) (started : List ℕ) (word : ℕ) (kind : EventKind) (piece : List ℕ) (link : LinkState) → Between before c started → is_bad c kind ≡ false → IsNewsKind c.timers kind → news_of c.timers c.sources c.single.link kind ≡ came piece
     → c.single.connection.life ≡ Ready link
-    → (let l = (book before).link c.single.link in (it : Came l (bytes_came l piece)) → IsReadUp l (after_of l piece it) c.single.connection.requests (read_of c link piece) (deals_of c link piece) c.single.connection.renewal
+    → (let l = (book before).link c.single.link in (it : Came l (bytes_came l piece)) → IsReadUp l (after_came l piece it) c.single.connection.requests (read_of c link piece) (deals_of c link piece) c.single.connection.renewal
     → (let front = before ++ turn_of c word kind ∷ [] in let f = turned c kind in
-    IsTelling front f (after_of l piece it) (owed (book (trace_of_acts front f []))) (name_at c.single.connection.requests) (is_open_at c.single.connection.requests)
+    IsTelling front f (after_came l piece it) (owed (book (trace_of_acts front f []))) (name_at c.single.connection.requests) (is_open_at c.single.connection.requests)
     (told_each (reads c link piece) 0 (deals_of c link piece).notices (deals_of c link piece).out) [] [] started))
 read_answered before c started word kind piece link h good k is e it r =
     let l = (book before).link c.single.link in
     let conn = c.single.connection in
-    let after = after_of l piece it in
+    let after = after_came l piece it in
     let d = deals_of c link piece in
     let out = d.out in
     let front = before ++ turn_of c word kind ∷ [] in
@@ -324,7 +324,7 @@ read_up before c started word kind piece link h good k is e it =
     let f = turned c kind in
     let d = deals_of c link piece in
     let read = read_of c link piece in
-    let after = after_of l piece it in
+    let after = after_came l piece it in
     let v = told_each (reads c link piece) 0 d.notices d.out in
     let still = told_leaves (reads c link piece) 0 d.notices d.out in
     let why = by_fault (felt after.hearing fault.Parse) in

@@ -1,5 +1,5 @@
 -- Bytes come on a link whose setup waits for credentials: they answer nothing, and those that begin no value end it.
-use Rattle.std.proofs.Common.{◌≡◌, ℕ, ◌≤◌, Bool, true, false, if◌then◌else◌, List, [], ◌∷◌, ◌++◌, length, Some, None, refl, sym, ap, ◌∙◌, subst, arith, inl}
+use Rattle.std.proofs.Common.{◌≡◌, ℕ, ◌≤◌, Bool, true, false, if◌then◌else◌, List, [], ◌∷◌, ◌++◌, length, Some, None, sym, ap, ◌∙◌, subst, arith, inl}
 use Rattle.containers.proofs.Choices.{chosen, taken_if, left_if}
 use Rattle.redis_error.specs.declared.redis_error.RedisError.{RedisError}
 use Rattle.redis_error.specs.declared.redis_error.RedisError.TheVariants as error
@@ -11,7 +11,7 @@ use Rattle.driver_model.specs.declared.event.EventKind.{EventKind}
 use Rattle.driver_model.specs.declared.news.LinkFault.TheVariants as fault
 use Rattle.driver_model.specs.News.{came, news_of}
 use Rattle.driver_model.specs.declared.hearing.Hearing.TheVariants as hearing
-use Rattle.link_core.specs.Dealing.{Dealing, dealing_with}
+use Rattle.link_core.specs.Dealing.{dealing_with}
 use Rattle.link_core.specs.Link.{LinkState, read_on, read_with}
 use Rattle.link_laws.proofs.SetUp.{all_done}
 use Rattle.link_laws.proofs.TiedLink.{TiedLink, deals, has_read, heard_is}
@@ -32,7 +32,9 @@ use Rattle.session_laws.proofs.Failing.{Fails, setup_failed}
 use Rattle.session_laws.proofs.Announce.{IsNewsKind, turn_of, turned}
 use Rattle.session_laws.proofs.Heard.{heard_by, quiet_applied, tame_between, wanting_fit, wanting_waits, none_hears}
 use Rattle.session_laws.proofs.End.{IsWanting, bare_error_is, wanting_tied, wanting_unready}
-use Rattle.session_laws.proofs.HeardBytes.{IsQuietRead, after_is, after_of, quiet_broken, quiet_read}
+use Rattle.session_laws.proofs.Greeted.{IsReadUnset, unset_of}
+use Rattle.session_laws.proofs.HeardBytes.{quiet_notices, unset_unreadable}
+use Rattle.session_laws.proofs.More.{after_came, after_is}
 use Rattle.session_laws.proofs.Renewals.{early_renewal}
 use Rattle.session_laws.proofs.SetUp.{lacking_unset}
 
@@ -50,7 +52,7 @@ wanting_reads before c started word kind piece link h good k is e it =
     l = b.link c.single.link
 
     after : Ledger
-    after = after_of l piece it
+    after = after_came l piece it
 
     read : LinkState
     read = has_read hearing.Nothing false link piece
@@ -76,13 +78,16 @@ wanting_reads before c started word kind piece link h good k is e it =
     few : length link.row ≤ 1
     few = let none : length link.row ≡ 0 = ap length s.row in omega arith
 
+    quiet : IsReadUnset name hearing.Nothing l link piece it
+    quiet = unset_of name hearing.Nothing l link piece it (tame_between before c started h s.alive) s.alive few (λ i x less at. (h.sound.tied.setup.sent i x less at).1) unready s.tied
+
     -- nothing is to be told
-    quiet : IsQuietRead name after read (hearing_in b.config) c.single.connection.hears
-    quiet = quiet_read name hearing.Nothing l link piece it (hearing_in b.config) c.single.connection.hears s.up (tame_between before c started h s.alive) s.alive few (λ i x less at. (h.sound.tied.setup.sent i x less at).1) unready s.tied h.sound.tied.notices
+    notices : PushesOf (hearing_in b.config) c.single.connection.hears after
+    notices = quiet_notices name hearing.Nothing l link piece it (hearing_in b.config) c.single.connection.hears s.up quiet h.sound.tied.notices
 
     -- what can't be read on is what breaks it
     spoiled : (x : Bool) → read.broken ≡ x → is_unreadable after ≡ x
-    spoiled x t = quiet_broken name after read (hearing_in b.config) c.single.connection.hears quiet ∙ t
+    spoiled x t = unset_unreadable name hearing.Nothing l link piece it quiet ∙ t
 
     -- it ends then as a link on which nothing has started
     must : ending after ≡ (if is_unreadable after then Some (by_opening error.Closed) else None)
@@ -103,7 +108,7 @@ wanting_reads before c started word kind piece link h good k is e it =
           wanted_is = h.sound.tied.creds.wanted_is;
           sourced = asked_sourced after s.sought.1 (inl unready);
           sent = h.sound.tied.setup.sent;
-          notices = quiet.notices;
+          notices = notices;
         }))
 
     goes_on : read.broken ≡ false → applied v
@@ -115,11 +120,11 @@ wanting_reads before c started word kind piece link h good k is e it =
           creds = subst (λ (y : Ledger). TiedCreds y.creds c.single.connection.renewal.wanted (Wanting read)) (sym same) (record { wanted_is = h.sound.tied.creds.wanted_is; sought = s.sought });
           renewal_is = none_hears l c.turns (came piece) c.single.connection.renewal (λ x. x) (early_renewal l c.single.connection.renewal c.single.connection.life (ap is_ready e) (ap has_ended e) h.sound.tied.renewal);
           said = subst (λ (y : Ledger). TiedSetup y c.single.connection.info started (Wanting read)) (sym same) (record { info_is = h.sound.tied.setup.info_is; sent = h.sound.tied.setup.sent; said = (s.starts, s.none, s.queue, row) });
-          linked = λ z. subst (λ (y : Ledger). TiedLink name y read) (sym same) quiet.tied;
+          linked = λ z. subst (λ (y : Ledger). TiedLink name y read) (sym same) quiet.of.tied;
           lines = subst (λ (x : Life). TiedLines b.story c.single.connection.requests (link_in x) c.single.connection.waiting c.single.connection.admitted [] started) e h.sound.tied.lines;
           told = λ z. subst (λ (x : Life). AreQueued b.story c.single.connection.requests (link_in x)) e (h.sound.tied.told (ap has_ended e));
           waits = wanting_waits b.story c.single.connection.requests link read c.single.connection.fresh c.single.connection.moved (subst (λ (x : Life). TiedWaits b.story c.single.connection.requests x c.single.connection.fresh c.single.connection.moved) e h.sound.tied.waits);
-          notices = subst (λ (y : Ledger). PushesOf (hearing_in b.config) c.single.connection.hears y) (sym same) quiet.notices;
+          notices = subst (λ (y : Ledger). PushesOf (hearing_in b.config) c.single.connection.hears y) (sym same) notices;
         })
         (ap ending same ∙ must ∙ left_if (is_unreadable after) (Some (by_opening error.Closed)) None (spoiled false f))
         (wanting_fit c.single.connection link read e h.fit (record { sound = f; size_is = fit.size_is; bound_is = fit.bound_is; within = fit.within }))

@@ -1,7 +1,6 @@
 -- Replies to new credentials: what bytes that come make of them.
-use Rattle.std.proofs.Common.{◌≡◌, ◌≢◌, ◌⊎◌, inl, inr, ℕ, zero, suc, ◌+◌, ◌-◌, ◌<◌, ◌≤◌, ◌==◌, nat_le, Bool, true, false, ◌&&◌, ◌||◌, not, if◌then◌else◌, List, [], ◌∷◌, ◌++◌, length, take, drop, Option, Some, None, slice_get, refl, sym, ap, ◌∙◌, subst, arith, length-append}
+use Rattle.std.proofs.Common.{◌≡◌, ◌≢◌, ◌⊎◌, inl, inr, ℕ, zero, suc, ◌+◌, ◌<◌, ◌≤◌, ◌==◌, nat_le, Bool, true, false, ◌&&◌, ◌||◌, not, if◌then◌else◌, List, [], ◌∷◌, ◌++◌, length, take, drop, Option, Some, None, slice_get, refl, sym, ap, ◌∙◌, subst, arith}
 use Rattle.std.specs.List.{AllByRecursion}
-use Rattle.std.proofs.lemmas.List.{append-nil}
 use Rattle.containers.proofs.Choices.{by_test, chosen, taken_if, left_if, not_both, not_le_from, not_le_test, eq_from, eq_test, ne_from}
 use Rattle.containers.proofs.Places.{get_within}
 use Rattle.resp_value.specs.Data.{Data}
@@ -40,8 +39,8 @@ use Rattle.session_laws.proofs.Numbers.{IsIn, in_left, in_right, in_either}
 use Rattle.session_laws.proofs.Owes.{wanted_entry}
 use Rattle.session_laws.proofs.Settle.{replied_each}
 use Rattle.session_laws.proofs.Tied.{AreFullBefore, AreRenewed, IsEntry, IsLost, IsTold, owner_of}
-use Rattle.session_laws.proofs.NewlySettled.{read_new}
-use Rattle.session_laws.proofs.ReadGreeting.{full_more}
+use Rattle.session_laws.proofs.More.{full_more}
+use Rattle.session_laws.proofs.New.{read_new}
 use Rattle.session_laws.proofs.Renewals.{renewed_alike}
 
 -- AUTH's number
@@ -397,7 +396,7 @@ read_renewed requests h l link piece r lives alike tied entries few renewed =
     let name = owner_of requests in
     let d = deals h true link piece in
     let now = replied_each r d.out in
-    holds_came (λ (m : Ledger). IsDealt name m.starts m.dealt d → AllByRecursion (IsNew name m.starts l.dealt m.dealt) d.out → AreRenewed (record m { heard = came piece }) now) l (bytes_came l piece) (bytes_are l piece)
+    holds_came (λ (m : Ledger). IsDealt name m.starts m.dealt d → AllByRecursion (IsNew name l.starts l.dealt m.dealt) d.out → AreRenewed (record m { heard = came piece }) now) l (bytes_came l piece) (bytes_are l piece)
     (λ rest strange told more dealt_so new.
     renewed_alike (with_items l more) (record (grown l rest strange told more) { heard = came piece }) now refl refl refl
     (items_renewed requests l link more d r lives tied entries few dealt_so new (taken_keeps h true (dealing_with link.row) (values (link.rest ++ piece))) renewed))
