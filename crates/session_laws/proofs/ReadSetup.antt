@@ -1,5 +1,5 @@
 -- Bytes come on a link that is set up: its greeting may be answered then.
-use Rattle.std.proofs.Common.{◌≡◌, ◌⊎◌, inl, inr, ℕ, suc, ◌+◌, ◌<◌, ◌≤◌, ◌==◌, nat_lt, Bool, true, false, ◌&&◌, ◌||◌, not, List, [], ◌∷◌, ◌++◌, length, Option, Some, None, refl, sym, ap, ◌∙◌, subst, arith}
+use Rattle.std.proofs.Common.{if◌then◌else◌, ◌≡◌, ◌⊎◌, inl, inr, ℕ, suc, ◌+◌, ◌<◌, ◌≤◌, ◌==◌, nat_lt, Bool, true, false, ◌&&◌, ◌||◌, not, List, [], ◌∷◌, ◌++◌, length, Option, Some, None, refl, sym, ap, ◌∙◌, subst, arith}
 use Rattle.std.specs.List.{AllByRecursion}
 use Rattle.containers.proofs.Choices.{by_test, chosen, taken_if, left_if, lt_from, not_both, not_lt_from}
 use Rattle.redis_error.specs.declared.redis_error.RedisError.{RedisError}
@@ -440,7 +440,8 @@ setup_read_as before c started word kind piece link greeting g h good k is e = b
         let line = in_line now (record (seen f v.acts v.conn [] started) { untold = untold }) shown.holds.tied refl in
         let begins = subst (λ (y : Ledger). IsTelling front f y (owed now) (name_at v.conn.requests) (is_open_at v.conn.requests) v untold [] started) (shown.ledger ∙ ap (readied conn.renewal.wanted) same) (telling front f v untold [] started shown.holds line) in
         let done : IsTelling front f later (owed now) (name_at v.conn.requests) (is_open_at v.conn.requests) u [] [] started = tells (owed now) begins in
-        let up = ap ending done.ledger_is ∙ ends_where_set (retells later done.told later.parted) s.up (well_told later done.told later.parted ∙ well_readied conn.renewal.wanted after ∙ said.well) in
+        let up : ending ((book (trace_of_acts front f u.acts)).link f.single.link) ≡ (if is_unreadable after then Some (by_fault (felt l.hearing fault.Parse)) else None) =
+        ap ending done.ledger_is ∙ ends_where_set (retells later done.told later.parted) s.up (well_told later done.told later.parted ∙ well_readied conn.renewal.wanted after ∙ said.well) in
         let reads : (x : Bool) → (read.broken || (d.strange && is_ready u.conn.life)) ≡ x → is_unreadable after ≡ x = λ x t.
         (λ i. (ap is_spoiled r.of.tied.rest ∙ sym r.of.tied.broken) i || r.taken.strange i) ∙ sym (ap (λ (y : Life). read.broken || (d.strange && is_ready y)) still.life ∙ or_some read.broken d.strange) ∙ t in
         let why = felt u.conn.hears fault.Parse in
