@@ -1,7 +1,7 @@
 pub mod Alike
 pub mod Places
 pub mod Settles
-pub mod Pushes
+pub mod Notices
 pub mod Starts
 pub mod Runs
 pub mod Pieces

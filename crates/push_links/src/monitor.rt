@@ -36,11 +36,7 @@ impl Drop for Monitor {
 impl Monitor {
     /// A link of this number, whose connect isn't answered: whoever makes it asks for the connect. `info` is what is said to the
     /// server first.
-    pub fn new(
-        alloc: Global,
-        info: &RedisConnectionInfo,
-        link: u32,
-    ) -> Result<Monitor, AllocError>
+    pub fn new(alloc: Global, info: &RedisConnectionInfo, link: u32) -> Result<Monitor, AllocError>
         ensures connection { IfOk result (λ m.
             m.connection ≡ attached info.now link hearing.Monitor
             ) }

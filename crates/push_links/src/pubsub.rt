@@ -32,11 +32,7 @@ pub struct PubSub {
 impl PubSub {
     /// A link of this number, whose connect isn't answered: whoever makes it asks for the connect. `info` is what is said to the
     /// server first.
-    pub fn new(
-        alloc: Global,
-        info: &RedisConnectionInfo,
-        link: u32,
-    ) -> Result<PubSub, AllocError>
+    pub fn new(alloc: Global, info: &RedisConnectionInfo, link: u32) -> Result<PubSub, AllocError>
         ensures connection { IfOk result (λ p.
             p.sink.connection ≡ attached info.now link hearing.Messages
             ) }
