@@ -92,7 +92,9 @@ const VALUES: [Row; 12] = [
             Call::Connected,
             Call::Ask(7, b"a"),
             Call::Turn,
-            Call::Came(b"*3\r\n$7\r\nmessage\r\n$1\r\nc\r\n$2\r\nhi\r\n*4\r\n$8\r\npmessage\r\n$2\r\nc*\r\n$1\r\nc\r\n$2\r\nhi\r\n+x\r\n>3\r\n$8\r\nsmessage\r\n$1\r\ns\r\n$1\r\nt\r\n*4\r\n+smessage\r\n$1\r\nu\r\n$1\r\nv\r\n$4\r\nmore\r\n"),
+            Call::Came(
+                b"*3\r\n$7\r\nmessage\r\n$1\r\nc\r\n$2\r\nhi\r\n*4\r\n$8\r\npmessage\r\n$2\r\nc*\r\n$1\r\nc\r\n$2\r\nhi\r\n+x\r\n>3\r\n$8\r\nsmessage\r\n$1\r\ns\r\n$1\r\nt\r\n*4\r\n+smessage\r\n$1\r\nu\r\n$1\r\nv\r\n$4\r\nmore\r\n",
+            ),
         ],
         b"created ok start 0 7 1 write a message - c hi message c* c hi outcome 7 x message - s t message - u v ",
     ),
@@ -101,8 +103,8 @@ const VALUES: [Row; 12] = [
         LISTENS,
         &[
             Call::Connected,
-            Call::Came(b"*3\r\n$7\r\nmessage\"),
-            Call::Came(b"r\n$1\r\nc\r\n$2\r\nhi\r\n"),
+            Call::Came(b"*3\r\n$7\r\nmessage\r"),
+            Call::Came(b"\n$1\r\nc\r\n$2\r\nhi\r\n"),
         ],
         b"created ok message - c hi ",
     ),
@@ -122,7 +124,9 @@ const VALUES: [Row; 12] = [
         LISTENS,
         &[
             Call::Connected,
-            Call::Came(b"*3\r\n$7\r\nmessage\r\n$1\r\nc\r\n$2\r\nhi\r\n+x\r\n*3\r\n$7\r\nmessage\r\n$1\r\nc\r\n$2\r\nhi\r\n"),
+            Call::Came(
+                b"*3\r\n$7\r\nmessage\r\n$1\r\nc\r\n$2\r\nhi\r\n+x\r\n*3\r\n$7\r\nmessage\r\n$1\r\nc\r\n$2\r\nhi\r\n",
+            ),
         ],
         b"created ok message - c hi close ",
     ),
@@ -216,35 +220,28 @@ const ENDS: [Row; 6] = [
         LISTENS_PASSWORD,
         &[
             Call::Connected,
-            Call::Came(b">3\r\n$7\r\nmessage\r\n$1\r\nc\r\n$1\r\na\r\n+OK\r\n>3\r\n$7\r\nmessage\r\n$1\r\nc\r\n$1\r\nb\r\n"),
+            Call::Came(
+                b">3\r\n$7\r\nmessage\r\n$1\r\nc\r\n$1\r\na\r\n+OK\r\n>3\r\n$7\r\nmessage\r\n$1\r\nc\r\n$1\r\nb\r\n",
+            ),
         ],
         b"setup 0 1 21 write *2\r\n$4\r\nAUTH\r\n$1\r\np\r\n created ok message - c b ",
     ),
     (
         "a value behind the setup ends the link",
         LISTENS_PASSWORD,
-        &[
-            Call::Connected,
-            Call::Came(b"+OK\r\n+x\r\n"),
-        ],
+        &[Call::Connected, Call::Came(b"+OK\r\n+x\r\n")],
         b"setup 0 1 21 write *2\r\n$4\r\nAUTH\r\n$1\r\np\r\n created ok close ",
     ),
     (
         "the stream is dropped before the setup",
         LISTENS_PASSWORD,
-        &[
-            Call::Connected,
-            Call::Dropped,
-        ],
+        &[Call::Connected, Call::Dropped],
         b"setup 0 1 21 write *2\r\n$4\r\nAUTH\r\n$1\r\np\r\n close created closed ",
     ),
     (
         "a connection ignores a dropped stream",
         PLAIN,
-        &[
-            Call::Connected,
-            Call::Dropped,
-        ],
+        &[Call::Connected, Call::Dropped],
         b"created ok ",
     ),
 ];
@@ -256,7 +253,9 @@ const MONITORS: [Row; 6] = [
         WATCHES,
         &[
             Call::Connected,
-            Call::Came(b"+OK\r\n+m\r\n>2\r\n+invalidate\r\n*1\r\n$1\r\nk\r\n>3\r\n$9\r\nsubscribe\r\n$1\r\nc\r\n:1\r\n"),
+            Call::Came(
+                b"+OK\r\n+m\r\n>2\r\n+invalidate\r\n*1\r\n$1\r\nk\r\n>3\r\n$9\r\nsubscribe\r\n$1\r\nc\r\n:1\r\n",
+            ),
             Call::Came(b"+n\r\n"),
         ],
         b"watch 0 1 17 write *1\r\n$7\r\nMONITOR\r\n created ok monitor m monitor other monitor n ",
@@ -274,19 +273,13 @@ const MONITORS: [Row; 6] = [
     (
         "a fault before its answer fails its opening",
         WATCHES,
-        &[
-            Call::Connected,
-            Call::Failed(RESET),
-        ],
+        &[Call::Connected, Call::Failed(RESET)],
         b"watch 0 1 17 write *1\r\n$7\r\nMONITOR\r\n close created reset ",
     ),
     (
         "bytes that begin no value do, too",
         WATCHES,
-        &[
-            Call::Connected,
-            Call::Came(b"none"),
-        ],
+        &[Call::Connected, Call::Came(b"none")],
         b"watch 0 1 17 write *1\r\n$7\r\nMONITOR\r\n close created parse ",
     ),
     (
@@ -303,10 +296,7 @@ const MONITORS: [Row; 6] = [
     (
         "a fault during its setup closes it",
         WATCHES_PASSWORD,
-        &[
-            Call::Connected,
-            Call::Failed(RESET),
-        ],
+        &[Call::Connected, Call::Failed(RESET)],
         b"setup 0 1 21 write *2\r\n$4\r\nAUTH\r\n$1\r\np\r\n close created closed ",
     ),
 ];
