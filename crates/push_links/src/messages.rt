@@ -1,7 +1,11 @@
-ghost use Rattle.std.specs.Prelude.{◌≡◌, ◌++◌, Some, OnOk, OnErr, IsErrOf};
+ghost use Rattle.std.specs.Prelude.{◌≡◌, ◌++◌, [], Some, OnOk, OnErr, IfSome, IsErrOf};
+ghost use Rattle.futures.specs.Poll.{IfReady, OnPending};
+ghost use Rattle.futures.specs.Runs.{After, Within};
+ghost use Rattle.futures.specs.Task.{Covers, Keeps};
 ghost use Rattle.driver_model.specs.News.{told};
 ghost use Rattle.mux_conn.specs.Effects.{IsWithin};
 ghost use Rattle.mux_client.specs.Calls.{acts_of, stepped};
+ghost use Rattle.push_links.specs.Held.{Gives, IsItself, IsPolled};
 ghost use Rattle.push_links.specs.Links.{others_of_messages, with_messages};
 
 use crate::pubsub::PubSub;
@@ -49,13 +53,21 @@ impl PubSubMessages {
 }
 
 impl Stream for PubSubMessages {
-    ghost use Rattle.push_links.specs.Held.{Gives, IsItself};
-
     type Item = Msg;
 
-    ghost yields = { λ s given last. Gives IsItself s.pubsub.stream.held.ended s.pubsub.stream.held.items given last };
+    ghost yields = { λ s given last. Gives IsItself s.pubsub.stream.held given last };
 
-    fn poll_next(&mut self, cx: &mut Context<'_>) -> Poll<Option<Msg>> {
+    fn poll_next(&mut self, cx: &mut Context<'_>) -> Poll<Option<Msg>>
+        ensures polled { IsPolled IsItself self.old.pubsub.stream.held result self.new.pubsub.stream.held }
+        ensures value { IfReady result (Gives IsItself self.old.pubsub.stream.held []) }
+        ensures rest { IfReady result
+            (λ o. IfSome o (λ x. After (Gives IsItself self.old.pubsub.stream.held) x
+            (Gives IsItself self.new.pubsub.stream.held))) }
+        ensures same { OnPending result
+            (Within (Gives IsItself self.old.pubsub.stream.held) (Gives IsItself self.new.pubsub.stream.held)) }
+        ensures registered { OnPending result (Covers cx.new (λ _. ⊥)) }
+        ensures kept { Keeps cx.old cx.new }
+    {
         self.pubsub.stream.poll_next(cx)
     }
 }

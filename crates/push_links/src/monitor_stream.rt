@@ -1,10 +1,14 @@
-ghost use Rattle.std.specs.Prelude.{◌≡◌, ◌++◌, OnOk, OnErr, Some, IfOk, IsErrOf};
+ghost use Rattle.std.specs.Prelude.{◌≡◌, ◌++◌, [], OnOk, OnErr, Some, IfOk, IfSome, IsErrOf};
+ghost use Rattle.futures.specs.Poll.{IfReady, OnPending};
+ghost use Rattle.futures.specs.Runs.{After, Within};
+ghost use Rattle.futures.specs.Task.{Covers, Keeps};
 ghost use Rattle.resp_convert.specs.Convert.{IsRead};
 ghost use Rattle.resp_value.specs.View.{data_of};
 ghost use Rattle.driver_model.specs.News.{told};
 ghost use Rattle.mux_conn.specs.Effects.{IsWithin};
 ghost use Rattle.mux_client.specs.Calls.{acts_of, stepped};
-ghost use Rattle.push_links.specs.Links.{others_of_told, with_told};
+ghost use Rattle.push_links.specs.Held.{Gives, IsPolled};
+ghost use Rattle.push_links.specs.Links.{IsItemOf, others_of_told, with_told};
 
 use crate::held::{Held, Next};
 use crate::monitor::Monitor;
@@ -46,37 +50,67 @@ fn converted<T: FromRedisValue>(alloc: Global, value: Value) -> Result<Option<T>
     }
 }
 
-impl<T: FromRedisValue> Stream for MonitorStream<'_, T> {
-    ghost use Rattle.push_links.specs.Held.{Gives};
-    ghost use Rattle.push_links.specs.Links.{IsItemOf};
+/// One poll of a stream of what is held, each item converted.
+#[tactic(auto, using(crate::proofs::Polls::polled_value, crate::proofs::Polls::polled_rest, crate::proofs::Polls::polled_same))]
+fn poll_item<T: FromRedisValue>(
+    held: &mut Held<Value>,
+    alloc: Global,
+    cx: &mut Context<'_>,
+) -> Poll<Option<Result<Option<T>, AllocError>>>
+    ensures polled { IsPolled (IsItemOf T.reads) held.old result held.new }
+    ensures value { IfReady result (Gives (IsItemOf T.reads) held.old []) }
+    ensures rest { IfReady result
+        (λ o. IfSome o (λ x. After (Gives (IsItemOf T.reads) held.old) x
+        (Gives (IsItemOf T.reads) held.new))) }
+    ensures same { OnPending result
+        (Within (Gives (IsItemOf T.reads) held.old) (Gives (IsItemOf T.reads) held.new)) }
+    ensures registered { OnPending result (Covers cx.new (λ _. ⊥)) }
+    ensures kept { Keeps cx.old cx.new }
+{
+    match held.next() {
+        Next::Item(value) => Poll::Ready(Some(converted(alloc, value))),
+        Next::End => Poll::Ready(None),
+        Next::Nothing => cx.yield_now(),
+    }
+}
 
+impl<T: FromRedisValue> Stream for MonitorStream<'_, T> {
     type Item = Result<Option<T>, AllocError>;
 
-    ghost yields = { λ s given last. Gives (IsItemOf T.reads) s.held.now.ended s.held.now.items given last };
+    ghost yields = { λ s given last. Gives (IsItemOf T.reads) s.held.now given last };
 
-    fn poll_next(&mut self, cx: &mut Context<'_>) -> Poll<Option<Result<Option<T>, AllocError>>> {
-        match self.held.next() {
-            Next::Item(value) => Poll::Ready(Some(converted(self.alloc, value))),
-            Next::End => Poll::Ready(None),
-            Next::Nothing => cx.yield_now(),
-        }
+    fn poll_next(&mut self, cx: &mut Context<'_>) -> Poll<Option<Result<Option<T>, AllocError>>>
+        ensures polled { IsPolled (IsItemOf T.reads) self.old.held.now result self.new.held.now }
+        ensures value { IfReady result (Gives (IsItemOf T.reads) self.old.held.now []) }
+        ensures rest { IfReady result
+            (λ o. IfSome o (λ x. After (Gives (IsItemOf T.reads) self.old.held.now) x
+            (Gives (IsItemOf T.reads) self.new.held.now))) }
+        ensures same { OnPending result
+            (Within (Gives (IsItemOf T.reads) self.old.held.now) (Gives (IsItemOf T.reads) self.new.held.now)) }
+        ensures registered { OnPending result (Covers cx.new (λ _. ⊥)) }
+        ensures kept { Keeps cx.old cx.new }
+    {
+        poll_item(self.held, self.alloc, cx)
     }
 }
 
 impl<T: FromRedisValue> Stream for MonitorMessages<T> {
-    ghost use Rattle.push_links.specs.Held.{Gives};
-    ghost use Rattle.push_links.specs.Links.{IsItemOf};
-
     type Item = Result<Option<T>, AllocError>;
 
-    ghost yields = { λ s given last. Gives (IsItemOf T.reads) s.monitor.held.ended s.monitor.held.items given last };
+    ghost yields = { λ s given last. Gives (IsItemOf T.reads) s.monitor.held given last };
 
-    fn poll_next(&mut self, cx: &mut Context<'_>) -> Poll<Option<Result<Option<T>, AllocError>>> {
-        match self.monitor.held.next() {
-            Next::Item(value) => Poll::Ready(Some(converted(self.alloc, value))),
-            Next::End => Poll::Ready(None),
-            Next::Nothing => cx.yield_now(),
-        }
+    fn poll_next(&mut self, cx: &mut Context<'_>) -> Poll<Option<Result<Option<T>, AllocError>>>
+        ensures polled { IsPolled (IsItemOf T.reads) self.old.monitor.held result self.new.monitor.held }
+        ensures value { IfReady result (Gives (IsItemOf T.reads) self.old.monitor.held []) }
+        ensures rest { IfReady result
+            (λ o. IfSome o (λ x. After (Gives (IsItemOf T.reads) self.old.monitor.held) x
+            (Gives (IsItemOf T.reads) self.new.monitor.held))) }
+        ensures same { OnPending result
+            (Within (Gives (IsItemOf T.reads) self.old.monitor.held) (Gives (IsItemOf T.reads) self.new.monitor.held)) }
+        ensures registered { OnPending result (Covers cx.new (λ _. ⊥)) }
+        ensures kept { Keeps cx.old cx.new }
+    {
+        poll_item(&mut self.monitor.held, self.alloc, cx)
     }
 }
 

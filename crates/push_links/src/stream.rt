@@ -1,3 +1,9 @@
+ghost use Rattle.std.specs.Prelude.{◌≡◌, [], IfSome};
+ghost use Rattle.futures.specs.Poll.{IfReady, OnPending};
+ghost use Rattle.futures.specs.Runs.{After, Within};
+ghost use Rattle.futures.specs.Task.{Covers, Keeps};
+ghost use Rattle.push_links.specs.Held.{Gives, IsItself, IsPolled};
+
 use crate::held::{Held, Next};
 use driver_model::Msg;
 use futures::Stream;
@@ -41,13 +47,20 @@ impl PubSubStream {
 }
 
 impl Stream for PubSubStream {
-    ghost use Rattle.push_links.specs.Held.{Gives, IsItself};
-
     type Item = Msg;
 
-    ghost yields = { λ s given last. Gives IsItself s.held.ended s.held.items given last };
+    ghost yields = { λ s given last. Gives IsItself s.held given last };
 
-    fn poll_next(&mut self, cx: &mut Context<'_>) -> Poll<Option<Msg>> {
+    #[tactic(auto, using(crate::proofs::Polls::polled_value, crate::proofs::Polls::polled_rest, crate::proofs::Polls::polled_same))]
+    fn poll_next(&mut self, cx: &mut Context<'_>) -> Poll<Option<Msg>>
+        ensures polled { IsPolled IsItself self.old.held result self.new.held }
+        ensures value { IfReady result (Gives IsItself self.old.held []) }
+        ensures rest { IfReady result
+            (λ o. IfSome o (λ x. After (Gives IsItself self.old.held) x (Gives IsItself self.new.held))) }
+        ensures same { OnPending result (Within (Gives IsItself self.old.held) (Gives IsItself self.new.held)) }
+        ensures registered { OnPending result (Covers cx.new (λ _. ⊥)) }
+        ensures kept { Keeps cx.old cx.new }
+    {
         match self.held.next() {
             Next::Item(message) => Poll::Ready(Some(message)),
             Next::End => Poll::Ready(None),
