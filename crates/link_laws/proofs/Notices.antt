@@ -23,7 +23,7 @@ use Rattle.legal_trace.specs.Ledger.{Ledger, Start, Heard, full_count, is_full, 
 use Rattle.legal_trace.proofs.Came.{Came, came_on}
 use Rattle.legal_trace.proofs.Plain.{same_some}
 use Rattle.legal_trace.proofs.Setups.{AreSetups, start_at}
-use Rattle.link_laws.specs.Greetings.{IsBehind}
+pub use Rattle.link_laws.specs.Greetings.{IsBehind}
 use Rattle.link_laws.specs.Notices.{SayTheSame, AreApart}
 use Rattle.link_laws.proofs.Dealt.{IsDealt, all_append}
 use Rattle.link_laws.proofs.PushKinds.{IsFromText, values_from_text}
