@@ -1,5 +1,5 @@
 -- What the words of a configuration mean.
-use Rattle.std.specs.Prelude.{◌≡◌, ⊤, ℕ, pos, ◌-◌, ◌^◌, ◌==◌, Bool, true, false, ◌&&◌, not, List, Option, Some, None, option_map, unwrap_or, if◌then◌else◌}
+use Rattle.std.specs.Prelude.{◌≡◌, ⊤, ℕ, pos, ◌-◌, ◌^◌, ◌==◌, Bool, true, false, ◌&&◌, ◌||◌, not, List, Option, Some, None, is_none, option_map, unwrap_or, if◌then◌else◌}
 use Rattle.std.specs.Str.{is_utf8}
 use Rattle.redis_error.specs.declared.config_name.ConfigName.{ConfigName}
 use Rattle.redis_error.specs.declared.config_name.ConfigName.TheVariants as name
@@ -92,10 +92,18 @@ abbrev pub fault_in : Option ConnectionInfo → Bool → Option ℕ → ℕ → 
 fault_in None heard limit size = Some name.Url
 fault_in (Some info) heard limit size = if heard && not (is_resp3 info.redis.protocol) then Some name.Push else room_fault limit size
 
--- what of a configuration is refused first, if anything is: a URL that isn't an address, pushes that somebody hears on RESP2, a
--- limit of no permits, and a queue that holds nothing
+-- nothing but the kind, the address and the library is given
+abbrev pub is_bare : Config → Bool
+is_bare c = is_none c.connect && is_none c.response && is_none c.limit && is_none c.buffer && is_none c.boundary && is_none c.push && is_none c.creds
+
+-- what is given that its kind doesn't have is refused: a link of publish/subscribe or of monitor mode has an address and a library
+abbrev pub has_line : Config → Bool
+has_line c = is_single c.kind || is_bare c
+
+-- what of a configuration is refused first, if anything is: words that its kind doesn't have, a URL that isn't an address, pushes
+-- that somebody hears on RESP2, a limit of no permits, and a queue that holds nothing
 abbrev pub first_fault : Config → Option ConfigName
-first_fault c = fault_in (address c) (hears_pushes (hearing_of c)) (permits c) (buffer_size c)
+first_fault c = if not (has_line c) then Some name.Kind else fault_in (address c) (hears_pushes (hearing_of c)) (permits c) (buffer_size c)
 
 -- either memory was wanted, or this is refused first
 abbrev pub RefusesConfig : Config → OpenError → Type 0
