@@ -10,7 +10,7 @@ use Rattle.caller_threads.specs.declared.job.Job.{Job}
 use Rattle.caller_threads.specs.declared.job.Turn.{Turn}
 use Rattle.caller_threads.specs.Each.{EachAt, AnyAt}
 use Rattle.caller_threads.specs.Lines.{one_if, share, count_from}
-use Rattle.caller_threads.specs.Submits.{Line, IsAllowed, HasSubmitted, HasTried, IsCause, HaveRun, HaveStopped, HasCause, IsTurnOf}
+use Rattle.caller_threads.specs.Submits.{Line, IsAllowed, AreAllowed, HasSubmitted, HasTried, IsCause, HaveRun, HaveStopped, HasCause, IsTurnOf}
 use Rattle.caller_threads.specs.Jobs.{callers_of, IsOfTable, IsNew, Fed, WasFed, IsReady, HasRun, Took, HasTurns, first_of, first_error_of}
 use Rattle.caller_threads.proofs.Shares.{share_more, length_share, each_share, count_less}
 use Rattle.caller_threads.proofs.Places.{each_length, each_map, any_map, each_then, each_same, each_set, each_with, all_from, each_first, each_second, each_after, each_before, any_after, any_never, some_at}
@@ -165,19 +165,39 @@ callers_left k all = each_map (Left k all) (λ c j m. m.caller ≡ j.caller) (λ
 
 -- All together
 
--- a new job that was fed may run
-pub all_ready : (z : TableId) (k : ℕ) (lines : List Line) (js ks : List Job) → Each IsNew js → Each (IsOfTable z) js → Each IsAllowed lines → EachAt (λ c. Fed (share k c lines)) 0 js ks → All (IsReady z) ks
-all_ready z k lines js ks new of allowed fed =
-    all_from (IsReady z) 0 js ks
-    (each_map (λ c j m. IsOfTable z j × (IsNew j × Fed (share k c lines) j m)) (λ c j m. IsReady z m) (λ c j m h.
+-- what is said of each caller of jobs is said of each job's
+each_job : (P : Known → Type 0) (js : List Job) → Each P (callers_of js) → Each (λ (j : Job). P j.caller) js
+each_job P [] h = tt
+each_job P (j ∷ js) h = (h.0, each_job P js h.1)
+
+-- a new job that was fed
+record IsFed (z : TableId) (lines share : List Line) (j m : Job) : Type 0 where
+  of : IsOfTable z j
+  allowed : AreAllowed lines j.caller
+  new : IsNew j
+  fed : Fed share j m
+
+-- it may run
+fed_ready : (z : TableId) (k c : ℕ) (lines : List Line) (j m : Job) → IsFed z lines (share k c lines) j m → IsReady z m
+fed_ready z k c lines j m h =
+    let its : Each (IsAllowed j.caller.view.config.kind) (share k c lines) = each_share (IsAllowed j.caller.view.config.kind) k c 0 lines h.allowed in
+    let given : AreAllowed m.lines j.caller = subst (Each (IsAllowed j.caller.view.config.kind)) (sym (h.fed.lines ∙ ap (λ l. l ++ share k c lines) h.new.lines)) its in
     record {
-      of = ap (λ (v : Known). v.table) h.1.1.caller ∙ h.0;
-      allowed = subst (Each IsAllowed) (sym (h.1.1.lines ∙ ap (λ l. l ++ share k c lines) h.1.0.lines)) (each_share IsAllowed k c 0 lines allowed);
-      turns = h.1.1.turns ∙ h.1.0.turns;
-      error = h.1.1.error ∙ h.1.0.error;
-    })
+      of = ap (λ (v : Known). v.table) h.fed.caller ∙ h.of;
+      allowed = subst (AreAllowed m.lines) (sym h.fed.caller) given;
+      turns = h.fed.turns ∙ h.new.turns;
+      error = h.fed.error ∙ h.new.error;
+    }
+
+pub all_ready : (z : TableId) (k : ℕ) (lines : List Line) (js ks : List Job) → Each IsNew js → Each (IsOfTable z) js → Each (AreAllowed lines) (callers_of js) → EachAt (λ c. Fed (share k c lines)) 0 js ks → All (IsReady z) ks
+all_ready z k lines js ks new of allowed fed =
+    let told = each_job (AreAllowed lines) js allowed in
+    all_from (IsReady z) 0 js ks
+    (each_map (λ c j m. AreAllowed lines j.caller × (IsOfTable z j × (IsNew j × Fed (share k c lines) j m))) (λ c j m. IsReady z m)
+    (λ c j m h. fed_ready z k c lines j m (record { of = h.1.0; allowed = h.0; new = h.1.1.0; fed = h.1.1.1 }))
     0 js ks
-    (each_with (IsOfTable z) (λ c j m. IsNew j × Fed (share k c lines) j m) 0 js ks of (each_with IsNew (λ c. Fed (share k c lines)) 0 js ks new fed)))
+    (each_with (λ (j : Job). AreAllowed lines j.caller) (λ c j m. IsOfTable z j × (IsNew j × Fed (share k c lines) j m)) 0 js ks told
+    (each_with (IsOfTable z) (λ c j m. IsNew j × Fed (share k c lines) j m) 0 js ks of (each_with IsNew (λ c. Fed (share k c lines)) 0 js ks new fed))))
 
 -- a job that was dealt its lines, and has run
 pub record Ran (lines : List Line) (j k : Job) : Type 0 where

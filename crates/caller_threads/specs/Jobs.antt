@@ -7,7 +7,7 @@ use Rattle.atomic_table.specs.Seated.{TableId}
 use Rattle.caller_threads.specs.declared.job.Job.{Job}
 use Rattle.caller_threads.specs.declared.job.Turn.{Turn}
 use Rattle.caller_threads.specs.Lines.{one_if, count_from}
-use Rattle.caller_threads.specs.Submits.{Line, IsAllowed, HasSubmitted, HasTried, IsCause}
+use Rattle.caller_threads.specs.Submits.{Line, AreAllowed, HasSubmitted, HasTried, IsCause}
 
 abbrev pub callers_of : List Job → List Known
 callers_of [] = []
@@ -36,7 +36,7 @@ pub record WasFed (j k : Job) : Type 0 where
 -- it may run
 pub record IsReady (z : TableId) (j : Job) : Type 0 where
   pub of : j.caller.table ≡ z
-  pub allowed : Each IsAllowed j.lines
+  pub allowed : AreAllowed j.lines j.caller
   pub turns : j.turns ≡ []
   pub error : j.error ≡ None
 

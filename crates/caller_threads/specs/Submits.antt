@@ -4,6 +4,7 @@ use Rattle.std.specs.List.Sorted.{IsNonDecreasingBy}
 use mathlib.Core.List.{IsPrefix}
 use Rattle.driver_model.specs.declared.action.Action.{Action}
 use Rattle.driver_model.specs.declared.config.Config.{Config}
+use Rattle.driver_model.specs.declared.kind.SessionKind.{SessionKind}
 use Rattle.driver_model.specs.declared.event.Event.{Event}
 use Rattle.driver_model.specs.declared.event.Submission.{Submission}
 use Rattle.driver_model.specs.Request.{has_no_form}
@@ -13,7 +14,7 @@ use Rattle.shared_session.specs.declared.errors.StepError.{StepError}
 use Rattle.shared_session.specs.declared.errors.StepError.TheVariants.{BadEvent, Spent, NoMemory}
 use Rattle.shared_session.specs.declared.session.Failure.TheVariants as failure
 use Rattle.session_callers.specs.Calls.{Known, submission_event}
-use Rattle.session_callers.specs.Rule.{SpendsNext, submissions_in, Ascends}
+use Rattle.session_callers.specs.Rule.{Each, SpendsNext, submissions_in, Ascends}
 use Rattle.session_callers.specs.declared.board.Stage.TheVariants.{Idle}
 use Rattle.caller_threads.specs.declared.job.Turn.{Turn}
 use Rattle.caller_threads.specs.Each.{EachAt, AnyAt}
@@ -23,9 +24,13 @@ use Rattle.caller_threads.specs.Lines.{share}
 abbrev pub Line : Type 0
 Line = Submission × ℕ
 
--- a script may have it
-abbrev pub IsAllowed : Line → Type 0
-IsAllowed line = has_no_form line.0 ≡ false
+-- a script of a session of this kind may have it
+abbrev pub IsAllowed : SessionKind → Line → Type 0
+IsAllowed kind line = has_no_form kind line.0 ≡ false
+
+-- a script of this caller's session may have each of them
+abbrev pub AreAllowed : List Line → Known → Type 0
+AreAllowed lines caller = Each (IsAllowed caller.view.config.kind) lines
 
 abbrev pub event_of : Line → Event
 event_of line = submission_event line.0 line.1

@@ -1,7 +1,7 @@
 //! A caller with its lines.
 ghost use Rattle.std.specs.Prelude.{◌≡◌, IfOk, IfErr, OnOk, [], ◌∷◌};
-ghost use Rattle.session_callers.specs.Rule.{Each};
-ghost use Rattle.caller_threads.specs.Submits.{IsAllowed, HasSubmitted, HasTried, HasLooked, IsCause};
+ghost use Rattle.caller_threads.specs.Submits.{IsAllowed, AreAllowed, HasSubmitted, HasTried};
+ghost use Rattle.caller_threads.specs.Submits.{HasLooked, IsCause};
 ghost use Rattle.caller_threads.specs.Jobs.{IsReady, HasRun};
 
 use crate::gate::Gate;
@@ -44,7 +44,7 @@ fn submit_line<R: Wait>(
     line: (Submission, u64),
 ) -> Result<Turn, StepError>
     requires of { caller.old.table ≡ shared.now.table.shared.table_id }
-    requires allowed { IsAllowed line }
+    requires allowed { IsAllowed caller.old.view.config.kind line }
     ensures ok { IfOk result (λ turn. HasSubmitted caller.old caller.new (line ∷ []) (turn ∷ [])) }
     ensures err { IfErr result (λ error. HasLooked caller.old caller.new × IsCause error caller.old caller.new) }
 {
@@ -73,7 +73,7 @@ fn submit_each<R: Wait>(
     turns: &mut Queue<Turn>,
 ) -> Result<(), StepError>
     requires of { caller.old.table ≡ shared.now.table.shared.table_id }
-    requires allowed { Each IsAllowed lines.old }
+    requires allowed { AreAllowed lines.old caller.old }
     requires none { turns.old ≡ [] }
     ensures ok { OnOk result (HasSubmitted caller.old caller.new lines.old turns.new) }
     ensures err { IfErr result (λ error.

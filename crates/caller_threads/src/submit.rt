@@ -1,7 +1,7 @@
 //! The call.
 ghost use Rattle.std.specs.Prelude.{◌≡◌, ◌<◌, length, IfOk, IfErr, OnOk, OnErr, vec_len};
 ghost use Rattle.session_callers.specs.Rule.{Each};
-ghost use Rattle.caller_threads.specs.Submits.{IsAllowed, HaveRun, HaveSubmitted, HaveStopped};
+ghost use Rattle.caller_threads.specs.Submits.{AreAllowed, HaveRun, HaveSubmitted, HaveStopped};
 ghost use Rattle.caller_threads.specs.Jobs.{callers_of, IsNew, IsOfTable};
 
 use crate::dealing::deal;
@@ -30,7 +30,7 @@ fn submit_all<R: Threads + Wait + Sync, G: Gate>(
     requires some { 0 < length jobs.old }
     requires new { Each IsNew jobs.old }
     requires of { Each (IsOfTable shared.now.table.shared.table_id) jobs.old }
-    requires allowed { Each IsAllowed lines.items }
+    requires allowed { Each (AreAllowed lines.items) (callers_of jobs.old) }
     ensures ok { IfOk result (λ turns.
         HaveRun (callers_of jobs.old) (callers_of jobs.new) lines.items turns.items
         ) }
@@ -72,7 +72,7 @@ pub fn submit_lines<R: Threads + Wait + Sync, G: Gate>(
     requires some { 0 < vec_len callers.old }
     requires of { Each (λ caller. caller.table ≡ shared.now.table.shared.table_id)
         callers.old.items }
-    requires allowed { Each IsAllowed lines.items }
+    requires allowed { Each (AreAllowed lines.items) callers.old.items }
     ensures ok { OnOk result (
         HaveSubmitted callers.old.items callers.new.items lines.items
         numbers.old.items numbers.new.items out.old.items out.new.items

@@ -1,5 +1,5 @@
 -- A connection does the same where one request's outcome is looked away from, once its message has left the queue.
-use Rattle.std.proofs.Common.{◌≡◌, ◌≢◌, ℕ, ◌==◌, ◌&&◌, Bool, true, false, List, [], ◌∷◌, ◌++◌, if◌then◌else◌, refl, sym, ap, ◌∙◌, append_assoc, Option, Some, arith}
+use Rattle.std.proofs.Common.{◌≡◌, ◌≢◌, inl, ℕ, ◌==◌, ◌&&◌, ◌||◌, Bool, true, false, List, [], ◌∷◌, ◌++◌, if◌then◌else◌, refl, sym, ap, ◌∙◌, append_assoc, Option, Some, arith}
 use Rattle.std.proofs.lemmas.List.{append-nil}
 use Rattle.containers.proofs.Choices.{by_test, chosen, either, either_by, taken_if, left_if, eq_from, ne_from, eq_test, ne_test}
 use Rattle.redis_error.specs.declared.fault_kind.FaultKind.TheVariants as kinds
@@ -7,23 +7,27 @@ use Rattle.redis_error.specs.declared.fault_kind.FaultKind.{FaultKind}
 use Rattle.redis_error.specs.declared.redis_error.RedisError.TheVariants as error
 use Rattle.redis_error.specs.declared.redis_error.RedisError.{RedisError}
 use Rattle.credentials.specs.Credentials.{Credentials}
-use Rattle.resp_value.specs.Data.{Data, push, list_of}
+use Rattle.resp_value.specs.Data.{Data}
 use Rattle.resp_value.specs.declared.push_kind.PushKind.TheVariants.{Disconnection}
 use Rattle.resp_read.specs.Values.{values}
 use Rattle.driver_model.specs.declared.news.LinkFault.{LinkFault}
 use Rattle.driver_model.specs.declared.news.LinkFault.TheVariants as fault
 use Rattle.driver_model.specs.declared.outcome.Outcome.{Outcome}
 use Rattle.driver_model.specs.declared.outcome.Outcome.TheVariants as outcome
-use Rattle.driver_model.specs.declared.push_info.PushInfo.{PushInfo}
-use Rattle.driver_model.specs.News.{News, silence, connected, took, failed, shut, refused, overdue, authorized, denied, deserted, renewed, unrenewed, late}
+use Rattle.driver_model.specs.Hearing.{felt, hears_messages, hears_pushes}
+use Rattle.driver_model.specs.declared.hearing.Hearing.{Hearing}
+use Rattle.driver_model.specs.declared.hearing.Notice.{Notice}
+use Rattle.driver_model.specs.declared.hearing.Notice.TheVariants as notice
+use Rattle.driver_model.specs.News.{News, silence, connected, took, failed, shut, refused, overdue, authorized, denied, deserted, renewed, unrenewed, late, dropped}
 use Rattle.driver_model.specs.News.{came}
 use Rattle.driver_model.specs.Shape.{outcome_of}
 use Rattle.link_core.specs.declared.message.Entry.{Entry}
-use Rattle.link_core.specs.declared.message.PushAt.{PushAt}
+use Rattle.link_core.specs.declared.message.NoticeAt.{NoticeAt}
 use Rattle.link_core.specs.declared.message.Settled.{Settled}
-use Rattle.link_core.specs.Dealing.{heard_of}
-use Rattle.link_core.specs.Link.{LinkState, Settling, piece_dealt, pushes_came}
+use Rattle.link_core.specs.Dealing.{is_awaiting}
+use Rattle.link_core.specs.Link.{LinkState, Reading, piece_read}
 use Rattle.link_laws.specs.Alike.{SameRow, others}
+use Rattle.link_laws.proofs.Alike.{same_awaiting}
 use Rattle.link_laws.proofs.Cancels.{bytes_alike, close_alike, fault_alike}
 use Rattle.mux_conn.specs.declared.act.LinkAct.{LinkAct}
 use Rattle.mux_conn.specs.declared.act.LinkAct.TheVariants as act
@@ -35,14 +39,14 @@ use Rattle.mux_conn.specs.declared.request.Request.{Request}
 use Rattle.mux_conn.specs.declared.request.Waiting.{Waiting}
 use Rattle.mux_conn.specs.Connection.{Work, acted, at_life, with_link, is_ready}
 use Rattle.mux_conn.specs.Requests.{is_open, is_open_at, name_at, permits_at, with_permits, given_back, closed, answered}
-use Rattle.mux_conn.specs.Effects.{settled_one, settled_each, failed_each, nobody_waits, waiting_failed, pushed, told_each, cut_short, all_answered, ended, parted, heard_in, opening_failed, authorized_at, connected_at, unauthorized_at, refused_at, overdue_at, taken_at, failed_at, broken_at, read_to, read_at, shut_at, applied}
+use Rattle.mux_conn.specs.Effects.{settled_one, settled_each, failed_each, nobody_waits, waiting_failed, notice_act, noticed, noticed_each, told_each, greeting_error, dropped_at, dropped_by, cut_short, all_answered, ended, parted, opening_failed, authorized_at, connected_at, unauthorized_at, refused_at, overdue_at, taken_at, failed_at, broken_at, read_to, read_at, shut_at, applied}
 use Rattle.mux_conn.specs.Renewals.{renewing, with_renewal, expecting, expected, takes_more, late_for, is_unanswered, is_done, replied, renewal_id}
 use Rattle.cancel_laws.specs.ButFor.{hushed_each, hushed_link, hushed_life}
 use Rattle.cancel_laws.proofs.Requests.{names, name_stays, progress_twice, progress_apart, permits_other, permits_own, own_closed, closed_set, test_other}
 use Rattle.cancel_laws.proofs.Names.{IsOwn, own_name, other_name}
 use Rattle.cancel_laws.proofs.Links.{alike_hushed, hushed_came}
-use Rattle.cancel_laws.proofs.Kept.{other_act, IsPlain, At, There, answered_kept, settled_one_kept, settled_kept, telling_kept, failed_each_kept, over_kept, parted_kept}
-use Rattle.cancel_laws.proofs.Values.{by_value, value_told, value_read, values_read, none_told, came_by_values, same_by_value}
+use Rattle.cancel_laws.proofs.Kept.{other_act, IsPlain, notice_plain, At, There, answered_kept, settled_one_kept, settled_kept, telling_kept, failed_each_kept, over_kept, parted_kept}
+use Rattle.cancel_laws.proofs.Values.{by_value, told_of, value_told, value_read, values_read, came_by_values, same_by_value}
 use Rattle.cancel_laws.proofs.Gone.{NoneQueued, IsGone, gone_kept}
 
 -- the acts of a turn, but for the outcomes of submission n
@@ -239,11 +243,20 @@ bare_ended : (n p : ℕ) (w : Work) (ss later : List Settled) → At (There (IsG
 bare_ended n p w ss later h e =
     bare_all_answered n p (cut_short w) ss later (over_kept (gone_kept n p) w error.Closed act.Close (λ m. refl) h) e ∙ ap (λ (x : Work). all_answered x later) (bare_cut_short n p w)
 
+-- something is told
+bare_noticed : (n p : ℕ) (w : Work) (what : Notice) → bare n p (noticed w what) ≡ noticed (bare n p w) what
+bare_noticed n p w what = bare_acted n p w (notice_act what) (notice_plain what)
+
+-- and so is more
+bare_noticed_each : (n p : ℕ) (w : Work) (ps : List NoticeAt) → bare n p (noticed_each w ps) ≡ noticed_each (bare n p w) ps
+bare_noticed_each n p w [] = refl
+bare_noticed_each n p w (x ∷ ps) = bare_noticed_each n p (noticed w x.notice) ps ∙ ap (λ (y : Work). noticed_each y ps) (bare_noticed n p w x.notice)
+
 -- which is told where somebody hears pushes
 bare_parted : (n p : ℕ) (w : Work) → bare n p (parted w) ≡ parted (bare n p w)
 bare_parted n p w =
-    let info : PushInfo = record { kind = Disconnection; parts = [] } in
-    either (bare n p) w.conn.hears (pushed w info) w (pushed (bare n p w) info) (bare n p w) (λ t. bare_acted n p w (act.Push info) (λ m. refl)) (λ f. refl)
+    let end = notice.Push (record { kind = Disconnection; parts = [] }) in
+    either (bare n p) (hears_pushes w.conn.hears) (noticed w end) w (noticed (bare n p w) end) (bare n p w) (λ t. bare_noticed n p w end) (λ f. refl)
 
 -- so at its end by a fault
 bare_faulted : (n p : ℕ) (w : Work) (ss later : List Settled) → At (There (IsGone n p)) w → others p ss ≡ others p later
@@ -270,23 +283,35 @@ bare_given_up n p w e h = bare_opening n p (acted w act.Close) e h ∙ ap (λ (x
 pub ready_same : (p : ℕ) (life : Life) → is_ready life ≡ is_ready (hushed_life p life)
 ready_same p Dialing = refl
 ready_same p (Wanting l) = refl
-ready_same p (SettingUp l with_user) = refl
+ready_same p (SettingUp l greeting) = refl
 ready_same p (Ready l) = refl
 ready_same p (Ended e) = refl
 
 -- a fault of the link
 bare_failed : (n p : ℕ) (w : Work) (f : LinkFault) (life : Life) → At (There (IsGone n p)) w → bare n p (failed_at w f life) ≡ failed_at (bare n p w) f (hushed_life p life)
-bare_failed n p w f (Ready l) h = bare_faulted n p w _ _ h (fault_alike p f l (hushed_link p l) [] [] (alike_hushed p l) refl).out
+bare_failed n p w f (Ready l) h = bare_faulted n p w _ _ h (fault_alike p (felt w.conn.hears f) l (hushed_link p l) [] [] (alike_hushed p l) refl).out
 bare_failed n p w f Dialing h = refl
 bare_failed n p w f (Wanting l) h = bare_given_up n p w error.Closed h
-bare_failed n p w f (SettingUp l with_user) h = bare_given_up n p w error.Closed h
+bare_failed n p w f (SettingUp l greeting) h = bare_given_up n p w (greeting_error greeting l.row f) h
 bare_failed n p w f (Ended e) h = refl
+
+-- the stream of messages is dropped
+bare_dropped_at : (n p : ℕ) (w : Work) (life : Life) → At (There (IsGone n p)) w → bare n p (dropped_at w life) ≡ dropped_at (bare n p w) (hushed_life p life)
+bare_dropped_at n p w (Ready l) h = bare_faulted n p w _ _ h (fault_alike p fault.Ended l (hushed_link p l) [] [] (alike_hushed p l) refl).out
+bare_dropped_at n p w Dialing h = bare_given_up n p w error.Closed h
+bare_dropped_at n p w (Wanting l) h = bare_given_up n p w error.Closed h
+bare_dropped_at n p w (SettingUp l greeting) h = bare_given_up n p w error.Closed h
+bare_dropped_at n p w (Ended e) h = refl
+
+-- which ends a link of messages
+bare_dropped : (n p : ℕ) (w : Work) → At (There (IsGone n p)) w → bare n p (dropped_by w) ≡ dropped_by (bare n p w)
+bare_dropped n p w h = either (bare n p) (hears_messages w.conn.hears) (dropped_at w w.conn.life) w (dropped_at (bare n p w) (hushed_life p w.conn.life)) (bare n p w) (λ t. bare_dropped_at n p w w.conn.life h) (λ f. refl)
 
 -- the connect
 bare_connected : (n p : ℕ) (w : Work) (life : Life) → NoneQueued p life → bare n p (connected_at w life) ≡ connected_at (bare n p w) (hushed_life p life)
 bare_connected n p w Dialing none = absurd none
 bare_connected n p w (Wanting l) none = absurd none
-bare_connected n p w (SettingUp l with_user) none = absurd none
+bare_connected n p w (SettingUp l greeting) none = absurd none
 bare_connected n p w (Ready l) none = refl
 bare_connected n p w (Ended e) none = refl
 
@@ -294,7 +319,7 @@ bare_connected n p w (Ended e) none = refl
 bare_authorized : (n p : ℕ) (w : Work) (c : Credentials) (life : Life) → NoneQueued p life → bare n p (authorized_at w c life) ≡ authorized_at (bare n p w) c (hushed_life p life)
 bare_authorized n p w c Dialing none = refl
 bare_authorized n p w c (Wanting l) none = absurd none
-bare_authorized n p w c (SettingUp l with_user) none = refl
+bare_authorized n p w c (SettingUp l greeting) none = refl
 bare_authorized n p w c (Ready l) none = refl
 bare_authorized n p w c (Ended e) none = refl
 
@@ -302,7 +327,7 @@ bare_authorized n p w c (Ended e) none = refl
 bare_unauthorized : (n p : ℕ) (w : Work) (e : RedisError) (life : Life) → NoneQueued p life → bare n p (unauthorized_at w e life) ≡ unauthorized_at (bare n p w) e (hushed_life p life)
 bare_unauthorized n p w e Dialing none = refl
 bare_unauthorized n p w e (Wanting l) none = absurd none
-bare_unauthorized n p w e (SettingUp l with_user) none = refl
+bare_unauthorized n p w e (SettingUp l greeting) none = refl
 bare_unauthorized n p w e (Ready l) none = refl
 bare_unauthorized n p w e (Ended x) none = refl
 
@@ -310,7 +335,7 @@ bare_unauthorized n p w e (Ended x) none = refl
 bare_refused : (n p : ℕ) (w : Work) (f : FaultKind) (life : Life) → At (There (IsGone n p)) w → bare n p (refused_at w f life) ≡ refused_at (bare n p w) f (hushed_life p life)
 bare_refused n p w f Dialing h = bare_opening n p w (error.Io f) h
 bare_refused n p w f (Wanting l) h = refl
-bare_refused n p w f (SettingUp l with_user) h = refl
+bare_refused n p w f (SettingUp l greeting) h = refl
 bare_refused n p w f (Ready l) h = refl
 bare_refused n p w f (Ended e) h = refl
 
@@ -318,7 +343,7 @@ bare_refused n p w f (Ended e) h = refl
 bare_overdue : (n p : ℕ) (w : Work) (life : Life) → At (There (IsGone n p)) w → bare n p (overdue_at w life) ≡ overdue_at (bare n p w) (hushed_life p life)
 bare_overdue n p w Dialing h = bare_given_up n p w (error.Io kinds.TimedOut) h
 bare_overdue n p w (Wanting l) h = bare_given_up n p w (error.Io kinds.TimedOut) h
-bare_overdue n p w (SettingUp l with_user) h = bare_given_up n p w (error.Io kinds.TimedOut) h
+bare_overdue n p w (SettingUp l greeting) h = bare_given_up n p w (error.Io kinds.TimedOut) h
 bare_overdue n p w (Ready l) h = refl
 bare_overdue n p w (Ended e) h = refl
 
@@ -326,7 +351,7 @@ bare_overdue n p w (Ended e) h = refl
 bare_taken : (n p : ℕ) (w : Work) (count : ℕ) (life : Life) → bare n p (taken_at w count life) ≡ taken_at (bare n p w) count (hushed_life p life)
 bare_taken n p w count Dialing = refl
 bare_taken n p w count (Wanting l) = refl
-bare_taken n p w count (SettingUp l with_user) = refl
+bare_taken n p w count (SettingUp l greeting) = refl
 bare_taken n p w count (Ready l) = refl
 bare_taken n p w count (Ended e) = refl
 
@@ -334,63 +359,60 @@ bare_taken n p w count (Ended e) = refl
 bare_broken : (n p : ℕ) (b : Bool) (w : Work) → At (There (IsGone n p)) w → bare n p (broken_at b w) ≡ broken_at b (bare n p w)
 bare_broken n p b w h = either (bare n p) b _ w _ (bare n p w) (λ t. bare_failed n p w fault.Parse w.conn.life h) (λ f. refl)
 
--- a push
-bare_value_told : (n p : ℕ) (w : Work) (v : Data) → bare n p (value_told w v) ≡ value_told (bare n p w) v
-bare_value_told n p w (push kind parts) = bare_acted n p w (act.Push (record { kind = kind; parts = list_of parts })) (λ m. refl)
-bare_value_told n p w _ = refl
-
--- it changes nothing but what is shown
-value_told_kept : (n p : ℕ) (w : Work) (v : Data) → At (There (IsGone n p)) w → At (There (IsGone n p)) (value_told w v)
-value_told_kept n p w (push kind parts) h = h
-value_told_kept n p w _ h = h
+-- notices change nothing but what is shown
+noticed_same : (n p : ℕ) (w : Work) (ps : List NoticeAt) → At (There (IsGone n p)) w → At (There (IsGone n p)) (noticed_each w ps)
+noticed_same n p w [] h = h
+noticed_same n p w (x ∷ ps) h = noticed_same n p (noticed w x.notice) ps h
 
 -- values that come where the rows are the same but for the verdict of message p
-bare_values : (n p : ℕ) (w : Work) (row other : List Entry) (vs : List Data) → At (There (IsGone n p)) w → SameRow p row other → bare n p (values_read w row vs) ≡ values_read (bare n p w) other vs
-bare_values n p w row other [] h same = refl
-bare_values n p w row other (v ∷ vs) h same =
-    let x = by_value row v in
-    let y = by_value other v in
-    let s = same_by_value p row other v same in
-    let d = value_told w v in
-    let k = value_told_kept n p w v h in
-    bare_values n p (value_read w row v) x.row y.row vs (settled_kept (gone_kept n p) d x.out k) s.row
-    ∙ ap (λ (z : Work). values_read z y.row vs) (bare_settled_same n p d x.out y.out k s.out ∙ ap (λ (z : Work). settled_each z y.out) (bare_value_told n p w v))
+bare_values : (n p : ℕ) (w : Work) (what : Hearing) (row other : List Entry) (vs : List Data) → At (There (IsGone n p)) w → SameRow p row other → bare n p (values_read w what row vs) ≡ values_read (bare n p w) what other vs
+bare_values n p w what row other [] h same = refl
+bare_values n p w what row other (v ∷ vs) h same =
+    let x = by_value what row v in
+    let y = by_value what other v in
+    let s = same_by_value p what row other v same in
+    let d = value_told w what (is_awaiting row) v in
+    let k = noticed_same n p w (told_of what (is_awaiting row) v) h in
+    let one : bare n p (value_read w what row v) ≡ value_read (bare n p w) what other v =
+    bare_settled_same n p d x.out y.out k s.out
+    ∙ ap (λ (z : Work). settled_each z y.out)
+    (bare_noticed_each n p w (told_of what (is_awaiting row) v) ∙ ap (λ (b : Bool). value_told (bare n p w) what b v) (same_awaiting p row other same)) in
+    either_by (bare n p) x.strange y.strange (value_read w what row v) (values_read (value_read w what row v) what x.row vs) (value_read (bare n p w) what other v) (values_read (value_read (bare n p w) what other v) what y.row vs)
+    s.strange
+    (λ t. one)
+    (λ f. bare_values n p (value_read w what row v) what x.row y.row vs (settled_kept (gone_kept n p) d x.out k) s.row ∙ ap (λ (z : Work). values_read z what y.row vs) one)
 
--- what a link gives with bytes, where somebody hears pushes, and where nobody does
-bare_told_each : (n p : ℕ) (w : Work) (l : LinkState) (piece : List ℕ) (hears : Bool) → At (There (IsGone n p)) w
-    → bare n p (told_each w 0 (heard_of hears (pushes_came l piece)) (piece_dealt (record { link = l; out = [] }) piece).out)
-    ≡ told_each (bare n p w) 0 (heard_of hears (pushes_came (hushed_link p l) piece)) (piece_dealt (record { link = hushed_link p l; out = [] }) piece).out
-bare_told_each n p w l piece true h =
+-- what a link gives with bytes
+bare_told_each : (n p : ℕ) (w : Work) (what : Hearing) (l : LinkState) (piece : List ℕ) → At (There (IsGone n p)) w
+    → (let r = piece_read what true l piece in let t = piece_read what true (hushed_link p l) piece in bare n p (told_each w 0 r.notices r.out) ≡ told_each (bare n p w) 0 t.notices t.out)
+bare_told_each n p w what l piece h =
     let vs = values (l.rest ++ piece) in
-    ap (bare n p) (came_by_values w l piece)
-    ∙ either (bare n p) l.broken w (values_read w l.row vs) (bare n p w) (values_read (bare n p w) (hushed_each p l.row) vs) (λ t. refl)
-    (λ f. bare_values n p w l.row (hushed_each p l.row) vs h (alike_hushed p l).row)
-    ∙ sym (came_by_values (bare n p w) (hushed_link p l) piece)
-bare_told_each n p w l piece false h =
-    let ss = (piece_dealt (record { link = l; out = [] }) piece).out in
-    let later = (piece_dealt (record { link = hushed_link p l; out = [] }) piece).out in
-    ap (bare n p) (none_told w 0 ss) ∙ bare_settled_same n p w ss later h (bytes_alike p l (hushed_link p l) [] [] piece (alike_hushed p l) refl).out ∙ sym (none_told (bare n p w) 0 later)
+    ap (bare n p) (came_by_values w what l piece)
+    ∙ either (bare n p) l.broken w (values_read w what l.row vs) (bare n p w) (values_read (bare n p w) what (hushed_each p l.row) vs) (λ t. refl)
+    (λ f. bare_values n p w what l.row (hushed_each p l.row) vs h (alike_hushed p l).row)
+    ∙ sym (came_by_values (bare n p w) what (hushed_link p l) piece)
 
--- and where those bytes begin no value
-bare_read : (n p : ℕ) (w : Work) (ps later : List PushAt) (s t : Settling) → IsGone n p w.conn.requests (Ready s.link) → hushed_link p s.link ≡ t.link
-    → bare n p (told_each (with_link w s.link) 0 ps s.out) ≡ told_each (with_link (bare n p w) (hushed_link p s.link)) 0 later t.out
-    → bare n p (read_to w ps s) ≡ read_to (bare n p w) later t
-bare_read n p w ps later s t h link told =
-    let d = with_link w s.link in
-    bare_broken n p s.link.broken (told_each d 0 ps s.out) (telling_kept (gone_kept n p) d 0 ps s.out h)
-    ∙ ap (broken_at s.link.broken) told
-    ∙ ap (λ (l : LinkState). broken_at l.broken (told_each (with_link (bare n p w) l) 0 later t.out)) link
+-- and where those bytes can't be read on
+bare_read : (n p : ℕ) (w : Work) (r t : Reading) → IsGone n p w.conn.requests (Ready r.link) → hushed_link p r.link ≡ t.link → r.strange ≡ t.strange
+    → bare n p (told_each (with_link w r.link) 0 r.notices r.out) ≡ told_each (with_link (bare n p w) (hushed_link p r.link)) 0 t.notices t.out
+    → bare n p (read_to w r) ≡ read_to (bare n p w) t
+bare_read n p w r t h link strange told =
+    let d = with_link w r.link in
+    bare_broken n p (r.link.broken || r.strange) (told_each d 0 r.notices r.out) (telling_kept (gone_kept n p) d 0 r.notices r.out h)
+    ∙ ap (broken_at (r.link.broken || r.strange)) told
+    ∙ (λ i. broken_at ((link i).broken || strange i) (told_each (with_link (bare n p w) (link i)) 0 t.notices t.out))
 
 -- bytes come
 bare_came : (n p : ℕ) (w : Work) (piece : List ℕ) (life : Life) → IsGone n p w.conn.requests life → bare n p (read_at w piece life) ≡ read_at (bare n p w) piece (hushed_life p life)
 bare_came n p w piece (Ready l) h =
-    let s = piece_dealt (record { link = l; out = [] }) piece in
-    let k = (gone_kept n p).come w.conn.limit w.conn.requests l w.conn.moved w.acts piece h in
-    bare_read n p w (heard_in w l piece) (heard_in (bare n p w) (hushed_link p l) piece) s (piece_dealt (record { link = hushed_link p l; out = [] }) piece) k (hushed_came p l piece)
-    (bare_told_each n p (with_link w s.link) l piece w.conn.hears k)
+    let what = w.conn.hears in
+    let r = piece_read what true l piece in
+    let k = (gone_kept n p).come w.conn.limit w.conn.requests l w.conn.moved w.acts what piece h in
+    bare_read n p w r (piece_read what true (hushed_link p l) piece) k (hushed_came p what l piece) (bytes_alike p what true l (hushed_link p l) piece (alike_hushed p l) (inl refl)).0.strange
+    (bare_told_each n p (with_link w r.link) what l piece k)
 bare_came n p w piece Dialing h = refl
 bare_came n p w piece (Wanting l) h = absurd h.none
-bare_came n p w piece (SettingUp l with_user) h = absurd h.none
+bare_came n p w piece (SettingUp l greeting) h = absurd h.none
 bare_came n p w piece (Ended e) h = refl
 
 -- the shutdown
@@ -398,7 +420,7 @@ bare_shut : (n p : ℕ) (w : Work) (life : Life) → At (There (IsGone n p)) w �
 bare_shut n p w (Ready l) h = bare_ended n p w _ _ h (close_alike p l (hushed_link p l) [] [] (alike_hushed p l) refl).out
 bare_shut n p w Dialing h = bare_ended n p w [] [] h refl
 bare_shut n p w (Wanting l) h = bare_ended n p w [] [] h refl
-bare_shut n p w (SettingUp l with_user) h = bare_ended n p w [] [] h refl
+bare_shut n p w (SettingUp l greeting) h = bare_ended n p w [] [] h refl
 bare_shut n p w (Ended e) h = refl
 
 -- new credentials come
@@ -428,4 +450,5 @@ bare_applied n p w deserted h = bare_unauthorized n p w (error.AuthFailed []) w.
 bare_applied n p w (renewed c) h = ap (λ (x : MultiplexedConnection). record (bare n p w) { conn = x }) (bare_expecting p w.conn c)
 bare_applied n p w unrenewed h = refl
 bare_applied n p w (late k) h = ap (λ (x : MultiplexedConnection). record (bare n p w) { conn = x }) (bare_late_for p w.conn k)
+bare_applied n p w dropped h = bare_dropped n p w h
 bare_applied n p w shut h = bare_shut n p w w.conn.life h

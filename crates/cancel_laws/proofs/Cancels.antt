@@ -303,7 +303,7 @@ same_items config word draw n before after free h =
 too_much_same : (p count : ℕ) (life : Life) → exceeds_offer life count ≡ exceeds_offer (hushed_life p life) count
 too_much_same p count Dialing = refl
 too_much_same p count (Wanting l) = refl
-too_much_same p count (SettingUp l with_user) = refl
+too_much_same p count (SettingUp l greeting) = refl
 too_much_same p count (Ready l) = refl
 too_much_same p count (Ended e) = refl
 
@@ -325,6 +325,7 @@ bare_bad p c (event.Ended l) = refl
 bare_bad p c (event.ReadFault l fault) = refl
 bare_bad p c (event.WriteFault l fault) = refl
 bare_bad p c event.Shutdown = refl
+bare_bad p c event.DropStream = refl
 
 -- so the same events are bad
 pub same_bad : (config : Config) (word draw n : ℕ) (before after : List Event) (e : Event) → HasNoLimit config → HasStarted n (state_after config word before)

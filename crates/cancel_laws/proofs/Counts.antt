@@ -1,14 +1,15 @@
 -- How many messages a link has, and what changes that.
-use Rattle.std.proofs.Common.{◌≡◌, ℕ, ◌+◌, ◌≤◌, nat_lt, List, [], ◌∷◌, ◌++◌, length, refl, sym, subst, arith, length-append}
+use Rattle.std.proofs.Common.{◌≡◌, ℕ, ◌+◌, ◌≤◌, nat_lt, Bool, List, [], ◌∷◌, ◌++◌, length, refl, sym, subst, arith, length-append}
 use Rattle.containers.proofs.Choices.{chosen}
 use Rattle.resp_value.specs.Data.{Data}
-use Rattle.resp_read.specs.Items.{items}
+use Rattle.resp_read.specs.Values.{values}
 use Rattle.driver_model.specs.Shape.{need_of}
+use Rattle.driver_model.specs.declared.hearing.Hearing.{Hearing}
 use Rattle.link_core.specs.declared.message.Entry.{Entry}
 use Rattle.link_core.specs.declared.message.Queued.{Queued}
 use Rattle.link_core.specs.declared.message.Settled.{Settled}
-use Rattle.link_core.specs.Dealing.{Dealing, with_item, settled_by, dealt_to, dealt, dealt_each}
-use Rattle.link_core.specs.Link.{LinkState, Starting, Settling, entry_of, enqueued, holds_back, started_one, started_each, started_all, piece_dealt}
+use Rattle.link_core.specs.Dealing.{Dealing, dealing_with, with_item, settled_by, dealt_to, dealt, noticed_behind, taking_in, taken_as, taken, taken_each}
+use Rattle.link_core.specs.Link.{LinkState, Starting, Reading, entry_of, enqueued, holds_back, started_one, started_each, started_all, nothing_read, came_all, piece_read}
 
 -- those that started, and those in the queue
 abbrev pub count_on : LinkState → ℕ
@@ -42,13 +43,21 @@ item_count d item (e ∷ es) same =
     (λ t. omega arith)
     (λ g. omega (arith, one_settled f, length-append d.out (settled_by f)))
 
+-- nor does a value
+value_count : (h : Hearing) (ready : Bool) (d : Dealing) (v : Data) → length (taken h ready d v).row + length (taken h ready d v).out ≤ length d.row + length d.out
+value_count h ready d v =
+    let t = taking_in h ready d v in
+    let m : Dealing = record d { notices = d.notices ++ noticed_behind (length d.out) t.told; strange = t.ends } in
+    chosen (λ (x : Dealing). length x.row + length x.out ≤ length d.row + length d.out) d.strange d (taken_as d t v) (λ y. omega arith)
+    (λ n. chosen (λ (x : Dealing). length x.row + length x.out ≤ length d.row + length d.out) t.dealt (dealt m v) m (λ y. item_count m v d.row refl) (λ y. omega arith))
+
 -- nor do more
-items_count : (d : Dealing) (vs : List Data) → length (dealt_each d vs).row + length (dealt_each d vs).out ≤ length d.row + length d.out
-items_count d [] = omega arith
-items_count d (v ∷ vs) = omega (arith, items_count (dealt d v) vs, item_count d v d.row refl)
+values_count : (h : Hearing) (ready : Bool) (d : Dealing) (vs : List Data) → length (taken_each h ready d vs).row + length (taken_each h ready d vs).out ≤ length d.row + length d.out
+values_count h ready d [] = omega arith
+values_count h ready d (v ∷ vs) = omega (arith, values_count h ready (taken h ready d v) vs, value_count h ready d v)
 
 -- nor do bytes
-pub count_came : (l : LinkState) (piece : List ℕ) → count_on (piece_dealt (record { link = l; out = [] }) piece).link + length (piece_dealt (record { link = l; out = [] }) piece).out ≤ count_on l
-count_came l piece =
-    chosen (λ (x : Settling). count_on x.link + length x.out ≤ count_on l) l.broken _ _ (λ t. omega arith)
-    (λ f. omega (arith, items_count (record { row = l.row; out = [] }) (items (l.rest ++ piece))))
+pub count_came : (h : Hearing) (ready : Bool) (l : LinkState) (piece : List ℕ) → count_on (piece_read h ready l piece).link + length (piece_read h ready l piece).out ≤ count_on l
+count_came h ready l piece =
+    chosen (λ (x : Reading). count_on x.link + length x.out ≤ count_on l) l.broken (nothing_read l) (came_all h ready l (l.rest ++ piece)) (λ t. omega arith)
+    (λ f. omega (arith, values_count h ready (dealing_with l.row) (values (l.rest ++ piece))))

@@ -18,6 +18,7 @@ use Rattle.link_core.specs.Link.{LinkState, Starting, enqueued, is_full, holds_b
 use Rattle.link_core.specs.Outbox.{can_offer}
 use Rattle.link_core.specs.Waiting.{without}
 use Rattle.mux_conn.specs.declared.connection.MultiplexedConnection.{MultiplexedConnection}
+use Rattle.mux_conn.specs.declared.life.Greeting.{Greeting}
 use Rattle.mux_conn.specs.declared.life.Life.{Life}
 use Rattle.mux_conn.specs.declared.life.Life.TheVariants.{Dialing, Wanting, SettingUp, Ready, Ended}
 use Rattle.mux_conn.specs.declared.request.Pending.{Pending}
@@ -52,8 +53,8 @@ same_link : (k l : LinkState) → Ready k ≡ Ready l → k ≡ l
 same_link k l e = cc
 
 -- and not one that is set up
-not_set_up : (k l : LinkState) (with_user : Bool) → Ready k ≡ SettingUp l with_user → ⊥
-not_set_up k l with_user e = cc
+not_set_up : (k l : LinkState) (greeting : Greeting) → Ready k ≡ SettingUp l greeting → ⊥
+not_set_up k l greeting e = cc
 
 -- nor does it wait for credentials
 not_wanting : (k l : LinkState) → Ready k ≡ Wanting l → ⊥
@@ -75,7 +76,7 @@ written_from p w (Ready l) e h =
     (λ f. h)
 written_from p w Dialing e h = h
 written_from p w (Wanting l) e h = absurd (not_wanting h.link l (sym h.up ∙ e))
-written_from p w (SettingUp l with_user) e h = absurd (not_set_up h.link l with_user (sym h.up ∙ e))
+written_from p w (SettingUp l greeting) e h = absurd (not_set_up h.link l greeting (sym h.up ∙ e))
 written_from p w (Ended x) e h = h
 
 -- what a turn ends with leaves a started message as it is
@@ -181,7 +182,7 @@ asked_starts c name packed shape timeout l idle up goes room permit =
     none_due false f = refl
 
 -- and its submission
-turn_starts : (c : Core) (s : Submission) → packed_bytes s ≢ [] → is_reply_awaited s ≡ true → IsReady c → IsFree c → lacks_resp3 c.single.connection.info.protocol s ≡ false → HasStarted (length c.table) (next_turn c (event.Submit s)).core
+turn_starts : (c : Core) (s : Submission) → packed_bytes s ≢ [] → is_reply_awaited s ≡ true → IsReady c → IsFree c → lacks_resp3 c.single.connection.hears c.single.connection.info.protocol s ≡ false → HasStarted (length c.table) (next_turn c (event.Submit s)).core
 unfolding next_turn
 turn_starts c s some awaited ready free spoken =
     let n = length c.table in
@@ -198,13 +199,13 @@ turn_starts c s some awaited ready free spoken =
     has_started n (numbered (moved_on (asks true))).core (pending p) (get_last c.table (Some (pending p))) few (all_flushed p (passed (work_of (asks true))) sits) in
     let own : HasStarted n (numbered (moved_on (asks (is_reply_awaited s)))).core = subst (λ (b : Bool). HasStarted n (numbered (moved_on (asks b))).core) (sym awaited) done in
     let packed = if length (packed_bytes s) == 0 then refused_with t error.EmptyCommand else asks (is_reply_awaited s) in
-    if_false (λ (x : Turning). HasStarted n (numbered (moved_on x)).core) (c.shut || false) _ (if lacks_resp3 conn.info.protocol s then refused_with t error.Resp3Required else packed) (or-false c.shut ∙ free.unshut)
-    (if_false (λ (x : Turning). HasStarted n (numbered (moved_on x)).core) (lacks_resp3 conn.info.protocol s) _ packed spoken
+    if_false (λ (x : Turning). HasStarted n (numbered (moved_on x)).core) (c.shut || false) _ (if lacks_resp3 conn.hears conn.info.protocol s then refused_with t error.Resp3Required else packed) (or-false c.shut ∙ free.unshut)
+    (if_false (λ (x : Turning). HasStarted n (numbered (moved_on x)).core) (lacks_resp3 conn.hears conn.info.protocol s) _ packed spoken
     (if_false (λ (x : Turning). HasStarted n (numbered (moved_on x)).core) (length (packed_bytes s) == 0) _ (asks (is_reply_awaited s)) (no_bytes (packed_bytes s) some) own))
 
 -- whatever came before
 pub free_started : (config : Config) (word draw : ℕ) (before : List Event) (s : Submission) → packed_bytes s ≢ [] → is_reply_awaited s ≡ true → IsFree (state_after config word before)
-    → lacks_resp3 (state_after config word before).single.connection.info.protocol s ≡ false
+    → (let c = (state_after config word before).single.connection in lacks_resp3 c.hears c.info.protocol s ≡ false)
     → HasStarted (length (state_after config word before).table) (state_after config word (before ++ handed_in_at draw s ∷ []))
 free_started config word draw before s some awaited free spoken =
     let c = state_after config word before in

@@ -22,7 +22,7 @@ use Rattle.cancel_laws.proofs.Kept.{IsKept, IsKeptThere, There, kept_there, CanA
 abbrev pub NoneQueued : ℕ → Life → Type 0
 NoneQueued p Dialing = ⊥
 NoneQueued p (Wanting l) = ⊥
-NoneQueued p (SettingUp l with_user) = ⊥
+NoneQueued p (SettingUp l greeting) = ⊥
 NoneQueued p (Ready l) = NoneOf p l.queue
 NoneQueued p (Ended e) = Unit {0}
 
@@ -30,7 +30,7 @@ NoneQueued p (Ended e) = Unit {0}
 abbrev pub NoneInRow : ℕ → Life → Type 0
 NoneInRow p Dialing = Unit {0}
 NoneInRow p (Wanting l) = Unit {0}
-NoneInRow p (SettingUp l with_user) = Unit {0}
+NoneInRow p (SettingUp l greeting) = Unit {0}
 NoneInRow p (Ready l) = NoneWanted p l.row
 NoneInRow p (Ended e) = Unit {0}
 
@@ -58,7 +58,7 @@ within_kept r p q now count l = omega (arith, progress_count r q now count)
 none_cancelled : (p q : ℕ) (life : Life) → NoneQueued p life → NoneQueued p (cancelled_in life q)
 none_cancelled p q Dialing h = h
 none_cancelled p q (Wanting l) h = h
-none_cancelled p q (SettingUp l with_user) h = h
+none_cancelled p q (SettingUp l greeting) h = h
 none_cancelled p q (Ready l) h = none_without p q l.queue h
 none_cancelled p q (Ended e) h = h
 
@@ -81,10 +81,10 @@ gone_there n p = record {
   want = λ r size bound h. absurd h.none;
   wait_on = λ r l k few h. absurd h.none;
   connect = λ r l h. absurd h.none;
-  set_up = λ r l q with_user h. absurd h.none;
-  go_on = λ r l k with_user few h. absurd h.none;
-  repeat = λ r l k q with_user few h. absurd h.none;
-  ready = λ r l k with_user few h. absurd h.none;
+  set_up = λ r l q greeting h. absurd h.none;
+  go_on = λ r l k greeting few h. absurd h.none;
+  repeat = λ r l k q greeting next few h. absurd h.none;
+  ready = λ r l k greeting few h. absurd h.none;
   admit = λ r life q count t h. record {
     there = within_kept r p q progress.Admitted count h.there;
     own = own_kept n p r q progress.Admitted count h.own;
@@ -105,7 +105,7 @@ gone_there n p = record {
   renew = λ r l q own h. record { there = h.there; own = h.own; apart = h.apart; past = h.past; seated = h.seated; none = h.none };
   offer = λ r l h. record { there = h.there; own = h.own; apart = h.apart; past = h.past; seated = h.seated; none = h.none };
   write = λ r l k h. record { there = h.there; own = h.own; apart = h.apart; past = h.past; seated = h.seated; none = h.none };
-  come = λ r l piece h. record { there = h.there; own = h.own; apart = h.apart; past = h.past; seated = h.seated; none = none_came p l piece h.none };
+  come = λ r l what piece h. record { there = h.there; own = h.own; apart = h.apart; past = h.past; seated = h.seated; none = none_came p what l piece h.none };
   end = λ r life e h. record { there = h.there; own = h.own; apart = h.apart; past = h.past; seated = h.seated; none = tt };
 }
 
@@ -152,10 +152,10 @@ away_kept n p = record {
   want = λ lim r size bound ms xs h. absurd h.gone.none;
   wait_on = λ lim r l k ms xs few h. absurd h.gone.none;
   connect = λ lim r l ms xs h. absurd h.gone.none;
-  set_up = λ lim r l ms xs q with_user h. absurd h.gone.none;
-  go_on = λ lim r l k with_user ms xs few h. absurd h.gone.none;
-  repeat = λ lim r l k q with_user ms xs few h. absurd h.gone.none;
-  ready = λ lim r l k with_user ms xs few h. absurd h.gone.none;
+  set_up = λ lim r l ms xs q greeting h. absurd h.gone.none;
+  go_on = λ lim r l k greeting ms xs few h. absurd h.gone.none;
+  repeat = λ lim r l k q greeting next ms xs few h. absurd h.gone.none;
+  ready = λ lim r l k greeting ms xs few h. absurd h.gone.none;
   admit = λ lim r life ms xs q count t h. record { gone = (gone_there n p).admit r life q count t h.gone; unmoved = h.unmoved };
   note = λ lim r life ms xs q t h. record { gone = h.gone; unmoved = none_is_push p ms q (other_test is_admitted r q p t h.gone.seated) h.unmoved };
   place = λ lim r l ms xs q t h. record { gone = (gone_there n p).place r l q t h.gone; unmoved = h.unmoved };
@@ -163,7 +163,7 @@ away_kept n p = record {
   renew = λ lim r l ms xs q own h. record { gone = (gone_there n p).renew r l q own h.gone; unmoved = h.unmoved };
   offer = λ lim r l ms xs h. record { gone = (gone_there n p).offer r l h.gone; unmoved = h.unmoved };
   write = λ lim r l ms xs k h. record { gone = (gone_there n p).write r l k h.gone; unmoved = h.unmoved };
-  come = λ lim r l ms xs piece h. record { gone = (gone_there n p).come r l piece h.gone; unmoved = h.unmoved };
+  come = λ lim r l ms xs what piece h. record { gone = (gone_there n p).come r l what piece h.gone; unmoved = h.unmoved };
   end = λ lim r life ms xs e h. record { gone = (gone_there n p).end r life e h.gone; unmoved = h.unmoved };
   show = λ lim r life ms xs a plain h. record { gone = h.gone; unmoved = h.unmoved };
   calm = λ lim r life ms xs h. record { gone = h.gone; unmoved = tt };
@@ -187,7 +187,7 @@ pub record IsHushed (n p : ℕ) (r : List Request) (life : Life) : Type 0 where
 quiet_cancelled : (p q : ℕ) (life : Life) → NoneInRow p life → NoneInRow p (cancelled_in life q)
 quiet_cancelled p q Dialing h = h
 quiet_cancelled p q (Wanting l) h = h
-quiet_cancelled p q (SettingUp l with_user) h = h
+quiet_cancelled p q (SettingUp l greeting) h = h
 quiet_cancelled p q (Ready l) h = quiet_silenced p q l.row h
 quiet_cancelled p q (Ended e) h = h
 
@@ -199,10 +199,10 @@ hushed_there n p = record {
   want = λ r size bound h. absurd h.gone.none;
   wait_on = λ r l k few h. absurd h.gone.none;
   connect = λ r l h. absurd h.gone.none;
-  set_up = λ r l q with_user h. absurd h.gone.none;
-  go_on = λ r l k with_user few h. absurd h.gone.none;
-  repeat = λ r l k q with_user few h. absurd h.gone.none;
-  ready = λ r l k with_user few h. absurd h.gone.none;
+  set_up = λ r l q greeting h. absurd h.gone.none;
+  go_on = λ r l k greeting few h. absurd h.gone.none;
+  repeat = λ r l k q greeting next few h. absurd h.gone.none;
+  ready = λ r l k greeting few h. absurd h.gone.none;
   admit = λ r life q count t h. record { gone = (gone_there n p).admit r life q count t h.gone; quiet = h.quiet };
   place = λ r l q t h. record { gone = (gone_there n p).place r l q t h.gone; quiet = h.quiet };
   start = λ r l h. record { gone = (gone_there n p).start r l h.gone; quiet = quiet_starts p (record { link = l; out = [] }) l.queue h.gone.none h.quiet };
@@ -212,7 +212,7 @@ hushed_there n p = record {
   };
   offer = λ r l h. record { gone = (gone_there n p).offer r l h.gone; quiet = h.quiet };
   write = λ r l k h. record { gone = (gone_there n p).write r l k h.gone; quiet = h.quiet };
-  come = λ r l piece h. record { gone = (gone_there n p).come r l piece h.gone; quiet = quiet_came p l piece h.quiet };
+  come = λ r l what piece h. record { gone = (gone_there n p).come r l what piece h.gone; quiet = quiet_came p what l piece h.quiet };
   end = λ r life e h. record { gone = (gone_there n p).end r life e h.gone; quiet = tt };
 }
 
@@ -228,6 +228,6 @@ hushed_asks n p m o = record { ask = λ lim r life ms xs h. record { gone = gone
 pub quiet_life : (p : ℕ) (life : Life) → NoneInRow p life → hushed_life p life ≡ life
 quiet_life p Dialing h = refl
 quiet_life p (Wanting l) h = refl
-quiet_life p (SettingUp l with_user) h = refl
+quiet_life p (SettingUp l greeting) h = refl
 quiet_life p (Ready l) h = ap (λ (row : List Entry). Ready (record l { row = row })) (quiet_stays p l.row h)
 quiet_life p (Ended e) h = refl

@@ -1,5 +1,5 @@
 -- What each part of a turn keeps: a fact of the limit of permits, of the requests, of the link's life, of those that were moved, and of what the turn has shown.
-use Rattle.std.proofs.Common.{◌≡◌, ℕ, ◌+◌, ◌≤◌, ◌==◌, ◌&&◌, true, false, Bool, List, [], ◌∷◌, ◌++◌, length, Option, Some, None, slice_get, if◌then◌else◌, refl, ap, ◌∙◌, arith, nat_le}
+use Rattle.std.proofs.Common.{◌≡◌, ℕ, ◌+◌, ◌≤◌, ◌==◌, ◌&&◌, ◌||◌, true, false, Bool, List, [], ◌∷◌, ◌++◌, length, Option, Some, None, slice_get, if◌then◌else◌, refl, ap, ◌∙◌, arith, nat_le}
 use Rattle.containers.proofs.Choices.{chosen}
 use Rattle.redis_error.specs.declared.redis_error.RedisError.TheVariants as error
 use Rattle.redis_error.specs.declared.fault_kind.FaultKind.TheVariants as kinds
@@ -20,7 +20,7 @@ use Rattle.driver_model.specs.declared.news.LinkFault.{LinkFault}
 use Rattle.driver_model.specs.declared.news.LinkFault.TheVariants as fault
 use Rattle.driver_model.specs.declared.outcome.Outcome.{Outcome}
 use Rattle.driver_model.specs.declared.outcome.Outcome.TheVariants as outcome
-use Rattle.driver_model.specs.News.{News, news_of, silence, connected, took, failed, shut, refused, overdue, authorized, denied, deserted, renewed, unrenewed, late}
+use Rattle.driver_model.specs.News.{News, news_of, silence, connected, took, failed, shut, refused, overdue, authorized, denied, deserted, renewed, unrenewed, late, dropped}
 use Rattle.driver_model.specs.News.{came}
 use Rattle.driver_model.specs.Request.{packed_bytes, lacks_resp3}
 use Rattle.driver_model.specs.Setup.{says_nothing}
@@ -28,11 +28,12 @@ use Rattle.driver_model.specs.Shape.{outcome_of}
 use Rattle.link_core.specs.declared.message.Queued.{Queued}
 use Rattle.link_core.specs.declared.message.Settled.{Settled}
 use Rattle.link_core.specs.declared.message.Started.{Started}
-use Rattle.link_core.specs.Link.{LinkState, Settling, fresh, enqueued, begun, start_of, holds_back, started_all, offered_of, wrote_of, piece_dealt, faulted, closed_all}
+use Rattle.link_core.specs.Link.{LinkState, Reading, fresh, enqueued, begun, start_of, holds_back, started_all, offered_of, wrote_of, piece_read, faulted, closed_all}
 use Rattle.link_core.specs.Outbox.{can_offer}
 use Rattle.mux_conn.specs.declared.act.LinkAct.{LinkAct}
 use Rattle.mux_conn.specs.declared.act.LinkAct.TheVariants as act
 use Rattle.mux_conn.specs.declared.connection.MultiplexedConnection.{MultiplexedConnection}
+use Rattle.mux_conn.specs.declared.life.Greeting.{Greeting}
 use Rattle.mux_conn.specs.declared.life.Life.{Life}
 use Rattle.mux_conn.specs.declared.life.Life.TheVariants.{Dialing, Wanting, SettingUp, Ready, Ended}
 use Rattle.mux_conn.specs.declared.request.Pending.{Pending}
@@ -41,17 +42,23 @@ use Rattle.mux_conn.specs.declared.request.Request.{Request}
 use Rattle.mux_conn.specs.declared.request.Waiting.{Waiting}
 use Rattle.mux_conn.specs.Connection.{Work, acted, at_life, with_link, with_setup, with_wanting, has_room, admits_none, is_ready, is_due}
 use Rattle.mux_conn.specs.Requests.{is_open_at, is_waiting_at, is_admitted_at, name_at, with_permits, at_progress, answered}
-use Rattle.mux_conn.specs.Effects.{new_link, settled_one, settled_each, failed_each, nobody_waits, waiting_failed, ended, opening_failed, authorized_at, come_up, comes_to_want, connected_at, unauthorized_at, with_credentials, refused_at, overdue_at, taken_at, failed_at, broken_at, read_to, read_at, shut_at, all_fresh, made_ready, steps_of, setup_queued, sets_up, judged_by, set_up_by, answered_setup, applied, cancelled_in, left, timed_out, all_answered, behind_first, cut_short, heard_in, heard_on, parted, pushed, pushed_each, told_each}
+use Rattle.mux_conn.specs.Effects.{new_link, settled_one, settled_each, failed_each, nobody_waits, waiting_failed, ended, opening_failed, authorized_at, come_up, comes_to_want, connected_at, unauthorized_at, with_credentials, refused_at, overdue_at, taken_at, failed_at, broken_at, read_to, read_at, shut_at, all_fresh, made_ready, steps_of, greeting_queued, greeting_error, greeted, greeted_by, is_unreadable, dropped_at, dropped_by, sets_up, judged_by, set_up_by, answered_setup, applied, cancelled_in, left, timed_out, all_answered, behind_first, cut_short, heard_on, notice_act, noticed, noticed_each, parted, told_each}
 use Rattle.mux_conn.specs.Renewals as renewals
 use Rattle.mux_conn.specs.Renewals.{renewing, expecting, takes_more, late_for, is_unanswered, renewal_id, renewal_queued, asked_next, renewal_act, renewal_timed, renewal_asked, renewal_told, renewal_moved}
-use Rattle.mux_conn.specs.Passes.{shown_each, set_up_each, started_at, started, message_of, placed_at, told_at_place, seated, still_admitted, moved_up, moved_up_each, moved_up_all, put_behind, seated_or_behind, permits_taken, holding, took_shown, took as holds, timer_asked, let_in, admitted_at, admitted, still_waiting, admitted_each, passed}
+use Rattle.mux_conn.specs.Passes.{shown_each, greeting_act, greeted_each, started_at, started, message_of, placed_at, told_at_place, seated, still_admitted, moved_up, moved_up_each, moved_up_all, put_behind, seated_or_behind, permits_taken, holding, took_shown, took as holds, timer_asked, let_in, admitted_at, admitted, still_waiting, admitted_each, passed}
 use Rattle.mux_conn.specs.Turn.{written_at, written, moved_wait, fresh_wait, wait_shown, moved_each_shown, moved_shown, fresh_each_shown, flushed}
 use Rattle.shared_session.specs.declared.core_state.Core.{Core}
 use Rattle.shared_session.specs.Turn.{Turning, work_of, heard, counted, submitted, left_by, late_by, fired_by, requested, effect, next_turn}
 use Rattle.cancel_laws.proofs.Counts.{count_on, count_started, count_came}
 use Rattle.cancel_laws.proofs.Requests.{admitted_now}
-use Rattle.driver_model.specs.declared.push_info.PushInfo.{PushInfo}
-use Rattle.link_core.specs.declared.message.PushAt.{PushAt}
+use Rattle.driver_model.specs.Kind.{is_single}
+use Rattle.driver_model.specs.Hearing.{felt, hears_messages, hears_pushes, is_watching}
+use Rattle.driver_model.specs.declared.hearing.Hearing.{Hearing}
+use Rattle.driver_model.specs.declared.hearing.Hearing.TheVariants as hearing
+use Rattle.driver_model.specs.declared.hearing.Notice.{Notice}
+use Rattle.driver_model.specs.declared.hearing.Notice.TheVariants as notice
+use Rattle.link_core.specs.declared.message.NoticeAt.{NoticeAt}
+use Rattle.mux_conn.specs.declared.life.Greeting.TheVariants as greet
 use Rattle.resp_value.specs.declared.push_kind.PushKind.TheVariants.{Disconnection}
 
 -- what an act shows, if it is not the outcome of submission n
@@ -61,6 +68,8 @@ other_act n (act.Took m count) = act.Took m count ∷ []
 other_act n (act.Timer m ms) = act.Timer m ms ∷ []
 other_act n (act.RenewalTimer k ms) = act.RenewalTimer k ms ∷ []
 other_act n (act.Push info) = act.Push info ∷ []
+other_act n (act.Message m) = act.Message m ∷ []
+other_act n (act.Monitor v) = act.Monitor v ∷ []
 other_act n act.NeedCreds = act.NeedCreds ∷ []
 other_act n act.Close = act.Close ∷ []
 other_act n (act.Write bytes) = act.Write bytes ∷ []
@@ -68,6 +77,7 @@ other_act n (act.Wait m kind) = act.Wait m kind ∷ []
 other_act n (act.Start message m need len) = act.Start message m need len ∷ []
 other_act n (act.SetUp message need len) = act.SetUp message need len ∷ []
 other_act n (act.Renewed message need len) = act.Renewed message need len ∷ []
+other_act n (act.Watch message need len) = act.Watch message need len ∷ []
 other_act n (act.Outcome m o) = if m == n then [] else act.Outcome m o ∷ []
 
 -- an act that answers nobody
@@ -82,10 +92,10 @@ pub record IsKept (P : Option ℕ → List Request → Life → List ℕ → Lis
   pub want : (lim : Option ℕ) (r : List Request) (size bound : ℕ) (ms : List ℕ) (xs : List LinkAct) → P lim r Dialing ms xs → P lim r (Wanting (fresh size bound)) ms xs
   pub wait_on : (lim : Option ℕ) (r : List Request) (l k : LinkState) (ms : List ℕ) (xs : List LinkAct) → count_on k ≤ count_on l → P lim r (Wanting l) ms xs → P lim r (Wanting k) ms xs
   pub connect : (lim : Option ℕ) (r : List Request) (l : LinkState) (ms : List ℕ) (xs : List LinkAct) → P lim r (Wanting l) ms xs → P lim r (Ready l) ms xs
-  pub set_up : (lim : Option ℕ) (r : List Request) (l : LinkState) (ms : List ℕ) (xs : List LinkAct) (q : Queued) (with_user : Bool) → P lim r (Wanting l) ms xs → P lim r (SettingUp (enqueued l q) with_user) ms xs
-  pub go_on : (lim : Option ℕ) (r : List Request) (l k : LinkState) (with_user : Bool) (ms : List ℕ) (xs : List LinkAct) → count_on k ≤ count_on l → P lim r (SettingUp l with_user) ms xs → P lim r (SettingUp k with_user) ms xs
-  pub repeat : (lim : Option ℕ) (r : List Request) (l k : LinkState) (q : Queued) (with_user : Bool) (ms : List ℕ) (xs : List LinkAct) → count_on k + 1 ≤ count_on l → P lim r (SettingUp l with_user) ms xs → P lim r (SettingUp (enqueued k q) false) ms xs
-  pub ready : (lim : Option ℕ) (r : List Request) (l k : LinkState) (with_user : Bool) (ms : List ℕ) (xs : List LinkAct) → count_on k + 1 ≤ count_on l → P lim r (SettingUp l with_user) ms xs → P lim r (Ready k) ms xs
+  pub set_up : (lim : Option ℕ) (r : List Request) (l : LinkState) (ms : List ℕ) (xs : List LinkAct) (q : Queued) (greeting : Greeting) → P lim r (Wanting l) ms xs → P lim r (SettingUp (enqueued l q) greeting) ms xs
+  pub go_on : (lim : Option ℕ) (r : List Request) (l k : LinkState) (greeting : Greeting) (ms : List ℕ) (xs : List LinkAct) → count_on k ≤ count_on l → P lim r (SettingUp l greeting) ms xs → P lim r (SettingUp k greeting) ms xs
+  pub repeat : (lim : Option ℕ) (r : List Request) (l k : LinkState) (q : Queued) (greeting next : Greeting) (ms : List ℕ) (xs : List LinkAct) → count_on k + 1 ≤ count_on l → P lim r (SettingUp l greeting) ms xs → P lim r (SettingUp (enqueued k q) next) ms xs
+  pub ready : (lim : Option ℕ) (r : List Request) (l k : LinkState) (greeting : Greeting) (ms : List ℕ) (xs : List LinkAct) → count_on k + 1 ≤ count_on l → P lim r (SettingUp l greeting) ms xs → P lim r (Ready k) ms xs
   pub admit : (lim : Option ℕ) (r : List Request) (life : Life) (ms : List ℕ) (xs : List LinkAct) (q count : ℕ) → is_waiting_at r q ≡ true → P lim r life ms xs → P lim (with_permits r q progress.Admitted count) life ms xs
   pub note : (lim : Option ℕ) (r : List Request) (life : Life) (ms : List ℕ) (xs : List LinkAct) (q : ℕ) → is_admitted_at r q ≡ true → P lim r life ms xs → P lim r life (ms ++ q ∷ []) xs
   pub place : (lim : Option ℕ) (r : List Request) (l : LinkState) (ms : List ℕ) (xs : List LinkAct) (q : Waiting) → is_admitted_at r q.number ≡ true → P lim r (Ready l) ms xs → P lim (at_progress r q.number progress.Placed) (Ready (enqueued l (message_of q))) ms xs
@@ -93,7 +103,7 @@ pub record IsKept (P : Option ℕ → List Request → Life → List ℕ → Lis
   pub renew : (lim : Option ℕ) (r : List Request) (l : LinkState) (ms : List ℕ) (xs : List LinkAct) (q : Queued) → q.id ≡ renewal_id → P lim r (Ready l) ms xs → P lim r (Ready (begun l q)) ms xs
   pub offer : (lim : Option ℕ) (r : List Request) (l : LinkState) (ms : List ℕ) (xs : List LinkAct) → P lim r (Ready l) ms xs → P lim r (Ready (offered_of l)) ms xs
   pub write : (lim : Option ℕ) (r : List Request) (l : LinkState) (ms : List ℕ) (xs : List LinkAct) (k : ℕ) → P lim r (Ready l) ms xs → P lim r (Ready (wrote_of l k)) ms xs
-  pub come : (lim : Option ℕ) (r : List Request) (l : LinkState) (ms : List ℕ) (xs : List LinkAct) (piece : List ℕ) → P lim r (Ready l) ms xs → P lim r (Ready (piece_dealt (record { link = l; out = [] }) piece).link) ms xs
+  pub come : (lim : Option ℕ) (r : List Request) (l : LinkState) (ms : List ℕ) (xs : List LinkAct) (h : Hearing) (piece : List ℕ) → P lim r (Ready l) ms xs → P lim r (Ready (piece_read h true l piece).link) ms xs
   pub end : (lim : Option ℕ) (r : List Request) (life : Life) (ms : List ℕ) (xs : List LinkAct) (e : RedisError) → P lim r life ms xs → P lim r (Ended e) ms xs
   pub show : (lim : Option ℕ) (r : List Request) (life : Life) (ms : List ℕ) (xs : List LinkAct) (a : LinkAct) → IsPlain a → P lim r life ms xs → P lim r life ms (xs ++ a ∷ [])
   pub calm : (lim : Option ℕ) (r : List Request) (life : Life) (ms : List ℕ) (xs : List LinkAct) → P lim r life ms xs → P lim r life [] xs
@@ -105,17 +115,17 @@ pub record IsKeptThere (P : List Request → Life → Type 0) : Type 0 where
   pub want : (r : List Request) (size bound : ℕ) → P r Dialing → P r (Wanting (fresh size bound))
   pub wait_on : (r : List Request) (l k : LinkState) → count_on k ≤ count_on l → P r (Wanting l) → P r (Wanting k)
   pub connect : (r : List Request) (l : LinkState) → P r (Wanting l) → P r (Ready l)
-  pub set_up : (r : List Request) (l : LinkState) (q : Queued) (with_user : Bool) → P r (Wanting l) → P r (SettingUp (enqueued l q) with_user)
-  pub go_on : (r : List Request) (l k : LinkState) (with_user : Bool) → count_on k ≤ count_on l → P r (SettingUp l with_user) → P r (SettingUp k with_user)
-  pub repeat : (r : List Request) (l k : LinkState) (q : Queued) (with_user : Bool) → count_on k + 1 ≤ count_on l → P r (SettingUp l with_user) → P r (SettingUp (enqueued k q) false)
-  pub ready : (r : List Request) (l k : LinkState) (with_user : Bool) → count_on k + 1 ≤ count_on l → P r (SettingUp l with_user) → P r (Ready k)
+  pub set_up : (r : List Request) (l : LinkState) (q : Queued) (greeting : Greeting) → P r (Wanting l) → P r (SettingUp (enqueued l q) greeting)
+  pub go_on : (r : List Request) (l k : LinkState) (greeting : Greeting) → count_on k ≤ count_on l → P r (SettingUp l greeting) → P r (SettingUp k greeting)
+  pub repeat : (r : List Request) (l k : LinkState) (q : Queued) (greeting next : Greeting) → count_on k + 1 ≤ count_on l → P r (SettingUp l greeting) → P r (SettingUp (enqueued k q) next)
+  pub ready : (r : List Request) (l k : LinkState) (greeting : Greeting) → count_on k + 1 ≤ count_on l → P r (SettingUp l greeting) → P r (Ready k)
   pub admit : (r : List Request) (life : Life) (q count : ℕ) → is_waiting_at r q ≡ true → P r life → P (with_permits r q progress.Admitted count) life
   pub place : (r : List Request) (l : LinkState) (q : Waiting) → is_admitted_at r q.number ≡ true → P r (Ready l) → P (at_progress r q.number progress.Placed) (Ready (enqueued l (message_of q)))
   pub start : (r : List Request) (l : LinkState) → P r (Ready l) → P r (Ready (started_all (record { link = l; out = [] })).link)
   pub renew : (r : List Request) (l : LinkState) (q : Queued) → q.id ≡ renewal_id → P r (Ready l) → P r (Ready (begun l q))
   pub offer : (r : List Request) (l : LinkState) → P r (Ready l) → P r (Ready (offered_of l))
   pub write : (r : List Request) (l : LinkState) (k : ℕ) → P r (Ready l) → P r (Ready (wrote_of l k))
-  pub come : (r : List Request) (l : LinkState) (piece : List ℕ) → P r (Ready l) → P r (Ready (piece_dealt (record { link = l; out = [] }) piece).link)
+  pub come : (r : List Request) (l : LinkState) (h : Hearing) (piece : List ℕ) → P r (Ready l) → P r (Ready (piece_read h true l piece).link)
   pub end : (r : List Request) (life : Life) (e : RedisError) → P r life → P r (Ended e)
 
 -- a fact of the requests and the life, whatever the limit is, and whatever a turn has moved and shown
@@ -131,10 +141,10 @@ kept_there k = record {
   want = λ lim r size bound ms xs h. k.want r size bound h;
   wait_on = λ lim r l m ms xs few h. k.wait_on r l m few h;
   connect = λ lim r l ms xs h. k.connect r l h;
-  set_up = λ lim r l ms xs q with_user h. k.set_up r l q with_user h;
-  go_on = λ lim r l m with_user ms xs few h. k.go_on r l m with_user few h;
-  repeat = λ lim r l m q with_user ms xs few h. k.repeat r l m q with_user few h;
-  ready = λ lim r l m with_user ms xs few h. k.ready r l m with_user few h;
+  set_up = λ lim r l ms xs q greeting h. k.set_up r l q greeting h;
+  go_on = λ lim r l m greeting ms xs few h. k.go_on r l m greeting few h;
+  repeat = λ lim r l m q greeting next ms xs few h. k.repeat r l m q greeting next few h;
+  ready = λ lim r l m greeting ms xs few h. k.ready r l m greeting few h;
   admit = λ lim r life ms xs q count t h. k.admit r life q count t h;
   note = λ lim r life ms xs q t h. h;
   place = λ lim r l ms xs q t h. k.place r l q t h;
@@ -142,7 +152,7 @@ kept_there k = record {
   renew = λ lim r l ms xs q own h. k.renew r l q own h;
   offer = λ lim r l ms xs h. k.offer r l h;
   write = λ lim r l ms xs n h. k.write r l n h;
-  come = λ lim r l ms xs piece h. k.come r l piece h;
+  come = λ lim r l ms xs what piece h. k.come r l what piece h;
   end = λ lim r life ms xs e h. k.end r life e h;
   show = λ lim r life ms xs a p h. h;
   calm = λ lim r life ms xs h. h;
@@ -161,10 +171,10 @@ unlimited_kept = record {
   want = λ lim r size bound ms xs h. h;
   wait_on = λ lim r l k ms xs few h. h;
   connect = λ lim r l ms xs h. h;
-  set_up = λ lim r l ms xs q with_user h. h;
-  go_on = λ lim r l k with_user ms xs few h. h;
-  repeat = λ lim r l k q with_user ms xs few h. h;
-  ready = λ lim r l k with_user ms xs few h. h;
+  set_up = λ lim r l ms xs q greeting h. h;
+  go_on = λ lim r l k greeting ms xs few h. h;
+  repeat = λ lim r l k q greeting next ms xs few h. h;
+  ready = λ lim r l k greeting ms xs few h. h;
   admit = λ lim r life ms xs q count t h. h;
   note = λ lim r life ms xs q t h. h;
   place = λ lim r l ms xs q t h. h;
@@ -172,7 +182,7 @@ unlimited_kept = record {
   renew = λ lim r l ms xs q own h. h;
   offer = λ lim r l ms xs h. h;
   write = λ lim r l ms xs n h. h;
-  come = λ lim r l ms xs piece h. h;
+  come = λ lim r l ms xs what piece h. h;
   end = λ lim r life ms xs e h. h;
   show = λ lim r life ms xs a p h. h;
   calm = λ lim r life ms xs h. h;
@@ -216,34 +226,41 @@ ended_kept k w out h =
     let d = acted (at_life w (Ended error.Closed)) act.Close in
     waiting_kept k (settled_each d out) error.Closed (settled_kept k d out (over_kept k w error.Closed act.Close (λ n. refl) h))
 
--- pushes
+-- notices
 --
--- one is told
-pub push_kept : {P : Option ℕ → List Request → Life → List ℕ → List LinkAct → Type 0} → IsKept P → (w : Work) (info : PushInfo) → At P w → At P (pushed w info)
-push_kept k w info h = k.show w.conn.limit w.conn.requests w.conn.life w.conn.moved w.acts (act.Push info) (λ n. refl) h
+-- what shows one answers nobody
+pub notice_plain : (n : Notice) → IsPlain (notice_act n)
+notice_plain (notice.Push info) = λ m. refl
+notice_plain (notice.Message msg) = λ m. refl
+notice_plain (notice.Monitor v) = λ m. refl
 
--- so are more, each in its place, and what the link settled is answered
-pub telling_kept : {P : Option ℕ → List Request → Life → List ℕ → List LinkAct → Type 0} → IsKept P → (w : Work) (n : ℕ) (ps : List PushAt) (ss : List Settled) → At P w → At P (told_each w n ps ss)
-telling_kept k w n [] [] h = h
-telling_kept k w n [] (s ∷ ss) h = settled_kept k w (s ∷ ss) h
-telling_kept k w n (p ∷ ps) [] h = telling_kept k (pushed w p.info) n ps [] (push_kept k w p.info h)
-telling_kept {P = P} k w n (p ∷ ps) (s ∷ ss) h =
-    chosen (At P) (nat_le p.settled n) (told_each (pushed w p.info) n ps (s ∷ ss)) (told_each (settled_one w s) (n + 1) (p ∷ ps) ss)
-    (λ t. telling_kept k (pushed w p.info) n ps (s ∷ ss) (push_kept k w p.info h))
-    (λ f. telling_kept k (settled_one w s) (n + 1) (p ∷ ps) ss (settled_one_kept k w s h))
+-- one is told
+pub notice_kept : {P : Option ℕ → List Request → Life → List ℕ → List LinkAct → Type 0} → IsKept P → (w : Work) (n : Notice) → At P w → At P (noticed w n)
+notice_kept k w n h = k.show w.conn.limit w.conn.requests w.conn.life w.conn.moved w.acts (notice_act n) (notice_plain n) h
 
 -- those that came are, in order
-pushes_kept : {P : Option ℕ → List Request → Life → List ℕ → List LinkAct → Type 0} → IsKept P → (w : Work) (ps : List PushAt) → At P w → At P (pushed_each w ps)
-pushes_kept k w [] h = h
-pushes_kept k w (p ∷ ps) h = pushes_kept k (pushed w p.info) ps (push_kept k w p.info h)
+notices_kept : {P : Option ℕ → List Request → Life → List ℕ → List LinkAct → Type 0} → IsKept P → (w : Work) (ps : List NoticeAt) → At P w → At P (noticed_each w ps)
+notices_kept k w [] h = h
+notices_kept k w (p ∷ ps) h = notices_kept k (noticed w p.notice) ps (notice_kept k w p.notice h)
+
+-- each in its place, and what the link settled is answered
+pub telling_kept : {P : Option ℕ → List Request → Life → List ℕ → List LinkAct → Type 0} → IsKept P → (w : Work) (n : ℕ) (ps : List NoticeAt) (ss : List Settled) → At P w → At P (told_each w n ps ss)
+telling_kept k w n ps [] h = notices_kept k w ps h
+telling_kept k w n [] (s ∷ ss) h = settled_kept k w (s ∷ ss) h
+telling_kept {P = P} k w n (p ∷ ps) (s ∷ ss) h =
+    chosen (At P) (nat_le p.settled n) (told_each (noticed w p.notice) n ps (s ∷ ss)) (told_each (settled_one w s) (n + 1) (p ∷ ps) ss)
+    (λ t. telling_kept k (noticed w p.notice) n ps (s ∷ ss) (notice_kept k w p.notice h))
+    (λ f. telling_kept k (settled_one w s) (n + 1) (p ∷ ps) ss (settled_one_kept k w s h))
 
 -- where the link is set up
-heard_on_kept : {P : Option ℕ → List Request → Life → List ℕ → List LinkAct → Type 0} → IsKept P → (w : Work) (ps : List PushAt) → At P w → At P (heard_on w ps)
-heard_on_kept {P = P} k w ps h = chosen (At P) (is_ready w.conn.life) (pushed_each w ps) w (λ t. pushes_kept k w ps h) (λ f. h)
+heard_on_kept : {P : Option ℕ → List Request → Life → List ℕ → List LinkAct → Type 0} → IsKept P → (w : Work) (ps : List NoticeAt) → At P w → At P (heard_on w ps)
+heard_on_kept {P = P} k w ps h = chosen (At P) (is_ready w.conn.life) (noticed_each w ps) w (λ t. notices_kept k w ps h) (λ f. h)
 
 -- and so is the end
 pub parted_kept : {P : Option ℕ → List Request → Life → List ℕ → List LinkAct → Type 0} → IsKept P → (w : Work) → At P w → At P (parted w)
-parted_kept {P = P} k w h = chosen (At P) w.conn.hears (pushed w (record { kind = Disconnection; parts = [] })) w (λ t. push_kept k w (record { kind = Disconnection; parts = [] }) h) (λ f. h)
+parted_kept {P = P} k w h =
+    let end = notice.Push (record { kind = Disconnection; parts = [] }) in
+    chosen (At P) (hears_pushes w.conn.hears) (noticed w end) w (λ t. notice_kept k w end h) (λ f. h)
 
 -- a fault ends the link
 faulted_kept : {P : Option ℕ → List Request → Life → List ℕ → List LinkAct → Type 0} → IsKept P → (w : Work) (out : List Settled) → At P w → At P (all_answered (parted (cut_short w)) out)
@@ -271,9 +288,13 @@ made_ready_kept {P = P} k w l g =
 -- a link comes up, where the fact is true of it while it waits for credentials
 come_up_kept : {P : Option ℕ → List Request → Life → List ℕ → List LinkAct → Type 0} → IsKept P → (w : Work) (l : LinkState) → P w.conn.limit w.conn.requests (Wanting l) w.conn.moved w.acts → At P (come_up w l)
 come_up_kept {P = P} k w l g =
-    chosen (At P) (says_nothing (steps_of w.conn true)) (made_ready w l) (sets_up (all_fresh w) l true)
-    (λ t. made_ready_kept k w l (k.connect w.conn.limit w.conn.requests l w.conn.moved w.acts g))
-    (λ f. k.set_up w.conn.limit w.conn.requests l w.conn.moved w.acts (setup_queued (steps_of w.conn true) true) true g)
+    let begins : (greeting : Greeting) → P w.conn.limit w.conn.requests (SettingUp (enqueued l (greeting_queued w.conn greeting)) greeting) w.conn.moved w.acts =
+    (λ greeting. k.set_up w.conn.limit w.conn.requests l w.conn.moved w.acts (greeting_queued w.conn greeting) greeting g) in
+    chosen (At P) (says_nothing (steps_of w.conn greet.WithUser)) (greeted w l) (sets_up (all_fresh w) l greet.WithUser)
+    (λ t. chosen (At P) (is_watching w.conn.hears) (sets_up w l greet.Monitor) (made_ready w l)
+    (λ u. begins greet.Monitor)
+    (λ u. made_ready_kept k w l (k.connect w.conn.limit w.conn.requests l w.conn.moved w.acts g)))
+    (λ f. begins greet.WithUser)
 
 -- a function of the life that a connection has is looked at with any life of which the fact is true
 connected_kept : {P : Option ℕ → List Request → Life → List ℕ → List LinkAct → Type 0} → IsKept P → (w : Work) (life : Life) → P w.conn.limit w.conn.requests life w.conn.moved w.acts → At P w → At P (connected_at w life)
@@ -284,7 +305,7 @@ connected_kept {P = P} k w Dialing g h =
     (λ t. k.show w.conn.limit w.conn.requests (Wanting link) w.conn.moved w.acts act.NeedCreds (λ n. refl) wanting)
     (λ f. come_up_kept k w link wanting)
 connected_kept k w (Wanting l) g h = h
-connected_kept k w (SettingUp l with_user) g h = h
+connected_kept k w (SettingUp l greeting) g h = h
 connected_kept k w (Ready l) g h = h
 connected_kept k w (Ended e) g h = h
 
@@ -292,7 +313,7 @@ connected_kept k w (Ended e) g h = h
 authorized_kept : {P : Option ℕ → List Request → Life → List ℕ → List LinkAct → Type 0} → IsKept P → (w : Work) (c : Credentials) (life : Life) → P w.conn.limit w.conn.requests life w.conn.moved w.acts → At P w → At P (authorized_at w c life)
 authorized_kept k w c (Wanting l) g h = come_up_kept k (with_credentials w c) l g
 authorized_kept k w c Dialing g h = h
-authorized_kept k w c (SettingUp l with_user) g h = h
+authorized_kept k w c (SettingUp l greeting) g h = h
 authorized_kept k w c (Ready l) g h = h
 authorized_kept k w c (Ended e) g h = h
 
@@ -300,7 +321,7 @@ authorized_kept k w c (Ended e) g h = h
 unauthorized_kept : {P : Option ℕ → List Request → Life → List ℕ → List LinkAct → Type 0} → IsKept P → (w : Work) (e : RedisError) (life : Life) → At P w → At P (unauthorized_at w e life)
 unauthorized_kept k w e (Wanting l) h = given_up_kept k w e h
 unauthorized_kept k w e Dialing h = h
-unauthorized_kept k w e (SettingUp l with_user) h = h
+unauthorized_kept k w e (SettingUp l greeting) h = h
 unauthorized_kept k w e (Ready l) h = h
 unauthorized_kept k w e (Ended x) h = h
 
@@ -308,7 +329,7 @@ unauthorized_kept k w e (Ended x) h = h
 refused_kept : {P : Option ℕ → List Request → Life → List ℕ → List LinkAct → Type 0} → IsKept P → (w : Work) (f : FaultKind) (life : Life) → At P w → At P (refused_at w f life)
 refused_kept k w f Dialing h = opening_kept k w (error.Io f) h
 refused_kept k w f (Wanting l) h = h
-refused_kept k w f (SettingUp l with_user) h = h
+refused_kept k w f (SettingUp l greeting) h = h
 refused_kept k w f (Ready l) h = h
 refused_kept k w f (Ended e) h = h
 
@@ -316,7 +337,7 @@ refused_kept k w f (Ended e) h = h
 overdue_kept : {P : Option ℕ → List Request → Life → List ℕ → List LinkAct → Type 0} → IsKept P → (w : Work) (life : Life) → At P w → At P (overdue_at w life)
 overdue_kept k w Dialing h = given_up_kept k w (error.Io kinds.TimedOut) h
 overdue_kept k w (Wanting l) h = given_up_kept k w (error.Io kinds.TimedOut) h
-overdue_kept k w (SettingUp l with_user) h = given_up_kept k w (error.Io kinds.TimedOut) h
+overdue_kept k w (SettingUp l greeting) h = given_up_kept k w (error.Io kinds.TimedOut) h
 overdue_kept k w (Ready l) h = h
 overdue_kept k w (Ended e) h = h
 
@@ -325,49 +346,75 @@ taken_kept : {P : Option ℕ → List Request → Life → List ℕ → List Lin
 taken_kept k w count (Ready l) g h = k.write w.conn.limit w.conn.requests l w.conn.moved w.acts count g
 taken_kept k w count Dialing g h = h
 taken_kept k w count (Wanting l) g h = k.wait_on w.conn.limit w.conn.requests l (wrote_of l count) w.conn.moved w.acts (omega arith) g
-taken_kept k w count (SettingUp l with_user) g h = k.go_on w.conn.limit w.conn.requests l (wrote_of l count) with_user w.conn.moved w.acts (omega arith) g
+taken_kept k w count (SettingUp l greeting) g h = k.go_on w.conn.limit w.conn.requests l (wrote_of l count) greeting w.conn.moved w.acts (omega arith) g
 taken_kept k w count (Ended e) g h = h
 
 -- a fault
 failed_kept : {P : Option ℕ → List Request → Life → List ℕ → List LinkAct → Type 0} → IsKept P → (w : Work) (f : LinkFault) (life : Life) → At P w → At P (failed_at w f life)
-failed_kept k w f (Ready l) h = faulted_kept k w (faulted (record { link = l; out = [] }) f).out h
+failed_kept k w f (Ready l) h = faulted_kept k w (faulted (record { link = l; out = [] }) (felt w.conn.hears f)).out h
 failed_kept k w f Dialing h = h
 failed_kept k w f (Wanting l) h = given_up_kept k w error.Closed h
-failed_kept k w f (SettingUp l with_user) h = given_up_kept k w error.Closed h
+failed_kept k w f (SettingUp l greeting) h = given_up_kept k w (greeting_error greeting l.row f) h
 failed_kept k w f (Ended e) h = h
 
--- bytes that begin no value
+-- the stream of messages is dropped
+dropped_at_kept : {P : Option ℕ → List Request → Life → List ℕ → List LinkAct → Type 0} → IsKept P → (w : Work) (life : Life) → At P w → At P (dropped_at w life)
+dropped_at_kept k w (Ready l) h = faulted_kept k w (faulted (record { link = l; out = [] }) fault.Ended).out h
+dropped_at_kept k w Dialing h = given_up_kept k w error.Closed h
+dropped_at_kept k w (Wanting l) h = given_up_kept k w error.Closed h
+dropped_at_kept k w (SettingUp l greeting) h = given_up_kept k w error.Closed h
+dropped_at_kept k w (Ended e) h = h
+
+-- which ends a link of messages
+dropped_kept : {P : Option ℕ → List Request → Life → List ℕ → List LinkAct → Type 0} → IsKept P → (w : Work) → At P w → At P (dropped_by w)
+dropped_kept {P = P} k w h = chosen (At P) (hears_messages w.conn.hears) (dropped_at w w.conn.life) w (λ t. dropped_at_kept k w w.conn.life h) (λ f. h)
+
+-- what can't be read on
 broken_kept : {P : Option ℕ → List Request → Life → List ℕ → List LinkAct → Type 0} → IsKept P → (b : Bool) (w : Work) → At P w → At P (broken_at b w)
 broken_kept {P = P} k b w h = chosen (At P) b (failed_at w fault.Parse w.conn.life) w (λ t. failed_kept k w fault.Parse w.conn.life h) (λ f. h)
 
 -- what the link settled by bytes
-read_kept : {P : Option ℕ → List Request → Life → List ℕ → List LinkAct → Type 0} → IsKept P → (w : Work) (ps : List PushAt) (s : Settling) → P w.conn.limit w.conn.requests (Ready s.link) w.conn.moved w.acts → At P (read_to w ps s)
-read_kept k w ps s h = broken_kept k s.link.broken (told_each (with_link w s.link) 0 ps s.out) (telling_kept k (with_link w s.link) 0 ps s.out h)
+read_kept : {P : Option ℕ → List Request → Life → List ℕ → List LinkAct → Type 0} → IsKept P → (w : Work) (r : Reading) → P w.conn.limit w.conn.requests (Ready r.link) w.conn.moved w.acts → At P (read_to w r)
+read_kept k w r h = broken_kept k (r.link.broken || r.strange) (told_each (with_link w r.link) 0 r.notices r.out) (telling_kept k (with_link w r.link) 0 r.notices r.out h)
+
+-- a greeting is answered well
+greeted_kept : {P : Option ℕ → List Request → Life → List ℕ → List LinkAct → Type 0} → IsKept P → (w : Work) (l m : LinkState) (greeting : Greeting) → count_on m + 1 ≤ count_on l → P w.conn.limit w.conn.requests (SettingUp l greeting) w.conn.moved w.acts → At P (greeted w m)
+greeted_kept {P = P} k w l m greeting few g =
+    chosen (At P) (is_watching w.conn.hears) (sets_up w m greet.Monitor) (made_ready w m)
+    (λ t. k.repeat w.conn.limit w.conn.requests l m (greeting_queued w.conn greet.Monitor) greeting greet.Monitor w.conn.moved w.acts few g)
+    (λ f. made_ready_kept k w m (k.ready w.conn.limit w.conn.requests l m greeting w.conn.moved w.acts few g))
+
+-- whichever it is
+greeted_by_kept : {P : Option ℕ → List Request → Life → List ℕ → List LinkAct → Type 0} → IsKept P → (w : Work) (l m : LinkState) (greeting : Greeting) → count_on m + 1 ≤ count_on l → P w.conn.limit w.conn.requests (SettingUp l greeting) w.conn.moved w.acts → At P (greeted_by w m greeting)
+greeted_by_kept k w l m greet.WithUser few g = greeted_kept k w l m greet.WithUser few g
+greeted_by_kept k w l m greet.WithoutUser few g = greeted_kept k w l m greet.WithoutUser few g
+greeted_by_kept k w l m greet.Monitor few g = made_ready_kept k w m (k.ready w.conn.limit w.conn.requests l m greet.Monitor w.conn.moved w.acts few g)
 
 -- the setup is answered
-set_up_by_kept : {P : Option ℕ → List Request → Life → List ℕ → List LinkAct → Type 0} → IsKept P → (w : Work) (l m : LinkState) (with_user : Bool) (what : SetupResult) → count_on m + 1 ≤ count_on l → P w.conn.limit w.conn.requests (SettingUp l with_user) w.conn.moved w.acts → At P w → At P (set_up_by w m what)
-set_up_by_kept k w l m with_user result.Ready few g h = made_ready_kept k w m (k.ready w.conn.limit w.conn.requests l m with_user w.conn.moved w.acts few g)
-set_up_by_kept k w l m with_user result.RepeatWithoutUser few g h = k.repeat w.conn.limit w.conn.requests l m (setup_queued (steps_of w.conn false) false) with_user w.conn.moved w.acts few g
-set_up_by_kept k w l m with_user (result.Failed e) few g h = given_up_kept k w e h
-set_up_by_kept k w l m with_user result.NoMemory few g h = h
+set_up_by_kept : {P : Option ℕ → List Request → Life → List ℕ → List LinkAct → Type 0} → IsKept P → (w : Work) (l m : LinkState) (greeting : Greeting) (what : SetupResult) → count_on m + 1 ≤ count_on l → P w.conn.limit w.conn.requests (SettingUp l greeting) w.conn.moved w.acts → At P w → At P (set_up_by w m greeting what)
+set_up_by_kept k w l m greeting result.Ready few g h = greeted_by_kept k w l m greeting few g
+set_up_by_kept k w l m greeting result.RepeatWithoutUser few g h = k.repeat w.conn.limit w.conn.requests l m (greeting_queued w.conn greet.WithoutUser) greeting greet.WithoutUser w.conn.moved w.acts few g
+set_up_by_kept k w l m greeting (result.Failed e) few g h = given_up_kept k w e h
+set_up_by_kept k w l m greeting result.NoMemory few g h = h
 
 -- if it is
-answered_setup_kept : {P : Option ℕ → List Request → Life → List ℕ → List LinkAct → Type 0} → IsKept P → (w : Work) (l m : LinkState) (with_user : Bool) (ps : List PushAt) (out : List Settled) → count_on m + length out ≤ count_on l → P w.conn.limit w.conn.requests (SettingUp l with_user) w.conn.moved w.acts → At P w → At P (answered_setup w m with_user ps out)
-answered_setup_kept k w l m with_user ps [] few g h = k.go_on w.conn.limit w.conn.requests l m with_user w.conn.moved w.acts (omega (arith, few)) g
-answered_setup_kept k w l m with_user ps (s ∷ ss) few g h =
-    let r = judged_by (steps_of w.conn with_user) s.verdict in
-    heard_on_kept k (set_up_by w m r) (behind_first ps) (set_up_by_kept k w l m with_user r (omega (arith, few)) g h)
+answered_setup_kept : {P : Option ℕ → List Request → Life → List ℕ → List LinkAct → Type 0} → IsKept P → (w : Work) (l m : LinkState) (greeting : Greeting) (ps : List NoticeAt) (out : List Settled) → count_on m + length out ≤ count_on l → P w.conn.limit w.conn.requests (SettingUp l greeting) w.conn.moved w.acts → At P w → At P (answered_setup w m greeting ps out)
+answered_setup_kept k w l m greeting ps [] few g h = k.go_on w.conn.limit w.conn.requests l m greeting w.conn.moved w.acts (omega (arith, few)) g
+answered_setup_kept k w l m greeting ps (s ∷ ss) few g h =
+    let r = judged_by (steps_of w.conn greeting) s.verdict in
+    heard_on_kept k (set_up_by w m greeting r) (behind_first ps) (set_up_by_kept k w l m greeting r (omega (arith, few)) g h)
 
 -- bytes come
 came_kept : {P : Option ℕ → List Request → Life → List ℕ → List LinkAct → Type 0} → IsKept P → (w : Work) (piece : List ℕ) (life : Life) → P w.conn.limit w.conn.requests life w.conn.moved w.acts → At P w → At P (read_at w piece life)
-came_kept k w piece (Ready l) g h = read_kept k w (heard_in w l piece) (piece_dealt (record { link = l; out = [] }) piece) (k.come w.conn.limit w.conn.requests l w.conn.moved w.acts piece g)
+came_kept k w piece (Ready l) g h = read_kept k w (piece_read w.conn.hears true l piece) (k.come w.conn.limit w.conn.requests l w.conn.moved w.acts w.conn.hears piece g)
 came_kept k w piece Dialing g h = h
 came_kept k w piece (Wanting l) g h =
-    let s = piece_dealt (record { link = l; out = [] }) piece in
-    broken_kept k s.link.broken (with_wanting w s.link) (k.wait_on w.conn.limit w.conn.requests l s.link w.conn.moved w.acts (omega (arith, count_came l piece)) g)
-came_kept k w piece (SettingUp l with_user) g h =
-    let s = piece_dealt (record { link = l; out = [] }) piece in
-    broken_kept k s.link.broken (answered_setup w s.link with_user (heard_in w l piece) s.out) (answered_setup_kept k w l s.link with_user (heard_in w l piece) s.out (count_came l piece) g h)
+    let r = piece_read hearing.Nothing false l piece in
+    broken_kept k r.link.broken (with_wanting w r.link) (k.wait_on w.conn.limit w.conn.requests l r.link w.conn.moved w.acts (omega (arith, count_came hearing.Nothing false l piece)) g)
+came_kept k w piece (SettingUp l greeting) g h =
+    let r = piece_read w.conn.hears false l piece in
+    let d = answered_setup w r.link greeting r.notices r.out in
+    broken_kept k (is_unreadable r d) d (answered_setup_kept k w l r.link greeting r.notices r.out (count_came w.conn.hears false l piece) g h)
 came_kept k w piece (Ended e) g h = h
 
 -- the shutdown
@@ -375,7 +422,7 @@ shut_kept : {P : Option ℕ → List Request → Life → List ℕ → List Link
 shut_kept k w (Ready l) h = ended_kept k w (closed_all (record { link = l; out = [] })).out h
 shut_kept k w Dialing h = ended_kept k w [] h
 shut_kept k w (Wanting l) h = ended_kept k w [] h
-shut_kept k w (SettingUp l with_user) h = ended_kept k w [] h
+shut_kept k w (SettingUp l greeting) h = ended_kept k w [] h
 shut_kept k w (Ended e) h = h
 
 -- new credentials come, where more may
@@ -402,6 +449,7 @@ applied_kept k w deserted h = unauthorized_kept k w (error.AuthFailed []) w.conn
 applied_kept k w (renewed c) h = expecting_kept k w c h
 applied_kept k w unrenewed h = h
 applied_kept k w (late n) h = late_for_kept k w n h
+applied_kept k w dropped h = dropped_kept k w h
 applied_kept k w shut h = shut_kept k w w.conn.life h
 
 -- moves
@@ -413,12 +461,18 @@ shown_kept k w (s ∷ ss) h =
     let a = act.Start s.msg (name_at w.conn.requests s.id) s.need s.len in
     shown_kept k (acted w a) ss (k.show w.conn.limit w.conn.requests w.conn.life w.conn.moved w.acts a (λ n. refl) h)
 
--- and so is that of a setup
-set_up_each_kept : {P : Option ℕ → List Request → Life → List ℕ → List LinkAct → Type 0} → IsKept P → (w : Work) (ss : List Started) → At P w → At P (set_up_each w ss)
-set_up_each_kept k w [] h = h
-set_up_each_kept k w (s ∷ ss) h =
-    let a = act.SetUp s.msg s.need s.len in
-    set_up_each_kept k (acted w a) ss (k.show w.conn.limit w.conn.requests w.conn.life w.conn.moved w.acts a (λ n. refl) h)
+-- what shows the start of a greeting answers nobody
+pub greeting_plain : (greeting : Greeting) (s : Started) → IsPlain (greeting_act greeting s)
+greeting_plain greet.WithUser s = λ n. refl
+greeting_plain greet.WithoutUser s = λ n. refl
+greeting_plain greet.Monitor s = λ n. refl
+
+-- and so is that of a greeting
+greeted_each_kept : {P : Option ℕ → List Request → Life → List ℕ → List LinkAct → Type 0} → IsKept P → (w : Work) (greeting : Greeting) (ss : List Started) → At P w → At P (greeted_each w greeting ss)
+greeted_each_kept k w greeting [] h = h
+greeted_each_kept k w greeting (s ∷ ss) h =
+    let a = greeting_act greeting s in
+    greeted_each_kept k (acted w a) greeting ss (k.show w.conn.limit w.conn.requests w.conn.life w.conn.moved w.acts a (greeting_plain greeting s) h)
 
 -- messages start
 started_at_kept : {P : Option ℕ → List Request → Life → List ℕ → List LinkAct → Type 0} → IsKept P → (w : Work) (life : Life) → P w.conn.limit w.conn.requests life w.conn.moved w.acts → At P w → At P (started_at w life)
@@ -426,9 +480,9 @@ started_at_kept k w (Ready l) g h =
     let s = started_all (record { link = l; out = [] }) in
     shown_kept k (with_link w s.link) s.out (k.start w.conn.limit w.conn.requests l w.conn.moved w.acts g)
 started_at_kept k w (Wanting l) g h = h
-started_at_kept k w (SettingUp l with_user) g h =
+started_at_kept k w (SettingUp l greeting) g h =
     let s = started_all (record { link = l; out = [] }) in
-    set_up_each_kept k (with_setup w s.link with_user) s.out (k.go_on w.conn.limit w.conn.requests l s.link with_user w.conn.moved w.acts (count_started l) g)
+    greeted_each_kept k (with_setup w s.link greeting) greeting s.out (k.go_on w.conn.limit w.conn.requests l s.link greeting w.conn.moved w.acts (count_started l) g)
 started_at_kept k w Dialing g h = h
 started_at_kept k w (Ended e) g h = h
 
@@ -447,7 +501,7 @@ renewal_moved_kept {P = P} k w (Ready l) (c ∷ cs) g h =
 renewal_moved_kept k w (Ready l) [] g h = h
 renewal_moved_kept k w Dialing cs g h = h
 renewal_moved_kept k w (Wanting l) cs g h = h
-renewal_moved_kept k w (SettingUp l with_user) cs g h = h
+renewal_moved_kept k w (SettingUp l greeting) cs g h = h
 renewal_moved_kept k w (Ended e) cs g h = h
 
 -- behind their timer, where they are to be answered within a time
@@ -483,7 +537,7 @@ seated_at_kept k w q (Ready l) t g h =
     started_kept k (told_at_place d q) (told_kept k d q (k.place lim r l (ms ++ q.number ∷ []) w.acts q t (k.note lim r (Ready l) ms w.acts q.number t g)))
 seated_at_kept k w q Dialing t g h = started_kept k (told_at_place w q) (told_kept k w q h)
 seated_at_kept k w q (Wanting l) t g h = started_kept k (told_at_place w q) (told_kept k w q h)
-seated_at_kept k w q (SettingUp l with_user) t g h = started_kept k (told_at_place w q) (told_kept k w q h)
+seated_at_kept k w q (SettingUp l greeting) t g h = started_kept k (told_at_place w q) (told_kept k w q h)
 seated_at_kept k w q (Ended e) t g h = started_kept k (told_at_place w q) (told_kept k w q h)
 
 -- on the link that the connection has
@@ -556,7 +610,7 @@ admitted_at_kept k w q (Ready l) t h =
 admitted_at_kept k w q (Ended e) t h = answered_kept k w q.number (outcome.Fault e) h
 admitted_at_kept k w q Dialing t h = h
 admitted_at_kept k w q (Wanting l) t h = h
-admitted_at_kept k w q (SettingUp l with_user) t h = h
+admitted_at_kept k w q (SettingUp l greeting) t h = h
 
 -- and any other stays
 pub admitted_kept : {P : Option ℕ → List Request → Life → List ℕ → List LinkAct → Type 0} → IsKept P → (w : Work) (q : Waiting) → At P w → At P (admitted w q)
@@ -583,9 +637,9 @@ written_at_kept {P = P} k w (Ready l) g h =
     chosen (At P) (can_offer l.outbox) _ w
     (λ t. k.show w.conn.limit w.conn.requests (Ready (offered_of l)) w.conn.moved w.acts (act.Write l.outbox.unwritten) (λ n. refl) (k.offer w.conn.limit w.conn.requests l w.conn.moved w.acts g))
     (λ f. h)
-written_at_kept {P = P} k w (SettingUp l with_user) g h =
+written_at_kept {P = P} k w (SettingUp l greeting) g h =
     chosen (At P) (can_offer l.outbox) _ w
-    (λ t. k.show w.conn.limit w.conn.requests (SettingUp (offered_of l) with_user) w.conn.moved w.acts (act.Write l.outbox.unwritten) (λ n. refl) (k.go_on w.conn.limit w.conn.requests l (offered_of l) with_user w.conn.moved w.acts (omega arith) g))
+    (λ t. k.show w.conn.limit w.conn.requests (SettingUp (offered_of l) greeting) w.conn.moved w.acts (act.Write l.outbox.unwritten) (λ n. refl) (k.go_on w.conn.limit w.conn.requests l (offered_of l) greeting w.conn.moved w.acts (omega arith) g))
     (λ f. h)
 written_at_kept k w Dialing g h = h
 written_at_kept k w (Wanting l) g h = h
@@ -660,6 +714,7 @@ fired_kept k t None h = h
 fired_kept k t (Some (purpose.Connect l)) h = h
 fired_kept k t (Some (purpose.Response owner.Setup)) h = h
 fired_kept k t (Some (purpose.Response owner.Auth)) h = h
+fired_kept k t (Some (purpose.Response owner.Monitor)) h = h
 fired_kept k t (Some (purpose.Renewal l number)) h = h
 fired_kept k t (Some (purpose.Response (owner.Try n round))) h = late_kept k t (slice_get t.core.table n) h
 
@@ -668,7 +723,7 @@ submitted_kept : {P : Option ℕ → List Request → Life → List ℕ → List
 submitted_kept {P = P} t k s h =
     let c = t.core.single.connection in
     chosen (λ (x : Turning). At P (work_of x)) t.core.shut _ _ (λ u. k.refuse c.limit c.requests c.life c.moved t.acts (outcome.Fault error.Closed) h)
-    (λ f. chosen (λ (x : Turning). At P (work_of x)) (lacks_resp3 c.info.protocol s) _ _ (λ u. k.refuse c.limit c.requests c.life c.moved t.acts (outcome.Fault error.Resp3Required) h)
+    (λ f. chosen (λ (x : Turning). At P (work_of x)) (lacks_resp3 c.hears c.info.protocol s) _ _ (λ u. k.refuse c.limit c.requests c.life c.moved t.acts (outcome.Fault error.Resp3Required) h)
     (λ d. chosen (λ (x : Turning). At P (work_of x)) (length (packed_bytes s) == 0) _ _ (λ u. k.refuse c.limit c.requests c.life c.moved t.acts (outcome.Fault error.EmptyCommand) h) (λ g. k.ask c.limit c.requests c.life c.moved t.acts h)))
 
 -- what an event is to the submissions
@@ -678,7 +733,8 @@ requested_kept k t a (event.Cancel n) h = left_by_kept k t (slice_get t.core.tab
 requested_kept k t a (event.Connected l) h = h
 requested_kept k t a (event.Refused l f) h = h
 requested_kept k t a (event.Fired n) h = fired_kept k t (slice_get t.core.timers n) h
-requested_kept k t a (event.Timeout ms) h = h
+requested_kept {P = P} k t a (event.Timeout ms) h =
+    chosen (λ (c : Core). P c.single.connection.limit c.single.connection.requests c.single.connection.life c.single.connection.moved t.acts) (is_single t.core.kind) (record t.core { timeout = ms }) t.core (λ y. h) (λ y. h)
 requested_kept k t a (event.Creds c auth) h = h
 requested_kept k t a (event.CredsError c text) h = h
 requested_kept k t a (event.CredsEnd c) h = h
@@ -688,6 +744,7 @@ requested_kept k t a (event.Ended l) h = h
 requested_kept k t a (event.ReadFault l kind) h = h
 requested_kept k t a (event.WriteFault l kind) h = h
 requested_kept k t a event.Shutdown h = h
+requested_kept k t a event.DropStream h = h
 
 -- the event's own effect
 pub effect_kept : {P : Option ℕ → List Request → Life → List ℕ → List LinkAct → Type 0} → IsKept P → (t : Turning) → CanAsk P (length t.core.table) → (kind : EventKind) → At P (work_of t) → At P (work_of (effect t kind))

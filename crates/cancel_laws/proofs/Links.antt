@@ -3,12 +3,13 @@ use Rattle.std.proofs.Common.{◌≡◌, ◌≢◌, ℕ, ◌==◌, ◌&&◌, not
 use Rattle.std.proofs.Math.Bool.{and-false}
 use Rattle.containers.proofs.Choices.{by_test, chosen, left_if, eq_from, eq_test, ne_test}
 use Rattle.resp_value.specs.Data.{Data}
-use Rattle.resp_read.specs.Items.{items}
+use Rattle.resp_read.specs.Values.{values}
 use Rattle.driver_model.specs.Shape.{need_of}
+use Rattle.driver_model.specs.declared.hearing.Hearing.{Hearing}
 use Rattle.link_core.specs.declared.message.Entry.{Entry}
 use Rattle.link_core.specs.declared.message.Queued.{Queued}
-use Rattle.link_core.specs.Dealing.{Dealing, with_item, dealt_to, dealt, dealt_each}
-use Rattle.link_core.specs.Link.{LinkState, Starting, Settling, entry_of, begun, holds_back, started_one, started_each, started_all, cancelled, piece_dealt}
+use Rattle.link_core.specs.Dealing.{Dealing, dealing_with, with_item, dealt_to, dealt, noticed_behind, taking_in, taken_as, taken, taken_each}
+use Rattle.link_core.specs.Link.{LinkState, Starting, Reading, entry_of, begun, holds_back, started_one, started_each, started_all, cancelled, nothing_read, came_all, piece_read}
 use Rattle.link_core.specs.Row.{silent, silenced}
 use Rattle.link_core.specs.Waiting.{is_wanted, without}
 use Rattle.link_laws.specs.Alike.{SameEntry, SameRow, SameLink}
@@ -45,8 +46,8 @@ none_started p s [] h = tt
 none_started p s (q ∷ qs) h = chosen (λ (x : Starting). NoneOf p x.link.queue) (holds_back s.link) _ _ (λ t. h) (λ f. none_started p (started_one s q) qs h.1)
 
 -- bytes come
-pub none_came : (p : ℕ) (l : LinkState) (piece : List ℕ) → NoneOf p l.queue → NoneOf p (piece_dealt (record { link = l; out = [] }) piece).link.queue
-none_came p l piece h = chosen (λ (x : Settling). NoneOf p x.link.queue) l.broken _ _ (λ t. h) (λ f. h)
+pub none_came : (p : ℕ) (what : Hearing) (l : LinkState) (piece : List ℕ) → NoneOf p l.queue → NoneOf p (piece_read what true l piece).link.queue
+none_came p what l piece h = chosen (λ (x : Reading). NoneOf p x.link.queue) l.broken (nothing_read l) (came_all what true l (l.rest ++ piece)) (λ t. h) (λ f. h)
 
 -- a list with one item less is not the same
 one_less : (p : ℕ) (q : Queued) (qs : List Queued) (b : Bool) → (if b then qs else q ∷ without qs p) ≡ q ∷ qs → (b ≡ false) × (without qs p ≡ qs)
@@ -81,15 +82,23 @@ quiet_dealt_to : (p : ℕ) (d : Dealing) (item : Data) (row : List Entry) → No
 quiet_dealt_to p d item [] h r = h
 quiet_dealt_to p d item (e ∷ es) h r = chosen (λ (x : Dealing). NoneWanted p x.row) (nat_lt (length (with_item e item).got) (need_of e.shape)) _ _ (λ t. (r.0, r.1)) (λ f. r.1)
 
--- and more
-quiet_dealt : (p : ℕ) (d : Dealing) (items : List Data) → NoneWanted p d.row → NoneWanted p (dealt_each d items).row
-quiet_dealt p d [] h = h
-quiet_dealt p d (v ∷ vs) h = quiet_dealt p (dealt d v) vs (quiet_dealt_to p d v d.row h h)
+-- a value comes
+quiet_taken : (p : ℕ) (what : Hearing) (d : Dealing) (v : Data) → NoneWanted p d.row → NoneWanted p (taken what true d v).row
+quiet_taken p what d v h =
+    let t = taking_in what true d v in
+    let m : Dealing = record d { notices = d.notices ++ noticed_behind (length d.out) t.told; strange = t.ends } in
+    chosen (λ (x : Dealing). NoneWanted p x.row) d.strange d (taken_as d t v) (λ y. h)
+    (λ n. chosen (λ (x : Dealing). NoneWanted p x.row) t.dealt (dealt m v) m (λ y. quiet_dealt_to p m v d.row h h) (λ y. h))
+
+-- and more do
+quiet_values : (p : ℕ) (what : Hearing) (d : Dealing) (vs : List Data) → NoneWanted p d.row → NoneWanted p (taken_each what true d vs).row
+quiet_values p what d [] h = h
+quiet_values p what d (v ∷ vs) h = quiet_values p what (taken what true d v) vs (quiet_taken p what d v h)
 
 -- bytes come
-pub quiet_came : (p : ℕ) (l : LinkState) (piece : List ℕ) → NoneWanted p l.row → NoneWanted p (piece_dealt (record { link = l; out = [] }) piece).link.row
-quiet_came p l piece h =
-    chosen (λ (x : Settling). NoneWanted p x.link.row) l.broken _ _ (λ t. h) (λ f. quiet_dealt p (record { row = l.row; out = [] }) (items (l.rest ++ piece)) h)
+pub quiet_came : (p : ℕ) (what : Hearing) (l : LinkState) (piece : List ℕ) → NoneWanted p l.row → NoneWanted p (piece_read what true l piece).link.row
+quiet_came p what l piece h =
+    chosen (λ (x : Reading). NoneWanted p x.link.row) l.broken (nothing_read l) (came_all what true l (l.rest ++ piece)) (λ t. h) (λ f. quiet_values p what (dealing_with l.row) (values (l.rest ++ piece)) h)
 
 -- one more verdict is not wanted
 pub quiet_silenced : (p m : ℕ) (row : List Entry) → NoneWanted p row → NoneWanted p (silenced row m)
@@ -180,8 +189,11 @@ pub hushed_begun : (p : ℕ) (l : LinkState) (q : Queued) → q.id ≢ p → hus
 hushed_begun p l q apart = ap (λ (row : List Entry). record (begun l q) { row = row }) (behind_hushed p l.row q apart)
 
 -- bytes come
-pub hushed_came : (p : ℕ) (l : LinkState) (piece : List ℕ) → hushed_link p (piece_dealt (record { link = l; out = [] }) piece).link ≡ (piece_dealt (record { link = hushed_link p l; out = [] }) piece).link
-hushed_came p l piece = hushed_is p _ _ (bytes_alike p l (hushed_link p l) [] [] piece (alike_hushed p l) refl).link (quiet_came p (hushed_link p l) piece (hushed_quiet p l.row))
+pub hushed_came : (p : ℕ) (what : Hearing) (l : LinkState) (piece : List ℕ) → hushed_link p (piece_read what true l piece).link ≡ (piece_read what true (hushed_link p l) piece).link
+hushed_came p what l piece =
+    hushed_is p (piece_read what true l piece).link (piece_read what true (hushed_link p l) piece).link
+    (bytes_alike p what true l (hushed_link p l) piece (alike_hushed p l) (inl refl)).0.link
+    (quiet_came p what (hushed_link p l) piece (hushed_quiet p l.row))
 
 -- the caller of another message goes
 pub hushed_cancelled : (p m : ℕ) (l : LinkState) → hushed_link p (cancelled l m) ≡ cancelled (hushed_link p l) m

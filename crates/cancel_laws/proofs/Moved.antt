@@ -52,7 +52,7 @@ bare_asked p c name packed shape awaited timeout l =
 own_life : (p : ℕ) (life : Life) → NoneQueued p life → hushed_life p (cancelled_in life p) ≡ hushed_life p life
 own_life p Dialing h = refl
 own_life p (Wanting l) h = refl
-own_life p (SettingUp l with_user) h = refl
+own_life p (SettingUp l greeting) h = refl
 own_life p (Ready l) h = ap Ready (own_cancelled p l (none_leaves p l.queue h))
 own_life p (Ended e) h = refl
 
@@ -72,7 +72,7 @@ own_left p c none =
 other_life : (p q : ℕ) (life : Life) → hushed_life p (cancelled_in life q) ≡ cancelled_in (hushed_life p life) q
 other_life p q Dialing = refl
 other_life p q (Wanting l) = refl
-other_life p q (SettingUp l with_user) = refl
+other_life p q (SettingUp l greeting) = refl
 other_life p q (Ready l) = ap Ready (hushed_cancelled p q l)
 other_life p q (Ended e) = refl
 
@@ -154,7 +154,7 @@ bare_started_at n p w (Ready l) none =
     bare_shown n p (with_link w s.link) s.out ∙ (λ i. starts_with (bare n p w) (record { link = link i; out = out i }))
 bare_started_at n p w Dialing none = refl
 bare_started_at n p w (Wanting l) none = absurd none
-bare_started_at n p w (SettingUp l with_user) none = absurd none
+bare_started_at n p w (SettingUp l greeting) none = absurd none
 bare_started_at n p w (Ended e) none = refl
 
 -- on the link that the connection has
@@ -174,7 +174,7 @@ bare_renewal_moved n p w (Ready l) (c ∷ cs) apart =
 bare_renewal_moved n p w (Ready l) [] apart = refl
 bare_renewal_moved n p w Dialing cs apart = refl
 bare_renewal_moved n p w (Wanting l) cs apart = refl
-bare_renewal_moved n p w (SettingUp l with_user) cs apart = refl
+bare_renewal_moved n p w (SettingUp l greeting) cs apart = refl
 bare_renewal_moved n p w (Ended e) cs apart = refl
 
 -- their timer
@@ -224,7 +224,7 @@ bare_seated_at n p w q (Ready l) t g h =
     ∙ ap (λ (x : Work). started (told_at_place x q)) (bare_placed n p w q l (other_test is_admitted w.conn.requests q.number p t g.seated))
 bare_seated_at n p w q Dialing t g h = bare_started n p (told_at_place w q) (told_kept (gone_kept n p) w q h) ∙ ap started (bare_told n p w q h)
 bare_seated_at n p w q (Wanting l) t g h = bare_started n p (told_at_place w q) (told_kept (gone_kept n p) w q h) ∙ ap started (bare_told n p w q h)
-bare_seated_at n p w q (SettingUp l with_user) t g h = bare_started n p (told_at_place w q) (told_kept (gone_kept n p) w q h) ∙ ap started (bare_told n p w q h)
+bare_seated_at n p w q (SettingUp l greeting) t g h = bare_started n p (told_at_place w q) (told_kept (gone_kept n p) w q h) ∙ ap started (bare_told n p w q h)
 bare_seated_at n p w q (Ended e) t g h = bare_started n p (told_at_place w q) (told_kept (gone_kept n p) w q h) ∙ ap started (bare_told n p w q h)
 
 -- on the link that the connection has
@@ -243,7 +243,7 @@ bare_moved_up n p w q h =
 room_same : (p count : ℕ) (life : Life) → has_room_at life count ≡ has_room_at (hushed_life p life) count
 room_same p count Dialing = refl
 room_same p count (Wanting l) = refl
-room_same p count (SettingUp l with_user) = refl
+room_same p count (SettingUp l greeting) = refl
 room_same p count (Ready l) = refl
 room_same p count (Ended e) = refl
 
@@ -322,7 +322,7 @@ bare_admitted_at n p w q (Ready l) t none h =
 bare_admitted_at n p w q (Ended e) t none h = bare_answered n p w q.number (outcome.Fault e) h
 bare_admitted_at n p w q Dialing t none h = refl
 bare_admitted_at n p w q (Wanting l) t none h = refl
-bare_admitted_at n p w q (SettingUp l with_user) t none h = refl
+bare_admitted_at n p w q (SettingUp l greeting) t none h = refl
 
 -- and any other stays
 bare_admitted : (n p : ℕ) (w : Work) (q : Waiting) → w.conn.limit ≡ None → At (There (IsGone n p)) w → bare n p (admitted w q) ≡ admitted (bare n p w) q
@@ -336,7 +336,7 @@ bare_admitted n p w q none h =
 stuck_same : (p : ℕ) (life : Life) (lim : Option ℕ) (j k : ℕ) → lim ≡ None → admits_none_at life (has_no_permit lim j) ≡ admits_none_at (hushed_life p life) (has_no_permit lim k)
 stuck_same p Dialing lim j k none = refl
 stuck_same p (Wanting l) lim j k none = refl
-stuck_same p (SettingUp l with_user) lim j k none = refl
+stuck_same p (SettingUp l greeting) lim j k none = refl
 stuck_same p (Ready l) None j k none = refl
 stuck_same p (Ready l) (Some most) j k none = cc
 stuck_same p (Ended e) lim j k none = refl
@@ -370,8 +370,8 @@ bare_written_at : (n p : ℕ) (w : Work) (life : Life) → bare n p (written_at 
 bare_written_at n p w (Ready l) =
     either (bare n p) (can_offer l.outbox) _ w _ (bare n p w) (λ t. bare_acted n p (with_link w (offered_of l)) (act.Write l.outbox.unwritten) (λ m. refl)) (λ f. refl)
 bare_written_at n p w (Wanting l) = refl
-bare_written_at n p w (SettingUp l with_user) =
-    either (bare n p) (can_offer l.outbox) _ w _ (bare n p w) (λ t. bare_acted n p (with_setup w (offered_of l) with_user) (act.Write l.outbox.unwritten) (λ m. refl)) (λ f. refl)
+bare_written_at n p w (SettingUp l greeting) =
+    either (bare n p) (can_offer l.outbox) _ w _ (bare n p w) (λ t. bare_acted n p (with_setup w (offered_of l) greeting) (act.Write l.outbox.unwritten) (λ m. refl)) (λ f. refl)
 bare_written_at n p w Dialing = refl
 bare_written_at n p w (Ended e) = refl
 
@@ -379,7 +379,7 @@ bare_written_at n p w (Ended e) = refl
 early_same : (p : ℕ) (life : Life) → early_wait life ≡ early_wait (hushed_life p life)
 early_same p Dialing = refl
 early_same p (Wanting l) = refl
-early_same p (SettingUp l with_user) = refl
+early_same p (SettingUp l greeting) = refl
 early_same p (Ready l) = refl
 early_same p (Ended e) = refl
 
@@ -394,7 +394,7 @@ bare_wait n p w q (Some kind) =
 first_same : (p : ℕ) (life : Life) → first_queued life ≡ first_queued (hushed_life p life)
 first_same p Dialing = refl
 first_same p (Wanting l) = refl
-first_same p (SettingUp l with_user) = refl
+first_same p (SettingUp l greeting) = refl
 first_same p (Ready l) = refl
 first_same p (Ended e) = refl
 

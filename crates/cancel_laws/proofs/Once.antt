@@ -3,12 +3,13 @@ use Rattle.std.proofs.Common.{◌≡◌, ◌≢◌, ℕ, zero, suc, ◌+◌, ◌
 use Rattle.std.proofs.Math.Bool.{and-false}
 use Rattle.containers.proofs.Choices.{by_test, chosen, taken_if, left_if, eq_from, ne_test}
 use Rattle.resp_value.specs.Data.{Data}
-use Rattle.resp_read.specs.Items.{items}
+use Rattle.resp_read.specs.Values.{values}
 use Rattle.driver_model.specs.Shape.{need_of}
+use Rattle.driver_model.specs.declared.hearing.Hearing.{Hearing}
 use Rattle.link_core.specs.declared.message.Entry.{Entry}
 use Rattle.link_core.specs.declared.message.Queued.{Queued}
-use Rattle.link_core.specs.Dealing.{Dealing, with_item, dealt_to, dealt, dealt_each}
-use Rattle.link_core.specs.Link.{LinkState, Starting, Settling, entry_of, holds_back, started_one, started_each}
+use Rattle.link_core.specs.Dealing.{Dealing, dealing_with, with_item, dealt_to, dealt, noticed_behind, taking_in, taken_as, taken, taken_each}
+use Rattle.link_core.specs.Link.{LinkState, Starting, Reading, entry_of, holds_back, started_one, started_each, nothing_read, came_all}
 use Rattle.link_core.specs.Row.{silenced}
 use Rattle.link_core.specs.Waiting.{is_wanted, without}
 use Rattle.mux_conn.specs.declared.life.Life.{Life}
@@ -46,7 +47,7 @@ places p (q ∷ qs) = one p q.id + places p qs
 abbrev pub all_of : ℕ → Life → ℕ
 all_of p Dialing = 0
 all_of p (Wanting l) = 0
-all_of p (SettingUp l with_user) = 0
+all_of p (SettingUp l greeting) = 0
 all_of p (Ready l) = times p l.row + places p l.queue
 all_of p (Ended e) = 0
 
@@ -70,7 +71,7 @@ share r p = share_of (slice_get r p)
 abbrev pub HasOne : Life → Type 0
 HasOne Dialing = Unit {0}
 HasOne (Wanting l) = count_on l ≤ 0
-HasOne (SettingUp l with_user) = count_on l ≤ 1
+HasOne (SettingUp l greeting) = count_on l ≤ 1
 HasOne (Ready l) = Unit {0}
 HasOne (Ended e) = Unit {0}
 
@@ -158,10 +159,18 @@ times_dealt_to p d item [] l = l
 times_dealt_to p d item (e ∷ es) l =
     chosen (λ (x : Dealing). times p x.row ≤ times p (e ∷ es)) (nat_lt (length (with_item e item).got) (need_of e.shape)) _ _ (λ t. omega arith) (λ f. omega arith)
 
--- nor where more are
-times_dealt : (p : ℕ) (d : Dealing) (items : List Data) → times p (dealt_each d items).row ≤ times p d.row
-times_dealt p d [] = omega arith
-times_dealt p d (v ∷ vs) = omega (arith, times_dealt p (dealt d v) vs, times_dealt_to p d v d.row (omega arith))
+-- nor where a value comes
+times_taken : (p : ℕ) (what : Hearing) (d : Dealing) (v : Data) → times p (taken what true d v).row ≤ times p d.row
+times_taken p what d v =
+    let t = taking_in what true d v in
+    let m : Dealing = record d { notices = d.notices ++ noticed_behind (length d.out) t.told; strange = t.ends } in
+    chosen (λ (x : Dealing). times p x.row ≤ times p d.row) d.strange d (taken_as d t v) (λ y. omega arith)
+    (λ n. chosen (λ (x : Dealing). times p x.row ≤ times p d.row) t.dealt (dealt m v) m (λ y. times_dealt_to p m v d.row (omega arith)) (λ y. omega arith))
+
+-- nor where more do
+times_values : (p : ℕ) (what : Hearing) (d : Dealing) (vs : List Data) → times p (taken_each what true d vs).row ≤ times p d.row
+times_values p what d [] = omega arith
+times_values p what d (v ∷ vs) = omega (arith, times_values p what (taken what true d v) vs, times_taken p what d v)
 
 -- who starts is on the link before and after
 starts_same : (p : ℕ) (s : Starting) (queue : List Queued) → all_of p (Ready (started_each s queue).link) ≡ times p s.link.row + places p queue
@@ -174,7 +183,7 @@ starts_same p s (q ∷ qs) =
 cancelled_once : (p q : ℕ) (life : Life) → all_of p (cancelled_in life q) ≤ all_of p life
 cancelled_once p q Dialing = omega arith
 cancelled_once p q (Wanting l) = omega arith
-cancelled_once p q (SettingUp l with_user) = omega arith
+cancelled_once p q (SettingUp l greeting) = omega arith
 cancelled_once p q (Ready l) = omega (arith, times_silenced p q l.row, places_without p q l.queue)
 cancelled_once p q (Ended e) = omega arith
 
@@ -182,7 +191,7 @@ cancelled_once p q (Ended e) = omega arith
 cancelled_alone : (q : ℕ) (life : Life) → HasOne life → HasOne (cancelled_in life q)
 cancelled_alone q Dialing h = h
 cancelled_alone q (Wanting l) h = h
-cancelled_alone q (SettingUp l with_user) h = h
+cancelled_alone q (SettingUp l greeting) h = h
 cancelled_alone q (Ready l) h = tt
 cancelled_alone q (Ended e) h = h
 
@@ -214,10 +223,10 @@ once_there p apart = record {
   want = λ r size bound h. record { within = omega arith; alone = omega arith };
   wait_on = λ r l k few h. record { within = omega arith; alone = omega (arith, few, h.alone) };
   connect = λ r l h. record { within = omega (arith, h.alone, times_count p l.row, places_count p l.queue); alone = tt };
-  set_up = λ r l q with_user h. record { within = omega arith; alone = omega (arith, h.alone, count_push l q) };
-  go_on = λ r l k with_user few h. record { within = omega arith; alone = omega (arith, few, h.alone) };
-  repeat = λ r l k q with_user few h. record { within = omega arith; alone = omega (arith, few, h.alone, count_push k q) };
-  ready = λ r l k with_user few h. record { within = omega (arith, few, h.alone, times_count p k.row, places_count p k.queue); alone = tt };
+  set_up = λ r l q greeting h. record { within = omega arith; alone = omega (arith, h.alone, count_push l q) };
+  go_on = λ r l k greeting few h. record { within = omega arith; alone = omega (arith, few, h.alone) };
+  repeat = λ r l k q greeting next few h. record { within = omega arith; alone = omega (arith, few, h.alone, count_push k q) };
+  ready = λ r l k greeting few h. record { within = omega (arith, few, h.alone, times_count p k.row, places_count p k.queue); alone = tt };
   admit = λ r life q count t h. record { within = omega (arith, h.within, share_admit r p q count t); alone = h.alone };
   place = λ r l q t h. record { within = omega (arith, placed_once p q.number r (all_of p (Ready l)) t h.within, places_push p l.queue (message_of q)); alone = tt };
   start = λ r l h. record { within = omega (arith, h.within, starts_same p (record { link = l; out = [] }) l.queue); alone = tt };
@@ -226,8 +235,8 @@ once_there p apart = record {
       record { within = omega (arith, h.within, times_push p l.row (entry_of q), other); alone = tt };
   offer = λ r l h. record { within = h.within; alone = tt };
   write = λ r l k h. record { within = h.within; alone = tt };
-  come = λ r l piece h. chosen (λ (x : Settling). IsOnce p r (Ready x.link)) l.broken _ _ (λ t. h)
-      (λ f. record { within = omega (arith, h.within, times_dealt p (record { row = l.row; out = [] }) (items (l.rest ++ piece))); alone = tt });
+  come = λ r l what piece h. chosen (λ (x : Reading). IsOnce p r (Ready x.link)) l.broken (nothing_read l) (came_all what true l (l.rest ++ piece)) (λ t. h)
+      (λ f. record { within = omega (arith, h.within, times_values p what (dealing_with l.row) (values (l.rest ++ piece))); alone = tt });
   end = λ r life e h. record { within = omega arith; alone = tt };
 }
 

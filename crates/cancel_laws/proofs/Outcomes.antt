@@ -27,6 +27,8 @@ told_unnumbered os (action.Connect l host port) = refl
 told_unnumbered os (action.Timer t ms what) = refl
 told_unnumbered os (action.Took who l count) = refl
 told_unnumbered os (action.Push l info) = refl
+told_unnumbered os (action.Message m) = refl
+told_unnumbered os (action.Monitor v) = refl
 told_unnumbered os (action.NeedCreds c l) = refl
 told_unnumbered os (action.Close l) = refl
 told_unnumbered os (action.Write l bytes) = refl
@@ -67,6 +69,7 @@ erased_room n os (event.Ended l) = refl
 erased_room n os (event.ReadFault l kind) = refl
 erased_room n os (event.WriteFault l kind) = refl
 erased_room n os event.Shutdown = refl
+erased_room n os event.DropStream = refl
 
 -- an outcome tells nothing where it is submission n's, and else the same
 erased_outcome : (n m : ℕ) (os : List (Option Outcome)) (o : Outcome) → erased n (slice_set os m (Some o)) ≡ told_each (erased n os) (if m == n then [] else action.Outcome m o ∷ [])
@@ -85,6 +88,8 @@ erased_one n os (action.Connect l host port) = refl
 erased_one n os (action.Timer t ms what) = refl
 erased_one n os (action.Took who l count) = refl
 erased_one n os (action.Push l info) = refl
+erased_one n os (action.Message m) = refl
+erased_one n os (action.Monitor v) = refl
 erased_one n os (action.NeedCreds c l) = refl
 erased_one n os (action.Close l) = refl
 erased_one n os (action.Write l bytes) = refl
@@ -126,6 +131,7 @@ none_in_room os (event.Ended l) n = refl
 none_in_room os (event.ReadFault l kind) n = refl
 none_in_room os (event.WriteFault l kind) n = refl
 none_in_room os event.Shutdown n = refl
+none_in_room os event.DropStream n = refl
 
 -- one action
 none_one : (n : ℕ) (os : List (Option Outcome)) (a : Action) → outcome_at (told_each os (shown_of n a)) n ≡ outcome_at os n
@@ -135,6 +141,8 @@ none_one n os (action.Connect l host port) = refl
 none_one n os (action.Timer t ms what) = refl
 none_one n os (action.Took who l count) = refl
 none_one n os (action.Push l info) = refl
+none_one n os (action.Message m) = refl
+none_one n os (action.Monitor v) = refl
 none_one n os (action.NeedCreds c l) = refl
 none_one n os (action.Close l) = refl
 none_one n os (action.Write l bytes) = refl

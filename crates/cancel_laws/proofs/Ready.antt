@@ -8,6 +8,8 @@ use Rattle.driver_model.specs.declared.config.Config.{Config}
 use Rattle.driver_model.specs.declared.event.Event.{Event}
 use Rattle.driver_model.specs.declared.event.EventKind.{EventKind}
 use Rattle.driver_model.specs.declared.event.EventKind.TheVariants as event
+use Rattle.driver_model.specs.Config.{permits}
+use Rattle.driver_model.specs.Kind.{is_single}
 use Rattle.driver_model.specs.Request.{packed_bytes, lacks_resp3}
 use Rattle.mux_conn.specs.declared.life.Life.{Life}
 use Rattle.mux_conn.specs.declared.request.Pending.{Pending}
@@ -40,17 +42,17 @@ names_there ns = record {
   want = λ r size bound h. h;
   wait_on = λ r l k few h. h;
   connect = λ r l h. h;
-  set_up = λ r l q with_user h. h;
-  go_on = λ r l k with_user few h. h;
-  repeat = λ r l k q with_user few h. h;
-  ready = λ r l k with_user few h. h;
+  set_up = λ r l q greeting h. h;
+  go_on = λ r l k greeting few h. h;
+  repeat = λ r l k q greeting next few h. h;
+  ready = λ r l k greeting few h. h;
   admit = λ r life q count t h. names_stay r q progress.Admitted count ∙ h;
   place = λ r l q t h. names_stay r q.number progress.Placed (permits_at r q.number) ∙ h;
   start = λ r l h. h;
   renew = λ r l q own h. h;
   offer = λ r l h. h;
   write = λ r l k h. h;
-  come = λ r l piece h. h;
+  come = λ r l what piece h. h;
   end = λ r life e h. h;
 }
 
@@ -92,6 +94,7 @@ table_fired t None = refl
 table_fired t (Some (purpose.Connect l)) = refl
 table_fired t (Some (purpose.Response owner.Setup)) = refl
 table_fired t (Some (purpose.Response owner.Auth)) = refl
+table_fired t (Some (purpose.Response owner.Monitor)) = refl
 table_fired t (Some (purpose.Renewal l k)) = refl
 table_fired t (Some (purpose.Response (owner.Try n round))) = table_late t (slice_get t.core.table n)
 
@@ -105,14 +108,14 @@ named_requested t (event.Submit s) h =
     let r = t.core.single.connection.requests in
     let x : Request = record { name = length t.core.table; progress = progress.Waiting; permits = 0 } in
     chosen NamedIn t.core.shut _ _ (λ u. named_refused t.core.table (names r) h)
-    (λ f. chosen NamedIn (lacks_resp3 t.core.single.connection.info.protocol s) _ _ (λ u. named_refused t.core.table (names r) h)
+    (λ f. chosen NamedIn (lacks_resp3 t.core.single.connection.hears t.core.single.connection.info.protocol s) _ _ (λ u. named_refused t.core.table (names r) h)
     (λ d. chosen NamedIn (length (packed_bytes s) == 0) _ _ (λ u. named_refused t.core.table (names r) h)
     (λ g. subst (AreNamed (t.core.table ++ Some (record { number = length r }) ∷ [])) (sym (names_push r x)) (named_asked t.core.table (names r) (length r) (names_count r) h))))
 named_requested t (event.Cancel n) h = named_left_by t (slice_get t.core.table n) h
 named_requested t (event.Connected l) h = h
 named_requested t (event.Refused l f) h = h
 named_requested t (event.Fired n) h = named_fired_by t (slice_get t.core.timers n) h
-named_requested t (event.Timeout ms) h = h
+named_requested t (event.Timeout ms) h = chosen (λ (c : Core). NamedIn (record t { core = c })) (is_single t.core.kind) (record t.core { timeout = ms }) t.core (λ y. h) (λ y. h)
 named_requested t (event.Creds c auth) h = h
 named_requested t (event.CredsError c text) h = h
 named_requested t (event.CredsEnd c) h = h
@@ -122,6 +125,7 @@ named_requested t (event.Ended l) h = h
 named_requested t (event.ReadFault l kind) h = h
 named_requested t (event.WriteFault l kind) h = h
 named_requested t event.Shutdown h = h
+named_requested t event.DropStream h = h
 
 -- and the rest of the turn
 named_moved_on : (t : Turning) → NamedIn t → NamedIn (moved_on t)
@@ -173,6 +177,6 @@ unlimited_on c [] none = none
 unlimited_on c (e ∷ es) none = unlimited_on (next_turn c e.kind).core es (turn_unlimited c e.kind none)
 
 -- after any history of such a configuration
-pub unlimited_after : (config : Config) (word : ℕ) (es : List Event) → config.limit ≡ None → AtCore Unlimited (state_after config word es)
+pub unlimited_after : (config : Config) (word : ℕ) (es : List Event) → permits config ≡ None → AtCore Unlimited (state_after config word es)
 unfolding state_after
 unlimited_after config word es none = unlimited_on (opening_core config word) es none

@@ -11,6 +11,7 @@ use Rattle.link_core.specs.Outbox.{can_offer}
 use Rattle.credentials.specs.Credentials.{Credentials}
 use Rattle.mux_conn.specs.declared.act.LinkAct.TheVariants as act
 use Rattle.mux_conn.specs.declared.connection.MultiplexedConnection.{MultiplexedConnection}
+use Rattle.mux_conn.specs.declared.life.Greeting.{Greeting}
 use Rattle.mux_conn.specs.declared.life.Life.{Life}
 use Rattle.mux_conn.specs.declared.life.Life.TheVariants.{Dialing, Wanting, SettingUp, Ready, Ended}
 use Rattle.mux_conn.specs.declared.request.Waiting.{Waiting}
@@ -20,7 +21,7 @@ use Rattle.mux_conn.specs.Renewals as renewals
 use Rattle.mux_conn.specs.Renewals.{renewing, asked_next, renewal_timed, renewal_asked, renewal_told, renewal_moved}
 use Rattle.mux_conn.specs.Requests.{is_open_at, is_waiting_at, is_admitted_at, name_at, closed, answered}
 use Rattle.mux_conn.specs.Effects.{cancelled_in, left}
-use Rattle.mux_conn.specs.Passes.{shown_each, starts_with, set_up_each, sets_up_with, started_at, started, placed_at, told_at_place, seated, still_admitted, moved_up, moved_up_each, moved_up_all, put_behind, seated_or_behind, let_in, admitted_at, admitted, still_waiting, admitted_each, admitted_all, passed}
+use Rattle.mux_conn.specs.Passes.{shown_each, starts_with, greeting_act, greeted_each, greets_with, started_at, started, placed_at, told_at_place, seated, still_admitted, moved_up, moved_up_each, moved_up_all, put_behind, seated_or_behind, let_in, admitted_at, admitted, still_waiting, admitted_each, admitted_all, passed}
 use Rattle.mux_conn.specs.Turn.{written_at, written, moved_wait, fresh_wait, wait_shown, moved_each_shown, moved_shown, fresh_each_shown, fresh_shown, waits_shown, flushed}
 use Rattle.cancel_laws.proofs.Links.{none_leaves}
 use Rattle.cancel_laws.proofs.Kept.{let_in_conn}
@@ -36,7 +37,7 @@ IsThrough l = (l.queue ≡ []) ⊎ (holds_back l ≡ true)
 abbrev pub HasStartedAll : Life → Type 0
 HasStartedAll Dialing = Unit {0}
 HasStartedAll (Wanting l) = Unit {0}
-HasStartedAll (SettingUp l with_user) = IsThrough l
+HasStartedAll (SettingUp l greeting) = IsThrough l
 HasStartedAll (Ready l) = IsThrough l
 HasStartedAll (Ended e) = Unit {0}
 
@@ -44,7 +45,7 @@ HasStartedAll (Ended e) = Unit {0}
 abbrev pub HasOffered : Life → Type 0
 HasOffered Dialing = Unit {0}
 HasOffered (Wanting l) = Unit {0}
-HasOffered (SettingUp l with_user) = can_offer l.outbox ≡ false
+HasOffered (SettingUp l greeting) = can_offer l.outbox ≡ false
 HasOffered (Ready l) = can_offer l.outbox ≡ false
 HasOffered (Ended e) = Unit {0}
 
@@ -117,10 +118,10 @@ pub conn_shown : (w : Work) (ss : List Started) → (shown_each w ss).conn ≡ w
 conn_shown w [] = refl
 conn_shown w (s ∷ ss) = conn_shown (acted w (act.Start s.msg (name_at w.conn.requests s.id) s.need s.len)) ss
 
--- nor does the start of a setup
-setup_shown : (w : Work) (ss : List Started) → (set_up_each w ss).conn ≡ w.conn
-setup_shown w [] = refl
-setup_shown w (s ∷ ss) = setup_shown (acted w (act.SetUp s.msg s.need s.len)) ss
+-- nor does the start of a greeting
+setup_shown : (w : Work) (greeting : Greeting) (ss : List Started) → (greeted_each w greeting ss).conn ≡ w.conn
+setup_shown w greeting [] = refl
+setup_shown w greeting (s ∷ ss) = setup_shown (acted w (greeting_act greeting s)) greeting ss
 
 -- a function of the life that a connection has is looked at with a life that is known to be it
 started_from : (w : Work) (life : Life) → w.conn.life ≡ life → HasRenewed w.conn.renewal life → Through (started_at w life).conn
@@ -128,9 +129,9 @@ started_from w (Ready l) e h =
     let s = started_all (record { link = l; out = [] }) in
     subst Through (sym (conn_shown (with_link w s.link) s.out))
     (record { queue = queue_starts (record { link = l; out = [] }) l.queue; renewed = λ t. let k = h t in (k.0, held_starts (record { link = l; out = [] }) l.queue k.1) })
-started_from w (SettingUp l with_user) e h =
+started_from w (SettingUp l greeting) e h =
     let s = started_all (record { link = l; out = [] }) in
-    subst Through (sym (setup_shown (with_setup w s.link with_user) s.out)) (record { queue = queue_starts (record { link = l; out = [] }) l.queue; renewed = λ t. cc })
+    subst Through (sym (setup_shown (with_setup w s.link greeting) greeting s.out)) (record { queue = queue_starts (record { link = l; out = [] }) l.queue; renewed = λ t. cc })
 started_from w (Wanting l) e h = subst (IsStartedOn w.conn.renewal) (sym e) (record { queue = tt; renewed = h })
 started_from w Dialing e h = subst (IsStartedOn w.conn.renewal) (sym e) (record { queue = tt; renewed = h })
 started_from w (Ended x) e h = subst (IsStartedOn w.conn.renewal) (sym e) (record { queue = tt; renewed = h })
@@ -148,7 +149,7 @@ moved_renewed w (Ready l) (c ∷ cs) e asked is =
 moved_renewed w (Ready l) [] e asked is = λ t. absurd (none_due w.conn.renewal is (both_right (is_ready w.conn.life) (is_due w.conn.renewal) t))
 moved_renewed w Dialing cs e asked is = λ t. absurd (not_both (is_ready w.conn.life) (ap is_ready e) (both_left (is_ready w.conn.life) (is_due w.conn.renewal) t))
 moved_renewed w (Wanting l) cs e asked is = λ t. absurd (not_both (is_ready w.conn.life) (ap is_ready e) (both_left (is_ready w.conn.life) (is_due w.conn.renewal) t))
-moved_renewed w (SettingUp l with_user) cs e asked is = λ t. absurd (not_both (is_ready w.conn.life) (ap is_ready e) (both_left (is_ready w.conn.life) (is_due w.conn.renewal) t))
+moved_renewed w (SettingUp l greeting) cs e asked is = λ t. absurd (not_both (is_ready w.conn.life) (ap is_ready e) (both_left (is_ready w.conn.life) (is_due w.conn.renewal) t))
 moved_renewed w (Ended x) cs e asked is = λ t. absurd (not_both (is_ready w.conn.life) (ap is_ready e) (both_left (is_ready w.conn.life) (is_due w.conn.renewal) t))
 
 -- behind their timer
@@ -172,9 +173,9 @@ admitted_started w (Ready l) =
     let s = started_all (record { link = l; out = [] }) in
     ap (λ (c : MultiplexedConnection). c.admitted) (conn_shown (with_link w s.link) s.out)
 admitted_started w (Wanting l) = refl
-admitted_started w (SettingUp l with_user) =
+admitted_started w (SettingUp l greeting) =
     let s = started_all (record { link = l; out = [] }) in
-    ap (λ (c : MultiplexedConnection). c.admitted) (setup_shown (with_setup w s.link with_user) s.out)
+    ap (λ (c : MultiplexedConnection). c.admitted) (setup_shown (with_setup w s.link greeting) greeting s.out)
 admitted_started w Dialing = refl
 admitted_started w (Ended e) = refl
 
@@ -182,7 +183,7 @@ admitted_started w (Ended e) = refl
 admitted_placed : (w : Work) (q : Waiting) (life : Life) → (placed_at w q life).conn.admitted ≡ w.conn.admitted
 admitted_placed w q (Ready l) = refl
 admitted_placed w q (Wanting l) = refl
-admitted_placed w q (SettingUp l with_user) = refl
+admitted_placed w q (SettingUp l greeting) = refl
 admitted_placed w q Dialing = refl
 admitted_placed w q (Ended e) = refl
 
@@ -206,7 +207,7 @@ renewed_placed : (w : Work) (q : Waiting) (life : Life) → w.conn.life ≡ life
 renewed_placed w q (Ready l) e h = subst (HasRenewed w.conn.renewal) e h
 renewed_placed w q Dialing e h = h
 renewed_placed w q (Wanting l) e h = h
-renewed_placed w q (SettingUp l with_user) e h = h
+renewed_placed w q (SettingUp l greeting) e h = h
 renewed_placed w q (Ended x) e h = h
 
 -- nor does its answer
@@ -246,7 +247,7 @@ one_admitted_at w q (Ready l) h = one_or_behind (let_in w q) q (subst IsSeated (
 one_admitted_at w q (Ended e) h =
     chosen (λ (x : Work). IsSeated x.conn) (is_open_at w.conn.requests q.number) _ w (λ t. record { through = h.through; admitted = h.admitted }) (λ f. h)
 one_admitted_at w q (Wanting l) h = h
-one_admitted_at w q (SettingUp l with_user) h = h
+one_admitted_at w q (SettingUp l greeting) h = h
 one_admitted_at w q Dialing h = h
 
 -- and any other stays
@@ -285,8 +286,8 @@ through_offered : {r : Renewal} → (l : LinkState) → IsStartedOn r (Ready l) 
 through_offered l h = record { queue = queue_offered l h.queue; renewed = h.renewed }
 
 -- also while it is set up
-setup_offered_through : {r : Renewal} → (l : LinkState) (with_user : Bool) → IsStartedOn r (SettingUp l with_user) → IsStartedOn r (SettingUp (offered_of l) with_user)
-setup_offered_through l with_user h = record { queue = queue_offered l h.queue; renewed = h.renewed }
+setup_offered_through : {r : Renewal} → (l : LinkState) (greeting : Greeting) → IsStartedOn r (SettingUp l greeting) → IsStartedOn r (SettingUp (offered_of l) greeting)
+setup_offered_through l greeting h = record { queue = queue_offered l h.queue; renewed = h.renewed }
 
 -- bytes are offered
 written_from : (w : Work) (life : Life) → w.conn.life ≡ life → IsMoved w.conn → IsWritten (written_at w life).conn
@@ -301,11 +302,11 @@ written_from w (Ready l) e h =
     })
     (λ f. record { moved = h; offered = subst HasOffered (sym e) f })
 written_from w (Wanting l) e h = record { moved = h; offered = subst HasOffered (sym e) tt }
-written_from w (SettingUp l with_user) e h =
+written_from w (SettingUp l greeting) e h =
     chosen (λ (x : Work). IsWritten x.conn) (can_offer l.outbox) _ w
     (λ t. record {
       moved = record {
-        seated = record { through = setup_offered_through l with_user (subst (IsStartedOn w.conn.renewal) e h.seated.through); admitted = λ u. h.seated.admitted (ap (λ (x : Life). has_room_at x (in_front w.conn.renewal)) e ∙ u) };
+        seated = record { through = setup_offered_through l greeting (subst (IsStartedOn w.conn.renewal) e h.seated.through); admitted = λ u. h.seated.admitted (ap (λ (x : Life). has_room_at x (in_front w.conn.renewal)) e ∙ u) };
         waiting = λ f. h.waiting (ap (λ (x : Life). admits_none_at x (has_no_permit w.conn.limit w.conn.free)) e ∙ f);
       };
       offered = offered_none (length l.outbox.unwritten == 0);
@@ -369,7 +370,7 @@ none_starts l (q ∷ qs) e (inr held) =
 pub started_stays : (w : Work) (life : Life) → w.conn.life ≡ life → HasStartedAll life → started_at w life ≡ w
 started_stays w (Ready l) e h = ap (starts_with w) (none_starts l l.queue refl h) ∙ ap (at_life w) (sym e)
 started_stays w (Wanting l) e h = refl
-started_stays w (SettingUp l with_user) e h = ap (sets_up_with w with_user) (none_starts l l.queue refl h) ∙ ap (at_life w) (sym e)
+started_stays w (SettingUp l greeting) e h = ap (greets_with w greeting) (none_starts l l.queue refl h) ∙ ap (at_life w) (sym e)
 started_stays w Dialing e h = refl
 started_stays w (Ended x) e h = refl
 
@@ -397,7 +398,7 @@ moved_stays_held w (Ready l) (c ∷ cs) held = taken_if (holds_back l) w _ held
 moved_stays_held w (Ready l) [] held = refl
 moved_stays_held w Dialing cs held = refl
 moved_stays_held w (Wanting l) cs held = refl
-moved_stays_held w (SettingUp l with_user) cs held = refl
+moved_stays_held w (SettingUp l greeting) cs held = refl
 moved_stays_held w (Ended e) cs held = refl
 
 -- so none are
@@ -419,7 +420,7 @@ passed_stays w h =
 written_stays : (w : Work) (life : Life) → HasOffered life → written_at w life ≡ w
 written_stays w (Ready l) h = left_if (can_offer l.outbox) _ w h
 written_stays w (Wanting l) h = refl
-written_stays w (SettingUp l with_user) h = left_if (can_offer l.outbox) _ w h
+written_stays w (SettingUp l greeting) h = left_if (can_offer l.outbox) _ w h
 written_stays w Dialing h = refl
 written_stays w (Ended e) h = refl
 
@@ -462,7 +463,7 @@ left_idle c p unlimited none h =
     queue_left : (life : Life) → NoneQueued p life → HasStartedAll life → HasStartedAll (cancelled_in life p)
     queue_left Dialing n e = e
     queue_left (Wanting l) n e = e
-    queue_left (SettingUp l with_user) n e = e
+    queue_left (SettingUp l greeting) n e = e
     queue_left (Ready l) n (inl e) = inl (none_leaves p l.queue n ∙ e)
     queue_left (Ready l) n (inr held) = inr held
     queue_left (Ended x) n e = e
@@ -470,21 +471,21 @@ left_idle c p unlimited none h =
     renewed_left : (life : Life) → HasRenewed c.renewal life → HasRenewed c.renewal (cancelled_in life p)
     renewed_left Dialing e = e
     renewed_left (Wanting l) e = e
-    renewed_left (SettingUp l with_user) e = e
+    renewed_left (SettingUp l greeting) e = e
     renewed_left (Ready l) e = e
     renewed_left (Ended x) e = e
 
     room_left : (life : Life) (count : ℕ) → NoneQueued p life → has_room_at (cancelled_in life p) count ≡ has_room_at life count
     room_left Dialing count n = refl
     room_left (Wanting l) count n = refl
-    room_left (SettingUp l with_user) count n = refl
+    room_left (SettingUp l greeting) count n = refl
     room_left (Ready l) count n = ap (λ (queue : List Queued). has_room_at (Ready (record l { queue = queue })) count) (none_leaves p l.queue n)
     room_left (Ended x) count n = refl
 
     stuck_left : (life : Life) (lim : Option ℕ) (j k : ℕ) → lim ≡ None → admits_none_at life (has_no_permit lim j) ≡ admits_none_at (cancelled_in life p) (has_no_permit lim k)
     stuck_left Dialing lim j k e = refl
     stuck_left (Wanting l) lim j k e = refl
-    stuck_left (SettingUp l with_user) lim j k e = refl
+    stuck_left (SettingUp l greeting) lim j k e = refl
     stuck_left (Ready l) None j k e = refl
     stuck_left (Ready l) (Some most) j k e = cc
     stuck_left (Ended x) lim j k e = refl
@@ -492,6 +493,6 @@ left_idle c p unlimited none h =
     offered_left : (life : Life) → HasOffered life → HasOffered (cancelled_in life p)
     offered_left Dialing e = e
     offered_left (Wanting l) e = e
-    offered_left (SettingUp l with_user) e = e
+    offered_left (SettingUp l greeting) e = e
     offered_left (Ready l) e = e
     offered_left (Ended x) e = e

@@ -48,6 +48,8 @@ but_for_shown n l count c (act.Took m permits ∷ xs) = ap (λ (ys : List Action
 but_for_shown n l count c (act.Timer m ms ∷ xs) = ap (λ (ys : List Action). shown l count c (act.Timer m ms) ∷ ys) (but_for_shown n l (count + 1) (c + 0) xs)
 but_for_shown n l count c (act.RenewalTimer k ms ∷ xs) = ap (λ (ys : List Action). shown l count c (act.RenewalTimer k ms) ∷ ys) (but_for_shown n l (count + 1) (c + 0) xs)
 but_for_shown n l count c (act.Push info ∷ xs) = ap (λ (ys : List Action). action.Push l info ∷ ys) (but_for_shown n l (count + 0) (c + 0) xs)
+but_for_shown n l count c (act.Message m ∷ xs) = ap (λ (ys : List Action). action.Message m ∷ ys) (but_for_shown n l (count + 0) (c + 0) xs)
+but_for_shown n l count c (act.Monitor v ∷ xs) = ap (λ (ys : List Action). action.Monitor v ∷ ys) (but_for_shown n l (count + 0) (c + 0) xs)
 but_for_shown n l count c (act.NeedCreds ∷ xs) = ap (λ (ys : List Action). action.NeedCreds c l ∷ ys) (but_for_shown n l (count + 0) (c + 1) xs)
 but_for_shown n l count c (act.Close ∷ xs) = ap (λ (ys : List Action). action.Close l ∷ ys) (but_for_shown n l (count + 0) (c + 0) xs)
 but_for_shown n l count c (act.Write bytes ∷ xs) = ap (λ (ys : List Action). action.Write l bytes ∷ ys) (but_for_shown n l (count + 0) (c + 0) xs)
@@ -55,6 +57,7 @@ but_for_shown n l count c (act.Wait m kind ∷ xs) = ap (λ (ys : List Action). 
 but_for_shown n l count c (act.Start message m need len ∷ xs) = ap (λ (ys : List Action). shown l count c (act.Start message m need len) ∷ ys) (but_for_shown n l (count + 0) (c + 0) xs)
 but_for_shown n l count c (act.SetUp message need len ∷ xs) = ap (λ (ys : List Action). shown l count c (act.SetUp message need len) ∷ ys) (but_for_shown n l (count + 0) (c + 0) xs)
 but_for_shown n l count c (act.Renewed message need len ∷ xs) = ap (λ (ys : List Action). shown l count c (act.Renewed message need len) ∷ ys) (but_for_shown n l (count + 0) (c + 0) xs)
+but_for_shown n l count c (act.Watch message need len ∷ xs) = ap (λ (ys : List Action). shown l count c (act.Watch message need len) ∷ ys) (but_for_shown n l (count + 0) (c + 0) xs)
 but_for_shown n l count c (act.Outcome m o ∷ xs) = outcome_shown n l count c m o xs (m == n) (but_for_shown n l (count + 0) (c + 0) xs)
 
 -- no act shows the number of a turn
@@ -70,6 +73,8 @@ numberless l count c (a ∷ xs) =
     one_numberless (act.Took m permits) = refl
     one_numberless (act.Timer m ms) = refl
     one_numberless (act.Push info) = refl
+    one_numberless (act.Message m) = refl
+    one_numberless (act.Monitor v) = refl
     one_numberless act.NeedCreds = refl
     one_numberless act.Close = refl
     one_numberless (act.Write bytes) = refl
@@ -78,6 +83,7 @@ numberless l count c (a ∷ xs) =
     one_numberless (act.SetUp message need len) = refl
     one_numberless (act.RenewalTimer k ms) = refl
     one_numberless (act.Renewed message need len) = refl
+    one_numberless (act.Watch message need len) = refl
     one_numberless (act.Outcome m o) = refl
 
 -- alike sessions show the same

@@ -44,10 +44,10 @@ silent_kept n p = record {
   want = λ lim r size bound ms xs h. record { there = h.there; own = h.own; closed = h.closed; unshown = h.unshown };
   wait_on = λ lim r l k ms xs few h. record { there = h.there; own = h.own; closed = h.closed; unshown = h.unshown };
   connect = λ lim r l ms xs h. record { there = h.there; own = h.own; closed = h.closed; unshown = h.unshown };
-  set_up = λ lim r l ms xs q with_user h. record { there = h.there; own = h.own; closed = h.closed; unshown = h.unshown };
-  go_on = λ lim r l k with_user ms xs few h. record { there = h.there; own = h.own; closed = h.closed; unshown = h.unshown };
-  repeat = λ lim r l k q with_user ms xs few h. record { there = h.there; own = h.own; closed = h.closed; unshown = h.unshown };
-  ready = λ lim r l k with_user ms xs few h. record { there = h.there; own = h.own; closed = h.closed; unshown = h.unshown };
+  set_up = λ lim r l ms xs q greeting h. record { there = h.there; own = h.own; closed = h.closed; unshown = h.unshown };
+  go_on = λ lim r l k greeting ms xs few h. record { there = h.there; own = h.own; closed = h.closed; unshown = h.unshown };
+  repeat = λ lim r l k q greeting next ms xs few h. record { there = h.there; own = h.own; closed = h.closed; unshown = h.unshown };
+  ready = λ lim r l k greeting ms xs few h. record { there = h.there; own = h.own; closed = h.closed; unshown = h.unshown };
   admit = λ lim r life ms xs q count t h. record {
     there = within_kept r p q progress.Admitted count h.there;
     own = own_kept n p r q progress.Admitted count h.own;
@@ -65,7 +65,7 @@ silent_kept n p = record {
   renew = λ lim r l ms xs q own h. record { there = h.there; own = h.own; closed = h.closed; unshown = h.unshown };
   offer = λ lim r l ms xs h. record { there = h.there; own = h.own; closed = h.closed; unshown = h.unshown };
   write = λ lim r l ms xs k h. record { there = h.there; own = h.own; closed = h.closed; unshown = h.unshown };
-  come = λ lim r l ms xs piece h. record { there = h.there; own = h.own; closed = h.closed; unshown = h.unshown };
+  come = λ lim r l ms xs what piece h. record { there = h.there; own = h.own; closed = h.closed; unshown = h.unshown };
   end = λ lim r life ms xs e h. record { there = h.there; own = h.own; closed = h.closed; unshown = h.unshown };
   show = λ lim r life ms xs a plain h. record { there = h.there; own = h.own; closed = h.closed; unshown = unshown_more n xs a (acts_plain n xs a plain) h.unshown };
   calm = λ lim r life ms xs h. record { there = h.there; own = h.own; closed = h.closed; unshown = h.unshown };

@@ -1,6 +1,6 @@
 -- A submission that is handed in after the link's connect has started, where the configuration is sound and nothing is to be
 -- said to the server before it.
-use Rattle.std.proofs.Common.{◌≡◌, ◌≢◌, ℕ, zero, suc, ◌<◌, ◌==◌, Bool, true, false, ◌&&◌, not, List, [], ◌∷◌, Option, Some, None, if◌then◌else◌, refl, sym, ap, subst, arith}
+use Rattle.std.proofs.Common.{◌≡◌, ◌≢◌, ℕ, zero, suc, ◌<◌, ◌==◌, Bool, true, false, ◌&&◌, not, List, [], ◌∷◌, Option, Some, None, if◌then◌else◌, refl, sym, ap, ◌∙◌, subst, arith}
 use Rattle.containers.proofs.Choices.{not_le_test}
 use Rattle.std.specs.Prelude.{unwrap_or}
 use Rattle.connection_info.specs.declared.address.ConnectionInfo.{ConnectionInfo}
@@ -10,9 +10,13 @@ use Rattle.redis_error.specs.declared.config_name.ConfigName.{ConfigName}
 use Rattle.redis_error.specs.declared.config_name.ConfigName.TheVariants as name
 use Rattle.driver_model.specs.declared.config.Config.{Config}
 use Rattle.driver_model.specs.declared.event.Submission.{Submission}
-use Rattle.driver_model.specs.declared.event.Submission.TheVariants.{Cmd, Pipe, Multi}
+use Rattle.driver_model.specs.declared.event.Submission.TheVariants.{Cmd, Pipe, Multi, Subscription, Ping}
+use Rattle.resp_write.specs.declared.subscription.SubscriptionAction.{SubscriptionAction}
 use Rattle.connection_setup.specs.Setup.{setup}
-use Rattle.driver_model.specs.Config.{address, buffer_size, buffer_fault, room_fault, fault_in, hears_pushes, told_info}
+use Rattle.driver_model.specs.Config.{address, buffer_size, buffer_fault, has_line, hearing_of, permits, room_fault, fault_in, told_info}
+use Rattle.driver_model.specs.Hearing.{hears_messages, hears_pushes, is_watching}
+use Rattle.driver_model.specs.declared.hearing.Hearing.{Hearing}
+use Rattle.mux_conn.specs.declared.life.Greeting.TheVariants as greet
 use Rattle.driver_model.specs.Setup.{says_nothing}
 use Rattle.driver_model.specs.Request.{packed_bytes, is_reply_awaited, needs_resp3, lacks_resp3}
 use Rattle.mux_conn.specs.Connection.{acted, with_link, has_no_permit}
@@ -51,44 +55,81 @@ room_sound None heard lim size e = cc
 room_sound (Some info) heard lim size e = (unless_refused (heard && not (is_resp3 info.redis.protocol)) name.Push (room_fault lim size) e).1
 
 -- where the connect leads: the link waits for credentials that are to come of a source, or it is ready where nothing is to be
--- said, and else it is set up
-abbrev up_at : Config → ℕ → ℕ → Bool → Bool → Core
-up_at config word draw wants silent =
+-- said and the server isn't put into monitor mode, and else it is set up
+abbrev up_at : Config → ℕ → ℕ → Bool → Bool → Bool → Core
+up_at config word draw wants silent watching =
     let t = counted (opening_core config word) in
     let w = work_of t in
     let kind = (connected_at draw).kind in
     let link = new_link w.conn in
     let ready = acted (with_link (all_fresh w) link) (act.Created None) in
-    let up = if silent then (if wants then acted ready act.NeedCreds else ready) else sets_up (all_fresh w) link true in
+    let said = if watching then sets_up w link greet.Monitor else (if wants then acted ready act.NeedCreds else ready) in
+    let up = if silent then said else sets_up (all_fresh w) link greet.WithUser in
     (numbered (moved_on (with_work (record t { core = shut_by t.core kind }) (if wants then comes_to_want w link else up)))).core
 
 -- so nothing holds it back where nothing is to be said and no credentials are waited for, and nothing of the configuration is refused
 connected_free : (config : Config) (word draw : ℕ) → IsSound config → SaysNothing config → IsFree (state_after config word (connected_at draw ∷ []))
 unfolding state_after next_turn
 connected_free config word draw sound silent =
-    let fits = room_sound (address config) (hears_pushes config) config.limit (buffer_size config) sound in
-    subst (λ (b : Bool). IsFree (up_at config word draw b (says_nothing (setup (told_info config) true)))) (sym silent.0)
-    (subst (λ (b : Bool). IsFree (up_at config word draw false b)) (sym silent.1)
+    let faults = fault_in (address config) (hears_pushes (hearing_of config)) (permits config) (buffer_size config) in
+    let fits = room_sound (address config) (hears_pushes (hearing_of config)) (permits config) (buffer_size config) (unless_refused (not (has_line config)) name.Kind faults sound).1 in
+    let says = says_nothing (setup (told_info config) true) in
+    subst (λ (b : Bool). IsFree (up_at config word draw b says (is_watching (hearing_of config)))) (sym silent.0)
+    (subst (λ (b : Bool). IsFree (up_at config word draw false b (is_watching (hearing_of config)))) (sym silent.1)
+    (subst (λ (b : Bool). IsFree (up_at config word draw false true b)) (sym silent.2)
     (record {
       link = _;
       ready = refl;
       goes = refl;
-      room = not_le_test (buffer_size config) 0 (room_places config.limit (buffer_size config) fits);
-      permit = room_permits config.limit (buffer_size config) fits;
+      room = not_le_test (buffer_size config) 0 (room_places (permits config) (buffer_size config) fits);
+      permit = room_permits (permits config) (buffer_size config) fits;
       unshut = refl;
       numbered = omega arith;
-    }))
+    })))
 
 -- what doesn't need RESP3 is never refused for want of it
-needs_none : (protocol : ProtocolVersion) (s : Submission) → needs_resp3 s ≡ false → lacks_resp3 protocol s ≡ false
-needs_none protocol s plain = ap (λ needs. needs && not (is_resp3 protocol)) plain
+needs_none : (h : Hearing) (protocol : ProtocolVersion) (s : Submission) → needs_resp3 s ≡ false → lacks_resp3 h protocol s ≡ false
+needs_none h protocol s plain = ap (λ needs. not (hears_messages h) && needs && not (is_resp3 protocol)) plain ∙ none_needed (not (hears_messages h)) (not (is_resp3 protocol))
+  where
+    none_needed : (a b : Bool) → (a && false && b) ≡ false
+    none_needed true b = refl
+    none_needed false b = refl
 
 -- any submission that has bytes, whose reply is awaited, and that is no subscription call
 pub any_started : (config : Config) (word draw later : ℕ) (s : Submission) → packed_bytes s ≢ [] → is_reply_awaited s ≡ true → needs_resp3 s ≡ false → IsSound config → SaysNothing config
     → HasStarted 0 (handed_in_after_connect config word draw later s)
 unfolding state_after next_turn
 any_started config word draw later s some awaited plain sound silent =
-    free_started config word later (connected_at draw ∷ []) s some awaited (connected_free config word draw sound silent) (needs_none (state_after config word (connected_at draw ∷ [])).single.connection.info.protocol s plain)
+    free_started config word later (connected_at draw ∷ []) s some awaited (connected_free config word draw sound silent) (let c = (state_after config word (connected_at draw ∷ [])).single.connection in needs_none c.hears c.info.protocol s plain)
+
+-- what is heard is what the configuration has heard
+connected_hears : (config : Config) (word draw : ℕ) → SaysNothing config → (state_after config word (connected_at draw ∷ [])).single.connection.hears ≡ hearing_of config
+unfolding state_after next_turn
+connected_hears config word draw silent =
+    let says = says_nothing (setup (told_info config) true) in
+    subst (λ (b : Bool). (up_at config word draw b says (is_watching (hearing_of config))).single.connection.hears ≡ hearing_of config) (sym silent.0)
+    (subst (λ (b : Bool). (up_at config word draw false b (is_watching (hearing_of config))).single.connection.hears ≡ hearing_of config) (sym silent.1)
+    (subst (λ (b : Bool). (up_at config word draw false true b).single.connection.hears ≡ hearing_of config) (sym silent.2) refl))
+
+-- where messages are heard nothing is refused for want of RESP3
+listening_none : (h : Hearing) (protocol : ProtocolVersion) (s : Submission) → hears_messages h ≡ true → lacks_resp3 h protocol s ≡ false
+listening_none h protocol s listens = ap (λ hears. not hears && needs_resp3 s && not (is_resp3 protocol)) listens
+
+-- any submission on a link of messages that has bytes, and whose reply is awaited
+listening_started : (config : Config) (word draw later : ℕ) (s : Submission) → packed_bytes s ≢ [] → is_reply_awaited s ≡ true → IsSound config → SaysNothing config → hears_messages (hearing_of config) ≡ true
+    → HasStarted 0 (handed_in_after_connect config word draw later s)
+unfolding state_after next_turn
+listening_started config word draw later s some awaited sound silent listens =
+    free_started config word later (connected_at draw ∷ []) s some awaited (connected_free config word draw sound silent)
+    (let c = (state_after config word (connected_at draw ∷ [])).single.connection in listening_none c.hears c.info.protocol s (ap hears_messages (connected_hears config word draw silent) ∙ listens))
+
+-- a subscription call there
+pub subscription_started : (config : Config) (word draw later : ℕ) (what : SubscriptionAction) (names : List (List ℕ)) → IsSound config → SaysNothing config → hears_messages (hearing_of config) ≡ true → HasStarted 0 (handed_in_after_connect config word draw later (Subscription what names))
+subscription_started config word draw later what names sound silent listens = listening_started config word draw later (Subscription what names) (λ e. cc) refl sound silent listens
+
+-- and a ping
+pub ping_started : (config : Config) (word draw later : ℕ) (message : Option (List ℕ)) → IsSound config → SaysNothing config → hears_messages (hearing_of config) ≡ true → HasStarted 0 (handed_in_after_connect config word draw later (Ping message))
+ping_started config word draw later message sound silent listens = listening_started config word draw later (Ping message) (λ e. cc) refl sound silent listens
 
 -- a command
 pub command_started : (config : Config) (word draw later : ℕ) (name : List ℕ) (args : List (List ℕ)) → IsSound config → SaysNothing config → HasStarted 0 (handed_in_after_connect config word draw later (Cmd (name ∷ args)))

@@ -12,6 +12,7 @@ use Rattle.driver_model.specs.declared.event.EventKind.TheVariants as event
 use Rattle.driver_model.specs.declared.event.Submission.{Submission}
 use Rattle.driver_model.specs.declared.outcome.Outcome.TheVariants as outcome
 use Rattle.driver_model.specs.News.{news_of}
+use Rattle.driver_model.specs.Kind.{is_single}
 use Rattle.driver_model.specs.Request.{packed_bytes, shape_of, is_reply_awaited, lacks_resp3}
 use Rattle.mux_conn.specs.declared.act.LinkAct.{LinkAct}
 use Rattle.mux_conn.specs.declared.act.LinkAct.TheVariants as act
@@ -67,7 +68,7 @@ bare_submitted : (n p : ℕ) (t : Turning) (s : Submission) → n < length t.cor
     → bare_turning n p (submitted t s) ≡ submitted (bare_turning n p t) s
 bare_submitted n p t s l k =
     either (bare_turning n p) t.core.shut _ _ _ _ (λ u. bare_refused n p t error.Closed l)
-    (λ f. either (bare_turning n p) (lacks_resp3 t.core.single.connection.info.protocol s) _ _ _ _ (λ u. bare_refused n p t error.Resp3Required l)
+    (λ f. either (bare_turning n p) (lacks_resp3 t.core.single.connection.hears t.core.single.connection.info.protocol s) _ _ _ _ (λ u. bare_refused n p t error.Resp3Required l)
     (λ d. either (bare_turning n p) (length (packed_bytes s) == 0) _ _ _ _ (λ u. bare_refused n p t error.EmptyCommand l) (λ g. bare_asked_for n p t s k)))
 
 -- one that is left
@@ -90,6 +91,7 @@ bare_fired n p t None h = refl
 bare_fired n p t (Some (purpose.Connect l)) h = refl
 bare_fired n p t (Some (purpose.Response owner.Setup)) h = refl
 bare_fired n p t (Some (purpose.Response owner.Auth)) h = refl
+bare_fired n p t (Some (purpose.Response owner.Monitor)) h = refl
 bare_fired n p t (Some (purpose.Renewal l k)) h = refl
 bare_fired n p t (Some (purpose.Response (owner.Try m round))) h = bare_late_by n p t (slice_get t.core.table m) h
 
@@ -100,7 +102,9 @@ bare_requested n p t (event.Cancel m) l h = bare_left_by n p t (slice_get t.core
 bare_requested n p t (event.Connected m) l h = refl
 bare_requested n p t (event.Refused m f) l h = refl
 bare_requested n p t (event.Fired m) l h = bare_fired n p t (slice_get t.core.timers m) h
-bare_requested n p t (event.Timeout ms) l h = refl
+bare_requested n p t (event.Timeout ms) l h =
+    either (λ (c : Core). record (bare_turning n p t) { core = bare_core p c }) (is_single t.core.kind) (record t.core { timeout = ms }) t.core (record (bare_turning n p t) { core = record (bare_core p t.core) { timeout = ms } }) (bare_turning n p t) (λ y. refl) (λ y. refl)
+    ∙ sym (either (λ (c : Core). record (bare_turning n p t) { core = c }) (is_single t.core.kind) (record (bare_core p t.core) { timeout = ms }) (bare_core p t.core) (record (bare_turning n p t) { core = record (bare_core p t.core) { timeout = ms } }) (bare_turning n p t) (λ y. refl) (λ y. refl))
 bare_requested n p t (event.Creds c auth) l h = refl
 bare_requested n p t (event.CredsError c text) l h = refl
 bare_requested n p t (event.CredsEnd c) l h = refl
@@ -110,6 +114,7 @@ bare_requested n p t (event.Ended m) l h = refl
 bare_requested n p t (event.ReadFault m kind) l h = refl
 bare_requested n p t (event.WriteFault m kind) l h = refl
 bare_requested n p t event.Shutdown l h = refl
+bare_requested n p t event.DropStream l h = refl
 
 -- the event's own effect
 bare_effect : (n p : ℕ) (t : Turning) (kind : EventKind) → n < length t.core.table → At (IsAway n p) (work_of t) → bare_turning n p (effect t kind) ≡ effect (bare_turning n p t) kind
@@ -128,6 +133,8 @@ no_timer n l (act.Created e) more = refl
 no_timer n l (act.Took m count) more = refl
 no_timer n l (act.Timer m ms) more = refl
 no_timer n l (act.Push info) more = refl
+no_timer n l (act.Message m) more = refl
+no_timer n l (act.Monitor v) more = refl
 no_timer n l act.NeedCreds more = refl
 no_timer n l act.Close more = refl
 no_timer n l (act.Write bytes) more = refl
@@ -136,6 +143,7 @@ no_timer n l (act.Start message m need len) more = refl
 no_timer n l (act.SetUp message need len) more = refl
 no_timer n l (act.RenewalTimer k ms) more = refl
 no_timer n l (act.Renewed message need len) more = refl
+no_timer n l (act.Watch message need len) more = refl
 no_timer n l (act.Outcome m o) more = chosen (λ (xs : List LinkAct). timers_of l (xs ++ more) ≡ timers_of l more) (m == n) [] (act.Outcome m o ∷ []) (λ t. refl) (λ f. refl)
 
 -- so the timers of a turn are those of all other acts
@@ -149,6 +157,8 @@ no_source n l c (act.Created e) more = refl
 no_source n l c (act.Took m count) more = refl
 no_source n l c (act.Timer m ms) more = refl
 no_source n l c (act.Push info) more = refl
+no_source n l c (act.Message m) more = refl
+no_source n l c (act.Monitor v) more = refl
 no_source n l c act.NeedCreds more = refl
 no_source n l c act.Close more = refl
 no_source n l c (act.Write bytes) more = refl
@@ -157,6 +167,7 @@ no_source n l c (act.Start message m need len) more = refl
 no_source n l c (act.SetUp message need len) more = refl
 no_source n l c (act.RenewalTimer k ms) more = refl
 no_source n l c (act.Renewed message need len) more = refl
+no_source n l c (act.Watch message need len) more = refl
 no_source n l c (act.Outcome m o) more =
     let same : c ≡ c + 0 = omega arith in
     chosen (λ (xs : List LinkAct). sources_of l c (xs ++ more) ≡ sources_of l (c + 0) more) (m == n) [] (act.Outcome m o ∷ []) (λ t. ap (λ (k : ℕ). sources_of l k more) same) (λ f. refl)
@@ -194,7 +205,7 @@ bare_turn n p c kind l none h =
 more_requested : (n : ℕ) (t : Turning) (kind : EventKind) → n < length t.core.table → n < length (requested t kind).core.table
 more_requested n t (event.Submit s) l =
     chosen (λ (x : Turning). n < length x.core.table) t.core.shut _ _ (λ u. omega (arith, length-append t.core.table (None ∷ [])))
-    (λ f. chosen (λ (x : Turning). n < length x.core.table) (lacks_resp3 t.core.single.connection.info.protocol s) _ _ (λ u. omega (arith, length-append t.core.table (None ∷ [])))
+    (λ f. chosen (λ (x : Turning). n < length x.core.table) (lacks_resp3 t.core.single.connection.hears t.core.single.connection.info.protocol s) _ _ (λ u. omega (arith, length-append t.core.table (None ∷ [])))
     (λ d. chosen (λ (x : Turning). n < length x.core.table) (length (packed_bytes s) == 0) _ _ (λ u. omega (arith, length-append t.core.table (None ∷ [])))
     (λ g. omega (arith, length-append t.core.table (Some (pending (length t.core.single.connection.requests)) ∷ [])))))
 more_requested n t (event.Cancel m) l = more_left (slice_get t.core.table m)
@@ -217,9 +228,10 @@ more_requested n t (event.Fired m) l = more_fired (slice_get t.core.timers m)
     more_fired (Some (purpose.Connect k)) = l
     more_fired (Some (purpose.Response owner.Setup)) = l
     more_fired (Some (purpose.Response owner.Auth)) = l
+    more_fired (Some (purpose.Response owner.Monitor)) = l
     more_fired (Some (purpose.Renewal link k)) = l
     more_fired (Some (purpose.Response (owner.Try k round))) = more_late (slice_get t.core.table k)
-more_requested n t (event.Timeout ms) l = l
+more_requested n t (event.Timeout ms) l = chosen (λ (c : Core). n < length c.table) (is_single t.core.kind) (record t.core { timeout = ms }) t.core (λ y. l) (λ y. l)
 more_requested n t (event.Creds c auth) l = l
 more_requested n t (event.CredsError c text) l = l
 more_requested n t (event.CredsEnd c) l = l
@@ -229,6 +241,7 @@ more_requested n t (event.Ended m) l = l
 more_requested n t (event.ReadFault m kind) l = l
 more_requested n t (event.WriteFault m kind) l = l
 more_requested n t event.Shutdown l = l
+more_requested n t event.DropStream l = l
 
 -- nor does a turn
 pub more_after : (n : ℕ) (c : Core) (kind : EventKind) → n < length c.table → n < length (next_turn c kind).core.table

@@ -14,6 +14,8 @@ unnumbered (action.Connect l host port) = action.Connect l host port
 unnumbered (action.Timer t ms what) = action.Timer t ms what
 unnumbered (action.Took who l count) = action.Took who l count
 unnumbered (action.Push l info) = action.Push l info
+unnumbered (action.Message m) = action.Message m
+unnumbered (action.Monitor v) = action.Monitor v
 unnumbered (action.NeedCreds c l) = action.NeedCreds c l
 unnumbered (action.Close l) = action.Close l
 unnumbered (action.Write l bytes) = action.Write l bytes
@@ -34,6 +36,8 @@ shown_of n (action.Connect l host port) = action.Connect l host port ∷ []
 shown_of n (action.Timer t ms what) = action.Timer t ms what ∷ []
 shown_of n (action.Took who l count) = action.Took who l count ∷ []
 shown_of n (action.Push l info) = action.Push l info ∷ []
+shown_of n (action.Message m) = action.Message m ∷ []
+shown_of n (action.Monitor v) = action.Monitor v ∷ []
 shown_of n (action.NeedCreds c l) = action.NeedCreds c l ∷ []
 shown_of n (action.Close l) = action.Close l ∷ []
 shown_of n (action.Write l bytes) = action.Write l bytes ∷ []
@@ -64,6 +68,6 @@ hushed_link p l = record l { row = hushed_each p l.row }
 abbrev pub hushed_life : ℕ → Life → Life
 hushed_life p Dialing = Dialing
 hushed_life p (Wanting l) = Wanting l
-hushed_life p (SettingUp l with_user) = SettingUp l with_user
+hushed_life p (SettingUp l greeting) = SettingUp l greeting
 hushed_life p (Ready l) = Ready (hushed_link p l)
 hushed_life p (Ended e) = Ended e

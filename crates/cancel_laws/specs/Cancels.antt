@@ -1,7 +1,8 @@
 -- A history, and the same history with the cancel of a started request in it.
 use Rattle.std.specs.Prelude.{◌≡◌, ℕ, ◌+◌, ◌^◌, ◌<◌, ◌≤◌, List, [], ◌∷◌, ◌++◌, length, true, false, Some, slice_get}
 use Rattle.connection_setup.specs.Setup.{setup}
-use Rattle.driver_model.specs.Config.{told_info, wants_credentials}
+use Rattle.driver_model.specs.Config.{hearing_of, told_info, wants_credentials}
+use Rattle.driver_model.specs.Hearing.{is_watching}
 use Rattle.driver_model.specs.Setup.{says_nothing}
 use Rattle.driver_model.specs.declared.action.Action.{Action}
 use Rattle.driver_model.specs.declared.action.Action.TheVariants as action
@@ -33,9 +34,10 @@ connected_at word = record { word = word; kind = event.Connected first_link }
 abbrev pub handed_in_at : ℕ → Submission → Event
 handed_in_at word s = record { word = word; kind = event.Submit s }
 
--- nothing is to be said to the server before the first request, and no credentials are to come of a source
+-- nothing is to be said to the server before the first request, no credentials are to come of a source, and the server is not to be
+-- put into monitor mode
 abbrev pub SaysNothing : Config → Type 0
-SaysNothing config = (wants_credentials config ≡ false) × (says_nothing (setup (told_info config) true) ≡ true)
+SaysNothing config = (wants_credentials config ≡ false) × (says_nothing (setup (told_info config) true) ≡ true) × (is_watching (hearing_of config) ≡ false)
 
 -- where a session is in which the link's connect succeeded, and this submission was handed in after it
 abbrev pub handed_in_after_connect : Config → ℕ → ℕ → ℕ → Submission → Core

@@ -1,9 +1,11 @@
 -- The laws of cancels, each as one statement. They speak of a history behind which submission n has started and is open.
-use Rattle.std.specs.Prelude.{◌≡◌, ◌≢◌, ℕ, false, List, [], ◌∷◌, ◌++◌, length, Option, None}
+use Rattle.std.specs.Prelude.{◌≡◌, ◌≢◌, ℕ, false, true, List, [], ◌∷◌, ◌++◌, length, Option, None}
 use Rattle.driver_model.specs.declared.config.Config.{Config}
 use Rattle.driver_model.specs.declared.event.Event.{Event}
 use Rattle.driver_model.specs.declared.event.Submission.{Submission}
 use Rattle.driver_model.specs.declared.outcome.Outcome.{Outcome}
+use Rattle.driver_model.specs.Config.{hearing_of, permits}
+use Rattle.driver_model.specs.Hearing.{hears_messages}
 use Rattle.driver_model.specs.Request.{lacks_resp3}
 use Rattle.mux_conn.specs.declared.life.Life.{Life}
 use Rattle.shared_session.specs.Replay.{IsSound, state_after, trace_of, outcomes_in, outcome_at, is_bad_after}
@@ -18,10 +20,10 @@ outcome_after config word events m = outcome_at (outcomes_in (trace_of config wo
 abbrev pub life_after : Config → ℕ → List Event → Life
 life_after config word events = (state_after config word events).single.connection.life
 
--- permits aren't counted. Where they are, the cancel of a started request gives its permits back at once, and not at its
+-- permits aren't counted, as on each link of publish/subscribe. Where they are, the cancel of a started request gives its permits back at once, and not at its
 -- reply, so that others take them earlier, and start earlier
 abbrev pub HasNoLimit : Config → Type 0
-HasNoLimit config = config.limit ≡ None
+HasNoLimit config = permits config ≡ None
 
 -- the cancel of n is not bad there
 abbrev pub CancelIsGood : Type 0
@@ -42,8 +44,8 @@ CancelledGetsNone =
     (config : Config) (word draw n : ℕ) (before after : List Event) → HasStarted n (state_after config word before)
     → outcome_after config word (before ++ cancel_of draw n ∷ after) n ≡ outcome_after config word before n
 
--- without a limit the turns show the same but for n's outcome, in the same order: so each push stands where it stood among
--- all other outcomes
+-- without a limit the turns show the same but for n's outcome, in the same order: so each push and each
+-- message stands where it stood among all other outcomes
 abbrev pub TurnsGoOn : Type 0
 TurnsGoOn =
     (config : Config) (word draw n : ℕ) (before after : List Event) → HasNoLimit config
@@ -70,7 +72,7 @@ SameAreBad =
 abbrev pub StartsOnFreeLink : Submission → Type 0
 StartsOnFreeLink s =
     (config : Config) (word draw : ℕ) (before : List Event) → IsFree (state_after config word before)
-    → lacks_resp3 (state_after config word before).single.connection.info.protocol s ≡ false
+    → (let c = (state_after config word before).single.connection in lacks_resp3 c.hears c.info.protocol s ≡ false)
     → HasStarted (length (state_after config word before).table) (state_after config word (before ++ handed_in_at draw s ∷ []))
 
 -- a submission has started where it is the first that is handed in, after the link's connect, nothing of the configuration
@@ -78,4 +80,10 @@ StartsOnFreeLink s =
 abbrev pub StartsWhereHandedIn : Submission → Type 0
 StartsWhereHandedIn s =
     (config : Config) (word draw later : ℕ) → IsSound config → SaysNothing config
+    → HasStarted 0 (handed_in_after_connect config word draw later s)
+
+-- so has one that is handed in on a link of publish/subscribe, also where a server of any other link has to speak RESP3 for it
+abbrev pub StartsWhereListening : Submission → Type 0
+StartsWhereListening s =
+    (config : Config) (word draw later : ℕ) → IsSound config → SaysNothing config → hears_messages (hearing_of config) ≡ true
     → HasStarted 0 (handed_in_after_connect config word draw later s)

@@ -2,21 +2,24 @@
 //! request changes nothing but its own outcome.
 #![tactic(auto)]
 
-ghost use Rattle.std.specs.Prelude.{◌≡◌, ◌≢◌, ℕ, true, false, List, [], ◌∷◌};
+ghost use Rattle.std.specs.Prelude.{◌≡◌, ◌≢◌, ℕ, true, false, List, [], ◌∷◌, Option};
 ghost use Rattle.driver_model.specs.declared.event.Submission.{Submission};
 ghost use Rattle.driver_model.specs.declared.event.Submission.TheVariants.{Cmd, Pipe, Multi};
+ghost use Rattle.driver_model.specs.declared.event.Submission.TheVariants.{Subscription, Ping};
+ghost use Rattle.resp_write.specs.declared.subscription.SubscriptionAction.{SubscriptionAction};
 ghost use Rattle.driver_model.specs.Request.{packed_bytes, is_reply_awaited, needs_resp3};
 ghost use Rattle.cancel_laws.specs.Laws.{CancelIsGood, OthersKeepOutcomes, CancelledGetsNone};
 ghost use Rattle.cancel_laws.specs.Laws.{TurnsGoOn, ItemsGoTheSameWay, SameAreBad};
 ghost use Rattle.cancel_laws.specs.Laws.{StartsOnFreeLink, StartsWhereHandedIn};
+ghost use Rattle.cancel_laws.specs.Laws.{StartsWhereListening};
 
 /// Does nothing. Its contract: where submission n has started and is open after a history, its
 /// cancel there is not bad, and n never gets an outcome. Where the configuration has no limit, the
 /// cancel changes nothing of what comes later but n's own outcome: all other submissions have the
-/// same outcomes; the turns show the same starts, timers, offers, waits, pushes and closes in the
-/// same order; each item goes to the same message, where n's own is not wanted; and the same events
-/// are bad. With a limit the cancel gives n's permits back at once, so that others may start
-/// earlier.
+/// same outcomes; the turns show the same starts, timers, offers, waits, pushes, messages and closes
+/// in the same order; each item goes to the same message, where n's own is not wanted; and the same
+/// events are bad. So it is on each link of publish/subscribe, which has no limit. With a limit the
+/// cancel gives n's permits back at once, so that others may start earlier.
 pub fn a_cancel_changes_one_outcome()
     ensures good { CancelIsGood }
     ensures outcomes { OthersKeepOutcomes }
@@ -31,8 +34,9 @@ pub fn a_cancel_changes_one_outcome()
 /// whose queue has room, and which has a free permit, while there is a number for it, unless it
 /// needs RESP3 and the link speaks another protocol. So has any that is no subscription call after
 /// the link's connect, where nothing of the configuration is refused, no credentials are to come of
-/// a source, and nothing is to be said to the server first: so a command, a pipeline whose first
-/// command has a name, and a transaction.
+/// a source, nothing is to be said to the server first, and it isn't put into monitor mode: so a
+/// command, a pipeline whose first command has a name, and a transaction; and on a link of
+/// publish/subscribe a subscription call and a ping.
 pub fn a_submission_on_a_link_that_is_up_has_started()
     ensures free { (s : Submission) → packed_bytes s ≢ [] → is_reply_awaited s ≡ true
         → StartsOnFreeLink s }
@@ -44,4 +48,7 @@ pub fn a_submission_on_a_link_that_is_up_has_started()
         → StartsWhereHandedIn (Pipe ((name ∷ args) ∷ more)) }
     ensures transaction { (args : List (List ℕ)) (more : List (List (List ℕ)))
         → StartsWhereHandedIn (Multi (args ∷ more)) }
+    ensures subscription { (what : SubscriptionAction) (names : List (List ℕ))
+        → StartsWhereListening (Subscription what names) }
+    ensures ping { (message : Option (List ℕ)) → StartsWhereListening (Ping message) }
 {}

@@ -5,7 +5,7 @@ ghost use Rattle.mux_conn.specs.Effects.{CanTake, IsWithin};
 use connection_info::{ProtocolVersion, RedisConnectionInfo};
 use containers::Bytes;
 use credentials::BasicAuth;
-use driver_model::{LinkEvent, LinkFault, LinkNews, Outcome, Shape, WaitKind};
+use driver_model::{Hearing, LinkEvent, LinkFault, LinkNews, Msg, Outcome, Shape, WaitKind};
 use mux_conn::{Life, LinkAct, MultiplexedConnection, Pending, Renewal};
 use redis_error::{FaultKind, RedisError};
 use resp_value::Value;
@@ -51,6 +51,10 @@ pub(crate) enum Call {
     Unrenewed,
     /// The time for the new credentials of this number is over.
     Late(u32),
+    /// A subscription call of this name, with these bytes.
+    Subscribe(u32, &'static [u8]),
+    /// The stream of messages is dropped.
+    Dropped,
     Shut,
     /// The first part of a turn alone: the connect succeeded.
     HearConnected,
@@ -60,7 +64,7 @@ pub(crate) enum Call {
     Flush,
 }
 
-/// What a connection is made of: the size of its queue, its boundary, its permits, whether it hears pushes, the password
+/// What a connection is made of: the size of its queue, its boundary, its permits, what it hears, the password
 /// that it says, whether it wants credentials of sources, and within how many milliseconds new ones are to be answered, if
 /// within any.
 #[derive(Clone, Copy)]
@@ -68,7 +72,7 @@ pub(crate) struct Made {
     pub(crate) size: u32,
     pub(crate) boundary: u64,
     pub(crate) limit: Option<u32>,
-    pub(crate) hears: bool,
+    pub(crate) hears: Hearing,
     pub(crate) password: Option<&'static [u8]>,
     pub(crate) wants: bool,
     pub(crate) within: Option<u64>,
@@ -153,7 +157,7 @@ fn can_take(conn: &MultiplexedConnection, count: u64) -> bool
 {
     match &conn.life {
         Life::Ready { link } => count <= link.offered_len(),
-        Life::SettingUp { link, with_user: _ } => count <= link.offered_len(),
+        Life::SettingUp { link, greeting: _ } => count <= link.offered_len(),
         Life::Wanting { link } => count <= link.offered_len(),
         Life::Dialing => true,
         Life::Ended { error: _ } => true,
@@ -274,6 +278,7 @@ fn make_turn(
         Call::Renewed(username, password) => renew(alloc, conn, username, password, acts),
         Call::Unrenewed => step(alloc, conn, LinkNews::Unrenewed, acts),
         Call::Late(number) => step(alloc, conn, LinkNews::Late { number }, acts),
+        Call::Dropped => step(alloc, conn, LinkNews::Dropped, acts),
         Call::Shut => step(alloc, conn, LinkNews::Shut, acts),
         _ => step(alloc, conn, LinkNews::Silence, acts),
     }
@@ -293,6 +298,9 @@ fn make(
             ask(alloc, conn, name, text, Shape::Single, true, Some(ms))
         }
         Call::AskPipe(name, text, count) => ask(alloc, conn, name, text, pipe(count), true, None),
+        Call::Subscribe(name, text) => {
+            ask(alloc, conn, name, text, Shape::Confirmation, true, None)
+        }
         Call::TimeOut(number) => time_out(conn, number, acts),
         Call::Moves(number) => advance(alloc, conn, number, true, acts),
         Call::Stays(number) => advance(alloc, conn, number, false, acts),
@@ -308,6 +316,9 @@ fn describe_value(value: &Value) -> &[u8] {
     match value {
         Value::Nil => b"nil",
         Value::SimpleString(text) => text.as_slice(),
+        Value::BulkString(text) => text.as_slice(),
+        Value::Okay => b"OK",
+        Value::ServerError(_) => b"error",
         _ => b"other",
     }
 }
@@ -401,6 +412,20 @@ fn tell_start(
     tell(alloc, log, b"start", &rest)
 }
 
+/// Adds a message: its pattern or a dash, its channel, and what was published.
+fn tell_message(log: &mut Vec<u8>, msg: &Msg) -> Result<(), AllocError> {
+    word(log, b"message")?;
+    match &msg.pattern {
+        Some(pattern) => word(log, describe_value(pattern))?,
+        None => word(log, b"-")?,
+    }
+    tell_word(
+        log,
+        describe_value(&msg.channel),
+        describe_value(&msg.payload),
+    )
+}
+
 /// Adds what an act is.
 fn describe(alloc: Global, act: &LinkAct, log: &mut Vec<u8>) -> Result<(), AllocError> {
     match act {
@@ -419,6 +444,8 @@ fn describe(alloc: Global, act: &LinkAct, log: &mut Vec<u8>) -> Result<(), Alloc
             tell(alloc, log, b"renewal-timer", &[u64::from(*number), *ms])
         }
         LinkAct::Push { info } => tell_word(log, b"push", info.kind.name()),
+        LinkAct::Message { msg } => tell_message(log, msg),
+        LinkAct::Monitor { value } => tell_word(log, b"monitor", describe_value(value)),
         LinkAct::Close => word(log, b"close"),
         LinkAct::Write { bytes } => tell_word(log, b"write", bytes.as_slice()),
         LinkAct::Wait { request, wait } => {
@@ -432,6 +459,9 @@ fn describe(alloc: Global, act: &LinkAct, log: &mut Vec<u8>) -> Result<(), Alloc
         } => tell_start(alloc, log, *message, *request, *len),
         LinkAct::SetUp { message, need, len } => {
             tell(alloc, log, b"setup", &[u64::from(*message), *need, *len])
+        }
+        LinkAct::Watch { message, need, len } => {
+            tell(alloc, log, b"watch", &[u64::from(*message), *need, *len])
         }
         LinkAct::Renewed { message, need, len } => {
             tell(alloc, log, b"renewed", &[u64::from(*message), *need, *len])

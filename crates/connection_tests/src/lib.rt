@@ -8,6 +8,8 @@ mod clients;
 #[cfg(test)]
 mod connections;
 #[cfg(test)]
+mod listening;
+#[cfg(test)]
 mod renewals;
 #[cfg(test)]
 mod sources;

@@ -1,5 +1,6 @@
 use crate::connections::{Call, Made};
 use crate::turns::{PLAIN, Row, first_other};
+use driver_model::Hearing;
 use std::alloc::AllocError;
 
 /// Its credentials come of sources, and new ones are to be answered within a time.
@@ -7,7 +8,7 @@ const RENEWS: Made = Made {
     size: 50,
     boundary: 8192,
     limit: None,
-    hears: false,
+    hears: Hearing::Nothing,
     password: None,
     wants: true,
     within: Some(500),
@@ -18,7 +19,7 @@ const NARROW_RENEWS: Made = Made {
     size: 1,
     boundary: 1,
     limit: None,
-    hears: false,
+    hears: Hearing::Nothing,
     password: None,
     wants: true,
     within: None,

@@ -1,5 +1,6 @@
 use crate::connections::{Call, Made};
 use crate::turns::{PLAIN, RESET, Row, first_other};
+use driver_model::Hearing;
 use std::alloc::AllocError;
 
 /// Its credentials come of a source, and somebody hears pushes.
@@ -7,7 +8,7 @@ const WANTS: Made = Made {
     size: 50,
     boundary: 8192,
     limit: None,
-    hears: true,
+    hears: Hearing::Pushes,
     password: None,
     wants: true,
     within: None,

@@ -1,5 +1,5 @@
 use crate::connections::{Call, Made, give};
-use driver_model::LinkFault;
+use driver_model::{Hearing, LinkFault};
 use mux_conn::ConnectionError;
 use redis_error::FaultKind;
 use std::alloc::{AllocError, Global};
@@ -12,7 +12,7 @@ pub(crate) const PLAIN: Made = Made {
     size: 50,
     boundary: 8192,
     limit: None,
-    hears: false,
+    hears: Hearing::Nothing,
     password: None,
     wants: false,
     within: None,
@@ -23,7 +23,7 @@ const NARROW: Made = Made {
     size: 1,
     boundary: 0,
     limit: None,
-    hears: false,
+    hears: Hearing::Nothing,
     password: None,
     wants: false,
     within: None,
@@ -34,7 +34,7 @@ const NARROW_OF_THREE: Made = Made {
     size: 1,
     boundary: 0,
     limit: Some(3),
-    hears: false,
+    hears: Hearing::Nothing,
     password: None,
     wants: false,
     within: None,
@@ -44,7 +44,7 @@ const ONE_PERMIT: Made = Made {
     size: 50,
     boundary: 8192,
     limit: Some(1),
-    hears: false,
+    hears: Hearing::Nothing,
     password: None,
     wants: false,
     within: None,
@@ -54,7 +54,7 @@ const TWO_PERMITS: Made = Made {
     size: 50,
     boundary: 8192,
     limit: Some(2),
-    hears: false,
+    hears: Hearing::Nothing,
     password: None,
     wants: false,
     within: None,
@@ -65,7 +65,7 @@ const PASSWORD: Made = Made {
     size: 50,
     boundary: 8192,
     limit: None,
-    hears: false,
+    hears: Hearing::Nothing,
     password: Some(b"p"),
     wants: false,
     within: None,
@@ -76,7 +76,7 @@ const HEARS: Made = Made {
     size: 50,
     boundary: 8192,
     limit: None,
-    hears: true,
+    hears: Hearing::Pushes,
     password: None,
     wants: false,
     within: None,
@@ -87,7 +87,7 @@ const HEARS_PASSWORD: Made = Made {
     size: 50,
     boundary: 8192,
     limit: None,
-    hears: true,
+    hears: Hearing::Pushes,
     password: Some(b"p"),
     wants: false,
     within: None,

@@ -92,7 +92,12 @@ impl Bytes {
         requires { count ≤ length self.old }
         ensures { self.new ≡ drop count self.old }
     {
-        self.items.drain(..count);
+        if count == 0 {
+            return;
+        }
+        let left = self.items.len() - count;
+        self.items.copy_within(count.., 0);
+        self.items.truncate(left);
     }
 
     /// Keeps the first `count` bytes.

@@ -5,7 +5,6 @@ use Rattle.resp_value.specs.View.{value_of}
 use Rattle.resp_value.specs.Kinds.{kind_of, has_reply, is_item}
 use Rattle.resp_value.specs.declared.push_kind.PushKind.{PushKind}
 use Rattle.resp_value.specs.declared.push_kind.PushKind.TheVariants as kind
-
 use Rattle.driver_model.specs.declared.hearing.Hearing.{Hearing}
 use Rattle.driver_model.specs.declared.hearing.Hearing.TheVariants as hearing
 use Rattle.driver_model.specs.declared.hearing.Notice.{Notice}

@@ -2,7 +2,7 @@ ghost use Rattle.std.specs.Prelude.{◌≡◌, Some, None, OnOk, IfOk, IfErr};
 ghost use Rattle.driver_model.specs.Config.{config_of, address, told_info, connect_timeout};
 ghost use Rattle.driver_model.specs.Config.{response_timeout, permits, buffer_size, boundary};
 ghost use Rattle.driver_model.specs.Config.{hearing_of, wants_credentials};
-ghost use Rattle.driver_model.specs.Config.{first_fault, RefusesConfig};
+ghost use Rattle.driver_model.specs.Config.{is_bare, has_line, first_fault, RefusesConfig};
 ghost use Rattle.driver_model.specs.Hearing.{hears_pushes};
 ghost use Rattle.connection_info.specs.Refusal.{RefusesUrl};
 
@@ -195,6 +195,26 @@ impl Config {
         })
     }
 
+    /// Whether nothing but the kind, the address and the library is given.
+    fn is_bare(&self) -> bool
+        ensures { result ≡ is_bare self.now }
+    {
+        self.connect.is_none()
+            && self.response.is_none()
+            && self.limit.is_none()
+            && self.buffer.is_none()
+            && self.boundary.is_none()
+            && self.push.is_none()
+            && self.creds.is_none()
+    }
+
+    /// Whether its kind has all that is given: a link of publish/subscribe or of monitor mode has an address and a library.
+    pub fn has_line(&self) -> bool
+        ensures { result ≡ has_line self.now }
+    {
+        self.kind.is_single() || self.is_bare()
+    }
+
     /// The server's address. A URL that isn't one is refused.
     #[tactic(auto, using(crate::proofs::Text::utf8_true, crate::proofs::Text::utf8_false))]
     fn read_address(&self, alloc: Global) -> Result<ConnectionInfo, OpenError>
@@ -207,14 +227,17 @@ impl Config {
         }
     }
 
-    /// The server's address, where nothing of the configuration is refused. Else the name of what is refused first: a URL
-    /// that isn't an address, pushes that somebody hears on a connection of RESP2, a limit of no permits, and a queue that holds
+    /// The server's address, where nothing of the configuration is refused. Else the name of what is refused first: words that its
+    /// kind doesn't have, a URL that isn't an address, pushes that somebody hears on a connection of RESP2, a limit of no permits, and a queue that holds
     /// nothing.
     pub fn info(&self, alloc: Global) -> Result<ConnectionInfo, OpenError>
         ensures ok { IfOk result (λ info. address self.now ≡ Some info) }
         ensures sound { OnOk result (first_fault self.now ≡ None) }
         ensures err { IfErr result (RefusesConfig self.now) }
     {
+        if !self.has_line() {
+            return Err(OpenError::Config(ConfigName::Kind));
+        }
         let info = self.read_address(alloc)?;
         if self.hears_pushes() && !info.redis.protocol.supports_resp3() {
             return Err(OpenError::Config(ConfigName::Push));

@@ -145,15 +145,7 @@ impl Submission {
         match self {
             Submission::Subscription { action, names: _ } => is_sharded(*action),
             Submission::Ping { message: _ } => false,
-            Submission::Cmd { args: _ } => true,
-            Submission::NoReply { args: _ } => true,
-            Submission::Pipe { commands: _ } => true,
-            Submission::Multi { commands: _ } => true,
-            Submission::Packed {
-                offset: _,
-                count: _,
-                commands: _,
-            } => true,
+            _ => true,
         }
     }
 

@@ -1,11 +1,10 @@
--- Where a push stands among the outcomes: behind those of messages that were full before it came, and before those of messages
+-- Where what is told stands among the outcomes: behind those of messages that were full before it came, and before those of messages
 -- that take an item behind it.
-use Rattle.std.proofs.Common.{◌≡◌, ◌≢◌, ◌⊎◌, inl, inr, ℕ, zero, suc, ◌+◌, ◌-◌, ◌<◌, ◌≤◌, ◌==◌, Bool, true, false, ◌&&◌, not, List, [], ◌∷◌, ◌++◌, length, take, Option, Some, None, is_some, refl, sym, ◌∙◌, ap, subst, arith, length-append}
+use Rattle.std.proofs.Common.{◌≡◌, ◌≢◌, ◌⊎◌, inl, inr, ℕ, zero, suc, ◌+◌, ◌<◌, ◌≤◌, ◌==◌, Bool, true, false, ◌&&◌, not, List, [], ◌∷◌, ◌++◌, length, take, Option, Some, None, is_some, refl, sym, ◌∙◌, ap, subst, arith}
 use Rattle.std.proofs.lemmas.List.{take-append-le, take_all, length_push}
 use Rattle.std.specs.Prelude.{slice_get}
 use Rattle.containers.proofs.Choices.{by_test, chosen, eq_from, eq_test, le_from, le_test, not_le_from, not_le_test}
 use Rattle.redis_error.specs.declared.redis_error.RedisError.TheVariants as error
-use Rattle.resp_read.specs.Items.{items}
 use Rattle.driver_model.specs.declared.action.Action.{Action}
 use Rattle.driver_model.specs.declared.action.Action.TheVariants as action
 use Rattle.driver_model.specs.declared.action.Cause.TheVariants as cause
@@ -15,25 +14,27 @@ use Rattle.driver_model.specs.declared.event.Event.{Event}
 use Rattle.driver_model.specs.declared.event.EventKind.{EventKind}
 use Rattle.driver_model.specs.declared.event.EventKind.TheVariants as event
 use Rattle.driver_model.specs.declared.outcome.Outcome.{Outcome}
-use Rattle.driver_model.specs.declared.push_info.PushInfo.{PushInfo}
-use Rattle.driver_model.specs.News.{News, silence, connected, refused, overdue, took, came, failed, shut, authorized, denied, deserted, renewed, unrenewed, late}
-use Rattle.legal_trace.specs.Ledger.{Ledger, Heard, Line, Start, asks, hears, begins, offers, tells, ends, parts, noted, noted_each, with_news, refused_in, bytes_came, is_over, dials, reach, reached, is_full, is_full_by, next_push, sources, awaits_credentials, authorized_by, times, may_renew, renewed_by, unrenewed_by, is_renewal_open, lost_by}
+use Rattle.driver_model.specs.declared.hearing.Notice.{Notice}
+use Rattle.driver_model.specs.Hearing.{hears_something}
+use Rattle.driver_model.specs.News.{News, silence, connected, refused, overdue, took, came, failed, dropped, shut, authorized, denied, deserted, renewed, unrenewed, late}
+use Rattle.legal_trace.specs.Ledger.{Ledger, Heard, Line, Start, asks, hears, begins, offers, tells, ends, parts, noted, noted_each, with_news, refused_in, bytes_came, is_over, dials, reach, reached, is_full, is_full_by, next_notice, sources, awaits_credentials, authorized_by, times, may_renew, renewed_by, unrenewed_by, is_renewal_open, lost_by}
 use Rattle.legal_trace.specs.Story.{Story, Try, last_of, is_open, handed_in, left, holds, clocked, fires, tried, waits, answered}
-use Rattle.legal_trace.specs.Book.{Book, blank_book, book, entered, entered_each, current, is_clock_of, after_event, is_unspoken, message_of, if_mine, lines_of, lines_of_each}
-use Rattle.legal_trace.specs.Legal.{MayStand, MayTellPush, MayAnswer, MayTell, AllStand, IsOpen, IsBefore, is_heard, is_heard_in, Legal}
+use Rattle.legal_trace.specs.Book.{Book, blank_book, book, entered, entered_each, current, is_clock_of, after_event, is_unspoken, message_of, if_mine, lines_of, lines_of_each, hearing_in}
+use Rattle.legal_trace.specs.Legal.{MayStand, MayNotify, MayAnswer, MayTell, AllStand, IsOpen, IsBefore, is_heard, Legal}
 use Rattle.legal_trace.proofs.Books.{stand_front, stand_behind, book_append}
 use Rattle.legal_trace.proofs.Ledgers.{each_keeps, reach_alike, reach_more, takes_one}
+use Rattle.legal_trace.proofs.Came.{holds_bytes, bytes_are}
 use Rattle.legal_trace.proofs.Moves.{has_no_tries}
 use Rattle.legal_trace.proofs.Plain.{not_none, same_some}
-use Rattle.legal_laws.specs.Pushes.{Tells, HasMessage, TellsInOrder}
+use Rattle.legal_laws.specs.Notices.{Tells, HasMessage, TellsInOrder}
 use Rattle.legal_laws.proofs.Configured.{config_kept}
-use Rattle.legal_laws.proofs.Heard.{between_at, between_behind, InRow, in_row, IsBeyond, beyond_keeps}
+use Rattle.legal_laws.proofs.Heard.{between_at, between_behind, came_grows, InRow, in_row, IsBeyond, beyond_keeps}
 use Rattle.legal_laws.proofs.Held.{not_open}
 use Rattle.legal_laws.proofs.Leaving.{outcome_is_open}
 use Rattle.legal_laws.proofs.Lines.{told_behind}
 use Rattle.legal_laws.proofs.Next.{on_its_link}
 use Rattle.legal_laws.proofs.Numbers.{HasStories, open_is_numbered}
-use Rattle.legal_laws.proofs.Pushes.{telling}
+use Rattle.legal_laws.proofs.Notices.{telling}
 use Rattle.legal_laws.proofs.Sound.{Sound, stays_sound, stay_sound, sound_behind}
 use Rattle.legal_laws.proofs.Tales.{last_behind}
 
@@ -50,7 +51,7 @@ takes_hears k count l turn (refused f) h = chosen (TakesUpTo k count) (dials l) 
 takes_hears k count l turn overdue h = h
 takes_hears k count l turn (took n) h = chosen (TakesUpTo k count) l.up (record l { taken = l.taken ++ take n l.offer; offer = [] }) l (λ t. record { started = h.started; takes = h.takes }) (λ e. h)
 takes_hears k count l turn (came piece) h = chosen (TakesUpTo k count) l.up (bytes_came l piece) l
-    (λ t. record { started = h.started; takes = reach_alike (take (k + 1) l.starts) (bytes_came l piece).dealt l.dealt ∙ h.takes }) (λ e. h)
+    (λ t. holds_bytes (TakesUpTo k count) l piece (λ rest strange told more. record { started = h.started; takes = reach_alike (take (k + 1) l.starts) (l.dealt ++ more) l.dealt ∙ h.takes })) (λ e. h)
 takes_hears k count l turn (failed f) h = h
 takes_hears k count l turn (authorized c) h = chosen (TakesUpTo k count) (awaits_credentials l) (authorized_by l c) l (λ t. record { started = h.started; takes = h.takes }) (λ e. h)
 takes_hears k count l turn (denied text) h = h
@@ -58,11 +59,12 @@ takes_hears k count l turn deserted h = h
 takes_hears k count l turn (renewed c) h = chosen (TakesUpTo k count) (may_renew l) (renewed_by l c) l (λ t. record { started = h.started; takes = h.takes }) (λ e. h)
 takes_hears k count l turn unrenewed h = chosen (TakesUpTo k count) l.up (unrenewed_by l) l (λ t. record { started = h.started; takes = h.takes }) (λ e. h)
 takes_hears k count l turn (late i) h = chosen (TakesUpTo k count) (l.up && is_renewal_open l i) (lost_by l) l (λ t. record { started = h.started; takes = h.takes }) (λ e. h)
+takes_hears k count l turn dropped h = h
 takes_hears k count l turn shut h = h
 
 -- and with any line
 takes_keeps : (k count : ℕ) (l : Ledger) (x : Line) → TakesUpTo k count l → TakesUpTo k count (noted l x)
-takes_keeps k count l (asks info wanted) h = record { started = h.started; takes = h.takes }
+takes_keeps k count l (asks info wanted hearing) h = record { started = h.started; takes = h.takes }
 takes_keeps k count l (hears turn news) h = let m = takes_hears k count l turn news h in record { started = m.started; takes = m.takes }
 takes_keeps k count l (begins s) h = record {
   started = let i : k < length l.starts = h.started in let e = length_push l.starts s in omega arith;
@@ -114,6 +116,7 @@ event_from b a l n k (event.Timeout ms) blank = λ o h. inl (o, h)
 event_from b a l n k (event.Creds c auth) blank = λ o h. inl (o, h)
 event_from b a l n k (event.CredsError c text) blank = λ o h. inl (o, h)
 event_from b a l n k (event.CredsEnd c) blank = λ o h. inl (o, h)
+event_from b a l n k event.DropStream blank = λ o h. inl (o, h)
 event_from b a l n k event.Shutdown blank = λ o h. inl (o, h)
 
 -- the last of tries, behind which one more stands
@@ -130,24 +133,29 @@ message_from b (action.Connect m host port) l n k blank = λ o h. inl (o, h)
 message_from b (action.Timer t ms what) l n k blank = chosen (IsFrom b (action.Timer t ms what) l n k) (is_clock_of n (Some what)) (clocked (b.story n) t) (b.story n) (λ e o h. inl (o, h)) (λ f o h. inl (o, h))
 message_from b (action.Took owner.Setup m count) l n k blank = λ o h. inl (o, h)
 message_from b (action.Took owner.Auth m count) l n k blank = λ o h. inl (o, h)
+message_from b (action.Took owner.Monitor m count) l n k blank = λ o h. inl (o, h)
 message_from b (action.Took (owner.Try i round) m count) l n k blank = chosen (IsFrom b (action.Took (owner.Try i round) m count) l n k) (i == n) (holds (b.story n) count) (b.story n) (λ e o h. inl (o, h)) (λ f o h. inl (o, h))
 message_from b (action.Push m info) l n k blank = λ o h. inl (o, h)
+message_from b (action.Message msg) l n k blank = λ o h. inl (o, h)
+message_from b (action.Monitor v) l n k blank = λ o h. inl (o, h)
 message_from b (action.NeedCreds c m) l n k blank = λ o h. inl (o, h)
 message_from b (action.Close m) l n k blank = λ o h. inl (o, h)
 message_from b (action.Write m bytes) l n k blank = λ o h. inl (o, h)
 message_from b (action.Wait owner.Setup kind) l n k blank = λ o h. inl (o, h)
 message_from b (action.Wait owner.Auth kind) l n k blank = λ o h. inl (o, h)
+message_from b (action.Wait owner.Monitor kind) l n k blank = λ o h. inl (o, h)
 message_from b (action.Wait (owner.Try i round) kind) l n k blank = chosen (IsFrom b (action.Wait (owner.Try i round) kind) l n k) (i == n) (waits (b.story n) kind) (b.story n) (λ e o h. inl (o, h)) (λ f o h. inl (o, h))
 message_from b (action.Start m j owner.Setup count len) l n k blank = λ o h. inl (o, h)
 message_from b (action.Start m j owner.Auth count len) l n k blank = λ o h. inl (o, h)
+message_from b (action.Start m j owner.Monitor count len) l n k blank = λ o h. inl (o, h)
 message_from b (action.Start m j (owner.Try i round) count len) l n k blank = chosen (IsFrom b (action.Start m j (owner.Try i round) count len) l n k) (i == n) (tried (b.story n) m j) (b.story n)
     (λ e o h. let same = same_last (b.story n).tries m j l k h in inr (same.0, same.1, eq_from i n e)) (λ f o h. inl (o, h))
 message_from b (action.Created e) l n k blank = λ o h. inl (o, h)
 message_from b (action.Outcome i o) l n k blank = chosen (IsFrom b (action.Outcome i o) l n k) (i == n) (answered (b.story n) o) (b.story n)
     (λ e open_still h. absurd (not_open (b.story n) o open_still)) (λ f u h. inl (u, h))
 
--- behind a push that came when so many items had been dealt: the last message of submission n, where it is open and that is of
--- the push's link, takes an item behind it
+-- behind what is told that came when so many items had been dealt: the last message of submission n, where it is open and that is of
+-- its link, takes an item behind it
 pub record TakesBehind (l n count : ℕ) (b : Book) : Type 0 where
   pub dealt : count ≤ length (b.link l).dealt
   pub takes : (k : ℕ) → IsOpen b n → HasMessage b n l k → count < reached (b.link l) (k + 1)
@@ -179,10 +187,7 @@ dealt_hears count l turn (refused f) i = chosen (λ (x : Ledger). count ≤ leng
 dealt_hears count l turn overdue i = i
 dealt_hears count l turn (took n) i = chosen (λ (x : Ledger). count ≤ length x.dealt) l.up (record l { taken = l.taken ++ take n l.offer; offer = [] }) l (λ t. i) (λ e. i)
 dealt_hears count l turn (came piece) i = chosen (λ (x : Ledger). count ≤ length x.dealt) l.up (bytes_came l piece) l
-    (λ t.
-    let room : ℕ = reach l.starts l.dealt - length l.dealt in
-    let long : length (l.dealt ++ take room (items (l.rest ++ piece))) ≡ length l.dealt + length (take room (items (l.rest ++ piece))) = length-append l.dealt (take room (items (l.rest ++ piece))) in
-    omega (arith, long, i)) (λ e. i)
+    (λ t. let more : length l.dealt ≤ length (bytes_came l piece).dealt = came_grows l (bytes_came l piece) (bytes_are l piece) in omega (arith, more, i)) (λ e. i)
 dealt_hears count l turn (failed f) i = i
 dealt_hears count l turn (authorized c) i = chosen (λ (x : Ledger). count ≤ length x.dealt) (awaits_credentials l) (authorized_by l c) l (λ t. i) (λ e. i)
 dealt_hears count l turn (denied text) i = i
@@ -190,11 +195,12 @@ dealt_hears count l turn deserted i = i
 dealt_hears count l turn (renewed c) i = chosen (λ (x : Ledger). count ≤ length x.dealt) (may_renew l) (renewed_by l c) l (λ t. i) (λ e. i)
 dealt_hears count l turn unrenewed i = chosen (λ (x : Ledger). count ≤ length x.dealt) l.up (unrenewed_by l) l (λ t. i) (λ e. i)
 dealt_hears count l turn (late k) i = chosen (λ (x : Ledger). count ≤ length x.dealt) (l.up && is_renewal_open l k) (lost_by l) l (λ t. i) (λ e. i)
+dealt_hears count l turn dropped i = i
 dealt_hears count l turn shut i = i
 
 -- nor by any line
 dealt_keeps : (count : ℕ) (l : Ledger) (x : Line) → count ≤ length l.dealt → count ≤ length (noted l x).dealt
-dealt_keeps count l (asks info wanted) i = i
+dealt_keeps count l (asks info wanted hearing) i = i
 dealt_keeps count l (hears turn news) i = dealt_hears count l turn news i
 dealt_keeps count l (begins s) i = i
 dealt_keeps count l (offers bytes) i = i
@@ -223,22 +229,22 @@ each_behind : (b : Book) (trace : List Action) (l n count : ℕ) → AllStand b 
 each_behind b [] l n count all sound h = h
 each_behind b (a ∷ more) l n count all sound h = each_behind (entered b a) more l n count all.1 (stays_sound b a all.0 sound) (behind_kept b a l n count all.0 sound h)
 
--- where a push is told
-told_takes : (b : Book) (l n : ℕ) (info : PushInfo) (p : Heard) → Sound b → InRow (b.link l) → MayTellPush b l info → next_push (b.link l) ≡ Some p → TakesBehind l n p.after b
-told_takes b l n info p sound row may next = record {
-  dealt = (between_at 0 (b.link l).pushes (length (b.link l).dealt) (b.link l).told p row.rise next).1;
+-- where it is told
+told_takes : (b : Book) (l n : ℕ) (what : Notice) (p : Heard) → Sound b → InRow (b.link l) → MayNotify b l what → next_notice (b.link l) ≡ Some p → TakesBehind l n p.after b
+told_takes b l n what p sound row may next = record {
+  dealt = (between_at 0 (b.link l).notices (length (b.link l).dealt) (b.link l).told p row.rise next).1;
   takes = λ k o has. by_test (is_full_by (b.link l) p.after k) (p.after < reached (b.link l) (k + 1))
-      (λ t. absurd (may.answered n o (on_its_link b n l info sound may) (record {
+      (λ t. absurd (may.answered n o (on_its_link b n l what sound may) (record {
         try = record { link = l; message = k };
         last = has;
-        full = subst (λ (q : Heard). is_full_by (b.link l) q.after k ≡ true) (same_some p may.push (sym next ∙ may.next)) t;
+        full = subst (λ (q : Heard). is_full_by (b.link l) q.after k ≡ true) (same_some p may.heard (sym next ∙ may.next)) t;
       })))
       (λ f. not_le_from (reached (b.link l) (k + 1)) p.after f);
 }
 
--- whoever is answered behind a push takes an item behind it
-answers_behind : (b : Book) (middle more : List Action) (a : Action) (l n k : ℕ) (o : Outcome) (p : Heard) → Sound b → InRow (b.link l) → AllStand b (a ∷ (middle ++ action.Outcome n o ∷ more)) → Tells l a
-    → next_push (b.link l) ≡ Some p → HasMessage (entered_each (entered b a) middle) n l k → is_full_by ((entered_each (entered b a) middle).link l) p.after k ≡ false
+-- whoever is answered behind it takes an item behind it
+answers_behind : (b : Book) (middle more : List Action) (a : Action) (l n k : ℕ) (o : Outcome) (p : Heard) → Sound b → InRow (b.link l) → AllStand b (a ∷ (middle ++ action.Outcome n o ∷ more)) → Tells b l a
+    → next_notice (b.link l) ≡ Some p → HasMessage (entered_each (entered b a) middle) n l k → is_full_by ((entered_each (entered b a) middle).link l) p.after k ≡ false
 answers_behind b middle more a l n k o p sound row all is next has =
     let t = telling b l a all.0 is in
     let later : Book = entered_each (entered b a) middle in
@@ -254,21 +260,21 @@ none_beyond (x ∷ hs) zero i p none le e = cc none
 none_beyond (x ∷ hs) (suc k) zero p none le e = omega (arith, le)
 none_beyond (x ∷ hs) (suc k) (suc i) p none le e = none_beyond hs k i p none (omega (arith, le)) e
 
--- whoever is answered by its items: no push that waits came before it was full
+-- whoever is answered by its items: nothing that waits came before it was full
 answered_beyond : (b : Book) (l n k : ℕ) (o : Outcome) → InRow (b.link l) → is_heard b ≡ true → (b.story n).link ≡ l → MayAnswer b n o → HasMessage b n l k → is_full (b.link l) k ≡ true → IsBeyond (reached (b.link l) (k + 1)) (b.link l)
 answered_beyond b l n k o row heard on may has full = record {
   dealt = le_from (reached (b.link l) (k + 1)) (length (b.link l).dealt) full;
-  waits = λ i p told at. of_next (next_push (b.link l)) refl i p told at;
+  waits = λ i p told at. of_next (next_notice (b.link l)) refl i p told at;
 }
   where
-    of_next : (next : Option Heard) → next_push (b.link l) ≡ next → (i : ℕ) (p : Heard) → (b.link l).told ≤ i → slice_get (b.link l).pushes i ≡ Some p → reached (b.link l) (k + 1) ≤ p.after
-    of_next None same i p told at = absurd (none_beyond (b.link l).pushes (b.link l).told i p same told at)
+    of_next : (next : Option Heard) → next_notice (b.link l) ≡ next → (i : ℕ) (p : Heard) → (b.link l).told ≤ i → slice_get (b.link l).notices i ≡ Some p → reached (b.link l) (k + 1) ≤ p.after
+    of_next None same i p told at = absurd (none_beyond (b.link l).notices (b.link l).told i p same told at)
     of_next (Some q) same i p told at =
-        let before : IsBefore b n q = may.after_pushes heard q (ap (λ j. next_push (b.link j)) on ∙ same) in
+        let before : IsBefore b n q = may.after_notices heard q (ap (λ j. next_notice (b.link j)) on ∙ same) in
         let it : before.try ≡ record { link = l; message = k } = same_some before.try (record { link = l; message = k }) (sym before.last ∙ has) in
         let early : is_full_by (b.link l) q.after k ≡ true = subst (λ (t : Try). is_full_by (b.link t.link) q.after t.message ≡ true) it before.full in
         let first : reached (b.link l) (k + 1) ≤ q.after = le_from (reached (b.link l) (k + 1)) q.after early in
-        let later : q.after ≤ p.after = between_behind 0 (b.link l).pushes (length (b.link l).dealt) (b.link l).told i q p told row.rise same at in
+        let later : q.after ≤ p.after = between_behind 0 (b.link l).notices (length (b.link l).dealt) (b.link l).told i q p told row.rise same at in
         omega (arith, first, later)
 
 -- whoever has a message isn't told at its place
@@ -276,9 +282,9 @@ answer_of : (b : Book) (n l k : ℕ) (o : Outcome) → MayAnswer b n o ⊎ MayTe
 answer_of b n l k o (inl owes) has = owes
 answer_of b n l k o (inr told) has = absurd (not_none (last_of (b.story n).tries) (record { link = l; message = k }) (ap last_of (has_no_tries (b.story n) told.unstarted)) has)
 
--- whoever is answered before a push by its items had them all
-answers_before : (b : Book) (middle more : List Action) (a : Action) (l n k : ℕ) (o : Outcome) (p : Heard) → Sound b → InRow (b.link l) → AllStand b (action.Outcome n o ∷ (middle ++ a ∷ more)) → Tells l a
-    → next_push ((entered_each (entered b (action.Outcome n o)) middle).link l) ≡ Some p → HasMessage b n l k → is_full (b.link l) k ≡ true → is_full_by (b.link l) p.after k ≡ true
+-- whoever is answered before it by its items had them all
+answers_before : (b : Book) (middle more : List Action) (a : Action) (l n k : ℕ) (o : Outcome) (p : Heard) → Sound b → InRow (b.link l) → AllStand b (action.Outcome n o ∷ (middle ++ a ∷ more)) → Tells (entered_each (entered b (action.Outcome n o)) middle) l a
+    → next_notice ((entered_each (entered b (action.Outcome n o)) middle).link l) ≡ Some p → HasMessage b n l k → is_full (b.link l) k ≡ true → is_full_by (b.link l) p.after k ≡ true
 answers_before b middle more a l n k o p sound row all is next has full =
     let answer : Action = action.Outcome n o in
     let later : Book = entered_each (entered b answer) middle in
@@ -288,7 +294,7 @@ answers_before b middle more a l n k o p sound row all is next has full =
     let may : MayAnswer b n o = answer_of b n l k o all.0 has in
     let numbered : n < b.submissions = open_is_numbered b n sound.stories may.asked in
     let some : b.turns ≢ 0 = λ none. let empty : b.submissions ≡ 0 = sound.opens.none_yet (omega (arith, none)) in omega (arith, numbered, empty) in
-    let heard : is_heard b ≡ true = sym (ap is_heard_in (config_kept b (answer ∷ middle) front some)) ∙ t.1.heard in
+    let heard : is_heard b ≡ true = sym (ap (λ config. hears_something (hearing_in config)) (config_kept b (answer ∷ middle) front some)) ∙ t.1.is_heard in
     let on : (b.story n).link ≡ l = sound.goes n ∙ (sym (sound_later.goes n) ∙ on_its_link later n l t.0 sound_later t.1) in
     let count : ℕ = reached (b.link l) (k + 1) in
     let beyond : IsBeyond count (later.link l) = subst (IsBeyond count) (sym (told_behind b l (answer ∷ middle)))
@@ -314,6 +320,6 @@ tells_in_order config word events trace h = record {
       let rest : List Action = action.Outcome n o ∷ (middle ++ a ∷ more) in
       let all : AllStand blank_book (front ++ rest) = subst (AllStand blank_book) is h.each in
       let same : book (front ++ action.Outcome n o ∷ middle) ≡ entered_each (book front) (action.Outcome n o ∷ middle) = book_append front (action.Outcome n o ∷ middle) in
-      answers_before (book front) middle more a l n k o p (sound_behind front (stand_front blank_book front rest all)) (in_row front l) (behind_front front rest all) tells_it
-      (subst (λ (b : Book). next_push (b.link l) ≡ Some p) same next) has full;
+      answers_before (book front) middle more a l n k o p (sound_behind front (stand_front blank_book front rest all)) (in_row front l) (behind_front front rest all) (subst (λ (b : Book). Tells b l a) same tells_it)
+      (subst (λ (b : Book). next_notice (b.link l) ≡ Some p) same next) has full;
 }

@@ -1,7 +1,7 @@
 -- How many outcomes the submissions of a legal trace have.
-use Rattle.std.proofs.Common.{◌≡◌, ℕ, ◌≤◌, ◌==◌, Bool, true, false, ◌&&◌, not, ◌⊎◌, List, [], ◌∷◌, ◌++◌, length, Option, Some, None, is_some, inl, inr, ap, sym, subst, ◌∙◌, arith}
+use Rattle.std.proofs.Common.{◌≡◌, ℕ, ◌≤◌, ◌==◌, Bool, true, false, ◌&&◌, not, ◌⊎◌, List, [], ◌∷◌, ◌++◌, length, Option, Some, None, is_some, inl, inr, ap, sym, subst, ◌∙◌, arith, refl}
 use Rattle.std.proofs.lemmas.Bool.Decides.{nat_tests}
-use Rattle.containers.proofs.Choices.{left_if, taken_if}
+use Rattle.containers.proofs.Choices.{left_if, taken_if, not_both}
 use Rattle.redis_error.specs.declared.redis_error.RedisError.TheVariants as error
 use Rattle.driver_model.specs.declared.action.Action.{Action}
 use Rattle.driver_model.specs.declared.action.Action.TheVariants as action
@@ -14,7 +14,7 @@ use Rattle.driver_model.specs.declared.outcome.Outcome.{Outcome}
 use Rattle.legal_trace.specs.Book.{Book, blank_book, book}
 use Rattle.legal_trace.specs.Owed.{owed}
 use Rattle.legal_trace.specs.Legal.{IsOpen, IsSettled, WaitHolds, AllStand, MayAnswer, MayTell, link_of, Legal}
-use Rattle.legal_laws.specs.Answers.{AnswersOnce, AnswersAll, RefusesUnspoken}
+use Rattle.legal_laws.specs.Answers.{AnswersOnce, AnswersAll, RefusesUnspoken, AnswersOver}
 use Rattle.legal_trace.proofs.Ledgers.{dials_from}
 use Rattle.legal_trace.proofs.Books.{stand_behind}
 use Rattle.legal_trace.proofs.Plain.{none_from, not_none, same_some}
@@ -22,6 +22,8 @@ use Rattle.legal_trace.proofs.Moves.{waits_on_a_link}
 use Rattle.legal_laws.proofs.Numbers.{up_is_asked}
 use Rattle.legal_laws.proofs.Shutdown.{none_left}
 use Rattle.legal_laws.proofs.Sound.{Sound, sound_behind}
+use Rattle.legal_trace.specs.Ledger.{End, is_over}
+use Rattle.legal_laws.proofs.Ranks.{none_over}
 
 -- no submission of a legal trace has a second outcome
 pub at_most_one : (config : Config) (word : ℕ) (events : List Event) (trace : List Action) → Legal config word events trace → AnswersOnce trace
@@ -59,6 +61,31 @@ pub exactly_one : (config : Config) (word : ℕ) (events : List Event) (trace : 
 exactly_one config word events trace h shut n s there stays =
     by_length ((book trace).story n).outcomes ((book trace).story n).submission ((book trace).story n).cancelled (ap is_some there) stays
     (none_open (book trace) (sound_behind trace h.each) h.settled shut n) (at_most_one config word events trace h n)
+
+-- a link that has ended
+over_at : (o : Option End) → is_some o ≡ true → (end : End) × (o ≡ Some end)
+over_at None t = absurd (cc t)
+over_at (Some end) t = (end, refl)
+
+-- where the link of a submission has ended, no other is up, since there is one link
+none_up : (b : Book) (n : ℕ) → Sound b → is_over (link_of b n) ≡ true → (l : ℕ) → (b.link l).up ≡ true → ⊥
+none_up b n h over l up = let end = over_at (link_of b n).end over in none_over b l (b.story n).link end.0 h up end.1
+
+-- so it isn't open once a turn is over
+none_open_over : (b : Book) (n : ℕ) → Sound b → IsSettled b → is_over (link_of b n) ≡ true → IsOpen b n → ⊥
+none_open_over b n h settled over o = elim (settled.goes n o) [
+  | inl s ↦ none_up b n h over s.try.link s.up
+  | inr w ↦ elim (waits_on_a_link b n w.kind w.holds) [
+    | inl dialing ↦ not_both (is_over (link_of b n)) (dials_from (link_of b n) dialing).2 over
+    | inr up ↦ none_up b n h over (b.story n).link up
+  ]
+]
+
+-- and has one outcome
+pub one_over : (config : Config) (word : ℕ) (events : List Event) (trace : List Action) → Legal config word events trace → AnswersOver trace
+one_over config word events trace h n s over there stays =
+    by_length ((book trace).story n).outcomes ((book trace).story n).submission ((book trace).story n).cancelled (ap is_some there) stays
+    (none_open_over (book trace) n (sound_behind trace h.each) h.settled over) (at_most_one config word events trace h n)
 
 -- where RESP3 is needed and not spoken, this is owed
 unspoken_owed : (b : Book) (n : ℕ) → (b.story n).unspoken ≡ true → (b.story n).late ≡ false → owed b n ≡ Some (outcome.Fault error.Resp3Required)

@@ -15,9 +15,9 @@ use Rattle.driver_model.specs.declared.action.SourceUse.TheVariants as source
 use Rattle.driver_model.specs.declared.event.EventKind.{EventKind}
 use Rattle.driver_model.specs.declared.event.EventKind.TheVariants as event
 use Rattle.driver_model.specs.declared.news.LinkFault.TheVariants as fault
-use Rattle.driver_model.specs.News.{News, silence, connected, refused, overdue, took, came, failed, authorized, denied, deserted, renewed, unrenewed, late, shut, news_of, for_link, of_timer, of_source, renews}
+use Rattle.driver_model.specs.News.{News, silence, connected, refused, overdue, took, came, failed, authorized, denied, deserted, renewed, unrenewed, late, dropped, shut, news_of, for_link, of_timer, of_source, renews}
 use Rattle.legal_trace.specs.Ledger.{Ledger, End, Sourced, asks, hears, begins, offers, sources, times, ends, noted, noted_each, with_news, refused_in, bytes_came, is_over, is_ready, is_set_up, dials, awaits_credentials, authorized_by, may_renew, renewed_by, unrenewed_by, is_renewal_open, lost_by, source_due}
-use Rattle.legal_trace.specs.Book.{Book, blank_book, book, entered, if_mine, info_in, wanted_in, message_of, use_for, is_renewal_of}
+use Rattle.legal_trace.specs.Book.{Book, blank_book, book, entered, if_mine, info_in, wanted_in, message_of, use_for, is_renewal_of, hearing_in, current}
 use Rattle.legal_trace.specs.Events.{is_bad_event}
 use Rattle.legal_trace.specs.Legal.{MayStand, MayNeed, AllStand}
 use Rattle.legal_trace.proofs.Books.{Grows, book_more, of_each_front}
@@ -25,9 +25,10 @@ use Rattle.legal_trace.proofs.Ledgers.{mine_keeps}
 use Rattle.legal_trace.proofs.Moves.{both_hold}
 use Rattle.legal_trace.proofs.Plain.{item_behind, item_stays, last_item, same_some}
 use Rattle.legal_trace.proofs.Sources.{second_is_new, source_is_up}
+use Rattle.legal_trace.proofs.Came.{holds_bytes}
 use Rattle.legal_laws.specs.Renewals.{asked_by, sources_asked, given_by, brought_by, brought}
 use Rattle.legal_laws.proofs.Numbers.{up_is_asked}
-use Rattle.legal_laws.proofs.Pushed.{push_keeps}
+use Rattle.legal_laws.proofs.Pushed.{push_keeps, tell_keeps}
 use Rattle.legal_laws.proofs.Shaped.{IsShaped}
 use Rattle.legal_laws.proofs.Sound.{Sound, sound_behind}
 
@@ -124,7 +125,7 @@ news_has l turn (refused x) asked c new shaped h = chosen (HasOf asked c (new ++
     (λ t. none_came asked c new (refused_in l turn (error.Io x)) (record { counted = h.counted; unasked = h.unasked; lives = λ r d. refl; has = h.has })) (λ f. none_came asked c new l h)
 news_has l turn overdue asked c new shaped h = none_came asked c new l h
 news_has l turn (took count) asked c new shaped h = chosen (HasOf asked c (new ++ [])) l.up (record l { taken = l.taken ++ take count l.offer; offer = [] }) l (λ t. none_came asked c new l h) (λ f. none_came asked c new l h)
-news_has l turn (came piece) asked c had shaped h = chosen (HasOf asked c (had ++ [])) l.up (bytes_came l piece) l (λ t. none_came asked c had l h) (λ f. none_came asked c had l h)
+news_has l turn (came piece) asked c had shaped h = chosen (HasOf asked c (had ++ [])) l.up (bytes_came l piece) l (λ t. holds_bytes (HasOf asked c (had ++ [])) l piece (λ rest strange told more. none_came asked c had l h)) (λ f. none_came asked c had l h)
 news_has l turn (failed x) asked c new shaped h = none_came asked c new l h
 news_has l turn (authorized x) asked c new shaped h = chosen (HasOf asked c (new ++ [])) (awaits_credentials l) (authorized_by l x) l
     (λ t. none_came asked c new (authorized_by l x) (record { counted = h.counted; unasked = h.unasked; lives = h.lives; has = h.has })) (λ f. none_came asked c new l h)
@@ -143,6 +144,7 @@ news_has l turn unrenewed asked c new shaped h = chosen (HasOf asked c (new ++ [
     (λ f. none_came asked c new l h)
 news_has l turn (late k) asked c new shaped h = chosen (HasOf asked c (new ++ [])) (l.up && is_renewal_open l k) (lost_by l) l
     (λ t. none_came asked c new (lost_by l) (record { counted = h.counted; unasked = h.unasked; lives = h.lives; has = h.has })) (λ f. none_came asked c new l h)
+news_has l turn dropped asked c new shaped h = none_came asked c new l h
 news_has l turn shut asked c new shaped h = none_came asked c new l h
 
 -- which sources renew link l, of these that were asked for: the second
@@ -197,6 +199,7 @@ brings timers uses l c asked (event.ReadFault m kind) h e = sym (plain_news (m =
 brings timers uses l c asked (event.WriteFault m kind) h e = sym (plain_news (m == l) (failed (fault.Io kind)) refl)
 brings timers uses l c asked (event.Fired t) h e = sym (timer_news l (slice_get timers t))
 brings timers uses l c asked (event.Timeout ms) h e = refl
+brings timers uses l c asked event.DropStream h e = refl
 brings timers uses l c asked event.Shutdown h e = refl
 brings timers uses l c asked (event.Submit s) h e = refl
 brings timers uses l c asked (event.Cancel s) h e = refl
@@ -351,15 +354,17 @@ accounts_kept b (action.Turn k (cause.Event e)) l c asked new may sound h =
       early = λ i. ap (λ (x : List Credentials). new ++ x) (unsaid b c e.kind may.is_for.2 i) ∙ (append-nil new ∙ h.early i);
     })
 accounts_kept b (action.Connect m host port) l c asked new may sound h = goes_on b (action.Connect m host port) l c asked new refl
-    (mine_keeps (HasOf asked c new) (m == l) (b.link l) (asks (info_in b.config) (wanted_in b.config))
+    (mine_keeps (HasOf asked c new) (m == l) (b.link l) (asks (info_in b.config) (wanted_in b.config) (hearing_in b.config))
     (λ t.
     let same : m ≡ l = eq_from m l t in
     let next : m ≡ b.links = may.next in
-    connect_has (b.link l) c asked new true (sound.links.unasked l (omega (arith, same, next))).0 h.link (noted (b.link l) (asks (info_in b.config) (wanted_in b.config))) refl refl) h.link) h
+    connect_has (b.link l) c asked new true (sound.links.unasked l (omega (arith, same, next))).0 h.link (noted (b.link l) (asks (info_in b.config) (wanted_in b.config) (hearing_in b.config))) refl refl) h.link) h
 accounts_kept b (action.Timer t ms what) l c asked new may sound h = goes_on b (action.Timer t ms what) l c asked new refl
     (mine_keeps (HasOf asked c new) (is_renewal_of l what) (b.link l) times (λ e. record { counted = h.link.counted; unasked = h.link.unasked; lives = h.link.lives; has = h.link.has }) h.link) h
 accounts_kept b (action.Took who m count) l c asked new may sound h = goes_on b (action.Took who m count) l c asked new refl h.link h
 accounts_kept b (action.Push m info) l c asked new may sound h = goes_on b (action.Push m info) l c asked new refl (push_keeps (HasOf asked c new) (m == l) info.kind (b.link l) h.link h.link h.link) h
+accounts_kept b (action.Message msg) l c asked new may sound h = goes_on b (action.Message msg) l c asked new refl (tell_keeps (HasOf asked c new) (current b == l) (b.link l) h.link h.link) h
+accounts_kept b (action.Monitor v) l c asked new may sound h = goes_on b (action.Monitor v) l c asked new refl (tell_keeps (HasOf asked c new) (current b == l) (b.link l) h.link h.link) h
 accounts_kept b (action.NeedCreds d m) l c asked new may sound h = need_accounts b d m l c asked new may sound h
 accounts_kept b (action.Close m) l c asked new may sound h = goes_on b (action.Close m) l c asked new refl
     (mine_keeps (HasOf asked c new) (m == l) (b.link l) (ends (b.turns - 1))

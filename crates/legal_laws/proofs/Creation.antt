@@ -15,7 +15,7 @@ use Rattle.driver_model.specs.declared.push_info.PushInfo.{PushInfo}
 use Rattle.driver_model.specs.declared.outcome.Outcome.TheVariants as outcome
 use Rattle.legal_trace.specs.Ledger.{Ledger, End, Ending, by_shutdown, by_fault, by_opening, begins, offers, sources, ends, failure_of, failure_in, is_set_up, setup_due, times}
 use Rattle.legal_trace.specs.Story.{Try, bytes_of, last_of}
-use Rattle.legal_trace.specs.Book.{Book, blank_book, book, entered, entered_each, lines_of, message_of, is_renewal_of}
+use Rattle.legal_trace.specs.Book.{Book, blank_book, book, entered, entered_each, lines_of, message_of, is_renewal_of, current}
 use Rattle.legal_trace.specs.Owed.{owed, owed_to_try, owed_unstarted, unstarted_error}
 use Rattle.legal_trace.specs.Legal.{MayStand, MayAnswer, MayTell, MaySetUp, MayBeCreated, MayFail, MayShowCreation, AllStand, link_of, Legal}
 use Rattle.legal_trace.proofs.Books.{stand_front, stand_behind}
@@ -31,7 +31,9 @@ use Rattle.legal_laws.proofs.Quiet.{IsQuiet, begins_quiet, ends_quiet, failed_is
 use Rattle.legal_laws.proofs.Ranks.{none_failed, none_over}
 use Rattle.legal_laws.proofs.Turned.{turn_quiet}
 use Rattle.legal_laws.proofs.Sound.{Sound, stays_sound, blank_is_sound, sound_behind}
-use Rattle.legal_laws.proofs.Pushed.{push_keeps}
+use Rattle.legal_laws.proofs.Pushed.{push_keeps, tell_keeps}
+use Rattle.driver_model.specs.declared.msg.Msg.{Msg}
+use Rattle.resp_value.specs.declared.value.Value.{Value}
 
 -- of what was shown of the creation: how often, that a link was asked for before, that no connect is open any more, and that
 -- each error that was shown is that of a failed opening
@@ -176,6 +178,21 @@ start_shows_none : (b : Book) (m k n round count len : ℕ) → ShowsNone b (act
 start_shows_none b m k n round count len = unchanged b (action.Start m k (owner.Try n round) count len) refl refl
     (λ shown l may h q. mine_keeps (IsQuiet shown) (m == l) (b.link l) (begins (message_of b m (owner.Try n round))) (λ t. begins_quiet shown (b.link l) (message_of b m (owner.Try n round)) refl q) q)
 
+-- a message
+message_shows_none : (b : Book) (msg : Msg) → ShowsNone b (action.Message msg)
+message_shows_none b msg = unchanged b (action.Message msg) refl refl
+    (λ shown l may h q. tell_keeps (IsQuiet shown) (current b == l) (b.link l) (record { quiet = q.quiet; tells = q.tells }) q)
+
+-- what a monitor reports
+report_shows_none : (b : Book) (v : Value) → ShowsNone b (action.Monitor v)
+report_shows_none b v = unchanged b (action.Monitor v) refl refl
+    (λ shown l may h q. tell_keeps (IsQuiet shown) (current b == l) (b.link l) (record { quiet = q.quiet; tells = q.tells }) q)
+
+-- MONITOR
+watch_shows_none : (b : Book) (m k count len : ℕ) → ShowsNone b (action.Start m k owner.Monitor count len)
+watch_shows_none b m k count len = unchanged b (action.Start m k owner.Monitor count len) refl refl
+    (λ shown l may h q. mine_keeps (IsQuiet shown) (m == l) (b.link l) (begins (message_of b m owner.Monitor)) (λ t. begins_quiet shown (b.link l) (message_of b m owner.Monitor) refl q) q)
+
 -- new credentials
 renew_shows_none : (b : Book) (m k count len : ℕ) → ShowsNone b (action.Start m k owner.Auth count len)
 renew_shows_none b m k count len = unchanged b (action.Start m k owner.Auth count len) refl refl
@@ -205,16 +222,21 @@ step_told b shown (action.Connect m host port) may h told = still_told b shown (
 step_told b shown (action.Timer t ms what) may h told = still_told b shown (action.Timer t ms what) (timer_shows_none b t ms what) may h told
 step_told b shown (action.Took owner.Setup l count) may h told = absurd may
 step_told b shown (action.Took owner.Auth l count) may h told = absurd may
+step_told b shown (action.Took owner.Monitor l count) may h told = absurd may
 step_told b shown (action.Took (owner.Try n round) l count) may h told = still_told b shown (action.Took (owner.Try n round) l count) (unchanged b (action.Took (owner.Try n round) l count) refl refl (λ s j m h q. q)) may h told
 step_told b shown (action.Push m info) may h told = still_told b shown (action.Push m info) (push_shows_none b m info) may h told
+step_told b shown (action.Message msg) may h told = still_told b shown (action.Message msg) (message_shows_none b msg) may h told
+step_told b shown (action.Monitor v) may h told = still_told b shown (action.Monitor v) (report_shows_none b v) may h told
 step_told b shown (action.NeedCreds c m) may h told = still_told b shown (action.NeedCreds c m) (need_shows_none b c m) may h told
 step_told b shown (action.Close m) may h told = still_told b shown (action.Close m) (close_shows_none b m) may h told
 step_told b shown (action.Write m bytes) may h told = still_told b shown (action.Write m bytes) (write_shows_none b m bytes) may h told
 step_told b shown (action.Wait owner.Setup kind) may h told = absurd may
 step_told b shown (action.Wait owner.Auth kind) may h told = absurd may
+step_told b shown (action.Wait owner.Monitor kind) may h told = absurd may
 step_told b shown (action.Wait (owner.Try n round) kind) may h told = still_told b shown (action.Wait (owner.Try n round) kind) (unchanged b (action.Wait (owner.Try n round) kind) refl refl (λ s l m h q. q)) may h told
 step_told b shown (action.Start m k owner.Setup count len) may h told = still_told b shown (action.Start m k owner.Setup count len) (setup_shows_none b m k count len) may h told
 step_told b shown (action.Start m k owner.Auth count len) may h told = still_told b shown (action.Start m k owner.Auth count len) (renew_shows_none b m k count len) may h told
+step_told b shown (action.Start m k owner.Monitor count len) may h told = still_told b shown (action.Start m k owner.Monitor count len) (watch_shows_none b m k count len) may h told
 step_told b shown (action.Start m k (owner.Try n round) count len) may h told = still_told b shown (action.Start m k (owner.Try n round) count len) (start_shows_none b m k n round count len) may h told
 step_told b shown (action.Outcome n o) may h told = still_told b shown (action.Outcome n o) (unchanged b (action.Outcome n o) refl refl (λ s l m h q. q)) may h told
 

@@ -18,24 +18,26 @@ use Rattle.driver_model.specs.declared.event.Event.{Event}
 use Rattle.driver_model.specs.declared.event.EventKind.{EventKind}
 use Rattle.driver_model.specs.declared.event.EventKind.TheVariants as event
 use Rattle.driver_model.specs.declared.news.LinkFault.TheVariants as fault
-use Rattle.driver_model.specs.News.{News, silence, connected, refused, overdue, took, came, failed, authorized, denied, deserted, renewed, unrenewed, late, shut, news_of, for_link, of_timer, of_source, is_source_of, renews}
+use Rattle.driver_model.specs.News.{News, silence, connected, refused, overdue, took, came, failed, authorized, denied, deserted, renewed, unrenewed, late, dropped, shut, news_of, for_link, of_timer, of_source, is_source_of, renews}
 use Rattle.legal_trace.specs.Ledger.{Ledger, asks, hears, begins, offers, sources, ends, noted, with_news, refused_in, bytes_came, is_over, dials, lacks_credentials, awaits_credentials, authorized_by, times, may_renew, renewed_by, unrenewed_by, is_renewal_open, lost_by}
-use Rattle.legal_trace.specs.Book.{Book, blank_book, book, entered, info_in, wanted_in, message_of, use_for, is_renewal_of}
+use Rattle.legal_trace.specs.Book.{Book, blank_book, book, entered, info_in, wanted_in, message_of, use_for, is_renewal_of, hearing_in, current}
 use Rattle.legal_trace.specs.Legal.{MayStand, AllStand, Legal}
 use Rattle.legal_trace.proofs.Books.{Grows, book_more, of_each_front, stand_front}
 use Rattle.legal_trace.proofs.Ledgers.{mine_keeps, hears_past}
 use Rattle.legal_trace.proofs.Moves.{ready_is_set, ready_is_up}
 use Rattle.legal_trace.proofs.Plain.{item_behind}
 use Rattle.legal_trace.proofs.Renewals.{renewal_is_up}
-use Rattle.legal_trace.proofs.Setups.{due_is_up, set_is_given}
+use Rattle.legal_trace.proofs.Setups.{due_is_up, set_is_given, greeted_is_given}
+use Rattle.legal_trace.proofs.Came.{holds_bytes}
 use Rattle.legal_laws.specs.Starts.{StartsOn}
 use Rattle.legal_laws.specs.Sources.{StartsNoneLacking, IsAskedFor, IsAuthorized, StartsAuthorized}
 use Rattle.legal_laws.proofs.Bounds.{ready_behind, next_may}
 use Rattle.legal_laws.proofs.Held.{starts_ready}
 use Rattle.legal_laws.proofs.Numbers.{up_is_asked, up_is_numbered}
-use Rattle.legal_laws.proofs.Pushed.{push_keeps}
+use Rattle.legal_laws.proofs.Pushed.{push_keeps, tell_keeps}
 use Rattle.legal_laws.proofs.Shaped.{due_is_given, renewal_is_set}
 use Rattle.legal_laws.proofs.Sound.{Sound, sound_behind}
+use Rattle.legal_trace.proofs.Watching.{watch_is_up, watch_is_greeted}
 
 -- a source of this use is for that link
 source_for : (l : ℕ) (o : Option SourceUse) → is_source_of l o ≡ true → o ≡ Some (source.Setup l)
@@ -79,6 +81,8 @@ adds_sources b (action.Connect m host port) may c l e = inl e
 adds_sources b (action.Timer t ms what) may c l e = inl e
 adds_sources b (action.Took who m count) may c l e = inl e
 adds_sources b (action.Push m info) may c l e = inl e
+adds_sources b (action.Message msg) may c l e = inl e
+adds_sources b (action.Monitor v) may c l e = inl e
 adds_sources b (action.Close m) may c l e = inl e
 adds_sources b (action.Write m bytes) may c l e = inl e
 adds_sources b (action.Wait who kind) may c l e = inl e
@@ -139,6 +143,7 @@ gives_from timers uses l (event.Fired t) c e = absurd (not_of_timer l (slice_get
 gives_from timers uses l (event.CredsError s text) c e = absurd (not_of_source l (slice_get uses s) (denied text) silence c (λ x. cc x) (λ x. cc x) e)
 gives_from timers uses l (event.CredsEnd s) c e = absurd (not_of_source l (slice_get uses s) deserted unrenewed c (λ x. cc x) (λ x. cc x) e)
 gives_from timers uses l (event.Timeout ms) c e = absurd (cc e)
+gives_from timers uses l event.DropStream c e = absurd (cc e)
 gives_from timers uses l event.Shutdown c e = absurd (cc e)
 gives_from timers uses l (event.Submit s) c e = absurd (cc e)
 gives_from timers uses l (event.Cancel s) c e = absurd (cc e)
@@ -158,7 +163,7 @@ hears_given l turn connected = chosen (AreGiven l connected) (is_over l) l (reco
 hears_given l turn (refused f) = chosen (AreGiven l (refused f)) (dials l) (refused_in l turn (error.Io f)) l (λ t e. inl (e, refl)) (λ n e. inl (e, refl))
 hears_given l turn overdue = λ e. inl (e, refl)
 hears_given l turn (took count) = chosen (AreGiven l (took count)) l.up (record l { taken = l.taken ++ take count l.offer; offer = [] }) l (λ t e. inl (e, refl)) (λ f e. inl (e, refl))
-hears_given l turn (came piece) = chosen (AreGiven l (came piece)) l.up (bytes_came l piece) l (λ t e. inl (e, refl)) (λ f e. inl (e, refl))
+hears_given l turn (came piece) = chosen (AreGiven l (came piece)) l.up (bytes_came l piece) l (λ t. holds_bytes (AreGiven l (came piece)) l piece (λ rest strange told more e. inl (e, refl))) (λ f e. inl (e, refl))
 hears_given l turn (failed f) = λ e. inl (e, refl)
 hears_given l turn (authorized c) = chosen (AreGiven l (authorized c)) (awaits_credentials l) (authorized_by l c) l (λ t e. inr (c, refl, refl)) (λ f e. inl (e, refl))
 hears_given l turn (denied text) = λ e. inl (e, refl)
@@ -166,6 +171,7 @@ hears_given l turn deserted = λ e. inl (e, refl)
 hears_given l turn (renewed c) = chosen (AreGiven l (renewed c)) (may_renew l) (renewed_by l c) l (λ t e. inl (e, refl)) (λ f e. inl (e, refl))
 hears_given l turn unrenewed = chosen (AreGiven l unrenewed) l.up (unrenewed_by l) l (λ t e. inl (e, refl)) (λ f e. inl (e, refl))
 hears_given l turn (late k) = chosen (AreGiven l (late k)) (l.up && is_renewal_open l k) (lost_by l) l (λ t e. inl (e, refl)) (λ f e. inl (e, refl))
+hears_given l turn dropped = λ e. inl (e, refl)
 hears_given l turn shut = λ e. inl (e, refl)
 
 -- an action gives link l credentials: it is the turn of such an event, and they are what is to be said then
@@ -196,10 +202,12 @@ turn_gives b k e l given = elim (hears_given (b.link l) k (news_of b.timers b.so
 gives_by : (b : Book) (a : Action) (l : ℕ) → GivenBy b a l
 gives_by b (action.Turn k (cause.Opening config word)) l e = inl (e, refl)
 gives_by b (action.Turn k (cause.Event event)) l e = turn_gives b k event l e
-gives_by b (action.Connect m host port) l e = inl (mine_keeps (WereGiven (b.link l)) (m == l) (b.link l) (asks (info_in b.config) (wanted_in b.config)) (λ t new. absurd (cc new)) (λ old. (old, refl)) e)
+gives_by b (action.Connect m host port) l e = inl (mine_keeps (WereGiven (b.link l)) (m == l) (b.link l) (asks (info_in b.config) (wanted_in b.config) (hearing_in b.config)) (λ t new. absurd (cc new)) (λ old. (old, refl)) e)
 gives_by b (action.Timer t ms what) l e = inl (mine_keeps (WereGiven (b.link l)) (is_renewal_of l what) (b.link l) times (λ t old. (old, refl)) (λ old. (old, refl)) e)
 gives_by b (action.Took who m count) l e = inl (e, refl)
 gives_by b (action.Push m info) l e = inl (push_keeps (WereGiven (b.link l)) (m == l) info.kind (b.link l) (λ old. (old, refl)) (λ old. (old, refl)) (λ old. (old, refl)) e)
+gives_by b (action.Message msg) l e = inl (tell_keeps (WereGiven (b.link l)) (current b == l) (b.link l) (λ old. (old, refl)) (λ old. (old, refl)) e)
+gives_by b (action.Monitor v) l e = inl (tell_keeps (WereGiven (b.link l)) (current b == l) (b.link l) (λ old. (old, refl)) (λ old. (old, refl)) e)
 gives_by b (action.NeedCreds c m) l e = inl (mine_keeps (WereGiven (b.link l)) (m == l) (b.link l) sources (λ t old. (old, refl)) (λ old. (old, refl)) e)
 gives_by b (action.Close m) l e = inl (mine_keeps (WereGiven (b.link l)) (m == l) (b.link l) (ends (b.turns - 1)) (λ t old. (old, refl)) (λ old. (old, refl)) e)
 gives_by b (action.Write m bytes) l e = inl (mine_keeps (WereGiven (b.link l)) (m == l) (b.link l) (offers bytes) (λ t old. (old, refl)) (λ old. (old, refl)) e)
@@ -272,7 +280,7 @@ hears_wanted l turn connected = chosen (λ (x : Ledger). x.creds.wanted ≡ l.cr
 hears_wanted l turn (refused f) = chosen (λ (x : Ledger). x.creds.wanted ≡ l.creds.wanted) (dials l) (refused_in l turn (error.Io f)) l (λ t. refl) (λ n. refl)
 hears_wanted l turn overdue = refl
 hears_wanted l turn (took count) = chosen (λ (x : Ledger). x.creds.wanted ≡ l.creds.wanted) l.up (record l { taken = l.taken ++ take count l.offer; offer = [] }) l (λ t. refl) (λ f. refl)
-hears_wanted l turn (came piece) = chosen (λ (x : Ledger). x.creds.wanted ≡ l.creds.wanted) l.up (bytes_came l piece) l (λ t. refl) (λ f. refl)
+hears_wanted l turn (came piece) = chosen (λ (x : Ledger). x.creds.wanted ≡ l.creds.wanted) l.up (bytes_came l piece) l (λ t. holds_bytes (λ (x : Ledger). x.creds.wanted ≡ l.creds.wanted) l piece (λ rest strange told more. refl)) (λ f. refl)
 hears_wanted l turn (failed f) = refl
 hears_wanted l turn (authorized c) = chosen (λ (x : Ledger). x.creds.wanted ≡ l.creds.wanted) (awaits_credentials l) (authorized_by l c) l (λ t. refl) (λ f. refl)
 hears_wanted l turn (denied text) = refl
@@ -280,6 +288,7 @@ hears_wanted l turn deserted = refl
 hears_wanted l turn (renewed c) = chosen (λ (x : Ledger). x.creds.wanted ≡ l.creds.wanted) (may_renew l) (renewed_by l c) l (λ t. refl) (λ f. refl)
 hears_wanted l turn unrenewed = chosen (λ (x : Ledger). x.creds.wanted ≡ l.creds.wanted) l.up (unrenewed_by l) l (λ t. refl) (λ f. refl)
 hears_wanted l turn (late k) = chosen (λ (x : Ledger). x.creds.wanted ≡ l.creds.wanted) (l.up && is_renewal_open l k) (lost_by l) l (λ t. refl) (λ f. refl)
+hears_wanted l turn dropped = refl
 hears_wanted l turn shut = refl
 
 -- so does a turn
@@ -297,10 +306,12 @@ want_kept b (action.Turn k (cause.Opening config word)) may sound h l =
     let unasked : (b.link l).asked ≡ false = (sound.links.unasked l (omega arith)).0 in
     λ asked. absurd (not_both (b.link l).asked unasked asked)
 want_kept b (action.Turn k (cause.Event e)) may sound h l = turn_wanted (wanted_in b.config) (b.link l) k (news_of b.timers b.sources l e.kind) (h l)
-want_kept b (action.Connect m host port) may sound h l = mine_keeps (Wants (wanted_in b.config)) (m == l) (b.link l) (asks (info_in b.config) (wanted_in b.config)) (λ t asked. refl) (h l)
+want_kept b (action.Connect m host port) may sound h l = mine_keeps (Wants (wanted_in b.config)) (m == l) (b.link l) (asks (info_in b.config) (wanted_in b.config) (hearing_in b.config)) (λ t asked. refl) (h l)
 want_kept b (action.Timer t ms what) may sound h l = mine_keeps (Wants (wanted_in b.config)) (is_renewal_of l what) (b.link l) times (λ t. h l) (h l)
 want_kept b (action.Took who m count) may sound h l = h l
 want_kept b (action.Push m info) may sound h l = push_keeps (Wants (wanted_in b.config)) (m == l) info.kind (b.link l) (h l) (h l) (h l)
+want_kept b (action.Message msg) may sound h l = tell_keeps (Wants (wanted_in b.config)) (current b == l) (b.link l) (h l) (h l)
+want_kept b (action.Monitor v) may sound h l = tell_keeps (Wants (wanted_in b.config)) (current b == l) (b.link l) (h l) (h l)
 want_kept b (action.NeedCreds c m) may sound h l = mine_keeps (Wants (wanted_in b.config)) (m == l) (b.link l) sources (λ t. h l) (h l)
 want_kept b (action.Close m) may sound h l = mine_keeps (Wants (wanted_in b.config)) (m == l) (b.link l) (ends (b.turns - 1)) (λ t. h l) (h l)
 want_kept b (action.Write m bytes) may sound h l = mine_keeps (Wants (wanted_in b.config)) (m == l) (b.link l) (offers bytes) (λ t. h l) (h l)
@@ -326,6 +337,8 @@ start_is_given b (action.Start m k owner.Setup count len) l may sound on = subst
     (due_is_up (b.link m) may.k may.due, by_test (lacks_credentials (b.link m)) (lacks_credentials (b.link m) ≡ false) (λ t. absurd (due_is_given (b.link m) may.k (sound.shaped m) may.due t)) (λ f. f))
 start_is_given b (action.Start m k owner.Auth count len) l may sound on = subst (λ j. ((b.link j).up ≡ true) × (lacks_credentials (b.link j) ≡ false)) on
     (renewal_is_up (b.link m) may.credentials may.due, set_is_given (b.link m) (renewal_is_set (b.link m) may.credentials (sound.shaped m) may.due))
+start_is_given b (action.Start m k owner.Monitor count len) l may sound on = subst (λ j. ((b.link j).up ≡ true) × (lacks_credentials (b.link j) ≡ false)) on
+    (watch_is_up (b.link m) may.due, greeted_is_given (b.link m) (watch_is_greeted (b.link m) may.due))
 start_is_given b (action.Start m k (owner.Try n round) count len) l may sound on =
     let ready = starts_ready b m k n count len may.1 in
     subst (λ j. ((b.link j).up ≡ true) × (lacks_credentials (b.link j) ≡ false)) on (ready_is_up (b.link m) ready, set_is_given (b.link m) (ready_is_set (b.link m) ready))

@@ -1,19 +1,18 @@
--- The pushes that a link hears stand in order among the items that are dealt.
-use Rattle.std.proofs.Common.{◌≡◌, ◌⊎◌, inl, inr, ℕ, zero, suc, ◌+◌, ◌-◌, ◌≤◌, min, true, ◌&&◌, List, [], ◌∷◌, ◌++◌, length, take, Some, refl, sym, ◌∙◌, ap, subst, arith, length-append}
-use Rattle.std.proofs.lemmas.List.{length-take}
+-- What is heard on a link stands in order among the items that are dealt.
+use Rattle.std.proofs.Common.{◌≡◌, ◌⊎◌, inl, inr, ℕ, zero, suc, ◌+◌, ◌-◌, ◌≤◌, true, ◌&&◌, List, [], ◌∷◌, ◌++◌, length, take, Some, sym, ◌∙◌, subst, arith, length-append, Option, None}
 use Rattle.std.specs.Prelude.{slice_get}
-use Rattle.containers.proofs.Choices.{by_test, chosen, taken_if, left_if}
+use Rattle.containers.proofs.Choices.{chosen}
 use Rattle.redis_error.specs.declared.redis_error.RedisError.TheVariants as error
-use Rattle.resp_value.specs.Data.{Data, push, list_of}
-use Rattle.resp_read.specs.Values.{values}
-use Rattle.resp_read.specs.Items.{items, items_among}
-use Rattle.resp_value.specs.Kinds.{is_item}
+use Rattle.resp_value.specs.Data.{Data}
+use Rattle.driver_model.specs.Hearing.{Taking}
+use Rattle.driver_model.specs.declared.hearing.Notice.{Notice}
 use Rattle.driver_model.specs.declared.action.Action.{Action}
-use Rattle.driver_model.specs.News.{News, silence, connected, refused, overdue, took, came, failed, shut, authorized, denied, deserted, renewed, unrenewed, late}
-use Rattle.legal_trace.specs.Ledger.{Ledger, Heard, Line, asks, hears, begins, offers, tells, ends, parts, blank_ledger, noted, with_news, refused_in, bytes_came, items_came, value_came, heard_at, heard_each, is_over, is_set_up, dials, reach, sources, awaits_credentials, authorized_by, times, may_renew, renewed_by, unrenewed_by, is_renewal_open, lost_by}
+use Rattle.driver_model.specs.News.{News, silence, connected, refused, overdue, took, came, failed, dropped, shut, authorized, denied, deserted, renewed, unrenewed, late}
+use Rattle.legal_trace.specs.Ledger.{Ledger, Heard, Line, asks, hears, begins, offers, tells, ends, parts, blank_ledger, noted, with_news, refused_in, bytes_came, items_came, value_came, heard_at, taking_of, value_by, is_over, dials, reach, sources, awaits_credentials, authorized_by, times, may_renew, renewed_by, unrenewed_by, is_renewal_open, lost_by}
 use Rattle.legal_trace.specs.Book.{book}
-use Rattle.legal_trace.proofs.Ledgers.{each_keeps, reach_alike, FewAreDealt, few_keeps}
+use Rattle.legal_trace.proofs.Ledgers.{each_keeps, FewAreDealt, few_keeps}
 use Rattle.legal_trace.proofs.Plain.{same_some}
+use Rattle.legal_trace.proofs.Came.{Came, holds_came, bytes_keep}
 use Rattle.legal_laws.specs.Links.{lines_for}
 use Rattle.legal_laws.proofs.Lines.{ledgers_are_told}
 
@@ -61,76 +60,34 @@ between_behind a (x ∷ xs) b zero (suc j) p q le h e f = subst (λ (r : Heard).
 between_behind a (x ∷ xs) b (suc i) zero p q le h e f = absurd (omega (arith, le))
 between_behind a (x ∷ xs) b (suc i) (suc j) p q le h e f = between_behind x.after xs b i j p q (omega (arith, le)) h.1 e f
 
--- these values come, one after another
-abbrev pub came_each : Ledger → List Data → Ledger
-came_each l [] = l
-came_each l (v ∷ vs) = came_each (value_came l v) vs
+-- what is told of a value came behind the items dealt so far
+at_between : (l : Ledger) (told : Option Notice) (high : ℕ) → length l.dealt ≤ high → Between (length l.dealt) (heard_at l told) high
+at_between l None high i = i
+at_between l (Some n) high i = (omega arith, i)
 
--- no item is taken back
-value_grows : (l : Ledger) (v : Data) → length l.dealt ≤ length (value_came l v).dealt
-value_grows l v = chosen (λ (x : Ledger). length l.dealt ≤ length x.dealt) (is_item v) (items_came l (v ∷ [])) l
-    (λ t.
-    let room : ℕ = reach l.starts l.dealt - length l.dealt in
-    let f : length (l.dealt ++ take room (v ∷ [])) ≡ length l.dealt + length (take room (v ∷ [])) = length-append l.dealt (take room (v ∷ [])) in omega (arith, f))
-    (λ f. omega arith)
+-- no item is taken back where something comes
+pub came_grows : (l m : Ledger) → Came l m → length l.dealt ≤ length m.dealt
+came_grows l m grew = holds_came (λ (x : Ledger). length l.dealt ≤ length x.dealt) l m grew
+    (λ rest strange told more. let long : length (l.dealt ++ more) ≡ length l.dealt + length more = length-append l.dealt more in omega (arith, long))
 
--- a push comes behind the items dealt so far
-at_between : (l : Ledger) (v : Data) (high : ℕ) → length l.dealt ≤ high → Between (length l.dealt) (heard_at l v) high
-at_between l (push kind rest) high i = chosen (λ hs. Between (length l.dealt) hs high) (is_set_up l) (record { after = length l.dealt; info = record { kind = kind; parts = list_of rest } } ∷ []) [] (λ t. (omega arith, i)) (λ f. i)
-at_between l _ high i = i
-
--- so do those among many values
-pub heard_between : (l : Ledger) (vs : List Data) → Between (length l.dealt) (heard_each l vs) (length (came_each l vs).dealt)
-heard_between l [] = omega arith
-heard_between l (v ∷ vs) = between_append (length l.dealt) (heard_at l v) (length (value_came l v).dealt) (heard_each (value_came l v) vs) (length (came_each (value_came l v) vs).dealt)
-    (at_between l v (length (value_came l v).dealt) (value_grows l v)) (heard_between (value_came l v) vs)
-
--- one after another no more items are dealt than together
-came_few : (l : Ledger) (vs : List Data) → FewAreDealt l → length (came_each l vs).dealt ≤ length l.dealt + min (reach l.starts l.dealt - length l.dealt) (length (items_among vs))
-came_few l [] few = omega arith
-came_few l (v ∷ vs) few = by_test (is_item v) (length (came_each (value_came l v) vs).dealt ≤ length l.dealt + min (reach l.starts l.dealt - length l.dealt) (length (items_among (v ∷ vs))))
-    (λ t.
-    let room : ℕ = reach l.starts l.dealt - length l.dealt in
-    let m : Ledger = items_came l (v ∷ []) in
-    let is : value_came l v ≡ m = taken_if (is_item v) m l t in
-    let some : items_among (v ∷ vs) ≡ v ∷ items_among vs = taken_if (is_item v) (v ∷ items_among vs) (items_among vs) t in
-    let count : length (items_among (v ∷ vs)) ≡ length (v ∷ items_among vs) = ap (λ (ds : List Data). length ds) some in
-    let one : length (v ∷ items_among vs) ≡ suc (length (items_among vs)) = refl in
-    let far : reach m.starts m.dealt ≡ reach l.starts l.dealt = reach_alike l.starts m.dealt l.dealt in
-    let long : length m.dealt ≡ length l.dealt + length (take room (v ∷ [])) = length-append l.dealt (take room (v ∷ [])) in
-    let cut : length (take room (v ∷ [])) ≡ min room 1 = length-take room (v ∷ []) in
-    let fits : length l.dealt ≤ reach l.starts l.dealt = few in
-    let few_more : length m.dealt ≤ reach m.starts m.dealt = omega (arith, far, long, cut, fits) in
-    let rest : length (came_each m vs).dealt ≤ length m.dealt + min (reach m.starts m.dealt - length m.dealt) (length (items_among vs)) = came_few m vs few_more in
-    subst (λ (x : Ledger). length (came_each x vs).dealt ≤ length l.dealt + min (reach l.starts l.dealt - length l.dealt) (length (items_among (v ∷ vs)))) (sym is)
-    (omega (arith, count, one, far, long, cut, fits, rest)))
-    (λ f.
-    let is : value_came l v ≡ l = left_if (is_item v) (items_came l (v ∷ [])) l f in
-    let same : items_among (v ∷ vs) ≡ items_among vs = left_if (is_item v) (v ∷ items_among vs) (items_among vs) f in
-    subst (λ (x : Ledger). length (came_each x vs).dealt ≤ length l.dealt + min (reach l.starts l.dealt - length l.dealt) (length (items_among (v ∷ vs)))) (sym is)
-    (subst (λ (ds : List Data). length (came_each l vs).dealt ≤ length l.dealt + min (reach l.starts l.dealt - length l.dealt) (length ds)) (sym same) (came_few l vs few)))
-
--- no more items are dealt than messages take, and pushes came in order, behind no more items than are dealt
+-- no more items are dealt than messages take, and what is told came in order, behind no more items than are dealt
 pub record InRow (l : Ledger) : Type 0 where
   pub few : FewAreDealt l
-  pub rise : Between 0 l.pushes (length l.dealt)
-
--- so where bytes come
-came_rises : (l : Ledger) (piece : List ℕ) → InRow l → Between 0 (bytes_came l piece).pushes (length (bytes_came l piece).dealt)
-unfolding items
-came_rises l piece h =
-    let vs : List Data = values (l.rest ++ piece) in
-    let room : ℕ = reach l.starts l.dealt - length l.dealt in
-    let high : ℕ = length (l.dealt ++ take room (items_among vs)) in
-    let long : length (l.dealt ++ take room (items_among vs)) ≡ length l.dealt + length (take room (items_among vs)) = length-append l.dealt (take room (items_among vs)) in
-    let cut : length (take room (items_among vs)) ≡ min room (length (items_among vs)) = length-take room (items_among vs) in
-    let bound : length (came_each l vs).dealt ≤ length l.dealt + min room (length (items_among vs)) = came_few l vs h.few in
-    between_append 0 l.pushes (length l.dealt) (heard_each l vs) high h.rise
-    (between_upper (length l.dealt) (heard_each l vs) (length (came_each l vs).dealt) high (heard_between l vs) (omega (arith, long, cut, bound)))
+  pub rise : Between 0 l.notices (length l.dealt)
 
 -- the order alone
 abbrev Rises : Ledger → Type 0
-Rises l = Between 0 l.pushes (length l.dealt)
+Rises l = Between 0 l.notices (length l.dealt)
+
+-- so with each value
+value_rises : (l : Ledger) (v : Data) → Rises l → Rises (value_came l v)
+value_rises l v h =
+    let t : Taking = taking_of l v in
+    let m : Ledger = record l { notices = l.notices ++ heard_at l t.told; strange = t.ends } in
+    let long : length (items_came m (v ∷ [])).dealt ≡ length l.dealt + length (take (reach l.starts l.dealt - length l.dealt) (v ∷ [])) = length-append l.dealt (take (reach l.starts l.dealt - length l.dealt) (v ∷ [])) in
+    chosen Rises l.strange l (value_by l t v) (λ e. h) (λ f. chosen Rises t.dealt (items_came m (v ∷ [])) m
+    (λ d. between_append 0 l.notices (length l.dealt) (heard_at l t.told) (length (items_came m (v ∷ [])).dealt) h (at_between l t.told (length (items_came m (v ∷ [])).dealt) (omega (arith, long))))
+    (λ d. between_append 0 l.notices (length l.dealt) (heard_at l t.told) (length l.dealt) h (at_between l t.told (length l.dealt) (omega arith))))
 
 -- so with any news
 rises_hears : (l : Ledger) (turn : ℕ) (news : News) → InRow l → Rises (with_news l turn news)
@@ -139,7 +96,7 @@ rises_hears l turn connected h = chosen Rises (is_over l) l (record l { up = tru
 rises_hears l turn (refused f) h = chosen Rises (dials l) (refused_in l turn (error.Io f)) l (λ t. h.rise) (λ e. h.rise)
 rises_hears l turn overdue h = h.rise
 rises_hears l turn (took count) h = chosen Rises l.up (record l { taken = l.taken ++ take count l.offer; offer = [] }) l (λ t. h.rise) (λ e. h.rise)
-rises_hears l turn (came piece) h = chosen Rises l.up (bytes_came l piece) l (λ t. came_rises l piece h) (λ e. h.rise)
+rises_hears l turn (came piece) h = chosen Rises l.up (bytes_came l piece) l (λ t. bytes_keep Rises value_rises l piece h.rise) (λ e. h.rise)
 rises_hears l turn (failed f) h = h.rise
 rises_hears l turn (authorized c) h = chosen Rises (awaits_credentials l) (authorized_by l c) l (λ t. h.rise) (λ e. h.rise)
 rises_hears l turn (denied text) h = h.rise
@@ -147,11 +104,12 @@ rises_hears l turn deserted h = h.rise
 rises_hears l turn (renewed c) h = chosen Rises (may_renew l) (renewed_by l c) l (λ t. h.rise) (λ e. h.rise)
 rises_hears l turn unrenewed h = chosen Rises l.up (unrenewed_by l) l (λ t. h.rise) (λ e. h.rise)
 rises_hears l turn (late k) h = chosen Rises (l.up && is_renewal_open l k) (lost_by l) l (λ t. h.rise) (λ e. h.rise)
+rises_hears l turn dropped h = h.rise
 rises_hears l turn shut h = h.rise
 
 -- and with any line
 rises_keeps : (l : Ledger) (x : Line) → InRow l → Rises (noted l x)
-rises_keeps l (asks info wanted) h = h.rise
+rises_keeps l (asks info wanted hearing) h = h.rise
 rises_keeps l (hears turn news) h = rises_hears l turn news h
 rises_keeps l (begins s) h = h.rise
 rises_keeps l (offers bytes) h = h.rise
@@ -168,10 +126,10 @@ row_keeps l x h = record { few = few_keeps l x h.few; rise = rises_keeps l x h }
 pub in_row : (trace : List Action) (l : ℕ) → InRow ((book trace).link l)
 in_row trace l = subst InRow (sym (ledgers_are_told trace l)) (each_keeps InRow row_keeps blank_ledger (lines_for trace l) (record { few = omega arith; rise = omega arith }))
 
--- so many items were dealt, and no push that waits came behind fewer
+-- so many items were dealt, and nothing that waits to be told came behind fewer
 pub record IsBeyond (count : ℕ) (l : Ledger) : Type 0 where
   pub dealt : count ≤ length l.dealt
-  pub waits : (i : ℕ) (p : Heard) → l.told ≤ i → slice_get l.pushes i ≡ Some p → count ≤ p.after
+  pub waits : (i : ℕ) (p : Heard) → l.told ≤ i → slice_get l.notices i ≡ Some p → count ≤ p.after
 
 -- what stands in two lists stands in one of them
 get_append : (xs ys : List Heard) (i : ℕ) (p : Heard) → slice_get (xs ++ ys) i ≡ Some p → (slice_get xs i ≡ Some p) ⊎ ((j : ℕ) × (slice_get ys j ≡ Some p))
@@ -179,20 +137,22 @@ get_append [] ys i p e = inr (i, e)
 get_append (x ∷ xs) ys zero p e = inl e
 get_append (x ∷ xs) ys (suc i) p e = get_append xs ys i p e
 
--- so where bytes come
-came_beyond : (count : ℕ) (l : Ledger) (piece : List ℕ) → IsBeyond count l → IsBeyond count (bytes_came l piece)
-came_beyond count l piece h = record {
-  dealt =
-      let room : ℕ = reach l.starts l.dealt - length l.dealt in
-      let long : length (l.dealt ++ take room (items (l.rest ++ piece))) ≡ length l.dealt + length (take room (items (l.rest ++ piece))) = length-append l.dealt (take room (items (l.rest ++ piece))) in
-      let before : count ≤ length l.dealt = h.dealt in omega (arith, long, before);
-  waits = λ i p told at. elim (get_append l.pushes (heard_each l (values (l.rest ++ piece))) i p at) [
-    | inl old ↦ h.waits i p told old
-    | inr new ↦
-        let low : length l.dealt ≤ p.after = (between_at (length l.dealt) (heard_each l (values (l.rest ++ piece))) (length (came_each l (values (l.rest ++ piece))).dealt) new.0 p (heard_between l (values (l.rest ++ piece))) new.1).0 in
-        let before : count ≤ length l.dealt = h.dealt in omega (arith, low, before)
-  ];
-}
+-- so where a value comes
+value_beyond : (count : ℕ) (l : Ledger) (v : Data) → IsBeyond count l → IsBeyond count (value_came l v)
+value_beyond count l v h =
+    let t : Taking = taking_of l v in
+    let m : Ledger = record l { notices = l.notices ++ heard_at l t.told; strange = t.ends } in
+    let before : count ≤ length l.dealt = h.dealt in
+    let waits : (i : ℕ) (p : Heard) → l.told ≤ i → slice_get (l.notices ++ heard_at l t.told) i ≡ Some p → count ≤ p.after =
+    λ i p told at. elim (get_append l.notices (heard_at l t.told) i p at) [
+      | inl old ↦ h.waits i p told old
+      | inr new ↦
+          let low : length l.dealt ≤ p.after = (between_at (length l.dealt) (heard_at l t.told) (length l.dealt) new.0 p (at_between l t.told (length l.dealt) (omega arith)) new.1).0 in
+          omega (arith, low, before)
+    ] in
+    let long : length (items_came m (v ∷ [])).dealt ≡ length l.dealt + length (take (reach l.starts l.dealt - length l.dealt) (v ∷ [])) = length-append l.dealt (take (reach l.starts l.dealt - length l.dealt) (v ∷ [])) in
+    chosen (IsBeyond count) l.strange l (value_by l t v) (λ e. h) (λ f. chosen (IsBeyond count) t.dealt (items_came m (v ∷ [])) m
+    (λ d. record { dealt = omega (arith, long, before); waits = waits }) (λ d. record { dealt = h.dealt; waits = waits }))
 
 -- with any news
 beyond_hears : (count : ℕ) (l : Ledger) (turn : ℕ) (news : News) → IsBeyond count l → IsBeyond count (with_news l turn news)
@@ -201,7 +161,7 @@ beyond_hears count l turn connected h = chosen (IsBeyond count) (is_over l) l (r
 beyond_hears count l turn (refused f) h = chosen (IsBeyond count) (dials l) (refused_in l turn (error.Io f)) l (λ t. record { dealt = h.dealt; waits = h.waits }) (λ e. h)
 beyond_hears count l turn overdue h = h
 beyond_hears count l turn (took n) h = chosen (IsBeyond count) l.up (record l { taken = l.taken ++ take n l.offer; offer = [] }) l (λ t. record { dealt = h.dealt; waits = h.waits }) (λ e. h)
-beyond_hears count l turn (came piece) h = chosen (IsBeyond count) l.up (bytes_came l piece) l (λ t. came_beyond count l piece h) (λ e. h)
+beyond_hears count l turn (came piece) h = chosen (IsBeyond count) l.up (bytes_came l piece) l (λ t. bytes_keep (IsBeyond count) (value_beyond count) l piece (record { dealt = h.dealt; waits = h.waits })) (λ e. h)
 beyond_hears count l turn (failed f) h = h
 beyond_hears count l turn (authorized c) h = chosen (IsBeyond count) (awaits_credentials l) (authorized_by l c) l (λ t. record { dealt = h.dealt; waits = h.waits }) (λ e. h)
 beyond_hears count l turn (denied text) h = h
@@ -209,11 +169,12 @@ beyond_hears count l turn deserted h = h
 beyond_hears count l turn (renewed c) h = chosen (IsBeyond count) (may_renew l) (renewed_by l c) l (λ t. record { dealt = h.dealt; waits = h.waits }) (λ e. h)
 beyond_hears count l turn unrenewed h = chosen (IsBeyond count) l.up (unrenewed_by l) l (λ t. record { dealt = h.dealt; waits = h.waits }) (λ e. h)
 beyond_hears count l turn (late k) h = chosen (IsBeyond count) (l.up && is_renewal_open l k) (lost_by l) l (λ t. record { dealt = h.dealt; waits = h.waits }) (λ e. h)
+beyond_hears count l turn dropped h = h
 beyond_hears count l turn shut h = h
 
 -- and with any line
 pub beyond_keeps : (count : ℕ) (l : Ledger) (x : Line) → IsBeyond count l → IsBeyond count (noted l x)
-beyond_keeps count l (asks info wanted) h = record { dealt = h.dealt; waits = h.waits }
+beyond_keeps count l (asks info wanted hearing) h = record { dealt = h.dealt; waits = h.waits }
 beyond_keeps count l (hears turn news) h = let k = beyond_hears count l turn news h in record { dealt = k.dealt; waits = k.waits }
 beyond_keeps count l (begins s) h = record { dealt = h.dealt; waits = h.waits }
 beyond_keeps count l (offers bytes) h = record { dealt = h.dealt; waits = h.waits }

@@ -8,15 +8,15 @@ use Rattle.driver_model.specs.declared.action.Owner.TheVariants as owner
 use Rattle.driver_model.specs.declared.action.Purpose.{Purpose}
 use Rattle.driver_model.specs.declared.action.WaitKind.{WaitKind}
 use Rattle.driver_model.specs.declared.outcome.Outcome.{Outcome}
-use Rattle.legal_trace.specs.Ledger.{Ledger, Line, Start, begins, offers, noted_each, is_of_setup, is_set_up, is_ready, is_cut, setup_due, source_due, ending, failure_in, next_push, renewals_asked, times, renewal_due}
+use Rattle.legal_trace.specs.Ledger.{Ledger, Line, Start, begins, offers, noted_each, is_of_setup, is_set_up, is_ready, is_cut, setup_due, source_due, ending, failure_in, next_notice, renewals_asked, times, renewal_due, monitor_due}
 use Rattle.legal_trace.specs.Story.{Story, Try, is_open, is_unstarted, shape, holds, clocked, tried, waits, answered}
 use Rattle.legal_trace.specs.Steps.{is_due, is_held_back, permits_in, permits_on, permits_held, is_in_line, line_before, next_step}
 use Rattle.legal_trace.specs.Steps.{waits as shows}
 use Rattle.legal_trace.specs.Owed.{owed_to_message, owed_to_try}
 use Rattle.legal_trace.specs.Book.{Book, entered, if_mine, message_of, is_clock_of, is_renewal_of}
-use Rattle.legal_trace.specs.Legal.{MayTell, MayStart, MaySetUp, link_of, NoneIsOwed, IsApplied, IsBegun, IsMoved, IsWritten, MayRenew, MayWait}
+use Rattle.legal_trace.specs.Legal.{MayTell, MayStart, MaySetUp, link_of, NoneIsOwed, IsApplied, IsBegun, IsMoved, IsWritten, MayRenew, MayWait, MayWatch}
 use Rattle.legal_trace.proofs.Ledgers.{mine_keeps}
-use Rattle.legal_trace.proofs.Setups.{set_begins, ends_where_set, begun_undecided, due_is_unset, setup_stays}
+use Rattle.legal_trace.proofs.Setups.{set_begins, ends_where_set, begun_undecided, due_is_unset, setup_stays, ungreeted_is_unset}
 use Rattle.legal_trace.proofs.Renewals.{renewal_is_up}
 use Rattle.legal_laws.proofs.Shaped.{renewal_is_set}
 use Rattle.legal_trace.proofs.Moves.{shown_alike, up_and_set, mover_is_up, mover_is_ready, ready_is_up, ready_is_set, starter_moves, step_of, line_alike, permits_alike}
@@ -24,6 +24,7 @@ use Rattle.legal_laws.proofs.Tales.{open_has_none, last_behind}
 use Rattle.legal_laws.proofs.Owes.{owed_story, owed_again, owed_by_last, begins_keeps, new_is_owed_nothing}
 use Rattle.legal_trace.proofs.Plain.{not_empty}
 use Rattle.legal_laws.proofs.Sound.{Sound}
+use Rattle.legal_trace.proofs.Watching.{watch_stays, watch_is_unset, watching_is_unset}
 
 -- a message of a submission starts
 abbrev pub starting : ℕ → ℕ → ℕ → ℕ → ℕ → ℕ → Action
@@ -96,7 +97,7 @@ start_applied b l k m round count len may h = record {
     shown = λ j. mine_keeps (λ (x : Ledger). is_ready x ≡ true → b.created ≢ 0) (l == j) (b.link j) (begins (message_of b l (owner.Try m round))) (λ t ready. may.begun.applied.created.shown l (starts_ready b l k m count len may)) (may.begun.applied.created.shown j);
     failed = λ j e. mine_keeps (λ (x : Ledger). failure_in x.end ≡ Some e → b.created ≢ 0) (l == j) (b.link j) (begins (message_of b l (owner.Try m round))) (λ t. may.begun.applied.created.failed j e) (may.begun.applied.created.failed j e);
   };
-  pushed = λ j heard. mine_keeps (λ x. next_push x ≡ None) (l == j) (b.link j) (begins (message_of b l (owner.Try m round))) (λ t. may.begun.applied.pushed j heard) (may.begun.applied.pushed j heard);
+  pushed = λ j heard. mine_keeps (λ x. next_notice x ≡ None) (l == j) (b.link j) (begins (message_of b l (owner.Try m round))) (λ t. may.begun.applied.pushed j heard) (may.begun.applied.pushed j heard);
   parted = λ j heard. mine_keeps IsToldOver (l == j) (b.link j) (begins (message_of b l (owner.Try m round))) (λ t. may.begun.applied.parted j heard) (may.begun.applied.parted j heard);
   sourced = λ j. mine_keeps (λ x. source_due x ≡ false) (l == j) (b.link j) (begins (message_of b l (owner.Try m round)))
       (λ t. set_sources (b.link j) (message_of b l (owner.Try m round)) refl (ready_is_set (b.link j) (subst (λ i. is_ready (b.link i) ≡ true) (eq_from l j t) (starts_ready b l k m count len may))) (may.begun.applied.sourced j)) (may.begun.applied.sourced j);
@@ -118,12 +119,18 @@ renew_applied b l k count len may h =
         shown = λ j. mine_keeps (λ (x : Ledger). is_ready x ≡ true → b.created ≢ 0) (l == j) (b.link j) (begins s) (λ t other. may.applied.created.shown l ready) (may.applied.created.shown j);
         failed = λ j e. mine_keeps (λ (x : Ledger). failure_in x.end ≡ Some e → b.created ≢ 0) (l == j) (b.link j) (begins s) (λ t. may.applied.created.failed j e) (may.applied.created.failed j e);
       };
-      pushed = λ j heard. mine_keeps (λ x. next_push x ≡ None) (l == j) (b.link j) (begins s) (λ t. may.applied.pushed j heard) (may.applied.pushed j heard);
+      pushed = λ j heard. mine_keeps (λ x. next_notice x ≡ None) (l == j) (b.link j) (begins s) (λ t. may.applied.pushed j heard) (may.applied.pushed j heard);
       parted = λ j heard. mine_keeps IsToldOver (l == j) (b.link j) (begins s) (λ t. may.applied.parted j heard) (may.applied.parted j heard);
       sourced = λ j. mine_keeps (λ x. source_due x ≡ false) (l == j) (b.link j) (begins s)
           (λ t. set_sources (b.link j) s refl (ready_is_set (b.link j) (subst (λ i. is_ready (b.link i) ≡ true) (eq_from l j t) ready)) (may.applied.sourced j)) (may.applied.sourced j);
       timed = may.applied.timed;
     }
+
+-- a link whose setup has just started isn't set up
+setup_unset : (b : Book) (l k count len : ℕ) → MaySetUp b l k count len → Sound b → is_set_up (record (b.link l) { starts = (b.link l).starts ++ message_of b l owner.Setup ∷ [] }) ≡ false
+setup_unset b l k count len may h =
+    ungreeted_is_unset (record (b.link l) { starts = (b.link l).starts ++ message_of b l owner.Setup ∷ [] })
+    (begun_undecided (b.link l) (message_of b l owner.Setup) may.k refl may.due (h.few l)).unwell
 
 -- a setup leaves the event applied
 pub setup_applied : (b : Book) (l k count len : ℕ) → MaySetUp b l k count len → Sound b → IsApplied (entered b (action.Start l k owner.Setup count len))
@@ -135,14 +142,35 @@ setup_applied b l k count len may h = record {
     asked = may.applied.created.asked;
     shown = λ j. mine_keeps (λ (x : Ledger). is_ready x ≡ true → b.created ≢ 0) (l == j) (b.link j) (begins (message_of b l owner.Setup))
         (λ t. subst (λ i. is_ready (record (b.link i) { starts = (b.link i).starts ++ message_of b l owner.Setup ∷ [] }) ≡ true → b.created ≢ 0) (eq_from l j t)
-        (λ ready. absurd (not_both (is_set_up (record (b.link l) { starts = (b.link l).starts ++ message_of b l owner.Setup ∷ [] })) (begun_undecided (b.link l) (message_of b l owner.Setup) may.k refl may.due (h.few l)).unwell (ready_is_set (record (b.link l) { starts = (b.link l).starts ++ message_of b l owner.Setup ∷ [] }) ready)))) (may.applied.created.shown j);
+        (λ ready. absurd (not_both (is_set_up (record (b.link l) { starts = (b.link l).starts ++ message_of b l owner.Setup ∷ [] })) (setup_unset b l k count len may h) (ready_is_set (record (b.link l) { starts = (b.link l).starts ++ message_of b l owner.Setup ∷ [] }) ready)))) (may.applied.created.shown j);
     failed = λ j e. mine_keeps (λ (x : Ledger). failure_in x.end ≡ Some e → b.created ≢ 0) (l == j) (b.link j) (begins (message_of b l owner.Setup)) (λ t. may.applied.created.failed j e) (may.applied.created.failed j e);
   };
-  pushed = λ j heard. mine_keeps (λ x. next_push x ≡ None) (l == j) (b.link j) (begins (message_of b l owner.Setup)) (λ t. may.applied.pushed j heard) (may.applied.pushed j heard);
+  pushed = λ j heard. mine_keeps (λ x. next_notice x ≡ None) (l == j) (b.link j) (begins (message_of b l owner.Setup)) (λ t. may.applied.pushed j heard) (may.applied.pushed j heard);
   parted = λ j heard. mine_keeps IsToldOver (l == j) (b.link j) (begins (message_of b l owner.Setup)) (λ t. may.applied.parted j heard) (may.applied.parted j heard);
   sourced = λ j. mine_keeps (λ x. source_due x ≡ false) (l == j) (b.link j) (begins (message_of b l owner.Setup))
       (λ t. subst (λ i. source_due (record (b.link i) { starts = (b.link i).starts ++ message_of b l owner.Setup ∷ [] }) ≡ false) (eq_from l j t)
-      (source_begins (b.link l) (message_of b l owner.Setup) ((begun_undecided (b.link l) (message_of b l owner.Setup) may.k refl may.due (h.few l)).unwell ∙ sym (due_is_unset (b.link l) may.k may.due)) (may.applied.sourced l))) (may.applied.sourced j);
+      (source_begins (b.link l) (message_of b l owner.Setup) (setup_unset b l k count len may h ∙ sym (due_is_unset (b.link l) may.k may.due)) (may.applied.sourced l))) (may.applied.sourced j);
+  timed = may.applied.timed;
+}
+
+-- and so does MONITOR
+pub watch_applied : (b : Book) (l k count len : ℕ) → MayWatch b l k count len → Sound b → IsApplied (entered b (action.Start l k owner.Monitor count len))
+watch_applied b l k count len may h = record {
+  answered = λ n o. others_owed b l k owner.Monitor count len h n (may.applied.answered n o);
+  ended = λ j. mine_keeps (λ x. ending x ≡ None) (l == j) (b.link j) (begins (message_of b l owner.Monitor))
+      (λ t. subst (λ i. ending (record (b.link i) { starts = (b.link i).starts ++ message_of b l owner.Monitor ∷ [] }) ≡ None) (eq_from l j t) (watch_stays (b.link l) (message_of b l owner.Monitor) refl may.due (h.few l) (may.applied.ended l))) (may.applied.ended j);
+  created = record {
+    asked = may.applied.created.asked;
+    shown = λ j. mine_keeps (λ (x : Ledger). is_ready x ≡ true → b.created ≢ 0) (l == j) (b.link j) (begins (message_of b l owner.Monitor))
+        (λ t. subst (λ i. is_ready (record (b.link i) { starts = (b.link i).starts ++ message_of b l owner.Monitor ∷ [] }) ≡ true → b.created ≢ 0) (eq_from l j t)
+        (λ ready. absurd (not_both (is_set_up (record (b.link l) { starts = (b.link l).starts ++ message_of b l owner.Monitor ∷ [] })) (watching_is_unset (b.link l) (message_of b l owner.Monitor) refl may.due (h.few l)) (ready_is_set (record (b.link l) { starts = (b.link l).starts ++ message_of b l owner.Monitor ∷ [] }) ready)))) (may.applied.created.shown j);
+    failed = λ j e. mine_keeps (λ (x : Ledger). failure_in x.end ≡ Some e → b.created ≢ 0) (l == j) (b.link j) (begins (message_of b l owner.Monitor)) (λ t. may.applied.created.failed j e) (may.applied.created.failed j e);
+  };
+  pushed = λ j heard. mine_keeps (λ x. next_notice x ≡ None) (l == j) (b.link j) (begins (message_of b l owner.Monitor)) (λ t. may.applied.pushed j heard) (may.applied.pushed j heard);
+  parted = λ j heard. mine_keeps IsToldOver (l == j) (b.link j) (begins (message_of b l owner.Monitor)) (λ t. may.applied.parted j heard) (may.applied.parted j heard);
+  sourced = λ j. mine_keeps (λ x. source_due x ≡ false) (l == j) (b.link j) (begins (message_of b l owner.Monitor))
+      (λ t. subst (λ i. source_due (record (b.link i) { starts = (b.link i).starts ++ message_of b l owner.Monitor ∷ [] }) ≡ false) (eq_from l j t)
+      (source_begins (b.link l) (message_of b l owner.Monitor) (watching_is_unset (b.link l) (message_of b l owner.Monitor) refl may.due (h.few l) ∙ sym (watch_is_unset (b.link l) may.due)) (may.applied.sourced l))) (may.applied.sourced j);
   timed = may.applied.timed;
 }
 
@@ -178,17 +206,18 @@ write_applied b l bytes done = record {
     shown = λ j. mine_keeps (λ (x : Ledger). is_ready x ≡ true → b.created ≢ 0) (l == j) (b.link j) (offers bytes) (λ t. done.created.shown j) (done.created.shown j);
     failed = λ j e. mine_keeps (λ (x : Ledger). failure_in x.end ≡ Some e → b.created ≢ 0) (l == j) (b.link j) (offers bytes) (λ t. done.created.failed j e) (done.created.failed j e);
   };
-  pushed = λ j heard. mine_keeps (λ x. next_push x ≡ None) (l == j) (b.link j) (offers bytes) (λ t. done.pushed j heard) (done.pushed j heard);
+  pushed = λ j heard. mine_keeps (λ x. next_notice x ≡ None) (l == j) (b.link j) (offers bytes) (λ t. done.pushed j heard) (done.pushed j heard);
   parted = λ j heard. mine_keeps IsToldOver (l == j) (b.link j) (offers bytes) (λ t. done.parted j heard) (done.parted j heard);
   sourced = λ j. mine_keeps (λ x. source_due x ≡ false) (l == j) (b.link j) (offers bytes) (λ t. done.sourced j) (done.sourced j);
   timed = done.timed;
 }
 
--- setups stay started, and so do new credentials
+-- setups stay started, and so do MONITOR and new credentials
 write_begun : (b : Book) (l : ℕ) (bytes : List ℕ) → IsBegun b → IsBegun (entered b (action.Write l bytes))
 write_begun b l bytes done = record {
   applied = write_applied b l bytes done.applied;
   setups = λ j k. mine_keeps (λ x. setup_due x ≡ Some k → is_held_back b x ≡ true) (l == j) (b.link j) (offers bytes) (λ t. done.setups j k) (done.setups j k);
+  monitors = λ j. mine_keeps (λ x. monitor_due x ≡ true → is_held_back b x ≡ true) (l == j) (b.link j) (offers bytes) (λ t. done.monitors j) (done.monitors j);
   timed = λ j set. mine_keeps (λ (x : Ledger). renewals_asked x ≤ x.creds.timed) (l == j) (b.link j) (offers bytes) (λ t. done.timed j set) (done.timed j set);
   renewed = λ j c. mine_keeps (λ x. renewal_due x ≡ Some c → is_held_back b x ≡ true) (l == j) (b.link j) (offers bytes) (λ t. done.renewed j c) (done.renewed j c);
 }
@@ -238,7 +267,7 @@ ask_applied b t ms what done = record {
     shown = λ j. mine_keeps (λ (x : Ledger). is_ready x ≡ true → b.created ≢ 0) (is_renewal_of j what) (b.link j) times (λ t. done.created.shown j) (done.created.shown j);
     failed = λ j e. mine_keeps (λ (x : Ledger). failure_in x.end ≡ Some e → b.created ≢ 0) (is_renewal_of j what) (b.link j) times (λ t. done.created.failed j e) (done.created.failed j e);
   };
-  pushed = λ j heard. mine_keeps (λ x. next_push x ≡ None) (is_renewal_of j what) (b.link j) times (λ t. done.pushed j heard) (done.pushed j heard);
+  pushed = λ j heard. mine_keeps (λ x. next_notice x ≡ None) (is_renewal_of j what) (b.link j) times (λ t. done.pushed j heard) (done.pushed j heard);
   parted = λ j heard. mine_keeps IsToldOver (is_renewal_of j what) (b.link j) times (λ t. done.parted j heard) (done.parted j heard);
   sourced = λ j. mine_keeps (λ x. source_due x ≡ false) (is_renewal_of j what) (b.link j) times (λ t. done.sourced j) (done.sourced j);
   timed = λ config word opens bounded none. not_empty b.timers what none;
@@ -290,7 +319,7 @@ wait_unstarted b m round kind n = chosen (λ s. is_unstarted s ≡ is_unstarted 
 pub wait_written : (b : Book) (m round : ℕ) (kind : WaitKind) → MayWait b m kind → IsWritten b → IsWritten (entered b (action.Wait (owner.Try m round) kind))
 wait_written b m round kind may done = record {
   moved = record {
-    begun = record { applied = wait_applied b m round kind done.moved.begun.applied; setups = done.moved.begun.setups; timed = done.moved.begun.timed; renewed = done.moved.begun.renewed };
+    begun = record { applied = wait_applied b m round kind done.moved.begun.applied; setups = done.moved.begun.setups; monitors = done.moved.begun.monitors; timed = done.moved.begun.timed; renewed = done.moved.begun.renewed };
     moved = λ n p. done.moved.moved n (record {
       unstarted = sym (wait_unstarted b m round kind n) ∙ p.unstarted;
       due = sym (ap is_due (wait_step b m round kind may n)) ∙ p.due;

@@ -36,6 +36,12 @@ pub mod Brought
 pub mod Renewed
 pub mod Telling
 pub mod Timed
-pub mod Pushes
+pub mod Notices
+pub mod Values
+pub mod WhatCame
+pub mod Suits
+pub mod Dealt
+pub mod Reports
+pub mod Drops
 pub mod Parted
 pub mod Among

@@ -16,9 +16,9 @@ use Rattle.driver_model.specs.declared.action.Purpose.TheVariants as purpose
 use Rattle.driver_model.specs.declared.action.SourceUse.{SourceUse}
 use Rattle.driver_model.specs.declared.action.SourceUse.TheVariants as source
 use Rattle.driver_model.specs.News.{News, silence, connected, refused, overdue, took, came, failed, authorized, denied, deserted, renewed, unrenewed, late, news_of, of_timer, of_source}
-use Rattle.legal_trace.specs.Ledger.{Ledger, Line, asks, begins, offers, ends, is_over, IsWithin, MayNote, AllNoted, sources, times}
+use Rattle.legal_trace.specs.Ledger.{Ledger, Line, asks, begins, offers, ends, is_over, IsWithin, MayNote, AllNoted, sources, times, tells}
 use Rattle.legal_trace.specs.Story.{is_awaited, is_no_error, bytes_of}
-use Rattle.legal_trace.specs.Book.{Book, blank_book, entered, lines_of, lines_of_each, if_mine, push_line, info_in, message_of, wanted_in, is_renewal_of}
+use Rattle.legal_trace.specs.Book.{Book, blank_book, entered, lines_of, lines_of_each, if_mine, push_line, info_in, message_of, wanted_in, is_renewal_of, hearing_in, current}
 use Rattle.legal_trace.specs.Events.{is_bad_event, is_no_link}
 use Rattle.legal_trace.specs.Legal.{MayStand, MayStart, AllStand, Legal, MayTimer}
 use Rattle.legal_laws.specs.Links.{LinksAreLegal, TakesInOrder, lines_for}
@@ -30,6 +30,7 @@ use Rattle.legal_laws.proofs.Streams.{takes_in_order}
 use Rattle.legal_laws.proofs.Sound.{Sound, stays_sound, blank_is_sound}
 use Rattle.legal_laws.proofs.Owes.{has_bytes}
 use Rattle.legal_laws.proofs.Told.{push_may}
+use Rattle.legal_trace.proofs.Watching.{watch_is_up, monitor_has_bytes}
 
 -- a line that is told one link alone
 may_mine : (mine : Bool) (l : Ledger) (x : Line) → (mine ≡ true → MayNote l x) → AllNoted l (if_mine mine x)
@@ -74,6 +75,7 @@ within b l (event.Bytes m piece) good h = chosen (IsWithin (b.link l)) (m == l) 
 within b l (event.Ended m) good h = chosen (IsWithin (b.link l)) (m == l) (failed fault.Ended) silence (λ t. tt) (λ f. tt)
 within b l (event.ReadFault m kind) good h = chosen (IsWithin (b.link l)) (m == l) (failed (fault.Io kind)) silence (λ t. tt) (λ f. tt)
 within b l (event.WriteFault m kind) good h = chosen (IsWithin (b.link l)) (m == l) (failed (fault.Io kind)) silence (λ t. tt) (λ f. tt)
+within b l event.DropStream good h = tt
 within b l event.Shutdown good h = tt
 within b l (event.Timeout ms) good h = tt
 within b l (event.Creds c auth) good h = of_source_within (b.link l) l (slice_get b.sources c) (authorized auth) (renewed auth) tt tt
@@ -103,21 +105,28 @@ timer_may b l t ms what (inr (inr may)) e = subst (λ j. MayNote (b.link j) time
 pub lines_may : (b : Book) (l : ℕ) (a : Action) → MayStand b a → Sound b → AllNoted (b.link l) (lines_of b l a)
 lines_may b l (action.Turn k (cause.Opening config word)) may h = tt
 lines_may b l (action.Turn k (cause.Event e)) may h = (within b l e.kind may.is_for.2 h, tt)
-lines_may b l (action.Connect m host port) may h = may_mine (m == l) (b.link l) (asks (info_in b.config) (wanted_in b.config)) (connects_new b l m may.next h)
+lines_may b l (action.Connect m host port) may h = may_mine (m == l) (b.link l) (asks (info_in b.config) (wanted_in b.config) (hearing_in b.config)) (connects_new b l m may.next h)
 lines_may b l (action.Timer t ms what) may h = may_mine (is_renewal_of l what) (b.link l) times (timer_may b l t ms what may)
 lines_may b l (action.Took owner.Setup m count) may h = absurd may
 lines_may b l (action.Took owner.Auth m count) may h = absurd may
+lines_may b l (action.Took owner.Monitor m count) may h = absurd may
 lines_may b l (action.Took (owner.Try n round) m count) may h = tt
 lines_may b l (action.Push m info) may h = may_mine (m == l) (b.link l) (push_line info.kind) (λ t. subst (λ j. MayNote (b.link j) (push_line info.kind)) (eq_from m l t) (push_may b m info may))
+lines_may b l (action.Message msg) may h = may_mine (current b == l) (b.link l) tells (λ t. subst (λ j. MayNote (b.link j) tells) (eq_from (current b) l t) (ap is_some may.next))
+lines_may b l (action.Monitor v) may h = may_mine (current b == l) (b.link l) tells (λ t. subst (λ j. MayNote (b.link j) tells) (eq_from (current b) l t) (ap is_some may.next))
 lines_may b l (action.NeedCreds c m) may h = may_mine (m == l) (b.link l) sources (λ t. subst (λ j. MayNote (b.link j) sources) (eq_from m l t) may.due)
 lines_may b l (action.Close m) may h = may_mine (m == l) (b.link l) (ends (b.turns - 1)) (λ t. subst (λ j. MayNote (b.link j) (ends (b.turns - 1))) (eq_from m l t) (may.why, may.ends))
 lines_may b l (action.Write m bytes) may h = may_mine (m == l) (b.link l) (offers bytes) (λ t. subst (λ j. MayNote (b.link j) (offers bytes)) (eq_from m l t) (may.up, may.answered, may.all, may.some))
 lines_may b l (action.Wait owner.Setup kind) may h = absurd may
 lines_may b l (action.Wait owner.Auth kind) may h = absurd may
+lines_may b l (action.Wait owner.Monitor kind) may h = absurd may
 lines_may b l (action.Wait (owner.Try n round) kind) may h = tt
 lines_may b l (action.Start m k owner.Setup count len) may h =
     may_mine (m == l) (b.link l) (begins (message_of b m owner.Setup))
     (λ t. (subst (λ j. (b.link j).up ≡ true) (eq_from m l t) (due_is_up (b.link m) may.k may.due), due_has_bytes (b.link m) may.k may.due))
+lines_may b l (action.Start m k owner.Monitor count len) may h =
+    may_mine (m == l) (b.link l) (begins (message_of b m owner.Monitor))
+    (λ t. (subst (λ j. (b.link j).up ≡ true) (eq_from m l t) (watch_is_up (b.link m) may.due), monitor_has_bytes))
 lines_may b l (action.Start m k owner.Auth count len) may h =
     may_mine (m == l) (b.link l) (begins (message_of b m owner.Auth))
     (λ t. (subst (λ j. (b.link j).up ≡ true) (eq_from m l t) (renewal_is_up (b.link m) may.credentials may.due), renewal_has_bytes (b.link m) may.credentials may.due))

@@ -5,6 +5,8 @@ use Rattle.driver_model.specs.declared.action.Action.{Action}
 use Rattle.driver_model.specs.declared.action.Action.TheVariants as action
 use Rattle.driver_model.specs.declared.action.Cause.TheVariants as cause
 use Rattle.driver_model.specs.declared.action.Owner.TheVariants as owner
+use Rattle.driver_model.specs.declared.hearing.Notice.{Notice}
+use Rattle.driver_model.specs.declared.hearing.Notice.TheVariants as notice
 use Rattle.driver_model.specs.declared.action.WaitKind.{WaitKind}
 use Rattle.driver_model.specs.declared.action.Purpose.{Purpose}
 use Rattle.driver_model.specs.declared.action.Purpose.TheVariants as purpose
@@ -22,12 +24,12 @@ use Rattle.resp_value.specs.declared.push_kind.PushKind.TheVariants.{Disconnecti
 use Rattle.credentials.specs.Credentials.{Credentials}
 use Rattle.driver_model.specs.Push.{is_disconnection}
 use Rattle.driver_model.specs.declared.push_info.PushInfo.{PushInfo}
-use Rattle.legal_trace.specs.Ledger.{Heard, IsOffered, is_over, is_cut, unwritten, ending, failure_in, next_push, setup_due, setup_message, source_due, renewal_due, renewal_message, renewals_asked}
+use Rattle.legal_trace.specs.Ledger.{Heard, IsOffered, is_over, is_cut, unwritten, ending, failure_in, next_notice, setup_due, setup_message, source_due, renewal_due, renewal_message, renewals_asked, monitor_due, monitor_message}
 use Rattle.legal_trace.specs.Story.{shape, bytes_of}
 use Rattle.legal_trace.specs.Owed.{owed}
-use Rattle.legal_trace.specs.Book.{Book, book}
+use Rattle.legal_trace.specs.Book.{Book, book, current}
 use Rattle.legal_trace.specs.Steps.{Step, waits, takes, asks, tells, starts, nothing, is_held_back, next_step}
-use Rattle.legal_trace.specs.Legal.{MayStand, MayConnect, MayTimeConnect, MayTime, MayTake, MayTimer, MayNeed, MayTellPush, MayPart, MayPushBy, MayClose, MayBeCreated, MayFail, MayShowCreation, MayAnswer, MayTell, MayStart, MaySetUp, MayWrite, MayWait, IsOpen, IsWaiting, link_of, CanMove, MayTimeRenewal, MayRenew}
+use Rattle.legal_trace.specs.Legal.{MayStand, MayConnect, MayTimeConnect, MayTime, MayTake, MayTimer, MayNeed, MayNotify, MayWatch, MayPart, MayPushBy, MayClose, MayBeCreated, MayFail, MayShowCreation, MayAnswer, MayTell, MayStart, MaySetUp, MayWrite, MayWait, IsOpen, IsWaiting, link_of, CanMove, MayTimeRenewal, MayRenew}
 use Rattle.legal_laws.specs.Next.{BothAnnounce, OneIsNext, OneIsNextBehind}
 use Rattle.legal_trace.proofs.Moves.{teller_moves, starter_moves, taker_moves, asker_moves, same_kind}
 use Rattle.legal_laws.proofs.Ranks.{answer_rank, creation_rank, push_rank, rank, same_rank, outcome_rank, timer_rank, not_offered, not_shown}
@@ -205,15 +207,42 @@ one_close b l m h k =
     (λ none. not_none (ending (b.link l)) h.why none h.ends) (λ none. not_none (ending (b.link m)) k.why none k.ends)
     (λ j i w. w (h.in_order j i)) (λ j i w. w (k.in_order j i)))
 
--- two pushes that came are one
-one_push : (b : Book) (l m : ℕ) (info other : PushInfo) → MayTellPush b l info → MayTellPush b m other → action.Push l info ≡ action.Push m other
-one_push b l m info other h k =
-    let e : l ≡ m = least_is_one (λ j. next_push (b.link j) ≡ None → ⊥) l m
-    (λ none. not_none (next_push (b.link l)) h.push none h.next) (λ none. not_none (next_push (b.link m)) k.push none k.next)
+-- MONITOR is known by its link
+abbrev pub watch_on : Book → ℕ → Action
+watch_on b l = action.Start l (length (b.link l).starts) owner.Monitor (need_of monitor_message.shape) (length monitor_message.bytes)
+
+-- it is that
+watch_is : (b : Book) (l message count len : ℕ) (may : MayWatch b l message count len) → action.Start l message owner.Monitor count len ≡ watch_on b l
+watch_is b l message count len may =
+    ap (λ x. action.Start l x owner.Monitor count len) may.next
+    ∙ (ap (λ x. action.Start l (length (b.link l).starts) owner.Monitor x len) may.needs_its_items
+    ∙ ap (λ x. action.Start l (length (b.link l).starts) owner.Monitor (need_of monitor_message.shape) x) may.long_as_its_bytes)
+
+-- it is to start on that link, which isn't held back
+abbrev pub IsWatching : Book → ℕ → Type 0
+IsWatching b l = (monitor_due (b.link l) ≡ true) × (is_held_back b (b.link l) ≡ false)
+
+-- two that start are one
+one_watch : (b : Book) (l m message other count need len size : ℕ) → MayWatch b l message count len → MayWatch b m other need size → action.Start l message owner.Monitor count len ≡ action.Start m other owner.Monitor need size
+one_watch b l m message other count need len size h k =
+    let e : l ≡ m = least_is_one (IsWatching b) l m (h.due, h.free) (k.due, k.free)
+    (λ j i w. not_both (is_held_back b (b.link j)) w.1 (h.in_order j i w.0)) (λ j i w. not_both (is_held_back b (b.link j)) w.1 (k.in_order j i w.0)) in
+    watch_is b l message count len h ∙ (ap (watch_on b) e ∙ sym (watch_is b m other need size k))
+
+-- what tells this of link l
+abbrev pub telling_of : ℕ → Notice → Action
+telling_of l (notice.Push info) = action.Push l info
+telling_of l (notice.Message m) = action.Message m
+telling_of l (notice.Monitor v) = action.Monitor v
+
+-- two that tell what came are one
+one_notice : (b : Book) (l m : ℕ) (n other : Notice) → MayNotify b l n → MayNotify b m other → telling_of l n ≡ telling_of m other
+one_notice b l m n other h k =
+    let e : l ≡ m = least_is_one (λ j. next_notice (b.link j) ≡ None → ⊥) l m
+    (λ none. not_none (next_notice (b.link l)) h.heard none h.next) (λ none. not_none (next_notice (b.link m)) k.heard none k.next)
     (λ j i w. w (h.in_order j i)) (λ j i w. w (k.in_order j i)) in
-    let p : h.push ≡ k.push = same_some h.push k.push (sym h.next ∙ (ap (λ j. next_push (b.link j)) e ∙ k.next)) in
-    let same : info ≡ other = h.says ∙ (ap (λ (x : Heard). x.info) p ∙ sym k.says) in
-    cc (e, same)
+    let p : h.heard ≡ k.heard = same_some h.heard k.heard (sym h.next ∙ (ap (λ j. next_notice (b.link j)) e ∙ k.next)) in
+    ap (telling_of l) (h.says ∙ (ap (λ (x : Heard). x.what) p ∙ sym k.says)) ∙ ap (λ j. telling_of j other) e
 
 -- two sources are one
 one_need : (b : Book) (c d l m : ℕ) → MayNeed b c l → MayNeed b d m → action.NeedCreds c l ≡ action.NeedCreds d m
@@ -269,15 +298,15 @@ IsAnswering b over y = (n : ℕ) × (o : Outcome) × (y ≡ action.Outcome n o) 
 abbrev pub IsCreating : Book → Action → Type 0
 IsCreating b y = (y ≡ action.Created None) × MayBeCreated b
 
--- it is a push that came
+-- it tells what came
 abbrev pub IsTelling : Book → Action → Type 0
-IsTelling b y = (l : ℕ) × (info : PushInfo) × (y ≡ action.Push l info) × MayTellPush b l info
+IsTelling b y = (l : ℕ) × (n : Notice) × (y ≡ telling_of l n) × MayNotify b l n
 
 -- it asks for a source of credentials
 abbrev pub IsNeeding : Book → Action → Type 0
 IsNeeding b y = (c : ℕ) × (l : ℕ) × (y ≡ action.NeedCreds c l) × MayNeed b c l
 
--- it comes from values: an outcome, that a link is ready, or a push; or it asks for a source, between these
+-- it comes from values: an outcome, that a link is ready, or what else came; or it asks for a source, between these
 abbrev pub IsOfValues : Book → Action → Type 0
 IsOfValues b y = IsAnswering b false y ⊎ (IsCreating b y ⊎ (IsTelling b y ⊎ IsNeeding b y))
 
@@ -292,12 +321,13 @@ OfRank (suc (suc (suc (suc (suc zero))))) b y = (e : RedisError) × (y ≡ actio
 OfRank (suc (suc (suc (suc (suc (suc zero)))))) b y = (l : ℕ) × (info : PushInfo) × (y ≡ action.Push l info) × (is_disconnection info.kind ≡ true) × MayPart b l info
 OfRank (suc (suc (suc (suc (suc (suc (suc zero))))))) b y = IsAnswering b true y
 OfRank (suc (suc (suc (suc (suc (suc (suc (suc zero)))))))) b y = (l : ℕ) × (k : ℕ) × (count : ℕ) × (len : ℕ) × (y ≡ action.Start l k owner.Setup count len) × MaySetUp b l k count len
-OfRank (suc (suc (suc (suc (suc (suc (suc (suc (suc zero))))))))) b y = (t : ℕ) × (ms : ℕ) × (what : Purpose) × (y ≡ action.Timer t ms what) × MayTimeRenewal b t ms what
-OfRank (suc (suc (suc (suc (suc (suc (suc (suc (suc (suc zero)))))))))) b y = (l : ℕ) × (k : ℕ) × (count : ℕ) × (len : ℕ) × (y ≡ action.Start l k owner.Auth count len) × MayRenew b l k count len
-OfRank (suc (suc (suc (suc (suc (suc (suc (suc (suc (suc (suc zero))))))))))) b y = IsMoving b y
-OfRank (suc (suc (suc (suc (suc (suc (suc (suc (suc (suc (suc (suc zero)))))))))))) b y = (l : ℕ) × (bytes : List ℕ) × (y ≡ action.Write l bytes) × MayWrite b l bytes
-OfRank (suc (suc (suc (suc (suc (suc (suc (suc (suc (suc (suc (suc (suc zero))))))))))))) b y = (n : ℕ) × (kind : WaitKind) × (y ≡ action.Wait (owner.Try n 0) kind) × MayWait b n kind
-OfRank (suc (suc (suc (suc (suc (suc (suc (suc (suc (suc (suc (suc (suc (suc more)))))))))))))) b y = (k : ℕ) × (e : Event) × (y ≡ action.Turn k (cause.Event e)) × (k ≡ b.turns)
+OfRank (suc (suc (suc (suc (suc (suc (suc (suc (suc zero))))))))) b y = (l : ℕ) × (k : ℕ) × (count : ℕ) × (len : ℕ) × (y ≡ action.Start l k owner.Monitor count len) × MayWatch b l k count len
+OfRank (suc (suc (suc (suc (suc (suc (suc (suc (suc (suc zero)))))))))) b y = (t : ℕ) × (ms : ℕ) × (what : Purpose) × (y ≡ action.Timer t ms what) × MayTimeRenewal b t ms what
+OfRank (suc (suc (suc (suc (suc (suc (suc (suc (suc (suc (suc zero))))))))))) b y = (l : ℕ) × (k : ℕ) × (count : ℕ) × (len : ℕ) × (y ≡ action.Start l k owner.Auth count len) × MayRenew b l k count len
+OfRank (suc (suc (suc (suc (suc (suc (suc (suc (suc (suc (suc (suc zero)))))))))))) b y = IsMoving b y
+OfRank (suc (suc (suc (suc (suc (suc (suc (suc (suc (suc (suc (suc (suc zero))))))))))))) b y = (l : ℕ) × (bytes : List ℕ) × (y ≡ action.Write l bytes) × MayWrite b l bytes
+OfRank (suc (suc (suc (suc (suc (suc (suc (suc (suc (suc (suc (suc (suc (suc zero)))))))))))))) b y = (n : ℕ) × (kind : WaitKind) × (y ≡ action.Wait (owner.Try n 0) kind) × MayWait b n kind
+OfRank (suc (suc (suc (suc (suc (suc (suc (suc (suc (suc (suc (suc (suc (suc (suc more))))))))))))))) b y = (k : ℕ) × (e : Event) × (y ≡ action.Turn k (cause.Event e)) × (k ≡ b.turns)
 
 -- an outcome that is owed is of its rank
 answer_of_rank : (b : Book) (n : ℕ) (o : Outcome) (over : Bool) → is_over (link_of b n) ≡ over → MayAnswer b n o → OfRank (answer_rank over) b (action.Outcome n o)
@@ -316,7 +346,7 @@ creation_of_rank b (Some e) may = (e, refl, may)
 
 -- and a push
 push_of_rank : (b : Book) (l : ℕ) (info : PushInfo) (disconnects : Bool) → is_disconnection info.kind ≡ disconnects → MayPushBy disconnects b l info → OfRank (push_rank disconnects) b (action.Push l info)
-push_of_rank b l info false e may = inr (inr (inl (l, info, refl, may)))
+push_of_rank b l info false e may = inr (inr (inl (l, notice.Push info, refl, may)))
 push_of_rank b l info true e may = (l, info, refl, e, may)
 
 -- and a timer
@@ -332,18 +362,23 @@ of_rank b (action.Connect l host port) may = (l, host, port, refl, may)
 of_rank b (action.Timer t ms what) may = timer_of_rank b t ms what may
 of_rank b (action.Took owner.Setup l count) may = absurd may
 of_rank b (action.Took owner.Auth l count) may = absurd may
+of_rank b (action.Took owner.Monitor l count) may = absurd may
 of_rank b (action.Took (owner.Try n round) l count) may = subst (λ r. IsMoving b (action.Took (owner.Try n r) l count)) (sym may.0) (take_moving b n l count may.1)
 of_rank b (action.Outcome n o) may = outcome_of_rank b n o may
 of_rank b (action.Push l info) may = push_of_rank b l info (is_disconnection info.kind) refl may
+of_rank b (action.Message msg) may = inr (inr (inl (current b, notice.Message msg, refl, may)))
+of_rank b (action.Monitor v) may = inr (inr (inl (current b, notice.Monitor v, refl, may)))
 of_rank b (action.NeedCreds c l) may = inr (inr (inr (c, l, refl, may)))
 of_rank b (action.Close l) may = (l, refl, may)
 of_rank b (action.Created e) may = creation_of_rank b e may
 of_rank b (action.Start l k owner.Setup count len) may = (l, k, count, len, refl, may)
 of_rank b (action.Start l k owner.Auth count len) may = (l, k, count, len, refl, may)
+of_rank b (action.Start l k owner.Monitor count len) may = (l, k, count, len, refl, may)
 of_rank b (action.Start l k (owner.Try n round) count len) may = subst (λ r. IsMoving b (action.Start l k (owner.Try n r) count len)) (sym may.0) (start_moving b l k n count len may.1)
 of_rank b (action.Write l bytes) may = (l, bytes, refl, may)
 of_rank b (action.Wait owner.Setup kind) may = absurd may
 of_rank b (action.Wait owner.Auth kind) may = absurd may
+of_rank b (action.Wait owner.Monitor kind) may = absurd may
 of_rank b (action.Wait (owner.Try n round) kind) may = (n, kind, ap (λ r. action.Wait (owner.Try n r) kind) may.0, may.1)
 of_rank b (action.Turn k (cause.Event e)) may = (k, e, refl, may.next)
 
@@ -351,23 +386,23 @@ of_rank b (action.Turn k (cause.Event e)) may = (k, e, refl, may.next)
 answer_or_created : (b : Book) (n : ℕ) (o : Outcome) → is_over (link_of b n) ≡ false → MayAnswer b n o → MayBeCreated b → ⊥
 answer_or_created b n o e p q = not_none (owed b n) o (q.answered n p.asked e) p.owes
 
--- submissions go to the link of a push that waits
-pub on_its_link : (b : Book) (n l : ℕ) (info : PushInfo) → Sound b → MayTellPush b l info → (b.story n).link ≡ l
-on_its_link b n l info h q =
+-- submissions go to the link of which something waits to be told
+pub on_its_link : (b : Book) (n l : ℕ) (what : Notice) → Sound b → MayNotify b l what → (b.story n).link ≡ l
+on_its_link b n l what h q =
     let first : (b.story n).link ≡ 0 = h.goes n in
-    let i : l < b.links = up_is_numbered b l h.links (h.waits l q.heard q.push q.next) in
+    let i : l < b.links = up_is_numbered b l h.links (h.waits l q.is_heard q.heard q.next) in
     let one : b.links ≤ 1 = h.opens.one_link in
     omega (arith, first, i, one)
 
--- nor do an outcome and a push
-answer_or_push : (b : Book) (n : ℕ) (o : Outcome) (l : ℕ) (info : PushInfo) → Sound b → MayAnswer b n o → MayTellPush b l info → ⊥
-answer_or_push b n o l info h p q =
-    let same : (b.story n).link ≡ l = on_its_link b n l info h q in
-    q.answered n p.asked same (p.after_pushes q.heard q.push (ap (λ j. next_push (b.link j)) same ∙ q.next))
+-- nor do an outcome and what is told
+answer_or_notice : (b : Book) (n : ℕ) (o : Outcome) (l : ℕ) (what : Notice) → Sound b → MayAnswer b n o → MayNotify b l what → ⊥
+answer_or_notice b n o l what h p q =
+    let same : (b.story n).link ≡ l = on_its_link b n l what h q in
+    q.answered n p.asked same (p.after_notices q.is_heard q.heard (ap (λ j. next_notice (b.link j)) same ∙ q.next))
 
--- nor a push and that a link is ready
-push_or_created : (b : Book) (l : ℕ) (info : PushInfo) → MayTellPush b l info → MayBeCreated b → ⊥
-push_or_created b l info p q = p.created q.l q.ready q.once
+-- nor that and that a link is ready
+notice_or_created : (b : Book) (l : ℕ) (what : Notice) → MayNotify b l what → MayBeCreated b → ⊥
+notice_or_created b l what p q = p.created q.l q.ready q.once
 
 -- nor a source and an outcome that values gave
 need_or_answer : (b : Book) (c l n : ℕ) (o : Outcome) → is_over (link_of b n) ≡ false → MayNeed b c l → MayAnswer b n o → ⊥
@@ -377,15 +412,15 @@ need_or_answer b c l n o e p q = not_none (owed b n) o (p.answered n q.asked e) 
 need_or_created : (b : Book) (c l : ℕ) → MayNeed b c l → MayBeCreated b → ⊥
 need_or_created b c l p q = p.created q.l q.ready q.once
 
--- nor a source and a push
-need_or_push : (b : Book) (c l m : ℕ) (info : PushInfo) → MayNeed b c l → MayTellPush b m info → ⊥
-need_or_push b c l m info p q = not_both (source_due (b.link l)) (q.sourced l) p.due
+-- nor a source and what is told
+need_or_notice : (b : Book) (c l m : ℕ) (what : Notice) → MayNeed b c l → MayNotify b m what → ⊥
+need_or_notice b c l m what p q = not_both (source_due (b.link l)) (q.sourced l) p.due
 
 -- beside an outcome that values gave
 beside_verdict : (b : Book) (n : ℕ) (o : Outcome) (y : Action) → Sound b → is_over (link_of b n) ≡ false → MayAnswer b n o → IsOfValues b y → AreOne (action.Outcome n o) y
 beside_verdict b n o y h e p (inl q) = inl (one_answer b n q.0 o q.1 false e q.3 p q.4 ∙ sym q.2)
 beside_verdict b n o y h e p (inr (inl q)) = absurd (answer_or_created b n o e p q.1)
-beside_verdict b n o y h e p (inr (inr (inl q))) = absurd (answer_or_push b n o q.0 q.1 h p q.3)
+beside_verdict b n o y h e p (inr (inr (inl q))) = absurd (answer_or_notice b n o q.0 q.1 h p q.3)
 beside_verdict b n o y h e p (inr (inr (inr q))) = absurd (need_or_answer b q.0 q.1 n o e q.3 p)
 
 -- beside an outcome that is owed, another action of its rank
@@ -402,26 +437,26 @@ beside_outcome b n o y (inr p) h q = inl (one_moving b (action.Outcome n o) y (t
 beside_ready : (b : Book) (y : Action) → MayBeCreated b → IsOfValues b y → AreOne (action.Created None) y
 beside_ready b y p (inl q) = absurd (answer_or_created b q.0 q.1 q.3 q.4 p)
 beside_ready b y p (inr (inl q)) = inl (sym q.0)
-beside_ready b y p (inr (inr (inl q))) = absurd (push_or_created b q.0 q.1 q.3 p)
+beside_ready b y p (inr (inr (inl q))) = absurd (notice_or_created b q.0 q.1 q.3 p)
 beside_ready b y p (inr (inr (inr q))) = absurd (need_or_created b q.0 q.1 q.3 p)
 
--- beside a push that came
-beside_telling : (b : Book) (l : ℕ) (info : PushInfo) (y : Action) → Sound b → MayTellPush b l info → IsOfValues b y → AreOne (action.Push l info) y
-beside_telling b l info y h p (inl q) = absurd (answer_or_push b q.0 q.1 l info h q.4 p)
-beside_telling b l info y h p (inr (inl q)) = absurd (push_or_created b l info p q.1)
-beside_telling b l info y h p (inr (inr (inl q))) = inl (one_push b l q.0 info q.1 p q.3 ∙ sym q.2)
-beside_telling b l info y h p (inr (inr (inr q))) = absurd (need_or_push b q.0 q.1 l info q.3 p)
+-- beside what tells what came
+beside_telling : (b : Book) (l : ℕ) (what : Notice) (y : Action) → Sound b → MayNotify b l what → IsOfValues b y → AreOne (telling_of l what) y
+beside_telling b l what y h p (inl q) = absurd (answer_or_notice b q.0 q.1 l what h q.4 p)
+beside_telling b l what y h p (inr (inl q)) = absurd (notice_or_created b l what p q.1)
+beside_telling b l what y h p (inr (inr (inl q))) = inl (one_notice b l q.0 what q.1 p q.3 ∙ sym q.2)
+beside_telling b l what y h p (inr (inr (inr q))) = absurd (need_or_notice b q.0 q.1 l what q.3 p)
 
 -- beside a source of credentials
 beside_need : (b : Book) (c l : ℕ) (y : Action) → MayNeed b c l → IsOfValues b y → AreOne (action.NeedCreds c l) y
 beside_need b c l y p (inl q) = absurd (need_or_answer b c l q.0 q.1 q.3 p q.4)
 beside_need b c l y p (inr (inl q)) = absurd (need_or_created b c l p q.1)
-beside_need b c l y p (inr (inr (inl q))) = absurd (need_or_push b c l q.0 q.1 p q.3)
+beside_need b c l y p (inr (inr (inl q))) = absurd (need_or_notice b c l q.0 q.1 p q.3)
 beside_need b c l y p (inr (inr (inr q))) = inl (one_need b c q.0 l q.1 p q.3 ∙ sym q.2)
 
 -- beside any push
 beside_push : (b : Book) (l : ℕ) (info : PushInfo) (y : Action) (disconnects : Bool) → Sound b → is_disconnection info.kind ≡ disconnects → MayPushBy disconnects b l info → OfRank (push_rank disconnects) b y → AreOne (action.Push l info) y
-beside_push b l info y false h e p q = beside_telling b l info y h p q
+beside_push b l info y false h e p q = beside_telling b l (notice.Push info) y h p q
 beside_push b l info y true h e p q = inl (one_part b l q.0 info q.1 e q.3 p q.4 ∙ sym q.2)
 
 -- beside the creation
@@ -442,18 +477,23 @@ beside b (action.Connect l host port) y p h q = inl (one_connect b l q.0 host q.
 beside b (action.Timer t ms what) y p h q = beside_timer b t ms what y p q
 beside b (action.Took owner.Setup l count) y p h q = absurd p
 beside b (action.Took owner.Auth l count) y p h q = absurd p
+beside b (action.Took owner.Monitor l count) y p h q = absurd p
 beside b (action.Took (owner.Try n round) l count) y p h q = subst (λ r. AreOne (action.Took (owner.Try n r) l count) y) (sym p.0) (inl (one_moving b (action.Took (owner.Try n 0) l count) y (take_moving b n l count p.1) q))
 beside b (action.Outcome n o) y p h q = beside_outcome b n o y p h q
 beside b (action.Push l info) y p h q = beside_push b l info y (is_disconnection info.kind) h refl p q
+beside b (action.Message msg) y p h q = beside_telling b (current b) (notice.Message msg) y h p q
+beside b (action.Monitor v) y p h q = beside_telling b (current b) (notice.Monitor v) y h p q
 beside b (action.NeedCreds c l) y p h q = beside_need b c l y p q
 beside b (action.Close l) y p h q = inl (one_close b l q.0 p q.2 ∙ sym q.1)
 beside b (action.Created e) y p h q = beside_creation b e y p q
 beside b (action.Start l k owner.Setup count len) y p h q = inl (one_setup b l q.0 k q.1 count q.2 len q.3 p q.5 ∙ sym q.4)
 beside b (action.Start l k owner.Auth count len) y p h q = inl (one_renewal b l q.0 k q.1 count q.2 len q.3 p q.5 ∙ sym q.4)
+beside b (action.Start l k owner.Monitor count len) y p h q = inl (one_watch b l q.0 k q.1 count q.2 len q.3 p q.5 ∙ sym q.4)
 beside b (action.Start l k (owner.Try n round) count len) y p h q = subst (λ r. AreOne (action.Start l k (owner.Try n r) count len) y) (sym p.0) (inl (one_moving b (action.Start l k (owner.Try n 0) count len) y (start_moving b l k n count len p.1) q))
 beside b (action.Write l bytes) y p h q = inl (one_write b l q.0 bytes q.1 p q.3 ∙ sym q.2)
 beside b (action.Wait owner.Setup kind) y p h q = absurd p
 beside b (action.Wait owner.Auth kind) y p h q = absurd p
+beside b (action.Wait owner.Monitor kind) y p h q = absurd p
 beside b (action.Wait (owner.Try n round) kind) y p h q = subst (λ r. AreOne (action.Wait (owner.Try n r) kind) y) (sym p.0) (inl (one_wait b n q.0 kind q.1 p.1 q.3 ∙ sym q.2))
 beside b (action.Turn j (cause.Event e)) y p h q = subst (AreOne (action.Turn j (cause.Event e))) (sym q.2) (inr (p.next ∙ sym q.3, tt))
 

@@ -17,13 +17,13 @@ use Rattle.driver_model.specs.News.{News, silence, connected, refused, overdue, 
 use Rattle.driver_model.specs.declared.outcome.Outcome.{Outcome}
 use Rattle.legal_trace.specs.Ledger.{Ledger, End, asks, begins, offers, ends, is_over, ending, ending_alive, ending_asked, noted_each, sources, times}
 use Rattle.legal_trace.specs.Story.{Story, blank_story, is_open, is_told, handed_in, left, holds, clocked, fires, tried, waits, answered}
-use Rattle.legal_trace.specs.Book.{Book, entered, lines_of, if_mine, info_in, message_of, current, is_clock_of, after_event, submitted_by, is_unspoken, wanted_in, is_renewal_of}
+use Rattle.legal_trace.specs.Book.{Book, entered, lines_of, if_mine, info_in, message_of, current, is_clock_of, after_event, submitted_by, is_unspoken, wanted_in, is_renewal_of, hearing_in}
 use Rattle.legal_trace.specs.Events.{is_bad_event}
 use Rattle.legal_trace.specs.Legal.{MayAnswer, MayTell, MayTimer, MayStand, IsOpen, CanMove}
 use Rattle.legal_trace.proofs.Ledgers.{each_keeps, mine_keeps, IsAsked, asked_keeps, IsUnasked, unasked_hears}
 use Rattle.legal_trace.proofs.Plain.{not_none}
 use Rattle.legal_trace.proofs.Moves.{open_or_told, starter_moves, taker_moves, asker_moves}
-use Rattle.legal_laws.proofs.Pushed.{push_keeps}
+use Rattle.legal_laws.proofs.Pushed.{push_keeps, tell_keeps}
 
 -- the links below that number were asked for, and no others
 pub record LinksAreNumbered (links : ℕ) (link : ℕ → Ledger) : Type 0 where
@@ -66,6 +66,7 @@ not_connected b l (event.Bytes m piece) i good e = not_for_link (m == l) (came p
 not_connected b l (event.Ended m) i good e = not_for_link (m == l) (failed fault.Ended) (λ x. cc x) e
 not_connected b l (event.ReadFault m kind) i good e = not_for_link (m == l) (failed (fault.Io kind)) (λ x. cc x) e
 not_connected b l (event.WriteFault m kind) i good e = not_for_link (m == l) (failed (fault.Io kind)) (λ x. cc x) e
+not_connected b l event.DropStream i good e = cc e
 not_connected b l event.Shutdown i good e = cc e
 not_connected b l (event.Timeout ms) i good e = cc e
 not_connected b l (event.Creds c auth) i good e = not_of_source l (slice_get b.sources c) (authorized auth) (renewed auth) (λ x. cc x) (λ x. cc x) e
@@ -76,7 +77,7 @@ not_connected b l (event.Cancel s) i good e = cc e
 
 -- a link that was not asked for doesn't end
 pub unasked_stays : (l : Ledger) → IsUnasked l → ending l ≡ None
-unasked_stays l h = left_if l.up (ending_alive l) (if l.asked && not (is_over l) then ending_asked l.heard else None) h.1 ∙ left_if (l.asked && not (is_over l)) (ending_asked l.heard) None (ap (λ x. x && not (is_over l)) h.0)
+unasked_stays l h = left_if l.up (ending_alive l) (if l.asked && not (is_over l) then ending_asked l l.heard else None) h.1 ∙ left_if (l.asked && not (is_over l)) (ending_asked l l.heard) None (ap (λ x. x && not (is_over l)) h.0)
 
 -- a link that was not asked for is told nothing of its own
 unasked_kept : (b : Book) (l : ℕ) (a : Action) → MayStand b a → (entered b a).links ≤ l → IsUnasked (b.link l) → IsUnasked (noted_each (b.link l) (lines_of b l a))
@@ -85,10 +86,12 @@ unasked_kept b l (action.Turn k (cause.Event e)) may i h = unasked_hears (b.link
 unasked_kept b l (action.Connect m host port) may i h =
     let e : m ≡ b.links = may.next in
     let other : (m == l) ≡ false = ne_test m l (omega arith) in
-    mine_keeps IsUnasked (m == l) (b.link l) (asks (info_in b.config) (wanted_in b.config)) (λ t. absurd (not_both (m == l) other t)) h
+    mine_keeps IsUnasked (m == l) (b.link l) (asks (info_in b.config) (wanted_in b.config) (hearing_in b.config)) (λ t. absurd (not_both (m == l) other t)) h
 unasked_kept b l (action.Timer t ms what) may i h = mine_keeps IsUnasked (is_renewal_of l what) (b.link l) times (λ t. h) h
 unasked_kept b l (action.Took who m count) may i h = h
 unasked_kept b l (action.Push m info) may i h = push_keeps IsUnasked (m == l) info.kind (b.link l) h h h
+unasked_kept b l (action.Message msg) may i h = tell_keeps IsUnasked (current b == l) (b.link l) h h
+unasked_kept b l (action.Monitor v) may i h = tell_keeps IsUnasked (current b == l) (b.link l) h h
 unasked_kept b l (action.NeedCreds c m) may i h = mine_keeps IsUnasked (m == l) (b.link l) sources (λ t. h) h
 unasked_kept b l (action.Close m) may i h =
     mine_keeps IsUnasked (m == l) (b.link l) (ends (b.turns - 1))
@@ -107,6 +110,8 @@ links_grow b (action.Connect m host port) = omega arith
 links_grow b (action.Timer t ms what) = omega arith
 links_grow b (action.Took who m count) = omega arith
 links_grow b (action.Push m info) = omega arith
+links_grow b (action.Message msg) = omega arith
+links_grow b (action.Monitor v) = omega arith
 links_grow b (action.NeedCreds c m) = omega arith
 links_grow b (action.Close m) = omega arith
 links_grow b (action.Write m bytes) = omega arith
@@ -125,22 +130,27 @@ asked_kept b l (action.Turn k (cause.Opening config word)) may h i = asked_stays
 asked_kept b l (action.Turn k (cause.Event e)) may h i = asked_stays b l (action.Turn k (cause.Event e)) (h.asked l i)
 asked_kept b l (action.Connect m host port) may h i =
     let e : m ≡ b.links = may.next in
-    by_test (m == l) (IsAsked (noted_each (b.link l) (if_mine (m == l) (asks (info_in b.config) (wanted_in b.config)))))
-    (λ t. subst (λ (x : Bool). IsAsked (noted_each (b.link l) (if_mine x (asks (info_in b.config) (wanted_in b.config))))) (sym t) refl)
-    (λ f. let other : m ≢ l = ne_from m l f in mine_keeps IsAsked (m == l) (b.link l) (asks (info_in b.config) (wanted_in b.config)) (λ t. refl) (h.asked l (omega arith)))
+    by_test (m == l) (IsAsked (noted_each (b.link l) (if_mine (m == l) (asks (info_in b.config) (wanted_in b.config) (hearing_in b.config)))))
+    (λ t. subst (λ (x : Bool). IsAsked (noted_each (b.link l) (if_mine x (asks (info_in b.config) (wanted_in b.config) (hearing_in b.config))))) (sym t) refl)
+    (λ f. let other : m ≢ l = ne_from m l f in mine_keeps IsAsked (m == l) (b.link l) (asks (info_in b.config) (wanted_in b.config) (hearing_in b.config)) (λ t. refl) (h.asked l (omega arith)))
 asked_kept b l (action.Timer t ms what) may h i = asked_stays b l (action.Timer t ms what) (h.asked l i)
 asked_kept b l (action.Took owner.Setup m count) may h i = absurd may
 asked_kept b l (action.Took owner.Auth m count) may h i = absurd may
+asked_kept b l (action.Took owner.Monitor m count) may h i = absurd may
 asked_kept b l (action.Took (owner.Try n round) m count) may h i = asked_stays b l (action.Took (owner.Try n round) m count) (h.asked l i)
 asked_kept b l (action.Push m info) may h i = asked_stays b l (action.Push m info) (h.asked l i)
+asked_kept b l (action.Message msg) may h i = asked_stays b l (action.Message msg) (h.asked l i)
+asked_kept b l (action.Monitor v) may h i = asked_stays b l (action.Monitor v) (h.asked l i)
 asked_kept b l (action.NeedCreds c m) may h i = asked_stays b l (action.NeedCreds c m) (h.asked l i)
 asked_kept b l (action.Close m) may h i = asked_stays b l (action.Close m) (h.asked l i)
 asked_kept b l (action.Write m bytes) may h i = asked_stays b l (action.Write m bytes) (h.asked l i)
 asked_kept b l (action.Wait owner.Setup kind) may h i = absurd may
 asked_kept b l (action.Wait owner.Auth kind) may h i = absurd may
+asked_kept b l (action.Wait owner.Monitor kind) may h i = absurd may
 asked_kept b l (action.Wait (owner.Try n round) kind) may h i = asked_stays b l (action.Wait (owner.Try n round) kind) (h.asked l i)
 asked_kept b l (action.Start m k owner.Setup count len) may h i = asked_stays b l (action.Start m k owner.Setup count len) (h.asked l i)
 asked_kept b l (action.Start m k owner.Auth count len) may h i = asked_stays b l (action.Start m k owner.Auth count len) (h.asked l i)
+asked_kept b l (action.Start m k owner.Monitor count len) may h i = asked_stays b l (action.Start m k owner.Monitor count len) (h.asked l i)
 asked_kept b l (action.Start m k (owner.Try n round) count len) may h i = asked_stays b l (action.Start m k (owner.Try n round) count len) (h.asked l i)
 asked_kept b l (action.Created e) may h i = asked_stays b l (action.Created e) (h.asked l i)
 asked_kept b l (action.Outcome n o) may h i = asked_stays b l (action.Outcome n o) (h.asked l i)
@@ -223,6 +233,7 @@ event_leaves_blank b n (event.Bytes l piece) good h i = h n (omega arith)
 event_leaves_blank b n (event.Ended l) good h i = h n (omega arith)
 event_leaves_blank b n (event.ReadFault l kind) good h i = h n (omega arith)
 event_leaves_blank b n (event.WriteFault l kind) good h i = h n (omega arith)
+event_leaves_blank b n event.DropStream good h i = h n (omega arith)
 event_leaves_blank b n event.Shutdown good h i = h n (omega arith)
 
 -- an outcome is of a numbered submission
@@ -238,16 +249,21 @@ stories_kept b (action.Connect l host port) may h n i = h n i
 stories_kept b (action.Timer t ms what) may h n i = timer_leaves_blank b t ms what n may h i
 stories_kept b (action.Took owner.Setup l count) may h n i = absurd may
 stories_kept b (action.Took owner.Auth l count) may h n i = absurd may
+stories_kept b (action.Took owner.Monitor l count) may h n i = absurd may
 stories_kept b (action.Took (owner.Try m round) l count) may h n i = others_blank b m n (holds (b.story n) count) h i (mover_is_numbered b m h (taker_moves b m l count may.1))
 stories_kept b (action.Push l info) may h n i = h n i
+stories_kept b (action.Message msg) may h n i = h n i
+stories_kept b (action.Monitor v) may h n i = h n i
 stories_kept b (action.NeedCreds c l) may h n i = h n i
 stories_kept b (action.Close l) may h n i = h n i
 stories_kept b (action.Write l bytes) may h n i = h n i
 stories_kept b (action.Wait owner.Setup kind) may h n i = absurd may
 stories_kept b (action.Wait owner.Auth kind) may h n i = absurd may
+stories_kept b (action.Wait owner.Monitor kind) may h n i = absurd may
 stories_kept b (action.Wait (owner.Try m round) kind) may h n i = others_blank b m n (waits (b.story n) kind) h i (open_is_numbered b m h may.1.asked)
 stories_kept b (action.Start l k owner.Setup count len) may h n i = h n i
 stories_kept b (action.Start l k owner.Auth count len) may h n i = h n i
+stories_kept b (action.Start l k owner.Monitor count len) may h n i = h n i
 stories_kept b (action.Start l k (owner.Try m round) count len) may h n i = others_blank b m n (tried (b.story n) l k) h i (mover_is_numbered b m h (starter_moves b l k m count len may.1))
 stories_kept b (action.Created e) may h n i = h n i
 stories_kept b (action.Outcome m o) may h n i = others_blank b m n (answered (b.story n) o) h i (outcome_is_numbered b m o h may)

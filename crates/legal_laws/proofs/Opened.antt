@@ -19,6 +19,7 @@ use Rattle.legal_laws.proofs.Held.{starts_ready}
 use Rattle.legal_laws.proofs.Quiet.{failed_is_over}
 use Rattle.legal_laws.proofs.Ranks.{none_over}
 use Rattle.legal_laws.proofs.Sound.{sound_behind}
+use Rattle.legal_trace.proofs.Setups.{set_is_greeted}
 
 -- what is well is ready
 well_is_ready : (x : Option SetupResult) → is_well x ≡ true → x ≡ Some result.Ready
@@ -42,7 +43,7 @@ opened_before front l k n count len all may =
     let ready : is_ready (b.link l) ≡ true = starts_ready b l k n count len may in
     let told = told_behind front all in
     record {
-      answered = well_is_ready (setup_result (b.link l)) (ready_is_set (b.link l) ready);
+      answered = well_is_ready (setup_result (b.link l)) (set_is_greeted (b.link l) (ready_is_set (b.link l) ready));
       told = shown_well (creations front) b.created told.counted told.once (may.begun.applied.created.shown l ready)
           (λ e is. let cause = told.caused e is in let over = failed_is_over (b.link cause.0).end e cause.1 in none_over b l cause.0 over.0 (sound_behind front all) (ready_is_up (b.link l) ready) over.1);
     }

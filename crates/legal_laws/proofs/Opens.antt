@@ -9,11 +9,11 @@ use Rattle.driver_model.specs.declared.action.Owner.TheVariants as owner
 use Rattle.driver_model.specs.declared.config.Config.{Config}
 use Rattle.driver_model.specs.News.{News, silence}
 use Rattle.legal_trace.specs.Ledger.{Ledger, Ending, asks, begins, offers, is_over, ending, ending_alive, ending_asked, sources, times}
-use Rattle.legal_trace.specs.Book.{Book, entered, info_in, message_of, wanted_in, is_renewal_of}
+use Rattle.legal_trace.specs.Book.{Book, entered, info_in, message_of, wanted_in, is_renewal_of, hearing_in, current}
 use Rattle.legal_trace.specs.Legal.{MayStand}
 use Rattle.legal_trace.proofs.Ledgers.{mine_keeps}
 use Rattle.legal_trace.proofs.Plain.{not_none}
-use Rattle.legal_laws.proofs.Pushed.{push_keeps}
+use Rattle.legal_laws.proofs.Pushed.{push_keeps, tell_keeps}
 
 -- before the first turn no link is asked for and no turn runs; the opening is the first turn; before a link is asked for
 -- nothing is handed in or shut down, and in the opening nothing is handed in; and one link is asked for at most
@@ -62,26 +62,31 @@ opening_kept b (action.Connect l host port) may h = record {
 opening_kept b (action.Timer t ms what) may h = h
 opening_kept b (action.Took owner.Setup l count) may h = absurd may
 opening_kept b (action.Took owner.Auth l count) may h = absurd may
+opening_kept b (action.Took owner.Monitor l count) may h = absurd may
 opening_kept b (action.Took (owner.Try n round) l count) may h = h
 opening_kept b (action.Push l info) may h = h
+opening_kept b (action.Message msg) may h = h
+opening_kept b (action.Monitor v) may h = h
 opening_kept b (action.NeedCreds c l) may h = h
 opening_kept b (action.Close l) may h = h
 opening_kept b (action.Write l bytes) may h = h
 opening_kept b (action.Wait owner.Setup kind) may h = absurd may
 opening_kept b (action.Wait owner.Auth kind) may h = absurd may
+opening_kept b (action.Wait owner.Monitor kind) may h = absurd may
 opening_kept b (action.Wait (owner.Try n round) kind) may h = h
 opening_kept b (action.Start l k owner.Setup count len) may h = h
 opening_kept b (action.Start l k owner.Auth count len) may h = h
+opening_kept b (action.Start l k owner.Monitor count len) may h = h
 opening_kept b (action.Start l k (owner.Try n round) count len) may h = h
 opening_kept b (action.Created e) may h = h
 opening_kept b (action.Outcome n o) may h = h
 
--- nothing has happened to a link: it is not up, has not ended, was told nothing, and no push came
+-- nothing has happened to a link: it is not up, has not ended, was told nothing, and nothing that is to be told came
 pub record IsStill (l : Ledger) : Type 0 where
   pub down : l.up ≡ false
   pub lives : l.end ≡ None
   pub untold : l.heard ≡ silence
-  pub mute : l.pushes ≡ []
+  pub mute : l.notices ≡ []
 
 -- until the first event comes, each link is so
 abbrev pub StillAtFirst : ℕ → (ℕ → Ledger) → Type 0
@@ -90,28 +95,33 @@ StillAtFirst turns link = turns ≤ 1 → (l : ℕ) → IsStill (link l)
 -- a link that is still doesn't end
 pub still_stays : (l : Ledger) → IsStill l → ending l ≡ None
 still_stays l h =
-    left_if l.up (ending_alive l) (if l.asked && not (is_over l) then ending_asked l.heard else None) h.down
-    ∙ (ap (λ (x : News). if l.asked && not (is_over l) then ending_asked x else None) h.untold
+    left_if l.up (ending_alive l) (if l.asked && not (is_over l) then ending_asked l l.heard else None) h.down
+    ∙ (ap (λ (x : News). if l.asked && not (is_over l) then ending_asked l x else None) h.untold
     ∙ chosen (λ (x : Option Ending). x ≡ None) (l.asked && not (is_over l)) None None (λ t. refl) (λ f. refl))
 
 -- each action that may stand keeps it
 pub still_kept : (b : Book) (a : Action) → MayStand b a → StillAtFirst b.turns b.link → StillAtFirst (entered b a).turns (entered b a).link
 still_kept b (action.Turn k (cause.Opening config word)) may h = λ i. h (omega arith)
 still_kept b (action.Turn k (cause.Event e)) may h = λ i. let later : b.turns ≢ 0 = may.is_for.0 in absurd (omega arith)
-still_kept b (action.Connect m host port) may h = λ i l. mine_keeps IsStill (m == l) (b.link l) (asks (info_in b.config) (wanted_in b.config)) (λ t. record { down = (h i l).down; lives = (h i l).lives; untold = (h i l).untold; mute = (h i l).mute }) (h i l)
+still_kept b (action.Connect m host port) may h = λ i l. mine_keeps IsStill (m == l) (b.link l) (asks (info_in b.config) (wanted_in b.config) (hearing_in b.config)) (λ t. record { down = (h i l).down; lives = (h i l).lives; untold = (h i l).untold; mute = (h i l).mute }) (h i l)
 still_kept b (action.Timer t ms what) may h = λ i l. mine_keeps IsStill (is_renewal_of l what) (b.link l) times (λ t. record { down = (h i l).down; lives = (h i l).lives; untold = (h i l).untold; mute = (h i l).mute }) (h i l)
 still_kept b (action.Took owner.Setup l count) may h = absurd may
 still_kept b (action.Took owner.Auth l count) may h = absurd may
+still_kept b (action.Took owner.Monitor l count) may h = absurd may
 still_kept b (action.Took (owner.Try n round) l count) may h = h
 still_kept b (action.Push m info) may h = λ i l. push_keeps IsStill (m == l) info.kind (b.link l) (record { down = (h i l).down; lives = (h i l).lives; untold = (h i l).untold; mute = (h i l).mute }) (record { down = (h i l).down; lives = (h i l).lives; untold = (h i l).untold; mute = (h i l).mute }) (h i l)
+still_kept b (action.Message msg) may h = λ i l. tell_keeps IsStill (current b == l) (b.link l) (record { down = (h i l).down; lives = (h i l).lives; untold = (h i l).untold; mute = (h i l).mute }) (h i l)
+still_kept b (action.Monitor v) may h = λ i l. tell_keeps IsStill (current b == l) (b.link l) (record { down = (h i l).down; lives = (h i l).lives; untold = (h i l).untold; mute = (h i l).mute }) (h i l)
 still_kept b (action.NeedCreds c m) may h = λ i l. mine_keeps IsStill (m == l) (b.link l) sources (λ t. record { down = (h i l).down; lives = (h i l).lives; untold = (h i l).untold; mute = (h i l).mute }) (h i l)
 still_kept b (action.Close m) may h = λ i. absurd (not_none (ending (b.link m)) may.why (still_stays (b.link m) (h i m)) may.ends)
 still_kept b (action.Write m bytes) may h = λ i l. mine_keeps IsStill (m == l) (b.link l) (offers bytes) (λ t. record { down = (h i l).down; lives = (h i l).lives; untold = (h i l).untold; mute = (h i l).mute }) (h i l)
 still_kept b (action.Wait owner.Setup kind) may h = absurd may
 still_kept b (action.Wait owner.Auth kind) may h = absurd may
+still_kept b (action.Wait owner.Monitor kind) may h = absurd may
 still_kept b (action.Wait (owner.Try n round) kind) may h = h
 still_kept b (action.Start m k owner.Setup count len) may h = λ i l. mine_keeps IsStill (m == l) (b.link l) (begins (message_of b m owner.Setup)) (λ t. record { down = (h i l).down; lives = (h i l).lives; untold = (h i l).untold; mute = (h i l).mute }) (h i l)
 still_kept b (action.Start m k owner.Auth count len) may h = λ i l. mine_keeps IsStill (m == l) (b.link l) (begins (message_of b m owner.Auth)) (λ t. record { down = (h i l).down; lives = (h i l).lives; untold = (h i l).untold; mute = (h i l).mute }) (h i l)
+still_kept b (action.Start m k owner.Monitor count len) may h = λ i l. mine_keeps IsStill (m == l) (b.link l) (begins (message_of b m owner.Monitor)) (λ t. record { down = (h i l).down; lives = (h i l).lives; untold = (h i l).untold; mute = (h i l).mute }) (h i l)
 still_kept b (action.Start m k (owner.Try n round) count len) may h = λ i l. mine_keeps IsStill (m == l) (b.link l) (begins (message_of b m (owner.Try n round))) (λ t. record { down = (h i l).down; lives = (h i l).lives; untold = (h i l).untold; mute = (h i l).mute }) (h i l)
 still_kept b (action.Created e) may h = h
 still_kept b (action.Outcome n o) may h = h

@@ -22,7 +22,7 @@ use Rattle.legal_laws.proofs.Numbers.{mover_is_numbered}
 use Rattle.legal_laws.proofs.Quiet.{IsQuiet, begins_quiet, ends_quiet}
 use Rattle.legal_laws.proofs.Turned.{turn_quiet}
 use Rattle.legal_laws.proofs.Sound.{Sound, stays_sound, blank_is_sound}
-use Rattle.legal_laws.proofs.Pushed.{push_keeps}
+use Rattle.legal_laws.proofs.Pushed.{push_keeps, tell_keeps}
 
 -- one of these timers is that of submission n
 abbrev pub HasClock : ℕ → List Purpose → Type 0
@@ -54,19 +54,25 @@ quiet_stays b (action.Connect m host port) may h some l q = absurd (some (h.open
 quiet_stays b (action.Timer t ms what) may h some l q = mine_keeps (IsQuiet []) (is_renewal_of l what) (b.link l) times (λ t. record { quiet = q.quiet; tells = q.tells }) q
 quiet_stays b (action.Took owner.Setup m count) may h some l q = absurd may
 quiet_stays b (action.Took owner.Auth m count) may h some l q = absurd may
+quiet_stays b (action.Took owner.Monitor m count) may h some l q = absurd may
 quiet_stays b (action.Took (owner.Try n round) m count) may h some l q = q
 quiet_stays b (action.Push m info) may h some l q = push_keeps (IsQuiet []) (m == l) info.kind (b.link l) (record { quiet = q.quiet; tells = q.tells }) (record { quiet = q.quiet; tells = q.tells }) q
+quiet_stays b (action.Message msg) may h some l q = tell_keeps (IsQuiet []) (current b == l) (b.link l) (record { quiet = q.quiet; tells = q.tells }) q
+quiet_stays b (action.Monitor v) may h some l q = tell_keeps (IsQuiet []) (current b == l) (b.link l) (record { quiet = q.quiet; tells = q.tells }) q
 quiet_stays b (action.NeedCreds c m) may h some l q = mine_keeps (IsQuiet []) (m == l) (b.link l) sources (λ t. record { quiet = q.quiet; tells = q.tells }) q
 quiet_stays b (action.Close m) may h some l q = mine_keeps (IsQuiet []) (m == l) (b.link l) (ends (b.turns - 1)) (λ t. ends_quiet [] (b.link l) (b.turns - 1) q) q
 quiet_stays b (action.Write m bytes) may h some l q = mine_keeps (IsQuiet []) (m == l) (b.link l) (offers bytes) (λ t. record { quiet = q.quiet; tells = q.tells }) q
 quiet_stays b (action.Wait owner.Setup kind) may h some l q = absurd may
 quiet_stays b (action.Wait owner.Auth kind) may h some l q = absurd may
+quiet_stays b (action.Wait owner.Monitor kind) may h some l q = absurd may
 quiet_stays b (action.Wait (owner.Try n round) kind) may h some l q = q
 quiet_stays b (action.Start m k owner.Setup count len) may h some l q =
     mine_keeps (IsQuiet []) (m == l) (b.link l) (begins (message_of b m owner.Setup))
     (λ t. absurd (let due : setup_due (b.link l) ≡ Some may.k = ap (λ j. setup_due (b.link j)) (sym (eq_from m l t)) ∙ may.due in set_is_undue (b.link l) may.k (q.quiet.1 (due_is_up (b.link l) may.k due)) due)) q
 quiet_stays b (action.Start m k owner.Auth count len) may h some l q =
     mine_keeps (IsQuiet []) (m == l) (b.link l) (begins (message_of b m owner.Auth)) (λ t. begins_quiet [] (b.link l) (message_of b m owner.Auth) refl q) q
+quiet_stays b (action.Start m k owner.Monitor count len) may h some l q =
+    mine_keeps (IsQuiet []) (m == l) (b.link l) (begins (message_of b m owner.Monitor)) (λ t. begins_quiet [] (b.link l) (message_of b m owner.Monitor) refl q) q
 quiet_stays b (action.Start m k (owner.Try n round) count len) may h some l q =
     mine_keeps (IsQuiet []) (m == l) (b.link l) (begins (message_of b m (owner.Try n round))) (λ t. begins_quiet [] (b.link l) (message_of b m (owner.Try n round)) refl q) q
 quiet_stays b (action.Created e) may h some l q = q
@@ -112,6 +118,8 @@ clock_before b (action.Connect m host port) may h run n c = run.asked n c
 clock_before b (action.Timer t ms what) may h run n c = elim (clock_more n b.timers what c) [ inl before ↦ run.asked n before | inr new ↦ new_clock b t ms what n h may new ]
 clock_before b (action.Took who m count) may h run n c = run.asked n c
 clock_before b (action.Push m info) may h run n c = run.asked n c
+clock_before b (action.Message msg) may h run n c = run.asked n c
+clock_before b (action.Monitor v) may h run n c = run.asked n c
 clock_before b (action.NeedCreds s m) may h run n c = run.asked n c
 clock_before b (action.Close m) may h run n c = run.asked n c
 clock_before b (action.Write m bytes) may h run n c = run.asked n c
@@ -141,6 +149,7 @@ event_over b n (event.Timeout ms) = λ e. inl e
 event_over b n (event.Creds c auth) = λ e. inl e
 event_over b n (event.CredsError c text) = λ e. inl e
 event_over b n (event.CredsEnd c) = λ e. inl e
+event_over b n event.DropStream = λ e. inl e
 event_over b n event.Shutdown = λ e. inl e
 
 -- and behind each action
@@ -151,16 +160,21 @@ over_before b (action.Connect m host port) n = λ e. inl e
 over_before b (action.Timer t ms what) n = chosen (WasOver b n) (is_clock_of n (Some what)) (clocked (b.story n) t) (b.story n) (λ c e. inl e) (λ f e. inl e)
 over_before b (action.Took owner.Setup l count) n = λ e. inl e
 over_before b (action.Took owner.Auth l count) n = λ e. inl e
+over_before b (action.Took owner.Monitor l count) n = λ e. inl e
 over_before b (action.Took (owner.Try m round) l count) n = chosen (WasOver b n) (m == n) (holds (b.story n) count) (b.story n) (λ t e. inl e) (λ f e. inl e)
 over_before b (action.Push m info) n = λ e. inl e
+over_before b (action.Message msg) n = λ e. inl e
+over_before b (action.Monitor v) n = λ e. inl e
 over_before b (action.NeedCreds c m) n = λ e. inl e
 over_before b (action.Close m) n = λ e. inl e
 over_before b (action.Write m bytes) n = λ e. inl e
 over_before b (action.Wait owner.Setup kind) n = λ e. inl e
 over_before b (action.Wait owner.Auth kind) n = λ e. inl e
+over_before b (action.Wait owner.Monitor kind) n = λ e. inl e
 over_before b (action.Wait (owner.Try m round) kind) n = chosen (WasOver b n) (m == n) (waits (b.story n) kind) (b.story n) (λ t e. inl e) (λ f e. inl e)
 over_before b (action.Start l k owner.Setup count len) n = λ e. inl e
 over_before b (action.Start l k owner.Auth count len) n = λ e. inl e
+over_before b (action.Start l k owner.Monitor count len) n = λ e. inl e
 over_before b (action.Start l k (owner.Try m round) count len) n = chosen (WasOver b n) (m == n) (tried (b.story n) l k) (b.story n) (λ t e. inl e) (λ f e. inl e)
 over_before b (action.Created x) n = λ e. inl e
 over_before b (action.Outcome m o) n = chosen (WasOver b n) (m == n) (answered (b.story n) o) (b.story n) (λ t e. inl e) (λ f e. inl e)

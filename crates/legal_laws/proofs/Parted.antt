@@ -4,7 +4,6 @@ use Rattle.std.proofs.lemmas.List.{append-nil}
 use Rattle.containers.proofs.Choices.{by_test, chosen, if_true, left_if, eq_from, eq_test, not_both}
 use Rattle.redis_error.specs.declared.redis_error.RedisError.{RedisError}
 use Rattle.redis_error.specs.declared.redis_error.RedisError.TheVariants as error
-use Rattle.resp_read.specs.Values.{is_spoiled}
 use Rattle.driver_model.specs.declared.action.Action.{Action}
 use Rattle.driver_model.specs.declared.action.Action.TheVariants as action
 use Rattle.driver_model.specs.declared.action.Cause.TheVariants as cause
@@ -13,11 +12,12 @@ use Rattle.driver_model.specs.declared.config.Config.{Config}
 use Rattle.driver_model.specs.declared.event.Event.{Event}
 use Rattle.driver_model.specs.declared.outcome.Outcome.{Outcome}
 use Rattle.driver_model.specs.declared.push_info.PushInfo.{PushInfo}
-use Rattle.driver_model.specs.News.{News, silence, connected, refused, overdue, took, came, failed, shut, news_of, authorized, denied, deserted, renewed, unrenewed, late}
+use Rattle.driver_model.specs.declared.news.LinkFault.TheVariants as fault
+use Rattle.driver_model.specs.News.{News, silence, connected, refused, overdue, took, came, failed, dropped, shut, news_of, authorized, denied, deserted, renewed, unrenewed, late}
 use Rattle.driver_model.specs.Push.{is_disconnection}
-use Rattle.legal_trace.specs.Ledger.{Ledger, Line, End, Ending, by_opening, asks, hears, begins, offers, tells, ends, parts, noted, noted_each, with_news, refused_in, bytes_came, is_over, is_fault, is_cut, is_set_up, setup_result, error_in, dials, ending, ending_alive, ending_by, ending_unready, ending_asked, ending_or_shutdown, MayNote, AllNoted, sources, lacks_credentials, awaits_credentials, authorized_by, times, may_renew, renewed_by, unrenewed_by, is_renewal_open, lost_by}
-use Rattle.legal_trace.specs.Book.{Book, blank_book, book, entered, entered_each, push_line, info_in, message_of, lines_of_each, wanted_in, is_renewal_of}
-use Rattle.legal_trace.specs.Legal.{MayStand, MayAnswer, MayTell, MayPart, AllStand, is_heard, is_heard_in, Legal}
+use Rattle.legal_trace.specs.Ledger.{Ledger, Line, End, Ending, by_opening, asks, hears, begins, offers, tells, ends, parts, noted, noted_each, with_news, refused_in, bytes_came, is_over, is_fault, is_cut, is_set_up, setup_result, error_in, dials, ending, ending_alive, ending_by, ending_unready, ending_asked, ending_or_shutdown, MayNote, AllNoted, sources, lacks_credentials, awaits_credentials, authorized_by, times, may_renew, renewed_by, unrenewed_by, is_renewal_open, lost_by, is_unreadable, opening_error}
+use Rattle.legal_trace.specs.Book.{Book, blank_book, book, entered, entered_each, push_line, info_in, message_of, lines_of_each, wanted_in, is_renewal_of, hearing_in, current}
+use Rattle.legal_trace.specs.Legal.{MayStand, MayAnswer, MayTell, MayPart, AllStand, are_pushes_heard, Legal}
 use Rattle.legal_trace.proofs.Books.{stand_front, stand_behind}
 use Rattle.legal_trace.proofs.Renewals.{renewal_is_up}
 use Rattle.legal_trace.proofs.Sources.{awaits_up}
@@ -25,16 +25,19 @@ use Rattle.legal_trace.proofs.Ledgers.{each_keeps, mine_keeps, UpIsNotOver, up_k
 use Rattle.legal_trace.proofs.Moves.{mover_is_up, starter_moves, teller_moves}
 use Rattle.legal_trace.proofs.Plain.{none_from, not_none}
 use Rattle.legal_trace.proofs.Setups.{due_is_up}
+use Rattle.legal_trace.proofs.Came.{holds_bytes}
 use Rattle.legal_laws.specs.Pushes.{Disconnects, IsClosed, TellsEnds}
 use Rattle.legal_laws.proofs.Bounds.{ready_behind, applied_began}
 use Rattle.legal_laws.proofs.Configured.{config_kept}
 use Rattle.legal_laws.proofs.Lines.{told_behind}
 use Rattle.legal_laws.proofs.Links.{each_may}
 use Rattle.legal_laws.proofs.Numbers.{open_is_numbered}
-use Rattle.legal_laws.proofs.Pushed.{push_keeps}
-use Rattle.legal_laws.proofs.Pushes.{parting_of}
+use Rattle.legal_laws.proofs.Pushed.{push_keeps, tell_keeps}
+use Rattle.legal_laws.proofs.Notices.{parting_of}
 use Rattle.legal_laws.proofs.Quiet.{over_stays}
 use Rattle.legal_laws.proofs.Sound.{Sound, stays_sound, blank_is_sound, sound_behind}
+use Rattle.driver_model.specs.Hearing.{hears_messages, hears_pushes}
+use Rattle.legal_trace.proofs.Watching.{watch_is_up}
 
 -- what a test says of books, which it didn't at first, it says by one of the actions
 pub record Comes (test : Book → Bool) (b : Book) (trace : List Action) : Type 0 where
@@ -60,7 +63,7 @@ hears_parted l turn connected = chosen (λ (x : Ledger). x.parted ≡ l.parted) 
 hears_parted l turn (refused f) = chosen (λ (x : Ledger). x.parted ≡ l.parted) (dials l) (refused_in l turn (error.Io f)) l (λ t. refl) (λ e. refl)
 hears_parted l turn overdue = refl
 hears_parted l turn (took count) = chosen (λ (x : Ledger). x.parted ≡ l.parted) l.up (record l { taken = l.taken ++ take count l.offer; offer = [] }) l (λ t. refl) (λ e. refl)
-hears_parted l turn (came piece) = chosen (λ (x : Ledger). x.parted ≡ l.parted) l.up (bytes_came l piece) l (λ t. refl) (λ e. refl)
+hears_parted l turn (came piece) = chosen (λ (x : Ledger). x.parted ≡ l.parted) l.up (bytes_came l piece) l (λ t. holds_bytes (λ (x : Ledger). x.parted ≡ l.parted) l piece (λ rest strange told more. refl)) (λ e. refl)
 hears_parted l turn (failed f) = refl
 hears_parted l turn (authorized c) = chosen (λ (x : Ledger). x.parted ≡ l.parted) (awaits_credentials l) (authorized_by l c) l (λ t. refl) (λ e. refl)
 hears_parted l turn (denied text) = refl
@@ -68,6 +71,7 @@ hears_parted l turn deserted = refl
 hears_parted l turn (renewed c) = chosen (λ (x : Ledger). x.parted ≡ l.parted) (may_renew l) (renewed_by l c) l (λ t. refl) (λ e. refl)
 hears_parted l turn unrenewed = chosen (λ (x : Ledger). x.parted ≡ l.parted) l.up (unrenewed_by l) l (λ t. refl) (λ e. refl)
 hears_parted l turn (late k) = chosen (λ (x : Ledger). x.parted ≡ l.parted) (l.up && is_renewal_open l k) (lost_by l) l (λ t. refl) (λ e. refl)
+hears_parted l turn dropped = refl
 hears_parted l turn shut = refl
 
 -- the end of that link was told
@@ -76,7 +80,7 @@ WasParted l = l.parted ≡ true
 
 -- so it stays
 parted_keeps : (l : Ledger) (x : Line) → WasParted l → WasParted (noted l x)
-parted_keeps l (asks info wanted) h = h
+parted_keeps l (asks info wanted hearing) h = h
 parted_keeps l (hears turn news) h = hears_parted l turn news ∙ h
 parted_keeps l (begins s) h = h
 parted_keeps l (offers bytes) h = h
@@ -105,7 +109,7 @@ parted_by b l (action.Push m info) not_yet then_is =
     (λ e. absurd (not_both (b.link l).parted not_yet e)) then_is
 parted_by b l (action.Turn k (cause.Opening config word)) not_yet then_is = absurd (not_both (b.link l).parted not_yet then_is)
 parted_by b l (action.Turn k (cause.Event e)) not_yet then_is = absurd (not_both (b.link l).parted not_yet (sym (hears_parted (b.link l) k (news_of b.timers b.sources l e.kind)) ∙ then_is))
-parted_by b l (action.Connect m host port) not_yet then_is = absurd (not_both (b.link l).parted not_yet (mine_keeps (λ (x : Ledger). WasParted x → WasParted (b.link l)) (m == l) (b.link l) (asks (info_in b.config) (wanted_in b.config)) (λ t e. e) (λ e. e) then_is))
+parted_by b l (action.Connect m host port) not_yet then_is = absurd (not_both (b.link l).parted not_yet (mine_keeps (λ (x : Ledger). WasParted x → WasParted (b.link l)) (m == l) (b.link l) (asks (info_in b.config) (wanted_in b.config) (hearing_in b.config)) (λ t e. e) (λ e. e) then_is))
 parted_by b l (action.Timer t ms what) not_yet then_is = absurd (not_both (b.link l).parted not_yet (mine_keeps (λ (x : Ledger). WasParted x → WasParted (b.link l)) (is_renewal_of l what) (b.link l) times (λ t e. e) (λ e. e) then_is))
 parted_by b l (action.Took who m count) not_yet then_is = absurd (not_both (b.link l).parted not_yet then_is)
 parted_by b l (action.NeedCreds c m) not_yet then_is = absurd (not_both (b.link l).parted not_yet (mine_keeps (λ (x : Ledger). WasParted x → WasParted (b.link l)) (m == l) (b.link l) sources (λ t e. e) (λ e. e) then_is))
@@ -113,6 +117,8 @@ parted_by b l (action.Close m) not_yet then_is = absurd (not_both (b.link l).par
 parted_by b l (action.Write m bytes) not_yet then_is = absurd (not_both (b.link l).parted not_yet (mine_keeps (λ (x : Ledger). WasParted x → WasParted (b.link l)) (m == l) (b.link l) (offers bytes) (λ t e. e) (λ e. e) then_is))
 parted_by b l (action.Wait who kind) not_yet then_is = absurd (not_both (b.link l).parted not_yet then_is)
 parted_by b l (action.Start m k who count len) not_yet then_is = absurd (not_both (b.link l).parted not_yet (mine_keeps (λ (x : Ledger). WasParted x → WasParted (b.link l)) (m == l) (b.link l) (begins (message_of b m who)) (λ t e. e) (λ e. e) then_is))
+parted_by b l (action.Message msg) not_yet then_is = absurd (not_both (b.link l).parted not_yet (tell_keeps (λ (x : Ledger). WasParted x → WasParted (b.link l)) (current b == l) (b.link l) (λ e. e) (λ e. e) then_is))
+parted_by b l (action.Monitor v) not_yet then_is = absurd (not_both (b.link l).parted not_yet (tell_keeps (λ (x : Ledger). WasParted x → WasParted (b.link l)) (current b == l) (b.link l) (λ e. e) (λ e. e) then_is))
 parted_by b l (action.Created e) not_yet then_is = absurd (not_both (b.link l).parted not_yet then_is)
 parted_by b l (action.Outcome n o) not_yet then_is = absurd (not_both (b.link l).parted not_yet then_is)
 
@@ -127,7 +133,7 @@ hears_cut l turn connected = chosen (λ (x : Ledger). IsCut x → IsCut l) (is_o
 hears_cut l turn (refused f) = chosen (λ (x : Ledger). IsCut x → IsCut l) (dials l) (refused_in l turn (error.Io f)) l (λ t e. absurd (cc e)) (λ n e. e)
 hears_cut l turn overdue = λ e. e
 hears_cut l turn (took count) = chosen (λ (x : Ledger). IsCut x → IsCut l) l.up (record l { taken = l.taken ++ take count l.offer; offer = [] }) l (λ t e. e) (λ f e. e)
-hears_cut l turn (came piece) = chosen (λ (x : Ledger). IsCut x → IsCut l) l.up (bytes_came l piece) l (λ t e. e) (λ f e. e)
+hears_cut l turn (came piece) = chosen (λ (x : Ledger). IsCut x → IsCut l) l.up (bytes_came l piece) l (λ t. holds_bytes (λ (x : Ledger). IsCut x → IsCut l) l piece (λ rest strange told more e. e)) (λ f e. e)
 hears_cut l turn (failed f) = λ e. e
 hears_cut l turn (authorized c) = chosen (λ (x : Ledger). IsCut x → IsCut l) (awaits_credentials l) (authorized_by l c) l (λ t e. e) (λ f e. e)
 hears_cut l turn (denied text) = λ e. e
@@ -135,6 +141,7 @@ hears_cut l turn deserted = λ e. e
 hears_cut l turn (renewed c) = chosen (λ (x : Ledger). IsCut x → IsCut l) (may_renew l) (renewed_by l c) l (λ t e. e) (λ f e. e)
 hears_cut l turn unrenewed = chosen (λ (x : Ledger). IsCut x → IsCut l) l.up (unrenewed_by l) l (λ t e. e) (λ f e. e)
 hears_cut l turn (late k) = chosen (λ (x : Ledger). IsCut x → IsCut l) (l.up && is_renewal_open l k) (lost_by l) l (λ t e. e) (λ f e. e)
+hears_cut l turn dropped = λ e. e
 hears_cut l turn shut = λ e. e
 
 -- it is closed then
@@ -144,9 +151,11 @@ cut_by b l (action.Close m) not_yet then_is =
     mine_keeps (λ (x : Ledger). IsCut x → action.Close m ≡ action.Close l) (m == l) (b.link l) (ends (b.turns - 1))
     (λ t e. ap action.Close (eq_from m l t)) (λ e. absurd (not_both (is_cut (b.link l).end) not_yet e)) then_is
 cut_by b l (action.Push m info) not_yet then_is = absurd (not_both (is_cut (b.link l).end) not_yet (push_keeps (λ (x : Ledger). IsCut x → IsCut (b.link l)) (m == l) info.kind (b.link l) (λ e. e) (λ e. e) (λ e. e) then_is))
+cut_by b l (action.Message msg) not_yet then_is = absurd (not_both (is_cut (b.link l).end) not_yet (tell_keeps (λ (x : Ledger). IsCut x → IsCut (b.link l)) (current b == l) (b.link l) (λ e. e) (λ e. e) then_is))
+cut_by b l (action.Monitor v) not_yet then_is = absurd (not_both (is_cut (b.link l).end) not_yet (tell_keeps (λ (x : Ledger). IsCut x → IsCut (b.link l)) (current b == l) (b.link l) (λ e. e) (λ e. e) then_is))
 cut_by b l (action.Turn k (cause.Opening config word)) not_yet then_is = absurd (not_both (is_cut (b.link l).end) not_yet then_is)
 cut_by b l (action.Turn k (cause.Event e)) not_yet then_is = absurd (not_both (is_cut (b.link l).end) not_yet (hears_cut (b.link l) k (news_of b.timers b.sources l e.kind) then_is))
-cut_by b l (action.Connect m host port) not_yet then_is = absurd (not_both (is_cut (b.link l).end) not_yet (mine_keeps (λ (x : Ledger). IsCut x → IsCut (b.link l)) (m == l) (b.link l) (asks (info_in b.config) (wanted_in b.config)) (λ t e. e) (λ e. e) then_is))
+cut_by b l (action.Connect m host port) not_yet then_is = absurd (not_both (is_cut (b.link l).end) not_yet (mine_keeps (λ (x : Ledger). IsCut x → IsCut (b.link l)) (m == l) (b.link l) (asks (info_in b.config) (wanted_in b.config) (hearing_in b.config)) (λ t e. e) (λ e. e) then_is))
 cut_by b l (action.Timer t ms what) not_yet then_is = absurd (not_both (is_cut (b.link l).end) not_yet (mine_keeps (λ (x : Ledger). IsCut x → IsCut (b.link l)) (is_renewal_of l what) (b.link l) times (λ t e. e) (λ e. e) then_is))
 cut_by b l (action.Took who m count) not_yet then_is = absurd (not_both (is_cut (b.link l).end) not_yet then_is)
 cut_by b l (action.Write m bytes) not_yet then_is = absurd (not_both (is_cut (b.link l).end) not_yet (mine_keeps (λ (x : Ledger). IsCut x → IsCut (b.link l)) (m == l) (b.link l) (offers bytes) (λ t e. e) (λ e. e) then_is))
@@ -173,7 +182,7 @@ unready_faults_not l connected = refl
 unready_faults_not l (refused f) = refl
 unready_faults_not l overdue = refl
 unready_faults_not l (took count) = refl
-unready_faults_not l (came piece) = chosen NoFault (is_spoiled l.rest) (Some (by_opening error.Closed)) None (λ t. refl) (λ f. refl)
+unready_faults_not l (came piece) = chosen NoFault (is_unreadable l) (Some (by_opening (opening_error l fault.Parse))) None (λ t. refl) (λ f. refl)
 unready_faults_not l (failed f) = refl
 unready_faults_not l (authorized c) = refl
 unready_faults_not l (denied text) = chosen NoFault (lacks_credentials l) (Some (by_opening (error.Credentials text))) None (λ t. refl) (λ f. refl)
@@ -181,24 +190,26 @@ unready_faults_not l deserted = chosen NoFault (lacks_credentials l) (Some (by_o
 unready_faults_not l (renewed c) = refl
 unready_faults_not l unrenewed = refl
 unready_faults_not l (late k) = refl
+unready_faults_not l dropped = chosen NoFault (hears_messages l.hearing) (Some (by_opening error.Closed)) None (λ t. refl) (λ f. refl)
 unready_faults_not l shut = refl
 
 -- nor is what ends one whose connect isn't answered
-asked_faults_not : (news : News) → NoFault (ending_asked news)
-asked_faults_not silence = refl
-asked_faults_not connected = refl
-asked_faults_not (refused f) = refl
-asked_faults_not overdue = refl
-asked_faults_not (took count) = refl
-asked_faults_not (came piece) = refl
-asked_faults_not (failed f) = refl
-asked_faults_not (authorized c) = refl
-asked_faults_not (denied text) = refl
-asked_faults_not deserted = refl
-asked_faults_not (renewed c) = refl
-asked_faults_not unrenewed = refl
-asked_faults_not (late k) = refl
-asked_faults_not shut = refl
+asked_faults_not : (l : Ledger) (news : News) → NoFault (ending_asked l news)
+asked_faults_not l silence = refl
+asked_faults_not l connected = refl
+asked_faults_not l (refused f) = refl
+asked_faults_not l overdue = refl
+asked_faults_not l (took count) = refl
+asked_faults_not l (came piece) = refl
+asked_faults_not l (failed f) = refl
+asked_faults_not l (authorized c) = refl
+asked_faults_not l (denied text) = refl
+asked_faults_not l deserted = refl
+asked_faults_not l (renewed c) = refl
+asked_faults_not l unrenewed = refl
+asked_faults_not l (late k) = refl
+asked_faults_not l dropped = chosen NoFault (hears_messages l.hearing) (Some (by_opening error.Closed)) None (λ t. refl) (λ f. refl)
+asked_faults_not l shut = refl
 
 -- nor is a setup that failed
 by_faults_not : (failure : Option RedisError) (other : Option Ending) → NoFault other → NoFault (ending_by failure other)
@@ -209,9 +220,9 @@ by_faults_not (Some e) other h = refl
 fault_is_set : (l : Ledger) → is_fault (ending_or_shutdown (ending l)) ≡ true → is_set_up l ≡ true
 fault_is_set l faults = by_test (is_set_up l) (is_set_up l ≡ true) (λ t. t)
     (λ f. absurd (not_both (is_fault (ending_or_shutdown (ending l)))
-    (chosen NoFault l.up (ending_alive l) (if l.asked && not (is_over l) then ending_asked l.heard else None)
+    (chosen NoFault l.up (ending_alive l) (if l.asked && not (is_over l) then ending_asked l l.heard else None)
     (λ u. subst NoFault (sym (left_if (is_set_up l) _ (ending_by (error_in (setup_result l)) (ending_unready l l.heard)) f)) (by_faults_not (error_in (setup_result l)) (ending_unready l l.heard) (unready_faults_not l l.heard)))
-    (λ d. chosen NoFault (l.asked && not (is_over l)) (ending_asked l.heard) None (λ t. asked_faults_not l.heard) (λ n. refl))) faults))
+    (λ d. chosen NoFault (l.asked && not (is_over l)) (ending_asked l l.heard) None (λ t. asked_faults_not l l.heard) (λ n. refl))) faults))
 
 -- a link that a fault ended was set up
 abbrev CutIsSet : Ledger → Type 0
@@ -228,7 +239,7 @@ hears_set l turn connected up h = chosen CutIsSet (is_over l) l (record l { up =
 hears_set l turn (refused f) up h = chosen CutIsSet (dials l) (refused_in l turn (error.Io f)) l (λ t e. absurd (cc e)) (λ n. h)
 hears_set l turn overdue up h = h
 hears_set l turn (took count) up h = chosen CutIsSet l.up (record l { taken = l.taken ++ take count l.offer; offer = [] }) l (λ t. h) (λ e. h)
-hears_set l turn (came piece) up h = chosen CutIsSet l.up (bytes_came l piece) l (λ t cut. absurd (lives_uncut l (up t) cut)) (λ e. h)
+hears_set l turn (came piece) up h = chosen CutIsSet l.up (bytes_came l piece) l (λ t. holds_bytes CutIsSet l piece (λ rest strange told more cut. absurd (lives_uncut l (up t) cut))) (λ e. h)
 hears_set l turn (failed f) up h = h
 hears_set l turn (authorized c) up h = chosen CutIsSet (awaits_credentials l) (authorized_by l c) l (λ t cut. absurd (lives_uncut l (up (awaits_up l t)) cut)) (λ e. h)
 hears_set l turn (denied text) up h = h
@@ -236,29 +247,36 @@ hears_set l turn deserted up h = h
 hears_set l turn (renewed c) up h = chosen CutIsSet (may_renew l) (renewed_by l c) l (λ t. h) (λ e. h)
 hears_set l turn unrenewed up h = chosen CutIsSet l.up (unrenewed_by l) l (λ t. h) (λ e. h)
 hears_set l turn (late k) up h = chosen CutIsSet (l.up && is_renewal_open l k) (lost_by l) l (λ t. h) (λ e. h)
+hears_set l turn dropped up h = h
 hears_set l turn shut up h = h
 
 -- and with each action that may stand
 set_kept : (b : Book) (l : ℕ) (a : Action) → MayStand b a → Sound b → CutIsSet (b.link l) → CutIsSet ((entered b a).link l)
 set_kept b l (action.Turn k (cause.Opening config word)) may s h = h
 set_kept b l (action.Turn k (cause.Event e)) may s h = hears_set (b.link l) k (news_of b.timers b.sources l e.kind) (s.up l) h
-set_kept b l (action.Connect m host port) may s h = mine_keeps CutIsSet (m == l) (b.link l) (asks (info_in b.config) (wanted_in b.config))
+set_kept b l (action.Connect m host port) may s h = mine_keeps CutIsSet (m == l) (b.link l) (asks (info_in b.config) (wanted_in b.config) (hearing_in b.config))
     (λ t cut. let e : m ≡ l = eq_from m l t in let next : m ≡ b.links = may.next in absurd (lives_uncut (b.link l) (s.links.unasked l (omega (arith, e, next))).2 cut)) h
 set_kept b l (action.Timer t ms what) may s h = mine_keeps CutIsSet (is_renewal_of l what) (b.link l) times (λ t. h) h
 set_kept b l (action.Took owner.Setup m count) may s h = absurd may
 set_kept b l (action.Took owner.Auth m count) may s h = absurd may
+set_kept b l (action.Took owner.Monitor m count) may s h = absurd may
 set_kept b l (action.Took (owner.Try n round) m count) may s h = h
 set_kept b l (action.Push m info) may s h = push_keeps CutIsSet (m == l) info.kind (b.link l) h h h
+set_kept b l (action.Message msg) may s h = tell_keeps CutIsSet (current b == l) (b.link l) h h
+set_kept b l (action.Monitor v) may s h = tell_keeps CutIsSet (current b == l) (b.link l) h h
 set_kept b l (action.NeedCreds c m) may s h = mine_keeps CutIsSet (m == l) (b.link l) sources (λ t. h) h
 set_kept b l (action.Close m) may s h = mine_keeps CutIsSet (m == l) (b.link l) (ends (b.turns - 1)) (λ t cut. fault_is_set (b.link l) cut) h
 set_kept b l (action.Write m bytes) may s h = mine_keeps CutIsSet (m == l) (b.link l) (offers bytes) (λ t. h) h
 set_kept b l (action.Wait owner.Setup kind) may s h = absurd may
 set_kept b l (action.Wait owner.Auth kind) may s h = absurd may
+set_kept b l (action.Wait owner.Monitor kind) may s h = absurd may
 set_kept b l (action.Wait (owner.Try n round) kind) may s h = h
 set_kept b l (action.Start m k owner.Setup count len) may s h = mine_keeps CutIsSet (m == l) (b.link l) (begins (message_of b m owner.Setup))
     (λ t cut. absurd (lives_uncut (b.link l) (s.up l (subst (λ j. (b.link j).up ≡ true) (eq_from m l t) (due_is_up (b.link m) may.k may.due))) cut)) h
 set_kept b l (action.Start m k owner.Auth count len) may s h = mine_keeps CutIsSet (m == l) (b.link l) (begins (message_of b m owner.Auth))
     (λ t cut. absurd (lives_uncut (b.link l) (s.up l (subst (λ j. (b.link j).up ≡ true) (eq_from m l t) (renewal_is_up (b.link m) may.credentials may.due))) cut)) h
+set_kept b l (action.Start m k owner.Monitor count len) may s h = mine_keeps CutIsSet (m == l) (b.link l) (begins (message_of b m owner.Monitor))
+    (λ t cut. absurd (lives_uncut (b.link l) (s.up l (subst (λ j. (b.link j).up ≡ true) (eq_from m l t) (watch_is_up (b.link m) may.due))) cut)) h
 set_kept b l (action.Start m k (owner.Try n round) count len) may s h = mine_keeps CutIsSet (m == l) (b.link l) (begins (message_of b m (owner.Try n round)))
     (λ t cut. absurd (lives_uncut (b.link l) (s.up l (subst (λ j. (b.link j).up ≡ true) (sym may.1.on_its_link ∙ eq_from m l t) (mover_is_up b n (starter_moves b m k n count len may.1)))) cut)) h
 set_kept b l (action.Created e) may s h = h
@@ -284,7 +302,7 @@ end_hears end l turn connected h = chosen (EndedAs end) (is_over l) l (record l 
 end_hears end l turn (refused f) h = chosen (EndedAs end) (dials l) (refused_in l turn (error.Io f)) l (λ t. absurd (not_none l.end end (none_from l.end (dials_from l t).2) h)) (λ n. h)
 end_hears end l turn overdue h = h
 end_hears end l turn (took count) h = chosen (EndedAs end) l.up (record l { taken = l.taken ++ take count l.offer; offer = [] }) l (λ t. h) (λ e. h)
-end_hears end l turn (came piece) h = chosen (EndedAs end) l.up (bytes_came l piece) l (λ t. h) (λ e. h)
+end_hears end l turn (came piece) h = chosen (EndedAs end) l.up (bytes_came l piece) l (λ t. holds_bytes (EndedAs end) l piece (λ rest strange told more. h)) (λ e. h)
 end_hears end l turn (failed f) h = h
 end_hears end l turn (authorized c) h = chosen (EndedAs end) (awaits_credentials l) (authorized_by l c) l (λ t. h) (λ e. h)
 end_hears end l turn (denied text) h = h
@@ -292,11 +310,12 @@ end_hears end l turn deserted h = h
 end_hears end l turn (renewed c) h = chosen (EndedAs end) (may_renew l) (renewed_by l c) l (λ t. h) (λ e. h)
 end_hears end l turn unrenewed h = chosen (EndedAs end) l.up (unrenewed_by l) l (λ t. h) (λ e. h)
 end_hears end l turn (late k) h = chosen (EndedAs end) (l.up && is_renewal_open l k) (lost_by l) l (λ t. h) (λ e. h)
+end_hears end l turn dropped h = h
 end_hears end l turn shut h = h
 
 -- nor any line that may stand
 end_noted : (end : End) (l : Ledger) (x : Line) → MayNote l x → UpIsNotOver l → EndedAs end l → EndedAs end (noted l x)
-end_noted end l (asks info wanted) may up h = h
+end_noted end l (asks info wanted hearing) may up h = h
 end_noted end l (hears turn news) may up h = end_hears end l turn news h
 end_noted end l (begins s) may up h = h
 end_noted end l (offers bytes) may up h = h
@@ -348,7 +367,7 @@ first_behind b middle more a l n o sound all is on over = of_outcome all.0
         let cut : IsCut (b.link l) = ap is_cut e.1 ∙ (sym (ap is_cut stays) ∙ part.1.ended) in
         let numbered : n < b.submissions = open_is_numbered b n sound.stories owes.asked in
         let some : b.turns ≢ 0 = λ none. let empty : b.submissions ≡ 0 = sound.opens.none_yet (omega (arith, none)) in omega (arith, numbered, empty) in
-        let heard : is_heard b ≡ true = sym (ap is_heard_in (config_kept b (answer ∷ middle) front some)) ∙ part.1.heard in
+        let heard : are_pushes_heard b ≡ true = sym (ap (λ config. hears_pushes (hearing_in config)) (config_kept b (answer ∷ middle) front some)) ∙ part.1.heard in
         let told : WasParted (b.link l) = (owes.after_closes (ap (λ j. is_over (b.link j)) on ∙ over)).3 l heard cut in
         not_both ((entered_each (entered b answer) middle).link l).parted part.1.once (parted_stays (entered b answer) l middle told)
     of_outcome (inr told) =
@@ -376,7 +395,7 @@ tells_ends config word events trace h = record {
       let done = h.settled.written.moved.begun.applied in
       let sound : Sound (book trace) = sound_behind trace h.each in
       let ready = ready_behind config word events trace [] (subst (Legal config word events) (sym (append-nil trace)) h) in
-      let heard : is_heard (book trace) ≡ true = ap is_heard_in (ready.configured (applied_began (book trace) sound done)) ∙ hears in
+      let heard : are_pushes_heard (book trace) ≡ true = ap (λ config. hears_pushes (hearing_in config)) (ready.configured (applied_began (book trace) sound done)) ∙ hears in
       let c = comes (λ (b : Book). (b.link l).parted) blank_book trace refl (done.parted l heard cut) in
       record { before = c.before; after = c.after; told = c.told; tells = parted_by (entered_each blank_book c.before) l c.told c.was c.is; splits = c.splits };
 }

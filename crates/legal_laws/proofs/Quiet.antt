@@ -5,13 +5,14 @@ use Rattle.containers.proofs.Choices.{by_test, chosen, taken_if, both_left, both
 use Rattle.redis_error.specs.declared.redis_error.RedisError.{RedisError}
 use Rattle.redis_error.specs.declared.redis_error.RedisError.TheVariants as error
 use Rattle.driver_model.specs.declared.news.LinkFault.TheVariants as fault
-use Rattle.driver_model.specs.News.{News, silence, connected, refused, overdue, took, came, failed, shut, authorized, denied, deserted, renewed, unrenewed, late}
-use Rattle.resp_read.specs.Values.{is_spoiled}
-use Rattle.legal_trace.specs.Ledger.{Ledger, Line, Start, End, Ending, is_of_setup, is_set_up, setup_result, error_in, ending_by, ending_unready, ending_alive, by_fault, asks, hears, begins, offers, tells, ends, parts, noted, noted_each, with_news, refused_in, bytes_came, is_over, dials, ending, ending_up, ending_asked, ending_or_shutdown, failure_of, failure_in, MayNote, AllNoted, sources, awaits_credentials, authorized_by, times, may_renew, renewed_by, unrenewed_by, is_renewal_open, lost_by}
+use Rattle.driver_model.specs.News.{News, silence, connected, refused, overdue, took, came, failed, dropped, shut, authorized, denied, deserted, renewed, unrenewed, late}
+use Rattle.legal_trace.specs.Ledger.{Ledger, Line, Start, End, Ending, is_of_setup, is_set_up, setup_result, error_in, ending_by, ending_unready, ending_alive, by_fault, asks, hears, begins, offers, tells, ends, parts, noted, noted_each, with_news, refused_in, bytes_came, is_over, dials, ending, ending_up, ending_asked, ending_or_shutdown, failure_of, failure_in, MayNote, AllNoted, sources, awaits_credentials, authorized_by, times, may_renew, renewed_by, unrenewed_by, is_renewal_open, lost_by, is_unreadable}
 use Rattle.legal_trace.proofs.Ledgers.{dials_from, UpIsNotOver, up_keeps}
 use Rattle.legal_trace.proofs.Plain.{none_from, not_none}
-use Rattle.legal_trace.proofs.Setups.{AreSetups, set_came, set_begins}
+use Rattle.legal_trace.proofs.Setups.{AreSetups, set_more, set_begins}
 use Rattle.legal_trace.proofs.Sources.{awaits_unset, awaits_up}
+use Rattle.legal_trace.proofs.Came.{holds_bytes}
+use Rattle.driver_model.specs.Hearing.{felt, hears_messages}
 
 -- its opening is over: its connect is not open, since it was not asked for, is up, or has ended; and where it is up it is set up
 abbrev pub Quiet : Ledger → Type 0
@@ -25,7 +26,7 @@ quiet_hears l turn connected asked shaped h = chosen Quiet (is_over l) l (record
 quiet_hears l turn (refused f) asked shaped h = chosen Quiet (dials l) (refused_in l turn (error.Io f)) l (λ t. (λ a u n. absurd (cc n), h.1)) (λ e. h)
 quiet_hears l turn overdue asked shaped h = h
 quiet_hears l turn (took count) asked shaped h = chosen Quiet l.up (record l { taken = l.taken ++ take count l.offer; offer = [] }) l (λ t. h) (λ e. h)
-quiet_hears l turn (came piece) asked shaped h = chosen Quiet l.up (bytes_came l piece) l (λ t. (h.0, λ u. set_came l piece shaped (h.1 u))) (λ e. h)
+quiet_hears l turn (came piece) asked shaped h = chosen Quiet l.up (bytes_came l piece) l (λ t. holds_bytes Quiet l piece (λ rest strange told more. (h.0, λ u. set_more l rest more shaped (h.1 u)))) (λ e. h)
 quiet_hears l turn (failed f) asked shaped h = h
 quiet_hears l turn (authorized c) asked shaped h = chosen Quiet (awaits_credentials l) (authorized_by l c) l
     (λ t. let lacks : is_set_up l ≡ true → ⊥ = awaits_unset l t in absurd (lacks (h.1 (awaits_up l t)))) (λ e. h)
@@ -34,6 +35,7 @@ quiet_hears l turn deserted asked shaped h = h
 quiet_hears l turn (renewed c) asked shaped h = chosen Quiet (may_renew l) (renewed_by l c) l (λ t. h) (λ e. h)
 quiet_hears l turn unrenewed asked shaped h = chosen Quiet l.up (unrenewed_by l) l (λ t. h) (λ e. h)
 quiet_hears l turn (late k) asked shaped h = chosen Quiet (l.up && is_renewal_open l k) (lost_by l) l (λ t. h) (λ e. h)
+quiet_hears l turn dropped asked shaped h = h
 quiet_hears l turn shut asked shaped h = h
 
 -- no opening fails by these
@@ -47,7 +49,7 @@ up_fails_not l connected = refl
 up_fails_not l (refused f) = refl
 up_fails_not l overdue = refl
 up_fails_not l (took count) = refl
-up_fails_not l (came piece) = chosen NoFailure (is_spoiled l.rest) (Some (by_fault fault.Parse)) None (λ t. refl) (λ f. refl)
+up_fails_not l (came piece) = chosen NoFailure (is_unreadable l) (Some (by_fault (felt l.hearing fault.Parse))) None (λ t. refl) (λ f. refl)
 up_fails_not l (failed f) = refl
 up_fails_not l (authorized c) = refl
 up_fails_not l (denied text) = refl
@@ -55,14 +57,15 @@ up_fails_not l deserted = refl
 up_fails_not l (renewed c) = refl
 up_fails_not l unrenewed = refl
 up_fails_not l (late k) = refl
+up_fails_not l dropped = chosen NoFailure (hears_messages l.hearing) (Some (by_fault fault.Ended)) None (λ t. refl) (λ f. refl)
 up_fails_not l shut = refl
 
 -- nor is what ends one whose connect is not open
 quiet_fails_not : (l : Ledger) → Quiet l → NoFailure (ending l)
 quiet_fails_not l h =
-    chosen NoFailure l.up (ending_alive l) (if l.asked && not (is_over l) then ending_asked l.heard else None)
+    chosen NoFailure l.up (ending_alive l) (if l.asked && not (is_over l) then ending_asked l l.heard else None)
     (λ t. subst NoFailure (sym (taken_if (is_set_up l) (ending_up l l.heard) (ending_by (error_in (setup_result l)) (ending_unready l l.heard)) (h.1 t))) (up_fails_not l l.heard))
-    (λ down. chosen NoFailure (l.asked && not (is_over l)) (ending_asked l.heard) None
+    (λ down. chosen NoFailure (l.asked && not (is_over l)) (ending_asked l l.heard) None
     (λ t. absurd (h.0 (both_left l.asked (not (is_over l)) t) down (none_from l.end (not-true (is_over l) (both_right l.asked (not (is_over l)) t)))))
     (λ f. refl))
 
@@ -84,7 +87,7 @@ tells_hears shown l turn (refused f) h =
     (λ e. h.tells)
 tells_hears shown l turn overdue h = h.tells
 tells_hears shown l turn (took count) h = chosen (Tells shown) l.up _ l (λ t. h.tells) (λ e. h.tells)
-tells_hears shown l turn (came piece) h = chosen (Tells shown) l.up (bytes_came l piece) l (λ t. h.tells) (λ e. h.tells)
+tells_hears shown l turn (came piece) h = chosen (Tells shown) l.up (bytes_came l piece) l (λ t. holds_bytes (Tells shown) l piece (λ rest strange told more. h.tells)) (λ e. h.tells)
 tells_hears shown l turn (failed f) h = h.tells
 tells_hears shown l turn (authorized c) h = chosen (Tells shown) (awaits_credentials l) (authorized_by l c) l (λ t. h.tells) (λ e. h.tells)
 tells_hears shown l turn (denied text) h = h.tells
@@ -92,6 +95,7 @@ tells_hears shown l turn deserted h = h.tells
 tells_hears shown l turn (renewed c) h = chosen (Tells shown) (may_renew l) (renewed_by l c) l (λ t. h.tells) (λ e. h.tells)
 tells_hears shown l turn unrenewed h = chosen (Tells shown) l.up (unrenewed_by l) l (λ t. h.tells) (λ e. h.tells)
 tells_hears shown l turn (late k) h = chosen (Tells shown) (l.up && is_renewal_open l k) (lost_by l) l (λ t. h.tells) (λ e. h.tells)
+tells_hears shown l turn dropped h = h.tells
 tells_hears shown l turn shut h = h.tells
 
 -- so it stays with a turn
@@ -112,9 +116,9 @@ begins_quiet shown l s request h = record { quiet = (h.quiet.0, λ u. set_begins
 -- what has ended ends no second time
 pub over_stays : (l : Ledger) (end : End) → UpIsNotOver l → l.end ≡ Some end → ending l ≡ None
 over_stays l end h over =
-    chosen (λ (x : Option Ending). x ≡ None) l.up (ending_alive l) (if l.asked && not (is_over l) then ending_asked l.heard else None)
+    chosen (λ (x : Option Ending). x ≡ None) l.up (ending_alive l) (if l.asked && not (is_over l) then ending_asked l l.heard else None)
     (λ t. absurd (not_none l.end end (h t) over))
-    (λ down. chosen (λ (x : Option Ending). x ≡ None) (l.asked && not (is_over l)) (ending_asked l.heard) None
+    (λ down. chosen (λ (x : Option Ending). x ≡ None) (l.asked && not (is_over l)) (ending_asked l l.heard) None
     (λ t. absurd (not_none l.end end (none_from l.end (not-true (is_over l) (both_right l.asked (not (is_over l)) t))) over))
     (λ f. refl))
 
@@ -137,7 +141,7 @@ failed_hears e l turn (refused f) h =
     (λ f. h)
 failed_hears e l turn overdue h = h
 failed_hears e l turn (took count) h = chosen (FailedWith e) l.up _ l (λ t. h) (λ f. h)
-failed_hears e l turn (came piece) h = chosen (FailedWith e) l.up (bytes_came l piece) l (λ t. h) (λ f. h)
+failed_hears e l turn (came piece) h = chosen (FailedWith e) l.up (bytes_came l piece) l (λ t. holds_bytes (FailedWith e) l piece (λ rest strange told more. h)) (λ f. h)
 failed_hears e l turn (failed f) h = h
 failed_hears e l turn (authorized c) h = chosen (FailedWith e) (awaits_credentials l) (authorized_by l c) l (λ t. h) (λ f. h)
 failed_hears e l turn (denied text) h = h
@@ -145,11 +149,12 @@ failed_hears e l turn deserted h = h
 failed_hears e l turn (renewed c) h = chosen (FailedWith e) (may_renew l) (renewed_by l c) l (λ t. h) (λ f. h)
 failed_hears e l turn unrenewed h = chosen (FailedWith e) l.up (unrenewed_by l) l (λ t. h) (λ f. h)
 failed_hears e l turn (late k) h = chosen (FailedWith e) (l.up && is_renewal_open l k) (lost_by l) l (λ t. h) (λ f. h)
+failed_hears e l turn dropped h = h
 failed_hears e l turn shut h = h
 
 -- with any line that may stand
 failed_noted : (e : RedisError) (l : Ledger) (x : Line) → MayNote l x → UpIsNotOver l → FailedWith e l → FailedWith e (noted l x)
-failed_noted e l (asks info wanted) may up h = h
+failed_noted e l (asks info wanted hearing) may up h = h
 failed_noted e l (hears turn news) may up h = failed_hears e l turn news h
 failed_noted e l (begins s) may up h = h
 failed_noted e l (offers bytes) may up h = h

@@ -12,11 +12,11 @@ use Rattle.driver_model.specs.declared.action.WaitKind.{WaitKind}
 use Rattle.driver_model.specs.Config.{connect_timeout}
 use Rattle.driver_model.specs.Push.{is_disconnection}
 use Rattle.driver_model.specs.declared.push_info.PushInfo.{PushInfo}
-use Rattle.legal_trace.specs.Ledger.{End, Ending, by_shutdown, by_fault, by_opening, failure_of, failure_in, is_fault, is_cut, is_over, IsOffered, ending, next_push, source_due, renewals_asked}
+use Rattle.legal_trace.specs.Ledger.{End, Ending, by_shutdown, by_fault, by_opening, failure_of, failure_in, is_fault, is_cut, is_over, IsOffered, ending, next_notice, source_due, renewals_asked}
 use Rattle.legal_trace.specs.Story.{Try, last_of}
-use Rattle.legal_trace.specs.Book.{Book}
+use Rattle.legal_trace.specs.Book.{Book, current}
 use Rattle.legal_trace.specs.Steps.{is_held_back, next_step}
-use Rattle.legal_trace.specs.Legal.{MayStand, MayTimer, MayNeed, MayAnswer, MayTell, MayWrite, MayWait, MayShowCreation, MayPushBy, IsOpen, link_of, NoneIsOwed, VerdictsAreShown, NoneEnds, FailuresAreShown, ReadyIsShown, PushesAreTold, SourcesAreAsked, EndsAreTold, SetupsAreStarted, IsTimed, IsApplied, IsBegun, IsMoved, IsWritten, IsSettled, IsStarted, IsWaiting, CanMove, RenewalsAreTimed, RenewalsAreStarted, answer_time}
+use Rattle.legal_trace.specs.Legal.{MayStand, MayTimer, MayNeed, MayAnswer, MayTell, MayWrite, MayWait, MayShowCreation, MayPushBy, MayNotify, IsOpen, link_of, NoneIsOwed, VerdictsAreShown, NoneEnds, FailuresAreShown, ReadyIsShown, NoticesAreTold, SourcesAreAsked, EndsAreTold, SetupsAreStarted, MonitorsAreStarted, IsTimed, IsApplied, IsBegun, IsMoved, IsWritten, IsSettled, IsStarted, IsWaiting, CanMove, RenewalsAreTimed, RenewalsAreStarted, answer_time}
 use Rattle.legal_trace.proofs.Moves.{teller_moves, starter_moves, taker_moves, asker_moves, same_kind, ready_is_up}
 use Rattle.legal_laws.proofs.Numbers.{up_is_numbered, over_is_numbered, open_is_numbered, unasked_stays}
 use Rattle.legal_laws.proofs.Opens.{still_stays}
@@ -26,6 +26,8 @@ use Rattle.legal_trace.proofs.Plain.{not_none}
 use Rattle.legal_trace.proofs.Sources.{source_is_up}
 use Rattle.legal_laws.proofs.Told.{none_unless}
 use Rattle.legal_laws.proofs.Sound.{Sound}
+use Rattle.driver_model.specs.declared.hearing.Notice.{Notice}
+use Rattle.driver_model.specs.declared.hearing.Notice.TheVariants as notice
 
 -- the outcomes that are owed: what values gave, where the link has not ended, and then the others
 abbrev pub answer_rank : Bool → ℕ
@@ -46,33 +48,36 @@ push_rank true = 6
 -- these come before one that is told at its place
 abbrev pub outcome_rank : (b : Book) (n : ℕ) (o : Outcome) → MayAnswer b n o ⊎ MayTell b n o → ℕ
 outcome_rank b n o (inl owed) = answer_rank (is_over (link_of b n))
-outcome_rank b n o (inr told) = 11
+outcome_rank b n o (inr told) = 12
 
 -- the timer of the opening is of its second, one of a submission of the passes, and one of new credentials comes before them
 abbrev pub timer_rank : (b : Book) (t ms : ℕ) (what : Purpose) → MayTimer b t ms what → ℕ
 timer_rank b t ms what (inl opening) = 2
-timer_rank b t ms what (inr (inl response)) = 11
-timer_rank b t ms what (inr (inr renewal)) = 9
+timer_rank b t ms what (inr (inl response)) = 12
+timer_rank b t ms what (inr (inr renewal)) = 10
 
 -- the opening, its connect and its timer, the outcomes of links that have not ended, the creation, the sources of credentials and
--- the pushes, the closes, the creation that failed, that links have ended, the other outcomes that are owed, the setups, the
--- timers of new credentials, these, the passes, the writes, the waits, and the next event
+-- what is told of what came, the closes, the creation that failed, that links have ended, the other outcomes that are owed, the
+-- setups, MONITOR, the timers of new credentials, these, the passes, the writes, the waits, and the next event
 abbrev pub rank : (b : Book) (a : Action) → MayStand b a → ℕ
 rank b (action.Turn k (cause.Opening config word)) may = 0
 rank b (action.Connect l host port) may = 1
 rank b (action.Timer t ms what) may = timer_rank b t ms what may
-rank b (action.Took who l count) may = 11
+rank b (action.Took who l count) may = 12
 rank b (action.Outcome n o) may = outcome_rank b n o may
 rank b (action.Push l info) may = push_rank (is_disconnection info.kind)
+rank b (action.Message msg) may = 3
+rank b (action.Monitor v) may = 3
 rank b (action.NeedCreds c l) may = 3
 rank b (action.Close l) may = 4
 rank b (action.Created e) may = creation_rank e
 rank b (action.Start l k owner.Setup count len) may = 8
-rank b (action.Start l k owner.Auth count len) may = 10
-rank b (action.Start l k (owner.Try n round) count len) may = 11
-rank b (action.Write l bytes) may = 12
-rank b (action.Wait who kind) may = 13
-rank b (action.Turn k (cause.Event e)) may = 14
+rank b (action.Start l k owner.Monitor count len) may = 9
+rank b (action.Start l k owner.Auth count len) may = 11
+rank b (action.Start l k (owner.Try n round) count len) may = 12
+rank b (action.Write l bytes) may = 13
+rank b (action.Wait who kind) may = 14
+rank b (action.Turn k (cause.Event e)) may = 15
 
 -- an outcome that is owed comes before the passes
 pub answer_first : (over : Bool) → answer_rank over < 8
@@ -89,12 +94,12 @@ pub push_first : (disconnects : Bool) → push_rank disconnects < 8
 push_first false = omega arith
 push_first true = omega arith
 
--- what came from values is told: their outcomes, that a link is ready, and the pushes; and all sources were asked for
+-- what came from values is told: their outcomes, that a link is ready, and what else came; and all sources were asked for
 pub record IsTold (b : Book) : Type 0 where
   pub answered : VerdictsAreShown b
   pub created : ReadyIsShown b
   pub sourced : SourcesAreAsked b
-  pub pushed : PushesAreTold b
+  pub pushed : NoticesAreTold b
 
 -- what is done once nothing of this rank is due
 abbrev pub Step : ℕ → Book → Type 0
@@ -107,12 +112,13 @@ Step (suc (suc (suc (suc (suc zero))))) b = FailuresAreShown b
 Step (suc (suc (suc (suc (suc (suc zero)))))) b = EndsAreTold b
 Step (suc (suc (suc (suc (suc (suc (suc zero))))))) b = NoneIsOwed b
 Step (suc (suc (suc (suc (suc (suc (suc (suc zero)))))))) b = SetupsAreStarted b
-Step (suc (suc (suc (suc (suc (suc (suc (suc (suc zero))))))))) b = RenewalsAreTimed b
-Step (suc (suc (suc (suc (suc (suc (suc (suc (suc (suc zero)))))))))) b = RenewalsAreStarted b
-Step (suc (suc (suc (suc (suc (suc (suc (suc (suc (suc (suc zero))))))))))) b = (n : ℕ) → CanMove b n → ⊥
-Step (suc (suc (suc (suc (suc (suc (suc (suc (suc (suc (suc (suc zero)))))))))))) b = (l : ℕ) → (b.link l).up ≡ true → IsOffered (b.link l)
-Step (suc (suc (suc (suc (suc (suc (suc (suc (suc (suc (suc (suc (suc zero))))))))))))) b = (n : ℕ) → IsOpen b n → IsStarted b n ⊎ IsWaiting b n
-Step (suc (suc (suc (suc (suc (suc (suc (suc (suc (suc (suc (suc (suc (suc more)))))))))))))) b = ⊥
+Step (suc (suc (suc (suc (suc (suc (suc (suc (suc zero))))))))) b = MonitorsAreStarted b
+Step (suc (suc (suc (suc (suc (suc (suc (suc (suc (suc zero)))))))))) b = RenewalsAreTimed b
+Step (suc (suc (suc (suc (suc (suc (suc (suc (suc (suc (suc zero))))))))))) b = RenewalsAreStarted b
+Step (suc (suc (suc (suc (suc (suc (suc (suc (suc (suc (suc (suc zero)))))))))))) b = (n : ℕ) → CanMove b n → ⊥
+Step (suc (suc (suc (suc (suc (suc (suc (suc (suc (suc (suc (suc (suc zero))))))))))))) b = (l : ℕ) → (b.link l).up ≡ true → IsOffered (b.link l)
+Step (suc (suc (suc (suc (suc (suc (suc (suc (suc (suc (suc (suc (suc (suc zero)))))))))))))) b = (n : ℕ) → IsOpen b n → IsStarted b n ⊎ IsWaiting b n
+Step (suc (suc (suc (suc (suc (suc (suc (suc (suc (suc (suc (suc (suc (suc (suc more))))))))))))))) b = ⊥
 
 -- all below this rank is done
 abbrev pub Reached : ℕ → Book → Type 0
@@ -157,9 +163,13 @@ creation_not_done : (b : Book) (e : Option RedisError) → MayShowCreation b e �
 creation_not_done b None may h = h.created may.l may.ready may.once
 creation_not_done b (Some e) may h = h may.l e may.fails may.once
 
+-- what may be told of what came is due
+notice_not_done : (b : Book) (l : ℕ) (n : Notice) → MayNotify b l n → IsTold b → ⊥
+notice_not_done b l n may h = not_none (next_notice (b.link l)) may.heard (h.pushed l may.is_heard) may.next
+
 -- a push that may be told is due
 push_not_done : (b : Book) (l : ℕ) (info : PushInfo) (disconnects : Bool) → MayPushBy disconnects b l info → Step (push_rank disconnects) b → ⊥
-push_not_done b l info false may h = not_none (next_push (b.link l)) may.push (h.pushed l may.heard) may.next
+push_not_done b l info false may h = notice_not_done b l (notice.Push info) may h
 push_not_done b l info true may h = not_both (b.link l).parted may.once (h l may.heard may.ended)
 
 -- a timer that may be asked for is due
@@ -178,18 +188,23 @@ not_done b (action.Connect l host port) may h = h may.first
 not_done b (action.Timer t ms what) may h = timer_not_done b t ms what may h
 not_done b (action.Took owner.Setup l count) may h = absurd may
 not_done b (action.Took owner.Auth l count) may h = absurd may
+not_done b (action.Took owner.Monitor l count) may h = absurd may
 not_done b (action.Took (owner.Try n round) l count) may h = h n (taker_moves b n l count may.1)
 not_done b (action.Outcome n o) may h = outcome_not_done b n o may h
 not_done b (action.Push l info) may h = push_not_done b l info (is_disconnection info.kind) may h
+not_done b (action.Message msg) may h = notice_not_done b (current b) (notice.Message msg) may h
+not_done b (action.Monitor v) may h = notice_not_done b (current b) (notice.Monitor v) may h
 not_done b (action.NeedCreds c l) may h = not_both (source_due (b.link l)) (h.sourced l) may.due
 not_done b (action.Close l) may h = not_none (ending (b.link l)) may.why (h l) may.ends
 not_done b (action.Created e) may h = creation_not_done b e may h
 not_done b (action.Start l k owner.Setup count len) may h = not_both (is_held_back b (b.link l)) may.free (h l may.k may.due)
+not_done b (action.Start l k owner.Monitor count len) may h = not_both (is_held_back b (b.link l)) may.free (h l may.due)
 not_done b (action.Start l k owner.Auth count len) may h = not_both (is_held_back b (b.link l)) may.free (h l may.credentials may.due)
 not_done b (action.Start l k (owner.Try n round) count len) may h = h n (starter_moves b l k n count len may.1)
 not_done b (action.Write l bytes) may h = not_offered b l bytes may (h l may.up)
 not_done b (action.Wait owner.Setup kind) may h = absurd may
 not_done b (action.Wait owner.Auth kind) may h = absurd may
+not_done b (action.Wait owner.Monitor kind) may h = absurd may
 not_done b (action.Wait (owner.Try n round) kind) may h = not_gone b n kind may.1 (h n may.1.asked)
 not_done b (action.Turn k (cause.Event e)) may h = h
 
@@ -212,20 +227,20 @@ applied b h done = (
   (done.parted, (done.created.failed, (done.ended, (record { answered = verdicts b done.answered; created = done.created.shown; sourced = done.sourced; pushed = done.pushed }, (done.timed, linked b h done.created.asked))))),
 )
 
--- where setups have started, and new credentials that have their timers
-pub begun_all : (b : Book) → Sound b → IsBegun b → Reached 11 b
-begun_all b h done = (done.renewed, (done.timed, (done.setups, applied b h done.applied)))
+-- where setups have started, and MONITOR, and new credentials that have their timers
+pub begun_all : (b : Book) → Sound b → IsBegun b → Reached 12 b
+begun_all b h done = (done.renewed, (done.timed, (done.monitors, (done.setups, applied b h done.applied))))
 
 -- where all messages have started
-pub moved : (b : Book) → Sound b → IsMoved b → Reached 12 b
+pub moved : (b : Book) → Sound b → IsMoved b → Reached 13 b
 moved b h done = (done.moved, begun_all b h done.begun)
 
 -- where all is written
-pub written : (b : Book) → Sound b → IsWritten b → Reached 13 b
+pub written : (b : Book) → Sound b → IsWritten b → Reached 14 b
 written b h done = (done.offered, moved b h done.moved)
 
 -- where the turn is settled
-pub settled : (b : Book) → Sound b → IsSettled b → Reached 14 b
+pub settled : (b : Book) → Sound b → IsSettled b → Reached 15 b
 settled b h done = (done.goes, written b h done.written)
 
 -- where a submission is open, an event came
@@ -269,13 +284,13 @@ none_failed b l h up m e fails created = let over = failed_is_over (b.link m).en
 none_ready : (b : Book) (m : ℕ) (end : End) → Sound b → (b.link m).end ≡ Some end → ReadyIsShown b
 none_ready b m end h over l ready created = none_over b l m end h (ready_is_up (b.link l) ready) over
 
--- nor does a push wait
-no_push_waits : (b : Book) (m : ℕ) (end : End) → Sound b → (b.link m).end ≡ Some end → PushesAreTold b
-no_push_waits b m end h over l heard = none_unless (next_push (b.link l)) (λ p next. none_over b l m end h (h.waits l heard p next) over)
+-- nor does anything wait to be told
+no_notice_waits : (b : Book) (m : ℕ) (end : End) → Sound b → (b.link m).end ≡ Some end → NoticesAreTold b
+no_notice_waits b m end h over l heard = none_unless (next_notice (b.link l)) (λ p next. none_over b l m end h (h.waits l heard p next) over)
 
 -- so what came from values is told where what it gave is shown
 told_over : (b : Book) (m : ℕ) (end : End) → Sound b → (b.link m).end ≡ Some end → VerdictsAreShown b → SourcesAreAsked b → IsTold b
-told_over b m end h over answered sourced = record { answered = answered; created = none_ready b m end h over; sourced = sourced; pushed = no_push_waits b m end h over }
+told_over b m end h over answered sourced = record { answered = answered; created = none_ready b m end h over; sourced = sourced; pushed = no_notice_waits b m end h over }
 
 -- a fault is no failed opening
 fault_fails_not : (why : Ending) (e : RedisError) → is_fault why ≡ true → failure_of why ≡ Some e → ⊥
@@ -323,9 +338,13 @@ creation_reached b None may h = up_is_begun b may.l h (ready_is_up (b.link may.l
 creation_reached b (Some e) may h =
     let over = failed_is_over (b.link may.l).end e may.fails in (may.ended, (told_over b may.l over.0 h over.1 may.answered may.sourced, over_is_begun b may.l over.0 h over.1))
 
+-- before what is told of what came
+pub notice_reached : (b : Book) (l : ℕ) (n : Notice) → MayNotify b l n → Sound b → Reached 3 b
+notice_reached b l n may h = up_is_begun b l h (h.waits l may.is_heard may.heard may.next)
+
 -- and before a push
-push_reached : (b : Book) (l : ℕ) (info : PushInfo) (disconnects : Bool) → MayPushBy disconnects b l info → Sound b → Reached (push_rank disconnects) b
-push_reached b l info false may h = up_is_begun b l h (h.waits l may.heard may.push may.next)
+pub push_reached : (b : Book) (l : ℕ) (info : PushInfo) (disconnects : Bool) → MayPushBy disconnects b l info → Sound b → Reached (push_rank disconnects) b
+push_reached b l info false may h = notice_reached b l (notice.Push info) may h
 push_reached b l info true may h =
     let over = cut_is_over (b.link l).end may.ended in
     (none_failed_beside b l h may.ended, (may.closed, (told_over b l over.0 h over.1 may.answered may.sourced, over_is_begun b l over.0 h over.1)))
@@ -343,7 +362,7 @@ need_reached b c l may h = up_is_begun b l h (source_is_up (b.link l) may.due)
 timer_reached : (b : Book) (t ms : ℕ) (what : Purpose) (may : MayTimer b t ms what) → Sound b → Reached (timer_rank b t ms what may) b
 timer_reached b t ms what (inl may) h = linked b h may.asked
 timer_reached b t ms what (inr (inl may)) h = begun_all b h may.begun
-timer_reached b t ms what (inr (inr may)) h = (may.setups, applied b h may.applied)
+timer_reached b t ms what (inr (inr may)) h = (may.monitors, (may.setups, applied b h may.applied))
 
 -- where an action may stand, all below its rank is done
 pub reached : (b : Book) (a : Action) (may : MayStand b a) → Sound b → Reached (rank b a may) b
@@ -353,17 +372,22 @@ reached b (action.Outcome n o) may h = outcome_reached b n o may h
 reached b (action.Timer t ms what) may h = timer_reached b t ms what may h
 reached b (action.Took owner.Setup l count) may h = absurd may
 reached b (action.Took owner.Auth l count) may h = absurd may
+reached b (action.Took owner.Monitor l count) may h = absurd may
 reached b (action.Took (owner.Try n round) l count) may h = begun_all b h may.1.begun
 reached b (action.Push l info) may h = push_reached b l info (is_disconnection info.kind) may h
+reached b (action.Message msg) may h = notice_reached b (current b) (notice.Message msg) may h
+reached b (action.Monitor v) may h = notice_reached b (current b) (notice.Monitor v) may h
 reached b (action.NeedCreds c l) may h = need_reached b c l may h
 reached b (action.Close l) may h = (record { answered = may.answered; created = may.created; sourced = may.sourced; pushed = may.pushed }, end_is_begun b l may.why h may.ends)
 reached b (action.Created e) may h = creation_reached b e may h
 reached b (action.Start l k owner.Setup count len) may h = applied b h may.applied
-reached b (action.Start l k owner.Auth count len) may h = (may.timed, (may.setups, applied b h may.applied))
+reached b (action.Start l k owner.Monitor count len) may h = (may.setups, applied b h may.applied)
+reached b (action.Start l k owner.Auth count len) may h = (may.timed, (may.monitors, (may.setups, applied b h may.applied)))
 reached b (action.Start l k (owner.Try n round) count len) may h = begun_all b h may.1.begun
 reached b (action.Write l bytes) may h = moved b h may.moved
 reached b (action.Wait owner.Setup kind) may h = absurd may
 reached b (action.Wait owner.Auth kind) may h = absurd may
+reached b (action.Wait owner.Monitor kind) may h = absurd may
 reached b (action.Wait (owner.Try n round) kind) may h = written b h may.1.written
 reached b (action.Turn k (cause.Event e)) may h = settled b h may.is_for.1
 

@@ -1,27 +1,25 @@
 -- The messages of a link that tell new credentials: which these are, and that all but the last were answered without an error.
-use Rattle.std.proofs.Common.{◌≡◌, inl, inr, ℕ, ◌+◌, ◌-◌, ◌<◌, ◌≤◌, ◌==◌, true, false, ◌&&◌, List, [], ◌∷◌, ◌++◌, length, take, Some, slice_get, refl, sym, ◌∙◌, ap, subst, arith}
+use Rattle.std.proofs.Common.{◌≡◌, inl, inr, ℕ, ◌+◌, ◌-◌, ◌<◌, ◌≤◌, ◌==◌, true, false, ◌&&◌, List, [], ◌∷◌, ◌++◌, length, take, Some, slice_get, refl, sym, ◌∙◌, ap, subst, arith, Bool}
 use Rattle.std.proofs.lemmas.List.{take-append-le}
 use Rattle.std.proofs.Math.Seq.{take-append_seam}
 use Rattle.containers.proofs.Choices.{by_test, chosen, eq_from, ne_from, not_both}
 use Rattle.resp_value.specs.Data.{Data}
-use Rattle.resp_read.specs.Values.{left_over}
-use Rattle.resp_read.specs.Items.{items}
 use Rattle.redis_error.specs.declared.redis_error.RedisError.TheVariants as error
 use Rattle.credentials.specs.Credentials.{Credentials}
 use Rattle.driver_model.specs.declared.action.Action.{Action}
 use Rattle.driver_model.specs.declared.action.Action.TheVariants as action
 use Rattle.driver_model.specs.declared.action.Cause.TheVariants as cause
 use Rattle.driver_model.specs.declared.action.Owner.TheVariants as owner
-use Rattle.driver_model.specs.News.{News, silence, connected, refused, overdue, took, came, failed, authorized, denied, deserted, renewed, unrenewed, late, shut, news_of}
-use Rattle.legal_trace.specs.Ledger.{Ledger, Start, asks, hears, begins, offers, sources, times, ends, noted, with_news, refused_in, bytes_came, is_over, dials, reach, awaits_credentials, authorized_by, may_renew, renewed_by, unrenewed_by, is_renewal_open, lost_by, is_of_renewal, is_taken, renewal_count, renewal_due, renewal_message}
-use Rattle.legal_trace.specs.Book.{Book, blank_book, book, entered, entered_each, info_in, wanted_in, message_of, renewal_in, is_renewal_of}
+use Rattle.driver_model.specs.News.{News, silence, connected, refused, overdue, took, came, failed, authorized, denied, deserted, renewed, unrenewed, late, dropped, shut, news_of}
+use Rattle.legal_trace.specs.Ledger.{Ledger, Start, asks, hears, begins, offers, sources, times, ends, noted, with_news, refused_in, bytes_came, is_over, dials, awaits_credentials, authorized_by, may_renew, renewed_by, unrenewed_by, is_renewal_open, lost_by, is_of_renewal, is_taken, renewal_count, renewal_due, renewal_message, Heard}
+use Rattle.legal_trace.specs.Book.{Book, blank_book, book, entered, entered_each, info_in, wanted_in, message_of, renewal_in, is_renewal_of, hearing_in, current}
 use Rattle.legal_trace.specs.Legal.{MayStand, AllStand}
 use Rattle.legal_trace.proofs.Ledgers.{mine_keeps}
-use Rattle.legal_trace.proofs.Plain.{item_behind, item_stays, not_none}
+use Rattle.legal_trace.proofs.Plain.{item_behind, item_stays, not_none, item_within}
 use Rattle.legal_trace.proofs.Renewals.{last_told, renewal_came, renewal_is_next, taken_begins, taken_more}
-use Rattle.legal_trace.proofs.Setups.{start_within}
+use Rattle.legal_trace.proofs.Came.{holds_bytes, grown}
 use Rattle.legal_laws.specs.Renewals.{IsRenewal}
-use Rattle.legal_laws.proofs.Pushed.{push_keeps}
+use Rattle.legal_laws.proofs.Pushed.{push_keeps, tell_keeps}
 use Rattle.legal_laws.proofs.Sound.{Sound, stays_sound, blank_is_sound}
 
 -- a message tells the credentials that came as number k, among these
@@ -65,13 +63,13 @@ renewed_told l c h = record {
 }
 
 -- where items come
-came_told : (l : Ledger) (piece : List ℕ) → TellsWell l → TellsWell (bytes_came l piece)
-came_told l piece h = record {
+came_told : (l : Ledger) (rest : List ℕ) (strange : Bool) (told : List Heard) (more : List Data) → TellsWell l → TellsWell (grown l rest strange told more)
+came_told l rest strange told more h = record {
   says = λ j s is. h.says j s (record { stands = is.stands; renews = is.renews });
   taken = λ i j s t below first second.
       let is : IsRenewal l i s = record { stands = first.stands; renews = first.renews } in
       let said : Says l.creds.renewals (renewal_count (take i l.starts)) s = h.says i s is in
-      taken_more l (left_over (l.rest ++ piece)) (take (reach l.starts l.dealt - length l.dealt) (items (l.rest ++ piece))) i s first.stands
+      taken_more l rest more i s first.stands
       (ap (λ (x : Start). x.shape) said.2) (h.taken i j s t below is (record { stands = second.stands; renews = second.renews }));
 }
 
@@ -83,7 +81,7 @@ news_told l turn (refused f) h = chosen TellsWell (dials l) (refused_in l turn (
 news_told l turn overdue h = h
 news_told l turn (took count) h =
     chosen TellsWell l.up (record l { taken = l.taken ++ take count l.offer; offer = [] }) l (λ t. same_told l (record l { taken = l.taken ++ take count l.offer; offer = [] }) refl refl refl h) (λ e. h)
-news_told l turn (came piece) h = chosen TellsWell l.up (bytes_came l piece) l (λ t. came_told l piece h) (λ e. h)
+news_told l turn (came piece) h = chosen TellsWell l.up (bytes_came l piece) l (λ t. holds_bytes TellsWell l piece (λ rest strange told more. came_told l rest strange told more h)) (λ e. h)
 news_told l turn (failed f) h = h
 news_told l turn (authorized c) h = chosen TellsWell (awaits_credentials l) (authorized_by l c) l (λ t. same_told l (authorized_by l c) refl refl refl h) (λ e. h)
 news_told l turn (denied text) h = h
@@ -91,6 +89,7 @@ news_told l turn deserted h = h
 news_told l turn (renewed c) h = chosen TellsWell (may_renew l) (renewed_by l c) l (λ t. renewed_told l c h) (λ e. h)
 news_told l turn unrenewed h = chosen TellsWell l.up (unrenewed_by l) l (λ t. same_told l (unrenewed_by l) refl refl refl h) (λ e. h)
 news_told l turn (late k) h = chosen TellsWell (l.up && is_renewal_open l k) (lost_by l) l (λ t. same_told l (lost_by l) refl refl refl h) (λ e. h)
+news_told l turn dropped h = h
 news_told l turn shut h = h
 
 -- and with a turn
@@ -104,7 +103,7 @@ before_stays ss s j i = ap renewal_count (take-append-le j ss (s ∷ []) (omega 
 -- an older message is as it was
 older : (l : Ledger) (s x : Start) (j : ℕ) → slice_get l.starts j ≡ Some x → TellsWell l → is_of_renewal x.owner ≡ true → Says l.creds.renewals (renewal_count (take j (l.starts ++ s ∷ []))) x
 older l s x j stands h renews =
-    subst (λ k. Says l.creds.renewals k x) (sym (before_stays l.starts s j (start_within l.starts j x stands))) (h.says j x (record { stands = stands; renews = renews }))
+    subst (λ k. Says l.creds.renewals k x) (sym (before_stays l.starts s j (item_within l.starts j x stands))) (h.says j x (record { stands = stands; renews = renews }))
 
 -- where a message starts that tells none
 other_told : (l : Ledger) (s : Start) → is_of_renewal s.owner ≡ false → TellsWell l → TellsWell (noted l (begins s))
@@ -118,7 +117,7 @@ other_told l s other h = record {
     | inl later ↦
         elim (item_behind l.starts s x i first.stands) [
           | inr last ↦ absurd (not_both (is_of_renewal s.owner) other (ap (λ (z : Start). is_of_renewal z.owner) last.1 ∙ first.renews))
-          | inl old ↦ taken_begins l s i (start_within l.starts i x old) ∙ h.taken i j x y below (record { stands = old; renews = first.renews }) (record { stands = later; renews = second.renews })
+          | inl old ↦ taken_begins l s i (item_within l.starts i x old) ∙ h.taken i j x y below (record { stands = old; renews = first.renews }) (record { stands = later; renews = second.renews })
         ]
   ];
 }
@@ -145,9 +144,9 @@ next_told l c due h =
       ];
       taken = λ i j x y below first second.
           elim (item_behind l.starts s x i first.stands) [
-            | inl old ↦ taken_begins l s i (start_within l.starts i x old) ∙ all_taken l c due h i x (record { stands = old; renews = first.renews })
+            | inl old ↦ taken_begins l s i (item_within l.starts i x old) ∙ all_taken l c due h i x (record { stands = old; renews = first.renews })
             | inr new ↦ absurd (elim (item_behind l.starts s y j second.stands) [
-              | inl later ↦ let k : j < length l.starts = start_within l.starts j y later in omega (arith, k, below, new.0)
+              | inl later ↦ let k : j < length l.starts = item_within l.starts j y later in omega (arith, k, below, new.0)
               | inr last ↦ omega (arith, below, new.0, last.0)
             ])
           ];
@@ -161,14 +160,16 @@ renew_told l c due h = subst (λ o. TellsWell (noted l (begins (renewal_in o))))
 told_kept : (b : Book) (a : Action) (l : ℕ) → MayStand b a → Sound b → TellsWell (b.link l) → TellsWell ((entered b a).link l)
 told_kept b (action.Turn k (cause.Opening config word)) l may sound h = h
 told_kept b (action.Turn k (cause.Event e)) l may sound h = hears_told (b.link l) k (news_of b.timers b.sources l e.kind) h
-told_kept b (action.Connect m host port) l may sound h = mine_keeps TellsWell (m == l) (b.link l) (asks (info_in b.config) (wanted_in b.config))
+told_kept b (action.Connect m host port) l may sound h = mine_keeps TellsWell (m == l) (b.link l) (asks (info_in b.config) (wanted_in b.config) (hearing_in b.config))
     (λ t.
     let same : m ≡ l = eq_from m l t in
     let next : m ≡ b.links = may.next in
-    none_told (noted (b.link l) (asks (info_in b.config) (wanted_in b.config))) ((sound.shaped l).none (sound.links.unasked l (omega (arith, same, next))).0)) h
+    none_told (noted (b.link l) (asks (info_in b.config) (wanted_in b.config) (hearing_in b.config))) ((sound.shaped l).none (sound.links.unasked l (omega (arith, same, next))).0)) h
 told_kept b (action.Timer t ms what) l may sound h = mine_keeps TellsWell (is_renewal_of l what) (b.link l) times (λ e. same_told (b.link l) (noted (b.link l) times) refl refl refl h) h
 told_kept b (action.Took who m count) l may sound h = h
 told_kept b (action.Push m info) l may sound h = push_keeps TellsWell (m == l) info.kind (b.link l) (same_told (b.link l) _ refl refl refl h) (same_told (b.link l) _ refl refl refl h) h
+told_kept b (action.Message msg) l may sound h = tell_keeps TellsWell (current b == l) (b.link l) (same_told (b.link l) _ refl refl refl h) h
+told_kept b (action.Monitor v) l may sound h = tell_keeps TellsWell (current b == l) (b.link l) (same_told (b.link l) _ refl refl refl h) h
 told_kept b (action.NeedCreds c m) l may sound h = mine_keeps TellsWell (m == l) (b.link l) sources (λ t. same_told (b.link l) (noted (b.link l) sources) refl refl refl h) h
 told_kept b (action.Close m) l may sound h = mine_keeps TellsWell (m == l) (b.link l) (ends (b.turns - 1)) (λ t. same_told (b.link l) (noted (b.link l) (ends (b.turns - 1))) refl refl refl h) h
 told_kept b (action.Write m bytes) l may sound h = mine_keeps TellsWell (m == l) (b.link l) (offers bytes) (λ t. same_told (b.link l) (noted (b.link l) (offers bytes)) refl refl refl h) h
@@ -176,6 +177,7 @@ told_kept b (action.Wait who kind) l may sound h = h
 told_kept b (action.Start m k owner.Setup count len) l may sound h = mine_keeps TellsWell (m == l) (b.link l) (begins (message_of b m owner.Setup)) (λ t. other_told (b.link l) (message_of b m owner.Setup) refl h) h
 told_kept b (action.Start m k owner.Auth count len) l may sound h = mine_keeps TellsWell (m == l) (b.link l) (begins (message_of b m owner.Auth))
     (λ t. subst (λ j. TellsWell (b.link j) → TellsWell (noted (b.link j) (begins (message_of b m owner.Auth)))) (eq_from m l t) (renew_told (b.link m) may.credentials may.due) h) h
+told_kept b (action.Start m k owner.Monitor count len) l may sound h = mine_keeps TellsWell (m == l) (b.link l) (begins (message_of b m owner.Monitor)) (λ t. other_told (b.link l) (message_of b m owner.Monitor) refl h) h
 told_kept b (action.Start m k (owner.Try n round) count len) l may sound h =
     mine_keeps TellsWell (m == l) (b.link l) (begins (message_of b m (owner.Try n round))) (λ t. other_told (b.link l) (message_of b m (owner.Try n round)) refl h) h
 told_kept b (action.Created e) l may sound h = h

@@ -14,7 +14,7 @@ use Rattle.legal_trace.specs.Ledger.{is_over}
 use Rattle.legal_trace.specs.Book.{Book, blank_book, entered}
 use Rattle.legal_trace.specs.Legal.{MayStand, MayTimer, MayAnswer, MayTell, AllStand, link_of, IsApplied, IsMoved, IsWritten, Legal}
 use Rattle.legal_laws.specs.Segments.{answers_in, timer_in, segment, MayCome, AreInOrder}
-use Rattle.legal_laws.proofs.Held.{start_applied, setup_applied, tell_applied, take_applied, ask_applied, write_moved, wait_written, renew_applied}
+use Rattle.legal_laws.proofs.Held.{start_applied, setup_applied, tell_applied, take_applied, ask_applied, write_moved, wait_written, renew_applied, watch_applied}
 use Rattle.legal_laws.proofs.Ranks.{rank, not_done, step_of, applied, moved, written, answer_first, creation_first, push_first}
 use Rattle.legal_laws.proofs.Sound.{Sound, stays_sound, blank_is_sound}
 
@@ -46,18 +46,23 @@ done_behind b (action.Connect l host port) may h = tt
 done_behind b (action.Timer t ms what) may h = timer_done b t ms what may
 done_behind b (action.Took owner.Setup l count) may h = absurd may
 done_behind b (action.Took owner.Auth l count) may h = absurd may
+done_behind b (action.Took owner.Monitor l count) may h = absurd may
 done_behind b (action.Took (owner.Try n round) l count) may h = take_applied b n round l count may.1.begun.applied
 done_behind b (action.Push l info) may h = tt
+done_behind b (action.Message msg) may h = tt
+done_behind b (action.Monitor v) may h = tt
 done_behind b (action.NeedCreds c l) may h = tt
 done_behind b (action.Close l) may h = tt
 done_behind b (action.Created e) may h = tt
 done_behind b (action.Outcome n o) may h = outcome_done b n o may
 done_behind b (action.Start l k owner.Setup count len) may h = setup_applied b l k count len may h
+done_behind b (action.Start l k owner.Monitor count len) may h = watch_applied b l k count len may h
 done_behind b (action.Start l k owner.Auth count len) may h = renew_applied b l k count len may h
 done_behind b (action.Start l k (owner.Try n round) count len) may h = start_applied b l k n round count len may.1 h
 done_behind b (action.Write l bytes) may h = write_moved b l bytes may.moved
 done_behind b (action.Wait owner.Setup kind) may h = absurd may
 done_behind b (action.Wait owner.Auth kind) may h = absurd may
+done_behind b (action.Wait owner.Monitor kind) may h = absurd may
 done_behind b (action.Wait (owner.Try n round) kind) may h = wait_written b n round kind may.1 may.1.written
 
 -- from the fourth segment on all is written
@@ -90,14 +95,14 @@ effect_early b a may k h done r = by_test (nat_le k 1) (k ≤ 1) (le_from k 1)
     (λ f. absurd (not_done b a may (step_of b (rank b a may) 8 r (applied b h (applied_from b k (not_le_from k 1 f) done)))))
 
 -- nothing of the second comes behind the third
-pass_early : (b : Book) (a : Action) (may : MayStand b a) (k : ℕ) → Sound b → DoneIn k b → rank b a may < 12 → k ≤ 2
+pass_early : (b : Book) (a : Action) (may : MayStand b a) (k : ℕ) → Sound b → DoneIn k b → rank b a may < 13 → k ≤ 2
 pass_early b a may k h done r = by_test (nat_le k 2) (k ≤ 2) (le_from k 2)
-    (λ f. absurd (not_done b a may (step_of b (rank b a may) 12 r (moved b h (moved_from b k (not_le_from k 2 f) done)))))
+    (λ f. absurd (not_done b a may (step_of b (rank b a may) 13 r (moved b h (moved_from b k (not_le_from k 2 f) done)))))
 
 -- nothing of the third comes behind the fourth
-write_early : (b : Book) (a : Action) (may : MayStand b a) (k : ℕ) → Sound b → DoneIn k b → rank b a may < 13 → k ≤ 3
+write_early : (b : Book) (a : Action) (may : MayStand b a) (k : ℕ) → Sound b → DoneIn k b → rank b a may < 14 → k ≤ 3
 write_early b a may k h done r = by_test (nat_le k 3) (k ≤ 3) (le_from k 3)
-    (λ f. absurd (not_done b a may (step_of b (rank b a may) 13 r (written b h (written_from b k (not_le_from k 3 f) done)))))
+    (λ f. absurd (not_done b a may (step_of b (rank b a may) 14 r (written b h (written_from b k (not_le_from k 3 f) done)))))
 
 -- there is none behind the fourth
 at_most_four : (b : Book) (k : ℕ) → DoneIn k b → k ≤ 4
@@ -126,18 +131,23 @@ comes b (action.Connect l host port) may k h done = effect_early b (action.Conne
 comes b (action.Timer t ms what) may k h done = timer_early b t ms what may k h done
 comes b (action.Took owner.Setup l count) may k h done = absurd may
 comes b (action.Took owner.Auth l count) may k h done = absurd may
+comes b (action.Took owner.Monitor l count) may k h done = absurd may
 comes b (action.Took (owner.Try n round) l count) may k h done = pass_early b (action.Took (owner.Try n round) l count) may k h done (omega arith)
 comes b (action.Push l info) may k h done = effect_early b (action.Push l info) may k h done (push_first (is_disconnection info.kind))
+comes b (action.Message msg) may k h done = effect_early b (action.Message msg) may k h done (omega arith)
+comes b (action.Monitor v) may k h done = effect_early b (action.Monitor v) may k h done (omega arith)
 comes b (action.NeedCreds c l) may k h done = effect_early b (action.NeedCreds c l) may k h done (omega arith)
 comes b (action.Close l) may k h done = effect_early b (action.Close l) may k h done (omega arith)
 comes b (action.Created e) may k h done = effect_early b (action.Created e) may k h done (creation_first e)
 comes b (action.Outcome n o) may k h done = outcome_early b n o may k h done
 comes b (action.Start l j owner.Setup count len) may k h done = pass_early b (action.Start l j owner.Setup count len) may k h done (omega arith)
 comes b (action.Start l j owner.Auth count len) may k h done = pass_early b (action.Start l j owner.Auth count len) may k h done (omega arith)
+comes b (action.Start l j owner.Monitor count len) may k h done = pass_early b (action.Start l j owner.Monitor count len) may k h done (omega arith)
 comes b (action.Start l j (owner.Try n round) count len) may k h done = pass_early b (action.Start l j (owner.Try n round) count len) may k h done (omega arith)
 comes b (action.Write l bytes) may k h done = write_early b (action.Write l bytes) may k h done (omega arith)
 comes b (action.Wait owner.Setup kind) may k h done = absurd may
 comes b (action.Wait owner.Auth kind) may k h done = absurd may
+comes b (action.Wait owner.Monitor kind) may k h done = absurd may
 comes b (action.Wait (owner.Try n round) kind) may k h done = at_most_four b k done
 
 -- and actions behind one another

@@ -10,12 +10,12 @@ use Rattle.driver_model.specs.declared.event.EventKind.{EventKind}
 use Rattle.driver_model.specs.declared.event.EventKind.TheVariants as event
 use Rattle.driver_model.specs.News.{News, shut, news_of}
 use Rattle.legal_trace.specs.Ledger.{Ledger, End, Ending, by_shutdown, hears, begins, offers, ends, noted, is_set_up, setup_result, error_in, ending, ending_up, ending_by, ending_unready, ending_alive, ending_asked, sources, times}
-use Rattle.legal_trace.specs.Book.{Book, entered, message_of, shuts, is_renewal_of}
+use Rattle.legal_trace.specs.Book.{Book, entered, message_of, shuts, is_renewal_of, current}
 use Rattle.legal_trace.specs.Legal.{MayStand, NoneEnds}
 use Rattle.legal_trace.proofs.Ledgers.{mine_keeps, hears_past}
 use Rattle.legal_trace.proofs.Plain.{not_none}
 use Rattle.legal_laws.proofs.Opens.{IsOpening}
-use Rattle.legal_laws.proofs.Pushed.{push_keeps}
+use Rattle.legal_laws.proofs.Pushed.{push_keeps, tell_keeps}
 
 -- a link that was asked for and has not ended was told of the shutdown by the turn that runs
 abbrev pub HearsShut : Ledger → Type 0
@@ -37,16 +37,16 @@ alive_ends l h = chosen (λ (o : Option Ending). o ≡ None → ⊥) (is_set_up 
     (λ f. by_error (error_in (setup_result l)) (ending_unready l l.heard) (ap (ending_unready l) h))
 
 -- whether it is up or asked for, the shutdown ends it
-ends_by_shutdown : (up asked : Bool) (end : Option End) (alive : Option Ending) → asked ≡ true → end ≡ None → (alive ≡ None → ⊥) → (if up then alive else (if asked && not (is_some end) then ending_asked shut else None)) ≡ None → ⊥
-ends_by_shutdown true asked end alive a e s none = s none
-ends_by_shutdown false true None alive a e s none = cc none
-ends_by_shutdown false true (Some end) alive a e s none = cc e
-ends_by_shutdown false false end alive a e s none = cc a
+ends_by_shutdown : (l : Ledger) (up asked : Bool) (end : Option End) (alive : Option Ending) → asked ≡ true → end ≡ None → (alive ≡ None → ⊥) → (if up then alive else (if asked && not (is_some end) then ending_asked l shut else None)) ≡ None → ⊥
+ends_by_shutdown l true asked end alive a e s none = s none
+ends_by_shutdown l false true None alive a e s none = cc none
+ends_by_shutdown l false true (Some end) alive a e s none = cc e
+ends_by_shutdown l false false end alive a e s none = cc a
 
 -- it must end
 pub shut_ends : (l : Ledger) → l.asked ≡ true → l.end ≡ None → l.heard ≡ shut → ending l ≡ None → ⊥
-shut_ends l a e h none = ends_by_shutdown l.up l.asked l.end (ending_alive l) a e (alive_ends l h)
-    (sym (ap (λ (x : News). if l.up then ending_alive l else (if l.asked && not (is_some l.end) then ending_asked x else None)) h) ∙ none)
+shut_ends l a e h none = ends_by_shutdown l l.up l.asked l.end (ending_alive l) a e (alive_ends l h)
+    (sym (ap (λ (x : News). if l.up then ending_alive l else (if l.asked && not (is_some l.end) then ending_asked l x else None)) h) ∙ none)
 
 -- so that once all that must end have ended, no link is left
 pub none_left : (b : Book) → NoneEnds b → ShutIsHeard b.shut b.link → b.shut ≡ true → (l : ℕ) → (b.link l).asked ≡ true → (b.link l).end ≡ None → ⊥
@@ -63,6 +63,7 @@ still_none b turn x l none h s a e = absurd (none_left b none h (was_shut b.shut
 
 -- each event leaves it so
 turn_heard : (b : Book) (turn : ℕ) (kind : EventKind) → NoneEnds b → ShutIsHeard b.shut b.link → ShutIsHeard (b.shut || shuts kind) (λ l. noted (b.link l) (hears turn (news_of b.timers b.sources l kind)))
+turn_heard b turn event.DropStream none h = λ s l. still_none b turn (news_of b.timers b.sources l event.DropStream) l none h s
 turn_heard b turn event.Shutdown none h = λ s l a e. refl
 turn_heard b turn (event.Submit what) none h = λ s l. still_none b turn (news_of b.timers b.sources l (event.Submit what)) l none h s
 turn_heard b turn (event.Cancel n) none h = λ s l. still_none b turn (news_of b.timers b.sources l (event.Cancel n)) l none h s
@@ -87,16 +88,21 @@ shut_kept b (action.Connect m host port) may opening h = λ s. absurd (not_both 
 shut_kept b (action.Timer t ms what) may opening h = λ s l. mine_keeps HearsShut (is_renewal_of l what) (b.link l) times (λ t. h s l) (h s l)
 shut_kept b (action.Took owner.Setup l count) may opening h = absurd may
 shut_kept b (action.Took owner.Auth l count) may opening h = absurd may
+shut_kept b (action.Took owner.Monitor l count) may opening h = absurd may
 shut_kept b (action.Took (owner.Try n round) l count) may opening h = h
 shut_kept b (action.Push m info) may opening h = λ s l. push_keeps HearsShut (m == l) info.kind (b.link l) (h s l) (h s l) (h s l)
+shut_kept b (action.Message msg) may opening h = λ s l. tell_keeps HearsShut (current b == l) (b.link l) (h s l) (h s l)
+shut_kept b (action.Monitor v) may opening h = λ s l. tell_keeps HearsShut (current b == l) (b.link l) (h s l) (h s l)
 shut_kept b (action.NeedCreds c m) may opening h = λ s l. mine_keeps HearsShut (m == l) (b.link l) sources (λ t. h s l) (h s l)
 shut_kept b (action.Close m) may opening h = λ s l. mine_keeps HearsShut (m == l) (b.link l) (ends (b.turns - 1)) (λ t a e. cc) (h s l)
 shut_kept b (action.Write m bytes) may opening h = λ s l. mine_keeps HearsShut (m == l) (b.link l) (offers bytes) (λ t. h s l) (h s l)
 shut_kept b (action.Wait owner.Setup kind) may opening h = absurd may
 shut_kept b (action.Wait owner.Auth kind) may opening h = absurd may
+shut_kept b (action.Wait owner.Monitor kind) may opening h = absurd may
 shut_kept b (action.Wait (owner.Try n round) kind) may opening h = h
 shut_kept b (action.Start m k owner.Setup count len) may opening h = λ s l. mine_keeps HearsShut (m == l) (b.link l) (begins (message_of b m owner.Setup)) (λ t. h s l) (h s l)
 shut_kept b (action.Start m k owner.Auth count len) may opening h = λ s l. mine_keeps HearsShut (m == l) (b.link l) (begins (message_of b m owner.Auth)) (λ t. h s l) (h s l)
+shut_kept b (action.Start m k owner.Monitor count len) may opening h = λ s l. mine_keeps HearsShut (m == l) (b.link l) (begins (message_of b m owner.Monitor)) (λ t. h s l) (h s l)
 shut_kept b (action.Start m k (owner.Try n round) count len) may opening h = λ s l. mine_keeps HearsShut (m == l) (b.link l) (begins (message_of b m (owner.Try n round))) (λ t. h s l) (h s l)
 shut_kept b (action.Created e) may opening h = h
 shut_kept b (action.Outcome n o) may opening h = h

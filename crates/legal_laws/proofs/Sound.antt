@@ -9,11 +9,11 @@ use Rattle.legal_laws.proofs.Numbers.{HasLinks, links_kept, HasStories, stories_
 use Rattle.legal_laws.proofs.Tales.{AnsweredOnce, once_kept, TriesAreStarted, starts_kept}
 use Rattle.legal_laws.proofs.Shutdown.{ShutIsHeard, shut_kept}
 use Rattle.legal_laws.proofs.Shaped.{IsShaped, shaped_kept}
-use Rattle.legal_laws.proofs.Told.{PushesWait, waits_kept, GoToOne, goes_kept}
+use Rattle.legal_laws.proofs.Told.{NoticesWait, waits_kept, GoToOne, goes_kept}
 
 -- how it opens, and that until the first event nothing happens to links; the numbers of links and submissions; that links which are up have not ended, and are not dealt too many
 -- items; what submissions were answered, and which messages they started; what links hear of a shutdown, that setups take what they are to, and that nothing
--- starts on a link that lacks credentials; that a link on which a push waits is up, where somebody hears it, and that submissions go to one link
+-- starts on a link that lacks credentials; that a link of which something waits to be told is up, where it is heard, and that submissions go to one link
 pub record Sound (b : Book) : Type 0 where
   pub opens : IsOpening b
   pub still : StillAtFirst b.turns b.link
@@ -25,7 +25,7 @@ pub record Sound (b : Book) : Type 0 where
   pub starts : (n : ℕ) → TriesAreStarted b.link (b.story n)
   pub shut : ShutIsHeard b.shut b.link
   pub shaped : (l : ℕ) → IsShaped (b.link l)
-  pub waits : PushesWait b
+  pub waits : NoticesWait b
   pub goes : GoToOne b
 
 -- each action that may stand keeps it

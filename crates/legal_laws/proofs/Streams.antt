@@ -4,9 +4,10 @@ use Rattle.std.proofs.lemmas.List.{append-nil, take-append-drop}
 use Rattle.std.proofs.Math.Seq.{drop-append_seam}
 use Rattle.containers.proofs.Choices.{chosen}
 use Rattle.redis_error.specs.declared.redis_error.RedisError.TheVariants as error
-use Rattle.driver_model.specs.News.{News, silence, connected, refused, overdue, took, came, failed, shut, authorized, denied, deserted, renewed, unrenewed, late}
+use Rattle.driver_model.specs.News.{News, silence, connected, refused, overdue, took, came, failed, dropped, shut, authorized, denied, deserted, renewed, unrenewed, late}
 use Rattle.legal_trace.specs.Ledger.{Ledger, Line, asks, hears, begins, offers, tells, ends, parts, blank_ledger, noted, noted_each, with_news, refused_in, bytes_came, is_over, dials, joined, stream, MayNote, AllNoted, LinkLegal, sources, awaits_credentials, authorized_by, times, may_renew, renewed_by, unrenewed_by, is_renewal_open, lost_by}
 use Rattle.legal_trace.proofs.Ledgers.{joined_more}
+use Rattle.legal_trace.proofs.Came.{holds_bytes}
 use Rattle.legal_laws.specs.Links.{IsPrefix, TakesInOrder}
 
 -- of one ledger
@@ -41,7 +42,7 @@ hears_in_order l turn connected h = chosen InOrder (is_over l) l (record l { up 
 hears_in_order l turn (refused f) h = chosen InOrder (dials l) (refused_in l turn (error.Io f)) l (λ t. h) (λ e. h)
 hears_in_order l turn overdue h = h
 hears_in_order l turn (took count) h = chosen InOrder l.up (record l { taken = l.taken ++ take count l.offer; offer = [] }) l (λ t. prefix_taken l.taken l.offer (joined l.starts) count h) (λ e. h)
-hears_in_order l turn (came piece) h = chosen InOrder l.up (bytes_came l piece) l (λ t. h) (λ e. h)
+hears_in_order l turn (came piece) h = chosen InOrder l.up (bytes_came l piece) l (λ t. holds_bytes InOrder l piece (λ rest strange told more. h)) (λ e. h)
 hears_in_order l turn (failed f) h = h
 hears_in_order l turn (authorized c) h = chosen InOrder (awaits_credentials l) (authorized_by l c) l (λ t. h) (λ e. h)
 hears_in_order l turn (denied text) h = h
@@ -49,11 +50,12 @@ hears_in_order l turn deserted h = h
 hears_in_order l turn (renewed c) h = chosen InOrder (may_renew l) (renewed_by l c) l (λ t. h) (λ e. h)
 hears_in_order l turn unrenewed h = chosen InOrder l.up (unrenewed_by l) l (λ t. h) (λ e. h)
 hears_in_order l turn (late k) h = chosen InOrder (l.up && is_renewal_open l k) (lost_by l) l (λ t. h) (λ e. h)
+hears_in_order l turn dropped h = h
 hears_in_order l turn shut h = h
 
 -- so does a line that may stand
 noted_in_order : (l : Ledger) (x : Line) → MayNote l x → InOrder l → InOrder (noted l x)
-noted_in_order l (asks info wanted) may h = h
+noted_in_order l (asks info wanted hearing) may h = h
 noted_in_order l (hears turn news) may h = hears_in_order l turn news h
 noted_in_order l (begins s) may h = subst (IsPrefix (stream l)) (sym (joined_more l.starts s)) (prefix_more (stream l) (joined l.starts) s.bytes h)
 noted_in_order l (offers bytes) may h = subst (λ x. IsPrefix (l.taken ++ x) (joined l.starts)) (sym may.2) (prefix_offered l.taken l.offer (joined l.starts) h)

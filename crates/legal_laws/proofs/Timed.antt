@@ -11,18 +11,19 @@ use Rattle.driver_model.specs.declared.action.Purpose.{Purpose}
 use Rattle.driver_model.specs.declared.action.Purpose.TheVariants as purpose
 use Rattle.driver_model.specs.declared.config.Config.{Config}
 use Rattle.driver_model.specs.declared.event.Event.{Event}
-use Rattle.driver_model.specs.News.{News, silence, connected, refused, overdue, took, came, failed, authorized, denied, deserted, renewed, unrenewed, late, shut, news_of}
+use Rattle.driver_model.specs.News.{News, silence, connected, refused, overdue, took, came, failed, authorized, denied, deserted, renewed, unrenewed, late, dropped, shut, news_of}
 use Rattle.legal_trace.specs.Ledger.{Ledger, asks, hears, begins, offers, sources, times, ends, noted, noted_each, with_news, refused_in, bytes_came, is_over, dials, awaits_credentials, authorized_by, may_renew, renewed_by, unrenewed_by, is_renewal_open, lost_by, renewal_count, renewal_due, renewals_asked}
-use Rattle.legal_trace.specs.Book.{Book, blank_book, book, entered, if_mine, info_in, wanted_in, message_of, is_renewal_of}
+use Rattle.legal_trace.specs.Book.{Book, blank_book, book, entered, if_mine, info_in, wanted_in, message_of, is_renewal_of, hearing_in, current}
 use Rattle.legal_trace.specs.Steps.{renewals_in_line}
 use Rattle.legal_trace.specs.Legal.{MayStand, MayTimer, MayTimeRenewal, AllStand, IsApplied, answer_time, Legal}
 use Rattle.legal_trace.proofs.Books.{Grows, book_more, of_each_front, stand_front}
 use Rattle.legal_trace.proofs.Ledgers.{mine_keeps}
 use Rattle.legal_trace.proofs.Renewals.{renewal_is_up}
+use Rattle.legal_trace.proofs.Came.{holds_bytes, grown}
 use Rattle.legal_laws.specs.Renewals.{Renews, timed_by, timers_asked, AsksEachNext, TellsTimed, TimesRenewals}
 use Rattle.legal_laws.proofs.Bounds.{ready_behind, next_may, applied_began}
 use Rattle.legal_laws.proofs.Numbers.{up_is_asked}
-use Rattle.legal_laws.proofs.Pushed.{push_keeps}
+use Rattle.legal_laws.proofs.Pushed.{push_keeps, tell_keeps}
 use Rattle.legal_laws.proofs.Sound.{Sound, sound_behind}
 
 -- so many timers were asked for, for new credentials of a link, and none before it was asked for itself
@@ -42,7 +43,7 @@ news_timers count l turn (refused x) h = chosen (HasTimers count) (dials l) (ref
 news_timers count l turn overdue h = h
 news_timers count l turn (took n) h =
     chosen (HasTimers count) l.up (record l { taken = l.taken ++ take n l.offer; offer = [] }) l (λ t. same_timers count l (record l { taken = l.taken ++ take n l.offer; offer = [] }) refl refl h) (λ f. h)
-news_timers count l turn (came piece) h = chosen (HasTimers count) l.up (bytes_came l piece) l (λ t. same_timers count l (bytes_came l piece) refl refl h) (λ f. h)
+news_timers count l turn (came piece) h = chosen (HasTimers count) l.up (bytes_came l piece) l (λ t. holds_bytes (HasTimers count) l piece (λ rest strange told more. same_timers count l (grown l rest strange told more) refl refl h)) (λ f. h)
 news_timers count l turn (failed x) h = h
 news_timers count l turn (authorized c) h = chosen (HasTimers count) (awaits_credentials l) (authorized_by l c) l (λ t. same_timers count l (authorized_by l c) refl refl h) (λ f. h)
 news_timers count l turn (denied text) h = h
@@ -50,6 +51,7 @@ news_timers count l turn deserted h = h
 news_timers count l turn (renewed c) h = chosen (HasTimers count) (may_renew l) (renewed_by l c) l (λ t. same_timers count l (renewed_by l c) refl refl h) (λ f. h)
 news_timers count l turn unrenewed h = chosen (HasTimers count) l.up (unrenewed_by l) l (λ t. same_timers count l (unrenewed_by l) refl refl h) (λ f. h)
 news_timers count l turn (late k) h = chosen (HasTimers count) (l.up && is_renewal_open l k) (lost_by l) l (λ t. same_timers count l (lost_by l) refl refl h) (λ f. h)
+news_timers count l turn dropped h = h
 news_timers count l turn shut h = h
 
 -- a link whose connect is asked for now had none
@@ -114,11 +116,11 @@ timers_kept b (action.Turn k (cause.Event e)) l count may sound h =
     let news : News = news_of b.timers b.sources l e.kind in
     no_more count (noted (b.link l) (hears k news)) (same_timers count (with_news (b.link l) k news) (noted (b.link l) (hears k news)) refl refl (news_timers count (b.link l) k news h))
 timers_kept b (action.Connect m host port) l count may sound h = no_more count _
-    (mine_keeps (HasTimers count) (m == l) (b.link l) (asks (info_in b.config) (wanted_in b.config))
+    (mine_keeps (HasTimers count) (m == l) (b.link l) (asks (info_in b.config) (wanted_in b.config) (hearing_in b.config))
     (λ t.
     let same : m ≡ l = eq_from m l t in
     let next : m ≡ b.links = may.next in
-    connect_timers count (b.link l) (noted (b.link l) (asks (info_in b.config) (wanted_in b.config))) (sound.links.unasked l (omega (arith, same, next))).0 refl h) h)
+    connect_timers count (b.link l) (noted (b.link l) (asks (info_in b.config) (wanted_in b.config) (hearing_in b.config))) (sound.links.unasked l (omega (arith, same, next))).0 refl h) h)
 timers_kept b (action.Timer t ms (purpose.Connect m)) l count may sound h = no_more count (b.link l) h
 timers_kept b (action.Timer t ms (purpose.Response who)) l count may sound h = no_more count (b.link l) h
 timers_kept b (action.Timer t ms (purpose.Renewal m k)) l count may sound h = one_more (m == l) count (b.link l)
@@ -129,6 +131,10 @@ timers_kept b (action.Timer t ms (purpose.Renewal m k)) l count may sound h = on
 timers_kept b (action.Took who m n) l count may sound h = no_more count (b.link l) h
 timers_kept b (action.Push m info) l count may sound h = no_more count _
     (push_keeps (HasTimers count) (m == l) info.kind (b.link l) (same_timers count (b.link l) _ refl refl h) (same_timers count (b.link l) _ refl refl h) h)
+timers_kept b (action.Message msg) l count may sound h = no_more count _
+    (tell_keeps (HasTimers count) (current b == l) (b.link l) (same_timers count (b.link l) _ refl refl h) h)
+timers_kept b (action.Monitor v) l count may sound h = no_more count _
+    (tell_keeps (HasTimers count) (current b == l) (b.link l) (same_timers count (b.link l) _ refl refl h) h)
 timers_kept b (action.NeedCreds c m) l count may sound h = no_more count _ (mine_keeps (HasTimers count) (m == l) (b.link l) sources (λ t. same_timers count (b.link l) (noted (b.link l) sources) refl refl h) h)
 timers_kept b (action.Close m) l count may sound h = no_more count _
     (mine_keeps (HasTimers count) (m == l) (b.link l) (ends (b.turns - 1)) (λ t. same_timers count (b.link l) (noted (b.link l) (ends (b.turns - 1))) refl refl h) h)

@@ -22,6 +22,7 @@ use Rattle.legal_laws.specs.Permits.{IsAsking, AsksTimers}
 use Rattle.legal_laws.proofs.Bounds.{ready_behind, next_may, applied_began}
 use Rattle.legal_laws.proofs.InLine.{submissions_grow}
 use Rattle.legal_trace.proofs.Moves.{holds_some, asks_mean}
+use Rattle.driver_model.specs.Config.{permits}
 
 -- of a timer of submission n that may be asked for
 ask_of : (b : Book) (t ms n round : ℕ) → MayTimer b t ms (purpose.Response (owner.Try n round)) → (may : MayTime b t ms (purpose.Response (owner.Try n round))) × (may.n ≡ n)
@@ -68,6 +69,7 @@ event_clocked b n (event.Timeout ms) h = h
 event_clocked b n (event.Creds c auth) h = h
 event_clocked b n (event.CredsError c text) h = h
 event_clocked b n (event.CredsEnd c) h = h
+event_clocked b n event.DropStream h = h
 event_clocked b n event.Shutdown h = h
 
 -- with each action
@@ -78,16 +80,21 @@ clock_stays b (action.Connect m host port) n h = h
 clock_stays b (action.Timer t ms what) n h = chosen Clocked (is_clock_of n (Some what)) (clocked (b.story n) t) (b.story n) (λ e. refl) (λ f. h)
 clock_stays b (action.Took owner.Setup l count) n h = h
 clock_stays b (action.Took owner.Auth l count) n h = h
+clock_stays b (action.Took owner.Monitor l count) n h = h
 clock_stays b (action.Took (owner.Try m round) l count) n h = chosen Clocked (m == n) (holds (b.story n) count) (b.story n) (λ e. h) (λ f. h)
 clock_stays b (action.Push m info) n h = h
+clock_stays b (action.Message msg) n h = h
+clock_stays b (action.Monitor v) n h = h
 clock_stays b (action.NeedCreds c m) n h = h
 clock_stays b (action.Close m) n h = h
 clock_stays b (action.Write m bytes) n h = h
 clock_stays b (action.Wait owner.Setup kind) n h = h
 clock_stays b (action.Wait owner.Auth kind) n h = h
+clock_stays b (action.Wait owner.Monitor kind) n h = h
 clock_stays b (action.Wait (owner.Try m round) kind) n h = chosen Clocked (m == n) (waits (b.story n) kind) (b.story n) (λ e. h) (λ f. h)
 clock_stays b (action.Start l k owner.Setup count len) n h = h
 clock_stays b (action.Start l k owner.Auth count len) n h = h
+clock_stays b (action.Start l k owner.Monitor count len) n h = h
 clock_stays b (action.Start l k (owner.Try m round) count len) n h = chosen Clocked (m == n) (tried (b.story n) l k) (b.story n) (λ e. h) (λ f. h)
 clock_stays b (action.Created e) n h = h
 clock_stays b (action.Outcome m o) n h = chosen Clocked (m == n) (answered (b.story n) o) (b.story n) (λ e. h) (λ f. h)
@@ -134,6 +141,7 @@ event_timeout b n (event.Timeout ms) i = refl
 event_timeout b n (event.Creds c auth) i = refl
 event_timeout b n (event.CredsError c text) i = refl
 event_timeout b n (event.CredsEnd c) i = refl
+event_timeout b n event.DropStream i = refl
 event_timeout b n event.Shutdown i = refl
 
 -- so it does with each action
@@ -144,16 +152,21 @@ timeout_stays b (action.Connect m host port) n i = refl
 timeout_stays b (action.Timer t ms what) n i = chosen (λ (s : Story). s.timeout ≡ (b.story n).timeout) (is_clock_of n (Some what)) (clocked (b.story n) t) (b.story n) (λ e. refl) (λ f. refl)
 timeout_stays b (action.Took owner.Setup l count) n i = refl
 timeout_stays b (action.Took owner.Auth l count) n i = refl
+timeout_stays b (action.Took owner.Monitor l count) n i = refl
 timeout_stays b (action.Took (owner.Try m round) l count) n i = chosen (λ (s : Story). s.timeout ≡ (b.story n).timeout) (m == n) (holds (b.story n) count) (b.story n) (λ e. refl) (λ f. refl)
 timeout_stays b (action.Push m info) n i = refl
+timeout_stays b (action.Message msg) n i = refl
+timeout_stays b (action.Monitor v) n i = refl
 timeout_stays b (action.NeedCreds c m) n i = refl
 timeout_stays b (action.Close m) n i = refl
 timeout_stays b (action.Write m bytes) n i = refl
 timeout_stays b (action.Wait owner.Setup kind) n i = refl
 timeout_stays b (action.Wait owner.Auth kind) n i = refl
+timeout_stays b (action.Wait owner.Monitor kind) n i = refl
 timeout_stays b (action.Wait (owner.Try m round) kind) n i = chosen (λ (s : Story). s.timeout ≡ (b.story n).timeout) (m == n) (waits (b.story n) kind) (b.story n) (λ e. refl) (λ f. refl)
 timeout_stays b (action.Start l k owner.Setup count len) n i = refl
 timeout_stays b (action.Start l k owner.Auth count len) n i = refl
+timeout_stays b (action.Start l k owner.Monitor count len) n i = refl
 timeout_stays b (action.Start l k (owner.Try m round) count len) n i = chosen (λ (s : Story). s.timeout ≡ (b.story n).timeout) (m == n) (tried (b.story n) l k) (b.story n) (λ e. refl) (λ f. refl)
 timeout_stays b (action.Created e) n i = refl
 timeout_stays b (action.Outcome m o) n i = chosen (λ (s : Story). s.timeout ≡ (b.story n).timeout) (m == n) (answered (b.story n) o) (b.story n) (λ e. refl) (λ f. refl)
@@ -203,6 +216,6 @@ asks_timers config word events trace h = record {
       let ready = ready_behind config word events front (a ∷ more) legal in
       let may : MayTimer (book front) t ms (purpose.Response (owner.Try n round)) = next_may config word events front more a legal in
       let m = ask_of (book front) t ms n round may in
-      holding_in config.limit ((book front).story n).permits
+      holding_in (permits config) ((book front).story n).permits
       (subst (λ o. holds_some (permits_in o) ((book front).story n).permits ≡ true) (ready.configured (applied_began (book front) ready.sound m.0.begun.applied)) (asked_of (book front) t ms n round may).0);
 }

@@ -11,15 +11,16 @@ use Rattle.driver_model.specs.declared.action.Cause.TheVariants as cause
 use Rattle.driver_model.specs.declared.action.Owner.TheVariants as owner
 use Rattle.driver_model.specs.declared.event.EventKind.{EventKind}
 use Rattle.driver_model.specs.declared.event.EventKind.TheVariants as event
-use Rattle.driver_model.specs.News.{News, silence, connected, refused, overdue, took, came, failed, shut, news_of, authorized, denied, deserted, renewed, unrenewed, late}
-use Rattle.legal_trace.specs.Ledger.{Ledger, Heard, asks, begins, offers, tells, ends, parts, noted, with_news, refused_in, bytes_came, is_over, dials, next_push, MayNote, sources, awaits_credentials, authorized_by, times, may_renew, renewed_by, unrenewed_by, is_renewal_open, lost_by}
+use Rattle.driver_model.specs.News.{News, silence, connected, refused, overdue, took, came, failed, dropped, shut, news_of, authorized, denied, deserted, renewed, unrenewed, late}
+use Rattle.legal_trace.specs.Ledger.{Ledger, Heard, asks, begins, offers, tells, ends, parts, noted, with_news, refused_in, bytes_came, is_over, dials, next_notice, MayNote, sources, awaits_credentials, authorized_by, times, may_renew, renewed_by, unrenewed_by, is_renewal_open, lost_by}
 use Rattle.legal_trace.specs.Story.{Story, is_open, handed_in, left, holds, clocked, fires, tried, waits, answered}
-use Rattle.legal_trace.specs.Book.{Book, entered, push_line, info_in, message_of, current, is_clock_of, after_event, is_unspoken, wanted_in, is_renewal_of}
+use Rattle.legal_trace.specs.Book.{Book, entered, push_line, info_in, message_of, current, is_clock_of, after_event, is_unspoken, wanted_in, is_renewal_of, hearing_in}
 use Rattle.legal_trace.specs.Legal.{MayStand, MayPush, MayPushBy, is_heard}
 use Rattle.legal_trace.proofs.Ledgers.{mine_keeps}
 use Rattle.legal_trace.proofs.Plain.{not_none}
+use Rattle.legal_trace.proofs.Came.{holds_bytes}
 use Rattle.legal_laws.proofs.Opens.{StillAtFirst}
-use Rattle.legal_laws.proofs.Pushed.{push_keeps}
+use Rattle.legal_laws.proofs.Pushed.{push_keeps, tell_keeps}
 
 -- a push that may be told is a line that may stand
 push_may_by : (b : Book) (l : ℕ) (info : PushInfo) (disconnects : Bool) → MayPushBy disconnects b l info → MayNote (b.link l) (if disconnects then parts else tells)
@@ -40,9 +41,9 @@ one_before [] k h e = absurd (cc e)
 one_before (x ∷ hs) zero h e = (x, refl)
 one_before (x ∷ hs) (suc k) h e = let more : suc k + 1 ≡ suc (k + 1) = omega arith in one_before hs k h (subst (λ n. slice_get (x ∷ hs) n ≡ Some h) more e)
 
--- a link on which a push waits is up
+-- a link of which something waits to be told is up
 abbrev pub Waits : Ledger → Type 0
-Waits l = (p : Heard) → next_push l ≡ Some p → l.up ≡ true
+Waits l = (p : Heard) → next_notice l ≡ Some p → l.up ≡ true
 
 -- so with any news
 waits_hears : (l : Ledger) (turn : ℕ) (news : News) → Waits l → Waits (with_news l turn news)
@@ -51,7 +52,7 @@ waits_hears l turn connected h = chosen Waits (is_over l) l (record l { up = tru
 waits_hears l turn (refused f) h = chosen Waits (dials l) (refused_in l turn (error.Io f)) l (λ t. h) (λ e. h)
 waits_hears l turn overdue h = h
 waits_hears l turn (took count) h = chosen Waits l.up (record l { taken = l.taken ++ take count l.offer; offer = [] }) l (λ t. h) (λ e. h)
-waits_hears l turn (came piece) h = chosen Waits l.up (bytes_came l piece) l (λ t p next. t) (λ e. h)
+waits_hears l turn (came piece) h = chosen Waits l.up (bytes_came l piece) l (λ t. holds_bytes Waits l piece (λ rest strange told more p next. t)) (λ e. h)
 waits_hears l turn (failed f) h = h
 waits_hears l turn (authorized c) h = chosen Waits (awaits_credentials l) (authorized_by l c) l (λ t. h) (λ e. h)
 waits_hears l turn (denied text) h = h
@@ -59,36 +60,42 @@ waits_hears l turn deserted h = h
 waits_hears l turn (renewed c) h = chosen Waits (may_renew l) (renewed_by l c) l (λ t. h) (λ e. h)
 waits_hears l turn unrenewed h = chosen Waits l.up (unrenewed_by l) l (λ t. h) (λ e. h)
 waits_hears l turn (late k) h = chosen Waits (l.up && is_renewal_open l k) (lost_by l) l (λ t. h) (λ e. h)
+waits_hears l turn dropped h = h
 waits_hears l turn shut h = h
 
 -- and where one is told
 waits_tells : (l : Ledger) → Waits l → Waits (noted l tells)
-waits_tells l h p next = let first = one_before l.pushes l.told p next in h first.0 first.1
+waits_tells l h p next = let first = one_before l.notices l.told p next in h first.0 first.1
 
--- so of each link, where somebody hears pushes
-abbrev pub PushesWait : Book → Type 0
-PushesWait b = (l : ℕ) → is_heard b ≡ true → Waits (b.link l)
+-- so of each link, where it is heard
+abbrev pub NoticesWait : Book → Type 0
+NoticesWait b = (l : ℕ) → is_heard b ≡ true → Waits (b.link l)
 
 -- each action that may stand keeps it
-pub waits_kept : (b : Book) (a : Action) → MayStand b a → StillAtFirst b.turns b.link → PushesWait b → PushesWait (entered b a)
+pub waits_kept : (b : Book) (a : Action) → MayStand b a → StillAtFirst b.turns b.link → NoticesWait b → NoticesWait (entered b a)
 waits_kept b (action.Turn k (cause.Opening config word)) may still h = λ l heard p next.
     let none : b.turns ≡ 0 = may.is_for in
-    absurd (not_none (next_push (b.link l)) p (ap (λ (hs : List Heard). slice_get hs (b.link l).told) (still (omega (arith, none)) l).mute) next)
+    absurd (not_none (next_notice (b.link l)) p (ap (λ (hs : List Heard). slice_get hs (b.link l).told) (still (omega (arith, none)) l).mute) next)
 waits_kept b (action.Turn k (cause.Event e)) may still h = λ l heard. waits_hears (b.link l) k (news_of b.timers b.sources l e.kind) (h l heard)
-waits_kept b (action.Connect m host port) may still h = λ l heard. mine_keeps Waits (m == l) (b.link l) (asks (info_in b.config) (wanted_in b.config)) (λ t. h l heard) (h l heard)
+waits_kept b (action.Connect m host port) may still h = λ l heard. mine_keeps Waits (m == l) (b.link l) (asks (info_in b.config) (wanted_in b.config) (hearing_in b.config)) (λ t. h l heard) (h l heard)
 waits_kept b (action.Timer t ms what) may still h = λ l heard. mine_keeps Waits (is_renewal_of l what) (b.link l) times (λ t. h l heard) (h l heard)
 waits_kept b (action.Took owner.Setup m count) may still h = absurd may
 waits_kept b (action.Took owner.Auth m count) may still h = absurd may
+waits_kept b (action.Took owner.Monitor m count) may still h = absurd may
 waits_kept b (action.Took (owner.Try n round) m count) may still h = h
 waits_kept b (action.Push m info) may still h = λ l heard. push_keeps Waits (m == l) info.kind (b.link l) (waits_tells (b.link l) (h l heard)) (h l heard) (h l heard)
+waits_kept b (action.Message msg) may still h = λ l heard. tell_keeps Waits (current b == l) (b.link l) (waits_tells (b.link l) (h l heard)) (h l heard)
+waits_kept b (action.Monitor v) may still h = λ l heard. tell_keeps Waits (current b == l) (b.link l) (waits_tells (b.link l) (h l heard)) (h l heard)
 waits_kept b (action.NeedCreds c m) may still h = λ l heard. mine_keeps Waits (m == l) (b.link l) sources (λ t. h l heard) (h l heard)
-waits_kept b (action.Close m) may still h = λ l heard. mine_keeps Waits (m == l) (b.link l) (ends (b.turns - 1)) (λ t p next. absurd (not_none (next_push (b.link l)) p (may.pushed l heard) next)) (h l heard)
+waits_kept b (action.Close m) may still h = λ l heard. mine_keeps Waits (m == l) (b.link l) (ends (b.turns - 1)) (λ t p next. absurd (not_none (next_notice (b.link l)) p (may.pushed l heard) next)) (h l heard)
 waits_kept b (action.Write m bytes) may still h = λ l heard. mine_keeps Waits (m == l) (b.link l) (offers bytes) (λ t. h l heard) (h l heard)
 waits_kept b (action.Wait owner.Setup kind) may still h = absurd may
 waits_kept b (action.Wait owner.Auth kind) may still h = absurd may
+waits_kept b (action.Wait owner.Monitor kind) may still h = absurd may
 waits_kept b (action.Wait (owner.Try n round) kind) may still h = h
 waits_kept b (action.Start m k owner.Setup count len) may still h = λ l heard. mine_keeps Waits (m == l) (b.link l) (begins (message_of b m owner.Setup)) (λ t. h l heard) (h l heard)
 waits_kept b (action.Start m k owner.Auth count len) may still h = λ l heard. mine_keeps Waits (m == l) (b.link l) (begins (message_of b m owner.Auth)) (λ t. h l heard) (h l heard)
+waits_kept b (action.Start m k owner.Monitor count len) may still h = λ l heard. mine_keeps Waits (m == l) (b.link l) (begins (message_of b m owner.Monitor)) (λ t. h l heard) (h l heard)
 waits_kept b (action.Start m k (owner.Try n round) count len) may still h = λ l heard. mine_keeps Waits (m == l) (b.link l) (begins (message_of b m (owner.Try n round))) (λ t. h l heard) (h l heard)
 waits_kept b (action.Created e) may still h = h
 waits_kept b (action.Outcome n o) may still h = h
@@ -117,6 +124,7 @@ event_goes b n (event.Timeout ms) one h = h
 event_goes b n (event.Creds c auth) one h = h
 event_goes b n (event.CredsError c text) one h = h
 event_goes b n (event.CredsEnd c) one h = h
+event_goes b n event.DropStream one h = h
 event_goes b n event.Shutdown one h = h
 
 -- and behind each action
@@ -127,16 +135,21 @@ goes_kept b (action.Connect m host port) one h n = h n
 goes_kept b (action.Timer t ms what) one h n = chosen OnFirst (is_clock_of n (Some what)) (clocked (b.story n) t) (b.story n) (λ e. h n) (λ f. h n)
 goes_kept b (action.Took owner.Setup m count) one h n = h n
 goes_kept b (action.Took owner.Auth m count) one h n = h n
+goes_kept b (action.Took owner.Monitor m count) one h n = h n
 goes_kept b (action.Took (owner.Try i round) m count) one h n = chosen OnFirst (i == n) (holds (b.story n) count) (b.story n) (λ e. h n) (λ f. h n)
 goes_kept b (action.Push m info) one h n = h n
+goes_kept b (action.Message msg) one h n = h n
+goes_kept b (action.Monitor v) one h n = h n
 goes_kept b (action.NeedCreds c m) one h n = h n
 goes_kept b (action.Close m) one h n = h n
 goes_kept b (action.Write m bytes) one h n = h n
 goes_kept b (action.Wait owner.Setup kind) one h n = h n
 goes_kept b (action.Wait owner.Auth kind) one h n = h n
+goes_kept b (action.Wait owner.Monitor kind) one h n = h n
 goes_kept b (action.Wait (owner.Try i round) kind) one h n = chosen OnFirst (i == n) (waits (b.story n) kind) (b.story n) (λ e. h n) (λ f. h n)
 goes_kept b (action.Start m k owner.Setup count len) one h n = h n
 goes_kept b (action.Start m k owner.Auth count len) one h n = h n
+goes_kept b (action.Start m k owner.Monitor count len) one h n = h n
 goes_kept b (action.Start m k (owner.Try i round) count len) one h n = chosen OnFirst (i == n) (tried (b.story n) m k) (b.story n) (λ e. h n) (λ f. h n)
 goes_kept b (action.Created e) one h n = h n
 goes_kept b (action.Outcome i o) one h n = chosen OnFirst (i == n) (answered (b.story n) o) (b.story n) (λ e. h n) (λ f. h n)

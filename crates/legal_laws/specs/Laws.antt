@@ -9,7 +9,11 @@ use Rattle.legal_laws.specs.Links.{lines_for, TakesInOrder}
 use Rattle.legal_laws.specs.Segments.{AreInOrder}
 use Rattle.legal_laws.specs.Starts.{StaysWithin}
 use Rattle.legal_laws.specs.Permits.{KeepsPermits, AsksTimers}
-use Rattle.legal_laws.specs.Pushes.{TellsPushes, TellsEnds}
+use Rattle.legal_laws.specs.Notices.{TellsNotices}
+use Rattle.legal_laws.specs.Values.{TellsMessages}
+use Rattle.legal_laws.specs.Reports.{TellsReports}
+use Rattle.legal_laws.specs.Drops.{EndsWhereDropped}
+use Rattle.legal_laws.specs.Pushes.{TellsEnds}
 use Rattle.legal_laws.specs.Sources.{StartsAuthorized}
 use Rattle.legal_laws.specs.Renewals.{TimesRenewals}
 
@@ -52,11 +56,29 @@ EachAsksTimers =
     (config : Config) (word : ℕ) (events : List Event) (trace : List Action) → Legal config word events trace
     → AsksTimers config trace
 
--- each legal trace tells the pushes that come
-abbrev pub EachTellsPushes : Type 0
-EachTellsPushes =
+-- each legal trace tells what is heard beside replies
+abbrev pub EachTellsNotices : Type 0
+EachTellsNotices =
     (config : Config) (word : ℕ) (events : List Event) (trace : List Action) → Legal config word events trace
-    → TellsPushes config trace
+    → TellsNotices config trace
+
+-- each message where it came, and none is dealt
+abbrev pub EachTellsMessages : Type 0
+EachTellsMessages =
+    (config : Config) (word : ℕ) (events : List Event) (trace : List Action) → Legal config word events trace
+    → TellsMessages config trace
+
+-- each report of a monitor behind its answer
+abbrev pub EachTellsReports : Type 0
+EachTellsReports =
+    (config : Config) (word : ℕ) (events : List Event) (trace : List Action) → Legal config word events trace
+    → TellsReports config trace
+
+-- a dropped stream of messages ends its link
+abbrev pub EachEndsDropped : Type 0
+EachEndsDropped =
+    (config : Config) (word : ℕ) (events : List Event) (trace : List Action) → Legal config word events trace
+    → EndsWhereDropped config trace
 
 -- and that links have ended
 abbrev pub EachTellsEnds : Type 0

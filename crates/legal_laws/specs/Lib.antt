@@ -8,5 +8,9 @@ pub mod Opened
 pub mod Sources
 pub mod Renewals
 pub mod Permits
+pub mod Notices
+pub mod Values
+pub mod Reports
+pub mod Drops
 pub mod Pushes
 pub mod Laws

@@ -13,6 +13,7 @@ use Rattle.driver_model.specs.declared.event.Event.{Event}
 use Rattle.driver_model.specs.declared.event.EventKind.TheVariants as event
 use Rattle.driver_model.specs.declared.event.Submission.{Submission}
 use Rattle.driver_model.specs.declared.outcome.Outcome.TheVariants as outcome
+use Rattle.driver_model.specs.Config.{permits}
 use Rattle.legal_trace.specs.Book.{book, is_clock_of}
 use Rattle.legal_trace.specs.Steps.{permits_held}
 use Rattle.legal_trace.specs.Legal.{IsOpen}
@@ -21,14 +22,14 @@ use Rattle.legal_laws.specs.Starts.{IsStart}
 -- behind each front of a trace its submissions hold no more permits of a link than its configuration has
 abbrev pub HoldsWithin : Config → List Action → Type 0
 HoldsWithin config trace =
-    (front more : List Action) (limit l : ℕ) → trace ≡ front ++ more → config.limit ≡ Some limit
+    (front more : List Action) (limit l : ℕ) → trace ≡ front ++ more → permits config ≡ Some limit
     → permits_held (book front).story l (book front).submissions ≤ limit
 
 -- and none is taken where they aren't counted
 abbrev pub TakesWhereCounted : Config → List Action → Type 0
 TakesWhereCounted config trace =
     (front more : List Action) (who : Owner) (l count : ℕ) → trace ≡ front ++ action.Took who l count ∷ more
-    → config.limit ≡ None → ⊥
+    → permits config ≡ None → ⊥
 
 -- both of a trace
 pub record KeepsPermits (config : Config) (trace : List Action) : Type 0 where
@@ -59,7 +60,7 @@ abbrev pub AsksHolding : Config → List Action → Type 0
 AsksHolding config trace =
     (front more : List Action) (t ms n round : ℕ)
     → trace ≡ front ++ action.Timer t ms (purpose.Response (owner.Try n round)) ∷ more
-    → (config.limit ≡ None) ⊎ (0 < ((book front).story n).permits)
+    → (permits config ≡ None) ⊎ (0 < ((book front).story n).permits)
 
 -- all three of a trace
 pub record AsksTimers (config : Config) (trace : List Action) : Type 0 where

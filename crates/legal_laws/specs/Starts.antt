@@ -8,14 +8,14 @@ use Rattle.driver_model.specs.declared.config.Config.{Config}
 use Rattle.driver_model.specs.declared.event.EventKind.TheVariants as event
 use Rattle.driver_model.specs.declared.outcome.Outcome.{Outcome}
 use Rattle.driver_model.specs.declared.outcome.Outcome.TheVariants as outcome
-use Rattle.driver_model.specs.Config.{buffer_size, boundary}
+use Rattle.driver_model.specs.Config.{permits, buffer_size, boundary}
 use Rattle.legal_trace.specs.Ledger.{unwritten}
 use Rattle.legal_trace.specs.Story.{is_no_error}
 use Rattle.legal_trace.specs.Book.{Book, book}
 use Rattle.legal_trace.specs.Steps.{line_before}
 use Rattle.legal_trace.specs.Legal.{IsOpen}
 
--- a message starts on link l, of its setup, of new credentials or of a submission
+-- a message starts on link l, of its setup, of MONITOR, of new credentials or of a submission
 abbrev pub StartsOn : ℕ → Action → Type 0
 StartsOn l (action.Start m k who count len) = m ≡ l
 StartsOn l _ = ⊥
@@ -27,7 +27,7 @@ IsStart l n _ = ⊥
 
 -- submission n has a place: fewer stand in line before it than the queue of its link holds
 abbrev pub HasPlace : Config → Book → ℕ → Type 0
-HasPlace config b n = line_before config.limit b.story (b.story n).link n < buffer_size config
+HasPlace config b n = line_before (permits config) b.story (b.story n).link n < buffer_size config
 
 -- where a message starts, whosever it is, no bytes of its link were unwritten, or fewer than the boundary
 abbrev pub StartsWithin : Config → List Action → Type 0

@@ -5,7 +5,7 @@ ghost use Rattle.std.specs.Prelude.{List};
 ghost use Rattle.driver_model.specs.declared.action.Action.{Action};
 ghost use Rattle.legal_trace.specs.Ledger.{Line, LinkLegal};
 ghost use Rattle.legal_laws.specs.Links.{LinksAreLegal, LedgersAreTold, TakesInOrder};
-ghost use Rattle.legal_laws.specs.Answers.{AnswersOnce, AnswersAll, RefusesUnspoken};
+ghost use Rattle.legal_laws.specs.Answers.{AnswersOnce, AnswersAll, AnswersOver, RefusesUnspoken};
 ghost use Rattle.legal_laws.specs.Next.{OneIsNextBehind};
 ghost use Rattle.legal_laws.specs.Creation.{TellsOfOpening};
 ghost use Rattle.legal_laws.specs.Starts.{StartsRise, LeftStartNoMore};
@@ -14,9 +14,11 @@ ghost use Rattle.legal_laws.specs.Sources.{StartsNoneLacking};
 ghost use Rattle.legal_laws.specs.Renewals.{TellsInTurn};
 ghost use Rattle.legal_laws.specs.Laws.{OfEachLegal, LinksTakeInOrder, OneIsLegal, TurnsAreInOrder};
 ghost use Rattle.legal_laws.specs.Permits.{TimedOutStartNoMore, FiredStartNoMore};
-ghost use Rattle.legal_laws.specs.Pushes.{TellsInOrder};
+ghost use Rattle.legal_laws.specs.Notices.{TellsInOrder};
 ghost use Rattle.legal_laws.specs.Laws.{EachStaysWithin, EachKeepsPermits, EachAsksTimers};
-ghost use Rattle.legal_laws.specs.Laws.{EachTellsPushes, EachTellsEnds, EachStartsAuthorized};
+ghost use Rattle.legal_laws.specs.Laws.{EachTellsNotices, EachTellsEnds, EachStartsAuthorized};
+ghost use Rattle.legal_laws.specs.Laws.{EachTellsMessages, EachTellsReports, EachEndsDropped};
+ghost use Rattle.legal_laws.specs.Values.{ConfirmationsAreNone};
 ghost use Rattle.legal_laws.specs.Laws.{EachTimesRenewals};
 
 /// Does nothing. Its contract: what a legal trace tells of each link is legal by itself. What the
@@ -45,8 +47,15 @@ pub fn after_a_shutdown_all_are_answered()
     ensures { OfEachLegal AnswersAll }
 {}
 
+/// Does nothing. Its contract: in a legal trace each submission that was not cancelled has one
+/// outcome, once its link has ended, whatever ended it.
+pub fn after_an_end_all_are_answered()
+    ensures { OfEachLegal AnswersOver }
+{}
+
 /// Does nothing. Its contract: in a legal trace a subscription call that came before any shutdown,
-/// to a link whose server is told another protocol than RESP3, is answered with that error alone.
+/// to a multiplexed connection whose server is told another protocol than RESP3, is answered with
+/// that error alone.
 pub fn subscription_calls_need_resp3()
     ensures { OfEachLegal RefusesUnspoken }
 {}
@@ -99,8 +108,8 @@ pub fn new_credentials_are_told_in_turn()
     ensures { OfEachLegal TellsInTurn }
 {}
 
-/// Does nothing. Its contract: in a legal trace a message, of a submission, of a setup or of new
-/// credentials, starts only where no bytes of its link are unwritten, or fewer than the boundary of
+/// Does nothing. Its contract: in a legal trace a message, of a submission, of a setup, of MONITOR or
+/// of new credentials, starts only where no bytes of its link are unwritten, or fewer than the boundary of
 /// the configuration. Where that of a submission starts, and where a submission is answered without
 /// an error before it has a message, fewer submissions stand in line before it than the queue holds.
 pub fn no_message_starts_past_the_boundary()
@@ -139,14 +148,37 @@ pub fn a_timer_is_asked_once()
     ensures of_renewals { EachTimesRenewals }
 {}
 
-/// Does nothing. Its contract: where nobody hears pushes, a legal trace tells none. Where somebody
-/// does, behind each whole turn it has told of each link the pushes that came on it once it was set
-/// up, in order, each once. A push stands behind the outcomes of the messages that were full before
-/// it came, where their items gave them, and before the outcomes of those that take an item behind
-/// it.
-pub fn each_push_is_told()
-    ensures told { EachTellsPushes }
+/// Does nothing. Its contract: a legal trace tells no push, no message of publish/subscribe and no
+/// report of a monitor where nobody hears such. Where somebody does, behind each whole turn it has
+/// told of each link what came on it once it was set up, in order, each once. It stands behind the
+/// outcomes of the messages that were full before it came, where their items gave them, and before
+/// the outcomes of those that take an item behind it.
+pub fn each_notice_is_told()
+    ensures told { EachTellsNotices }
     ensures in_order { OfEachLegal TellsInOrder }
+{}
+
+/// Does nothing. Its contract: behind each whole turn a legal trace has told of each link what the
+/// values say that came on it once it was set up, in their order, and nothing else. Where messages
+/// of publish/subscribe are heard, that is each value that is a message: no such value is dealt to
+/// a request, and no confirmation is one.
+pub fn a_message_is_told_where_it_came()
+    ensures told { EachTellsMessages }
+    ensures unconfirmed { ConfirmationsAreNone }
+{}
+
+/// Does nothing. Its contract: where messages are heard, in a legal trace each link that was asked for
+/// has ended behind the turn in which their stream is dropped.
+pub fn a_dropped_stream_ends_its_link()
+    ensures { EachEndsDropped }
+{}
+
+/// Does nothing. Its contract: in a legal trace MONITOR starts only where the session is a monitor,
+/// once what is said before the first request is answered well, and once on a link. This link is set
+/// up once MONITOR is answered, which is the last item that is dealt on it; behind each whole turn the
+/// trace has told each later item, in order. Nothing is submitted to such a session.
+pub fn a_monitor_tells_all_behind_its_answer()
+    ensures { EachTellsReports }
 {}
 
 /// Does nothing. Its contract: a legal trace tells at most once that a link has ended, and only

@@ -1,18 +1,17 @@
 -- What holds of any ledger, and what lines do to it.
 use Rattle.std.proofs.Common.{◌≡◌, ◌≢◌, ℕ, ◌+◌, ◌-◌, ◌<◌, ◌≤◌, ◌==◌, min, if◌then◌else◌, Bool, true, false, ◌&&◌, not, List, [], ◌∷◌, ◌++◌, length, take, drop, None, refl, sym, ap, ◌∙◌, subst, arith, append_assoc, length-append}
 use Rattle.containers.proofs.Choices.{chosen, if_false, ne_from, not_both}
-use Rattle.std.proofs.lemmas.List.{append-nil, length-take}
-use Rattle.resp_read.specs.Values.{values, left_over}
-use Rattle.resp_read.specs.Items.{items}
+use Rattle.std.proofs.lemmas.List.{append-nil, length-take, take-append-le}
 use Rattle.resp_value.specs.Data.{Data}
 use Rattle.redis_error.specs.declared.redis_error.RedisError.TheVariants as error
-use Rattle.driver_model.specs.News.{News, silence, connected, refused, overdue, took, came, failed, authorized, denied, deserted, renewed, unrenewed, late, shut}
+use Rattle.driver_model.specs.News.{News, silence, connected, refused, overdue, took, came, failed, authorized, denied, deserted, renewed, unrenewed, late, dropped, shut}
 use Rattle.driver_model.specs.declared.outcome.Shape.{Shape}
 use Rattle.driver_model.specs.declared.outcome.Shape.TheVariants.{Single, Pipeline, Confirmation}
 use Rattle.driver_model.specs.Shape.{need_of}
-use Rattle.legal_trace.specs.Ledger.{Ledger, Line, Start, asks, hears, begins, offers, tells, sources, times, ends, parts, noted, noted_each, with_news, refused_in, bytes_came, heard_each, items_came, awaits_credentials, authorized_by, may_renew, renewed_by, unrenewed_by, is_renewal_open, lost_by, is_over, dials, reach, joined, AllNoted}
+use Rattle.legal_trace.specs.Ledger.{Ledger, Line, Start, asks, hears, begins, offers, tells, sources, times, ends, parts, noted, noted_each, with_news, refused_in, bytes_came, value_came, items_came, awaits_credentials, authorized_by, may_renew, renewed_by, unrenewed_by, is_renewal_open, lost_by, is_over, dials, reach, joined, reached, AllNoted}
 use Rattle.legal_trace.specs.Book.{if_mine}
 use Rattle.legal_trace.proofs.Plain.{none_from}
+use Rattle.legal_trace.proofs.Came.{holds_bytes, value_keeps, bytes_keep}
 
 -- a fact that each line keeps is kept by any lines
 pub each_keeps : (P : Ledger → Type 0) → ((l : Ledger) (x : Line) → P l → P (noted l x)) → (l : Ledger) (lines : List Line) → P l → P (noted_each l lines)
@@ -60,7 +59,7 @@ up_hears l turn connected h = chosen UpIsNotOver (is_over l) l (record l { up = 
 up_hears l turn (refused f) h = chosen UpIsNotOver (dials l) (refused_in l turn (error.Io f)) l (λ t u. absurd (not_both l.up (dials_from l t).1 u)) (λ e. h)
 up_hears l turn overdue h = h
 up_hears l turn (took count) h = chosen UpIsNotOver l.up (record l { taken = l.taken ++ take count l.offer; offer = [] }) l (λ t. h) (λ e. h)
-up_hears l turn (came piece) h = chosen UpIsNotOver l.up (bytes_came l piece) l (λ t. h) (λ e. h)
+up_hears l turn (came piece) h = chosen UpIsNotOver l.up (bytes_came l piece) l (λ t. holds_bytes UpIsNotOver l piece (λ rest strange told more. h)) (λ e. h)
 up_hears l turn (failed f) h = h
 up_hears l turn (authorized c) h = chosen UpIsNotOver (awaits_credentials l) (authorized_by l c) l (λ t. h) (λ e. h)
 up_hears l turn (denied text) h = h
@@ -68,11 +67,12 @@ up_hears l turn deserted h = h
 up_hears l turn (renewed c) h = chosen UpIsNotOver (may_renew l) (renewed_by l c) l (λ t. h) (λ e. h)
 up_hears l turn unrenewed h = chosen UpIsNotOver l.up (unrenewed_by l) l (λ t. h) (λ e. h)
 up_hears l turn (late k) h = chosen UpIsNotOver (l.up && is_renewal_open l k) (lost_by l) l (λ t. h) (λ e. h)
+up_hears l turn dropped h = h
 up_hears l turn shut h = h
 
 -- nor does any line
 pub up_keeps : (l : Ledger) (x : Line) → UpIsNotOver l → UpIsNotOver (noted l x)
-up_keeps l (asks info wanted) h = h
+up_keeps l (asks info wanted hearing) h = h
 up_keeps l (hears turn news) h = up_hears l turn news h
 up_keeps l (begins s) h = h
 up_keeps l (offers bytes) h = h
@@ -86,36 +86,38 @@ up_keeps l parts h = h
 abbrev pub IsAsked : Ledger → Type 0
 IsAsked l = l.asked ≡ true
 
--- of a second ledger: it was asked for and has started messages as the first, and where it has not ended, nor has the first
+-- of a second ledger: it was asked for, hears and has started messages as the first, and where it has not ended, nor has the first
 pub record SamePast (l m : Ledger) : Type 0 where
   pub asked : m.asked ≡ l.asked
+  pub hearing : m.hearing ≡ l.hearing
   pub end : m.end ≡ None → l.end ≡ None
   pub starts : m.starts ≡ l.starts
 
 -- each has its own past
 same_past : (l : Ledger) → SamePast l l
-same_past l = record { asked = refl; end = λ e. e; starts = refl }
+same_past l = record { asked = refl; hearing = refl; end = λ e. e; starts = refl }
 
 -- news leaves these as they are
 pub hears_past : (l : Ledger) (turn : ℕ) (news : News) → SamePast l (with_news l turn news)
 hears_past l turn silence = same_past l
-hears_past l turn connected = chosen (SamePast l) (is_over l) l (record l { up = true }) (λ t. same_past l) (λ e. record { asked = refl; end = λ n. n; starts = refl })
-hears_past l turn (refused f) = chosen (SamePast l) (dials l) (refused_in l turn (error.Io f)) l (λ t. record { asked = refl; end = λ n. none_from l.end (dials_from l t).2; starts = refl }) (λ e. same_past l)
+hears_past l turn connected = chosen (SamePast l) (is_over l) l (record l { up = true }) (λ t. same_past l) (λ e. record { asked = refl; hearing = refl; end = λ n. n; starts = refl })
+hears_past l turn (refused f) = chosen (SamePast l) (dials l) (refused_in l turn (error.Io f)) l (λ t. record { asked = refl; hearing = refl; end = λ n. none_from l.end (dials_from l t).2; starts = refl }) (λ e. same_past l)
 hears_past l turn overdue = same_past l
-hears_past l turn (took count) = chosen (SamePast l) l.up (record l { taken = l.taken ++ take count l.offer; offer = [] }) l (λ t. record { asked = refl; end = λ n. n; starts = refl }) (λ e. same_past l)
-hears_past l turn (came piece) = chosen (SamePast l) l.up (bytes_came l piece) l (λ t. record { asked = refl; end = λ n. n; starts = refl }) (λ e. same_past l)
+hears_past l turn (took count) = chosen (SamePast l) l.up (record l { taken = l.taken ++ take count l.offer; offer = [] }) l (λ t. record { asked = refl; hearing = refl; end = λ n. n; starts = refl }) (λ e. same_past l)
+hears_past l turn (came piece) = chosen (SamePast l) l.up (bytes_came l piece) l (λ t. holds_bytes (SamePast l) l piece (λ rest strange told more. record { asked = refl; hearing = refl; end = λ n. n; starts = refl })) (λ e. same_past l)
 hears_past l turn (failed f) = same_past l
-hears_past l turn (authorized c) = chosen (SamePast l) (awaits_credentials l) (authorized_by l c) l (λ t. record { asked = refl; end = λ n. n; starts = refl }) (λ e. same_past l)
+hears_past l turn (authorized c) = chosen (SamePast l) (awaits_credentials l) (authorized_by l c) l (λ t. record { asked = refl; hearing = refl; end = λ n. n; starts = refl }) (λ e. same_past l)
 hears_past l turn (denied text) = same_past l
 hears_past l turn deserted = same_past l
-hears_past l turn (renewed c) = chosen (SamePast l) (may_renew l) (renewed_by l c) l (λ t. record { asked = refl; end = λ n. n; starts = refl }) (λ e. same_past l)
-hears_past l turn unrenewed = chosen (SamePast l) l.up (unrenewed_by l) l (λ t. record { asked = refl; end = λ n. n; starts = refl }) (λ e. same_past l)
-hears_past l turn (late k) = chosen (SamePast l) (l.up && is_renewal_open l k) (lost_by l) l (λ t. record { asked = refl; end = λ n. n; starts = refl }) (λ e. same_past l)
+hears_past l turn (renewed c) = chosen (SamePast l) (may_renew l) (renewed_by l c) l (λ t. record { asked = refl; hearing = refl; end = λ n. n; starts = refl }) (λ e. same_past l)
+hears_past l turn unrenewed = chosen (SamePast l) l.up (unrenewed_by l) l (λ t. record { asked = refl; hearing = refl; end = λ n. n; starts = refl }) (λ e. same_past l)
+hears_past l turn (late k) = chosen (SamePast l) (l.up && is_renewal_open l k) (lost_by l) l (λ t. record { asked = refl; hearing = refl; end = λ n. n; starts = refl }) (λ e. same_past l)
+hears_past l turn dropped = same_past l
 hears_past l turn shut = same_past l
 
 -- each line leaves it so
 pub asked_keeps : (l : Ledger) (x : Line) → IsAsked l → IsAsked (noted l x)
-asked_keeps l (asks info wanted) h = refl
+asked_keeps l (asks info wanted hearing) h = refl
 asked_keeps l (hears turn news) h = subst (λ (b : Bool). b ≡ true) (sym (hears_past l turn news).asked) h
 asked_keeps l (begins s) h = h
 asked_keeps l (offers bytes) h = h
@@ -131,7 +133,7 @@ HasStarted k l = k < length l.starts
 
 -- each line leaves these
 pub started_keeps : (k : ℕ) (l : Ledger) (x : Line) → HasStarted k l → HasStarted k (noted l x)
-started_keeps k l (asks info wanted) h = h
+started_keeps k l (asks info wanted hearing) h = h
 started_keeps k l (hears turn news) h = subst (λ (ss : List Start). k < length ss) (sym (hears_past l turn news).starts) h
 started_keeps k l (begins s) h = let e : length (l.starts ++ s ∷ []) ≡ length l.starts + 1 = length-append l.starts (s ∷ []) in omega arith
 started_keeps k l (offers bytes) h = h
@@ -164,6 +166,7 @@ unasked_hears l turn deserted not_up h = h
 unasked_hears l turn (renewed c) not_up h = chosen IsUnasked (may_renew l) (renewed_by l c) l (λ t. h) (λ e. h)
 unasked_hears l turn unrenewed not_up h = chosen IsUnasked l.up (unrenewed_by l) l (λ t. h) (λ e. h)
 unasked_hears l turn (late k) not_up h = chosen IsUnasked (l.up && is_renewal_open l k) (lost_by l) l (λ t. h) (λ e. h)
+unasked_hears l turn dropped not_up h = h
 unasked_hears l turn shut not_up h = h
 
 -- the bytes of a message more
@@ -181,6 +184,14 @@ pub reach_more : (ss : List Start) (s : Start) (d : List Data) → reach (ss ++ 
 reach_more [] s d = omega arith
 reach_more (t ∷ ss) s d = let e : reach (ss ++ s ∷ []) (drop (need_of t.shape) d) ≡ reach ss (drop (need_of t.shape) d) + need_of s.shape = reach_more ss s (drop (need_of t.shape) d) in omega arith
 
+-- the first messages take as much where more start behind them
+pub reached_more : (l : Ledger) (s : Start) (k : ℕ) → k ≤ length l.starts → reached (record l { starts = l.starts ++ s ∷ [] }) k ≡ reached l k
+reached_more l s k i = ap (λ (ss : List Start). reach ss l.dealt) (take-append-le k l.starts (s ∷ []) i)
+
+-- more items leave what messages take
+pub reached_dealt : (l : Ledger) (rest : List ℕ) (more : List Data) (k : ℕ) → reached (record l { rest = rest; dealt = l.dealt ++ more }) k ≡ reached l k
+reached_dealt l rest more k = reach_alike (take k l.starts) (l.dealt ++ more) l.dealt
+
 -- a message takes an item at least
 pub takes_one : (s : Shape) → 1 ≤ need_of s
 takes_one Single = omega arith
@@ -192,7 +203,7 @@ abbrev pub FewAreDealt : Ledger → Type 0
 FewAreDealt l = length l.dealt ≤ reach l.starts l.dealt
 
 -- items that come are dealt as far as there is room
-few_come : (l : Ledger) (more : List Data) → FewAreDealt l → FewAreDealt (items_came l more)
+pub few_come : (l : Ledger) (more : List Data) → FewAreDealt l → FewAreDealt (items_came l more)
 few_come l more h =
     let room : ℕ = reach l.starts l.dealt - length l.dealt in
     let d : List Data = l.dealt ++ take room more in
@@ -201,6 +212,10 @@ few_come l more h =
     let g : length (take room more) ≡ min room (length more) = length-take room more in
     omega arith
 
+-- so with each value
+pub few_value : (l : Ledger) (v : Data) → FewAreDealt l → FewAreDealt (value_came l v)
+few_value l v h = value_keeps FewAreDealt (λ m told strange k. k) (λ m w k. few_come m (w ∷ []) k) l v h
+
 -- so with any news
 few_hears : (l : Ledger) (turn : ℕ) (news : News) → FewAreDealt l → FewAreDealt (with_news l turn news)
 few_hears l turn silence h = h
@@ -208,7 +223,7 @@ few_hears l turn connected h = chosen FewAreDealt (is_over l) l (record l { up =
 few_hears l turn (refused f) h = chosen FewAreDealt (dials l) (refused_in l turn (error.Io f)) l (λ t. h) (λ e. h)
 few_hears l turn overdue h = h
 few_hears l turn (took count) h = chosen FewAreDealt l.up (record l { taken = l.taken ++ take count l.offer; offer = [] }) l (λ t. h) (λ e. h)
-few_hears l turn (came piece) h = chosen FewAreDealt l.up (bytes_came l piece) l (λ t. few_come (record l { rest = left_over (l.rest ++ piece); pushes = l.pushes ++ heard_each l (values (l.rest ++ piece)) }) (items (l.rest ++ piece)) h) (λ e. h)
+few_hears l turn (came piece) h = chosen FewAreDealt l.up (bytes_came l piece) l (λ t. bytes_keep FewAreDealt few_value l piece h) (λ e. h)
 few_hears l turn (failed f) h = h
 few_hears l turn (authorized c) h = chosen FewAreDealt (awaits_credentials l) (authorized_by l c) l (λ t. h) (λ e. h)
 few_hears l turn (denied text) h = h
@@ -216,11 +231,12 @@ few_hears l turn deserted h = h
 few_hears l turn (renewed c) h = chosen FewAreDealt (may_renew l) (renewed_by l c) l (λ t. h) (λ e. h)
 few_hears l turn unrenewed h = chosen FewAreDealt l.up (unrenewed_by l) l (λ t. h) (λ e. h)
 few_hears l turn (late k) h = chosen FewAreDealt (l.up && is_renewal_open l k) (lost_by l) l (λ t. h) (λ e. h)
+few_hears l turn dropped h = h
 few_hears l turn shut h = h
 
 -- and with any line
 pub few_keeps : (l : Ledger) (x : Line) → FewAreDealt l → FewAreDealt (noted l x)
-few_keeps l (asks info wanted) h = h
+few_keeps l (asks info wanted hearing) h = h
 few_keeps l (hears turn news) h = few_hears l turn news h
 few_keeps l (begins s) h = let e : reach (l.starts ++ s ∷ []) l.dealt ≡ reach l.starts l.dealt + need_of s.shape = reach_more l.starts s l.dealt in omega arith
 few_keeps l (offers bytes) h = h

@@ -1,7 +1,10 @@
 pub mod Plain
+pub mod Came
 pub mod Ledgers
 pub mod Books
 pub mod Moves
+pub mod Monitors
 pub mod Setups
+pub mod Watching
 pub mod Sources
 pub mod Renewals

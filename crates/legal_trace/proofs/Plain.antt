@@ -1,5 +1,5 @@
 -- Lists and options.
-use Rattle.std.proofs.Common.{◌≡◌, ◌⊎◌, inl, inr, ℕ, zero, suc, false, List, [], ◌∷◌, ◌++◌, length, Option, Some, None, is_some, slice_get, refl, ap}
+use Rattle.std.proofs.Common.{◌≡◌, ◌⊎◌, inl, inr, ℕ, zero, suc, ◌<◌, false, List, [], ◌∷◌, ◌++◌, length, Option, Some, None, is_some, slice_get, refl, ap, arith}
 
 -- an option that isn't some is none
 pub none_from : {X : Type 0} (o : Option X) → is_some o ≡ false → o ≡ None
@@ -25,6 +25,12 @@ item_behind [] y x zero e = inr (refl, same_some y x e)
 item_behind [] y x (suc k) e = cc
 item_behind (z ∷ xs) y x zero e = inl e
 item_behind (z ∷ xs) y x (suc k) e = elim (item_behind xs y x k e) [ inl old ↦ inl old | inr new ↦ inr (ap suc new.0, new.1) ]
+
+-- an item stands within its list
+pub item_within : {X : Type 0} (xs : List X) (k : ℕ) (x : X) → slice_get xs k ≡ Some x → k < length xs
+item_within [] k x e = cc
+item_within (y ∷ xs) zero x e = omega arith
+item_within (y ∷ xs) (suc k) x e = omega (arith, item_within xs k x e)
 
 -- an item of a list stays where more come
 pub item_stays : {X : Type 0} (xs ys : List X) (x : X) (k : ℕ) → slice_get xs k ≡ Some x → slice_get (xs ++ ys) k ≡ Some x

@@ -10,7 +10,8 @@ use Rattle.legal_trace.specs.Ledger.{Ledger, Start, reached, cut, is_done, is_fu
 use Rattle.legal_trace.specs.Book.{renewal_in}
 use Rattle.legal_trace.proofs.Moves.{both_hold}
 use Rattle.legal_trace.proofs.Plain.{not_none, same_some}
-use Rattle.legal_trace.proofs.Setups.{full_stays, reached_more}
+use Rattle.legal_trace.proofs.Ledgers.{reached_more}
+use Rattle.legal_trace.proofs.Setups.{full_stays}
 
 -- what allows that new credentials are told
 abbrev pub may_tell : Ledger → Bool

@@ -1,11 +1,9 @@
 -- Links that are set up: what makes them so, and that they stay so.
-use Rattle.std.proofs.Common.{◌≡◌, ◌≢◌, ◌⊎◌, inl, inr, ℕ, zero, suc, ◌+◌, ◌-◌, ◌<◌, ◌≤◌, ◌==◌, nat_le, if◌then◌else◌, Bool, true, false, ◌&&◌, ◌||◌, not, List, [], ◌∷◌, ◌++◌, length, take, drop, Option, Some, None, refl, sym, ap, ◌∙◌, subst, arith, length-append, slice_get}
+use Rattle.std.proofs.Common.{◌≡◌, ◌≢◌, ◌⊎◌, inl, inr, ℕ, zero, suc, ◌+◌, ◌<◌, ◌≤◌, ◌==◌, nat_le, if◌then◌else◌, Bool, true, false, ◌&&◌, ◌||◌, not, List, [], ◌∷◌, ◌++◌, length, take, drop, Option, Some, None, refl, sym, ap, ◌∙◌, subst, arith, length-append, slice_get}
 use Rattle.std.proofs.lemmas.List.{take-append-le, drop-append-le, take_all, length_push}
 use Rattle.std.specs.Prelude.{ℤ, pos, negsuc}
-use Rattle.containers.proofs.Choices.{by_test, chosen, taken_if, left_if, le_from, le_test, not_le_test, not_both, or_right}
+use Rattle.containers.proofs.Choices.{by_test, chosen, taken_if, left_if, le_from, le_test, not_le_test, not_both, or_right, both_left, both_right}
 use Rattle.resp_value.specs.Data.{Data}
-use Rattle.resp_read.specs.Values.{left_over}
-use Rattle.resp_read.specs.Items.{items}
 use Rattle.resp_write.specs.Pack.{pack}
 use Rattle.redis_error.specs.declared.redis_error.RedisError.{RedisError}
 use Rattle.connection_info.specs.declared.address.RedisConnectionInfo.{RedisConnectionInfo}
@@ -16,12 +14,17 @@ use Rattle.connection_setup.specs.declared.judgement.SetupResult.TheVariants as 
 use Rattle.connection_setup.specs.Setup.{Step, choices, library, opening, opening_of, selection, setup, username_in}
 use Rattle.connection_setup.specs.Judgement.{judged}
 use Rattle.driver_model.specs.Config.{bare_info}
+use Rattle.driver_model.specs.Hearing.{is_watching}
+use Rattle.driver_model.specs.declared.news.LinkFault.TheVariants as fault
 use Rattle.driver_model.specs.Setup.{says_nothing, setup_bytes, setup_shape}
-use Rattle.driver_model.specs.News.{News, silence, connected, refused, overdue, took, came, failed, authorized, denied, deserted, renewed, unrenewed, late, shut}
+use Rattle.driver_model.specs.News.{News, silence, connected, refused, overdue, took, came, failed, authorized, denied, deserted, renewed, unrenewed, late, dropped, shut}
 use Rattle.driver_model.specs.Shape.{need_of}
-use Rattle.legal_trace.specs.Ledger.{Ledger, Start, Ending, is_over, reach, reached, cut, bytes_came, is_full, is_of_setup, setup_count, setup_steps, result_of, last_result, lacks_credentials, setup_result, is_well, is_set_up, error_in, repeats, setup_after, setup_due, setup_message, ending, ending_up, ending_by, ending_unready, ending_alive, ending_asked}
-use Rattle.legal_trace.proofs.Ledgers.{reach_alike, reach_more, takes_one}
-use Rattle.legal_trace.proofs.Plain.{item_behind, same_some}
+use Rattle.legal_trace.specs.Ledger.{Ledger, Start, Ending, by_opening, is_over, reach, reached, cut, bytes_came, is_full, is_of_setup, setup_count, setup_steps, result_of, last_result, lacks_credentials, setup_result, is_well, is_greeted, is_set_up, error_in, repeats, setup_after, setup_due, setup_message, ending, ending_up, ending_by, ending_unready, ending_alive, ending_asked, is_unreadable, opening_error}
+use Rattle.legal_trace.proofs.Came.{Came, holds_came, bytes_are}
+use Rattle.legal_trace.proofs.Ledgers.{reach_more, reached_more, reached_dealt, takes_one}
+use Rattle.legal_trace.proofs.Monitors.{is_watched, unwatched, watched_begins, watched_grows}
+use Rattle.legal_trace.proofs.Moves.{both_hold}
+use Rattle.legal_trace.proofs.Plain.{item_behind, item_within, same_some}
 
 -- what so many setups came to, where no credentials are waited for
 abbrev pub said_result : Ledger → ℕ → Option SetupResult
@@ -39,26 +42,52 @@ setup_unsaid l lacks = taken_if (lacks_credentials l) None (said_result l (setup
 pub unwanted : (l : Ledger) → l.creds.wanted ≡ false → lacks_credentials l ≡ false
 unwanted l e = ap (λ wanted. wanted && not l.creds.given) e
 
+-- a link to whose server all is said before the first request has the credentials for it
+pub greeted_is_given : (l : Ledger) → is_greeted l ≡ true → lacks_credentials l ≡ false
+greeted_is_given l greeted = by_test (lacks_credentials l) (lacks_credentials l ≡ false)
+    (λ t. absurd (let x : false ≡ true = sym (ap is_well (setup_unsaid l t)) ∙ greeted in cc x)) (λ f. f)
+
+-- and its setups came to it
+pub greeted_is_said : (l : Ledger) → is_greeted l ≡ true → is_well (said_result l (setup_count l.starts)) ≡ true
+greeted_is_said l greeted = sym (ap is_well (setup_said l (greeted_is_given l greeted))) ∙ greeted
+
+-- so both make it so
+pub said_is_greeted : (l : Ledger) → lacks_credentials l ≡ false → is_well (said_result l (setup_count l.starts)) ≡ true → is_greeted l ≡ true
+said_is_greeted l given well = ap is_well (setup_said l given) ∙ well
+
+-- that it is, and that MONITOR is answered, where its server is put into monitor mode, is that it is set up
+pub set_is_greeted : (l : Ledger) → is_set_up l ≡ true → is_greeted l ≡ true
+set_is_greeted l set = both_left (is_greeted l) (is_watched l) set
+
+pub set_is_watched : (l : Ledger) → is_set_up l ≡ true → is_watched l ≡ true
+set_is_watched l set = both_right (is_greeted l) (is_watched l) set
+
+pub greeted_is_set : (l : Ledger) → is_greeted l ≡ true → is_watched l ≡ true → is_set_up l ≡ true
+greeted_is_set l greeted watched = both_hold (is_greeted l) (is_watched l) greeted watched
+
+-- one that isn't greeted isn't set up
+pub ungreeted_is_unset : (l : Ledger) → is_greeted l ≡ false → is_set_up l ≡ false
+ungreeted_is_unset l e = ap (λ greeted. greeted && is_watched l) e
+
 -- a link that is set up has the credentials for it
 pub set_is_given : (l : Ledger) → is_set_up l ≡ true → lacks_credentials l ≡ false
-set_is_given l set = by_test (lacks_credentials l) (lacks_credentials l ≡ false)
-    (λ t. absurd (let x : false ≡ true = sym (ap is_well (setup_unsaid l t)) ∙ set in cc x)) (λ f. f)
+set_is_given l set = greeted_is_given l (set_is_greeted l set)
 
 -- and its setups came to it
 pub set_is_said : (l : Ledger) → is_set_up l ≡ true → is_well (said_result l (setup_count l.starts)) ≡ true
-set_is_said l set = sym (ap is_well (setup_said l (set_is_given l set))) ∙ set
+set_is_said l set = greeted_is_said l (set_is_greeted l set)
 
--- so both make a link set up
-pub said_is_set : (l : Ledger) → lacks_credentials l ≡ false → is_well (said_result l (setup_count l.starts)) ≡ true → is_set_up l ≡ true
-said_is_set l given well = ap is_well (setup_said l given) ∙ well
+-- a link to whose server nothing is to be said is greeted, where it waits for no credentials
+pub silent_is_greeted : (l : Ledger) → lacks_credentials l ≡ false → says_nothing (setup_steps l 0) ≡ true → is_greeted l ≡ true
+silent_is_greeted l given h = said_is_greeted l given (ap (λ t. is_well (if t then Some result.Ready else last_result l (setup_count l.starts))) h)
 
--- a link to whose server nothing is to be said is set up, where it waits for no credentials
-pub silent_is_set : (l : Ledger) → lacks_credentials l ≡ false → says_nothing (setup_steps l 0) ≡ true → is_set_up l ≡ true
-silent_is_set l given h = said_is_set l given (ap (λ t. is_well (if t then Some result.Ready else last_result l (setup_count l.starts))) h)
+-- so it is set up, where its server isn't put into monitor mode
+pub silent_is_set : (l : Ledger) → is_watching l.hearing ≡ false → lacks_credentials l ≡ false → says_nothing (setup_steps l 0) ≡ true → is_set_up l ≡ true
+silent_is_set l plain given h = greeted_is_set l (silent_is_greeted l given h) (unwatched l plain)
 
--- so one of which nothing was told that is to be said
-pub bare_is_set : (l : Ledger) → l.info ≡ bare_info → l.creds.wanted ≡ false → is_set_up l ≡ true
-bare_is_set l e unasked = silent_is_set l (unwanted l unasked) (ap (λ (info : RedisConnectionInfo). says_nothing (setup info (0 == 0))) e)
+-- so is one of which nothing was told that is to be said
+pub bare_is_set : (l : Ledger) → is_watching l.hearing ≡ false → l.info ≡ bare_info → l.creds.wanted ≡ false → is_set_up l ≡ true
+bare_is_set l plain e unasked = silent_is_set l plain (unwanted l unasked) (ap (λ (info : RedisConnectionInfo). says_nothing (setup info (0 == 0))) e)
 
 -- what holds of the second of two holds of one of them
 pub second_holds : (p q : Bool) → q ≡ true → (p || q) ≡ true
@@ -68,7 +97,7 @@ second_holds false q e = e
 -- what ends a link that is up and set up
 pub ends_where_set : (l : Ledger) → l.up ≡ true → is_set_up l ≡ true → ending l ≡ ending_up l l.heard
 ends_where_set l up set =
-    taken_if l.up (ending_alive l) (if l.asked && not (is_over l) then ending_asked l.heard else None) up
+    taken_if l.up (ending_alive l) (if l.asked && not (is_over l) then ending_asked l l.heard else None) up
     ∙ taken_if (is_set_up l) (ending_up l l.heard) (ending_by (error_in (setup_result l)) (ending_unready l l.heard)) set
 
 -- without commands nothing is repeated
@@ -97,11 +126,15 @@ undue_after l (suc zero) k well due = by_test (repeats (result_of l 0)) ⊥
     (λ n. let x : None ≡ Some k = sym (left_if (repeats (result_of l 0)) (Some 1) None n) ∙ due in cc x)
 undue_after l (suc (suc count)) k well due = cc due
 
--- no setup is due on a link that is set up
-pub set_is_undue : (l : Ledger) (k : ℕ) → is_set_up l ≡ true → setup_due l ≡ Some k → ⊥
-set_is_undue l k set due = by_test l.up ⊥
-    (λ t. undue_after l (setup_count l.starts) k (set_is_said l set) (sym (taken_if l.up (setup_after l (setup_count l.starts)) None t) ∙ due))
+-- no setup is due on a link that is greeted
+pub greeted_is_undue : (l : Ledger) (k : ℕ) → is_greeted l ≡ true → setup_due l ≡ Some k → ⊥
+greeted_is_undue l k greeted due = by_test l.up ⊥
+    (λ t. undue_after l (setup_count l.starts) k (greeted_is_said l greeted) (sym (taken_if l.up (setup_after l (setup_count l.starts)) None t) ∙ due))
     (λ f. let x : None ≡ Some k = sym (left_if l.up (setup_after l (setup_count l.starts)) None f) ∙ due in cc x)
+
+-- nor on one that is set up
+pub set_is_undue : (l : Ledger) (k : ℕ) → is_set_up l ≡ true → setup_due l ≡ Some k → ⊥
+set_is_undue l k set due = greeted_is_undue l k (set_is_greeted l set) due
 
 -- so one on which a setup is due isn't set up
 pub due_is_unset : (l : Ledger) (k : ℕ) → setup_due l ≡ Some k → is_set_up l ≡ false
@@ -122,10 +155,6 @@ pub count_more : (ss : List Start) (s : Start) → is_of_setup s.owner ≡ false
 count_more [] s f = left_if (is_of_setup s.owner) (suc 0) 0 f
 count_more (x ∷ ss) s f = ap (λ k. if is_of_setup x.owner then suc k else 0) (count_more ss s f)
 
--- the first messages take as much where more start behind them
-pub reached_more : (l : Ledger) (s : Start) (k : ℕ) → k ≤ length l.starts → reached (record l { starts = l.starts ++ s ∷ [] }) k ≡ reached l k
-reached_more l s k i = ap (λ (ss : List Start). reach ss l.dealt) (take-append-le k l.starts (s ∷ []) i)
-
 -- so what a setup came to stays where a message starts behind it
 result_begins : (l : Ledger) (s : Start) (k : ℕ) → k < length l.starts → result_of (record l { starts = l.starts ++ s ∷ [] }) k ≡ result_of l k
 result_begins l s k i =
@@ -140,17 +169,17 @@ last_begins : (l : Ledger) (s : Start) (count : ℕ) → count ≤ length l.star
 last_begins l s zero i = refl
 last_begins l s (suc k) i = result_begins l s k (omega (arith, i))
 
--- a link that is set up stays so where a request's message starts
-pub set_begins : (l : Ledger) (s : Start) → is_of_setup s.owner ≡ false → is_set_up l ≡ true → is_set_up (record l { starts = l.starts ++ s ∷ [] }) ≡ true
-set_begins l s f set =
+-- a link that is greeted stays so where a message starts that is none of the setup
+pub greeted_begins : (l : Ledger) (s : Start) → is_of_setup s.owner ≡ false → is_greeted l ≡ true → is_greeted (record l { starts = l.starts ++ s ∷ [] }) ≡ true
+greeted_begins l s f greeted =
     let m : Ledger = record l { starts = l.starts ++ s ∷ [] } in
     let e : last_result m (setup_count m.starts) ≡ last_result l (setup_count l.starts) =
     ap (last_result m) (count_more l.starts s f) ∙ last_begins l s (setup_count l.starts) (count_within l.starts) in
-    said_is_set m (set_is_given l set) (ap (λ o. is_well (if says_nothing (setup_steps l 0) then Some result.Ready else o)) e ∙ set_is_said l set)
+    said_is_greeted m (greeted_is_given l greeted) (ap (λ o. is_well (if says_nothing (setup_steps l 0) then Some result.Ready else o)) e ∙ greeted_is_said l greeted)
 
--- more items leave what messages take
-pub reached_dealt : (l : Ledger) (rest : List ℕ) (more : List Data) (k : ℕ) → reached (record l { rest = rest; dealt = l.dealt ++ more }) k ≡ reached l k
-reached_dealt l rest more k = reach_alike (take k l.starts) (l.dealt ++ more) l.dealt
+-- and one that is set up does
+pub set_begins : (l : Ledger) (s : Start) → is_of_setup s.owner ≡ false → is_set_up l ≡ true → is_set_up (record l { starts = l.starts ++ s ∷ [] }) ≡ true
+set_begins l s f set = greeted_is_set (record l { starts = l.starts ++ s ∷ [] }) (greeted_begins l s f (set_is_greeted l set)) (watched_begins l s (set_is_watched l set))
 
 -- what stands behind some of a list
 length_behind : (n : ℕ) (ds : List Data) → n ≤ length ds → length (drop n ds) + n ≡ length ds
@@ -323,8 +352,8 @@ begun_undecided l s k mine due few =
 -- while it is undecided, what ends a link that is up is what ends one that isn't set up
 undecided_ends : (l : Ledger) → l.up ≡ true → IsUndecided (setup_result l) → ending l ≡ ending_unready l l.heard
 undecided_ends l up h =
-    taken_if l.up (ending_alive l) (if l.asked && not (is_over l) then ending_asked l.heard else None) up
-    ∙ (left_if (is_set_up l) (ending_up l l.heard) (ending_by (error_in (setup_result l)) (ending_unready l l.heard)) h.unwell
+    taken_if l.up (ending_alive l) (if l.asked && not (is_over l) then ending_asked l l.heard else None) up
+    ∙ (left_if (is_set_up l) (ending_up l l.heard) (ending_by (error_in (setup_result l)) (ending_unready l l.heard)) (ungreeted_is_unset l h.unwell)
     ∙ ap (λ e. ending_by e (ending_unready l l.heard)) h.no_error)
 
 -- what doesn't end a link that isn't set up doesn't where it ended by an error else
@@ -332,22 +361,28 @@ no_end_by : (failed : Option RedisError) (other : Option Ending) → ending_by f
 no_end_by None other e = e
 no_end_by (Some x) other e = cc e
 
--- it doesn't hang on what has started
-unready_same : (l : Ledger) (s : Start) (news : News) → ending_unready (pushed l s) news ≡ ending_unready l news
-unready_same l s silence = refl
-unready_same l s connected = refl
-unready_same l s (refused f) = refl
-unready_same l s overdue = refl
-unready_same l s (took count) = refl
-unready_same l s (came piece) = refl
-unready_same l s (failed f) = refl
-unready_same l s (authorized c) = refl
-unready_same l s (denied text) = refl
-unready_same l s deserted = refl
-unready_same l s (renewed c) = refl
-unready_same l s unrenewed = refl
-unready_same l s (late k) = refl
-unready_same l s shut = refl
+-- none stays none, whatever some would be
+still_none : (b : Bool) (x y : Ending) → (if b then Some x else None) ≡ None → (if b then Some y else None) ≡ None
+still_none true x y e = cc e
+still_none false x y e = refl
+
+-- what doesn't end it doesn't where a message starts
+pub unready_none : (l : Ledger) (s : Start) (news : News) → ending_unready l news ≡ None → ending_unready (pushed l s) news ≡ None
+unready_none l s silence e = refl
+unready_none l s connected e = refl
+unready_none l s (refused f) e = refl
+unready_none l s overdue e = e
+unready_none l s (took count) e = refl
+unready_none l s (came piece) e = still_none (is_unreadable l) (by_opening (opening_error l fault.Parse)) (by_opening (opening_error (pushed l s) fault.Parse)) e
+unready_none l s (failed f) e = cc e
+unready_none l s (authorized c) e = refl
+unready_none l s (denied text) e = e
+unready_none l s deserted e = e
+unready_none l s (renewed c) e = refl
+unready_none l s unrenewed e = refl
+unready_none l s (late k) e = refl
+unready_none l s dropped e = e
+unready_none l s shut e = e
 
 -- so the start of a setup ends no link
 pub setup_stays : (l : Ledger) (s : Start) (k : ℕ) → is_of_setup s.owner ≡ true → setup_due l ≡ Some k → length l.dealt ≤ reach l.starts l.dealt → ending l ≡ None → ending (pushed l s) ≡ None
@@ -356,9 +391,9 @@ setup_stays l s k mine due few none =
     let unset : is_set_up l ≡ false = due_is_unset l k due in
     let before : ending_by (error_in (setup_result l)) (ending_unready l l.heard) ≡ None =
     sym (left_if (is_set_up l) (ending_up l l.heard) (ending_by (error_in (setup_result l)) (ending_unready l l.heard)) unset)
-    ∙ (sym (taken_if l.up (ending_alive l) (if l.asked && not (is_over l) then ending_asked l.heard else None) up) ∙ none) in
+    ∙ (sym (taken_if l.up (ending_alive l) (if l.asked && not (is_over l) then ending_asked l l.heard else None) up) ∙ none) in
     undecided_ends (pushed l s) up (begun_undecided l s k mine due few)
-    ∙ (unready_same l s l.heard ∙ no_end_by (error_in (setup_result l)) (ending_unready l l.heard) before)
+    ∙ unready_none l s l.heard (no_end_by (error_in (setup_result l)) (ending_unready l l.heard) before)
 
 -- each setup that started takes the items that its commands are answered with
 abbrev pub SetupsOf : RedisConnectionInfo → List Start → Type 0
@@ -424,24 +459,27 @@ last_more l rest more (suc k) i shaped well =
     let s = start_at l.starts k (omega (arith, i, count_within l.starts)) in
     result_more l rest more k s.0 s.1 (shaped k s.0 (omega (arith, i)) s.1) well
 
--- a link that is set up stays so where more items come
+-- a link that is greeted stays so where more items come
+pub greeted_more : (l : Ledger) (rest : List ℕ) (more : List Data) → AreSetups l → is_greeted l ≡ true → is_greeted (record l { rest = rest; dealt = l.dealt ++ more }) ≡ true
+greeted_more l rest more shaped greeted =
+    let m : Ledger = record l { rest = rest; dealt = l.dealt ++ more } in
+    by_test (says_nothing (setup_steps l 0)) (is_greeted m ≡ true)
+    (λ t. silent_is_greeted m (greeted_is_given l greeted) t)
+    (λ f. said_is_greeted m (greeted_is_given l greeted) (ap is_well (left_if (says_nothing (setup_steps l 0)) (Some result.Ready) (last_result m (setup_count l.starts)) f)
+    ∙ last_more l rest more (setup_count l.starts) (omega arith) shaped (sym (ap is_well (left_if (says_nothing (setup_steps l 0)) (Some result.Ready) (last_result l (setup_count l.starts)) f)) ∙ greeted_is_said l greeted)))
+
+-- and one that is set up does
 pub set_more : (l : Ledger) (rest : List ℕ) (more : List Data) → AreSetups l → is_set_up l ≡ true → is_set_up (record l { rest = rest; dealt = l.dealt ++ more }) ≡ true
 set_more l rest more shaped set =
-    let m : Ledger = record l { rest = rest; dealt = l.dealt ++ more } in
-    by_test (says_nothing (setup_steps l 0)) (is_set_up m ≡ true)
-    (λ t. silent_is_set m (set_is_given l set) t)
-    (λ f. said_is_set m (set_is_given l set) (ap is_well (left_if (says_nothing (setup_steps l 0)) (Some result.Ready) (last_result m (setup_count l.starts)) f)
-    ∙ last_more l rest more (setup_count l.starts) (omega arith) shaped (sym (ap is_well (left_if (says_nothing (setup_steps l 0)) (Some result.Ready) (last_result l (setup_count l.starts)) f)) ∙ set_is_said l set)))
+    greeted_is_set (record l { rest = rest; dealt = l.dealt ++ more }) (greeted_more l rest more shaped (set_is_greeted l set)) (watched_grows l rest more (set_is_watched l set))
 
--- so it does where bytes come
+-- whatever came on it
+pub set_stays : (l m : Ledger) → Came l m → AreSetups l → is_set_up l ≡ true → is_set_up m ≡ true
+set_stays l m grew shaped set = holds_came (λ k. is_set_up k ≡ true) l m grew (λ rest strange told more. set_more l rest more shaped set)
+
+-- so where bytes come
 pub set_came : (l : Ledger) (piece : List ℕ) → AreSetups l → is_set_up l ≡ true → is_set_up (bytes_came l piece) ≡ true
-set_came l piece shaped set = set_more l (left_over (l.rest ++ piece)) (take (reach l.starts l.dealt - length l.dealt) (items (l.rest ++ piece))) shaped set
-
--- a start that stands is within
-pub start_within : (ss : List Start) (k : ℕ) (s : Start) → slice_get ss k ≡ Some s → k < length ss
-start_within [] k s e = cc
-start_within (x ∷ ss) zero s e = omega arith
-start_within (x ∷ ss) (suc k) s e = omega (arith, start_within ss k s e)
+set_came l piece shaped set = set_stays l (bytes_came l piece) (bytes_are l piece) shaped set
 
 -- setups stay so where a request's message starts
 pub setups_request : (l : Ledger) (s : Start) → is_of_setup s.owner ≡ false → AreSetups l → SetupsOf l.info (l.starts ++ s ∷ [])
@@ -457,7 +495,7 @@ setups_setup l h k x i stands =
     elim (item_behind l.starts s x k stands) [
       | inl old ↦ h k x (elim (count_push l.starts s refl) [
         | inl same ↦ omega (arith, i, same)
-        | inr more ↦ omega (arith, more.1, start_within l.starts k x old)
+        | inr more ↦ omega (arith, more.1, item_within l.starts k x old)
       ]) old
       | inr new ↦ elim (count_push l.starts s refl) [
         | inl same ↦ absurd (omega (arith, i, same, count_within l.starts, new.0))

@@ -19,8 +19,7 @@ use Rattle.driver_model.specs.declared.outcome.Outcome.{Outcome}
 use Rattle.driver_model.specs.declared.outcome.Outcome.TheVariants as outcome
 use Rattle.driver_model.specs.Push.{is_disconnection}
 use Rattle.driver_model.specs.declared.push_info.PushInfo.{PushInfo}
-use Rattle.driver_model.specs.Config.{address, connect_timeout, first_fault, hearing_of, response_timeout}
-use Rattle.driver_model.specs.declared.hearing.Hearing.{Hearing}
+use Rattle.driver_model.specs.Config.{address, connect_timeout, first_fault, response_timeout}
 use Rattle.driver_model.specs.declared.hearing.Notice.{Notice}
 use Rattle.driver_model.specs.declared.hearing.Notice.TheVariants as notice
 use Rattle.driver_model.specs.Hearing.{hears_pushes, hears_something}

@@ -12,7 +12,6 @@ use Rattle.resp_read.specs.State.{ReaderState}
 use Rattle.resp_read.specs.Reads.{ReadsEachWithin, IsProperPrefix, IsMalformed}
 use Rattle.resp_read.specs.Reading.{Pumps}
 use Rattle.resp_read.specs.Values.{values, left_over, is_spoiled}
-use Rattle.resp_read.specs.Items.{items_among, items}
 use Rattle.resp_read.proofs.ReadLaws.{short_from_prefix, bad_from_malformed}
 use Rattle.resp_read.proofs.ValueLaws.{values-read, values-short, values-bad}
 
@@ -52,8 +51,3 @@ pub all_spoiled : (limits : Limits) (text : List ℕ) (before : List Value) (new
 all_spoiled limits text before new after e none p =
     let h = at_default limits text before (Err Parse) new after e none p in
     listed text h.0.0 after new.rest true h.0.1 (each_came text h.0.0 new.rest true h.0.2 (bad_last new.rest h.1))
-
--- the items among all the values of a text
-pub items_came : (text : List ℕ) (ds : List Data) → ds ≡ values text → items_among ds ≡ items text
-unfolding items
-items_came text ds e = ap items_among e

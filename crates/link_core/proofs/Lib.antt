@@ -2,5 +2,6 @@ pub mod FirstLemmas
 pub mod FrontLemmas
 pub mod StartLemmas
 pub mod RingLemmas
-pub mod DealLemmas
+pub mod TakeLemmas
+pub mod MessageLemmas
 pub mod CameLemmas

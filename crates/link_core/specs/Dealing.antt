@@ -21,6 +21,10 @@ pub record Dealing : Type 0 where
 abbrev pub dealing_with : List Entry → Dealing
 dealing_with row = record { row = row; out = []; notices = []; strange = false }
 
+-- and this one, with what was settled and told so far
+abbrev pub dealing_on : List Entry → List Settled → List NoticeAt → Bool → Dealing
+dealing_on row out notices strange = record { row = row; out = out; notices = notices; strange = strange }
+
 abbrev pub with_item : Entry → Data → Entry
 with_item e item = record e { got = e.got ++ item ∷ [] }
 

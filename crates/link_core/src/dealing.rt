@@ -1,16 +1,18 @@
-ghost use Rattle.std.specs.Prelude.{◌≡◌, ◌≤◌, ◌<◌, false, [], ◌++◌, length, take, drop, map, OnOk, OnErr, IfOk};
-ghost use Rattle.link_core.specs.Dealing.{dealing_with, dealt_each, value_dealt, push_behind};
-ghost use Rattle.link_core.specs.Dealing.{pushes_each, heard_of};
+ghost use Rattle.std.specs.Prelude.{◌≡◌, ◌≤◌, ◌<◌, ◌==◌, ◌||◌, not, false, [], ◌++◌, length, take, drop, map, OnOk, OnErr, IfOk, if◌then◌else◌};
+ghost use Rattle.driver_model.specs.Hearing.{taken_by, message_taken, item_told, push_told};
+ghost use Rattle.driver_model.specs.declared.hearing.Hearing.TheVariants.{Nothing};
+ghost use Rattle.link_core.specs.Dealing.{dealing_with, dealing_on, dealt_if, is_awaiting};
+ghost use Rattle.link_core.specs.Dealing.{noticed_behind, taken_each};
 ghost use Rattle.resp_value.specs.View.{data_of};
 ghost use Rattle.resp_read.specs.Values.{values, left_over, is_spoiled};
-ghost use Rattle.resp_read.specs.Items.{items, items_among};
 ghost use Rattle.resp_value.specs.Kinds.{is_item};
 ghost use Rattle.resp_read.specs.Limits.{default_limits};
 
-use crate::message::{PushAt, Settled};
+use crate::message::{NoticeAt, Settled};
+use crate::msg_reading::{into_msg, is_answer};
 use crate::row::Row;
 use crate::spare::Rest;
-use driver_model::PushInfo;
+use driver_model::{Hearing, Notice, PushInfo};
 use resp_read::{Health, ReadError, Reader, Steps};
 use resp_value::Value;
 use std::alloc::{AllocError, Global};
@@ -34,9 +36,6 @@ pub fn read_piece<L: Ledger>(
     ensures came { OnOk result (
         map data_of came.new.items ≡ values (reader.old.rest ++ piece.now)
         ) }
-    ensures items { OnOk result (
-        items_among (map data_of came.new.items) ≡ items (reader.old.rest ++ piece.now)
-        ) }
     ensures rest { OnOk result (reader.new.rest ≡ left_over (reader.old.rest ++ piece.now)) }
     ensures spoiled { IfOk result (λ broken.
         broken ≡ is_spoiled (reader.old.rest ++ piece.now)
@@ -54,160 +53,282 @@ pub fn read_piece<L: Ledger>(
     }
 }
 
-/// Deals each of these values, in order. `out` gains the messages that are settled and awaited, and `pushes`, where they are
-/// `heard`, the pushes, each with how many messages this call had settled before it. After an error `out` and `pushes` are
-/// as they were.
-#[tactic(auto, using(crate::proofs::DealLemmas::row_after, crate::proofs::DealLemmas::out_after, crate::proofs::DealLemmas::pushes_after))]
-pub fn deal_into(
+/// How the values of one call are taken: what is heard, whether the link was set up before the call, and how many settled
+/// messages and notices the lists held then.
+#[derive(Clone, Copy)]
+struct Call {
+    hearing: Hearing,
+    ready: bool,
+    settled: usize,
+    noted: usize,
+}
+
+impl Call {
+    /// What is heard behind so many messages that the call has settled: nothing before the link is set up.
+    fn heard_behind(self, settled: u64) -> Hearing
+        ensures { result
+            ≡ (if self.ready || not (settled == 0) then self.hearing else Nothing) }
+    {
+        if self.ready || settled > 0 {
+            self.hearing
+        } else {
+            Hearing::Nothing
+        }
+    }
+}
+
+/// Takes each of these values, in order, up to one that ends the link: the answer is whether one does. `out` gains the
+/// messages that are settled and awaited, and `notices` what is told, each with how many messages this call had settled
+/// before it. After an error both are as they were.
+#[tactic(auto, using(crate::proofs::TakeLemmas::row_after, crate::proofs::TakeLemmas::out_after, crate::proofs::TakeLemmas::notices_after, crate::proofs::TakeLemmas::strange_after))]
+pub fn take_into(
     alloc: Global,
-    heard: bool,
+    hearing: Hearing,
+    ready: bool,
     came: &mut Rest<Value>,
     row: &mut Row,
     out: &mut Vec<Settled>,
-    pushes: &mut Vec<PushAt>,
-) -> Result<(), AllocError>
+    notices: &mut Vec<NoticeAt>,
+) -> Result<bool, AllocError>
     ensures row { OnOk result (
-        row.new ≡ (dealt_each (dealing_with row.old []) (items_among (map data_of came.old))).row
+        row.new ≡ (taken_each hearing ready (dealing_with row.old) (map data_of came.old)).row
         ) }
     ensures out { OnOk result (
         out.new.items
         ≡ out.old.items
-        ++ (dealt_each (dealing_with row.old []) (items_among (map data_of came.old))).out
+        ++ (taken_each hearing ready (dealing_with row.old) (map data_of came.old)).out
         ) }
-    ensures pushed { OnOk result (
-        pushes.new.items
-        ≡ pushes.old.items
-        ++ heard_of heard (pushes_each (dealing_with row.old []) (map data_of came.old))
+    ensures notices { OnOk result (
+        notices.new.items
+        ≡ notices.old.items
+        ++ (taken_each hearing ready (dealing_with row.old) (map data_of came.old)).notices
+        ) }
+    ensures strange { IfOk result (λ strange.
+        strange
+        ≡ (taken_each hearing ready (dealing_with row.old) (map data_of came.old)).strange
         ) }
     ensures err { OnErr result (out.new.items ≡ out.old.items) }
-    ensures pushes_err { OnErr result (pushes.new.items ≡ pushes.old.items) }
+    ensures notices_err { OnErr result (notices.new.items ≡ notices.old.items) }
 {
-    let settled = out.len();
-    let pushed = pushes.len();
-    match deal_all(alloc, heard, came, row, settled, out, pushes) {
-        Ok(()) => Ok(()),
+    let call = Call {
+        hearing,
+        ready,
+        settled: out.len(),
+        noted: notices.len(),
+    };
+    match take_each(alloc, call, came, row, out, notices) {
+        Ok(strange) => Ok(strange),
         Err(error) => {
-            out.truncate(settled);
-            pushes.truncate(pushed);
+            out.truncate(call.settled);
+            notices.truncate(call.noted);
             Err(error)
         }
     }
 }
 
-/// Deals each of these values, in order. The first `before` messages of `out` were settled by earlier calls. An error leaves
-/// these and the first pushes as they were.
-fn deal_all(
+/// Takes each of these values, in order, up to one that ends the link. An error leaves what the lists held before the call.
+fn take_each(
     alloc: Global,
-    heard: bool,
+    call: Call,
     came: &mut Rest<Value>,
     row: &mut Row,
-    before: usize,
     out: &mut Vec<Settled>,
-    pushes: &mut Vec<PushAt>,
-) -> Result<(), AllocError>
-    requires there { before ≤ length out.old.items }
-    ensures dealt { OnOk result (
-        dealing_with row.new (drop before out.new.items)
-        ≡ dealt_each
-        (dealing_with row.old (drop before out.old.items))
-        (items_among (map data_of came.old))
+    notices: &mut Vec<NoticeAt>,
+) -> Result<bool, AllocError>
+    requires settled { call.settled ≤ length out.old.items }
+    requires noted { call.noted ≤ length notices.old.items }
+    ensures taken { IfOk result (λ strange.
+        dealing_on row.new (drop call.settled out.new.items) (drop call.noted notices.new.items)
+        strange
+        ≡ taken_each call.hearing call.ready
+        (dealing_on row.old (drop call.settled out.old.items)
+        (drop call.noted notices.old.items) false)
+        (map data_of came.old)
         ) }
-    ensures pushed { OnOk result (
-        pushes.new.items
-        ≡ pushes.old.items
-        ++ heard_of heard
-        (pushes_each (dealing_with row.old (drop before out.old.items)) (map data_of came.old))
-        ) }
-    ensures first { take before out.new.items ≡ take before out.old.items }
-    ensures first_pushes { take (length pushes.old.items) pushes.new.items ≡ pushes.old.items }
+    ensures first { take call.settled out.new.items ≡ take call.settled out.old.items }
+    ensures first_notices { take call.noted notices.new.items ≡ take call.noted notices.old.items }
 {
     'values: while let Some(value) = came.pop_front() {
-        match deal_value(alloc, value, heard, row, before, out, pushes) {
-            Ok(()) => {}
-            Err(error) => return Err(error),
+        let settled = (out.len() - call.settled) as u64;
+        let heard = call.heard_behind(settled);
+        let ends = take_value(alloc, heard, settled, value, row, out, notices)?;
+        if ends {
+            return Ok(true);
         }
     }
-    Ok(())
+    Ok(false)
 }
 
-/// One value: a push is noted where it is heard, and an item is dealt. The first `before` messages of `out` were settled by
-/// earlier calls. An error leaves these and the first pushes as they were.
-fn deal_value(
+/// One value, where this is heard, behind so many messages that the call has settled: the answer is whether it ends the
+/// link. An error leaves `out` as it was, and what `notices` held.
+fn take_value(
+    alloc: Global,
+    heard: Hearing,
+    settled: u64,
+    value: Value,
+    row: &mut Row,
+    out: &mut Vec<Settled>,
+    notices: &mut Vec<NoticeAt>,
+) -> Result<bool, AllocError>
+    ensures row { OnOk result (
+        row.new
+        ≡ (dealt_if (taken_by heard (is_awaiting row.old) (data_of value)).dealt
+        (dealing_with row.old) (data_of value)).row
+        ) }
+    ensures out { OnOk result (
+        out.new.items
+        ≡ out.old.items
+        ++ (dealt_if (taken_by heard (is_awaiting row.old) (data_of value)).dealt
+        (dealing_with row.old) (data_of value)).out
+        ) }
+    ensures notices { OnOk result (
+        notices.new.items
+        ≡ notices.old.items
+        ++ noticed_behind settled (taken_by heard (is_awaiting row.old) (data_of value)).told
+        ) }
+    ensures ends { IfOk result (λ ends.
+        ends ≡ (taken_by heard (is_awaiting row.old) (data_of value)).ends
+        ) }
+    ensures err { OnErr result (out.new.items ≡ out.old.items) }
+    ensures notices_err { OnErr result (
+        take (length notices.old.items) notices.new.items ≡ notices.old.items
+        ) }
+{
+    match heard {
+        Hearing::Nothing => {
+            deal_item(alloc, value, row, out)?;
+            Ok(false)
+        }
+        Hearing::Pushes => {
+            note_push(alloc, &value, settled, notices)?;
+            deal_item(alloc, value, row, out)?;
+            Ok(false)
+        }
+        Hearing::Messages => take_answer(alloc, settled, value, row, out, notices),
+        Hearing::Monitor => {
+            tell_item(value, settled, notices)?;
+            Ok(false)
+        }
+    }
+}
+
+/// An item goes to the oldest message that takes items, and what is none is dropped. An error leaves `out` as it was.
+fn deal_item(
     alloc: Global,
     value: Value,
-    heard: bool,
     row: &mut Row,
-    before: usize,
     out: &mut Vec<Settled>,
-    pushes: &mut Vec<PushAt>,
 ) -> Result<(), AllocError>
-    requires there { before ≤ length out.old.items }
-    ensures dealt { OnOk result (
-        dealing_with row.new (drop before out.new.items)
-        ≡ value_dealt (dealing_with row.old (drop before out.old.items)) (data_of value)
+    ensures row { OnOk result (
+        row.new
+        ≡ (dealt_if (is_item (data_of value)) (dealing_with row.old) (data_of value)).row
         ) }
-    ensures pushed { OnOk result (
-        pushes.new.items
-        ≡ pushes.old.items
-        ++ heard_of heard (push_behind (length (drop before out.old.items)) (data_of value))
+    ensures out { OnOk result (
+        out.new.items
+        ≡ out.old.items
+        ++ (dealt_if (is_item (data_of value)) (dealing_with row.old) (data_of value)).out
         ) }
-    ensures first { take before out.new.items ≡ take before out.old.items }
-    ensures first_pushes { take (length pushes.old.items) pushes.new.items ≡ pushes.old.items }
+    ensures err { OnErr result (out.new.items ≡ out.old.items) }
 {
-    let settled = (out.len() - before) as u64;
-    note_heard(alloc, &value, heard, settled, pushes)?;
-    if is_dealt(&value) {
+    if is_item(&value) {
         return row.deal(alloc, value, out);
     }
     Ok(())
 }
 
-/// A push is noted where it is heard. An error leaves the pushes as they were.
-fn note_heard(
+/// A value on a link of messages: it answers the oldest message that takes items, is a message, which is told, or ends the
+/// link. An error leaves both lists as they were.
+fn take_answer(
     alloc: Global,
-    value: &Value,
-    heard: bool,
     settled: u64,
-    pushes: &mut Vec<PushAt>,
-) -> Result<(), AllocError>
-    ensures ok { OnOk result (
-        pushes.new.items
-        ≡ pushes.old.items ++ heard_of heard (push_behind settled (data_of value.now))
+    value: Value,
+    row: &mut Row,
+    out: &mut Vec<Settled>,
+    notices: &mut Vec<NoticeAt>,
+) -> Result<bool, AllocError>
+    ensures row { OnOk result (
+        row.new
+        ≡ (dealt_if (message_taken (is_awaiting row.old) (data_of value)).dealt
+        (dealing_with row.old) (data_of value)).row
         ) }
-    ensures err { OnErr result (pushes.new.items ≡ pushes.old.items) }
+    ensures out { OnOk result (
+        out.new.items
+        ≡ out.old.items
+        ++ (dealt_if (message_taken (is_awaiting row.old) (data_of value)).dealt
+        (dealing_with row.old) (data_of value)).out
+        ) }
+    ensures notices { OnOk result (
+        notices.new.items
+        ≡ notices.old.items
+        ++ noticed_behind settled (message_taken (is_awaiting row.old) (data_of value)).told
+        ) }
+    ensures ends { IfOk result (λ ends.
+        ends ≡ (message_taken (is_awaiting row.old) (data_of value)).ends
+        ) }
+    ensures err { OnErr result (out.new.items ≡ out.old.items) }
+    ensures notices_err { OnErr result (notices.new.items ≡ notices.old.items) }
 {
-    if !heard {
-        return Ok(());
+    if is_answer(&value, row.is_awaiting()) {
+        row.deal(alloc, value, out)?;
+        return Ok(false);
     }
-    note_push(alloc, value, settled, pushes)
+    match into_msg(value) {
+        Some(msg) => {
+            notices.push(NoticeAt {
+                settled,
+                notice: Notice::Message(msg),
+            })?;
+            Ok(false)
+        }
+        None => Ok(true),
+    }
 }
 
-/// A push, behind so many settled messages. An error leaves the pushes as they were.
+/// A push is noted, behind so many settled messages. An error leaves the notices as they were.
 fn note_push(
     alloc: Global,
     value: &Value,
     settled: u64,
-    pushes: &mut Vec<PushAt>,
+    notices: &mut Vec<NoticeAt>,
 ) -> Result<(), AllocError>
     ensures ok { OnOk result (
-        pushes.new.items ≡ pushes.old.items ++ push_behind settled (data_of value.now)
+        notices.new.items
+        ≡ notices.old.items ++ noticed_behind settled (push_told (data_of value.now))
         ) }
-    ensures err { OnErr result (pushes.new.items ≡ pushes.old.items) }
+    ensures err { OnErr result (notices.new.items ≡ notices.old.items) }
 {
     match value {
         Value::Push { kind, parts } => {
             let kind = kind.clone(alloc)?;
             let parts = parts.clone(alloc)?;
-            let info = PushInfo { kind, parts };
-            pushes.push(PushAt { settled, info })?;
+            let notice = Notice::Push(PushInfo { kind, parts });
+            notices.push(NoticeAt { settled, notice })?;
             Ok(())
         }
         _ => Ok(()),
     }
 }
 
-/// Whether a value is dealt: all but a push without reply.
-fn is_dealt(value: &Value) -> bool
+/// An item that a server in monitor mode tells is noted, behind so many settled messages. An error leaves the notices as they
+/// were.
+fn tell_item(value: Value, settled: u64, notices: &mut Vec<NoticeAt>) -> Result<(), AllocError>
+    ensures ok { OnOk result (
+        notices.new.items
+        ≡ notices.old.items ++ noticed_behind settled (item_told (data_of value))
+        ) }
+    ensures err { OnErr result (notices.new.items ≡ notices.old.items) }
+{
+    if is_item(&value) {
+        notices.push(NoticeAt {
+            settled,
+            notice: Notice::Monitor(value),
+        })?;
+    }
+    Ok(())
+}
+
+/// Whether a value is an item: all are but a push without reply.
+fn is_item(value: &Value) -> bool
     ensures { result ≡ is_item (data_of value.now) }
 {
     match value {

@@ -3,16 +3,16 @@ ghost use Rattle.std.specs.Prelude.{if◌then◌else◌, OnOk, OnErr, IfOk, IsEr
 ghost use Rattle.link_core.specs.Link.{holds_back};
 ghost use Rattle.link_core.specs.Waiting.{without, is_wanted};
 ghost use Rattle.link_core.specs.Ends.{queue_closed};
-ghost use Rattle.link_core.specs.Dealing.{heard_of};
+ghost use Rattle.link_core.specs.Link.{pushes_among};
 
-use crate::dealing::{deal_into, read_piece};
+use crate::dealing::{read_piece, take_into};
 use crate::errors::{EnqueueError, StartError};
-use crate::message::{PushAt, Queued, Settled, Started};
+use crate::message::{NoticeAt, PushAt, Queued, Settled, Started};
 use crate::outbox::Outbox;
 use crate::row::{Row, fail};
 use crate::spare::{Rest, Spare};
 use containers::{Bytes, Queue};
-use driver_model::{LinkFault, Shape};
+use driver_model::{Hearing, LinkFault, Notice, Shape};
 use redis_error::RedisError;
 use resp_read::{ReadError, Reader};
 use resp_value::Value;
@@ -89,8 +89,10 @@ impl LinkCore {
     ghost use Rattle.link_core.specs.Link.{starting_with};
     ghost use Rattle.link_core.specs.Link.{started_all};
     ghost use Rattle.link_core.specs.Link.{begun, start_of, started_one, is_spent, offered_of, wrote_of, cancelled};
-    ghost use Rattle.link_core.specs.Link.{settling_with, piece_dealt, came_all, pushes_of};
-    ghost use Rattle.link_core.specs.Link.{pushes_came, closed_all, faulted};
+    ghost use Rattle.link_core.specs.Link.{settling_with, closed_all, faulted};
+    ghost use Rattle.link_core.specs.Link.{piece_read, came_all};
+    ghost use Rattle.link_core.specs.Dealing.{is_awaiting};
+    ghost use Rattle.driver_model.specs.declared.hearing.Hearing.TheVariants.{Pushes};
     ghost use Rattle.link_core.specs.Outbox.{can_offer};
     ghost use Rattle.link_core.specs.Row.{lack_of_row};
 
@@ -538,10 +540,101 @@ impl LinkCore {
         close_queue(&mut self.queue, out)
     }
 
-    /// Bytes came. Each item in them is dealt, and `out` gains the messages that are settled and awaited; `pushes` gains
-    /// the pushes in them, with a reply or without, each with how many messages this call had settled before it. `Parse`:
-    /// the bytes begin no value, after what came before was dealt; from then on always. After `NoMemory` `out` and
-    /// `pushes` are as they were, and the link has failed.
+    /// Bytes came, on a link on which this is heard, and which was set up before the call where it is `ready`; else it is from
+    /// the first message on that the call settles. `out` gains the messages that are settled and awaited, and `notices` what
+    /// is told, each with how many messages this call had settled before it. The answer is whether a value came that ends the
+    /// link: none behind it is taken. A link that is broken reads nothing. After an error `out` and `notices` are as they
+    /// were, and the link has failed.
+    pub fn read(
+        &mut self,
+        alloc: Global,
+        piece: &[u8],
+        hearing: Hearing,
+        ready: bool,
+        out: &mut Vec<Settled>,
+        notices: &mut Vec<NoticeAt>,
+    ) -> Result<bool, AllocError>
+        ensures link { OnOk result (
+            self.new ≡ (piece_read hearing ready self.old piece.now).link
+            ) }
+        ensures settled { OnOk result (
+            out.new.items ≡ out.old.items ++ (piece_read hearing ready self.old piece.now).out
+            ) }
+        ensures told { OnOk result (
+            notices.new.items
+            ≡ notices.old.items ++ (piece_read hearing ready self.old piece.now).notices
+            ) }
+        ensures strange { IfOk result (λ strange.
+            strange ≡ (piece_read hearing ready self.old piece.now).strange
+            ) }
+        ensures err { OnErr result (out.new.items ≡ out.old.items) }
+        ensures notices_err { OnErr result (notices.new.items ≡ notices.old.items) }
+        ensures no_memory { OnErr result (self.new.failed ≡ true) }
+        ensures failed { self.old.failed ≡ true → IsErr result }
+    {
+        if self.failed {
+            return Err(AllocError);
+        }
+        if self.broken {
+            return Ok(false);
+        }
+        self.try_read(alloc, piece, hearing, ready, out, notices)
+    }
+
+    fn try_read(
+        &mut self,
+        alloc: Global,
+        piece: &[u8],
+        hearing: Hearing,
+        ready: bool,
+        out: &mut Vec<Settled>,
+        notices: &mut Vec<NoticeAt>,
+    ) -> Result<bool, AllocError>
+        requires sound { self.old.failed ≡ false }
+        requires whole { self.old.broken ≡ false }
+        ensures link { OnOk result (
+            self.new ≡ (came_all hearing ready self.old (self.old.rest ++ piece.now)).link
+            ) }
+        ensures settled { OnOk result (
+            out.new.items
+            ≡ out.old.items ++ (came_all hearing ready self.old (self.old.rest ++ piece.now)).out
+            ) }
+        ensures told { OnOk result (
+            notices.new.items
+            ≡ notices.old.items
+            ++ (came_all hearing ready self.old (self.old.rest ++ piece.now)).notices
+            ) }
+        ensures strange { IfOk result (λ strange.
+            strange ≡ (came_all hearing ready self.old (self.old.rest ++ piece.now)).strange
+            ) }
+        ensures err { OnErr result (out.new.items ≡ out.old.items) }
+        ensures notices_err { OnErr result (notices.new.items ≡ notices.old.items) }
+        ensures no_memory { OnErr result (self.new.failed ≡ true) }
+    {
+        self.failed = true;
+        let mut came = self.came.take(alloc);
+        let reader = &mut self.reader;
+        let broken = read_piece::<Brand>(alloc, reader, piece, &mut came, Blank::new(1))?;
+        let mut came = Rest::of(came);
+        let strange = take_into(
+            alloc,
+            hearing,
+            ready,
+            &mut came,
+            &mut self.row,
+            out,
+            notices,
+        )?;
+        self.came.give(came.into_list());
+        self.broken = broken;
+        self.failed = false;
+        Ok(strange)
+    }
+
+    /// Bytes came, on a link that is set up, where pushes are heard. Each item in them is dealt, and `out` gains the messages
+    /// that are settled and awaited; `pushes` gains the pushes in them, with a reply or without, each with how many messages
+    /// this call had settled before it. `Parse`: the bytes begin no value, after what came before was dealt; from then on
+    /// always. After `NoMemory` `out` and `pushes` are as they were, and the link has failed.
     pub fn bytes(
         &mut self,
         alloc: Global,
@@ -549,75 +642,23 @@ impl LinkCore {
         out: &mut Vec<Settled>,
         pushes: &mut Vec<PushAt>,
     ) -> Result<(), ReadError>
-        ensures ok { OnOk result (
-            settling_with self.new out.new.items
-            ≡ piece_dealt (settling_with self.old out.old.items) piece.now
+        ensures link { OnOk result (self.new ≡ (piece_read Pushes true self.old piece.now).link) }
+        ensures link_parse { IsErrOf result ReadError.Parse
+            → self.new ≡ (piece_read Pushes true self.old piece.now).link }
+        ensures settled { OnOk result (
+            out.new.items ≡ out.old.items ++ (piece_read Pushes true self.old piece.now).out
             ) }
-        ensures parse { IsErrOf result ReadError.Parse
-            → settling_with self.new out.new.items
-            ≡ piece_dealt (settling_with self.old out.old.items) piece.now }
-        ensures pushes_ok { OnOk result (
-            pushes.new.items ≡ pushes.old.items ++ pushes_came self.old piece.now
+        ensures settled_parse { IsErrOf result ReadError.Parse
+            → out.new.items ≡ out.old.items ++ (piece_read Pushes true self.old piece.now).out }
+        ensures pushed { OnOk result (
+            pushes.new.items
+            ≡ pushes.old.items
+            ++ pushes_among (piece_read Pushes true self.old piece.now).notices
             ) }
-        ensures pushes_parse { IsErrOf result ReadError.Parse
-            → pushes.new.items ≡ pushes.old.items ++ pushes_came self.old piece.now }
-        ensures sound { OnOk result (self.new.broken ≡ false) }
-        ensures broken { IsErrOf result ReadError.Parse → self.new.broken ≡ true }
-        ensures err { IsErrOf result ReadError.NoMemory → out.new.items ≡ out.old.items }
-        ensures pushes_err { IsErrOf result ReadError.NoMemory
-            → pushes.new.items ≡ pushes.old.items }
-        ensures no_memory { IsErrOf result ReadError.NoMemory → self.new.failed ≡ true }
-        ensures failed { self.old.failed ≡ true → IsErrOf result ReadError.NoMemory }
-    {
-        self.bytes_heard(alloc, piece, true, out, pushes)
-    }
-
-    /// The same where nobody listens to pushes: none is noted or copied.
-    pub fn bytes_unheard(
-        &mut self,
-        alloc: Global,
-        piece: &[u8],
-        out: &mut Vec<Settled>,
-    ) -> Result<(), ReadError>
-        ensures ok { OnOk result (
-            settling_with self.new out.new.items
-            ≡ piece_dealt (settling_with self.old out.old.items) piece.now
-            ) }
-        ensures parse { IsErrOf result ReadError.Parse
-            → settling_with self.new out.new.items
-            ≡ piece_dealt (settling_with self.old out.old.items) piece.now }
-        ensures sound { OnOk result (self.new.broken ≡ false) }
-        ensures broken { IsErrOf result ReadError.Parse → self.new.broken ≡ true }
-        ensures err { IsErrOf result ReadError.NoMemory → out.new.items ≡ out.old.items }
-        ensures no_memory { IsErrOf result ReadError.NoMemory → self.new.failed ≡ true }
-        ensures failed { self.old.failed ≡ true → IsErrOf result ReadError.NoMemory }
-    {
-        let mut pushes = Vec::new(alloc);
-        self.bytes_heard(alloc, piece, false, out, &mut pushes)
-    }
-
-    /// What `bytes` does where pushes are `heard`, and what `bytes_unheard` does where they aren't: then `pushes` gains nothing.
-    pub fn bytes_heard(
-        &mut self,
-        alloc: Global,
-        piece: &[u8],
-        heard: bool,
-        out: &mut Vec<Settled>,
-        pushes: &mut Vec<PushAt>,
-    ) -> Result<(), ReadError>
-        ensures ok { OnOk result (
-            settling_with self.new out.new.items
-            ≡ piece_dealt (settling_with self.old out.old.items) piece.now
-            ) }
-        ensures parse { IsErrOf result ReadError.Parse
-            → settling_with self.new out.new.items
-            ≡ piece_dealt (settling_with self.old out.old.items) piece.now }
-        ensures pushes_ok { OnOk result (
-            pushes.new.items ≡ pushes.old.items ++ heard_of heard (pushes_came self.old piece.now)
-            ) }
-        ensures pushes_parse { IsErrOf result ReadError.Parse
+        ensures pushed_parse { IsErrOf result ReadError.Parse
             → pushes.new.items
-            ≡ pushes.old.items ++ heard_of heard (pushes_came self.old piece.now) }
+            ≡ pushes.old.items
+            ++ pushes_among (piece_read Pushes true self.old piece.now).notices }
         ensures sound { OnOk result (self.new.broken ≡ false) }
         ensures broken { IsErrOf result ReadError.Parse → self.new.broken ≡ true }
         ensures err { IsErrOf result ReadError.NoMemory → out.new.items ≡ out.old.items }
@@ -626,13 +667,7 @@ impl LinkCore {
         ensures no_memory { IsErrOf result ReadError.NoMemory → self.new.failed ≡ true }
         ensures failed { self.old.failed ≡ true → IsErrOf result ReadError.NoMemory }
     {
-        if self.failed {
-            return Err(ReadError::NoMemory);
-        }
-        if self.broken {
-            return Err(ReadError::Parse);
-        }
-        match self.try_bytes(alloc, piece, heard, out, pushes) {
+        match self.try_bytes(alloc, piece, out, pushes) {
             Ok(()) => {}
             Err(_) => return Err(ReadError::NoMemory),
         }
@@ -647,35 +682,70 @@ impl LinkCore {
         &mut self,
         alloc: Global,
         piece: &[u8],
-        heard: bool,
         out: &mut Vec<Settled>,
         pushes: &mut Vec<PushAt>,
     ) -> Result<(), AllocError>
-        requires sound { self.old.failed ≡ false }
-        requires whole { self.old.broken ≡ false }
-        ensures ok { OnOk result (
-            settling_with self.new out.new.items
-            ≡ came_all (settling_with self.old out.old.items) (self.old.rest ++ piece.now)
+        ensures link { OnOk result (self.new ≡ (piece_read Pushes true self.old piece.now).link) }
+        ensures settled { OnOk result (
+            out.new.items ≡ out.old.items ++ (piece_read Pushes true self.old piece.now).out
             ) }
-        ensures pushes { OnOk result (
+        ensures pushed { OnOk result (
             pushes.new.items
-            ≡ pushes.old.items ++ heard_of heard (pushes_of self.old (self.old.rest ++ piece.now))
+            ≡ pushes.old.items
+            ++ pushes_among (piece_read Pushes true self.old piece.now).notices
             ) }
         ensures err { OnErr result (out.new.items ≡ out.old.items) }
         ensures pushes_err { OnErr result (pushes.new.items ≡ pushes.old.items) }
         ensures no_memory { OnErr result (self.new.failed ≡ true) }
+        ensures failed { self.old.failed ≡ true → IsErr result }
     {
-        self.failed = true;
-        let mut came = self.came.take(alloc);
-        let reader = &mut self.reader;
-        let broken = read_piece::<Brand>(alloc, reader, piece, &mut came, Blank::new(1))?;
-        let mut came = Rest::of(came);
-        deal_into(alloc, heard, &mut came, &mut self.row, out, pushes)?;
-        self.came.give(came.into_list());
-        self.broken = broken;
-        self.failed = false;
-        Ok(())
+        let settled = out.len();
+        let noted = pushes.len();
+        let mut notices = Vec::new(alloc);
+        self.read(alloc, piece, Hearing::Pushes, true, out, &mut notices)?;
+        match take_pushes(notices, pushes) {
+            Ok(()) => Ok(()),
+            Err(error) => {
+                self.failed = true;
+                out.truncate(settled);
+                pushes.truncate(noted);
+                Err(error)
+            }
+        }
     }
+
+    /// Whether some started message takes items.
+    pub fn is_awaiting(&self) -> bool
+        ensures { result ≡ is_awaiting self.now.row }
+    {
+        self.row.is_awaiting()
+    }
+
+    /// Whether bytes came that begin no value.
+    pub fn is_broken(&self) -> bool
+        ensures { result ≡ self.now.broken }
+    {
+        self.broken
+    }
+}
+
+/// `pushes` gains the pushes among what is told. After an error it may have gained some of them.
+fn take_pushes(notices: Vec<NoticeAt>, pushes: &mut Vec<PushAt>) -> Result<(), AllocError>
+    ensures ok { OnOk result (
+        pushes.new.items ≡ pushes.old.items ++ pushes_among notices.items
+        ) }
+    ensures err { OnErr result (
+        take (length pushes.old.items) pushes.new.items ≡ pushes.old.items
+        ) }
+{
+    let mut rest = Rest::of(notices);
+    while let Some(told) = rest.pop_front() {
+        let NoticeAt { settled, notice } = told;
+        if let Notice::Push(info) = notice {
+            pushes.push(PushAt { settled, info })?;
+        }
+    }
+    Ok(())
 }
 
 /// Each message of the queue, in order, ends with the closed connection. After an error `out` may have gained some of them.

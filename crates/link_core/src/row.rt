@@ -51,7 +51,7 @@ impl Row {
     ghost use Rattle.link_core.specs.Link.{entry_of};
     ghost use Rattle.link_core.specs.Row.{silenced, lack_of_row};
     ghost use Rattle.link_core.specs.Ring.{lack_of_first, with_first};
-    ghost use Rattle.link_core.specs.Dealing.{dealing_with, dealt};
+    ghost use Rattle.link_core.specs.Dealing.{dealing_with, dealt, is_awaiting};
 
     /// No messages. Takes no memory.
     pub fn new(alloc: Global) -> Row
@@ -92,6 +92,13 @@ impl Row {
         self.takers.push_back(Taker { entry, end })?;
         self.end = end;
         Ok(())
+    }
+
+    /// Whether some message takes items: each does that is here.
+    pub fn is_awaiting(&self) -> bool
+        ensures { result ≡ is_awaiting self.now }
+    {
+        !self.takers.is_empty()
     }
 
     /// The oldest message, taken out. It is not full.
@@ -157,9 +164,11 @@ impl Row {
         item: Value,
         out: &mut Vec<Settled>,
     ) -> Result<(), AllocError>
-        ensures ok { OnOk result (
-            dealing_with self.new out.new.items
-            ≡ dealt (dealing_with self.old out.old.items) (data_of item)
+        ensures row { OnOk result (
+            self.new ≡ (dealt (dealing_with self.old) (data_of item)).row
+            ) }
+        ensures out { OnOk result (
+            out.new.items ≡ out.old.items ++ (dealt (dealing_with self.old) (data_of item)).out
             ) }
         ensures err { OnErr result (out.new.items ≡ out.old.items) }
     {
@@ -206,7 +215,7 @@ impl Row {
 }
 
 /// The error that a fault is.
-fn error_of(fault: LinkFault) -> RedisError
+pub fn error_of(fault: LinkFault) -> RedisError
     ensures { result ≡ error_of fault }
 {
     match fault {

@@ -1,22 +1,24 @@
 -- Runs that are alike but for one message's own verdict stay so.
-use Rattle.std.proofs.Common.{◌≡◌, ℕ, ◌==◌, nat_le, ◌||◌, List, [], ◌∷◌, ◌++◌, length, refl, sym, ap, ◌∙◌, subst}
+use Rattle.std.proofs.Common.{◌≡◌, inl, ℕ, ◌==◌, nat_le, Bool, true, ◌||◌, List, [], ◌∷◌, ◌++◌, length, refl, sym, ap, ◌∙◌, subst}
 use Rattle.containers.proofs.Choices.{chosen}
 use Rattle.driver_model.specs.declared.action.Owner.{Owner}
 use Rattle.driver_model.specs.declared.news.LinkFault.{LinkFault}
 use Rattle.driver_model.specs.declared.news.LinkFault.TheVariants as fault
-use Rattle.driver_model.specs.News.{silence, took, came, failed, shut}
+use Rattle.driver_model.specs.News.{silence, took, came, dropped, failed, shut}
+use Rattle.driver_model.specs.Hearing.{felt, hears_messages}
+use Rattle.driver_model.specs.declared.hearing.Hearing.{Hearing}
 use Rattle.link_core.specs.declared.message.Entry.{Entry}
 use Rattle.link_core.specs.declared.message.Queued.{Queued}
 use Rattle.link_core.specs.declared.message.Settled.{Settled}
-use Rattle.link_core.specs.Link.{LinkState, Settling, is_full, enqueued, entry_of, holds_back, started_all, offered_of, wrote_of, piece_dealt, closed_all, faulted}
+use Rattle.link_core.specs.Link.{LinkState, Settling, is_full, enqueued, entry_of, holds_back, started_all, offered_of, wrote_of, piece_read, closed_all, faulted}
 use Rattle.link_core.specs.Outbox.{can_offer}
 use Rattle.link_core.specs.Waiting.{without}
 use Rattle.legal_trace.specs.Ledger.{begins, offers}
 use Rattle.link_laws.specs.Alike.{SameRow, SameLink, SameSettling, others}
 use Rattle.link_laws.specs.Starts.{begun, start_from, starting, begins_each}
-use Rattle.link_laws.specs.Runs.{Operation, place, begin, start_first, offer, take_up, read, withdraw, fail, shut_down, pass, Run, fresh_run, heard, settling, over_with, begun_all, has_come, or_parse, has_read, acted, performed, performed_each, run}
+use Rattle.link_laws.specs.Runs.{Operation, place, begin, start_first, offer, take_up, read, withdraw, fail, drop_stream, shut_down, pass, Run, fresh_run, heard, settling, over_with, ends_by, begun_all, has_come, or_parse, has_read, acted, performed, performed_each, run}
 use Rattle.link_laws.proofs.Choices.{chosen_both}
-use Rattle.link_laws.proofs.Alike.{same_row_refl}
+use Rattle.link_laws.proofs.Alike.{others_joined, same_row_refl}
 use Rattle.link_laws.proofs.Cancels.{cancel_stays, cancel_alike, begin_alike, start_alike, bytes_alike, close_alike, fault_alike}
 
 -- the same run, but for whether that message's verdict is wanted, and what it was
@@ -63,10 +65,10 @@ over_alike : (id : ℕ) (a : Run) (row : List Entry) (out : List Settled) (d e :
 over_alike id a row out d e h = record { link = h.link; settled = h.out; rest = refl }
 
 -- by a fault
-faulted_alike : (id : ℕ) (a : Run) (row : List Entry) (out : List Settled) (f : LinkFault) → SameRow id a.link.row row → others id a.settled ≡ others id out
-    → SameRun id (over_with a (faulted (settling a) f)) (over_with (with_row a row out) (faulted (settling (with_row a row out)) f))
+faulted_alike : (id : ℕ) (a : Run) (row : List Entry) (out : List Settled) (f : LinkFault) → SameRow id a.link.row row → others id a.settled ≡ others id out → SameRun id (ends_by a f) (ends_by (with_row a row out) f)
 faulted_alike id a row out f h o =
-    over_alike id a row out (faulted (settling a) f) (faulted (settling (with_row a row out)) f) (fault_alike id f a.link (re_rowed a.link row) a.settled out (alike id a.link row h) o)
+    let felt_so = felt a.hearing f in
+    over_alike id a row out (faulted (settling a) felt_so) (faulted (settling (with_row a row out)) felt_so) (fault_alike id felt_so a.link (re_rowed a.link row) a.settled out (alike id a.link row h) o)
 
 -- and by the shutdown
 closed_alike : (id : ℕ) (a : Run) (row : List Entry) (out : List Settled) → SameRow id a.link.row row → others id a.settled ≡ others id out
@@ -76,23 +78,22 @@ closed_alike id a row out h o =
 
 -- bytes
 --
-parse_alike : (id : ℕ) (a : Run) (row : List Entry) (out : List Settled) → SameRow id a.link.row row → others id a.settled ≡ others id out → SameRun id (or_parse a) (or_parse (with_row a row out))
-parse_alike id a row out h o =
-    chosen_both (SameRun id) a.link.broken
-    (over_with a (faulted (settling a) fault.Parse)) a
-    (over_with (with_row a row out) (faulted (settling (with_row a row out)) fault.Parse)) (with_row a row out)
+parse_alike : (id : ℕ) (a : Run) (row : List Entry) (out : List Settled) (strange : Bool) → SameRow id a.link.row row → others id a.settled ≡ others id out → SameRun id (or_parse a strange) (or_parse (with_row a row out) strange)
+parse_alike id a row out strange h o =
+    chosen_both (SameRun id) (a.link.broken || strange) (ends_by a fault.Parse) a (ends_by (with_row a row out) fault.Parse) (with_row a row out)
     (λ t. faulted_alike id a row out fault.Parse h o)
     (λ f. record { link = alike id a.link row h; settled = o; rest = refl })
 
 -- the same bytes come
 read_alike : (id : ℕ) (a : Run) (row : List Entry) (out : List Settled) (piece : List ℕ) → SameRow id a.link.row row → others id a.settled ≡ others id out → SameRun id (has_read a piece) (has_read (with_row a row out) piece)
 read_alike id a row out piece h o =
-    let d = piece_dealt (settling a) piece in
-    let e = piece_dealt (settling (with_row a row out)) piece in
+    let d = piece_read a.hearing true a.link piece in
+    let e = piece_read a.hearing true (re_rowed a.link row) piece in
     let x = has_come (heard a (came piece)) d in
-    let same : SameSettling id d e = bytes_alike id a.link (re_rowed a.link row) a.settled out piece (alike id a.link row h) o in
-    subst (λ (s : LinkState). SameRun id (or_parse x) (or_parse (record x { link = s; settled = e.out }))) (sym same.link.rest)
-    (parse_alike id x e.link.row e.out same.link.row same.out)
+    let same = (bytes_alike id a.hearing true a.link (re_rowed a.link row) piece (alike id a.link row h) (inl refl)).0 in
+    subst (λ (s : LinkState). SameRun id (or_parse x d.strange) (or_parse (record x { link = s; settled = out ++ e.out }) e.strange)) (sym same.link.rest)
+    (subst (λ (b : Bool). SameRun id (or_parse x d.strange) (or_parse (with_row x e.link.row (out ++ e.out)) b)) same.strange
+    (parse_alike id x e.link.row (out ++ e.out) d.strange same.link.row (others_joined id a.settled d.out out e.out o same.out)))
 
 -- all operations
 --
@@ -124,6 +125,11 @@ acted_alike id name a row out (take_up n) h o =
     (λ t. same_with id next row out h o)
     (λ f. same_with id a row out h o)
 acted_alike id name a row out (read piece) h o = read_alike id a row out piece h o
+acted_alike id name a row out drop_stream h o =
+    let x = heard a dropped in
+    chosen_both (SameRun id) (hears_messages a.hearing) (ends_by x fault.Ended) x (ends_by (with_row x row out) fault.Ended) (with_row x row out)
+    (λ t. faulted_alike id x row out fault.Ended h o)
+    (λ f. same_with id x row out h o)
 acted_alike id name a row out (withdraw other) h o = record { link = cancel_alike id other a.link (re_rowed a.link row) (alike id a.link row h); settled = o; rest = refl }
 acted_alike id name a row out (fail f) h o = faulted_alike id (heard a (failed f)) row out f h o
 acted_alike id name a row out shut_down h o = closed_alike id (heard a shut) row out h o
@@ -170,11 +176,11 @@ same_told : (id : ℕ) (a b : Run) → SameRun id a b → SameButFor id a b
 same_told id a b h = (sym (ap (λ (x : Run). x.lines) h.rest), h.settled)
 
 -- a run with that withdrawal, and the run without it
-pub cancel_apart : (name : ℕ → Owner) (size boundary id : ℕ) (ops more : List Operation) → without (run name size boundary ops).link.queue id ≡ (run name size boundary ops).link.queue
-    → SameButFor id (run name size boundary (ops ++ more)) (run name size boundary (ops ++ withdraw id ∷ more))
+pub cancel_apart : (name : ℕ → Owner) (h : Hearing) (size boundary id : ℕ) (ops more : List Operation) → without (run name h size boundary ops).link.queue id ≡ (run name h size boundary ops).link.queue
+    → SameButFor id (run name h size boundary (ops ++ more)) (run name h size boundary (ops ++ withdraw id ∷ more))
 unfolding run
-cancel_apart name size boundary id ops more left =
-    let r = performed_each name (fresh_run size boundary) ops in
-    let h = each_alike id name r (performed name r (withdraw id)) more (withdrawn_alike id name r left) in
-    subst (λ (x : Run). SameButFor id x (run name size boundary (ops ++ withdraw id ∷ more))) (sym (each-append name (fresh_run size boundary) ops more))
-    (subst (λ (x : Run). SameButFor id (performed_each name r more) x) (sym (each-append name (fresh_run size boundary) ops (withdraw id ∷ more))) (same_told id (performed_each name r more) (performed_each name (performed name r (withdraw id)) more) h))
+cancel_apart name h size boundary id ops more left =
+    let r = performed_each name (fresh_run h size boundary) ops in
+    let same = each_alike id name r (performed name r (withdraw id)) more (withdrawn_alike id name r left) in
+    subst (λ (x : Run). SameButFor id x (run name h size boundary (ops ++ withdraw id ∷ more))) (sym (each-append name (fresh_run h size boundary) ops more))
+    (subst (λ (x : Run). SameButFor id (performed_each name r more) x) (sym (each-append name (fresh_run h size boundary) ops (withdraw id ∷ more))) (same_told id (performed_each name r more) (performed_each name (performed name r (withdraw id)) more) same))

@@ -2,19 +2,21 @@
 use Rattle.std.proofs.Common.{◌≡◌, ℕ, ◌==◌, Bool, true, false, List, [], ◌∷◌, ◌++◌, if◌then◌else◌, refl, sym, ap, subst, inl, inr}
 use Rattle.containers.proofs.Choices.{eq_from}
 use Rattle.redis_error.specs.declared.redis_error.RedisError.TheVariants as error
-use Rattle.resp_read.specs.Items.{items}
+use Rattle.resp_read.specs.Values.{values}
+use Rattle.driver_model.specs.Hearing.{hears_messages, is_watching}
+use Rattle.driver_model.specs.declared.hearing.Hearing.{Hearing}
 use Rattle.driver_model.specs.declared.news.LinkFault.{LinkFault}
 use Rattle.link_core.specs.declared.message.Entry.{Entry}
 use Rattle.link_core.specs.declared.message.Queued.{Queued}
 use Rattle.link_core.specs.declared.message.Settled.{Settled}
 use Rattle.link_core.specs.declared.message.Started.{Started}
-use Rattle.link_core.specs.Dealing.{Dealing, dealt_each}
+use Rattle.link_core.specs.Dealing.{Dealing, dealing_with, taken_each}
 use Rattle.link_core.specs.Ends.{row_closed, row_hit, queue_closed, hit_by, failed_by}
-use Rattle.link_core.specs.Link.{LinkState, Starting, Settling, entry_of, begun, enqueued, holds_back, started_one, started_each, started_all, offered_of, wrote_of, cancelled, came_all, piece_dealt, emptied, closed_all, faulted}
+use Rattle.link_core.specs.Link.{LinkState, Starting, entry_of, begun, enqueued, holds_back, started_one, started_each, started_all, offered_of, wrote_of, Reading, cancelled, came_all, nothing_read, piece_read, read_on, read_with, emptied, closed_all, faulted}
 use Rattle.link_core.specs.Row.{silent, silenced}
 use Rattle.link_core.specs.Waiting.{without}
-use Rattle.link_laws.specs.Alike.{SameEntry, SameRow, SameDealing, SameLink, SameStarting, SameSettling, others}
-use Rattle.link_laws.proofs.Alike.{others_joined, same_row_refl, same_failed, same_dealt_each}
+use Rattle.link_laws.specs.Alike.{SameEntry, SameRow, SameDealing, SameLink, SameStarting, SameSettling, SameReading, SetsUp, others, told}
+use Rattle.link_laws.proofs.Alike.{others_joined, same_row_refl, same_failed, same_items, tells_taken_each, tells_with}
 
 -- a message that started stays where it is
 silenced_if : (b : Bool) (id : ℕ) (e : Entry) (es : List Entry) → (b ≡ true → e.id ≡ id) → SameRow id es (silenced es id) → SameRow id (e ∷ es) (if b then silent e ∷ es else e ∷ silenced es id)
@@ -73,30 +75,53 @@ starts_alike id s row out (q ∷ qs) h =
 pub start_alike : (id : ℕ) (s t : LinkState) (out : List Started) → SameLink id s t → SameStarting id (started_all (record { link = s; out = out })) (started_all (record { link = t; out = out }))
 start_alike id s t out h = subst (λ x. SameStarting id (started_all (record { link = s; out = out })) (started_all (record { link = x; out = out }))) (sym h.rest) (starts_alike id s t.row out s.queue h.row)
 
-settle_branch : (id : ℕ) (b : Bool) (x y x' y' : Settling) → SameSettling id x x' → SameSettling id y y' → SameSettling id (if b then x else y) (if b then x' else y')
-settle_branch id true x y x' y' p q = p
-settle_branch id false x y x' y' p q = q
+-- bytes
+--
+read_branch : (id : ℕ) (b : Bool) (x y x' y' : Reading) → SameReading id x x' → SameReading id y y' → SameReading id (if b then x else y) (if b then x' else y')
+read_branch id true x y x' y' p q = p
+read_branch id false x y x' y' p q = q
 
-all_alike : (id : ℕ) (s : LinkState) (row : List Entry) (out out' : List Settled) (bytes : List ℕ) → SameRow id s.row row → others id out ≡ others id out'
-    → SameSettling id (came_all (record { link = s; out = out }) bytes) (came_all (record { link = record s { row = row }; out = out' }) bytes)
-all_alike id s row out out' bytes h o =
-    let one : Dealing = dealt_each (record { row = s.row; out = [] }) (items bytes) in
-    let other : Dealing = dealt_each (record { row = row; out = [] }) (items bytes) in
-    let same : SameDealing id one other = same_dealt_each id (record { row = s.row; out = [] }) (record { row = row; out = [] }) (items bytes) (record { row = h; out = refl }) in
-    record { link = record { row = same.row; rest = refl }; out = others_joined id out one.out out' other.out o same.out }
+-- what a link has read, by what it has dealt
+came_as : (id : ℕ) (s : LinkState) (row : List Entry) (bytes : List ℕ) (d d' : Dealing) → SameDealing id d d' → SameReading id (read_with (read_on s bytes) d) (read_with (read_on (record s { row = row }) bytes) d')
+came_as id s row bytes d d' k = record { link = record { row = k.row; rest = refl }; out = k.out; strange = k.strange }
 
-came_alike : (id : ℕ) (s : LinkState) (row : List Entry) (out out' : List Settled) (piece : List ℕ) → SameRow id s.row row → others id out ≡ others id out'
-    → SameSettling id (piece_dealt (record { link = s; out = out }) piece) (piece_dealt (record { link = record s { row = row }; out = out' }) piece)
-came_alike id s row out out' piece h o =
-    settle_branch id s.broken (record { link = s; out = out }) (came_all (record { link = s; out = out }) (s.rest ++ piece))
-    (record { link = record s { row = row }; out = out' }) (came_all (record { link = record s { row = row }; out = out' }) (s.rest ++ piece))
-    (record { link = record { row = h; rest = refl }; out = o })
-    (all_alike id s row out out' (s.rest ++ piece) h o)
+-- links that are alike tell the same, where they are set up alike
+came_alike : (id : ℕ) (h : Hearing) (ready : Bool) (s : LinkState) (row : List Entry) (piece : List ℕ) → SameRow id s.row row → SetsUp ready row
+    → (let t : LinkState = record s { row = row } in SameReading id (piece_read h ready s piece) (piece_read h ready t piece) × (told (piece_read h ready s piece).notices ≡ told (piece_read h ready t piece).notices))
+came_alike id h ready s row piece same sets =
+    let t : LinkState = record s { row = row } in
+    let bytes = s.rest ++ piece in
+    let k = tells_taken_each id h ready (dealing_with s.row) (dealing_with row) (values bytes) (tells_with id ready s.row row same sets) in (
+      read_branch id s.broken (nothing_read s) (came_all h ready s bytes) (nothing_read t) (came_all h ready t bytes)
+          (record { link = record { row = same; rest = refl }; out = refl; strange = refl })
+          (came_as id s row bytes (taken_each h ready (dealing_with s.row) (values bytes)) (taken_each h ready (dealing_with row) (values bytes)) k.same),
+      says_branch s.broken (nothing_read s) (came_all h ready s bytes) (nothing_read t) (came_all h ready t bytes) refl k.says,
+    )
+  where
+    says_branch : (b : Bool) (x y x' y' : Reading) → told x.notices ≡ told x'.notices → told y.notices ≡ told y'.notices → told (if b then x else y).notices ≡ told (if b then x' else y').notices
+    says_branch true x y x' y' p q = p
+    says_branch false x y x' y' p q = q
 
--- each item goes to the same message, and every other verdict is the same
-pub bytes_alike : (id : ℕ) (s t : LinkState) (out out' : List Settled) (piece : List ℕ) → SameLink id s t → others id out ≡ others id out' → SameSettling id (piece_dealt (record { link = s; out = out }) piece) (piece_dealt (record { link = t; out = out' }) piece)
-bytes_alike id s t out out' piece h o = subst (λ x. SameSettling id (piece_dealt (record { link = s; out = out }) piece) (piece_dealt (record { link = x; out = out' }) piece)) (sym h.rest) (came_alike id s t.row out out' piece h.row o)
+-- each item goes to the same message, every other verdict is the same, and the same is told
+pub bytes_alike : (id : ℕ) (h : Hearing) (ready : Bool) (s t : LinkState) (piece : List ℕ) → SameLink id s t → SetsUp ready t.row
+    → SameReading id (piece_read h ready s piece) (piece_read h ready t piece) × (told (piece_read h ready s piece).notices ≡ told (piece_read h ready t piece).notices)
+bytes_alike id h ready s t piece same sets =
+    subst (λ (x : LinkState). SameReading id (piece_read h ready s piece) (piece_read h ready x piece) × (told (piece_read h ready s piece).notices ≡ told (piece_read h ready x piece).notices)) (sym same.rest)
+    (came_alike id h ready s t.row piece same.row sets)
 
+-- also where they aren't, but for what is told
+pub items_alike : (id : ℕ) (h : Hearing) (ready : Bool) (s t : LinkState) (piece : List ℕ) → hears_messages h ≡ false → is_watching h ≡ false → SameLink id s t → SameReading id (piece_read h ready s piece) (piece_read h ready t piece)
+items_alike id h ready s t piece plain unwatched same =
+    let u : LinkState = record s { row = t.row } in
+    let bytes = s.rest ++ piece in
+    subst (λ (x : LinkState). SameReading id (piece_read h ready s piece) (piece_read h ready x piece)) (sym same.rest)
+    (read_branch id s.broken (nothing_read s) (came_all h ready s bytes) (nothing_read u) (came_all h ready u bytes)
+    (record { link = record { row = same.row; rest = refl }; out = refl; strange = refl })
+    (came_as id s t.row bytes (taken_each h ready (dealing_with s.row) (values bytes)) (taken_each h ready (dealing_with t.row) (values bytes))
+    (same_items id h ready (dealing_with s.row) (dealing_with t.row) (values bytes) plain unwatched (record { row = same.row; out = refl; strange = refl }))))
+
+-- ends
+--
 row_ends_alike : (id : ℕ) (row row' : List Entry) → SameRow id row row' → others id (row_closed row) ≡ others id (row_closed row')
 row_ends_alike id [] [] h = refl
 row_ends_alike id (e ∷ es) (f ∷ fs) h =

@@ -1,16 +1,16 @@
 -- Items that are dealt fill the started messages in the order of their starts.
-use Rattle.std.proofs.Common.{◌≡◌, ℕ, suc, ◌+◌, ◌-◌, ◌<◌, ◌≤◌, nat_le, nat_lt, true, false, if◌then◌else◌, List, [], ◌∷◌, ◌++◌, length, take, drop, refl, sym, ap, ◌∙◌, subst, append_assoc, arith, length-drop, length-append}
+use Rattle.std.proofs.Common.{◌≡◌, ℕ, suc, ◌+◌, ◌-◌, ◌<◌, ◌≤◌, nat_le, nat_lt, true, false, List, [], ◌∷◌, ◌++◌, length, take, drop, refl, sym, ap, ◌∙◌, subst, arith, length-drop, length-append}
 use Rattle.std.specs.List.{AllByRecursion}
 use Rattle.std.proofs.lemmas.List.{append-nil, drop-append-le, take_all, take-append-le, length_push, drop-drop}
 use Rattle.containers.proofs.Places.{get_within}
 use Rattle.containers.proofs.Choices.{by_test, chosen, if_true, if_false, le_from, not_le_from, le_test, not_le_test, lt_from, not_lt_from}
-use Rattle.resp_value.specs.Data.{Data}
+use Rattle.resp_value.specs.Data.{Data, nil}
 use Rattle.driver_model.specs.declared.action.Owner.{Owner}
 use Rattle.driver_model.specs.declared.outcome.Shape.{Shape}
 use Rattle.driver_model.specs.Shape.{need_of, verdict_of}
 use Rattle.link_core.specs.declared.message.Entry.{Entry}
 use Rattle.link_core.specs.declared.message.Settled.{Settled}
-use Rattle.link_core.specs.Dealing.{Dealing, with_item, settled_by, given, dealt_to, dealt, dealt_each}
+use Rattle.link_core.specs.Dealing.{Dealing, with_item, settled_by, given, dealt_to, is_awaiting}
 use Rattle.legal_trace.specs.Ledger.{Start, need_in, reach}
 use Rattle.link_laws.specs.Settles.{StandsAs}
 use Rattle.link_laws.proofs.Choices.{lt_test, not_lt_test}
@@ -87,7 +87,7 @@ cut_more ss items more of_shape k far =
     rw (reach_alike (take k ss) (items ++ more) items, drop-append-le m items more (omega arith), take-append-le (need_of of_shape) (drop m items) more (omega (arith, length-drop m items))) refl
 
 -- so it has its cut still
-pub cut_stays : (ss : List Start) (items more : List Data) (who : Owner) (of_shape : Shape) (got : List Data) → HasCut ss items who of_shape got → HasCut ss (items ++ more) who of_shape got
+unfoldable pub cut_stays : (ss : List Start) (items more : List Data) (who : Owner) (of_shape : Shape) (got : List Data) → HasCut ss items who of_shape got → HasCut ss (items ++ more) who of_shape got
 cut_stays ss items more who of_shape got h =
     let k = h.number in
     let far = cut_within ss items who of_shape k h.place h.full in
@@ -189,20 +189,6 @@ given_dealt name ss items d item e es is h =
           }),
     )
 
--- an item as the ledger takes it: where one is wanted
-abbrev pub taken_item : ℕ → List Data → Data → List Data
-taken_item all items item = if nat_lt (length items) all then items ++ item ∷ [] else items
-
--- one item is dealt alike
-one_dealt : (name : ℕ → Owner) (ss : List Start) (items : List Data) (d : Dealing) (item : Data) (row : List Entry) → d.row ≡ row → IsDealt name ss items d
-    → IsDealt name ss (taken_item (reach ss items) items item) (dealt_to d item row)
-one_dealt name ss items d item [] is h =
-    let n = none_open ss items (sym h.row ∙ ap (open_list name) is) in
-    if_false (λ xs. IsDealt name ss xs d) (nat_lt (length items) (reach ss items)) _ _ (not_lt_test _ _ n) h
-one_dealt name ss items d item (e ∷ es) is h =
-    let g = given_dealt name ss items d item e es is h in
-    if_true (λ xs. IsDealt name ss xs (given d (with_item e item) es)) (nat_lt (length items) (reach ss items)) _ _ (lt_test _ _ g.0) g.1
-
 -- the items dealt, with as many more as are wanted
 abbrev pub items_with : ℕ → List Data → List Data → List Data
 items_with all items more = items ++ take (all - length items) more
@@ -211,31 +197,23 @@ items_with all items more = items ++ take (all - length items) more
 none_wanted : (all : ℕ) (items more : List Data) → all ≤ length items → items_with all items more ≡ items
 none_wanted all items more l = let z : all - length items ≡ 0 = omega arith in rw z (append-nil items)
 
--- where more are wanted, the first is taken
-pub first_wanted : (all : ℕ) (items : List Data) (item : Data) (more : List Data) → length items < all → items_with all items (item ∷ more) ≡ items_with all (items ++ item ∷ []) more
-first_wanted all items item more l =
-    let n = length_push items item in
-    let z : all - length items ≡ suc (all - length (items ++ item ∷ [])) = omega arith in
-    rw z (sym (append_assoc items (item ∷ []) (take (all - length (items ++ item ∷ [])) more)))
+-- where more are wanted, an item is taken
+pub one_wanted : (all : ℕ) (items : List Data) (item : Data) → length items < all → items_with all items (item ∷ []) ≡ items ++ item ∷ []
+one_wanted all items item l =
+    let z : all - length items ≡ suc (all - (length items + 1)) = omega arith in
+    rw z (ap (λ xs. items ++ item ∷ xs) (take_none (all - (length items + 1))))
 
--- items are taken one by one
-pub one_wanted : (all : ℕ) (items : List Data) (item : Data) (more : List Data) → items_with all items (item ∷ more) ≡ items_with all (taken_item all items item) more
-one_wanted all items item more =
-    by_test (nat_lt (length items) all) _
-    (λ t. if_true (λ xs. items_with all items (item ∷ more) ≡ items_with all xs more) _ _ _ t (first_wanted all items item more (lt_from _ _ t)))
-    (λ f. if_false (λ xs. items_with all items (item ∷ more) ≡ items_with all xs more) _ _ _ f
-    (let l = not_lt_from _ _ f in none_wanted all items (item ∷ more) l ∙ sym (none_wanted all items more l)))
+-- an item is dealt alike
+pub one_dealt : (name : ℕ → Owner) (ss : List Start) (items : List Data) (d : Dealing) (item : Data) (row : List Entry) → d.row ≡ row → IsDealt name ss items d
+    → IsDealt name ss (items_with (reach ss items) items (item ∷ [])) (dealt_to d item row)
+one_dealt name ss items d item [] is h =
+    let n = none_open ss items (sym h.row ∙ ap (open_list name) is) in
+    subst (λ xs. IsDealt name ss xs d) (sym (none_wanted (reach ss items) items (item ∷ []) n)) h
+one_dealt name ss items d item (e ∷ es) is h =
+    let g = given_dealt name ss items d item e es is h in
+    subst (λ xs. IsDealt name ss xs (given d (with_item e item) es)) (sym (one_wanted (reach ss items) items item g.0)) g.1
 
--- items one after another are dealt alike
-pub each_dealt : (name : ℕ → Owner) (ss : List Start) (all : ℕ) (items : List Data) (d : Dealing) (vs : List Data) → reach ss items ≡ all → IsDealt name ss items d
-    → IsDealt name ss (items_with all items vs) (dealt_each d vs)
-each_dealt name ss all items d [] e h = let z : items_with all items [] ≡ items = ap (λ xs. items ++ xs) (take_none (all - length items)) ∙ append-nil items in subst (λ xs. IsDealt name ss xs d) (sym z) h
-each_dealt name ss all items d (v ∷ vs) e h =
-    let one : IsDealt name ss (taken_item all items v) (dealt d v) = subst (λ (n : ℕ). IsDealt name ss (taken_item n items v) (dealt d v)) e (one_dealt name ss items d v d.row refl h) in
-    subst (λ xs. IsDealt name ss xs (dealt_each (dealt d v) vs)) (sym (one_wanted all items v vs))
-    (each_dealt name ss all (taken_item all items v) (dealt d v) vs (reach_alike ss (taken_item all items v) items ∙ e) one)
-
--- all values that come are dealt alike in a row and in a ledger
-pub row_dealt : (name : ℕ → Owner) (ss : List Start) (items : List Data) (row : List Entry) (vs : List Data) → open_list name row ≡ open_rows ss items → length items ≤ reach ss items
-    → IsDealt name ss (items_with (reach ss items) items vs) (dealt_each (record { row = row; out = [] }) vs)
-row_dealt name ss items row vs is within = each_dealt name ss (reach ss items) items (record { row = row; out = [] }) vs refl (record { row = is; within = within; cuts = tt })
+-- messages take items in a row and in a ledger alike
+pub awaits_alike : (name : ℕ → Owner) (ss : List Start) (items : List Data) (row : List Entry) → open_list name row ≡ open_rows ss items → is_awaiting row ≡ nat_lt (length items) (reach ss items)
+awaits_alike name ss items [] is = sym (not_lt_test _ _ (none_open ss items (sym is)))
+awaits_alike name ss items (e ∷ es) is = sym (lt_test _ _ (open_rows-item ss items nil (open_of name e) (open_list name es) (sym is)).0)

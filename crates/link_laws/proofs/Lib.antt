@@ -4,6 +4,8 @@ pub mod Places
 pub mod Lists
 pub mod Rows
 pub mod Dealt
+pub mod Taken
+pub mod SetUp
 pub mod Choices
 pub mod TiedLink
 pub mod Once
@@ -15,5 +17,6 @@ pub mod Bounds
 pub mod AlikeRuns
 pub mod Started
 pub mod PushKinds
-pub mod Pushes
+pub mod Notices
 pub mod Unheard
+pub mod Greetings

@@ -5,11 +5,12 @@ use Rattle.resp_value.specs.Data.{Data}
 use Rattle.redis_error.specs.declared.redis_error.RedisError.{RedisError}
 use Rattle.redis_error.specs.declared.redis_error.RedisError.TheVariants as error
 use Rattle.driver_model.specs.Shape.{need_of, verdict_of}
+use Rattle.driver_model.specs.declared.hearing.Hearing.{Hearing}
 use Rattle.driver_model.specs.declared.news.LinkFault.{LinkFault}
 use Rattle.link_core.specs.declared.message.Entry.{Entry}
 use Rattle.link_core.specs.declared.message.Queued.{Queued}
 use Rattle.link_core.specs.declared.message.Settled.{Settled}
-use Rattle.link_core.specs.Dealing.{Dealing, with_item, settled_by, dealt_to, dealt, dealt_each}
+use Rattle.link_core.specs.Dealing.{Dealing, with_item, settled_by, dealt_to, dealt, noticed_behind, taking_in, taken_as, taken, taken_each}
 use Rattle.link_core.specs.Ends.{failed_by, hit_by, row_closed, row_hit, queue_closed}
 use Rattle.link_laws.specs.Settles.{settled_ids, wanted, awaited_ids}
 
@@ -49,10 +50,19 @@ item_keeps d item (e ∷ es) is =
     (λ t. refl)
     (λ n. full_keeps d.out f es)
 
--- those that items settle, and then those still wanted, are those wanted before
-pub items_keep : (d : Dealing) (vs : List Data) → settled_ids (dealt_each d vs).out ++ wanted (dealt_each d vs).row ≡ settled_ids d.out ++ wanted d.row
-items_keep d [] = refl
-items_keep d (v ∷ vs) = items_keep (dealt d v) vs ∙ item_keeps d v d.row refl
+-- and so does a value
+value_keeps : (h : Hearing) (ready : Bool) (d : Dealing) (v : Data) → settled_ids (taken h ready d v).out ++ wanted (taken h ready d v).row ≡ settled_ids d.out ++ wanted d.row
+value_keeps h ready d v =
+    let t = taking_in h ready d v in
+    let m : Dealing = record d { notices = d.notices ++ noticed_behind (length d.out) t.told; strange = t.ends } in
+    chosen (λ (x : Dealing). settled_ids x.out ++ wanted x.row ≡ settled_ids d.out ++ wanted d.row) d.strange d (taken_as d t v)
+    (λ y. refl)
+    (λ n. chosen (λ (x : Dealing). settled_ids x.out ++ wanted x.row ≡ settled_ids d.out ++ wanted d.row) t.dealt (dealt m v) m (λ y. item_keeps m v d.row refl) (λ y. refl))
+
+-- those that values settle, and then those still wanted, are those wanted before
+pub taken_keeps : (h : Hearing) (ready : Bool) (d : Dealing) (vs : List Data) → settled_ids (taken_each h ready d vs).out ++ wanted (taken_each h ready d vs).row ≡ settled_ids d.out ++ wanted d.row
+taken_keeps h ready d [] = refl
+taken_keeps h ready d (v ∷ vs) = taken_keeps h ready (taken h ready d v) vs ∙ value_keeps h ready d v
 
 -- the end
 --

@@ -1,25 +1,27 @@
 -- Through a run, each message whose verdict is wanted is settled once, in order, and the end settles all that are left.
-use Rattle.std.proofs.Common.{◌≡◌, ℕ, ◌==◌, nat_le, true, false, ◌||◌, if◌then◌else◌, List, [], ◌∷◌, ◌++◌, length, refl, sym, ap, ◌∙◌, append_assoc}
+use Rattle.std.proofs.Common.{◌≡◌, ℕ, ◌==◌, nat_le, Bool, true, false, ◌||◌, if◌then◌else◌, List, [], ◌∷◌, ◌++◌, length, refl, sym, ap, ◌∙◌, append_assoc}
 use Rattle.std.proofs.lemmas.List.{append-nil}
 use Rattle.containers.proofs.Choices.{chosen, if_true, if_false, not_both}
-use Rattle.resp_read.specs.Items.{items}
+use Rattle.resp_read.specs.Values.{values}
+use Rattle.driver_model.specs.Hearing.{felt, hears_messages}
+use Rattle.driver_model.specs.declared.hearing.Hearing.{Hearing}
 use Rattle.driver_model.specs.declared.action.Owner.{Owner}
 use Rattle.driver_model.specs.declared.news.LinkFault.{LinkFault}
 use Rattle.driver_model.specs.declared.news.LinkFault.TheVariants as fault
-use Rattle.driver_model.specs.News.{came, failed, shut, took}
+use Rattle.driver_model.specs.News.{came, dropped, failed, shut, took}
 use Rattle.link_core.specs.declared.message.Entry.{Entry}
 use Rattle.link_core.specs.declared.message.Queued.{Queued}
 use Rattle.link_core.specs.declared.message.Settled.{Settled}
-use Rattle.link_core.specs.Dealing.{Dealing, dealt_each}
+use Rattle.link_core.specs.Dealing.{Dealing, dealing_with, taken_each}
 use Rattle.link_core.specs.Ends.{row_closed, row_hit, queue_closed}
-use Rattle.link_core.specs.Link.{Starting, Settling, is_full, enqueued, entry_of, holds_back, started_one, started_each, offered_of, wrote_of, piece_dealt, came_all, emptied, closed_all, faulted}
+use Rattle.link_core.specs.Link.{LinkState, Starting, Reading, is_full, enqueued, entry_of, holds_back, started_one, started_each, offered_of, wrote_of, nothing_read, piece_read, came_all, emptied, closed_all}
 use Rattle.link_core.specs.Outbox.{can_offer}
 use Rattle.legal_trace.specs.Ledger.{begins, offers}
 use Rattle.link_laws.specs.Settles.{settled_ids, wanted, awaited_ids, awaited_of}
 use Rattle.link_laws.specs.Starts.{begun, start_from}
-use Rattle.link_laws.specs.Runs.{Operation, place, begin, start_first, offer, take_up, read, withdraw, fail, shut_down, pass, Run, heard, settling, over_with, placed, first_begun, has_come, or_parse, acted, performed, answered_or_wanted, line_with, wanted_first, wanted_by, is_withdraw}
+use Rattle.link_laws.specs.Runs.{Operation, place, begin, start_first, offer, take_up, read, withdraw, fail, drop_stream, shut_down, pass, Run, heard, settling, over_with, ends_by, placed, first_begun, has_come, or_parse, acted, performed, answered_or_wanted, line_with, wanted_first, wanted_by, is_withdraw}
 use Rattle.link_laws.proofs.Choices.{chosen_both}
-use Rattle.link_laws.proofs.Once.{settled_ids-append, wanted-append, awaited_ids-append, items_keep, closed_ids, hit_ids}
+use Rattle.link_laws.proofs.Once.{settled_ids-append, wanted-append, awaited_ids-append, taken_keeps, closed_ids, hit_ids}
 
 -- starts
 --
@@ -39,18 +41,19 @@ starts_keep s (q ∷ qs) =
 -- bytes
 --
 -- what is dealt moves no one out of the line
-dealt_keeps : (d : Settling) (x : Dealing) (rest : List ℕ) → settled_ids x.out ++ wanted x.row ≡ wanted d.link.row → settled_ids (d.out ++ x.out) ++ (wanted x.row ++ rest) ≡ settled_ids d.out ++ (wanted d.link.row ++ rest)
-dealt_keeps d x rest e =
-    ap (λ ns. ns ++ (wanted x.row ++ rest)) (settled_ids-append d.out x.out)
-    ∙ append_assoc (settled_ids d.out) (settled_ids x.out) (wanted x.row ++ rest)
-    ∙ ap (λ ns. settled_ids d.out ++ ns) (sym (append_assoc (settled_ids x.out) (wanted x.row) rest) ∙ ap (λ ns. ns ++ rest) e)
+dealt_keeps : (out : List Settled) (row : List Entry) (x : Dealing) (rest : List ℕ) → settled_ids x.out ++ wanted x.row ≡ wanted row → settled_ids (out ++ x.out) ++ (wanted x.row ++ rest) ≡ settled_ids out ++ (wanted row ++ rest)
+dealt_keeps out row x rest e =
+    ap (λ ns. ns ++ (wanted x.row ++ rest)) (settled_ids-append out x.out)
+    ∙ append_assoc (settled_ids out) (settled_ids x.out) (wanted x.row ++ rest)
+    ∙ ap (λ ns. settled_ids out ++ ns) (sym (append_assoc (settled_ids x.out) (wanted x.row) rest) ∙ ap (λ ns. ns ++ rest) e)
 
 -- those that bytes settle leave it at its front, in order
-pub bytes_keep : (d : Settling) (piece : List ℕ) → settled_ids (piece_dealt d piece).out ++ awaited_of (piece_dealt d piece).link ≡ settled_ids d.out ++ awaited_of d.link
-bytes_keep d piece =
-    chosen (λ (x : Settling). settled_ids x.out ++ awaited_of x.link ≡ settled_ids d.out ++ awaited_of d.link) d.link.broken d (came_all d (d.link.rest ++ piece))
-    (λ t. refl)
-    (λ f. dealt_keeps d (dealt_each (record { row = d.link.row; out = [] }) (items (d.link.rest ++ piece))) (awaited_ids d.link.queue) (items_keep (record { row = d.link.row; out = [] }) (items (d.link.rest ++ piece))))
+pub bytes_keep : (h : Hearing) (ready : Bool) (s : LinkState) (out : List Settled) (piece : List ℕ) → (let x = piece_read h ready s piece in settled_ids (out ++ x.out) ++ awaited_of x.link ≡ settled_ids out ++ awaited_of s)
+bytes_keep h ready s out piece =
+    let vs = values (s.rest ++ piece) in
+    chosen (λ (x : Reading). settled_ids (out ++ x.out) ++ awaited_of x.link ≡ settled_ids out ++ awaited_of s) s.broken (nothing_read s) (came_all h ready s (s.rest ++ piece))
+    (λ t. ap (λ (ss : List Settled). settled_ids ss ++ awaited_of s) (append-nil out))
+    (λ f. dealt_keeps out s.row (taken_each h ready (dealing_with s.row) vs) (awaited_ids s.queue) (taken_keeps h ready (dealing_with s.row) vs))
 
 -- the end
 --
@@ -59,18 +62,18 @@ over_once : (r : Run) (more : List Settled) → settled_ids more ≡ awaited_of 
 over_once r more e = settled_ids-append r.settled more ∙ ap (λ ns. settled_ids r.settled ++ ns) e
 
 -- by a fault
-faulted_once : (r : Run) (f : LinkFault) → settled_ids (over_with r (faulted (settling r) f)).settled ≡ settled_ids r.settled ++ awaited_of r.link
-faulted_once r f = over_once r (row_hit f r.link.row ++ queue_closed r.link.queue) (hit_ids f r.link.row r.link.queue)
+faulted_once : (r : Run) (f : LinkFault) → settled_ids (ends_by r f).settled ≡ settled_ids r.settled ++ awaited_of r.link
+faulted_once r f = let felt_so = felt r.hearing f in over_once r (row_hit felt_so r.link.row ++ queue_closed r.link.queue) (hit_ids felt_so r.link.row r.link.queue)
 
 -- and by the shutdown
 closed_once : (r : Run) → settled_ids (over_with r (closed_all (settling r))).settled ≡ settled_ids r.settled ++ awaited_of r.link
 closed_once r = over_once r (row_closed r.link.row ++ queue_closed r.link.queue) (closed_ids r.link.row r.link.queue)
 
 -- bytes that end the link settle all, and others leave all in line
-parse_keeps : (r : Run) → answered_or_wanted (or_parse r) ≡ answered_or_wanted r
-parse_keeps r =
-    chosen (λ (x : Run). answered_or_wanted x ≡ answered_or_wanted r) r.link.broken (over_with r (faulted (settling r) fault.Parse)) r
-    (λ t. append-nil _ ∙ faulted_once r fault.Parse)
+parse_keeps : (r : Run) (strange : Bool) → answered_or_wanted (or_parse r strange) ≡ answered_or_wanted r
+parse_keeps r strange =
+    chosen (λ (x : Run). answered_or_wanted x ≡ answered_or_wanted r) (r.link.broken || strange) (ends_by r fault.Parse) r
+    (λ t. append-nil (settled_ids (ends_by r fault.Parse).settled) ∙ faulted_once r fault.Parse)
     (λ f. refl)
 
 -- all operations
@@ -109,9 +112,14 @@ acted_keeps name r begin g n = ap (λ ns. settled_ids r.settled ++ ns) (starts_k
 acted_keeps name r (start_first q) g n = if_false (λ ns. answered_or_wanted (first_begun name r q) ≡ line_with r ns []) r.over [] (if length q.packed == 0 then [] else (if q.awaited then q.id ∷ [] else [])) g (first_keeps name r q)
 acted_keeps name r offer g n = chosen (λ (x : Run). answered_or_wanted x ≡ line_with r [] []) (can_offer r.link.outbox) _ _ (λ t. as_it_was r) (λ f. as_it_was r)
 acted_keeps name r (take_up k) g n = chosen (λ (x : Run). answered_or_wanted x ≡ line_with r [] []) (nat_le k r.link.outbox.offered) _ _ (λ t. as_it_was r) (λ f. as_it_was r)
-acted_keeps name r (read piece) g n = parse_keeps (has_come (heard r (came piece)) (piece_dealt (settling r) piece)) ∙ bytes_keep (settling r) piece ∙ as_it_was r
+acted_keeps name r (read piece) g n =
+    let x = piece_read r.hearing true r.link piece in
+    parse_keeps (has_come (heard r (came piece)) x) x.strange ∙ bytes_keep r.hearing true r.link r.settled piece ∙ as_it_was r
 acted_keeps name r (withdraw id) g n = cc
 acted_keeps name r (fail f) g n = append-nil _ ∙ faulted_once (heard r (failed f)) f ∙ as_it_was r
+acted_keeps name r drop_stream g n =
+    let x = heard r dropped in
+    chosen (λ (y : Run). answered_or_wanted y ≡ line_with r [] []) (hears_messages r.hearing) (ends_by x fault.Ended) x (λ t. append-nil (settled_ids (ends_by x fault.Ended).settled) ∙ faulted_once x fault.Ended ∙ as_it_was r) (λ f. as_it_was r)
 acted_keeps name r shut_down g n = append-nil _ ∙ closed_once (heard r shut) ∙ as_it_was r
 acted_keeps name r pass g n = as_it_was r
 
@@ -132,9 +140,9 @@ abbrev SettlesAll : Run → Run → Type 0
 SettlesAll r x = x.over ≡ true → settled_ids x.settled ≡ settled_ids r.settled ++ awaited_of r.link
 
 -- bytes that end a link settle all
-parse_once : (r x : Run) → r.over ≡ false → x.over ≡ false → answered_or_wanted x ≡ answered_or_wanted r → SettlesAll r (or_parse x)
-parse_once r x g f e =
-    chosen (SettlesAll r) x.link.broken (over_with x (faulted (settling x) fault.Parse)) x
+parse_once : (r x : Run) (strange : Bool) → r.over ≡ false → x.over ≡ false → answered_or_wanted x ≡ answered_or_wanted r → SettlesAll r (or_parse x strange)
+parse_once r x strange g f e =
+    chosen (SettlesAll r) (x.link.broken || strange) (ends_by x fault.Parse) x
     (λ t o. faulted_once x fault.Parse ∙ e)
     (λ n o. absurd (not_both x.over f o))
 
@@ -146,9 +154,12 @@ acted_once name r (start_first q) g =
     chosen (SettlesAll r) (length q.packed == 0) r (record r { link = begun r.link q; lines = r.lines ++ begins (start_from name q) ∷ [] }) (λ t o. absurd (not_both r.over g o)) (λ f o. absurd (not_both r.over g o))
 acted_once name r offer g = chosen (SettlesAll r) (can_offer r.link.outbox) (record r { link = offered_of r.link; lines = r.lines ++ offers r.link.outbox.unwritten ∷ [] }) r (λ t o. absurd (not_both r.over g o)) (λ f o. absurd (not_both r.over g o))
 acted_once name r (take_up k) g = chosen (SettlesAll r) (nat_le k r.link.outbox.offered) (record (heard r (took k)) { link = wrote_of r.link k }) r (λ t o. absurd (not_both r.over g o)) (λ f o. absurd (not_both r.over g o))
-acted_once name r (read piece) g = parse_once r (has_come (heard r (came piece)) (piece_dealt (settling r) piece)) g g (bytes_keep (settling r) piece)
+acted_once name r (read piece) g = let x = piece_read r.hearing true r.link piece in parse_once r (has_come (heard r (came piece)) x) x.strange g g (bytes_keep r.hearing true r.link r.settled piece)
 acted_once name r (withdraw id) g = λ o. absurd (not_both r.over g o)
 acted_once name r (fail f) g = λ o. faulted_once (heard r (failed f)) f
+acted_once name r drop_stream g =
+    let x = heard r dropped in
+    chosen (SettlesAll r) (hears_messages r.hearing) (ends_by x fault.Ended) x (λ t o. faulted_once x fault.Ended) (λ f o. absurd (not_both r.over g o))
 acted_once name r shut_down g = λ o. closed_once (heard r shut)
 acted_once name r pass g = λ o. absurd (not_both r.over g o)
 

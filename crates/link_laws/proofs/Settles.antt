@@ -6,6 +6,7 @@ use Rattle.resp_value.specs.Data.{Data}
 use Rattle.redis_error.specs.declared.redis_error.RedisError.{RedisError}
 use Rattle.redis_error.specs.declared.redis_error.RedisError.TheVariants as error
 use Rattle.driver_model.specs.declared.action.Owner.{Owner}
+use Rattle.driver_model.specs.declared.hearing.Hearing.{Hearing}
 use Rattle.driver_model.specs.declared.news.LinkFault.{LinkFault}
 use Rattle.driver_model.specs.declared.news.LinkFault.TheVariants as fault
 use Rattle.driver_model.specs.declared.outcome.Outcome.TheVariants as outcome
@@ -18,14 +19,14 @@ use Rattle.link_core.specs.declared.message.Entry.{Entry}
 use Rattle.link_core.specs.declared.message.Queued.{Queued}
 use Rattle.link_core.specs.declared.message.Settled.{Settled}
 use Rattle.link_core.specs.Ends.{failed_by, error_of, hit_by, row_closed, row_hit, queue_closed}
-use Rattle.link_core.specs.Link.{LinkState, Settling, piece_dealt}
+use Rattle.link_core.specs.Link.{LinkState, Reading, piece_read}
 use Rattle.link_core.specs.Row.{lack_of, lack_of_row}
-use Rattle.legal_trace.specs.Ledger.{Start, hears, noted, End, Ending, by_shutdown, by_fault, Ledger, reach, ending, ending_or_shutdown, full_count, ended, cut, is_full}
-use Rattle.legal_trace.specs.Owed.{fault_error, oldest_error, unstarted_error, cut_off, owed_to_message, owed_unstarted}
+use Rattle.legal_trace.specs.Ledger.{Start, fault_error, hears, noted, End, Ending, by_shutdown, by_fault, Ledger, reach, ending, ending_or_shutdown, full_count, ended, cut, is_full}
+use Rattle.legal_trace.specs.Owed.{oldest_error, unstarted_error, cut_off, owed_to_message, owed_unstarted}
 use Rattle.link_laws.specs.Settles.{StandsAs, IsOwed, IsOwedUnstarted}
 use Rattle.link_laws.proofs.Rows.{Open, untouched_each, open_rows, open_list, StandFrom, rows_stand, unfilled}
 use Rattle.link_laws.proofs.Dealt.{IsCutOf, AreCuts, all_append}
-use Rattle.link_laws.proofs.TiedLink.{reads_on, heard_is, TiedLink, has_heard, deals, dealt_alike}
+use Rattle.link_laws.proofs.TiedLink.{ReadsAlike, reads_on, read_taken, heard_is, TiedLink, has_heard, deals}
 
 -- items
 --
@@ -55,15 +56,15 @@ cuts_owed name l [] all = tt
 cuts_owed name l (s ∷ ss) all = (cut_owed name l s all.0, cuts_owed name l ss all.1)
 
 -- what bytes settle is owed
-pub read_owed : (name : ℕ → Owner) (l : Ledger) (s : LinkState) (piece : List ℕ) → l.end ≡ None → TiedLink name l s → AllByRecursion (IsOwed name (has_heard l piece)) (deals s piece).out
-read_owed name l s piece lives h = cuts_owed name (has_heard l piece) (deals s piece).out (dealt_alike name l s piece lives h).cuts
+pub read_owed : (name : ℕ → Owner) (h : Hearing) (ready : Bool) (l : Ledger) (s : LinkState) (piece : List ℕ) → l.end ≡ None → ReadsAlike h ready l s piece → TiedLink name l s → AllByRecursion (IsOwed name (has_heard l piece)) (deals h ready s piece).out
+read_owed name h ready l s piece lives alike k = cuts_owed name (has_heard l piece) (deals h ready s piece).out (read_taken name h ready l s piece lives alike k).deals.cuts
 
 -- what a call with bytes settles is owed, where the link is up, has not ended, and is not broken
-pub came_owed : (name : ℕ → Owner) (l : Ledger) (s : LinkState) (turn : ℕ) (piece : List ℕ) → l.up ≡ true → l.end ≡ None → s.broken ≡ false → TiedLink name l s
-    → AllByRecursion (IsOwed name (noted l (hears turn (came piece)))) (piece_dealt (record { link = s; out = [] }) piece).out
-came_owed name l s turn piece up lives sound h =
-    subst (λ (x : Settling). AllByRecursion (IsOwed name (noted l (hears turn (came piece)))) x.out) (sym (reads_on s [] piece sound))
-    (subst (λ (x : Ledger). AllByRecursion (IsOwed name x) (deals s piece).out) (sym (heard_is l turn piece up)) (read_owed name l s piece lives h))
+pub came_owed : (name : ℕ → Owner) (h : Hearing) (ready : Bool) (l : Ledger) (s : LinkState) (turn : ℕ) (piece : List ℕ) → l.up ≡ true → l.end ≡ None → s.broken ≡ false → ReadsAlike h ready l s piece → TiedLink name l s
+    → AllByRecursion (IsOwed name (noted l (hears turn (came piece)))) (piece_read h ready s piece).out
+came_owed name h ready l s turn piece up lives sound alike k =
+    subst (λ (x : Reading). AllByRecursion (IsOwed name (noted l (hears turn (came piece)))) x.out) (sym (reads_on h ready s piece sound))
+    (subst (λ (x : Ledger). AllByRecursion (IsOwed name x) (deals h ready s piece).out) (sym (heard_is l turn piece up)) (read_owed name h ready l s piece lives alike k))
 
 -- the end
 --

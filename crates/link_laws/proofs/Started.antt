@@ -61,7 +61,7 @@ in_row name l from (e ∷ es) k all late near =
     record { index = suc h.index; entry = h.entry; at = h.at; open_as = h.open_as })
 
 -- there are as many open messages as entries
-open_list_length : (name : ℕ → Owner) (row : List Entry) → length (open_list name row) ≡ length row
+pub open_list_length : (name : ℕ → Owner) (row : List Entry) → length (open_list name row) ≡ length row
 open_list_length name [] = refl
 open_list_length name (e ∷ es) = ap suc (open_list_length name es)
 

@@ -4,31 +4,31 @@ use Rattle.std.specs.List.{AllByRecursion}
 use Rattle.std.proofs.Math.Seq.{drop-append_seam}
 use Rattle.std.proofs.lemmas.List.{take-append-le, take_all, take-take, take-append-drop, length_push}
 use Rattle.containers.proofs.Choices.{left_if, by_test, chosen, if_true, if_false, both_left, both_right, eq_from, ne_from, ne_test}
-use Rattle.resp_value.specs.Data.{Data}
-use Rattle.resp_read.specs.Values.{left_over, is_spoiled}
-use Rattle.resp_read.specs.Items.{items}
+use Rattle.resp_read.specs.Values.{values, left_over, is_spoiled}
 use Rattle.resp_read.proofs.ValueLaws.{values-empty, left_over-settled}
 use Rattle.connection_info.specs.declared.address.RedisConnectionInfo.{RedisConnectionInfo}
 use Rattle.credentials.specs.Credentials.{Credentials}
 use Rattle.driver_model.specs.declared.action.Owner.{Owner}
+use Rattle.driver_model.specs.declared.hearing.Hearing.{Hearing}
 use Rattle.redis_error.specs.declared.fault_kind.FaultKind.{FaultKind}
 use Rattle.redis_error.specs.declared.redis_error.RedisError.TheVariants as error
-use Rattle.driver_model.specs.News.{News, silence, connected, refused, overdue, took, came, failed, authorized, denied, deserted, renewed, unrenewed, late, shut}
+use Rattle.driver_model.specs.News.{News, silence, connected, refused, overdue, took, came, failed, authorized, denied, deserted, renewed, unrenewed, late, dropped, shut}
 use Rattle.link_core.specs.declared.message.Entry.{Entry}
 use Rattle.link_core.specs.declared.message.Queued.{Queued}
 use Rattle.link_core.specs.declared.message.Settled.{Settled}
 use Rattle.link_core.specs.declared.message.Started.{Started}
-use Rattle.link_core.specs.Dealing.{Dealing, dealt_each}
-use Rattle.link_core.specs.Link.{LinkState, Starting, Settling, fresh, entry_of, enqueued, holds_back, started_one, started_each, offered_of, wrote_of, cancelled, read_on, piece_dealt, emptied}
+use Rattle.link_core.specs.Dealing.{Dealing, dealing_with, taken_each}
+use Rattle.link_core.specs.Link.{LinkState, Starting, fresh, entry_of, enqueued, holds_back, started_one, started_each, offered_of, wrote_of, Reading, cancelled, nothing_read, read_on, read_with, came_all, piece_read, emptied}
 use Rattle.link_core.specs.Outbox.{can_offer}
 use Rattle.link_core.specs.Row.{silent, silenced}
 use Rattle.link_core.specs.Waiting.{without}
-use Rattle.legal_trace.specs.Ledger.{Start, End, Ledger, Sourced, unsourced, ended, asks, hears, begins, offers, sources, times, ends, authorized_by, awaits_credentials, may_renew, renewed_by, unrenewed_by, lost_by, is_renewal_open, blank_ledger, is_over, dials, refused_in, reach, bytes_came, noted, noted_each, joined, unwritten, IsOffered, MayNote, AllNoted}
+use Rattle.legal_trace.specs.Ledger.{Start, End, Ledger, Sourced, unsourced, ended, asks, hears, begins, offers, sources, times, ends, authorized_by, awaits_credentials, may_renew, renewed_by, unrenewed_by, lost_by, is_renewal_open, blank_ledger, is_over, dials, refused_in, reach, bytes_came, values_came, noted, noted_each, joined, unwritten, IsOffered, MayNote, AllNoted}
+use Rattle.legal_trace.proofs.Came.{bytes_are, holds_came, value_keeps, values_keep}
 use Rattle.legal_trace.proofs.Ledgers.{joined_more}
 use Rattle.link_laws.specs.Starts.{start_from, begun, starting, begins_each}
 use Rattle.link_laws.proofs.Choices.{chosen_both}
 use Rattle.link_laws.proofs.Rows.{open_of, open_list, open_rows, open_list-append, open_rows-start, reach-push}
-use Rattle.link_laws.proofs.Dealt.{IsDealt, items_with, row_dealt}
+use Rattle.link_laws.proofs.Taken.{IsTaken, TakeAlike, none_taken, values_taken}
 
 -- a start that has bytes
 abbrev pub HasBytes : Start → Type 0
@@ -137,8 +137,11 @@ pub late_tied : (name : ℕ → Owner) (l : Ledger) (s : LinkState) (turn k : �
 late_tied name l s turn k h = creds_tied name l s (l.up && is_renewal_open l k) (lost_by l).creds (late k) h
 
 -- its connect is asked for
-pub asked_tied : (name : ℕ → Owner) (l : Ledger) (info : RedisConnectionInfo) (wanted : Bool) (s : LinkState) → TiedLink name l s → TiedLink name (noted l (asks info wanted)) s
-asked_tied name l info wanted s h = told_tied name (record l { info = info; creds = unsourced wanted }) s true l.up l.heard (said_tied name l s info (unsourced wanted) l.heard h)
+pub asked_tied : (name : ℕ → Owner) (l : Ledger) (info : RedisConnectionInfo) (wanted : Bool) (what : Hearing) (s : LinkState) → TiedLink name l s → TiedLink name (noted l (asks info wanted what)) s
+asked_tied name l info wanted what s h =
+    let m : Ledger = record l { info = info; creds = unsourced wanted } in
+    let k = said_tied name l s info (unsourced wanted) l.heard h in
+    record { sent = k.sent; offer = k.offer; bound = k.bound; rest = k.rest; broken = k.broken; started = k.started; within = k.within; bytes = k.bytes; row = k.row }
 
 -- and succeeds
 pub connected_tied : (name : ℕ → Owner) (l : Ledger) (s : LinkState) (turn : ℕ) → TiedLink name l s → TiedLink name (noted l (hears turn connected)) s
@@ -174,6 +177,7 @@ unheard_tied name l s turn deserted f h = told_tied name l s l.asked l.up desert
 unheard_tied name l s turn (renewed c) f h = renewed_tied name l s turn c h
 unheard_tied name l s turn unrenewed f h = unrenewed_tied name l s turn h
 unheard_tied name l s turn (late k) f h = late_tied name l s turn k h
+unheard_tied name l s turn dropped f h = told_tied name l s l.asked l.up dropped h
 unheard_tied name l s turn shut f h = told_tied name l s l.asked l.up shut h
 
 -- what changes the link alone
@@ -352,54 +356,82 @@ wrote_tied name l s turn n up few h = if_true (λ (x : Ledger). TiedLink name (r
 
 -- bytes come
 --
--- what a link has read and dealt
-abbrev pub deals : LinkState → List ℕ → Dealing
-deals s piece = dealt_each (record { row = s.row; out = [] }) (items (s.rest ++ piece))
+-- what a link has taken of the values in what was read so far and these bytes
+abbrev pub deals : Hearing → Bool → LinkState → List ℕ → Dealing
+deals h ready s piece = taken_each h ready (dealing_with s.row) (values (s.rest ++ piece))
 
--- a link with what it has read and dealt
-abbrev pub has_read : LinkState → List ℕ → LinkState
-has_read s piece = record (read_on s (s.rest ++ piece)) { row = (deals s piece).row }
+-- a link that has read on
+abbrev pub has_read : Hearing → Bool → LinkState → List ℕ → LinkState
+has_read h ready s piece = record (read_on s (s.rest ++ piece)) { row = (deals h ready s piece).row }
 
 -- the ledger of a link that is up
 abbrev pub has_heard : Ledger → List ℕ → Ledger
 has_heard l piece = record (bytes_came l piece) { heard = came piece }
 
 -- a link that isn't broken reads
-pub reads_on : (s : LinkState) (out : List Settled) (piece : List ℕ) → s.broken ≡ false → piece_dealt (record { link = s; out = out }) piece ≡ record { link = has_read s piece; out = out ++ (deals s piece).out }
-reads_on s out piece f = if_false (λ (x : Settling). x ≡ record { link = has_read s piece; out = out ++ (deals s piece).out }) s.broken _ _ f refl
+pub reads_on : (h : Hearing) (ready : Bool) (s : LinkState) (piece : List ℕ) → s.broken ≡ false → piece_read h ready s piece ≡ read_with (read_on s (s.rest ++ piece)) (deals h ready s piece)
+reads_on h ready s piece f = left_if s.broken (nothing_read s) (came_all h ready s (s.rest ++ piece)) f
 
 -- and its ledger takes note where it is up
 pub heard_is : (l : Ledger) (turn : ℕ) (piece : List ℕ) → l.up ≡ true → noted l (hears turn (came piece)) ≡ has_heard l piece
 heard_is l turn piece up = if_true (λ (x : Ledger). record x { heard = came piece } ≡ has_heard l piece) l.up _ l up refl
 
--- each item is dealt alike
-pub dealt_alike : (name : ℕ → Owner) (l : Ledger) (s : LinkState) (piece : List ℕ) → l.end ≡ None → TiedLink name l s → IsDealt name l.starts (bytes_came l piece).dealt (deals s piece)
-dealt_alike name l s piece lives h =
-    subst (λ (vs : List Data). IsDealt name l.starts (items_with (reach l.starts l.dealt) l.dealt vs) (deals s piece)) (ap (λ bs. items (bs ++ piece)) (sym h.rest))
-    (row_dealt name l.starts l.dealt s.row (items (s.rest ++ piece)) (h.row lives) h.within)
+-- a ledger whose bytes are read
+abbrev pub reading : Ledger → List ℕ → Ledger
+reading l piece = record l { rest = left_over (l.rest ++ piece) }
+
+-- a link on which no value came that ends it takes each value as its ledger does
+pub record ReadsAlike (h : Hearing) (ready : Bool) (l : Ledger) (s : LinkState) (piece : List ℕ) : Type 0 where
+  pub tame : l.strange ≡ false
+  pub each : TakeAlike h ready (reading l piece) (dealing_with s.row) (values (s.rest ++ piece))
+
+-- so it has taken what its ledger has
+pub read_taken : (name : ℕ → Owner) (h : Hearing) (ready : Bool) (l : Ledger) (s : LinkState) (piece : List ℕ) → l.end ≡ None → ReadsAlike h ready l s piece → TiedLink name l s → IsTaken name l.notices (has_heard l piece) (deals h ready s piece)
+read_taken name h ready l s piece lives alike k =
+    let m = reading l piece in
+    let t : IsTaken name l.notices (bytes_came l piece) (deals h ready s piece) =
+    subst (λ (bs : List ℕ). IsTaken name l.notices (values_came m (values (bs ++ piece))) (deals h ready s piece)) (sym k.rest)
+    (values_taken name l.notices h ready m (dealing_with s.row) (values (s.rest ++ piece)) alike.each (none_taken name m s.row (k.row lives) k.within alike.tame)) in
+    record { deals = t.deals; strange = t.strange; heard = t.heard; notices = t.notices; same = t.same; settled = t.settled; within = t.within; among = t.among }
+
+-- what is left of bytes is what was left of them
+pub left_is : (l : Ledger) (piece : List ℕ) → (bytes_came l piece).rest ≡ left_over (l.rest ++ piece)
+left_is l piece =
+    let left = left_over (l.rest ++ piece) in
+    let P : Ledger → Type 0 = λ x. x.rest ≡ left in
+    values_keep P (value_keeps P (λ x told strange e. e) (λ x v e. e)) (reading l piece) (values (l.rest ++ piece)) refl
+
+-- a link with a row that its ledger has, behind these bytes
+pub came_with : (name : ℕ → Owner) (l : Ledger) (s : LinkState) (piece : List ℕ) (row : List Entry) → (let m = has_heard l piece in length m.dealt ≤ reach m.starts m.dealt) → (let m = has_heard l piece in open_list name row ≡ open_rows m.starts m.dealt) → TiedLink name l s
+    → TiedLink name (has_heard l piece) (record (read_on s (s.rest ++ piece)) { row = row })
+came_with name l s piece row within rows k = holds_came
+    (λ (m : Ledger). m.rest ≡ left_over (l.rest ++ piece) → length m.dealt ≤ reach m.starts m.dealt → open_list name row ≡ open_rows m.starts m.dealt → TiedLink name (record m { heard = came piece }) (record (read_on s (s.rest ++ piece)) { row = row }))
+    l (bytes_came l piece) (bytes_are l piece)
+    (λ rest strange told more left w r. record {
+      sent = k.sent;
+      offer = k.offer;
+      bound = k.bound;
+      rest = left ∙ ap (λ bs. left_over (bs ++ piece)) k.rest;
+      broken = sym (left_over-settled (s.rest ++ piece)).2;
+      started = k.started;
+      within = w;
+      bytes = k.bytes;
+      row = λ e. r;
+    })
+    (left_is l piece) within rows
 
 -- a link and its ledger that both read on
-pub read_tied : (name : ℕ → Owner) (l : Ledger) (s : LinkState) (piece : List ℕ) → l.end ≡ None → TiedLink name l s → TiedLink name (has_heard l piece) (has_read s piece)
-read_tied name l s piece lives h =
-    let d = dealt_alike name l s piece lives h in
-    record {
-      sent = h.sent;
-      offer = h.offer;
-      bound = h.bound;
-      rest = ap (λ bs. left_over (bs ++ piece)) h.rest;
-      broken = sym (left_over-settled (s.rest ++ piece)).2;
-      started = h.started;
-      within = d.within;
-      bytes = h.bytes;
-      row = λ e. d.row;
-    }
+pub read_tied : (name : ℕ → Owner) (h : Hearing) (ready : Bool) (l : Ledger) (s : LinkState) (piece : List ℕ) → l.end ≡ None → ReadsAlike h ready l s piece → TiedLink name l s → TiedLink name (has_heard l piece) (has_read h ready s piece)
+read_tied name h ready l s piece lives alike k =
+    let t = read_taken name h ready l s piece lives alike k in
+    came_with name l s piece (deals h ready s piece).row t.deals.within t.deals.row k
 
 -- where the link is up, has not ended, and is not broken
-pub came_tied : (name : ℕ → Owner) (l : Ledger) (s : LinkState) (out : List Settled) (turn : ℕ) (piece : List ℕ) → l.up ≡ true → l.end ≡ None → s.broken ≡ false → TiedLink name l s
-    → TiedLink name (noted l (hears turn (came piece))) (piece_dealt (record { link = s; out = out }) piece).link
-came_tied name l s out turn piece up lives sound h =
-    subst (λ (x : Settling). TiedLink name (noted l (hears turn (came piece))) x.link) (sym (reads_on s out piece sound))
-    (subst (λ (x : Ledger). TiedLink name x (has_read s piece)) (sym (heard_is l turn piece up)) (read_tied name l s piece lives h))
+pub came_tied : (name : ℕ → Owner) (h : Hearing) (ready : Bool) (l : Ledger) (s : LinkState) (turn : ℕ) (piece : List ℕ) → l.up ≡ true → l.end ≡ None → s.broken ≡ false → ReadsAlike h ready l s piece → TiedLink name l s
+    → TiedLink name (noted l (hears turn (came piece))) (piece_read h ready s piece).link
+came_tied name h ready l s turn piece up lives sound alike k =
+    subst (λ (x : Reading). TiedLink name (noted l (hears turn (came piece))) x.link) (sym (reads_on h ready s piece sound))
+    (subst (λ (x : Ledger). TiedLink name x (has_read h ready s piece)) (sym (heard_is l turn piece up)) (read_tied name h ready l s piece lives alike k))
 
 -- the link ends
 --

@@ -1,7 +1,8 @@
 pub mod Alike
 pub mod Places
 pub mod Settles
-pub mod Pushes
+pub mod Notices
+pub mod Greetings
 pub mod Starts
 pub mod Runs
 pub mod Pieces

@@ -1,23 +1,25 @@
 -- What is done with one link, one operation after another: its state, the lines that this tells, and what it settles.
-use Rattle.std.specs.Prelude.{ℕ, ◌≡◌, ◌+◌, ◌==◌, nat_le, Bool, true, false, ◌||◌, List, [], ◌∷◌, ◌++◌, length, if◌then◌else◌}
+use Rattle.std.specs.Prelude.{ℕ, ◌≡◌, ◌+◌, ◌==◌, nat_le, Bool, true, false, ◌||◌, List, [], ◌∷◌, ◌++◌, length, codes, if◌then◌else◌}
 use Rattle.driver_model.specs.declared.action.Owner.{Owner}
 use Rattle.driver_model.specs.declared.news.LinkFault.{LinkFault}
 use Rattle.driver_model.specs.declared.news.LinkFault.TheVariants as fault
 use Rattle.driver_model.specs.Config.{bare_info}
-use Rattle.driver_model.specs.News.{News, silence, connected, took, came, failed, shut}
+use Rattle.driver_model.specs.declared.hearing.Hearing.{Hearing}
+use Rattle.driver_model.specs.Hearing.{felt, hears_messages, is_watching}
+use Rattle.driver_model.specs.News.{News, silence, connected, took, came, failed, dropped, shut}
 use Rattle.link_core.specs.declared.message.Queued.{Queued}
 use Rattle.link_core.specs.declared.message.Settled.{Settled}
 use Rattle.std.specs.List.{AllByRecursion}
 use Rattle.link_core.specs.Ends.{queue_closed}
-use Rattle.link_core.specs.Link.{LinkState, Settling, fresh, is_full, enqueued, started_all, offered_of, wrote_of, cancelled, piece_dealt, closed_all, faulted}
+use Rattle.link_core.specs.Link.{LinkState, Settling, Reading, fresh, is_full, enqueued, started_all, offered_of, wrote_of, cancelled, piece_read, closed_all, faulted}
 use Rattle.link_core.specs.Outbox.{can_offer}
-use Rattle.legal_trace.specs.Ledger.{Ledger, Line, asks, hears, begins, offers, ends}
+use Rattle.legal_trace.specs.Ledger.{Ledger, Line, asks, hears, begins, offers, ends, monitor_message}
 use Rattle.link_laws.specs.Settles.{settled_ids, wanted, awaited_ids, awaited_of, IsOwed, IsOwedUnstarted}
 use Rattle.link_laws.specs.Starts.{begun, start_from, starting, begins_each}
 
 -- a message takes the last place of the queue; what may start does; a message starts at once, before those in the queue; all
--- unwritten bytes are offered; so many of them are taken; bytes come; the caller of a message goes; the link fails; everything
--- is shut down; and a turn of something else
+-- unwritten bytes are offered; so many of them are taken; bytes come; the caller of a message goes; the link fails; the stream of
+-- messages is dropped; everything is shut down; and a turn of something else
 pub data Operation : Type 0 where
   place : Queued → Operation
   begin : Operation
@@ -27,22 +29,40 @@ pub data Operation : Type 0 where
   read : List ℕ → Operation
   withdraw : ℕ → Operation
   fail : LinkFault → Operation
+  drop_stream : Operation
   shut_down : Operation
   pass : Operation
 
--- the link; whether it has ended; the number of the turn that runs; what was told of the link; what it settled; and what
+-- the link; what is heard on it; whether it has ended; the number of the turn that runs; what was told of the link; what it settled; and what
 -- waited for its start when it ended
 pub record Run : Type 0 where
   pub link : LinkState
+  pub hearing : Hearing
   pub over : Bool
   pub turn : ℕ
   pub lines : List Line
   pub settled : List Settled
   pub unstarted : List Queued
 
+-- the reply that all is well
+abbrev pub okay_bytes : List ℕ
+okay_bytes = codes "+OK\r\n"
+
 -- a link is asked for in turn 0, and its connect succeeds in turn 1
-abbrev pub fresh_run : ℕ → ℕ → Run
-fresh_run size boundary = record { link = fresh size boundary; over = false; turn = 1; lines = asks bare_info false ∷ hears 1 connected ∷ []; settled = []; unstarted = [] }
+abbrev pub opening : Hearing → List Line
+opening h = asks bare_info false h ∷ hears 1 connected ∷ []
+
+-- MONITOR starts, is taken, and is answered
+abbrev pub watching : List Line
+watching =
+    begins monitor_message ∷ offers monitor_message.bytes ∷ hears 2 (took (length monitor_message.bytes)) ∷ hears 3 (came okay_bytes) ∷ []
+
+-- a new link that is set up: in monitor mode its server was put into that
+abbrev pub fresh_run : Hearing → ℕ → ℕ → Run
+fresh_run h size boundary =
+    if is_watching h
+    then record { link = record (fresh size boundary) { started = 1 }; hearing = h; over = false; turn = 3; lines = opening h ++ watching; settled = []; unstarted = [] }
+    else record { link = fresh size boundary; hearing = h; over = false; turn = 1; lines = opening h; settled = []; unstarted = [] }
 
 -- a turn, with this news for the link
 abbrev pub heard : Run → News → Run
@@ -54,7 +74,7 @@ settling r = record { link = r.link; out = r.settled }
 
 -- the link ends
 abbrev pub over_with : Run → Settling → Run
-over_with r d = record { link = d.link; over = true; turn = r.turn; lines = r.lines ++ ends r.turn ∷ []; settled = d.out; unstarted = r.link.queue }
+over_with r d = record { link = d.link; hearing = r.hearing; over = true; turn = r.turn; lines = r.lines ++ ends r.turn ∷ []; settled = d.out; unstarted = r.link.queue }
 
 -- a message without bytes, and one that finds the queue full, is placed nowhere
 abbrev pub placed : Run → Queued → Run
@@ -76,17 +96,29 @@ offered r = if can_offer r.link.outbox then record r { link = offered_of r.link;
 abbrev pub taken_up : Run → ℕ → Run
 taken_up r n = if nat_le n r.link.outbox.offered then record (heard r (took n)) { link = wrote_of r.link n } else r
 
--- bytes that begin no value end the link, after what came before them was dealt
-abbrev pub has_come : Run → Settling → Run
-has_come r d = record r { link = d.link; settled = d.out }
+-- the link ends by a fault, as it is felt there
+abbrev pub ends_by : Run → LinkFault → Run
+ends_by r f = over_with r (faulted (settling r) (felt r.hearing f))
 
--- a link that is broken ends
-abbrev pub or_parse : Run → Run
-or_parse r = if r.link.broken then over_with r (faulted (settling r) fault.Parse) else r
+-- what was read is settled
+abbrev pub has_come : Run → Reading → Run
+has_come r d = record r { link = d.link; settled = r.settled ++ d.out }
+
+-- what can't be read on ends the link, after what came before it was dealt
+abbrev pub or_parse : Run → Bool → Run
+or_parse r strange = if r.link.broken || strange then ends_by r fault.Parse else r
+
+-- this was read
+abbrev pub has_taken : Run → Reading → Run
+has_taken r d = or_parse (has_come r d) d.strange
 
 -- bytes come
 abbrev pub has_read : Run → List ℕ → Run
-has_read r piece = or_parse (has_come (heard r (came piece)) (piece_dealt (settling r) piece))
+has_read r piece = has_taken (heard r (came piece)) (piece_read r.hearing true r.link piece)
+
+-- the stream of messages is dropped: this ends a link of messages
+abbrev pub has_dropped : Run → Run
+has_dropped r = if hears_messages r.hearing then ends_by r fault.Ended else r
 
 -- what an operation makes of a link that has not ended
 abbrev pub acted : (ℕ → Owner) → Run → Operation → Run
@@ -97,7 +129,8 @@ acted name r offer = offered r
 acted name r (take_up n) = taken_up r n
 acted name r (read piece) = has_read r piece
 acted name r (withdraw id) = record r { link = cancelled r.link id }
-acted name r (fail f) = over_with (heard r (failed f)) (faulted (settling r) f)
+acted name r (fail f) = ends_by (heard r (failed f)) f
+acted name r drop_stream = has_dropped (heard r dropped)
 acted name r shut_down = over_with (heard r shut) (closed_all (settling r))
 acted name r pass = heard r silence
 
@@ -111,8 +144,8 @@ performed_each name r [] = r
 performed_each name r (o ∷ os) = performed_each name (performed name r o) os
 
 -- a new link, with all these operations, one after another
-unfoldable pub run : (ℕ → Owner) → ℕ → ℕ → List Operation → Run
-run name size boundary os = performed_each name (fresh_run size boundary) os
+unfoldable pub run : (ℕ → Owner) → Hearing → ℕ → ℕ → List Operation → Run
+run name h size boundary os = performed_each name (fresh_run h size boundary) os
 
 -- all that a link settles is owed: what it settles of started messages, and then of those that waited when it ended
 pub record AreOwed (name : ℕ → Owner) (l : Ledger) (r : Run) : Type 0 where

@@ -2,22 +2,27 @@
 //! bytes and a cancel change; in which order messages start, and what holds them back.
 #![tactic(auto)]
 
-ghost use Rattle.std.specs.Prelude.{◌≡◌, ◌+◌, ◌<◌, ℕ, true, false, List, [], ◌∷◌, ◌++◌, length};
+ghost use Rattle.std.specs.Prelude.{◌≡◌, ◌+◌, ◌<◌, ℕ, Bool, true, false, List, [], ◌∷◌, ◌++◌, length};
 ghost use Rattle.driver_model.specs.declared.action.Owner.{Owner};
+ghost use Rattle.driver_model.specs.declared.hearing.Hearing.{Hearing};
 ghost use Rattle.driver_model.specs.declared.news.LinkFault.{LinkFault};
+ghost use Rattle.driver_model.specs.Hearing.{hears_messages, is_watching};
 ghost use Rattle.link_core.specs.declared.message.Queued.{Queued};
-ghost use Rattle.link_core.specs.Link.{LinkState, Starting, Settling, is_full};
+ghost use Rattle.link_core.specs.Link.{LinkState, Starting, is_full};
 ghost use Rattle.link_core.specs.Link.{holds_back, enqueued, begun, started_one, started_all};
 ghost use Rattle.link_core.specs.Link.{offered_of, wrote_of};
-ghost use Rattle.link_core.specs.Link.{cancelled, piece_dealt, closed_all, faulted};
+ghost use Rattle.link_core.specs.Link.{cancelled, piece_read, closed_all, faulted};
 ghost use Rattle.link_core.specs.Waiting.{without};
 ghost use Rattle.legal_trace.specs.Ledger.{ledger, LinkLegal};
 ghost use Rattle.link_laws.specs.Alike.{SameLink};
 ghost use Rattle.link_laws.specs.Places.{places, starts, line_up};
 ghost use Rattle.link_laws.specs.Runs.{Operation, run, AreOwed};
+ghost use Rattle.link_laws.specs.Pieces.{pieces_read, EndsAlike};
 ghost use Rattle.link_laws.specs.Laws.{KeepsAlike, StartsAlike, SettlesAlike};
+ghost use Rattle.link_laws.specs.Laws.{ReadsAlike, ReadsItemsAlike};
 ghost use Rattle.link_laws.specs.Laws.{LackWhatWasNotDealt, OneLine, EndSettlesAll};
-ghost use Rattle.link_laws.specs.Laws.{PushStandsBehind, EachPushIsHeard, NothingElseIsHeard};
+ghost use Rattle.link_laws.specs.Laws.{SetupIsHeard, MonitorIsHeard};
+ghost use Rattle.link_laws.specs.Laws.{NoticeStandsBehind, EachNoticeIsHeard, NothingElseIsHeard};
 ghost use Rattle.link_laws.specs.Laws.{WithdrawalIsNotTold, WithdrawalSparesOthers};
 
 /// Does nothing. Its contract: a cancel of a message that has left the queue changes nothing of its
@@ -29,7 +34,9 @@ pub fn a_cancel_changes_one_verdict()
 
 /// Does nothing. Its contract: links that are alike but for one message's own verdict stay so
 /// through each call. The same messages start in the same order, each item goes to the same
-/// message, and all other verdicts are the same.
+/// message, all other verdicts are the same, and the same is told, in order. Bytes before a link is
+/// set up are so where the message that sets it up isn't the one; and for all else but what is told
+/// also where it is, unless messages are heard or the server is put into monitor mode.
 pub fn calls_keep_links_alike()
     ensures enqueue { (q : Queued) → KeepsAlike (λ s. enqueued s q) }
     ensures offer { KeepsAlike offered_of }
@@ -37,7 +44,11 @@ pub fn calls_keep_links_alike()
     ensures cancel { (other : ℕ) → KeepsAlike (λ s. cancelled s other) }
     ensures begin { (q : Queued) → KeepsAlike (λ s. begun s q) }
     ensures start { StartsAlike started_all }
-    ensures bytes { (piece : List ℕ) → SettlesAlike (λ d. piece_dealt d piece) }
+    ensures bytes { (h : Hearing) (ready : Bool) (piece : List ℕ)
+        → ReadsAlike (λ s. piece_read h ready s piece) ready }
+    ensures items { (h : Hearing) (ready : Bool) (piece : List ℕ)
+        → hears_messages h ≡ false → is_watching h ≡ false
+        → ReadsItemsAlike (λ s. piece_read h ready s piece) }
     ensures close { SettlesAlike closed_all }
     ensures fault { (f : LinkFault) → SettlesAlike (λ d. faulted d f) }
 {}
@@ -55,8 +66,8 @@ pub fn messages_start_in_the_order_of_their_places()
 
 /// Does nothing. Its contract: whatever is done with a link, what is told of it is legal.
 pub fn every_run_of_a_link_is_legal()
-    ensures { (name : ℕ → Owner) (size boundary : ℕ) (ops : List Operation)
-        → LinkLegal (run name size boundary ops).lines }
+    ensures { (name : ℕ → Owner) (h : Hearing) (size boundary : ℕ) (ops : List Operation)
+        → LinkLegal (run name h size boundary ops).lines }
 {}
 
 /// Does nothing. Its contract: whatever is done with a link, each started message that it settles
@@ -64,10 +75,10 @@ pub fn every_run_of_a_link_is_legal()
 /// the ledger owes such a one. And until the link ends, its started messages lack as many items as
 /// the starts take and were not dealt.
 pub fn what_a_link_settles_is_owed()
-    ensures settled { (name : ℕ → Owner) (size boundary : ℕ) (ops : List Operation)
-        → AreOwed name (ledger (run name size boundary ops).lines) (run name size boundary ops) }
-    ensures lacks { (name : ℕ → Owner) (size boundary : ℕ) (ops : List Operation)
-        → LackWhatWasNotDealt (run name size boundary ops) }
+    ensures settled { (name : ℕ → Owner) (h : Hearing) (size boundary : ℕ) (ops : List Operation)
+        → AreOwed name (ledger (run name h size boundary ops).lines) (run name h size boundary ops) }
+    ensures lacks { (name : ℕ → Owner) (h : Hearing) (size boundary : ℕ) (ops : List Operation)
+        → LackWhatWasNotDealt (run name h size boundary ops) }
 {}
 
 /// Does nothing. Its contract: the messages that were settled, and then those whose verdict is
@@ -79,19 +90,28 @@ pub fn an_end_answers_each_message_once()
     ensures end { EndSettlesAll }
 {}
 
-/// Does nothing. Its contract: a push stands behind as many messages as the values before it, in
-/// the same bytes, settled.
-pub fn a_push_stands_behind_what_came_before_it()
-    ensures { PushStandsBehind }
+/// Does nothing. Its contract: what is told of a value stands behind as many messages as the values
+/// before it, in the same bytes, settled, whatever is heard and whether the link is set up or not.
+pub fn a_notice_stands_behind_what_came_before_it()
+    ensures { NoticeStandsBehind }
 {}
 
-/// Does nothing. Its contract: the pushes that a link gives with bytes are those that its ledger
-/// hears then, in order, and each stands among the messages that the bytes settle where it came:
+/// Does nothing. Its contract: what a link that is set up tells with bytes is what its ledger hears
+/// then, in order, and each notice stands among the messages that the bytes settle where it came:
 /// behind those that were full before it, and before the others. Nothing else lets the ledger hear
-/// a push.
-pub fn a_push_is_heard_where_it_came()
-    ensures heard { EachPushIsHeard }
+/// anything.
+pub fn a_notice_is_heard_where_it_came()
+    ensures heard { EachNoticeIsHeard }
     ensures only { NothingElseIsHeard }
+{}
+
+/// Does nothing. Its contract: of a link that isn't set up. What it tells stands behind the answer
+/// to its greeting, the setup or MONITOR. Where the setup is answered well with these bytes, and
+/// always of MONITOR, it is what the ledger hears, each notice where it came, and a value ends the
+/// one where it ends the other; else the ledger hears nothing.
+pub fn what_comes_behind_a_greeting_is_heard()
+    ensures setup { SetupIsHeard }
+    ensures monitor { MonitorIsHeard }
 {}
 
 /// Does nothing. Its contract: one withdrawal more, of a message that has left the queue, changes
@@ -103,16 +123,21 @@ pub fn a_cancel_changes_no_other_verdict()
 {}
 
 /// Does nothing. Its contract: bytes that come in two pieces are read as if they had come in one.
-/// Where the first breaks the link, so does the whole, with the same settled messages.
+/// Where the first ends the link, by a value or by bytes that begin none, so does the whole, with the
+/// same settled messages, and the same is told.
 pub fn a_cut_changes_nothing()
-    ensures sound { (d : Settling) (p q : List ℕ) → (piece_dealt d p).link.broken ≡ false
-        → piece_dealt (piece_dealt d p) q ≡ piece_dealt d (p ++ q) }
-    ensures broken { (d : Settling) (p q : List ℕ) → (piece_dealt d p).link.broken ≡ true
-        → (piece_dealt d (p ++ q)).link.broken ≡ true }
-    ensures row { (d : Settling) (p q : List ℕ) → (piece_dealt d p).link.broken ≡ true
-        → (piece_dealt d (p ++ q)).link.row ≡ (piece_dealt d p).link.row }
-    ensures settled { (d : Settling) (p q : List ℕ) → (piece_dealt d p).link.broken ≡ true
-        → (piece_dealt d (p ++ q)).out ≡ (piece_dealt d p).out }
+    ensures sound { (h : Hearing) (ready : Bool) (s : LinkState) (p q : List ℕ)
+        → (piece_read h ready s p).link.broken ≡ false → (piece_read h ready s p).strange ≡ false
+        → pieces_read h ready s p q ≡ piece_read h ready s (p ++ q) }
+    ensures ended { (h : Hearing) (ready : Bool) (s : LinkState) (p q : List ℕ)
+        → (piece_read h ready s p).strange ≡ true
+        → EndsAlike (piece_read h ready s p) (piece_read h ready s (p ++ q)) }
+    ensures broken { (h : Hearing) (ready : Bool) (s : LinkState) (p q : List ℕ)
+        → (piece_read h ready s p).link.broken ≡ true
+        → (piece_read h ready s (p ++ q)).link.broken ≡ true }
+    ensures settled { (h : Hearing) (ready : Bool) (s : LinkState) (p q : List ℕ)
+        → (piece_read h ready s p).link.broken ≡ true
+        → EndsAlike (piece_read h ready s p) (piece_read h ready s (p ++ q)) }
 {}
 
 /// Does nothing. Its contract: messages are held back from the boundary on, and not one byte below

@@ -1,5 +1,5 @@
 use containers::Bytes;
-use driver_model::{Shape, Verdict};
+use driver_model::{Hearing, Shape, Verdict};
 use link_core::{EnqueueError, LinkCore, LinkFault, PushAt, Settled, StartError, Started};
 use redis_error::{FaultKind, RedisError};
 use resp_read::{ReadError, Reader};
@@ -254,13 +254,14 @@ fn unheard(
     log: &mut Vec<u8>,
 ) -> Result<(), AllocError> {
     let mut settled = Vec::new(alloc);
-    let answer = link.bytes_unheard(alloc, text.as_bytes(), &mut settled);
+    let mut notices = Vec::new(alloc);
+    let piece = text.as_bytes();
+    link.read(alloc, piece, Hearing::Nothing, true, &mut settled, &mut notices)?;
     describe_all(alloc, settled.as_slice(), log)?;
-    match answer {
-        Ok(()) => Ok(()),
-        Err(ReadError::Parse) => log.extend_from_slice(b"malformed; ".as_slice()),
-        Err(ReadError::NoMemory) => Err(AllocError),
+    if link.is_broken() {
+        log.extend_from_slice(b"malformed; ".as_slice())?;
     }
+    Ok(())
 }
 
 fn fault(

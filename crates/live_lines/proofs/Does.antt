@@ -114,7 +114,7 @@ module _ (usage : List ℕ) (words : List (List ℕ)) (s : Status) (source sourc
   usage_by refusal.ReadFault h e = absurd (apart status.ReadFault status.Usage refl e)
   usage_by refusal.NoMemory h e = absurd (apart status.NoMemory status.Usage refl e)
 
-  line_by : (r : Refusal) → IsRefused r words source source' → refusal_status r ≡ status.Script → Gained sink.bytes sink'.bytes (refusal_line usage r) → IfTold source (λ bytes. IsLineRun bytes sink sink')
+  line_by : (r : Refusal) → IsRefused r words source source' → refusal_status r ≡ status.Script → Gained sink.bytes sink'.bytes (refusal_line usage r) → IfTold source (λ bytes. IsLineRun words bytes sink sink')
   line_by refusal.Usage h e gained = absurd (apart status.Usage status.Script refl e)
   line_by (refusal.Line n) h e gained = λ bytes told. record { line = n; fault = h.1 bytes told; told = gained }
   line_by (refusal.Config name) h e gained = absurd (apart status.Config status.Script refl e)
@@ -164,11 +164,18 @@ module _ (usage : List ℕ) (words : List (List ℕ)) (s : Status) (source sourc
   unknown_by refusal.ReadFault h none = absurd (plan_not_none words h.0 none)
   unknown_by refusal.NoMemory h none = inr refl
 
+  -- words are one plan
+  same_plan : (a b : Plan) → Some a ≡ Some b → a ≡ b
+  same_plan a b e = cc
+
   -- where all is well but numbers or memory, it is refused for one of these
   well_refused : (r : Refusal) (bytes : List ℕ) → IsRefused r words source source' → source.bytes ≡ Some bytes → (asked : IsAsked words bytes) → refused_of asked.plan ≡ None → (Fails source source' → ⊥)
       → (refusal_status r ≡ status.Spent) ⊎ (refusal_status r ≡ status.NoMemory)
   well_refused refusal.Usage bytes h told asked sound reads = absurd (plan_not_none words (record { plan = asked.plan; plans = asked.plans }) h)
-  well_refused (refusal.Line n) bytes h told asked sound reads = absurd (ok_not_err (lines_of bytes) asked.lines n asked.reads (h.1 bytes told))
+  well_refused (refusal.Line n) bytes h told asked sound reads =
+      let r = h.1 bytes told in
+      let same : asked.plan ≡ r.plan = same_plan asked.plan r.plan (sym asked.plans ∙ r.plans) in
+      absurd (ok_not_err (lines_of r.plan.config.kind bytes) asked.lines n (ap (λ (plan : Plan). lines_of plan.config.kind bytes) (sym same) ∙ asked.reads) r.fault)
     where
       ok_not_err : (r : Result (List Line) ℕ) (lines : List Line) (n : ℕ) → r ≡ Ok lines → r ≡ Err n → ⊥
       ok_not_err r lines n is not = cc
@@ -177,9 +184,6 @@ module _ (usage : List ℕ) (words : List (List ℕ)) (s : Status) (source sourc
       let same : asked.plan ≡ r.asked.plan = same_plan asked.plan r.asked.plan (sym asked.plans ∙ r.asked.plans) in
       absurd (none_some name (sym sound ∙ ap refused_of same ∙ r.refused))
     where
-      same_plan : (a b : Plan) → Some a ≡ Some b → a ≡ b
-      same_plan a b e = cc
-
       none_some : (name : ConfigName) → None ≡ Some name → ⊥
       none_some name e = cc
   well_refused (refusal.Spent events) bytes h told asked sound reads = inl refl

@@ -8,22 +8,24 @@ use Rattle.std.proofs.lemmas.List.Recursion.{is_sum_by}
 use Rattle.std.proofs.lemmas.List.Sorted.{All-permutation, sum_by-IsPermutation}
 use Rattle.driver_model.specs.declared.action.Action.{Action}
 use Rattle.driver_model.specs.declared.config.Config.{Config}
+use Rattle.driver_model.specs.declared.kind.SessionKind.{SessionKind}
 use Rattle.driver_model.specs.declared.event.Event.{Event}
 use Rattle.shared_session.specs.declared.core_state.Core.{Core}
 use Rattle.shared_session.specs.Turn.{is_bad, next_turn, actions_of}
 use Rattle.shared_session.specs.Replay.{opening_core, opening_actions, state_after, is_spent_after, trace_of, turns_on, AreGood, AreGoodOn, AreUnspent, AreUnspentOn}
 use Rattle.shared_session.proofs.Replays.{state_after-more, state_after-none}
+use Rattle.shared_session.proofs.Stays.{state_kind}
 use Rattle.session_callers.specs.Rule.{Each, below, same, times}
 use Rattle.caller_threads.specs.declared.job.Turn.{Turn}
 use Rattle.caller_threads.specs.Each.{EachAt}
 use Rattle.caller_threads.specs.Submits.{Line, IsAllowed, IsTurnOf, IsTold, event_of, places_of, actions_in}
 use Rattle.live_lines.specs.Flights.{IsOfLine}
 
--- a line that a script may have, and whose turn it is
+-- a line that a script of such a session may have, and whose turn it is
 abbrev IsTurn : Config → ℕ → List Event → Turn → Type 0
-IsTurn config word log t = (line : Line) × IsAllowed line × IsTurnOf config word log line t
+IsTurn config word log t = (line : Line) × IsAllowed config.kind line × IsTurnOf config word log line t
 
-each_turn : (config : Config) (word : ℕ) (log : List Event) (n : ℕ) (lines : List Line) (turns : List Turn) → Each IsAllowed lines → EachAt (λ i. IsTurnOf config word log) n lines turns → All (IsTurn config word log) turns
+each_turn : (config : Config) (word : ℕ) (log : List Event) (n : ℕ) (lines : List Line) (turns : List Turn) → Each (IsAllowed config.kind) lines → EachAt (λ i. IsTurnOf config word log) n lines turns → All (IsTurn config word log) turns
 each_turn config word log n [] [] allowed each = All-nil (IsTurn config word log)
 each_turn config word log n [] (t ∷ turns) allowed each = absurd each
 each_turn config word log n (line ∷ lines) [] allowed each = absurd each
@@ -65,7 +67,7 @@ abbrev AreOnce : ℕ → ℕ → List Turn → Type 0
 AreOnce from top ts = (p : ℕ) → times p (places_of ts) ≡ below p top - below p from
 
 -- what a line hands in is good
-line_good : (c : Core) (line : Line) → IsAllowed line → is_bad c (event_of line).kind ≡ false
+line_good : (c : Core) (line : Line) → IsAllowed c.kind line → is_bad c (event_of line).kind ≡ false
 unfolding is_bad
 line_good c line allowed = allowed
 
@@ -103,7 +105,7 @@ module _ (config : Config) (word : ℕ) (log : List Event) where
       let at = same_cut of.before front (event_of turn.0) e of.begins.0 rest (sym of.place ∙ place) whole in
       let c = state_after config word front in
       let acts : t.actions.items ≡ actions_of c e = of.actions ∙ (λ i. actions_of (state_after config word (at.0 i)) (at.1 i)) in
-      let good : is_bad c e.kind ≡ false = subst (λ (x : Event). is_bad c x.kind ≡ false) at.1 (line_good c turn.0 turn.1) in
+      let good : is_bad c e.kind ≡ false = subst (λ (x : Event). is_bad c x.kind ≡ false) at.1 (line_good c turn.0 (subst (λ (kind : SessionKind). IsAllowed kind turn.0) (sym (state_kind config word front)) turn.1)) in
       let behind : log ≡ (front ++ e ∷ []) ++ rest = is ∙ sym (append_assoc front (e ∷ []) rest) in
       let further = length-append front (e ∷ []) in
       let later = next_once t ts (length front) less place once in
@@ -124,7 +126,7 @@ pub record IsWell (config : Config) (word : ℕ) (log : List Event) (actions : L
   pub good : AreGood config word log
   pub unspent : AreUnspent config word log
 
-pub told_well : (config : Config) (word : ℕ) (log : List Event) (lines : List Line) (turns : List Turn) (actions : List Action) → Each IsAllowed lines → EachAt (λ i. IsTurnOf config word log) 0 lines turns
+pub told_well : (config : Config) (word : ℕ) (log : List Event) (lines : List Line) (turns : List Turn) (actions : List Action) → Each (IsAllowed config.kind) lines → EachAt (λ i. IsTurnOf config word log) 0 lines turns
     → ((p : ℕ) → times p (places_of turns) ≡ below p (length log)) → IsTold turns (opening_actions config word) actions → IsWell config word log actions
 unfolding trace_of AreGood AreUnspent
 told_well config word log lines turns actions allowed each once told =

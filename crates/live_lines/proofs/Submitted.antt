@@ -10,7 +10,7 @@ use Rattle.session_callers.specs.Rule.{Each, MaySpend, total, times, same, below
 use Rattle.caller_threads.specs.declared.job.Turn.{Turn}
 use Rattle.caller_threads.specs.Each.{EachAt}
 use Rattle.caller_threads.specs.Lines.{share, share_from}
-use Rattle.caller_threads.specs.Submits.{Line, IsAllowed, IsTurnOf, AreTurnsOf, places_of, numbers_of, HasSubmitted, HaveRun, HaveSubmitted, IsTold}
+use Rattle.caller_threads.specs.Submits.{Line, IsAllowed, AreAllowed, IsTurnOf, AreTurnsOf, places_of, numbers_of, HasSubmitted, HaveRun, HaveSubmitted, IsTold}
 use Rattle.session_callers.specs.Rule.{Ascends}
 use Rattle.session_callers.proofs.Totals.{prefix_length}
 use Rattle.caller_threads.proofs.Places.{each_with}
@@ -80,8 +80,13 @@ module _ (config : Config) (word : ℕ) (vs ws : List Known) (lines : List Line)
       ap (times p) (h.1.mine ∙ ap (λ (xs : List ℕ). xs ++ places_of (share k c turns)) h.0.2) ∙ times_places p (share k c turns) in
       times_places p turns ∙ sym (total_shares f k 0 some turns) ∙ sym (total_by_place HasShare (λ (c : Known). times p c.view.mine) (λ (c : ℕ). total f (share_from k c 0 turns)) 0 vs ws own have_shares) ∙ counted
 
+-- what the session of a plan has forms for, each of its callers may submit
+pub allowed_to : (config : Config) (word : ℕ) (lines : List Line) (vs : List Known) → Each (IsAllowed config.kind) lines → Each (IsBare config word) vs → Each (AreAllowed lines) vs
+allowed_to config word lines [] allowed bare = tt
+allowed_to config word lines (v ∷ vs) allowed bare = (subst (λ (c : Config). Each (IsAllowed c.kind) lines) (sym bare.0.0) allowed, allowed_to config word lines vs allowed bare.1)
+
 -- what was asked is the trace of the history, and all is well with its events
-pub asked_well : (plan : Plan) (word : ℕ) (vs ws : List Known) (lines : List Line) (given numbers : List ℕ) (s : History) (shown actions : List Action) → Each IsAllowed lines → Each (IsBare plan.config word) vs
+pub asked_well : (plan : Plan) (word : ℕ) (vs ws : List Known) (lines : List Line) (given numbers : List ℕ) (s : History) (shown actions : List Action) → Each (IsAllowed plan.config.kind) lines → Each (IsBare plan.config word) vs
     → length vs ≡ callers_of plan → HaveSubmitted vs ws lines given numbers shown actions → shown ≡ opening_actions plan.config word → Each (λ (c : Known). IsPrefix c.view.seen s.events) ws
     → ((p : ℕ) → total (λ (c : Known). times p c.view.mine) ws ≡ below p (length s.events)) → IsWell plan.config word s.events actions
 asked_well plan word vs ws lines given numbers s shown actions allowed bare count h opened seen once =
@@ -90,7 +95,7 @@ asked_well plan word vs ws lines given numbers s shown actions allowed bare coun
     (λ p. lines_once plan.config word vs ws lines h.turns bare h.run p (length s.events) some (once p)) (subst (λ (xs : List Action). IsTold h.turns xs actions) opened h.told)
 
 -- all of it
-pub are_submitted : (plan : Plan) (word : ℕ) (vs ws : List Known) (lines : List Line) (given numbers : List ℕ) (s : History) (shown actions : List Action) → Each IsAllowed lines → Each (IsBare plan.config word) vs
+pub are_submitted : (plan : Plan) (word : ℕ) (vs ws : List Known) (lines : List Line) (given numbers : List ℕ) (s : History) (shown actions : List Action) → Each (IsAllowed plan.config.kind) lines → Each (IsBare plan.config word) vs
     → length vs ≡ callers_of plan → HaveSubmitted vs ws lines given numbers shown actions → given ≡ [] → shown ≡ opening_actions plan.config word → Each (λ (c : Known). IsPrefix c.view.seen s.events) ws
     → ((p : ℕ) → total (λ (c : Known). times p c.view.mine) ws ≡ below p (length s.events)) → IsShared ws s.config s.word → MaySpend s.config s.word s.events s.failure → AreSubmitted plan word lines numbers s
 are_submitted plan word vs ws lines given numbers s shown actions allowed bare count h none opened seen once shared spent =

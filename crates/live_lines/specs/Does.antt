@@ -7,8 +7,7 @@ use Rattle.program_ends.specs.Sides.{Side, Fails, IfTold}
 use Rattle.program_ends.specs.declared.status.Status.{Status}
 use Rattle.program_ends.specs.declared.status.Status.TheVariants as status
 use Rattle.redis_error.specs.declared.config_name.ConfigName.{ConfigName}
-use Rattle.script_text.specs.Lines.{lines_of}
-use Rattle.live_lines.specs.Live.{IsAsked, IsLive, IsRefused, IsRefusedConfig, IsRunOut, flight_text, refusal_line}
+use Rattle.live_lines.specs.Live.{IsAsked, IsAtFault, IsLive, IsRefused, IsRefusedConfig, IsRunOut, flight_text, refusal_line}
 use Rattle.live_lines.specs.Plans.{plan_of, refused_of}
 use Rattle.live_lines.specs.declared.flying.Flight.{Flight}
 use Rattle.live_lines.specs.declared.reading.Refusal.{Refusal}
@@ -20,9 +19,9 @@ pub record IsLiveRun (words : List (List ℕ)) (bytes : List ℕ) (left : Option
   pub output : Gained sink.bytes sink'.bytes (flight_text flight)
 
 -- a line of the bytes is the first at fault, and the sink gained its number
-pub record IsLineRun (bytes : List ℕ) (sink sink' : Side) : Type 0 where
+pub record IsLineRun (words : List (List ℕ)) (bytes : List ℕ) (sink sink' : Side) : Type 0 where
   pub line : ℕ
-  pub fault : lines_of bytes ≡ Err line
+  pub fault : IsAtFault words bytes line
   pub told : Gained sink.bytes sink'.bytes (numbered_line (codes "script line") line)
 
 -- the configuration is refused, and the sink gained the name of what is refused first
@@ -66,7 +65,7 @@ pub record DoesLive (usage : List ℕ) (words : List (List ℕ)) (s : Status) (s
   pub unknown : plan_of words ≡ None → (s ≡ status.Usage) ⊎ (s ≡ status.WriteFault) ⊎ (s ≡ status.NoMemory)
   pub told : s ≡ status.Usage → Gained sink.bytes sink'.bytes usage
   -- 2
-  pub lines : s ≡ status.Script → IfTold source (λ bytes. IsLineRun bytes sink sink')
+  pub lines : s ≡ status.Script → IfTold source (λ bytes. IsLineRun words bytes sink sink')
   -- 3
   pub refused : s ≡ status.Config → IfTold source (λ bytes. IsConfigRun words bytes sink sink')
   -- 4

@@ -1,6 +1,7 @@
 -- What is written of a live run, and why there is none.
-use Rattle.std.specs.Prelude.{◌≡◌, ⊤, ◌⊎◌, ℕ, ◌+◌, List, [], Option, Some, None, Ok, Err, codes}
+use Rattle.std.specs.Prelude.{◌≡◌, ⊤, ⊥, ◌⊎◌, ℕ, ◌+◌, List, [], Option, Some, None, Ok, Err, codes}
 use Rattle.caller_threads.specs.Submits.{Line}
+use Rattle.driver_model.specs.declared.kind.SessionKind.{SessionKind}
 use Rattle.redis_error.specs.declared.config_name.ConfigName.{ConfigName}
 use Rattle.outside.specs.Ends.{Gained, GainedPart}
 use Rattle.outside.specs.declared.world.Call.{Call}
@@ -17,9 +18,9 @@ use Rattle.live_lines.specs.declared.planning.Plan.{Plan}
 use Rattle.live_lines.specs.declared.reading.Refusal.{Refusal}
 use Rattle.live_lines.specs.declared.reading.Refusal.TheVariants as refusal
 
--- these are the lines that a source had, and it has nothing left
-pub record AreLines (old left : Option (List ℕ)) (lines : List Line) : Type 0 where
-  pub read : (bytes : List ℕ) → old ≡ Some bytes → lines_of bytes ≡ Ok lines
+-- these are the lines that a source had, as those to a session of this kind, and it has nothing left
+pub record AreLines (kind : SessionKind) (old left : Option (List ℕ)) (lines : List Line) : Type 0 where
+  pub read : (bytes : List ℕ) → old ≡ Some bytes → lines_of kind bytes ≡ Ok lines
   pub ended : (bytes : List ℕ) → old ≡ Some bytes → left ≡ Some []
 
 -- words are a plan, and a source's bytes the lines for it
@@ -27,7 +28,13 @@ pub record IsAsked (words : List (List ℕ)) (bytes : List ℕ) : Type 0 where
   pub plan : Plan
   pub plans : plan_of words ≡ Some plan
   pub lines : List Line
-  pub reads : lines_of bytes ≡ Ok lines
+  pub reads : lines_of plan.config.kind bytes ≡ Ok lines
+
+-- words are a plan, and a source's bytes no lines for it: this one is the first at fault
+pub record IsAtFault (words : List (List ℕ)) (bytes : List ℕ) (line : ℕ) : Type 0 where
+  pub plan : Plan
+  pub plans : plan_of words ≡ Some plan
+  pub fault : lines_of plan.config.kind bytes ≡ Err line
 
 -- these words and bytes were asked for, the bytes were read to their end, and this is the live run of them
 pub record IsLive (words : List (List ℕ)) (bytes : List ℕ) (left : Option (List ℕ)) (old new : Option (List Call)) (f : Flight) : Type 0 where
@@ -50,12 +57,21 @@ pub record IsPlan (words : List (List ℕ)) : Type 0 where
   pub plan : Plan
   pub plans : plan_of words ≡ Some plan
 
+-- why a source has no lines to a session of this kind: it failed, this line of its bytes is the first at fault, or memory was refused
+abbrev pub HasNoLines : SessionKind → Refusal → Side → Side → Type 0
+HasNoLines kind refusal.ReadFault source source' = Fails source source'
+HasNoLines kind (refusal.Line n) source source' = IfTold source (λ bytes. lines_of kind bytes ≡ Err n)
+HasNoLines kind refusal.NoMemory source source' = ⊤
+HasNoLines kind refusal.Usage source source' = ⊥
+HasNoLines kind (refusal.Config name) source source' = ⊥
+HasNoLines kind (refusal.Spent events) source source' = ⊥
+
 -- Why there was no live run, in this order: the words are no plan; the source failed; this line of its bytes is the first at
 -- fault; the configuration is refused. Numbers run out only behind all of these, and memory may be refused at any moment.
 abbrev pub IsRefused : Refusal → List (List ℕ) → Side → Side → Type 0
 IsRefused refusal.Usage words source source' = plan_of words ≡ None
 IsRefused refusal.ReadFault words source source' = IsPlan words × Fails source source'
-IsRefused (refusal.Line n) words source source' = IsPlan words × IfTold source (λ bytes. lines_of bytes ≡ Err n)
+IsRefused (refusal.Line n) words source source' = IsPlan words × IfTold source (λ bytes. IsAtFault words bytes n)
 IsRefused (refusal.Config name) words source source' = IsPlan words × IfTold source (λ bytes. IsRefusedConfig words bytes name)
 IsRefused (refusal.Spent events) words source source' = IsPlan words × IfTold source (λ bytes. IsRunOut words bytes events)
 IsRefused refusal.NoMemory words source source' = ⊤

@@ -94,7 +94,7 @@ fn submitted<R: Threads + Wait + Sync>(
     actions: &mut Vec<Action>,
 ) -> Result<(Session, Vec<u32>), FlightError>
     requires none { actions.old.items ≡ [] }
-    requires allowed { Each IsAllowed lines.items }
+    requires allowed { Each (IsAllowed plan.config.kind) lines.items }
     ensures sound { IfOk result (λ _. IsSound plan.config) }
     ensures bare { IfOk result (λ _. wants_credentials plan.config ≡ false) }
     ensures submitted { IfOk result (λ made.
@@ -148,7 +148,7 @@ pub fn fly<R: Threads + Wait + Sync, W: World>(
     lines: Vec<(Submission, u64)>,
     world: &mut W,
 ) -> Result<Flight, FlightError>
-    requires { Each IsAllowed lines.items }
+    requires { Each (IsAllowed plan.config.kind) lines.items }
     ensures flight { IfOk result (
         IsFlight plan lines.items (W.told world.old) (W.told world.new)
         ) }

@@ -1,14 +1,14 @@
-ghost use Rattle.std.specs.Prelude.{◌≡◌, Some, Err, OnOk, IfOk, IfErr, IsErrOf, [], ℕ, List};
+ghost use Rattle.std.specs.Prelude.{◌≡◌, Some, Err, OnOk, IfOk, IfErr};
 ghost use Rattle.outside.specs.Ends.{Rose};
 ghost use Rattle.caller_threads.specs.Submits.{IsAllowed};
 ghost use Rattle.program_ends.specs.Sides.{side, IfTold};
 ghost use Rattle.script_text.specs.Lines.{lines_of, texts};
 ghost use Rattle.session_callers.specs.Rule.{Each};
-ghost use Rattle.live_lines.specs.Live.{AreLines, IsLive, IsPlan, IsRefused};
+ghost use Rattle.live_lines.specs.Live.{AreLines, HasNoLines, IsLive, IsPlan, IsRefused};
 
 use crate::flying::{Flight, FlightError, fly};
 use crate::planning::plan_of;
-use driver_model::Submission;
+use driver_model::{SessionKind, Submission};
 use outside::{ReadAllError, Source, World, read_all};
 use redis_error::ConfigName;
 use script_text::{ScriptError, read_lines};
@@ -36,14 +36,18 @@ pub enum Refusal {
     Spent(u32),
 }
 
-/// The lines of a source, which is read to its end.
-fn source_lines<S: Source>(alloc: Global, source: &mut S) -> Result<Vec<(Submission, u64)>, Refusal>
+/// The lines of a source to a session of this kind. The source is read to its end.
+fn source_lines<S: Source>(
+    alloc: Global,
+    kind: SessionKind,
+    source: &mut S,
+) -> Result<Vec<(Submission, u64)>, Refusal>
     ensures lines { IfOk result (λ lines.
-        AreLines (S.left source.old) (S.left source.new) lines.items
+        AreLines kind (S.left source.old) (S.left source.new) lines.items
         ) }
-    ensures allowed { IfOk result (λ lines. Each IsAllowed lines.items) }
-    ensures refused { (words : List (List ℕ)) (plan : IsPlan words) → IfErr result (λ refusal.
-        IsRefused refusal words
+    ensures allowed { IfOk result (λ lines. Each (IsAllowed kind) lines.items) }
+    ensures refused { IfErr result (λ refusal.
+        HasNoLines kind refusal
         (side (S.left source.old) (S.fault_count source.old))
         (side (S.left source.new) (S.fault_count source.new))
         ) }
@@ -55,7 +59,7 @@ fn source_lines<S: Source>(alloc: Global, source: &mut S) -> Result<Vec<(Submiss
         Err(ReadAllError::NoMemory) => return Err(Refusal::NoMemory),
     };
     a_slice_has_bytes(text.as_slice());
-    match read_lines(alloc, text.as_slice()) {
+    match read_lines(alloc, kind, text.as_slice()) {
         Ok(lines) => Ok(lines),
         Err(ScriptError::Line(line)) => Err(Refusal::Line(line)),
         Err(ScriptError::NoMemory) => Err(Refusal::NoMemory),
@@ -87,7 +91,7 @@ pub fn flight_of<R: Threads + Wait + Sync, S: Source, W: World>(
         Ok(None) => return Err(Refusal::Usage),
         Err(_) => return Err(Refusal::NoMemory),
     };
-    let lines = match source_lines(alloc, source) {
+    let lines = match source_lines(alloc, plan.config.kind, source) {
         Ok(lines) => lines,
         Err(refusal) => return Err(refusal),
     };

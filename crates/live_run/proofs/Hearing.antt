@@ -15,7 +15,7 @@ use Rattle.resp_value.specs.declared.push_kind.PushKind.{PushKind}
 use Rattle.driver_model.specs.Push.{is_disconnection}
 use Rattle.driver_model.specs.News.{News, silence, connected, refused, overdue, took, came, failed, authorized, denied, deserted, renewed, unrenewed, late, shut, for_link, of_timer, of_source, is_source_of, renews, news_of}
 use Rattle.legal_trace.specs.Ledger.{Ledger, Line, hears, offers, tells, times, parts, noted, is_over, dials, refused_in, bytes_came, awaits_credentials, authorized_by, may_renew, renewed_by, unrenewed_by, is_renewal_open, lost_by}
-use Rattle.legal_trace.specs.Book.{Book, push_line, is_renewal_of, entered}
+use Rattle.legal_trace.specs.Book.{Book, current, push_line, is_renewal_of, entered}
 use Rattle.legal_trace.specs.Legal.{MayStand}
 use Rattle.legal_trace.proofs.Ledgers.{mine_keeps}
 
@@ -80,6 +80,7 @@ event_not_took timers sources n (event.Timeout ms) quiet = tt
 event_not_took timers sources n (event.Creds c auth) quiet = source_not_took n (slice_get sources c) (authorized auth) (renewed auth) tt tt
 event_not_took timers sources n (event.CredsError c text) quiet = source_not_took n (slice_get sources c) (denied text) silence tt tt
 event_not_took timers sources n (event.CredsEnd c) quiet = source_not_took n (slice_get sources c) deserted unrenewed tt tt
+event_not_took timers sources n event.DropStream quiet = tt
 event_not_took timers sources n event.Shutdown quiet = tt
 event_not_took timers sources n (event.Submit s) quiet = tt
 event_not_took timers sources n (event.Cancel s) quiet = tt
@@ -139,6 +140,10 @@ action_grows b (action.Push l info) quiet may =
     (λ t. push_noted (Keeps (b.link n)) (b.link n) info.kind (same_keeps (b.link n)) (same_keeps (b.link n))) (same_keeps (b.link n)))
 action_grows b (action.NeedCreds c l) quiet may =
     stays b (entered b (action.NeedCreds c l)) (omega arith) (omega arith) (λ n. mine_keeps (Keeps (b.link n)) (l == n) (b.link n) _ (λ t going. (going, omega arith)) (same_keeps (b.link n)))
+action_grows b (action.Message m) quiet may =
+    stays b (entered b (action.Message m)) (omega arith) (omega arith) (λ n. mine_keeps (Keeps (b.link n)) (current b == n) (b.link n) tells (λ t going. (going, omega arith)) (same_keeps (b.link n)))
+action_grows b (action.Monitor v) quiet may =
+    stays b (entered b (action.Monitor v)) (omega arith) (omega arith) (λ n. mine_keeps (Keeps (b.link n)) (current b == n) (b.link n) tells (λ t going. (going, omega arith)) (same_keeps (b.link n)))
 action_grows b (action.Wait who kind) quiet may = stays b (entered b (action.Wait who kind)) (omega arith) (omega arith) (λ n. same_keeps (b.link n))
 action_grows b (action.Created e) quiet may = stays b (entered b (action.Created e)) (omega arith) (omega arith) (λ n. same_keeps (b.link n))
 action_grows b (action.Outcome n o) quiet may = stays b (entered b (action.Outcome n o)) (omega arith) (omega arith) (λ m. same_keeps (b.link m))

@@ -88,6 +88,8 @@ noted_known a b (action.Write l bytes) quiet may h =
     record { dials = k.dials; links = each_offered (IsKnownLink c) l bytes a.links offers_all k.links; single = single_offered l bytes a.links k.single; timers = k.timers }
 noted_known a b (action.Took who l count) quiet may h = known_grown (action_grows b (action.Took who l count) tt may) h
 noted_known a b (action.Push l info) quiet may h = known_grown (action_grows b (action.Push l info) tt may) h
+noted_known a b (action.Message m) quiet may h = known_grown (action_grows b (action.Message m) tt may) h
+noted_known a b (action.Monitor v) quiet may h = known_grown (action_grows b (action.Monitor v) tt may) h
 noted_known a b (action.NeedCreds c l) quiet may h = known_grown (action_grows b (action.NeedCreds c l) tt may) h
 noted_known a b (action.Start l message who count len) quiet may h = known_grown (action_grows b (action.Start l message who count len) tt may) h
 noted_known a b (action.Wait who kind) quiet may h = known_grown (action_grows b (action.Wait who kind) tt may) h

@@ -91,6 +91,8 @@ noted a (action.Write l bytes) = record a { links = offered l bytes a.links }
 noted a (action.Turn number c) = a
 noted a (action.Took who l count) = a
 noted a (action.Push l info) = a
+noted a (action.Message m) = a
+noted a (action.Monitor v) = a
 noted a (action.NeedCreds c l) = a
 noted a (action.Start l message who count len) = a
 noted a (action.Wait who kind) = a

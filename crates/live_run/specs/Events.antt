@@ -42,6 +42,7 @@ untimed (event.Timeout ms) = event.Timeout ms ∷ []
 untimed (event.Creds source auth) = event.Creds source auth ∷ []
 untimed (event.CredsError source text) = event.CredsError source text ∷ []
 untimed (event.CredsEnd source) = event.CredsEnd source ∷ []
+untimed event.DropStream = event.DropStream ∷ []
 untimed event.Shutdown = event.Shutdown ∷ []
 
 -- the kinds of events, those of timers left out, in order

@@ -119,6 +119,8 @@ impl Agenda {
                 count: _,
             } => Ok(()),
             Action::Push { link: _, info: _ } => Ok(()),
+            Action::Message { msg: _ } => Ok(()),
+            Action::Monitor { value: _ } => Ok(()),
             Action::NeedCreds { source: _, link: _ } => Ok(()),
             Action::Wait { owner: _, wait: _ } => Ok(()),
             Action::Start {

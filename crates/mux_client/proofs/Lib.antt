@@ -1,2 +1,3 @@
 pub mod Words
 mod Calls
+pub mod Threads

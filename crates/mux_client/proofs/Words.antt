@@ -8,8 +8,11 @@ use Rattle.connection_info.specs.declared.config.AsyncConnectionConfig.{AsyncCon
 use Rattle.connection_info.specs.Address.{address_of}
 use Rattle.connection_info.specs.Written.{url_of, with_library, ReadsBack}
 use Rattle.driver_model.specs.declared.config.Config.{Config}
-use Rattle.driver_model.specs.Config.{address, told_of, told_info, bare_info}
-use Rattle.mux_client.specs.Makers.{time_given, number_given, push_given, creds_given, library_given, config_of, Keeps}
+use Rattle.driver_model.specs.Config.{address, told_of, told_info, bare_info, hearing_in}
+use Rattle.driver_model.specs.Hearing.{hears_pushes}
+use Rattle.driver_model.specs.declared.kind.SessionKind.{SessionKind}
+use Rattle.driver_model.specs.declared.kind.SessionKind.TheVariants as kind
+use Rattle.mux_client.specs.Makers.{time_given, number_given, push_given, creds_given, library_given, config_of, link_config_of, Keeps, KeepsLink}
 
 number_if : (default value : ℕ) (b : Bool) → nat_eq value default ≡ b → unwrap_or (if b then None else Some value) default ≡ value
 number_if default value true e = sym (eqb-true value default e)
@@ -47,7 +50,7 @@ said_kept info c back =
     ∙ ap (λ (skips : Bool). record info.redis { skip_set_lib_name = skips }) (skips_kept info.redis.skip_set_lib_name)
 
 -- whether somebody hears pushes is what is given, or else nobody does
-hears_kept : (hears : Bool) → unwrap_or (push_given hears) false ≡ hears
+hears_kept : (hears : Bool) → hears_pushes (hearing_in kind.Single (unwrap_or (push_given hears) false)) ≡ hears
 hears_kept true = refl
 hears_kept false = refl
 
@@ -76,3 +79,18 @@ kept_by info c words e back = subst (λ (found : Config). Keeps info c found) (s
 pub all_keep : {E : Type 0} (info : ConnectionInfo) (c : AsyncConnectionConfig) (r : Result Config E) → OnOk r (ReadsBack info) → IfOk r (λ words. words ≡ config_of info c) → IfOk r (Keeps info c)
 all_keep info c (Ok words) back e = kept_by info c words e back
 all_keep info c (Err x) back e = tt
+
+-- what is said to its server is what the address says, also on a link of publish/subscribe or of monitor mode
+link_said : (what : SessionKind) (info : ConnectionInfo) → ReadsBack info → told_info (link_config_of what info) ≡ info.redis
+link_said what info (is, reads) =
+    ap (λ (found : Option ConnectionInfo). unwrap_or (option_map (told_of (link_config_of what info)) found) bare_info)
+    (ap (λ (b : Bool). if b then address_of (url_of info) else None) (is_utf8-from_IsUtf8 (url_of info) is) ∙ reads)
+    ∙ ap (λ (skips : Bool). record info.redis { skip_set_lib_name = skips }) (skips_kept info.redis.skip_set_lib_name)
+
+link_words_keep : (what : SessionKind) (info : ConnectionInfo) → ReadsBack info → KeepsLink what info (link_config_of what info)
+link_words_keep what info back = record { is = refl; said = link_said what info back }
+
+-- so what is made for such a link keeps it
+pub link_keeps : {E : Type 0} (what : SessionKind) (info : ConnectionInfo) (r : Result Config E) → OnOk r (ReadsBack info) → IfOk r (λ words. words ≡ link_config_of what info) → IfOk r (KeepsLink what info)
+link_keeps what info (Ok words) back e = subst (λ (found : Config). KeepsLink what info found) (sym e) (link_words_keep what info back)
+link_keeps what info (Err x) back e = tt

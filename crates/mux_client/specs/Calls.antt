@@ -1,5 +1,5 @@
 -- What each call makes of a connection.
-use Rattle.std.specs.Prelude.{◌≡◌, ◌⊎◌, ⊤, ◌≤◌, ℕ, ◌+◌, ◌^◌, ◌==◌, Bool, true, false, List, [], ◌∷◌, ◌++◌, length, Option, Some, None, if◌then◌else◌}
+use Rattle.std.specs.Prelude.{◌≡◌, ◌⊎◌, ⊤, ◌≤◌, ℕ, ◌+◌, ◌^◌, ◌==◌, Bool, true, false, ◌||◌, List, [], ◌∷◌, ◌++◌, length, Option, Some, None, if◌then◌else◌}
 use Rattle.resp_write.specs.Pack.{pack}
 use Rattle.resp_write.specs.Subscription.{action_word}
 use Rattle.resp_write.specs.declared.subscription.SubscriptionAction.{SubscriptionAction}
@@ -7,6 +7,7 @@ use Rattle.connection_info.specs.Protocol.{is_resp3}
 use Rattle.driver_model.specs.declared.outcome.Shape.{Shape}
 use Rattle.driver_model.specs.declared.outcome.Shape.TheVariants.{Single, Pipeline, Confirmation}
 use Rattle.driver_model.specs.News.{News}
+use Rattle.driver_model.specs.Hearing.{hears_messages}
 use Rattle.redis_error.specs.declared.redis_error.RedisError.TheVariants as fault
 use Rattle.mux_conn.specs.declared.errors.ConnectionError.TheVariants as failure
 use Rattle.mux_conn.specs.Connection.{Work, work_with}
@@ -61,16 +62,16 @@ RefusesSend c packed error.NoMemory = ⊤
 abbrev pub called : MultiplexedConnection → SubscriptionAction → List (List ℕ) → MultiplexedConnection
 called c what names = sent c (pack (action_word what ∷ names)) Confirmation true
 
--- it speaks RESP3
-abbrev pub speaks_resp3 : MultiplexedConnection → Bool
-speaks_resp3 c = is_resp3 c.core.info.protocol
+-- a server confirms subscription calls on it: it speaks RESP3, or is a link of messages
+abbrev pub takes_calls : MultiplexedConnection → Bool
+takes_calls c = hears_messages c.core.hears || is_resp3 c.core.info.protocol
 
--- why a subscription call wasn't sent by this connection: exactly where it doesn't speak RESP3, that this is required; else
--- the number 2^32 - 1 would be given to a request, a call failed before with this error, or memory was wanted
+-- why a subscription call wasn't sent by this connection: exactly where it doesn't take them, that RESP3 is required; else the
+-- number 2^32 - 1 would be given to a request, a call failed before with this error, or memory was wanted
 abbrev pub RefusesCall : MultiplexedConnection → SendError → Type 0
-RefusesCall c (error.Refused e) = (e ≡ fault.Resp3Required) × (speaks_resp3 c ≡ false)
-RefusesCall c error.Spent = (speaks_resp3 c ≡ true) × ((c.core.failure ≡ Some failure.Spent) ⊎ (2 ^ 32 ≤ next_number c + 1))
-RefusesCall c error.NoMemory = speaks_resp3 c ≡ true
+RefusesCall c (error.Refused e) = (e ≡ fault.Resp3Required) × (takes_calls c ≡ false)
+RefusesCall c error.Spent = (takes_calls c ≡ true) × ((c.core.failure ≡ Some failure.Spent) ⊎ (2 ^ 32 ≤ next_number c + 1))
+RefusesCall c error.NoMemory = takes_calls c ≡ true
 
 -- its caller has gone
 abbrev pub cancelled : MultiplexedConnection → ℕ → MultiplexedConnection

@@ -1,5 +1,5 @@
 -- A connection as its user sees it.
-use Rattle.std.specs.Prelude.{◌≡◌, ⊤, ℕ, ◌&&◌, not, List, [], ◌∷◌, Option, Some, None, slice_get, if◌then◌else◌}
+use Rattle.std.specs.Prelude.{◌≡◌, ⊤, ℕ, ◌-◌, ◌^◌, Bool, true, false, ◌&&◌, not, List, [], ◌∷◌, Option, Some, None, slice_get, if◌then◌else◌}
 use Rattle.redis_error.specs.declared.config_name.ConfigName.{ConfigName}
 use Rattle.redis_error.specs.declared.config_name.ConfigName.TheVariants as name
 use Rattle.connection_info.specs.declared.address.RedisConnectionInfo.{RedisConnectionInfo}
@@ -7,7 +7,10 @@ use Rattle.connection_info.specs.declared.config.AsyncConnectionConfig.{AsyncCon
 use Rattle.connection_info.specs.Protocol.{is_resp3}
 use Rattle.connection_info.specs.declared.open_error.OpenError.{OpenError}
 use Rattle.connection_info.specs.declared.open_error.OpenError.TheVariants as error
+use Rattle.connection_info.specs.Config.{default_config}
 use Rattle.driver_model.specs.Config.{room_fault}
+use Rattle.driver_model.specs.declared.hearing.Hearing.{Hearing}
+use Rattle.driver_model.specs.declared.hearing.Hearing.TheVariants as hearing
 use Rattle.driver_model.specs.declared.outcome.Outcome.{Outcome}
 use Rattle.mux_conn.specs.Renewals.{no_renewal}
 use Rattle.mux_conn.specs.Turn.{dialing}
@@ -29,11 +32,27 @@ abbrev pub connect_timer : Option ℕ → List ConnectionAct
 connect_timer None = []
 connect_timer (Some ms) = act.Timer timer.Connect ms ∷ []
 
+-- what is heard where pushes are sent on, or aren't
+abbrev pub heard_by : Bool → Hearing
+heard_by true = hearing.Pushes
+heard_by false = hearing.Nothing
+
+-- a link on which this is heard, of publish/subscribe or of monitor mode: it has no timers and no permits, and its queue holds
+-- whatever comes
+abbrev pub attached : RedisConnectionInfo → ℕ → Hearing → MultiplexedConnection
+attached info link hears_what = record {
+  link = link;
+  core = dialing (2 ^ 32 - 1) default_config.write_backpressure_boundary None hears_what info (no_renewal false None);
+  timeout = None;
+  outcomes = [];
+  early = [];
+}
+
 -- a connection whose connect isn't answered, without requests
 abbrev pub opened : RedisConnectionInfo → ℕ → AsyncConnectionConfig → MultiplexedConnection
 opened info link c = record {
   link = link;
-  core = dialing c.pipeline_buffer_size c.write_backpressure_boundary c.concurrency_limit c.push_sender info (no_renewal c.credentials_provider c.response_timeout);
+  core = dialing c.pipeline_buffer_size c.write_backpressure_boundary c.concurrency_limit (heard_by c.push_sender) info (no_renewal c.credentials_provider c.response_timeout);
   timeout = c.response_timeout;
   outcomes = [];
   early = connect_timer c.connection_timeout;

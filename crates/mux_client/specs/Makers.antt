@@ -8,7 +8,11 @@ use Rattle.connection_info.specs.declared.open_error.OpenError.TheVariants as er
 use Rattle.connection_info.specs.Config.{default_config}
 use Rattle.connection_info.specs.Written.{url_of, ReadsBack}
 use Rattle.driver_model.specs.declared.config.Config.{Config}
-use Rattle.driver_model.specs.Config.{connect_timeout, response_timeout, buffer_size, boundary, hears_pushes, wants_credentials, told_info}
+use Rattle.driver_model.specs.declared.kind.SessionKind.{SessionKind}
+use Rattle.driver_model.specs.declared.kind.SessionKind.TheVariants as kind
+use Rattle.driver_model.specs.Config.{connect_timeout, response_timeout, permits, buffer_size, boundary, hearing_of, wants_credentials, told_info}
+use Rattle.driver_model.specs.Config as words
+use Rattle.driver_model.specs.Hearing.{hears_pushes}
 
 -- two times, or none
 abbrev pub is_same : Option ℕ → Option ℕ → Bool
@@ -40,6 +44,7 @@ library_given skips = if skips then Some false else None
 -- the words of the configuration: the address as it is written, and what isn't the default
 abbrev pub config_of : ConnectionInfo → AsyncConnectionConfig → Config
 config_of info c = record {
+  kind = kind.Single;
   url = url_of info;
   connect = time_given default_config.connection_timeout c.connection_timeout;
   response = time_given default_config.response_timeout c.response_timeout;
@@ -51,20 +56,29 @@ config_of info c = record {
   lib = library_given info.redis.skip_set_lib_name;
 }
 
+-- the words of a link of publish/subscribe or of monitor mode: the address as it is written
+abbrev pub link_config_of : SessionKind → ConnectionInfo → Config
+link_config_of what info = record (words.config_of what (url_of info)) { lib = library_given info.redis.skip_set_lib_name }
+
+-- a session of these words is of this kind, connects to this address, and says what it says to the server
+pub record KeepsLink (what : SessionKind) (info : ConnectionInfo) (words : Config) : Type 0 where
+  pub is : words.kind ≡ what
+  pub said : told_info words ≡ info.redis
+
 -- a session of these words connects to this address, says what it says to the server, and behaves by this configuration
 pub record Keeps (info : ConnectionInfo) (c : AsyncConnectionConfig) (words : Config) : Type 0 where
   pub said : told_info words ≡ info.redis
   pub connects : connect_timeout words ≡ c.connection_timeout
   pub answers : response_timeout words ≡ c.response_timeout
-  pub permits : words.limit ≡ c.concurrency_limit
+  pub permits : permits words ≡ c.concurrency_limit
   pub places : buffer_size words ≡ c.pipeline_buffer_size
-  pub pushes : hears_pushes words ≡ c.push_sender
+  pub pushes : hears_pushes (hearing_of words) ≡ c.push_sender
   pub sources : wants_credentials words ≡ c.credentials_provider
   pub room : boundary words ≡ c.write_backpressure_boundary
 
 -- either memory was wanted, or the address can't be read from the URL that is written for it
-abbrev pub RefusesMaking : ConnectionInfo → AsyncConnectionConfig → OpenError → Type 0
-RefusesMaking info c (error.Config name.Url) = ReadsBack info → ⊥
-RefusesMaking info c (error.Config other) = ⊥
-RefusesMaking info c error.Client = ⊥
-RefusesMaking info c error.NoMemory = ⊤
+abbrev pub RefusesMaking : ConnectionInfo → OpenError → Type 0
+RefusesMaking info (error.Config name.Url) = ReadsBack info → ⊥
+RefusesMaking info (error.Config other) = ⊥
+RefusesMaking info error.Client = ⊥
+RefusesMaking info error.NoMemory = ⊤

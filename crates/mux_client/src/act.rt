@@ -1,7 +1,8 @@
 use containers::Bytes;
-use driver_model::{PushInfo, WaitKind};
+use driver_model::{Msg, PushInfo, WaitKind};
 use mux_conn::Pending;
 use redis_error::RedisError;
+use resp_value::Value;
 
 /// What a timer of a connection is for.
 #[derive(Clone, Copy, PartialEq, Eq)]
@@ -40,6 +41,14 @@ pub enum ConnectionAct {
     Push {
         info: PushInfo,
     },
+    /// A message of publish/subscribe came.
+    Message {
+        msg: Msg,
+    },
+    /// A server in monitor mode tells this.
+    Monitor {
+        value: Value,
+    },
     /// The link ended, or is to be closed.
     Close,
     /// All unwritten bytes of the link are offered.
@@ -61,6 +70,12 @@ pub enum ConnectionAct {
     },
     /// The setup starts: which message of the link it is, how many items it takes, and how many bytes it has.
     SetUp {
+        message: u32,
+        need: u64,
+        len: u64,
+    },
+    /// MONITOR starts: which message of the link it is, how many items it takes, and how many bytes it has.
+    Watch {
         message: u32,
         need: u64,
         len: u64,

@@ -1,6 +1,7 @@
 ghost use Rattle.std.specs.Prelude.{◌≡◌, Some, None, OnOk, IfOk, IfErr};
 ghost use Rattle.std.specs.Prelude.{option_copied, IsTrue, ◌↔◌};
-ghost use Rattle.mux_client.specs.Connection.{opened, fault_of, outcome_of, connect_timer, RefusesConnection};
+ghost use Rattle.mux_client.specs.Connection.{opened, attached, heard_by, fault_of, outcome_of};
+ghost use Rattle.mux_client.specs.Connection.{connect_timer, RefusesConnection};
 ghost use Rattle.mux_client.specs.Calls.{cancelled};
 ghost use Rattle.mux_conn.specs.Connection.{is_ready};
 ghost use Rattle.mux_conn.specs.Effects.{CanTake};
@@ -9,7 +10,7 @@ ghost use Rattle.connection_info.specs.Config.{default_config};
 use crate::act::{ConnectionAct, ConnectionTimer};
 use connection_info::{AsyncConnectionConfig, OpenError, RedisConnectionInfo};
 use containers::Seq;
-use driver_model::Outcome;
+use driver_model::{Hearing, Outcome};
 use mux_conn::{Life, MultiplexedConnection as Core, Pending, Renewal};
 use redis_error::ConfigName;
 use std::alloc::{AllocError, Global};
@@ -59,6 +60,17 @@ fn fault(info: &RedisConnectionInfo, config: &AsyncConnectionConfig) -> Option<C
         return Some(ConfigName::Buffer);
     }
     None
+}
+
+/// What is heard where pushes are sent on, or aren't.
+fn heard_by(pushes: bool) -> Hearing
+    ensures { result ≡ heard_by pushes }
+{
+    if pushes {
+        Hearing::Pushes
+    } else {
+        Hearing::Nothing
+    }
 }
 
 /// The timer of a connect that is bounded.
@@ -118,7 +130,7 @@ impl MultiplexedConnection {
                 config.pipeline_buffer_size,
                 config.write_backpressure_boundary,
                 config.concurrency_limit,
-                config.push_sender,
+                heard_by(config.push_sender),
                 told,
                 renewal,
             ),
@@ -128,13 +140,35 @@ impl MultiplexedConnection {
         })
     }
 
+    /// A link of publish/subscribe or of monitor mode, by what it `hears`: it has no timers and no permits, and its queue holds
+    /// whatever comes. Its connect isn't answered, and whoever makes it asks for it. `info` is what is said to the server first.
+    pub fn attach(
+        alloc: Global,
+        info: &RedisConnectionInfo,
+        link: u32,
+        hears: Hearing,
+    ) -> Result<MultiplexedConnection, AllocError>
+        ensures { IfOk result (λ c. c ≡ attached info.now link hears) }
+    {
+        let told = info.clone(alloc)?;
+        let boundary = AsyncConnectionConfig::new().write_backpressure_boundary;
+        let renewal = Renewal::new(alloc, false, None);
+        Ok(MultiplexedConnection {
+            link,
+            core: Core::new(alloc, u32::MAX, boundary, None, hears, told, renewal),
+            timeout: None,
+            outcomes: Seq::new(alloc),
+            early: Seq::new(alloc),
+        })
+    }
+
     /// Whether the link may take so many bytes: no more than were offered. Takes no memory.
     pub fn can_take(&self, count: u64) -> bool
         ensures { IsTrue result ↔ CanTake self.now.core.life count }
     {
         match &self.core.life {
             Life::Ready { link } => count <= link.offered_len(),
-            Life::SettingUp { link, with_user: _ } => count <= link.offered_len(),
+            Life::SettingUp { link, greeting: _ } => count <= link.offered_len(),
             Life::Wanting { link } => count <= link.offered_len(),
             Life::Dialing => true,
             Life::Ended { error: _ } => true,
@@ -149,7 +183,7 @@ impl MultiplexedConnection {
             Life::Ready { link: _ } => true,
             Life::SettingUp {
                 link: _,
-                with_user: _,
+                greeting: _,
             } => false,
             Life::Wanting { link: _ } => false,
             Life::Dialing => false,

@@ -3,10 +3,10 @@ ghost use Rattle.connection_info.specs.Config.{default_config};
 ghost use Rattle.connection_info.specs.Written.{ReadsBack};
 ghost use Rattle.mux_client.specs.Makers.{config_of, time_given, number_given, push_given};
 ghost use Rattle.mux_client.specs.Makers.{creds_given, library_given};
-ghost use Rattle.mux_client.specs.Makers.{Keeps, RefusesMaking};
+ghost use Rattle.mux_client.specs.Makers.{link_config_of, Keeps, KeepsLink, RefusesMaking};
 
 use connection_info::{AsyncConnectionConfig, Client, ConnectionInfo, OpenError};
-use driver_model::Config;
+use driver_model::{Config, SessionKind};
 use std::alloc::Global;
 
 /// A time is given where it isn't the default.
@@ -59,11 +59,12 @@ fn words(
 ) -> Result<Config, OpenError>
     ensures value { IfOk result (λ words. words ≡ config_of info.now config.now) }
     ensures read { OnOk result (ReadsBack info.now) }
-    ensures err { IfErr result (RefusesMaking info.now config.now) }
+    ensures err { IfErr result (RefusesMaking info.now) }
 {
     let default = AsyncConnectionConfig::new();
     let url = info.to_url(alloc)?;
     Ok(Config {
+        kind: SessionKind::Single,
         url,
         connect: time(default.connection_timeout, config.connection_timeout),
         response: time(default.response_timeout, config.response_timeout),
@@ -79,7 +80,28 @@ fn words(
     })
 }
 
-/// What makes the configuration of a session over one multiplexed connection.
+/// The words of a session of this kind over one link of publish/subscribe or of monitor mode, for this address.
+fn link_words(alloc: Global, kind: SessionKind, info: &ConnectionInfo) -> Result<Config, OpenError>
+    ensures value { IfOk result (λ words. words ≡ link_config_of kind info.now) }
+    ensures read { OnOk result (ReadsBack info.now) }
+    ensures err { IfErr result (RefusesMaking info.now) }
+{
+    let url = info.to_url(alloc)?;
+    Ok(Config {
+        kind,
+        url,
+        connect: None,
+        response: None,
+        limit: None,
+        buffer: None,
+        boundary: None,
+        push: None,
+        creds: None,
+        lib: library(info.redis.skip_set_lib_name),
+    })
+}
+
+/// What makes the configuration of a session over one link.
 pub trait ConnectionGetters {
     ghost use Rattle.connection_info.specs.declared.address.ConnectionInfo.{ConnectionInfo};
 
@@ -96,14 +118,33 @@ pub trait ConnectionGetters {
         ensures value { IfOk result (λ words. words ≡ config_of (info self.now) config.now) }
         ensures keeps { IfOk result (Keeps (info self.now) config.now) }
         ensures read { OnOk result (ReadsBack (info self.now)) }
-        ensures err { IfErr result (RefusesMaking (info self.now) config.now) };
+        ensures err { IfErr result (RefusesMaking (info self.now)) };
 
     /// The same with the default configuration.
     fn get_multiplexed_async_connection(&self, alloc: Global) -> Result<Config, OpenError>
         ensures value { IfOk result (λ words. words ≡ config_of (info self.now) default_config) }
         ensures keeps { IfOk result (Keeps (info self.now) default_config) }
         ensures read { OnOk result (ReadsBack (info self.now)) }
-        ensures err { IfErr result (RefusesMaking (info self.now) default_config) };
+        ensures err { IfErr result (RefusesMaking (info self.now)) };
+
+    /// The configuration of a session over one link of publish/subscribe: its words are the address as a URL. `Config(Url)` comes
+    /// exactly where no URL says the address.
+    fn get_async_pubsub(&self, alloc: Global) -> Result<Config, OpenError>
+        ensures value { IfOk result (λ words.
+            words ≡ link_config_of SessionKind.PubSub (info self.now)
+            ) }
+        ensures keeps { IfOk result (KeepsLink SessionKind.PubSub (info self.now)) }
+        ensures read { OnOk result (ReadsBack (info self.now)) }
+        ensures err { IfErr result (RefusesMaking (info self.now)) };
+
+    /// The same of a session over one link in monitor mode.
+    fn get_async_monitor(&self, alloc: Global) -> Result<Config, OpenError>
+        ensures value { IfOk result (λ words.
+            words ≡ link_config_of SessionKind.Monitor (info self.now)
+            ) }
+        ensures keeps { IfOk result (KeepsLink SessionKind.Monitor (info self.now)) }
+        ensures read { OnOk result (ReadsBack (info self.now)) }
+        ensures err { IfErr result (RefusesMaking (info self.now)) };
 }
 
 impl ConnectionGetters for Client {
@@ -123,5 +164,13 @@ impl ConnectionGetters for Client {
             self.get_connection_info(),
             &AsyncConnectionConfig::new(),
         )
+    }
+
+    fn get_async_pubsub(&self, alloc: Global) -> Result<Config, OpenError> {
+        link_words(alloc, SessionKind::PubSub, self.get_connection_info())
+    }
+
+    fn get_async_monitor(&self, alloc: Global) -> Result<Config, OpenError> {
+        link_words(alloc, SessionKind::Monitor, self.get_connection_info())
     }
 }

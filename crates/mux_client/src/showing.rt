@@ -52,6 +52,8 @@ fn show(act: LinkAct, outcomes: &mut Seq<Option<Outcome>>) -> ConnectionAct
         },
         LinkAct::NeedCreds => ConnectionAct::NeedCreds,
         LinkAct::Push { info } => ConnectionAct::Push { info },
+        LinkAct::Message { msg } => ConnectionAct::Message { msg },
+        LinkAct::Monitor { value } => ConnectionAct::Monitor { value },
         LinkAct::Close => ConnectionAct::Close,
         LinkAct::Write { bytes } => ConnectionAct::Write { bytes },
         LinkAct::Wait { request, wait } => ConnectionAct::Wait {
@@ -70,6 +72,7 @@ fn show(act: LinkAct, outcomes: &mut Seq<Option<Outcome>>) -> ConnectionAct
             len,
         },
         LinkAct::SetUp { message, need, len } => ConnectionAct::SetUp { message, need, len },
+        LinkAct::Watch { message, need, len } => ConnectionAct::Watch { message, need, len },
         LinkAct::Renewed { message, need, len } => ConnectionAct::Renewed { message, need, len },
         LinkAct::Outcome { request, outcome } => {
             keep(outcomes, request, outcome);

@@ -88,7 +88,7 @@ impl MultiplexedConnection {
     }
 
     /// Memory was refused: the connection fails from now on.
-    pub(crate) fn refuse_memory(&mut self) -> ConnectionError
+    pub fn refuse_memory(&mut self) -> ConnectionError
         ensures value { result ≡ ConnectionError.NoMemory }
         ensures failure { self.new.core.failure ≡ Some ConnectionError.NoMemory }
     {

@@ -8,13 +8,14 @@ use Rattle.link_core.specs.declared.message.Started.{Started}
 use Rattle.link_core.specs.Link.{started_all}
 use Rattle.link_core.specs.Outbox.{can_offer}
 use Rattle.mux_conn.specs.declared.connection.MultiplexedConnection.{MultiplexedConnection}
+use Rattle.mux_conn.specs.declared.life.Greeting.{Greeting}
 use Rattle.mux_conn.specs.declared.life.Life.{Life}
 use Rattle.mux_conn.specs.declared.life.Life.TheVariants.{Dialing, Wanting, SettingUp, Ready, Ended}
 use Rattle.mux_conn.specs.declared.renewal.Renewal.{Renewal}
 use Rattle.mux_conn.specs.declared.request.Waiting.{Waiting}
 use Rattle.mux_conn.specs.Connection.{Work, with_link, with_setup, admits_none, has_room}
 use Rattle.mux_conn.specs.Requests.{is_open_at, is_waiting_at, is_admitted_at, answered}
-use Rattle.mux_conn.specs.Passes.{shown_each, set_up_each, started, started_at, placed_at, told_at_place, seated, moved_up, moved_up_each, moved_up_all, still_admitted}
+use Rattle.mux_conn.specs.Passes.{shown_each, greeted_each, started, started_at, placed_at, told_at_place, seated, moved_up, moved_up_each, moved_up_all, still_admitted}
 use Rattle.mux_conn.specs.Passes.{permits_taken, took_shown, timer_asked, let_in, took, holding, put_behind, seated_or_behind, admitted_at, admitted, admitted_each, admitted_all, still_waiting, passed}
 use Rattle.mux_conn.specs.Renewals.{renewed}
 use Rattle.mux_conn.specs.Turn.{written, written_at, moved_wait, fresh_wait, wait_shown, moved_each_shown, fresh_each_shown, moved_shown, fresh_shown, flushed}
@@ -27,10 +28,10 @@ pub shown_same : (w : Work) (ss : List Started) → (shown_each w ss).conn ≡ w
 shown_same w [] = refl
 shown_same w (s ∷ ss) = shown_same _ ss
 
--- and so it is of a setup
-pub set_up_same : (w : Work) (ss : List Started) → (set_up_each w ss).conn ≡ w.conn
-set_up_same w [] = refl
-set_up_same w (s ∷ ss) = set_up_same _ ss
+-- and so it is of a greeting
+pub greeted_same : (w : Work) (greeting : Greeting) (ss : List Started) → (greeted_each w greeting ss).conn ≡ w.conn
+greeted_same w greeting [] = refl
+greeted_same w greeting (s ∷ ss) = greeted_same _ greeting ss
 
 kept_either : (b : Bool) (r : Renewal) (v w : Work) → renewal_of v ≡ r → renewal_of w ≡ r → renewal_of (if b then v else w) ≡ r
 kept_either true r v w h k = h
@@ -40,9 +41,9 @@ started_kept_at : (w : Work) (life : Life) → renewal_of (started_at w life) �
 started_kept_at w Dialing = refl
 started_kept_at w (Wanting link) = refl
 started_kept_at w (Ended x) = refl
-started_kept_at w (SettingUp link with_user) =
+started_kept_at w (SettingUp link greeting) =
     let all = started_all (record { link = link; out = [] }) in
-    ap (λ (c : MultiplexedConnection). c.renewal) (set_up_same (with_setup w all.link with_user) all.out)
+    ap (λ (c : MultiplexedConnection). c.renewal) (greeted_same (with_setup w all.link greeting) greeting all.out)
 started_kept_at w (Ready link) =
     let all = started_all (record { link = link; out = [] }) in
     ap (λ (c : MultiplexedConnection). c.renewal) (shown_same (with_link w all.link) all.out)
@@ -60,7 +61,7 @@ placed_kept : (w : Work) (q : Waiting) (life : Life) → renewal_of (placed_at w
 placed_kept w q Dialing = refl
 placed_kept w q (Wanting link) = refl
 placed_kept w q (Ended x) = refl
-placed_kept w q (SettingUp link with_user) = refl
+placed_kept w q (SettingUp link greeting) = refl
 placed_kept w q (Ready link) = refl
 
 seated_kept : (w : Work) (q : Waiting) → renewal_of (seated w q) ≡ renewal_of w
@@ -96,7 +97,7 @@ let_in_kept w q =
 admitted_at_kept : (w : Work) (q : Waiting) (life : Life) → renewal_of (admitted_at w q life) ≡ renewal_of w
 admitted_at_kept w q Dialing = refl
 admitted_at_kept w q (Wanting link) = refl
-admitted_at_kept w q (SettingUp link with_user) = refl
+admitted_at_kept w q (SettingUp link greeting) = refl
 admitted_at_kept w q (Ended x) = answered_kept w q.number (outcome.Fault x)
 admitted_at_kept w q (Ready link) = behind_kept (let_in w q) q ∙ let_in_kept w q
 
@@ -132,7 +133,7 @@ written_kept : (w : Work) (life : Life) → renewal_of (written_at w life) ≡ r
 written_kept w Dialing = refl
 written_kept w (Wanting link) = refl
 written_kept w (Ended x) = refl
-written_kept w (SettingUp link with_user) = kept_either (can_offer link.outbox) (renewal_of w) _ w refl refl
+written_kept w (SettingUp link greeting) = kept_either (can_offer link.outbox) (renewal_of w) _ w refl refl
 written_kept w (Ready link) = kept_either (can_offer link.outbox) (renewal_of w) _ w refl refl
 
 -- and what a turn ends with changes nothing of it

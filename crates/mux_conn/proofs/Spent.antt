@@ -11,6 +11,7 @@ use Rattle.link_core.specs.Link.{LinkState, is_spent, started_all}
 use Rattle.link_core.specs.Outbox.{can_offer}
 use Rattle.link_core.proofs.StartLemmas.{numbers_rise}
 use Rattle.mux_conn.specs.declared.connection.MultiplexedConnection.{MultiplexedConnection}
+use Rattle.mux_conn.specs.declared.life.Greeting.{Greeting}
 use Rattle.mux_conn.specs.declared.life.Life.{Life}
 use Rattle.mux_conn.specs.declared.life.Life.TheVariants.{Dialing, Wanting, SettingUp, Ready, Ended}
 use Rattle.mux_conn.specs.declared.renewal.Renewal.{Renewal}
@@ -20,10 +21,10 @@ use Rattle.mux_conn.specs.Requests.{is_open_at, is_waiting_at, is_admitted_at, a
 use Rattle.driver_model.specs.declared.action.WaitKind.{WaitKind}
 use Rattle.driver_model.specs.News.{News}
 use Rattle.mux_conn.specs.Effects.{applied}
-use Rattle.mux_conn.specs.Passes.{shown_each, set_up_each, started, started_at, placed_at, told_at_place, seated, moved_up, moved_up_each, moved_up_all, still_admitted}
+use Rattle.mux_conn.specs.Passes.{shown_each, greeted_each, started, started_at, placed_at, told_at_place, seated, moved_up, moved_up_each, moved_up_all, still_admitted}
 use Rattle.mux_conn.specs.Passes.{permits_taken, took, took_shown, timer_asked, let_in, holding, put_behind, seated_or_behind, admitted_at, admitted, admitted_each, admitted_all, still_waiting, passed}
 use Rattle.mux_conn.specs.Renewals.{renewed}
-use Rattle.mux_conn.proofs.Kept.{shown_same, set_up_same, passed_kept, flushed_kept}
+use Rattle.mux_conn.proofs.Kept.{shown_same, greeted_same, passed_kept, flushed_kept}
 use Rattle.mux_conn.specs.Turn.{written, written_at, moved_wait, fresh_wait, wait_shown, moved_each_shown, fresh_each_shown, moved_shown, fresh_shown, flushed, stepped}
 
 -- how many messages have started
@@ -35,9 +36,9 @@ started_rises_at : (w : Work) (life : Life) → w.conn.life ≡ life → count w
 started_rises_at w Dialing e = le_refl (count w)
 started_rises_at w (Wanting link) e = le_refl (count w)
 started_rises_at w (Ended x) e = le_refl (count w)
-started_rises_at w (SettingUp link with_user) e =
+started_rises_at w (SettingUp link greeting) e =
     let all = started_all (record { link = link; out = [] }) in
-    let same : count (set_up_each (with_setup w all.link with_user) all.out) ≡ all.link.started = ap (λ (c : MultiplexedConnection). started_in c.life) (set_up_same (with_setup w all.link with_user) all.out) in
+    let same : count (greeted_each (with_setup w all.link greeting) greeting all.out) ≡ all.link.started = ap (λ (c : MultiplexedConnection). started_in c.life) (greeted_same (with_setup w all.link greeting) greeting all.out) in
     let from : count w ≡ link.started = ap started_in e in
     omega (arith, same, from, numbers_rise (record { link = link; out = [] }) link.queue)
 started_rises_at w (Ready link) e =
@@ -56,11 +57,11 @@ start_spent w link e h =
     let same : count (started w) ≡ all.link.started = ap (λ life. count (started_at w life)) e ∙ ap (λ (c : MultiplexedConnection). started_in c.life) (shown_same (with_link w all.link) all.out) in
     ap (λ n. nat_le (2 ^ 32) n) same ∙ h
 
--- a setup whose starts run out
-pub setup_spent : (w : Work) (link : LinkState) (with_user : Bool) → w.conn.life ≡ SettingUp link with_user → is_spent (started_all (record { link = link; out = [] })).link ≡ true → is_spent_in (started w).conn.life ≡ true
-setup_spent w link with_user e h =
+-- a greeting whose starts run out
+pub greeting_spent : (w : Work) (link : LinkState) (greeting : Greeting) → w.conn.life ≡ SettingUp link greeting → is_spent (started_all (record { link = link; out = [] })).link ≡ true → is_spent_in (started w).conn.life ≡ true
+greeting_spent w link greeting e h =
     let all = started_all (record { link = link; out = [] }) in
-    let same : count (started w) ≡ all.link.started = ap (λ life. count (started_at w life)) e ∙ ap (λ (c : MultiplexedConnection). started_in c.life) (set_up_same (with_setup w all.link with_user) all.out) in
+    let same : count (started w) ≡ all.link.started = ap (λ life. count (started_at w life)) e ∙ ap (λ (c : MultiplexedConnection). started_in c.life) (greeted_same (with_setup w all.link greeting) greeting all.out) in
     ap (λ n. nat_le (2 ^ 32) n) same ∙ h
 
 -- no less by either choice
@@ -82,7 +83,7 @@ placed_count : (w : Work) (q : Waiting) (life : Life) → w.conn.life ≡ life �
 placed_count w q Dialing e = refl
 placed_count w q (Wanting link) e = refl
 placed_count w q (Ended x) e = refl
-placed_count w q (SettingUp link with_user) e = refl
+placed_count w q (SettingUp link greeting) e = refl
 placed_count w q (Ready link) e = let from : count w ≡ link.started = ap started_in e in sym from
 
 seated_rises : (w : Work) (q : Waiting) → count w ≤ count (seated w q)
@@ -121,7 +122,7 @@ let_in_count w q =
 admitted_at_rises : (w : Work) (q : Waiting) (life : Life) → count w ≤ count (admitted_at w q life)
 admitted_at_rises w q Dialing = le_refl (count w)
 admitted_at_rises w q (Wanting link) = le_refl (count w)
-admitted_at_rises w q (SettingUp link with_user) = le_refl (count w)
+admitted_at_rises w q (SettingUp link greeting) = le_refl (count w)
 admitted_at_rises w q (Ended x) = let same = answered_count w q.number (outcome.Fault x) in omega (arith, same)
 admitted_at_rises w q (Ready link) = let same = let_in_count w q in omega (arith, same, behind_rises (let_in w q) q)
 
@@ -213,7 +214,7 @@ written_count : (w : Work) (life : Life) → w.conn.life ≡ life → count (wri
 written_count w Dialing e = refl
 written_count w (Wanting link) e = refl
 written_count w (Ended x) e = refl
-written_count w (SettingUp link with_user) e = let from : count w ≡ link.started = ap started_in e in count_either (can_offer link.outbox) (count w) _ w (sym from) refl
+written_count w (SettingUp link greeting) e = let from : count w ≡ link.started = ap started_in e in count_either (can_offer link.outbox) (count w) _ w (sym from) refl
 written_count w (Ready link) e = let from : count w ≡ link.started = ap started_in e in count_either (can_offer link.outbox) (count w) _ w (sym from) refl
 
 -- what a turn ends with starts nothing

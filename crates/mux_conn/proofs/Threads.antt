@@ -7,7 +7,7 @@ use Rattle.resp_read.specs.contracts.place.Place as Place
 use Rattle.resp_read.specs.contracts.course.Course as Course
 use Rattle.resp_read.specs.contracts.reader.Reader as Reader
 use Rattle.link_core.specs.contracts.link.LinkCore as Link
-use Rattle.link_core.specs.contracts.message.PushAt as PushAt
+use Rattle.link_core.specs.contracts.message.NoticeAt as NoticeAt
 use Rattle.link_core.specs.contracts.message.Settled as Settled
 use Rattle.mux_conn.specs.contracts.life.Life as Life
 use Rattle.mux_conn.specs.contracts.connection.MultiplexedConnection as Connection
@@ -60,16 +60,16 @@ settled_send = search values.crossing depth 60 fits 20000
 settled_sync : IsSync Settled.the_field.row
 settled_sync = search values.crossing depth 60 fits 20000
 
-push_send : IsSend PushAt.the_field.row
-push_send = search values.crossing depth 60 fits 20000
+notice_send : IsSend NoticeAt.the_field.row
+notice_send = search values.crossing depth 60 fits 20000
 
-push_sync : IsSync PushAt.the_field.row
-push_sync = search values.crossing depth 60 fits 20000
+notice_sync : IsSync NoticeAt.the_field.row
+notice_sync = search values.crossing depth 60 fits 20000
 
 pub connection_send : IsSend Connection.the_field.row
-connection_send = search (life_send, settled_send, push_send, values.crossing) depth 60 fits 20000
+connection_send = search (life_send, settled_send, notice_send, values.crossing) depth 60 fits 20000
 
 pub connection_sync : IsSync Connection.the_field.row
-connection_sync = search (life_sync, settled_sync, push_sync, values.crossing) depth 60 fits 20000
+connection_sync = search (life_sync, settled_sync, notice_sync, values.crossing) depth 60 fits 20000
 
 pub ruleset crossing = (connection_send, connection_sync, values.crossing)

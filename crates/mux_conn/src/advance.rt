@@ -7,7 +7,7 @@ ghost use Rattle.link_core.specs.Link.{is_spent, starting_with, started_all};
 use crate::act::LinkAct;
 use crate::connection::MultiplexedConnection;
 use crate::errors::ConnectionError;
-use crate::life::Life;
+use crate::life::{Greeting, Life};
 use crate::request::{Progress, Request, Waiting};
 use containers::Queue;
 use driver_model::{Outcome, Shape};
@@ -17,7 +17,7 @@ use std::alloc::{AllocError, Global};
 
 impl MultiplexedConnection {
     ghost use Rattle.mux_conn.specs.Connection.{work_with, runs_out, is_setting_up};
-    ghost use Rattle.mux_conn.specs.Passes.{shown_each, set_up_each, started};
+    ghost use Rattle.mux_conn.specs.Passes.{shown_each, greeted_each, started};
 
     /// Each start is shown, and the room of their list is kept.
     fn show_starts(
@@ -45,26 +45,31 @@ impl MultiplexedConnection {
         Ok(())
     }
 
-    /// Each start of a setup is shown.
-    fn show_setups(&self, starts: Vec<Started>, out: &mut Vec<LinkAct>) -> Result<(), AllocError>
+    /// Each start of a greeting is shown.
+    fn show_greetings(
+        &self,
+        greeting: Greeting,
+        starts: Vec<Started>,
+        out: &mut Vec<LinkAct>,
+    ) -> Result<(), AllocError>
         ensures { OnOk result (
             work_with self.now out.new.items
-            ≡ set_up_each (work_with self.now out.old.items) starts.items
+            ≡ greeted_each (work_with self.now out.old.items) greeting starts.items
             ) }
     {
         let mut rest = Queue::from_vec(starts);
         while let Some(start) = rest.pop_front() {
-            out.push(LinkAct::SetUp {
-                message: start.msg,
-                need: start.need,
-                len: start.len,
-            })?;
+            out.push(greeting.act(start))?;
         }
         Ok(())
     }
 
-    /// The setup starts, if it can.
-    fn start_setup(&mut self, alloc: Global, out: &mut Vec<LinkAct>) -> Result<(), ConnectionError>
+    /// A greeting starts, if it can.
+    fn start_greeting(
+        &mut self,
+        alloc: Global,
+        out: &mut Vec<LinkAct>,
+    ) -> Result<(), ConnectionError>
         requires { is_setting_up self.old.life ≡ true }
         ensures work { OnOk result (
             work_with self.new out.new.items ≡ started (work_with self.old out.old.items)
@@ -75,8 +80,10 @@ impl MultiplexedConnection {
         ensures failure { self.new.failure ≡ self.old.failure }
     {
         let mut starts = Vec::new(alloc);
-        let ready = match &mut self.life {
-            Life::SettingUp { link, greeting: _ } => start_ready(alloc, link, &mut starts),
+        let (ready, greeting) = match &mut self.life {
+            Life::SettingUp { link, greeting } => {
+                (start_ready(alloc, link, &mut starts), *greeting)
+            }
             Life::Ready { link: _ } => unreachable!(),
             Life::Dialing => unreachable!(),
             Life::Wanting { link: _ } => unreachable!(),
@@ -86,7 +93,7 @@ impl MultiplexedConnection {
             Ok(()) => {}
             Err(error) => return Err(error),
         }
-        self.show_setups(starts, out)?;
+        self.show_greetings(greeting, starts, out)?;
         Ok(())
     }
 
@@ -101,7 +108,7 @@ impl MultiplexedConnection {
         ensures failure { self.new.failure ≡ self.old.failure }
     {
         if self.life.is_setting_up() {
-            return self.start_setup(alloc, out);
+            return self.start_greeting(alloc, out);
         }
         let mut starts = self.starts.take(alloc);
         let ready = match &mut self.life {

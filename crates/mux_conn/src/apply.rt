@@ -1,23 +1,21 @@
-ghost use Rattle.std.specs.Prelude.{◌≡◌, ◌≤◌, [], length, OnOk, IfOk};
-ghost use Rattle.mux_conn.specs.Effects.{numbers_of, setup_id};
+ghost use Rattle.std.specs.Prelude.{◌≡◌, ◌≤◌, [], true, length, OnOk, IfOk};
+ghost use Rattle.mux_conn.specs.Effects.{numbers_of};
 
 use crate::act::LinkAct;
 use crate::connection::MultiplexedConnection;
-use crate::life::Life;
+use crate::life::{Greeting, Life};
 use crate::request::{Pending, Waiting};
 use containers::{Bytes, Queue};
 use credentials::BasicAuth;
-use driver_model::{
-    LinkFault, LinkNews, Outcome, PushInfo, says_nothing, setup_bytes, setup_shape,
-};
+use driver_model::{LinkFault, LinkNews, Outcome, PushInfo, says_nothing};
 use link_core::{LinkCore, Rest, Settled};
 use redis_error::{FaultKind, RedisError};
 use std::alloc::{AllocError, Global};
 
 impl MultiplexedConnection {
     ghost use Rattle.driver_model.specs.News.{told};
-    ghost use Rattle.mux_conn.specs.Connection.{work_with, acted};
-    ghost use Rattle.mux_conn.specs.Effects.{made_ready, sets_up, come_up, all_fresh};
+    ghost use Rattle.mux_conn.specs.Connection.{work_with, acted, is_ready};
+    ghost use Rattle.mux_conn.specs.Effects.{made_ready, come_up, all_fresh, dropped_by};
     ghost use Rattle.mux_conn.specs.Effects.{settled_each, failed_each, waiting_failed, all_answered};
     ghost use Rattle.mux_conn.specs.Effects.{cut_short, parted, ended, opening_failed, refused_at, overdue_at};
     ghost use Rattle.mux_conn.specs.Effects.{connected_at, taken_at, failed_at, shut_at, comes_to_want};
@@ -123,7 +121,7 @@ impl MultiplexedConnection {
             work_with self.now out.new.items ≡ parted (work_with self.now out.old.items)
             ) }
     {
-        if self.hears {
+        if self.hears.hears_pushes() {
             out.push(LinkAct::Push {
                 info: PushInfo::disconnection(alloc),
             })?;
@@ -293,28 +291,7 @@ impl MultiplexedConnection {
         self.ask_source(out)
     }
 
-    /// The setup takes its place on this link, with the user name or without it.
-    pub(crate) fn set_up(
-        &mut self,
-        alloc: Global,
-        link: LinkCore,
-        greeting: bool,
-    ) -> Result<(), AllocError>
-        ensures conn { OnOk result (
-            self.new ≡ (sets_up (work_with self.old []) link greeting).conn
-            ) }
-        ensures count { length self.new.requests ≡ length self.old.requests }
-        ensures failure { self.new.failure ≡ self.old.failure }
-    {
-        let mut link = link;
-        let mut packed = setup_bytes(alloc, &self.info, greeting)?;
-        let shape = setup_shape(&self.info, greeting);
-        link.enqueue_beyond(alloc, setup_id(greeting), &mut packed, shape)?;
-        self.life = Life::SettingUp { link, greeting };
-        Ok(())
-    }
-
-    /// This link is up: it is set up, or, where nothing is to be said, ready.
+    /// This link is up: it is set up, or nothing is to be said for it.
     fn come_up(
         &mut self,
         alloc: Global,
@@ -328,10 +305,10 @@ impl MultiplexedConnection {
         ensures failure { self.new.failure ≡ self.old.failure }
     {
         if says_nothing(&self.info, true) {
-            self.make_ready(alloc, link, out)?;
+            self.greet(alloc, link, out)?;
         } else {
             self.refresh(alloc)?;
-            self.set_up(alloc, link, true)?;
+            self.set_up(alloc, link, Greeting::WithUser)?;
         }
         Ok(())
     }
@@ -472,21 +449,66 @@ impl MultiplexedConnection {
         ensures count { length self.new.requests ≡ length self.old.requests }
         ensures failure { self.new.failure ≡ self.old.failure }
     {
-        if self.life.is_wanting() || self.life.is_setting_up() {
-            return self.close_opening(alloc, RedisError::Closed, out);
+        if self.life.is_ready() {
+            return self.fail_ready(alloc, fault, out);
         }
+        let error = match &self.life {
+            Life::Wanting { link: _ } => RedisError::Closed,
+            Life::SettingUp { link, greeting } => greeting.error(link, fault),
+            Life::Ready { link: _ } => unreachable!(),
+            Life::Dialing => return Ok(()),
+            Life::Ended { error: _ } => return Ok(()),
+        };
+        self.close_opening(alloc, error, out)
+    }
+
+    /// A link that is set up ends by a fault.
+    fn fail_ready(
+        &mut self,
+        alloc: Global,
+        fault: LinkFault,
+        out: &mut Vec<LinkAct>,
+    ) -> Result<(), AllocError>
+        requires { is_ready self.old.life ≡ true }
+        ensures work { OnOk result (
+            work_with self.new out.new.items
+            ≡ failed_at (work_with self.old out.old.items) fault self.old.life
+            ) }
+        ensures count { length self.new.requests ≡ length self.old.requests }
+        ensures failure { self.new.failure ≡ self.old.failure }
+    {
+        let felt = self.hears.felt(fault);
         let mut settled = Vec::new(alloc);
         match &mut self.life {
-            Life::Ready { link } => link.fault(fault, &mut settled)?,
+            Life::Ready { link } => link.fault(felt, &mut settled)?,
             Life::SettingUp {
                 link: _,
                 greeting: _,
             } => unreachable!(),
             Life::Wanting { link: _ } => unreachable!(),
-            Life::Dialing => return Ok(()),
-            Life::Ended { error: _ } => return Ok(()),
+            Life::Dialing => unreachable!(),
+            Life::Ended { error: _ } => unreachable!(),
         }
         self.end_by_fault(alloc, settled, out)
+    }
+
+    /// The stream of messages is dropped: a link of messages ends.
+    fn drop_stream(&mut self, alloc: Global, out: &mut Vec<LinkAct>) -> Result<(), AllocError>
+        ensures work { OnOk result (
+            work_with self.new out.new.items ≡ dropped_by (work_with self.old out.old.items)
+            ) }
+        ensures count { length self.new.requests ≡ length self.old.requests }
+        ensures failure { self.new.failure ≡ self.old.failure }
+    {
+        if !self.hears.hears_messages() {
+            return Ok(());
+        }
+        if self.life.is_dialing() {
+            self.close_opening(alloc, RedisError::Closed, out)?;
+            return Ok(());
+        }
+        self.fail(alloc, LinkFault::Ended, out)?;
+        Ok(())
     }
 
     /// Everything is closed.
@@ -556,6 +578,7 @@ impl MultiplexedConnection {
                 self.renew_late(number);
                 Ok(())
             }
+            LinkNews::Dropped => self.drop_stream(alloc, out),
             LinkNews::Shut => self.shut(alloc, out),
         }
     }
@@ -620,11 +643,4 @@ fn numbers(alloc: Global, waiting: &Queue<Waiting>) -> Result<Queue<u32>, AllocE
         numbers.push_back(waiting.at(index).number)?;
     }
     Ok(numbers)
-}
-
-/// The number of the message that sets a link up, with the user name or without it: no request has it.
-fn setup_id(greeting: bool) -> u64
-    ensures { result ≡ setup_id greeting }
-{
-    if greeting { 1 << 32 } else { (1 << 32) + 1 }
 }

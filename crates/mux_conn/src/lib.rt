@@ -8,6 +8,7 @@ mod apply;
 mod connection;
 mod errors;
 mod flush;
+mod greeting;
 mod internal;
 mod life;
 mod reading;

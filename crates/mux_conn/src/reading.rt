@@ -1,58 +1,59 @@
 ghost use Rattle.std.specs.Prelude.{◌≡◌, ◌∷◌, ◌++◌, [], List, length, true, false, OnOk};
 ghost use Rattle.connection_setup.specs.Setup.{setup};
 ghost use Rattle.connection_setup.specs.Judgement.{Tells};
-ghost use Rattle.link_core.specs.Dealing.{heard_of};
-ghost use Rattle.link_core.specs.Link.{piece_dealt, pushes_came, settling_with};
-ghost use Rattle.mux_conn.specs.Effects.{judged_by};
+ghost use Rattle.link_core.specs.Link.{piece_read};
+ghost use Rattle.mux_conn.specs.Effects.{judged_by, has_user, notice_act};
 
 use crate::act::LinkAct;
 use crate::connection::MultiplexedConnection;
-use crate::life::Life;
+use crate::life::{Greeting, Life};
 use connection_info::RedisConnectionInfo;
 use connection_setup::{SetupResult, check_setup};
 use containers::Queue;
-use driver_model::{LinkFault, Verdict};
-use link_core::{LinkCore, PushAt, Rest, Settled};
-use redis_error::RedisError;
-use resp_read::ReadError;
+use driver_model::{Hearing, LinkFault, Notice, Verdict};
+use link_core::{LinkCore, NoticeAt, Rest, Settled};
 use std::alloc::{AllocError, Global};
 
 impl MultiplexedConnection {
     ghost use Rattle.mux_conn.specs.Connection.{work_with, awaits_credentials, is_setting_up};
     ghost use Rattle.mux_conn.specs.Effects.{set_up_by, steps_of, answered_setup, read_setup, read_at};
-    ghost use Rattle.mux_conn.specs.Effects.{pushed_each, told_each, behind_first, heard_on};
+    ghost use Rattle.mux_conn.specs.Effects.{noticed_each, told_each, behind_first, heard_on};
 
-    /// These pushes are told, in order.
-    fn tell_each(&self, pushes: &mut Rest<PushAt>, out: &mut Vec<LinkAct>) -> Result<(), AllocError>
-        ensures { OnOk result (
-            work_with self.now out.new.items
-            ≡ pushed_each (work_with self.now out.old.items) pushes.old
-            ) }
-    {
-        while let Some(push) = pushes.pop_front() {
-            show_push(push, out)?;
-        }
-        Ok(())
-    }
-
-    /// Of these pushes those behind the first settled message are told, where the link is set up: they reach nobody before.
-    fn tell_behind_first(
+    /// This is told, in order.
+    fn tell_each(
         &self,
-        pushes: Vec<PushAt>,
+        notices: &mut Rest<NoticeAt>,
         out: &mut Vec<LinkAct>,
     ) -> Result<(), AllocError>
         ensures { OnOk result (
             work_with self.now out.new.items
-            ≡ heard_on (work_with self.now out.old.items) (behind_first pushes.items)
+            ≡ noticed_each (work_with self.now out.old.items) notices.old
+            ) }
+    {
+        while let Some(told) = notices.pop_front() {
+            show_notice(told.notice, out)?;
+        }
+        Ok(())
+    }
+
+    /// Of this, what came behind the first settled message is told, where the link is set up: it reaches nobody before.
+    fn tell_behind_first(
+        &self,
+        notices: Vec<NoticeAt>,
+        out: &mut Vec<LinkAct>,
+    ) -> Result<(), AllocError>
+        ensures { OnOk result (
+            work_with self.now out.new.items
+            ≡ heard_on (work_with self.now out.old.items) (behind_first notices.items)
             ) }
     {
         if !self.life.is_ready() {
             return Ok(());
         }
-        let mut rest = Rest::of(pushes);
-        while let Some(push) = rest.pop_front() {
-            if push.settled > 0 {
-                show_push(push, out)?;
+        let mut rest = Rest::of(notices);
+        while let Some(told) = rest.pop_front() {
+            if told.settled > 0 {
+                show_notice(told.notice, out)?;
                 self.tell_each(&mut rest, out)?;
                 return Ok(());
             }
@@ -60,88 +61,88 @@ impl MultiplexedConnection {
         Ok(())
     }
 
-    /// A push is told, behind the messages that were settled before it: those of them that aren't answered so far are answered
-    /// first.
-    fn tell_push(
+    /// Something is told, behind the messages that were settled before it: those of them that aren't answered so far are
+    /// answered first.
+    fn tell_notice(
         &mut self,
-        push: PushAt,
+        told: NoticeAt,
         answered: &mut u64,
         settled: &mut Rest<Settled>,
         out: &mut Vec<LinkAct>,
     ) -> Result<(), AllocError>
         ensures work { OnOk result (
-            (later : List PushAt)
+            (later : List NoticeAt)
             → told_each (work_with self.new out.new.items) answered.new later settled.new
-            ≡ told_each (work_with self.old out.old.items) answered.old (push ∷ later) settled.old
+            ≡ told_each (work_with self.old out.old.items) answered.old (told ∷ later) settled.old
             ) }
         ensures count { length self.new.requests ≡ length self.old.requests }
         ensures failure { self.new.failure ≡ self.old.failure }
     {
-        'behind: while *answered < push.settled {
+        'behind: while *answered < told.settled {
             let Some(message) = settled.pop_front() else {
-                show_push(push, out)?;
+                show_notice(told.notice, out)?;
                 return Ok(());
             };
             self.settle_one(message, out)?;
             *answered += 1;
         }
-        show_push(push, out)?;
+        show_notice(told.notice, out)?;
         Ok(())
     }
 
-    /// What the link has settled is answered, and the pushes that came are told, each behind the messages that were settled
-    /// before it. The room of the lists is kept.
+    /// What the link has settled is answered, and what came is told, each behind the messages that were settled before it.
+    /// The room of the lists is kept.
     fn tell(
         &mut self,
         settled: Vec<Settled>,
-        pushes: Vec<PushAt>,
+        notices: Vec<NoticeAt>,
         out: &mut Vec<LinkAct>,
     ) -> Result<(), AllocError>
         ensures work { OnOk result (
             work_with self.new out.new.items
-            ≡ told_each (work_with self.old out.old.items) 0 pushes.items settled.items
+            ≡ told_each (work_with self.old out.old.items) 0 notices.items settled.items
             ) }
         ensures count { length self.new.requests ≡ length self.old.requests }
         ensures failure { self.new.failure ≡ self.old.failure }
     {
         let mut settled = Rest::of(settled);
-        let mut pushes = Rest::of(pushes);
+        let mut notices = Rest::of(notices);
         let mut answered = 0;
-        while let Some(push) = pushes.pop_front() {
-            self.tell_push(push, &mut answered, &mut settled, out)?;
+        while let Some(told) = notices.pop_front() {
+            self.tell_notice(told, &mut answered, &mut settled, out)?;
         }
         self.settle_rest(&mut settled, out)?;
         self.settled.give(settled.into_list());
-        self.pushes.give(pushes.into_list());
+        self.notices.give(notices.into_list());
         Ok(())
     }
 
-    /// The setup came to this verdict: the link is ready, the setup is sent once more without the user name, or the opening
+    /// A greeting came to this verdict: it is answered well, the setup is sent once more without the user name, or the opening
     /// failed.
     #[tactic(auto, using(crate::proofs::Judged::ready_by, crate::proofs::Judged::repeated_by, crate::proofs::Judged::failed_by))]
     fn judge(
         &mut self,
         alloc: Global,
         link: LinkCore,
-        greeting: bool,
+        greeting: Greeting,
         verdict: Verdict,
         out: &mut Vec<LinkAct>,
     ) -> Result<(), AllocError>
         ensures work { OnOk result (
             work_with self.new out.new.items
-            ≡ set_up_by (work_with self.old out.old.items) link
+            ≡ set_up_by (work_with self.old out.old.items) link greeting
             (judged_by (steps_of self.old greeting) verdict)
             ) }
         ensures count { length self.new.requests ≡ length self.old.requests }
         ensures failure { self.new.failure ≡ self.old.failure }
     {
-        match judged(alloc, &self.info, greeting, verdict) {
+        match judged(alloc, &self.info, greeting.has_user(), verdict) {
             SetupResult::Ready => {
-                self.make_ready(alloc, link, out)?;
+                self.greet_behind(alloc, link, greeting, out)?;
                 Ok(())
             }
             SetupResult::RepeatWithoutUser => {
-                self.set_up(alloc, link, false)?;
+                self.set_up(alloc, link, Greeting::WithoutUser)?;
                 Ok(())
             }
             SetupResult::Failed(error) => {
@@ -152,19 +153,19 @@ impl MultiplexedConnection {
         }
     }
 
-    /// The setup is answered, if it is, and the pushes behind it are told.
+    /// A greeting is answered, if it is, and what came behind it is told.
     fn answer_setup(
         &mut self,
         alloc: Global,
         link: LinkCore,
-        greeting: bool,
+        greeting: Greeting,
         settled: Vec<Settled>,
-        pushes: Vec<PushAt>,
+        notices: Vec<NoticeAt>,
         out: &mut Vec<LinkAct>,
     ) -> Result<(), AllocError>
         ensures work { OnOk result (
             work_with self.new out.new.items
-            ≡ answered_setup (work_with self.old out.old.items) link greeting pushes.items
+            ≡ answered_setup (work_with self.old out.old.items) link greeting notices.items
             settled.items
             ) }
         ensures count { length self.new.requests ≡ length self.old.requests }
@@ -174,7 +175,7 @@ impl MultiplexedConnection {
         match rest.pop_front() {
             Some(message) => {
                 self.judge(alloc, link, greeting, message.verdict, out)?;
-                self.tell_behind_first(pushes, out)?;
+                self.tell_behind_first(notices, out)?;
                 Ok(())
             }
             None => {
@@ -184,41 +185,37 @@ impl MultiplexedConnection {
         }
     }
 
-    /// Bytes came on this link, which is set up: the setup is answered, if it is, the pushes behind it are told, and bytes that
-    /// begin no value end the link.
+    /// Bytes came on this link, which is set up: the greeting is answered, if it is, what came behind it is told, and what
+    /// can't be read on ends the link.
     fn read_setup(
         &mut self,
         alloc: Global,
         link: LinkCore,
-        greeting: bool,
+        greeting: Greeting,
         piece: &[u8],
         out: &mut Vec<LinkAct>,
     ) -> Result<(), AllocError>
         ensures work { OnOk result (
             work_with self.new out.new.items
             ≡ read_setup (work_with self.old out.old.items) greeting
-            (heard_of self.old.hears (pushes_came link piece.now))
-            (piece_dealt (settling_with link []) piece.now)
+            (piece_read self.old.hears false link piece.now)
             ) }
         ensures count { length self.new.requests ≡ length self.old.requests }
         ensures failure { self.new.failure ≡ self.old.failure }
     {
         let mut link = link;
         let mut settled = Vec::new(alloc);
-        let mut pushes = Vec::new(alloc);
-        let broken = match link.bytes_heard(alloc, piece, self.hears, &mut settled, &mut pushes) {
-            Ok(()) => false,
-            Err(ReadError::Parse) => true,
-            Err(ReadError::NoMemory) => return Err(AllocError),
-        };
-        self.answer_setup(alloc, link, greeting, settled, pushes, out)?;
-        if broken {
+        let mut notices = Vec::new(alloc);
+        let strange = link.read(alloc, piece, self.hears, false, &mut settled, &mut notices)?;
+        let broken = link.is_broken();
+        self.answer_setup(alloc, link, greeting, settled, notices, out)?;
+        if broken || (strange && self.life.is_ready()) {
             self.fail(alloc, LinkFault::Parse, out)?;
         }
         Ok(())
     }
 
-    /// Bytes came on a link whose setup waits for credentials: they answer nothing, no push in them is told, and bytes that
+    /// Bytes came on a link whose setup waits for credentials: they answer nothing, nothing in them is told, and bytes that
     /// begin no value end the link.
     fn read_wanting(
         &mut self,
@@ -235,8 +232,19 @@ impl MultiplexedConnection {
         ensures failure { self.new.failure ≡ self.old.failure }
     {
         let mut settled = Vec::new(alloc);
-        let read = match &mut self.life {
-            Life::Wanting { link } => link.bytes_unheard(alloc, piece, &mut settled),
+        let mut notices = Vec::new(alloc);
+        let broken = match &mut self.life {
+            Life::Wanting { link } => {
+                link.read(
+                    alloc,
+                    piece,
+                    Hearing::Nothing,
+                    false,
+                    &mut settled,
+                    &mut notices,
+                )?;
+                link.is_broken()
+            }
             Life::SettingUp {
                 link: _,
                 greeting: _,
@@ -245,11 +253,10 @@ impl MultiplexedConnection {
             Life::Dialing => unreachable!(),
             Life::Ended { error: _ } => unreachable!(),
         };
-        match read {
-            Ok(()) => Ok(()),
-            Err(ReadError::Parse) => self.fail(alloc, LinkFault::Parse, out),
-            Err(ReadError::NoMemory) => Err(AllocError),
+        if broken {
+            self.fail(alloc, LinkFault::Parse, out)?;
         }
+        Ok(())
     }
 
     /// Bytes came on a link that isn't set up any more.
@@ -270,10 +277,11 @@ impl MultiplexedConnection {
     {
         let heard = self.hears;
         let mut settled = self.settled.take(alloc);
-        let mut pushes = self.pushes.take(alloc);
-        let read = match &mut self.life {
+        let mut notices = self.notices.take(alloc);
+        let ended = match &mut self.life {
             Life::Ready { link } => {
-                link.bytes_heard(alloc, piece, heard, &mut settled, &mut pushes)
+                let strange = link.read(alloc, piece, heard, true, &mut settled, &mut notices)?;
+                link.is_broken() || strange
             }
             Life::SettingUp {
                 link: _,
@@ -283,20 +291,14 @@ impl MultiplexedConnection {
             Life::Dialing => return Ok(()),
             Life::Ended { error: _ } => return Ok(()),
         };
-        let broken = match read {
-            Ok(()) => false,
-            Err(ReadError::Parse) => true,
-            Err(ReadError::NoMemory) => return Err(AllocError),
-        };
-        self.tell(settled, pushes, out)?;
-        if broken {
+        self.tell(settled, notices, out)?;
+        if ended {
             self.fail(alloc, LinkFault::Parse, out)?;
         }
         Ok(())
     }
 
-    /// Bytes came: the messages that they fill are answered, the pushes that came are told, and bytes that begin no value end
-    /// the link.
+    /// Bytes came: the messages that they fill are answered, what came is told, and what can't be read on ends the link.
     pub(crate) fn read(
         &mut self,
         alloc: Global,
@@ -330,11 +332,22 @@ impl MultiplexedConnection {
     }
 }
 
-/// A push is told.
-fn show_push(push: PushAt, out: &mut Vec<LinkAct>) -> Result<(), AllocError>
-    ensures { OnOk result (out.new.items ≡ out.old.items ++ LinkAct.Push push.info ∷ []) }
+/// What shows a notice.
+fn act_of(notice: Notice) -> LinkAct
+    ensures { result ≡ notice_act notice }
 {
-    out.push(LinkAct::Push { info: push.info })?;
+    match notice {
+        Notice::Push(info) => LinkAct::Push { info },
+        Notice::Message(msg) => LinkAct::Message { msg },
+        Notice::Monitor(value) => LinkAct::Monitor { value },
+    }
+}
+
+/// Something is told.
+fn show_notice(notice: Notice, out: &mut Vec<LinkAct>) -> Result<(), AllocError>
+    ensures { OnOk result (out.new.items ≡ out.old.items ++ notice_act notice ∷ []) }
+{
+    out.push(act_of(notice))?;
     Ok(())
 }
 
@@ -342,13 +355,13 @@ fn show_push(push: PushAt, out: &mut Vec<LinkAct>) -> Result<(), AllocError>
 fn judged(
     alloc: Global,
     info: &RedisConnectionInfo,
-    greeting: bool,
+    with_user: bool,
     verdict: Verdict,
 ) -> SetupResult
-    ensures { Tells (judged_by (setup info.now greeting) verdict) result }
+    ensures { Tells (judged_by (setup info.now with_user) verdict) result }
 {
     match verdict {
-        Verdict::Many(replies) => check_setup(alloc, info, greeting, &replies),
+        Verdict::Many(replies) => check_setup(alloc, info, with_user, &replies),
         Verdict::One(_) => SetupResult::Ready,
         Verdict::Done => SetupResult::Ready,
         Verdict::Fault(error) => SetupResult::Failed(error),

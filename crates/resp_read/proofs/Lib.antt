@@ -23,6 +23,7 @@ pub mod HeadLaws
 pub mod LookLaws
 pub mod BodyLaws
 pub mod PlaceLaws
+pub mod WholeLaws
 pub mod UnderwayLaws
 pub mod CourseLaws
 pub mod ReaderLaws

@@ -1,5 +1,5 @@
 -- What reading on from a place makes of the aggregates that it stands in.
-use Rattle.std.proofs.Common.{◌≡◌, ℕ, suc, ◌≤◌, ◌-◌, List, [], ◌∷◌, ◌++◌, length, drop, Err, Option, Some, sym, ap, ◌∙◌, subst, arith}
+use Rattle.std.proofs.Common.{◌≡◌, ℕ, suc, ◌≤◌, ◌-◌, List, [], ◌∷◌, ◌++◌, length, length-drop, drop, Err, Option, Some, true, refl, sym, ap, ◌∙◌, subst, arith}
 use Rattle.std.proofs.lemmas.List.{append-nil}
 use Rattle.resp_value.specs.Data.{Data}
 use Rattle.resp_read.specs.Parser.{short, bad, Found}
@@ -15,8 +15,9 @@ use Rattle.resp_read.specs.declared.stages.Stage.TheVariants.{First}
 use Rattle.resp_read.specs.declared.place.Place.{Place}
 use Rattle.resp_read.specs.Frames.{begun_as, within}
 use Rattle.resp_read.specs.Stages.{stage_as}
-use Rattle.resp_read.specs.Places.{Advances, reached_as, resumed_at, ReadsFrom}
+use Rattle.resp_read.specs.Places.{is_too_few, Advances, reached_as, resumed_at, ReadsFrom}
 use Rattle.resp_read.proofs.FrameLaws.{within_short, within_bad, within_held}
+use Rattle.resp_read.proofs.PlaceLaws.{few_short}
 
 module _ (limits : Limits) (frames : List Frame) where
   -- what begins at a stage
@@ -45,3 +46,9 @@ module _ (limits : Limits) (tape : List ℕ) (start : List Frame) (old : Place) 
 
   pub stops : (n : ℕ) (e : Refusal) (new : Place) → n ≡ length frames → Advances limits (limits.depth - n) tape cur (Err e) new → ReadsFrom limits tape start old (Err e) frames new
   stops n e new is h = stops_there e new (subst (λ k. Advances limits (limits.depth - k) tape cur (Err e) new) is h)
+
+-- where too few bytes are there for the next step
+pub waits_there : (limits : Limits) (tape : List ℕ) (frames : List Frame) (p : Place) → is_too_few (length tape - p.next) p.stage ≡ true → ReadsFrom limits tape frames p (Err Short) frames p
+waits_there limits tape frames p few =
+    let d = limits.depth - length frames in
+    stops limits tape frames p frames p (omega arith) (λ m. refl) (length frames) Short p refl (refl, refl, few_short limits d p.stage (drop p.next tape) (length tape - p.next) (sym (length-drop p.next tape)) few)

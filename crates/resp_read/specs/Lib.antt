@@ -13,4 +13,5 @@ pub mod Items
 pub mod Frames
 pub mod Stages
 pub mod Places
+pub mod Whole
 pub mod Courses

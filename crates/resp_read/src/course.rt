@@ -132,6 +132,9 @@ impl Course {
         ensures reads { ReadsNext limits self.old result self.new }
         ensures costs { NextCosts self.old steps.old result self.new steps.new }
     {
+        if self.place.has_too_few(&self.tape) {
+            return Err(Refusal::Short);
+        }
         match underway::read_from(
             alloc,
             limits,

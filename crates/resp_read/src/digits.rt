@@ -56,7 +56,7 @@ fn digit_behind(sign: Sign, n: u64, b: u8) -> Digits
 
 impl Digits {
     /// With one byte more.
-    fn then(self, b: u8) -> Digits
+    pub fn then(self, b: u8) -> Digits
         requires { AreKept self }
         ensures step { result ≡ digits_step self b }
         ensures kept { AreKept result }

@@ -44,7 +44,7 @@ impl From<AllocError> for Refusal {
     }
 }
 
-fn simple(alloc: Global, line: &[u8]) -> Result<Value, AllocError>
+pub fn simple(alloc: Global, line: &[u8]) -> Result<Value, AllocError>
     ensures { IfOk result (λ v. data_of v ≡ simple_of line.now) }
 {
     if line == b"OK".as_slice() {

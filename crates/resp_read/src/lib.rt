@@ -16,6 +16,7 @@ mod takes;
 mod tape;
 mod underway;
 mod waiting;
+mod whole;
 
 pub use limits::Limits;
 pub use reader::{Health, ReadError, Reader};

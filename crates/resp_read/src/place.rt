@@ -10,7 +10,7 @@ use crate::limits::Limits;
 use crate::stages::{Follow, Head, Part, Stage, Want};
 use crate::tape::{Steps, Tape};
 use crate::waiting::{Front, Looked};
-use crate::{scan, stages, takes, waiting};
+use crate::{scan, stages, takes, waiting, whole};
 use std::alloc::Global;
 use std::sync::ledger::Ledger;
 
@@ -121,7 +121,7 @@ impl Taken {
     }
 
     /// Lets go what was taken, and keeps its room.
-    fn clear(&mut self)
+    pub fn clear(&mut self)
         ensures { (rest : List ℕ) → IsTaken self.new rest × (self.new.text.items ≡ []) }
     {
         self.text.clear();
@@ -130,8 +130,16 @@ impl Taken {
 }
 
 impl Place {
+    /// Whether too few bytes are there for the next step, where that is no line.
+    pub fn has_too_few(&self, tape: &Tape) -> bool
+        requires { IsPlace tape.now self.now }
+        ensures { result ≡ is_too_few (length tape.now - self.now.next) self.now.stage }
+    {
+        self.stage.has_too_few(tape.len() - self.next)
+    }
+
     /// Comes to another stage.
-    fn enter(&mut self, stage: Stage)
+    pub fn enter(&mut self, stage: Stage)
         ensures { self.new ≡ record self.old { stage = stage } }
     {
         drop(std::mem::replace(&mut self.stage, stage));
@@ -146,15 +154,18 @@ impl Place {
     }
 }
 
-/// The first byte of a value.
+/// The first byte of a value, and what stands behind it as far as it is there.
 fn pass_first<L: Ledger>(
+    alloc: Global,
     limits: Limits,
     around: usize,
     tape: &Tape,
     place: &mut Place,
     steps: &mut Steps<L>,
 ) -> Result<Option<Begun>, Refusal>
+    requires allowed { AreAllowed limits }
     requires place { IsPlace tape.now place.old }
+    requires first { place.old.stage ≡ staged.First }
     requires empty { place.old.line.text.items ≡ [] }
     requires some { place.old.next < length tape.now }
     ensures goes { Goes limits (limits.depth - around) tape.now
@@ -168,8 +179,7 @@ fn pass_first<L: Ledger>(
     match takes::head_of(limits, around, first) {
         Some(head) => {
             place.next = end - (end - place.next - 1);
-            place.enter(Stage::Line(head));
-            Ok(None)
+            whole::pass_head(alloc, limits, around, head, tape, place, steps)
         }
         None => Err(Refusal::Bad),
     }
@@ -328,9 +338,11 @@ pub fn advance<L: Ledger>(
     if place.stage.has_too_few(tape.len() - place.next) {
         return Err(Refusal::Short);
     }
+    if let Stage::First = &place.stage {
+        return pass_first(alloc, limits, around, tape, place, steps);
+    }
     match place.take_stage() {
-        Stage::First => pass_first(limits, around, tape, place, steps),
-        Stage::Line(_) => Err(Refusal::Bad),
+        Stage::First | Stage::Line(_) => Err(Refusal::Bad),
         Stage::End(follow) => pass_end(limits, around, follow, tape, place, steps),
         Stage::Want(want) => pass_want(alloc, limits, around, want, tape, place, steps),
     }

@@ -1,4 +1,4 @@
-ghost use Rattle.std.specs.Prelude.{◌≡◌, ◌≤◌, ◌<◌, ◌+◌, ◌-◌, length, drop, get_or};
+ghost use Rattle.std.specs.Prelude.{◌≡◌, ◌≤◌, ◌<◌, ◌+◌, ◌-◌, length, take, drop, get_or, IfOk};
 ghost use Rattle.resp_read.specs.Stages.{IsHeadOf, IsKindOf, IsBody, IsFormat};
 
 use crate::forms::Refusal;
@@ -8,7 +8,7 @@ use crate::stages::{Head, Part};
 use crate::tape::{Steps, Tape};
 use crate::{forms, stages};
 use containers::Bytes;
-use std::alloc::Global;
+use std::alloc::{AllocError, Global};
 use std::sync::ledger::Ledger;
 
 /// What the line behind this first byte announces, in so many aggregates.
@@ -48,6 +48,23 @@ fn byte_behind<L: Ledger>(tape: &Tape, next: usize, n: usize, steps: &mut Steps<
     tape.at((end - from_there) as u64, steps)
 }
 
+/// A copy of so many bytes, in no more room.
+pub fn copied<L: Ledger>(
+    alloc: Global,
+    n: usize,
+    tape: &Tape,
+    next: usize,
+    steps: &mut Steps<L>,
+) -> Result<Bytes, AllocError>
+    requires { next + n ≤ length tape.now }
+    ensures text { IfOk result (λ b. b ≡ take n (drop next tape.now)) }
+    ensures steps { steps.new ≤ steps.old + n }
+{
+    let mut text = Vec::with_capacity(alloc, n)?;
+    tape.copy(next as u64, n as u64, &mut text, steps)?;
+    Ok(Bytes::from_vec(text))
+}
+
 /// So many bytes, and CR.
 pub fn take_body<L: Ledger>(
     alloc: Global,
@@ -64,12 +81,11 @@ pub fn take_body<L: Ledger>(
     if byte_behind(tape, next, n, steps) != b'\r' {
         return Err(Refusal::Bad);
     }
-    let mut text = Vec::new(alloc);
-    match tape.copy(next as u64, n as u64, &mut text, steps) {
-        Ok(()) => {}
+    let text = match copied(alloc, n, tape, next, steps) {
+        Ok(text) => text,
         Err(_) => return Err(Refusal::NoMemory),
-    }
-    match stages::part_whole(alloc, part, Bytes::from_vec(text)) {
+    };
+    match stages::part_whole(alloc, part, text) {
         Ok(begun) => Ok(begun),
         Err(_) => Err(Refusal::NoMemory),
     }
@@ -90,9 +106,8 @@ pub fn take_format<L: Ledger>(
     if byte_behind(tape, next, 3, steps) != b':' {
         return Err(Refusal::Bad);
     }
-    let mut format = Vec::new(alloc);
-    match tape.copy(next as u64, 3, &mut format, steps) {
-        Ok(()) => Ok(Bytes::from_vec(format)),
+    match copied(alloc, 3, tape, next, steps) {
+        Ok(format) => Ok(format),
         Err(_) => Err(Refusal::NoMemory),
     }
 }

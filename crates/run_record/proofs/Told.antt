@@ -22,14 +22,14 @@ refused_by true read history n tells is = absurd (both_ways false refl (subst Is
 refused_by false read history n tells is = refl
 
 pub read_back : (text : List ℕ) (config : Config) (word : ℕ) (events : List Event) (s : Script) → text ≡ record_text config word events → FitsHistory config word events
-    → HaveForms events → script_of text ≡ Ok s → script_of text ≡ Ok (record { config = config; word = word; events = events })
+    → HaveForms config events → script_of text ≡ Ok s → script_of text ≡ Ok (record { config = config; word = word; events = events })
 read_back text config word events s is fits forms reads =
     let same = ap script_of is in
     same ∙ read_by (keeps_limits (record_text config word events)) (script_of (record_text config word events)) (record { config = config; word = word; events = events }) s
     (records_told config word events fits forms) (sym same ∙ reads)
 
 pub no_script : (text : List ℕ) (config : Config) (word : ℕ) (events : List Event) (n : ℕ) → text ≡ record_text config word events → FitsHistory config word events
-    → script_of text ≡ Err n → HaveForms events → keeps_limits (record_text config word events) ≡ false
+    → script_of text ≡ Err n → HaveForms config events → keeps_limits (record_text config word events) ≡ false
 no_script text config word events n is fits refused forms =
     refused_by (keeps_limits (record_text config word events)) (script_of (record_text config word events)) (record { config = config; word = word; events = events }) n
     (records_told config word events fits forms) (sym (ap script_of is) ∙ refused)
@@ -40,7 +40,7 @@ kept_by true read history s tells is beyond = both_ways true beyond refl
 kept_by false read history s tells is beyond = both_ways false refl (subst IsErr is tells)
 
 pub not_beyond : (text : List ℕ) (config : Config) (word : ℕ) (events : List Event) (s : Script) → text ≡ record_text config word events → FitsHistory config word events
-    → HaveForms events → script_of text ≡ Ok s → (HaveForms events → keeps_limits (record_text config word events) ≡ false) → ⊥
+    → HaveForms config events → script_of text ≡ Ok s → (HaveForms config events → keeps_limits (record_text config word events) ≡ false) → ⊥
 not_beyond text config word events s is fits forms reads none =
     kept_by (keeps_limits (record_text config word events)) (script_of (record_text config word events)) (record { config = config; word = word; events = events }) s
     (records_told config word events fits forms) (sym (ap script_of is) ∙ reads) (none forms)

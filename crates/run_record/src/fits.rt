@@ -1,10 +1,10 @@
-ghost use Rattle.std.specs.Prelude.{All, ◌<◌, ◌^◌};
+ghost use Rattle.std.specs.Prelude.{All, IfSome, ◌<◌, ◌^◌};
 ghost use Rattle.std.specs.Bool.{MatchBool};
 ghost use Rattle.text_laws.specs.Fits.{AreBytes, FitsCommands, FitsSubmission, FitsNumber, FitsKind};
-ghost use Rattle.text_laws.specs.Fits.{FitsEvent, FitsLimit, FitsConfig, FitsHistory, HasForm, HaveForms};
+ghost use Rattle.text_laws.specs.Fits.{FitsEvent, FitsLimit, FitsConfig, FitsHistory, HasForm, WithForm, HaveForms};
 
 use containers::{Bytes, Names};
-use driver_model::{Config, Event, EventKind, Submission};
+use driver_model::{Config, Event, EventKind, SessionKind, Submission};
 use shared_session::Session;
 use text_laws::a_slice_has_bytes;
 
@@ -66,6 +66,16 @@ fn commands_fit(commands: &[Names])
     }
 }
 
+/// Does nothing. Its contract: so is what a message has, where there is one.
+fn message_fits(message: &Option<Bytes>)
+    ensures { IfSome message.now AreBytes }
+{
+    match message {
+        Some(message) => a_slice_has_bytes(message.as_slice()),
+        None => {}
+    }
+}
+
 /// Does nothing. Its contract: a submission is one that its type holds.
 fn submission_fits(submission: &Submission)
     ensures { FitsSubmission submission.now }
@@ -85,6 +95,7 @@ fn submission_fits(submission: &Submission)
             commands_fit(commands.as_slice())
         }
         Submission::Subscription { action: _, names } => words_fit(names.as_slice()),
+        Submission::Ping { message } => message_fits(message),
     }
 }
 
@@ -120,6 +131,7 @@ fn kind_fits(kind: &EventKind)
         }
         EventKind::CredsEnd { source } => number_fits(*source),
         EventKind::Timeout { ms } => optional_large_number_fits(*ms),
+        EventKind::DropStream => {}
         EventKind::Shutdown => {}
     }
 }
@@ -162,12 +174,12 @@ pub fn history_fits(session: &Session)
     events_fit(session.events());
 }
 
-/// Whether what happened has a form in a script.
-fn has_form(kind: &EventKind) -> bool
-    ensures { MatchBool result (HasForm kind.now) (HasForm kind.now → ⊥) }
+/// Whether what happened has a form in a script of a session of this kind.
+fn has_form(session: SessionKind, kind: &EventKind) -> bool
+    ensures { MatchBool result (HasForm session kind.now) (HasForm session kind.now → ⊥) }
 {
     match kind {
-        EventKind::Submit { submission } => !submission.is_formless(),
+        EventKind::Submit { submission } => !submission.has_no_form(session),
         EventKind::Cancel { submission: _ } => true,
         EventKind::Connected { link: _ } => true,
         EventKind::Refused { link: _, fault: _ } => true,
@@ -181,18 +193,32 @@ fn has_form(kind: &EventKind) -> bool
         EventKind::CredsError { source: _, text: _ } => true,
         EventKind::CredsEnd { source: _ } => true,
         EventKind::Timeout { ms: _ } => true,
+        EventKind::DropStream => true,
         EventKind::Shutdown => true,
     }
 }
 
-/// Whether each event has a form in a script.
-pub fn have_forms(events: &[Event]) -> bool
-    ensures { MatchBool result (HaveForms events.now) (HaveForms events.now → ⊥) }
+/// Whether each event has a form in a script of a session of this kind.
+fn all_have_forms(session: SessionKind, events: &[Event]) -> bool
+    ensures { MatchBool result
+        (All (WithForm session) events.now) (All (WithForm session) events.now → ⊥) }
 {
     for event in events {
-        if !has_form(&event.kind) {
+        if !has_form(session, &event.kind) {
             return false;
         }
     }
     true
+}
+
+/// Whether a configuration has a line, and each event a form in a script of it.
+#[tactic(auto, using(crate::proofs::Forms::lineless, crate::proofs::Forms::all_formed))]
+pub fn have_forms(config: &Config, events: &[Event]) -> bool
+    ensures { MatchBool result
+        (HaveForms config.now events.now) (HaveForms config.now events.now → ⊥) }
+{
+    if !config.has_line() {
+        return false;
+    }
+    all_have_forms(config.kind, events)
 }

@@ -12,8 +12,8 @@ use std::alloc::{AllocError, Global};
 /// Why a history has no record.
 #[derive(Clone, Copy, Debug, PartialEq, Eq)]
 pub enum RecordError {
-    /// Its text passes a limit of scripts; or a submission of it is a list of exactly one command without a name, which
-    /// has no form there, and which no step takes.
+    /// Its text passes a limit of scripts; or a submission of it has no form there, as a list of exactly one command without
+    /// a name, which no step takes; or its configuration has no line, which no session is opened with.
     NoScript,
     /// Memory was refused.
     NoMemory,
@@ -41,7 +41,7 @@ fn checked(alloc: Global, text: Bytes, session: &Session) -> Result<Bytes, Recor
     ensures cause { IfErr result (IsCause session.now) }
 {
     history_fits(session);
-    if !have_forms(session.events()) {
+    if !have_forms(session.config(), session.events()) {
         return Err(RecordError::NoScript);
     }
     match read_script(alloc, text.as_slice()) {

@@ -1,7 +1,13 @@
 -- Where there are commands, and where no separator is read.
 use Rattle.std.proofs.Common.{◌≡◌, ℕ, Bool, true, false, List, [], ◌∷◌, length, ◌≤◌, Option, None, arith, option_map, refl, ap, ◌∙◌, bytes_eq, codes, if◌then◌else◌}
+use Rattle.driver_model.specs.declared.kind.SessionKind.{SessionKind}
 use Rattle.driver_model.specs.declared.event.EventKind.TheVariants.{Submit}
 use Rattle.script_text.specs.EventLine.{Forms, by_first, commands, submissions, others, events}
+
+-- no form reads any words
+pub no_form : {A : Type 0} (words : List (List ℕ)) (more : List (List (List ℕ))) → by_first {A = A} [] words more ≡ None
+no_form [] more = refl
+no_form (word ∷ words) more = refl
 
 -- where there is a word or a separator, there are commands
 pub some_commands : (first : List (List ℕ)) (more : List (List (List ℕ))) → (first ≡ [] → more ≡ [] → ⊥) → commands first more ≡ first ∷ more
@@ -28,11 +34,11 @@ refused (form ∷ forms) (name ∷ rest) words more each =
 others_refused : (first words : List (List ℕ)) (more : List (List (List ℕ))) → by_first others first (words ∷ more) ≡ None
 unfolding others
 others_refused first words more =
-    refused others first words more (λ _. refl, (λ _. refl, (λ _. refl, (λ _. refl, (λ _. refl, (λ _. refl, (λ _. refl, (λ _. refl, (λ _. refl, (λ _. refl, (λ _. refl, (λ _. refl, (λ _. refl, (λ _. refl, tt))))))))))))))
+    refused others first words more (λ _. refl, (λ _. refl, (λ _. refl, (λ _. refl, (λ _. refl, (λ _. refl, (λ _. refl, (λ _. refl, (λ _. refl, (λ _. refl, (λ _. refl, (λ _. refl, (λ _. refl, (λ _. refl, (λ _. refl, tt)))))))))))))))
 
 -- an event that is no submission has no separator
-pub event_refused : (name : List ℕ) (rest : List (List ℕ)) (more : List (List (List ℕ))) → bytes_eq name (codes "submit") ≡ false → 1 ≤ length more → by_first events (name ∷ rest) more ≡ None
-event_refused name rest [] other some = absurd (omega arith)
-event_refused name rest (words ∷ more) other some =
-    ap (λ b. if b then option_map Submit (by_first submissions rest (words ∷ more)) else by_first others (name ∷ rest) (words ∷ more)) other
+pub event_refused : (kind : SessionKind) (name : List ℕ) (rest : List (List ℕ)) (more : List (List (List ℕ))) → bytes_eq name (codes "submit") ≡ false → 1 ≤ length more → by_first (events kind) (name ∷ rest) more ≡ None
+event_refused kind name rest [] other some = absurd (omega arith)
+event_refused kind name rest (words ∷ more) other some =
+    ap (λ b. if b then option_map Submit (by_first (submissions kind) rest (words ∷ more)) else by_first others (name ∷ rest) (words ∷ more)) other
     ∙ others_refused (name ∷ rest) words more

@@ -7,6 +7,7 @@ use Rattle.std.proofs.lemmas.Bool.{both_ways}
 use Rattle.std.proofs.lemmas.Bool.Decides.{nat_tests}
 use Rattle.driver_model.specs.declared.config.Config.{Config}
 use Rattle.driver_model.specs.declared.event.Event.{Event}
+use Rattle.driver_model.specs.declared.kind.SessionKind.{SessionKind}
 use Rattle.script_text.specs.Words.{LineWords, parts, words_of_line}
 use Rattle.script_text.specs.EventLine.{event_of}
 use Rattle.script_text.specs.ConfigLine.{opening_of}
@@ -71,16 +72,17 @@ after_end : (number n : ℕ) (end : Bool) (o : Option Event) → (k : ℕ) × ((
 after_end number n true o = (number + 1, λ rest h. refl)
 after_end number n false o = after_event number n o
 
-after_line : (number n : ℕ) (o : Option LineWords) → (k : ℕ) × ((rest : Result (List Event) ℕ) → rest ≡ Err n → line_then number o false rest ≡ Err k)
-after_line number n None = (number, λ rest h. refl)
-after_line number n (Some words) = after_end number n (is_end words) (event_of words)
+after_line : (kind : SessionKind) (number n : ℕ) (o : Option LineWords) → (k : ℕ) × ((rest : Result (List Event) ℕ) → rest ≡ Err n → line_then kind number o false rest ≡ Err k)
+after_line kind number n None = (number, λ rest h. refl)
+after_line kind number n (Some words) = after_end number n (is_end words) (event_of kind words)
 
-after_config : (n : ℕ) (o : Option (Config × ℕ)) → (k : ℕ) × ((rest : Result (List Event) ℕ) → rest ≡ Err n → config_then o rest ≡ Err k)
-after_config n None = (1, λ rest h. refl)
-after_config n (Some opening) = (n, λ rest h. ap (result_map_both (λ events. record { config = opening.0; word = opening.1; events = events }) (λ k. k)) h)
+-- where the lines behind the first are at fault for each kind of session, the text is
+after_config : (fault : SessionKind → ℕ) (o : Option (Config × ℕ)) → (k : ℕ) × ((rest : SessionKind → Result (List Event) ℕ) → ((kind : SessionKind) → rest kind ≡ Err (fault kind)) → config_then o rest ≡ Err k)
+after_config fault None = (1, λ rest h. refl)
+after_config fault (Some opening) = (fault opening.0.kind, λ rest h. ap (result_map_both (λ events. record { config = opening.0; word = opening.1; events = events }) (λ k. k)) (h opening.0.kind))
 
-refused : (number room : ℕ) (line : List ℕ) (behind : List (List ℕ)) → line_at number room (line ∷ behind) ≡ None → events_from number room (line ∷ behind) ≡ Err number
-refused number room line behind h = ap (λ o. line_then number (option_and_then words_of_line o) (is_nothing behind) (events_from (number + 1) (room - (length line + 1)) behind)) h
+refused : (kind : SessionKind) (number room : ℕ) (line : List ℕ) (behind : List (List ℕ)) → line_at number room (line ∷ behind) ≡ None → events_from kind number room (line ∷ behind) ≡ Err number
+refused kind number room line behind h = ap (λ o. line_then kind number (option_and_then words_of_line o) (is_nothing behind) (events_from kind (number + 1) (room - (length line + 1)) behind)) h
 
 no_line : (number room : ℕ) (line : List ℕ) (behind : List (List ℕ)) → within number room line ≡ false → line_at number room (line ∷ behind) ≡ None
 no_line number room line [] h = refl
@@ -116,52 +118,57 @@ behind_late number room ps qs late some k = something ps qs k (λ e. late (subst
 
 -- the first of at least two parts
 module _ (number room : ℕ) (line next : List ℕ) (rest : List (List ℕ)) (late : Keeps number room (line ∷ next ∷ rest) → ⊥) where
-  abbrev Faulty : Type 0
-  Faulty = (n : ℕ) × ((qs : List (List ℕ)) → 0 < length qs → events_from number room (line ∷ glue (next ∷ rest) qs) ≡ Err n)
+  abbrev Faulty : SessionKind → Type 0
+  Faulty kind = (n : ℕ) × ((qs : List (List ℕ)) → 0 < length qs → events_from kind number room (line ∷ glue (next ∷ rest) qs) ≡ Err n)
 
-  within_late : within number room line ≡ true → (n : ℕ) × ((qs : List (List ℕ)) → 0 < length qs → events_from (number + 1) (room - (length line + 1)) (glue (next ∷ rest) qs) ≡ Err n) → Faulty
-  within_late here more =
-      let after = after_line number more.0 (words_of_line line) in (
+  -- the lines behind it are
+  abbrev FaultyBehind : SessionKind → Type 0
+  FaultyBehind kind = (n : ℕ) × ((qs : List (List ℕ)) → 0 < length qs → events_from kind (number + 1) (room - (length line + 1)) (glue (next ∷ rest) qs) ≡ Err n)
+
+  within_late : (kind : SessionKind) → within number room line ≡ true → FaultyBehind kind → Faulty kind
+  within_late kind here more =
+      let after = after_line kind number more.0 (words_of_line line) in (
         after.0,
         λ qs k.
             let behind = glue (next ∷ rest) qs in
-            let left = events_from (number + 1) (room - (length line + 1)) behind in
+            let left = events_from kind (number + 1) (room - (length line + 1)) behind in
             let nothing : is_nothing behind ≡ false = behind_late (number + 1) (room - (length line + 1)) (next ∷ rest) qs (rest_late number room line next rest here late) (omega arith) k in
-            ap (λ o. line_then number (option_and_then words_of_line o) (is_nothing behind) left) (a_line number room line behind (glued_more (next ∷ rest) qs (omega arith) k) here)
-            ∙ ap (λ b. line_then number (words_of_line line) b left) nothing ∙ after.1 left (more.1 qs k),
+            ap (λ o. line_then kind number (option_and_then words_of_line o) (is_nothing behind) left) (a_line number room line behind (glued_more (next ∷ rest) qs (omega arith) k) here)
+            ∙ ap (λ b. line_then kind number (words_of_line line) b left) nothing ∙ after.1 left (more.1 qs k),
       )
 
-  faulty : (here : Bool) → within number room line ≡ here → (within number room line ≡ true → (n : ℕ) × ((qs : List (List ℕ)) → 0 < length qs → events_from (number + 1) (room - (length line + 1)) (glue (next ∷ rest) qs) ≡ Err n)) → Faulty
-  faulty true here more = within_late here (more here)
-  faulty false here more = (number, λ qs k. refused number room line (glue (next ∷ rest) qs) (no_line number room line (glue (next ∷ rest) qs) here))
+  faulty : (kind : SessionKind) (here : Bool) → within number room line ≡ here → (within number room line ≡ true → FaultyBehind kind) → Faulty kind
+  faulty kind true here more = within_late kind here (more here)
+  faulty kind false here more = (number, λ qs k. refused kind number room line (glue (next ∷ rest) qs) (no_line number room line (glue (next ∷ rest) qs) here))
 
-  script_late : within number room line ≡ true → (n : ℕ) × ((qs : List (List ℕ)) → 0 < length qs → events_from (number + 1) (room - (length line + 1)) (glue (next ∷ rest) qs) ≡ Err n)
-      → (n : ℕ) × ((qs : List (List ℕ)) → 0 < length qs → config_then (option_and_then opening_of (option_and_then words_of_line (line_at number room (line ∷ glue (next ∷ rest) qs)))) (events_from (number + 1) (room - (length line + 1)) (glue (next ∷ rest) qs)) ≡ Err n)
+  script_late : within number room line ≡ true → ((kind : SessionKind) → FaultyBehind kind)
+      → (n : ℕ) × ((qs : List (List ℕ)) → 0 < length qs
+      → config_then (option_and_then opening_of (option_and_then words_of_line (line_at number room (line ∷ glue (next ∷ rest) qs)))) (λ kind. events_from kind (number + 1) (room - (length line + 1)) (glue (next ∷ rest) qs)) ≡ Err n)
   script_late here more =
-      let after = after_config more.0 (option_and_then opening_of (words_of_line line)) in (
+      let after = after_config (λ kind. (more kind).0) (option_and_then opening_of (words_of_line line)) in (
         after.0,
         λ qs k.
             let behind = glue (next ∷ rest) qs in
-            let left = events_from (number + 1) (room - (length line + 1)) behind in
+            let left = λ (kind : SessionKind). events_from kind (number + 1) (room - (length line + 1)) behind in
             ap (λ o. config_then (option_and_then opening_of (option_and_then words_of_line o)) left) (a_line number room line behind (glued_more (next ∷ rest) qs (omega arith) k) here)
-            ∙ after.1 left (more.1 qs k),
+            ∙ after.1 left (λ kind. (more kind).1 qs k),
       )
 
-late_events : (number room : ℕ) (ps : List (List ℕ)) → (Keeps number room ps → ⊥) → (n : ℕ) × ((qs : List (List ℕ)) → 0 < length qs → events_from number room (glue ps qs) ≡ Err n)
-late_events number room [] late = absurd (late (record { bytes = omega arith; lines = refl; count = omega arith }))
-late_events number room (last ∷ []) late = (number, λ qs k. last_fault qs k)
+late_events : (kind : SessionKind) (number room : ℕ) (ps : List (List ℕ)) → (Keeps number room ps → ⊥) → (n : ℕ) × ((qs : List (List ℕ)) → 0 < length qs → events_from kind number room (glue ps qs) ≡ Err n)
+late_events kind number room [] late = absurd (late (record { bytes = omega arith; lines = refl; count = omega arith }))
+late_events kind number room (last ∷ []) late = (number, λ qs k. last_fault qs k)
   where
-    last_fault : (qs : List (List ℕ)) → 0 < length qs → events_from number room (glue (last ∷ []) qs) ≡ Err number
+    last_fault : (qs : List (List ℕ)) → 0 < length qs → events_from kind number room (glue (last ∷ []) qs) ≡ Err number
     last_fault [] k = absurd (omega arith)
-    last_fault (q ∷ qs) k = refused number room (last ++ q) qs (last_late number room last late (q ∷ qs) k)
-late_events number room (line ∷ next ∷ rest) late =
-    faulty number room line next rest late (within number room line) refl (λ here. late_events (number + 1) (room - (length line + 1)) (next ∷ rest) (rest_late number room line next rest here late))
+    last_fault (q ∷ qs) k = refused kind number room (last ++ q) qs (last_late number room last late (q ∷ qs) k)
+late_events kind number room (line ∷ next ∷ rest) late =
+    faulty number room line next rest late kind (within number room line) refl (λ here. late_events kind (number + 1) (room - (length line + 1)) (next ∷ rest) (rest_late number room line next rest here late))
 
 abbrev Refused : List (List ℕ) → Type 0
 Refused ps = (n : ℕ) × ((qs : List (List ℕ)) → 0 < length qs → script_from (glue ps qs) ≡ Err n)
 
 first_refused : (line : List ℕ) (behind : List (List ℕ)) → line_at 1 max_text (line ∷ behind) ≡ None → script_from (line ∷ behind) ≡ Err 1
-first_refused line behind h = ap (λ o. config_then (option_and_then opening_of (option_and_then words_of_line o)) (events_from 2 (max_text - (length line + 1)) behind)) h
+first_refused line behind h = ap (λ o. config_then (option_and_then opening_of (option_and_then words_of_line o)) (λ kind. events_from kind 2 (max_text - (length line + 1)) behind)) h
 
 late_parts : (ps : List (List ℕ)) → (Keeps 1 max_text ps → ⊥) → Refused ps
 late_parts [] late = absurd (late (record { bytes = omega arith; lines = refl; count = omega arith }))
@@ -173,7 +180,7 @@ late_parts (last ∷ []) late = (1, λ qs k. last_fault qs k)
 late_parts (line ∷ next ∷ rest) late = by_first (within 1 max_text line) refl
   where
     by_first : (here : Bool) → within 1 max_text line ≡ here → Refused (line ∷ next ∷ rest)
-    by_first true here = script_late 1 max_text line next rest late here (late_events 2 (max_text - (length line + 1)) (next ∷ rest) (rest_late 1 max_text line next rest here late))
+    by_first true here = script_late 1 max_text line next rest late here (λ kind. late_events kind 2 (max_text - (length line + 1)) (next ∷ rest) (rest_late 1 max_text line next rest here late))
     by_first false here = (1, λ qs k. first_refused line (glue (next ∷ rest) qs) (no_line 1 max_text line (glue (next ∷ rest) qs) here))
 
 keeps_by : (text : List ℕ) → keeps_limits text ≡ false → Keeps 1 max_text (parts 10 text) → ⊥

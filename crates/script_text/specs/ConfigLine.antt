@@ -3,10 +3,12 @@ use Rattle.std.specs.Prelude.{ℕ, Bool, true, false, ◌&&◌, List, [], ◌∷
 use Rattle.std.specs.Option.{option_to_list}
 use Rattle.std.specs.List.{list_all, list_any}
 use Rattle.driver_model.specs.declared.config.Config.{Config}
+use Rattle.driver_model.specs.declared.kind.SessionKind.{SessionKind}
+use Rattle.driver_model.specs.declared.kind.SessionKind.TheVariants as kind
 use Rattle.script_text.specs.Words.{LineWords, cut_at}
 use Rattle.script_text.specs.Draws.{drawn}
 use Rattle.script_text.specs.Numbers.{number, max_u32, max_u64, time_limit, switch}
-use Rattle.script_text.specs.EventLine.{Forms, by_first, whole}
+use Rattle.script_text.specs.EventLine.{by_first, whole}
 
 -- the key is one of these
 abbrev pub has_key : List (List ℕ) → Option (List ℕ × List ℕ) → Bool
@@ -31,9 +33,19 @@ abbrev pub only : {A : Type 0} → List A → Option A
 only (a ∷ []) = Some a
 only _ = None
 
--- the keys of one connection
-abbrev pub keys : List (List ℕ)
-keys = codes "url" ∷ codes "connect" ∷ codes "response" ∷ codes "buffer" ∷ codes "limit" ∷ codes "boundary" ∷ codes "push" ∷ codes "creds" ∷ codes "lib" ∷ []
+-- the keys of one multiplexed connection
+abbrev pub connection_keys : List (List ℕ)
+connection_keys = codes "url" ∷ codes "connect" ∷ codes "response" ∷ codes "buffer" ∷ codes "limit" ∷ codes "boundary" ∷ codes "push" ∷ codes "creds" ∷ codes "lib" ∷ []
+
+-- the keys of a link of publish/subscribe or of monitor mode
+abbrev pub link_keys : List (List ℕ)
+link_keys = codes "url" ∷ codes "lib" ∷ []
+
+-- the keys of a session of this kind
+abbrev pub keys : SessionKind → List (List ℕ)
+keys kind.Single = connection_keys
+keys kind.PubSub = link_keys
+keys kind.Monitor = link_keys
 
 -- these values of a key are none, or one alone that can be read
 abbrev pub allows : {A : Type 0} → (List ℕ → Option A) → List (List ℕ) → Bool
@@ -73,9 +85,10 @@ allows_switches words = allows switch (values (codes "push") words) && allows_se
 abbrev pub are_allowed : List (List ℕ) → Bool
 are_allowed words = allows_optional words && allows_switches words
 
--- the configuration with this URL, and with what words give it beside that
-abbrev pub config_with : List (List ℕ) → List ℕ → Config
-config_with words url = record {
+-- the configuration of this kind with this URL, and with what words give it beside that
+abbrev pub config_with : SessionKind → List (List ℕ) → List ℕ → Config
+config_with kind words url = record {
+  kind = kind;
   url = url;
   connect = given time_limit (values (codes "connect") words);
   response = given time_limit (values (codes "response") words);
@@ -87,19 +100,28 @@ config_with words url = record {
   lib = given switch (values (codes "lib") words);
 }
 
--- one connection: each key once at most, in any order, and `url` there. What `url` says is any text
-abbrev pub single : List (List ℕ) → Option Config
-single words =
-    if list_all (is_setting keys) words && are_allowed words
-    then option_map (config_with words) (only (values (codes "url") words)) else None
+-- a session of this kind: each of its keys once at most, in any order, and `url` there. What `url` says is any text
+abbrev pub session : SessionKind → List (List ℕ) → Option Config
+session kind words =
+    if list_all (is_setting (keys kind)) words && are_allowed words
+    then option_map (config_with kind words) (only (values (codes "url") words)) else None
 
--- the kinds of sessions
-abbrev pub kinds : Forms Config
-kinds = (codes "single", whole single) ∷ []
+-- the kind of sessions with this name
+abbrev pub kind_named : List ℕ → Option SessionKind
+kind_named name =
+    if bytes_eq name (codes "single") then Some kind.Single
+    else if bytes_eq name (codes "pubsub") then Some kind.PubSub
+    else if bytes_eq name (codes "monitor") then Some kind.Monitor
+    else None
+
+-- the name of a kind, and what is given of a session of it
+abbrev pub named_session : List (List ℕ) → Option Config
+named_session [] = None
+named_session (name ∷ words) = option_and_then (λ kind. session kind words) (kind_named name)
 
 -- a configuration
 unfoldable pub config_of : LineWords → Option Config
-config_of line = by_first ((codes "config", by_first kinds) ∷ []) line.words line.more
+config_of line = by_first ((codes "config", whole named_session) ∷ []) line.words line.more
 
 -- a configuration, behind the word of its draws, and that word
 abbrev pub opening_of : LineWords → Option (Config × ℕ)

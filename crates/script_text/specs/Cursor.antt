@@ -2,6 +2,7 @@
 use Rattle.std.specs.Prelude.{◌≡◌, ℕ, ◌+◌, ◌-◌, ◌<◌, List, [], ◌∷◌, length, Option, Some, None, Result, Ok, Err}
 use Rattle.std.specs.Result.{result_map_both}
 use Rattle.driver_model.specs.declared.event.Event.{Event}
+use Rattle.driver_model.specs.declared.kind.SessionKind.{SessionKind}
 use Rattle.script_text.specs.declared.script.Cursor.{Cursor}
 use Rattle.script_text.specs.declared.script.ScriptError.{ScriptError}
 use Rattle.script_text.specs.declared.script.ScriptError.TheVariants.{Line, NoMemory}
@@ -20,9 +21,9 @@ line_left cursor = line_at cursor.number cursor.room (lines_left cursor)
 abbrev pub words_left : Cursor → Option LineWords
 words_left cursor = words_at cursor.number cursor.room (lines_left cursor)
 
--- the events that are left
-abbrev pub events_left : Cursor → Result (List Event) ℕ
-events_left cursor = events_from cursor.number cursor.room (lines_left cursor)
+-- the events of a session of this kind that are left
+abbrev pub events_left : SessionKind → Cursor → Result (List Event) ℕ
+events_left kind cursor = events_from kind cursor.number cursor.room (lines_left cursor)
 
 -- the cursor went behind this line
 pub record Passes (line : List ℕ) (old new : Cursor) : Type 0 where

@@ -1,10 +1,12 @@
 -- Which event the words of a line are.
 use Rattle.std.specs.Prelude.{ℕ, List, [], ◌∷◌, Option, Some, None, option_map, option_and_then, bytes_eq, codes, if◌then◌else◌}
+use Rattle.driver_model.specs.declared.kind.SessionKind.{SessionKind}
+use Rattle.driver_model.specs.declared.kind.SessionKind.TheVariants as kind
 use Rattle.driver_model.specs.declared.event.Event.{Event}
 use Rattle.driver_model.specs.declared.event.EventKind.{EventKind}
-use Rattle.driver_model.specs.declared.event.EventKind.TheVariants.{Submit, Cancel, Connected, Refused, Wrote, Bytes, Ended, ReadFault, WriteFault, Fired, Creds, CredsError, CredsEnd, Timeout, Shutdown}
+use Rattle.driver_model.specs.declared.event.EventKind.TheVariants.{Submit, Cancel, Connected, Refused, Wrote, Bytes, Ended, ReadFault, WriteFault, Fired, Creds, CredsError, CredsEnd, Timeout, DropStream, Shutdown}
 use Rattle.driver_model.specs.declared.event.Submission.{Submission}
-use Rattle.driver_model.specs.declared.event.Submission.TheVariants.{Cmd, NoReply, Pipe, Multi, Packed, Subscription}
+use Rattle.driver_model.specs.declared.event.Submission.TheVariants.{Cmd, NoReply, Pipe, Multi, Packed, Subscription, Ping}
 use Rattle.resp_write.specs.declared.subscription.SubscriptionAction.{SubscriptionAction}
 use Rattle.resp_write.specs.declared.subscription.SubscriptionAction.TheVariants as action
 use Rattle.redis_error.specs.declared.fault_kind.FaultKind.{FaultKind}
@@ -92,6 +94,12 @@ packed _ more = None
 abbrev pub call : SubscriptionAction → List (List ℕ) → Option Submission
 call what names = Some (Subscription what names)
 
+-- PING, with one message or with none
+abbrev pub pinged : List (List ℕ) → Option Submission
+pinged [] = Some (Ping None)
+pinged (message ∷ []) = Some (Ping (Some message))
+pinged _ = None
+
 -- the subscription calls of a connection
 unfoldable pub calls : Forms Submission
 calls =
@@ -101,15 +109,21 @@ calls =
     ∷ (codes "punsubscribe", whole (call action.PUnsubscribe))
     ∷ []
 
--- what is submitted
-abbrev pub submissions : Forms Submission
-submissions =
+-- the submissions of one multiplexed connection
+abbrev pub requests : Forms Submission
+requests =
     (codes "cmd", whole (λ args. Some (Cmd args)))
     ∷ (codes "noreply", whole (λ args. Some (NoReply args)))
     ∷ (codes "pipe", λ first more. Some (Pipe (commands first more)))
     ∷ (codes "multi", λ first more. Some (Multi (commands first more)))
     ∷ (codes "packed", packed)
     ∷ calls
+
+-- what is submitted to a session of this kind: nothing in monitor mode
+abbrev pub submissions : SessionKind → Forms Submission
+submissions kind.Single = requests
+submissions kind.PubSub = (codes "ping", whole pinged) ∷ calls
+submissions kind.Monitor = []
 
 -- what happens besides
 unfoldable pub others : Forms EventKind
@@ -127,17 +141,18 @@ others =
     ∷ (codes "creds-err", whole denied)
     ∷ (codes "creds-end", whole (numbered CredsEnd))
     ∷ (codes "timeout", whole timed)
+    ∷ (codes "drop-stream", whole (alone DropStream))
     ∷ (codes "shutdown", whole (alone Shutdown))
     ∷ []
 
--- what happens
-abbrev pub events : Forms EventKind
-events = (codes "submit", λ words more. option_map Submit (by_first submissions words more)) ∷ others
+-- what happens in a session of this kind
+abbrev pub events : SessionKind → Forms EventKind
+events kind = (codes "submit", λ words more. option_map Submit (by_first (submissions kind) words more)) ∷ others
 
 -- an event with this word
 abbrev pub drawing : ℕ → EventKind → Event
 drawing word kind = record { word = word; kind = kind }
 
--- an event, behind the word of its draws
-unfoldable pub event_of : LineWords → Option Event
-event_of line = option_and_then (λ d. option_map (drawing d.0) (by_first events d.1 line.more)) (drawn line.words)
+-- an event of a session of this kind, behind the word of its draws
+unfoldable pub event_of : SessionKind → LineWords → Option Event
+event_of kind line = option_and_then (λ d. option_map (drawing d.0) (by_first (events kind) d.1 line.more)) (drawn line.words)

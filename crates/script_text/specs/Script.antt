@@ -3,6 +3,7 @@ use Rattle.std.specs.Prelude.{ℕ, ◌+◌, ◌-◌, Bool, true, false, ◌&&◌
 use Rattle.std.specs.Result.{result_map_both}
 use Rattle.driver_model.specs.declared.config.Config.{Config}
 use Rattle.driver_model.specs.declared.event.Event.{Event}
+use Rattle.driver_model.specs.declared.kind.SessionKind.{SessionKind}
 use Rattle.script_text.specs.declared.script.Script.{Script}
 use Rattle.script_text.specs.Words.{LineWords, parts, words_of_line}
 use Rattle.script_text.specs.EventLine.{event_of}
@@ -51,28 +52,28 @@ abbrev pub event_then : ℕ → Option Event → Result (List Event) ℕ → Res
 event_then number None rest = Err number
 event_then number (Some event) rest = result_map_both (λ events. event ∷ events) (λ n. n) rest
 
--- a line with these words, or none: `end`, behind which no byte stands, or an event
-abbrev pub line_then : ℕ → Option LineWords → Bool → Result (List Event) ℕ → Result (List Event) ℕ
-line_then number None nothing_behind rest = Err number
-line_then number (Some words) nothing_behind rest =
-    if is_end words then (if nothing_behind then Ok [] else Err (number + 1)) else event_then number (event_of words) rest
+-- a line with these words, or none: `end`, behind which no byte stands, or an event of a session of this kind
+abbrev pub line_then : SessionKind → ℕ → Option LineWords → Bool → Result (List Event) ℕ → Result (List Event) ℕ
+line_then kind number None nothing_behind rest = Err number
+line_then kind number (Some words) nothing_behind rest =
+    if is_end words then (if nothing_behind then Ok [] else Err (number + 1)) else event_then number (event_of kind words) rest
 
 -- the events of the lines from this one on, or the first line at fault
-abbrev pub events_from : ℕ → ℕ → List (List ℕ) → Result (List Event) ℕ
-events_from number room [] = Err number
-events_from number room (line ∷ rest) =
-    line_then number (words_at number room (line ∷ rest)) (is_nothing rest) (events_from (number + 1) (room - (length line + 1)) rest)
+abbrev pub events_from : SessionKind → ℕ → ℕ → List (List ℕ) → Result (List Event) ℕ
+events_from kind number room [] = Err number
+events_from kind number room (line ∷ rest) =
+    line_then kind number (words_at number room (line ∷ rest)) (is_nothing rest) (events_from kind (number + 1) (room - (length line + 1)) rest)
 
--- a first line that is this configuration with this word, or none, before the events behind it
-abbrev pub config_then : Option (Config × ℕ) → Result (List Event) ℕ → Result Script ℕ
+-- a first line that is this configuration with this word, or none, before the events behind it, which are read as those of its kind
+abbrev pub config_then : Option (Config × ℕ) → (SessionKind → Result (List Event) ℕ) → Result Script ℕ
 config_then None rest = Err 1
-config_then (Some opening) rest = result_map_both (λ events. record { config = opening.0; word = opening.1; events = events }) (λ n. n) rest
+config_then (Some opening) rest = result_map_both (λ events. record { config = opening.0; word = opening.1; events = events }) (λ n. n) (rest opening.0.kind)
 
 -- the configuration in the first line, and the events behind it
 abbrev pub script_from : List (List ℕ) → Result Script ℕ
 script_from [] = Err 1
 script_from (first ∷ rest) =
-    config_then (option_and_then opening_of (words_at 1 max_text (first ∷ rest))) (events_from 2 (max_text - (length first + 1)) rest)
+    config_then (option_and_then opening_of (words_at 1 max_text (first ∷ rest))) (λ kind. events_from kind 2 (max_text - (length first + 1)) rest)
 
 -- the script that a text is, or the number of its first line at fault
 unfoldable pub script_of : List ℕ → Result Script ℕ

@@ -1,15 +1,15 @@
-ghost use Rattle.std.specs.Prelude.{◌≡◌, not, is_some, is_none, codes};
+ghost use Rattle.std.specs.Prelude.{◌≡◌, ◌∷◌, not, is_some, is_none, codes};
 ghost use Rattle.std.specs.List.{list_all};
 ghost use Rattle.script_text.specs.ConfigLine.{keys, is_setting, values, only};
 ghost use Rattle.script_text.specs.ConfigLine.{allows, allows_times, allows_queue};
 ghost use Rattle.script_text.specs.ConfigLine.{allows_numbers, allows_optional, allows_switches, are_allowed};
-ghost use Rattle.script_text.specs.ConfigLine.{allows_setup, single, config_of, opening_of};
+ghost use Rattle.script_text.specs.ConfigLine.{allows_setup, session, named_session, config_of, opening_of};
 ghost use Rattle.script_text.specs.Faults.{FindsFault, values_reason};
 ghost use Rattle.script_text.specs.Numbers.{number, max_u32, max_u64, time_limit, switch};
 
 use crate::config_line::{
     allows_large_number, allows_number, allows_switch, allows_time, has_value, is_known_setting,
-    only_value, value,
+    kind_named, only_value, value,
 };
 use crate::draw::{draw_fault, drawn, fault_behind};
 use crate::fault::Fault;
@@ -18,22 +18,29 @@ use crate::reason::{ConfigReason, LineReason, Reason};
 use crate::word::Word;
 use crate::words::cut;
 use containers::Seq;
+use driver_model::SessionKind;
 
-/// Before the settings stand the words `config single`.
+/// Before the settings stand the word `config` and that of the kind.
 const BEFORE: usize = 2;
 
-/// What is wrong with the first word that is no KEY=VALUE with a key that there is.
-fn setting_fault(words: &[Word<'_>]) -> Option<Fault>
-    ensures { is_some result ≡ not (list_all (is_setting keys) words.now) }
+/// Why a word is no KEY=VALUE with a key that a session of this kind has.
+fn setting_reason(kind: SessionKind, word: &[u8]) -> ConfigReason {
+    match (kind.is_single(), cut(word, b'=').is_some()) {
+        (true, false) => ConfigReason::Setting,
+        (true, true) => ConfigReason::UnknownKey,
+        (false, false) => ConfigReason::LinkSetting,
+        (false, true) => ConfigReason::UnknownLinkKey,
+    }
+}
+
+/// What is wrong with the first word that is no KEY=VALUE with a key that a session of this kind has.
+fn setting_fault(kind: SessionKind, words: &[Word<'_>]) -> Option<Fault>
+    ensures { is_some result ≡ not (list_all (is_setting (keys kind)) words.now) }
 {
     for (index, word) in words.iter().enumerate() {
-        if !is_known_setting(word.as_slice()) {
-            let reason = match cut(word.as_slice(), b'=') {
-                None => ConfigReason::Setting,
-                Some(_) => ConfigReason::UnknownKey,
-            };
+        if !is_known_setting(kind, word.as_slice()) {
             return Some(Fault {
-                reason: Reason::Config(reason),
+                reason: Reason::Config(setting_reason(kind, word.as_slice())),
                 part: index + BEFORE,
             });
         }
@@ -200,18 +207,35 @@ fn url_fault(words: &[Word<'_>]) -> Option<Fault>
     Some(values_fault(words, b"url", missing))
 }
 
-/// What is wrong with the settings of one connection.
+/// What is wrong with the settings of a session of this kind.
 #[tactic(auto, using(crate::proofs::Values::both_told, crate::proofs::Values::none_allowed))]
-fn single_fault(words: &[Word<'_>]) -> Option<Fault>
-    ensures { FindsFault result (single words.now) }
+fn session_fault(kind: SessionKind, words: &[Word<'_>]) -> Option<Fault>
+    ensures { FindsFault result (session kind words.now) }
 {
-    if let Some(fault) = setting_fault(words) {
+    if let Some(fault) = setting_fault(kind, words) {
         return Some(fault);
     }
     if let Some(fault) = allowed_fault(words) {
         return Some(fault);
     }
     url_fault(words)
+}
+
+/// What is wrong with the name of a kind and the settings of a session of it.
+fn named_fault(words: &[Word<'_>]) -> Option<Fault>
+    ensures { FindsFault result (named_session words.now) }
+{
+    let unknown = Fault {
+        reason: Reason::Config(ConfigReason::Kind),
+        part: 1,
+    };
+    let [name, settings @ ..] = words else {
+        return Some(unknown);
+    };
+    match kind_named(name.as_slice()) {
+        Some(kind) => session_fault(kind, settings),
+        None => Some(unknown),
+    }
 }
 
 /// What is wrong with words, and those behind separators, as a configuration.
@@ -229,18 +253,8 @@ fn config_fault(words: &[Word<'_>], more: &[Seq<Word<'_>>]) -> Option<Fault>
     if first.as_slice() != b"config".as_slice() {
         return Some(name);
     }
-    let kind = Fault {
-        reason: Reason::Config(ConfigReason::Kind),
-        part: 1,
-    };
-    let [second, settings @ ..] = rest else {
-        return Some(kind);
-    };
-    if second.as_slice() != b"single".as_slice() {
-        return Some(kind);
-    }
     match more {
-        [] => single_fault(settings),
+        [] => named_fault(rest),
         _ => Some(Fault {
             reason: Reason::Line(LineReason::Separator),
             part: words.len(),

@@ -1,9 +1,10 @@
-ghost use Rattle.std.specs.Prelude.{◌≡◌, ◌==◌, not, length, MatchOption, Some, None, IfOk};
-ghost use Rattle.std.specs.List.{list_all};
-ghost use Rattle.script_text.specs.ConfigLine.{keys, is_setting, value_of, values, only};
+ghost use Rattle.std.specs.Prelude.{◌≡◌, ◌==◌, not, length, bytes_eq, MatchOption, Some, None, IfOk};
+ghost use Rattle.std.specs.List.{list_all, list_any};
+ghost use Rattle.script_text.specs.ConfigLine.{connection_keys, link_keys, keys, is_setting};
+ghost use Rattle.script_text.specs.ConfigLine.{value_of, values, only};
 ghost use Rattle.script_text.specs.ConfigLine.{allows, given, allows_times, allows_queue};
 ghost use Rattle.script_text.specs.ConfigLine.{allows_numbers, allows_optional, allows_switches, are_allowed};
-ghost use Rattle.script_text.specs.ConfigLine.{allows_setup, config_with, single, config_of, opening_of};
+ghost use Rattle.script_text.specs.ConfigLine.{allows_setup, config_with, session, kind_named, config_of, opening_of};
 ghost use Rattle.script_text.specs.Numbers.{number, max_u32, max_u64, time_limit, switch};
 
 use crate::draw::drawn;
@@ -12,32 +13,57 @@ use crate::number::{number_u32, number_u64, switch, time_limit};
 use crate::word::Word;
 use crate::words::cut;
 use containers::{Bytes, Seq};
-use driver_model::Config;
+use driver_model::{Config, SessionKind};
 use std::alloc::{AllocError, Global};
 
-/// Whether a word is KEY=VALUE with a key that there is.
-pub fn is_known_setting(word: &[u8]) -> bool
-    ensures { result ≡ is_setting keys word.now }
+/// Whether this is a key of one multiplexed connection.
+fn is_connection_key(key: &[u8]) -> bool
+    ensures { result ≡ list_any (bytes_eq key.now) connection_keys }
 {
-    match cut(word, b'=') {
-        None => false,
-        Some((key, _)) => key == b"url".as_slice()
-            || key == b"connect".as_slice()
-            || key == b"response".as_slice()
-            || key == b"buffer".as_slice()
-            || key == b"limit".as_slice()
-            || key == b"boundary".as_slice()
-            || key == b"push".as_slice()
-            || key == b"creds".as_slice()
-            || key == b"lib".as_slice(),
+    key == b"url".as_slice()
+        || key == b"connect".as_slice()
+        || key == b"response".as_slice()
+        || key == b"buffer".as_slice()
+        || key == b"limit".as_slice()
+        || key == b"boundary".as_slice()
+        || key == b"push".as_slice()
+        || key == b"creds".as_slice()
+        || key == b"lib".as_slice()
+}
+
+/// Whether this is a key of a link of publish/subscribe or of monitor mode.
+fn is_link_key(key: &[u8]) -> bool
+    ensures { result ≡ list_any (bytes_eq key.now) link_keys }
+{
+    key == b"url".as_slice() || key == b"lib".as_slice()
+}
+
+/// Whether a session of this kind has this key.
+fn is_key(kind: SessionKind, key: &[u8]) -> bool
+    ensures { result ≡ list_any (bytes_eq key.now) (keys kind) }
+{
+    match kind {
+        SessionKind::Single => is_connection_key(key),
+        SessionKind::PubSub => is_link_key(key),
+        SessionKind::Monitor => is_link_key(key),
     }
 }
 
-fn are_settings(words: &[Word<'_>]) -> bool
-    ensures { result ≡ list_all (is_setting keys) words.now }
+/// Whether a word is KEY=VALUE with a key that a session of this kind has.
+pub fn is_known_setting(kind: SessionKind, word: &[u8]) -> bool
+    ensures { result ≡ is_setting (keys kind) word.now }
+{
+    match cut(word, b'=') {
+        None => false,
+        Some((key, _)) => is_key(kind, key),
+    }
+}
+
+fn are_settings(kind: SessionKind, words: &[Word<'_>]) -> bool
+    ensures { result ≡ list_all (is_setting (keys kind)) words.now }
 {
     for word in words {
-        if !is_known_setting(word.as_slice()) {
+        if !is_known_setting(kind, word.as_slice()) {
             return false;
         }
     }
@@ -205,11 +231,12 @@ fn are_allowed(words: &[Word<'_>]) -> bool
     allows_optional(words) && allows_switches(words)
 }
 
-/// The configuration with this URL, and with what words give it beside that.
-fn config_with(words: &[Word<'_>], url: Bytes) -> Config
-    ensures { result ≡ config_with words.now url }
+/// The configuration of this kind with this URL, and with what words give it beside that.
+fn config_with(kind: SessionKind, words: &[Word<'_>], url: Bytes) -> Config
+    ensures { result ≡ config_with kind words.now url }
 {
     Config {
+        kind,
         url,
         connect: time_of(words, b"connect"),
         response: time_of(words, b"response"),
@@ -222,18 +249,38 @@ fn config_with(words: &[Word<'_>], url: Bytes) -> Config
     }
 }
 
-/// One connection.
-fn read_single(alloc: Global, words: &[Word<'_>]) -> Result<Option<Config>, AllocError>
-    ensures { IfOk result (λ c. c ≡ single words.now) }
+/// A session of this kind.
+fn read_session(
+    alloc: Global,
+    kind: SessionKind,
+    words: &[Word<'_>],
+) -> Result<Option<Config>, AllocError>
+    ensures { IfOk result (λ c. c ≡ session kind words.now) }
 {
-    if !are_settings(words) || !are_allowed(words) {
+    if !are_settings(kind, words) || !are_allowed(words) {
         return Ok(None);
     }
     let Some(url) = only_value(words, b"url") else {
         return Ok(None);
     };
     let url = Bytes::from_slice(alloc, url)?;
-    Ok(Some(config_with(words, url)))
+    Ok(Some(config_with(kind, words, url)))
+}
+
+/// What a session is that has this name.
+pub fn kind_named(name: &[u8]) -> Option<SessionKind>
+    ensures { result ≡ kind_named name.now }
+{
+    if name == b"single".as_slice() {
+        return Some(SessionKind::Single);
+    }
+    if name == b"pubsub".as_slice() {
+        return Some(SessionKind::PubSub);
+    }
+    if name == b"monitor".as_slice() {
+        return Some(SessionKind::Monitor);
+    }
+    None
 }
 
 /// The configuration that words are, and those behind separators.
@@ -248,10 +295,13 @@ pub fn config(
     let ([name, kind, settings @ ..], []) = (words, more) else {
         return Ok(None);
     };
-    if name.as_slice() != b"config".as_slice() || kind.as_slice() != b"single".as_slice() {
+    if name.as_slice() != b"config".as_slice() {
         return Ok(None);
     }
-    read_single(alloc, settings)
+    match kind_named(kind.as_slice()) {
+        Some(kind) => read_session(alloc, kind, settings),
+        None => Ok(None),
+    }
 }
 
 /// The configuration that the words of a line are, and the word of its draws.

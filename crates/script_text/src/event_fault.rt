@@ -3,7 +3,8 @@ ghost use Rattle.std.specs.Prelude.{MatchOption, MatchResult, Some, None};
 ghost use Rattle.driver_model.specs.declared.event.EventKind.{EventKind};
 ghost use Rattle.redis_error.specs.declared.fault_kind.FaultKind.{FaultKind};
 ghost use Rattle.script_text.specs.EventLine.{by_first, numbered, wrote, came, failed, timed, alone};
-ghost use Rattle.script_text.specs.EventLine.{faults, fault_among, packed, calls, submissions, others};
+ghost use Rattle.script_text.specs.EventLine.{faults, fault_among, packed, pinged, calls, requests};
+ghost use Rattle.script_text.specs.EventLine.{submissions, others};
 ghost use Rattle.script_text.specs.EventLine.{authorized, denied, events, event_of};
 ghost use Rattle.script_text.specs.Faults.{FindsFault, at};
 
@@ -15,6 +16,7 @@ use crate::number::time_limit;
 use crate::reason::{EventReason, Form, LineReason, Reason};
 use crate::word::Word;
 use containers::Seq;
+use driver_model::SessionKind;
 use redis_error::FaultKind;
 
 /// The kind of a fault that a part is, or its own fault.
@@ -122,12 +124,13 @@ fn timeout_fault(words: &[Word<'_>]) -> Option<Fault>
     })
 }
 
-fn shutdown_fault(words: &[Word<'_>]) -> Option<Fault>
+/// What is wrong with an event that stands alone.
+fn alone_fault(words: &[Word<'_>], form: Form) -> Option<Fault>
     ensures { (kind : EventKind) → FindsFault result (alone kind words.now) }
 {
     match words {
         [] => None,
-        _ => form_fault(Form::Shutdown, 1),
+        _ => form_fault(form, 1),
     }
 }
 
@@ -158,9 +161,16 @@ fn separator_fault(more: &[Seq<Word<'_>>], part: usize) -> Option<Fault>
     }
 }
 
-/// What is wrong with a subscription call, by its name and what is behind it in `part` parts.
+/// What is wrong with a subscription call, by its name and what is behind it in `part` parts. Another name is told by the
+/// reason.
 #[tactic(auto, unfolding(crate::specs::EventLine::calls))]
-fn call_fault(name: &[u8], words: &[Word<'_>], more: &[Seq<Word<'_>>], part: usize) -> Option<Fault>
+fn call_fault(
+    name: &[u8],
+    words: &[Word<'_>],
+    more: &[Seq<Word<'_>>],
+    part: usize,
+    other: EventReason,
+) -> Option<Fault>
     ensures { FindsFault result (by_first calls (name.now ∷ words.now) more.now) }
 {
     if name == b"subscribe".as_slice() || name == b"unsubscribe".as_slice() {
@@ -169,20 +179,25 @@ fn call_fault(name: &[u8], words: &[Word<'_>], more: &[Seq<Word<'_>>], part: usi
     if name == b"psubscribe".as_slice() || name == b"punsubscribe".as_slice() {
         return separator_fault(more, part);
     }
+    name_fault(other)
+}
+
+/// The word behind `submit` is none.
+fn name_fault(reason: EventReason) -> Option<Fault>
+    ensures { is_some result ≡ true }
+{
     Some(Fault {
-        reason: Reason::Event(EventReason::Submission),
+        reason: Reason::Event(reason),
         part: 1,
     })
 }
 
-fn submission_fault(words: &[Word<'_>], more: &[Seq<Word<'_>>]) -> Option<Fault>
-    ensures { FindsFault result (by_first submissions words.now more.now) }
+/// What is wrong with what is submitted to one multiplexed connection.
+fn request_fault(words: &[Word<'_>], more: &[Seq<Word<'_>>]) -> Option<Fault>
+    ensures { FindsFault result (by_first requests words.now more.now) }
 {
     let [name, args @ ..] = words else {
-        return Some(Fault {
-            reason: Reason::Event(EventReason::Submission),
-            part: 1,
-        });
+        return name_fault(EventReason::Submission);
     };
     let name = name.as_slice();
     if name == b"cmd".as_slice() || name == b"noreply".as_slice() {
@@ -194,7 +209,51 @@ fn submission_fault(words: &[Word<'_>], more: &[Seq<Word<'_>>]) -> Option<Fault>
     if name == b"packed".as_slice() {
         return packed_fault(args);
     }
-    call_fault(name, args, more, words.len() + 1)
+    call_fault(name, args, more, words.len() + 1, EventReason::Submission)
+}
+
+fn ping_fault(words: &[Word<'_>]) -> Option<Fault>
+    ensures { FindsFault result (pinged words.now) }
+{
+    match words {
+        [] => None,
+        [_] => None,
+        _ => form_fault(Form::Ping, 3),
+    }
+}
+
+/// What is wrong with what is submitted to a link of publish/subscribe.
+fn link_submission_fault(words: &[Word<'_>], more: &[Seq<Word<'_>>]) -> Option<Fault>
+    ensures { FindsFault result (by_first (submissions SessionKind.PubSub) words.now more.now) }
+{
+    let [name, args @ ..] = words else {
+        return name_fault(EventReason::LinkSubmission);
+    };
+    let name = name.as_slice();
+    let part = words.len() + 1;
+    if name != b"ping".as_slice() {
+        return call_fault(name, args, more, part, EventReason::LinkSubmission);
+    }
+    match more {
+        [] => ping_fault(args),
+        _ => separator_fault(more, part),
+    }
+}
+
+/// What is wrong with what is submitted to a session of this kind.
+#[tactic(auto, using(crate::proofs::Faults::nothing_submitted))]
+fn submission_fault(
+    kind: SessionKind,
+    words: &[Word<'_>],
+    more: &[Seq<Word<'_>>],
+) -> Option<Fault>
+    ensures { FindsFault result (by_first (submissions kind) words.now more.now) }
+{
+    match kind {
+        SessionKind::Single => request_fault(words, more),
+        SessionKind::PubSub => link_submission_fault(words, more),
+        SessionKind::Monitor => name_fault(EventReason::NoSubmission),
+    }
 }
 
 /// What is wrong with an event besides submissions, by the name and the words behind it.
@@ -241,8 +300,11 @@ fn other_fault(name: &[u8], words: &[Word<'_>]) -> Option<Fault>
     if name == b"timeout".as_slice() {
         return timeout_fault(words);
     }
+    if name == b"drop-stream".as_slice() {
+        return alone_fault(words, Form::DropStream);
+    }
     if name == b"shutdown".as_slice() {
-        return shutdown_fault(words);
+        return alone_fault(words, Form::Shutdown);
     }
     Some(Fault {
         reason: Reason::Event(EventReason::Name),
@@ -250,13 +312,18 @@ fn other_fault(name: &[u8], words: &[Word<'_>]) -> Option<Fault>
     })
 }
 
-/// What is wrong with an event, by its first word, the words behind it and those behind separators.
+/// What is wrong with an event of a session of this kind, by its first word, the words behind it and those behind separators.
 #[tactic(auto, using(crate::proofs::Faults::finds_submit, crate::proofs::Faults::finds_other, crate::proofs::Faults::finds_separator))]
-fn named_fault(name: &[u8], words: &[Word<'_>], more: &[Seq<Word<'_>>]) -> Option<Fault>
-    ensures { FindsFault result (by_first events (name.now ∷ words.now) more.now) }
+fn named_fault(
+    kind: SessionKind,
+    name: &[u8],
+    words: &[Word<'_>],
+    more: &[Seq<Word<'_>>],
+) -> Option<Fault>
+    ensures { FindsFault result (by_first (events kind) (name.now ∷ words.now) more.now) }
 {
     if name == b"submit".as_slice() {
-        return submission_fault(words, more);
+        return submission_fault(kind, words, more);
     }
     match more {
         [] => other_fault(name, words),
@@ -264,12 +331,16 @@ fn named_fault(name: &[u8], words: &[Word<'_>], more: &[Seq<Word<'_>>]) -> Optio
     }
 }
 
-/// What is wrong with words, and those behind separators, as what happens.
-fn happening_fault(words: &[Word<'_>], more: &[Seq<Word<'_>>]) -> Option<Fault>
-    ensures { FindsFault result (by_first events words.now more.now) }
+/// What is wrong with words, and those behind separators, as what happens in a session of this kind.
+fn happening_fault(
+    kind: SessionKind,
+    words: &[Word<'_>],
+    more: &[Seq<Word<'_>>],
+) -> Option<Fault>
+    ensures { FindsFault result (by_first (events kind) words.now more.now) }
 {
     match words {
-        [name, words @ ..] => named_fault(name.as_slice(), words, more),
+        [name, words @ ..] => named_fault(kind, name.as_slice(), words, more),
         [] => Some(Fault {
             reason: Reason::Event(EventReason::Name),
             part: 0,
@@ -277,16 +348,16 @@ fn happening_fault(words: &[Word<'_>], more: &[Seq<Word<'_>>]) -> Option<Fault>
     }
 }
 
-/// What is wrong with the words of a line as an event behind the word of its draws.
+/// What is wrong with the words of a line as an event of a session of this kind behind the word of its draws.
 #[tactic(auto, unfolding(crate::specs::EventLine::event_of))]
-pub fn event_fault(line: &Line<'_>) -> Option<Fault>
-    ensures { FindsFault result (event_of line.now) }
+pub fn event_fault(kind: SessionKind, line: &Line<'_>) -> Option<Fault>
+    ensures { FindsFault result (event_of kind line.now) }
 {
     let Some((_, before)) = drawn(line.words()) else {
         return draw_fault();
     };
     fault_behind(
-        happening_fault(&line.words()[before..], line.more()),
+        happening_fault(kind, &line.words()[before..], line.more()),
         before,
     )
 }

@@ -1,14 +1,14 @@
 ghost use Rattle.std.specs.Prelude.{◌≡◌, ◌≤◌, ◌∷◌, [], ℕ, List, drop, length, option_map, MatchOption, IfOk, IfSome, Some, None};
 ghost use Rattle.driver_model.specs.declared.event.EventKind.TheVariants.{Submit, Cancel, Connected};
-ghost use Rattle.driver_model.specs.declared.event.EventKind.TheVariants.{Ended, CredsEnd, Shutdown};
+ghost use Rattle.driver_model.specs.declared.event.EventKind.TheVariants.{Ended, CredsEnd, DropStream, Shutdown};
 ghost use Rattle.driver_model.specs.declared.event.EventKind.TheVariants.{Refused, ReadFault, WriteFault, Fired};
 ghost use Rattle.driver_model.specs.declared.event.EventKind.{EventKind};
 ghost use Rattle.redis_error.specs.declared.fault_kind.FaultKind.{FaultKind};
 ghost use Rattle.driver_model.specs.declared.event.Submission.TheVariants.{Cmd, NoReply, Packed};
 ghost use Rattle.script_text.specs.EventLine.{by_first, whole, numbered, wrote, came, alone, faults};
 ghost use Rattle.script_text.specs.EventLine.{authorized, denied, timed, call, calls};
-ghost use Rattle.script_text.specs.EventLine.{fault_among, failed, commands, packed, submissions};
-ghost use Rattle.script_text.specs.EventLine.{others, events, event_of};
+ghost use Rattle.script_text.specs.EventLine.{fault_among, failed, commands, packed, pinged};
+ghost use Rattle.script_text.specs.EventLine.{requests, submissions, others, events, event_of};
 
 use crate::draw::drawn;
 use crate::line::Line;
@@ -16,7 +16,7 @@ use crate::number::{number_u32, number_u64, time_limit};
 use crate::word::{Word, take_all};
 use containers::{Names, Seq};
 use credentials::BasicAuth;
-use driver_model::{Commands, Event, EventKind, Submission};
+use driver_model::{Commands, Event, EventKind, SessionKind, Submission};
 use redis_error::FaultKind;
 use resp_write::SubscriptionAction;
 use std::alloc::{AllocError, Global};
@@ -286,12 +286,13 @@ fn call(
     Ok(None)
 }
 
-fn submission(
+/// What is submitted to one multiplexed connection.
+fn request(
     alloc: Global,
     words: &mut [Word<'_>],
     more: Vec<Seq<Word<'_>>>,
 ) -> Result<Option<Submission>, AllocError>
-    ensures { IfOk result (λ s. s ≡ by_first submissions words.old more.entry.items) }
+    ensures { IfOk result (λ s. s ≡ by_first requests words.old more.entry.items) }
 {
     let Some((name, words)) = words.split_first_mut() else {
         return Ok(None);
@@ -317,15 +318,70 @@ fn submission(
     call(alloc, name, words, more.as_slice())
 }
 
+/// PING, with the message that the words are, if they are one.
+fn ping(alloc: Global, words: &mut [Word<'_>]) -> Result<Option<Submission>, AllocError>
+    ensures { IfOk result (λ s. s ≡ pinged words.old) }
+{
+    match words {
+        [] => Ok(Some(Submission::Ping { message: None })),
+        [message] => {
+            let message = message.take(alloc)?;
+            Ok(Some(Submission::Ping {
+                message: Some(message),
+            }))
+        }
+        _ => Ok(None),
+    }
+}
+
+/// What is submitted to a link of publish/subscribe.
+fn link_submission(
+    alloc: Global,
+    words: &mut [Word<'_>],
+    more: &[Seq<Word<'_>>],
+) -> Result<Option<Submission>, AllocError>
+    ensures { IfOk result (λ s. s ≡ by_first (submissions SessionKind.PubSub) words.old more.now) }
+{
+    let Some((name, words)) = words.split_first_mut() else {
+        return Ok(None);
+    };
+    let name = name.as_slice();
+    if name != b"ping".as_slice() {
+        return call(alloc, name, words, more);
+    }
+    match more {
+        [] => ping(alloc, words),
+        _ => Ok(None),
+    }
+}
+
+/// What is submitted to a session of this kind.
+#[tactic(auto, using(crate::proofs::Forms::no_form))]
+fn submission(
+    alloc: Global,
+    kind: SessionKind,
+    words: &mut [Word<'_>],
+    more: Vec<Seq<Word<'_>>>,
+) -> Result<Option<Submission>, AllocError>
+    ensures { IfOk result (λ s. s ≡ by_first (submissions kind) words.old more.entry.items) }
+{
+    match kind {
+        SessionKind::Single => request(alloc, words, more),
+        SessionKind::PubSub => link_submission(alloc, words, more.as_slice()),
+        SessionKind::Monitor => Ok(None),
+    }
+}
+
 fn submit(
     alloc: Global,
+    kind: SessionKind,
     words: &mut [Word<'_>],
     more: Vec<Seq<Word<'_>>>,
 ) -> Result<Option<EventKind>, AllocError>
     ensures { IfOk result (λ k.
-        k ≡ option_map Submit (by_first submissions words.old more.entry.items)) }
+        k ≡ option_map Submit (by_first (submissions kind) words.old more.entry.items)) }
 {
-    match submission(alloc, words, more)? {
+    match submission(alloc, kind, words, more)? {
         Some(submission) => Ok(Some(EventKind::Submit { submission })),
         None => Ok(None),
     }
@@ -379,6 +435,15 @@ fn timeout(words: &[Word<'_>]) -> Option<EventKind>
     };
     let ms = time_limit(value.as_slice())?;
     Some(EventKind::Timeout { ms })
+}
+
+fn drop_stream(words: &[Word<'_>]) -> Option<EventKind>
+    ensures { result ≡ alone DropStream words.now }
+{
+    match words {
+        [] => Some(EventKind::DropStream),
+        _ => None,
+    }
 }
 
 fn shutdown(words: &[Word<'_>]) -> Option<EventKind>
@@ -438,25 +503,30 @@ fn other(
     if name == b"timeout".as_slice() {
         return Ok(timeout(words));
     }
+    if name == b"drop-stream".as_slice() {
+        return Ok(drop_stream(words));
+    }
     if name == b"shutdown".as_slice() {
         return Ok(shutdown(words));
     }
     Ok(None)
 }
 
-fn kind(
+/// What happens in a session of this kind.
+fn happening(
     alloc: Global,
+    kind: SessionKind,
     words: &mut [Word<'_>],
     more: Vec<Seq<Word<'_>>>,
 ) -> Result<Option<EventKind>, AllocError>
-    ensures { IfOk result (λ k. k ≡ by_first events words.old more.entry.items) }
+    ensures { IfOk result (λ k. k ≡ by_first (events kind) words.old more.entry.items) }
 {
     let Some((name, words)) = words.split_first_mut() else {
         return Ok(None);
     };
     let name = name.as_slice();
     if name == b"submit".as_slice() {
-        return submit(alloc, words, more);
+        return submit(alloc, kind, words, more);
     }
     if !more.is_empty() {
         return Ok(None);
@@ -464,18 +534,26 @@ fn kind(
     other(alloc, name, words)
 }
 
-/// The event that the words of a line are. What it keeps is taken out of the line, which is then only read anew.
+/// The event of a session of this kind that the words of a line are. What it keeps is taken out of the line, which is then
+/// only read anew.
 #[tactic(auto, unfolding(crate::specs::EventLine::event_of))]
-pub fn event(alloc: Global, line: &mut Line<'_>) -> Result<Option<Event>, AllocError>
-    ensures { IfOk result (λ e. e ≡ event_of line.old) }
+pub fn event(
+    alloc: Global,
+    kind: SessionKind,
+    line: &mut Line<'_>,
+) -> Result<Option<Event>, AllocError>
+    ensures { IfOk result (λ e. e ≡ event_of kind line.old) }
 {
     let Some((word, before)) = drawn(line.words()) else {
         return Ok(None);
     };
     let more = line.take_more(alloc);
     let words = line.words_mut();
-    match kind(alloc, &mut words[before..], more)? {
-        Some(kind) => Ok(Some(Event { word, kind })),
+    match happening(alloc, kind, &mut words[before..], more)? {
+        Some(happened) => Ok(Some(Event {
+            word,
+            kind: happened,
+        })),
         None => Ok(None),
     }
 }

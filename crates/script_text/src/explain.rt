@@ -7,6 +7,7 @@ ghost use Rattle.script_text.specs.Pieces.{piece_of};
 ghost use Rattle.script_text.specs.Words.{words_of_line};
 
 use crate::config_fault::opening_fault;
+use crate::config_line::opening;
 use crate::event_fault::event_fault;
 use crate::fault::Fault;
 use crate::line::Line;
@@ -14,6 +15,7 @@ use crate::reason::{LineReason, Reason, TextReason};
 use crate::script::{MAX_LINE, MAX_LINES, MAX_TEXT, is_end_line};
 use crate::words::{cut, is_escaped_well};
 use containers::Bytes;
+use driver_model::SessionKind;
 use percent_encoding::percent_encode_byte;
 use std::alloc::{AllocError, Global};
 
@@ -79,14 +81,18 @@ fn first_line_fault(alloc: Global, line: &[u8]) -> Result<Option<Fault>, AllocEr
     Ok(Some(part_fault(line)))
 }
 
-/// What is wrong with a line that is to be an event.
-fn later_line_fault(alloc: Global, line: &[u8]) -> Result<Option<Fault>, AllocError>
+/// What is wrong with a line that is to be an event of a session of this kind.
+fn later_line_fault(
+    alloc: Global,
+    kind: SessionKind,
+    line: &[u8],
+) -> Result<Option<Fault>, AllocError>
     ensures { IfOk result (λ fault.
-        FindsFault fault (option_and_then event_of (words_of_line line.now))) }
+        FindsFault fault (option_and_then (event_of kind) (words_of_line line.now))) }
 {
     let mut words = Line::new(alloc);
     if words.read(alloc, line)? {
-        return Ok(event_fault(&words));
+        return Ok(event_fault(kind, &words));
     }
     Ok(Some(part_fault(line)))
 }
@@ -179,20 +185,46 @@ fn place_reason(
     }
 }
 
+/// The kind of the session that a text is of, by its first line; of a text whose first line is none, one connection.
+fn kind_of(alloc: Global, text: &[u8]) -> Result<SessionKind, AllocError> {
+    let mut words = Line::new(alloc);
+    if !words.read(alloc, place_of(text, 1).line)? {
+        return Ok(SessionKind::Single);
+    }
+    match opening(alloc, &words)? {
+        Some((config, _)) => Ok(config.kind),
+        None => Ok(SessionKind::Single),
+    }
+}
+
+/// What is wrong with the words of a line of a text.
+fn words_fault(
+    alloc: Global,
+    text: &[u8],
+    line: &[u8],
+    number: u32,
+) -> Result<Option<Fault>, AllocError> {
+    if number == 1 {
+        return first_line_fault(alloc, line);
+    }
+    let kind = kind_of(alloc, text)?;
+    later_line_fault(alloc, kind, line)
+}
+
 /// What is wrong with a line of a text.
-fn line_fault(alloc: Global, place: Place<'_>, number: u32) -> Result<Fault, AllocError> {
+fn line_fault(
+    alloc: Global,
+    text: &[u8],
+    place: Place<'_>,
+    number: u32,
+) -> Result<Fault, AllocError> {
     if let Some(reason) = place_reason(alloc, place, number)? {
         return Ok(Fault {
             reason: Reason::Text(reason),
             part: usize::MAX,
         });
     }
-    let found = if number == 1 {
-        first_line_fault(alloc, place.line)?
-    } else {
-        later_line_fault(alloc, place.line)?
-    };
-    match found {
+    match words_fault(alloc, text, place.line, number)? {
         Some(fault) => Ok(or_return(place.line, fault)),
         None => Ok(Fault {
             reason: Reason::Sound,
@@ -260,7 +292,7 @@ pub fn explain_line(alloc: Global, text: &[u8], number: u32) -> Result<Bytes, Al
     ensures { IfOk result IsVisible }
 {
     let place = place_of(text, number);
-    let fault = line_fault(alloc, place, number)?;
+    let fault = line_fault(alloc, text, place, number)?;
     let mut said = Bytes::new(alloc);
     push_tail(&mut said, front(place.line, fault.part))?;
     if !said.is_empty() {

@@ -50,6 +50,9 @@ pub enum ConfigReason {
     /// A word that isn't KEY=VALUE.
     Setting,
     UnknownKey,
+    /// These of a link of publish/subscribe or of monitor mode.
+    LinkSetting,
+    UnknownLinkKey,
     KeyTwice,
     NoKey,
     /// How long the connect may take: neither a number nor `none`.
@@ -77,6 +80,10 @@ pub enum EventReason {
     Name,
     /// The second word of `submit`.
     Submission,
+    /// This, of a link of publish/subscribe.
+    LinkSubmission,
+    /// Something is submitted to a link of monitor mode.
+    NoSubmission,
     /// No number of 32 bits.
     Number,
     /// No number of 64 bits.
@@ -103,8 +110,10 @@ pub enum Form {
     CredsError,
     CredsEnd,
     Timeout,
+    DropStream,
     Shutdown,
     Packed,
+    Ping,
 }
 
 impl Reason {
@@ -157,15 +166,17 @@ impl ConfigReason {
     fn sentence(self) -> &'static [u8] {
         match self {
             ConfigReason::Name => {
-                b"the first line is config single url=URL, with connect=MS, response=MS (MS or none), buffer=COUNT, limit=COUNT, boundary=BYTES, push=on or push=off, creds=on or creds=off, and lib=on or lib=off where wanted"
+                b"the first line is config single url=URL, with connect=MS, response=MS (MS or none), buffer=COUNT, limit=COUNT, boundary=BYTES, push=on or push=off, creds=on or creds=off, and lib=on or lib=off where wanted; or config pubsub url=URL or config monitor url=URL, with lib=on or lib=off where wanted"
             }
-            ConfigReason::Kind => b"only single is supported yet",
+            ConfigReason::Kind => b"only single, pubsub and monitor are supported yet",
             ConfigReason::Setting => {
                 b"a setting is KEY=VALUE, with url, connect, response, buffer, limit, boundary, push, creds or lib"
             }
             ConfigReason::UnknownKey => {
                 b"the keys are url, connect, response, buffer, limit, boundary, push, creds and lib"
             }
+            ConfigReason::LinkSetting => b"a setting is KEY=VALUE, with url or lib",
+            ConfigReason::UnknownLinkKey => b"the keys of this kind are url and lib",
             ConfigReason::KeyTwice => b"each key stands once",
             ConfigReason::NoKey => b"url stands once",
             ConfigReason::Connect => {
@@ -194,11 +205,15 @@ impl EventReason {
     fn sentence(self) -> &'static [u8] {
         match self {
             EventReason::Name => {
-                b"an event is submit, cancel, connected, refused, wrote, bytes, ended, read-fault, write-fault, fired, creds, creds-err, creds-end, timeout or shutdown, and the last line is end"
+                b"an event is submit, cancel, connected, refused, wrote, bytes, ended, read-fault, write-fault, fired, creds, creds-err, creds-end, timeout, drop-stream or shutdown, and the last line is end"
             }
             EventReason::Submission => {
                 b"submit takes cmd, noreply, pipe, multi, packed, subscribe, unsubscribe, psubscribe or punsubscribe"
             }
+            EventReason::LinkSubmission => {
+                b"submit takes subscribe, unsubscribe, psubscribe, punsubscribe or ping where the session is pubsub"
+            }
+            EventReason::NoSubmission => b"nothing is submitted where the session is monitor",
             EventReason::Number => {
                 b"a number has digits alone, no leading zero, and is at most 4294967295"
             }
@@ -231,8 +246,10 @@ impl Form {
             Form::CredsError => b"this event is creds-err SOURCE TEXT",
             Form::CredsEnd => b"this event is creds-end SOURCE",
             Form::Timeout => b"this event is timeout MS or timeout none",
+            Form::DropStream => b"this event is drop-stream alone",
             Form::Shutdown => b"this event is shutdown alone",
             Form::Packed => b"this event is submit packed OFFSET COUNT ARG..",
+            Form::Ping => b"this event is submit ping or submit ping MESSAGE",
         }
     }
 }

@@ -8,7 +8,7 @@ use crate::event_line::event;
 use crate::line::Line;
 use crate::words::cut;
 use containers::Seq;
-use driver_model::{Config, Event};
+use driver_model::{Config, Event, SessionKind};
 use std::alloc::{AllocError, Global};
 
 /// The most lines that a script has.
@@ -102,17 +102,18 @@ pub fn is_end_line(words: &Line<'_>) -> bool
     }
 }
 
-/// The event that the next line is, or none where it is the last line.
+/// The event of a session of this kind that the next line is, or none where it is the last line.
 #[tactic(auto, using(crate::proofs::Lines::nothing_left))]
 fn next_event<'a>(
     alloc: Global,
+    kind: SessionKind,
     cursor: &mut Cursor<'a>,
     words: &mut Line<'a>,
 ) -> Result<Option<Event>, ScriptError>
     ensures event { IfOk result (λ e.
-        Continues e (events_left cursor.old) (events_left cursor.new)) }
+        Continues e (events_left kind cursor.old) (events_left kind cursor.new)) }
     ensures less { IfOk result (λ _. length cursor.new.left.now < length cursor.old.left.now) }
-    ensures fault { IfErr result (λ e. Tells e (events_left cursor.old)) }
+    ensures fault { IfErr result (λ e. Tells e (events_left kind cursor.old)) }
 {
     let number = cursor.number;
     if let Err(error) = read_words(alloc, cursor, words) {
@@ -124,24 +125,25 @@ fn next_event<'a>(
         }
         return Err(ScriptError::Line(cursor.number));
     }
-    match event(alloc, words)? {
+    match event(alloc, kind, words)? {
         Some(event) => Ok(Some(event)),
         None => Err(ScriptError::Line(number)),
     }
 }
 
-/// The events up to the last line.
+/// The events of a session of this kind up to the last line.
 fn all_events<'a>(
     alloc: Global,
+    kind: SessionKind,
     cursor: &mut Cursor<'a>,
     words: &mut Line<'a>,
 ) -> Result<Seq<Event>, ScriptError>
-    ensures events { IfOk result (λ es. events_left cursor.old ≡ Ok es) }
-    ensures fault { IfErr result (λ e. Tells e (events_left cursor.old)) }
+    ensures events { IfOk result (λ es. events_left kind cursor.old ≡ Ok es) }
+    ensures fault { IfErr result (λ e. Tells e (events_left kind cursor.old)) }
 {
     let mut events = Seq::new(alloc);
     loop {
-        match next_event(alloc, cursor, words) {
+        match next_event(alloc, kind, cursor, words) {
             Ok(Some(event)) => events.push(event)?,
             Ok(None) => return Ok(events),
             Err(error) => return Err(error),
@@ -187,7 +189,7 @@ pub fn read_script(alloc: Global, text: &[u8]) -> Result<Script, ScriptError>
         Ok(opening) => opening,
         Err(error) => return Err(error),
     };
-    match all_events(alloc, &mut cursor, &mut words) {
+    match all_events(alloc, config.kind, &mut cursor, &mut words) {
         Ok(events) => Ok(Script {
             config,
             word,

@@ -8,7 +8,7 @@ use crate::event_line::event;
 use crate::line::Line;
 use crate::script::{Cursor, MAX_TEXT, ScriptError, is_end_line, read_words};
 use containers::Seq;
-use driver_model::{Config, Event, EventKind, Submission};
+use driver_model::{Config, Event, EventKind, SessionKind, Submission};
 use std::alloc::{AllocError, Global};
 
 /// What is submitted, with its word, if that is what happens.
@@ -22,17 +22,18 @@ fn submitted(event: Event) -> Option<(Submission, u64)>
     }
 }
 
-/// The submission that the next line is, or none where it is the last line.
+/// The submission to a session of this kind that the next line is, or none where it is the last line.
 #[tactic(auto, using(crate::proofs::Lines::nothing_left))]
 fn next_submission<'a>(
     alloc: Global,
+    kind: SessionKind,
     cursor: &mut Cursor<'a>,
     words: &mut Line<'a>,
 ) -> Result<Option<(Submission, u64)>, ScriptError>
     ensures line { IfOk result (λ line.
-        PutsBefore line (submissions_left cursor.old) (submissions_left cursor.new)) }
+        PutsBefore line (submissions_left kind cursor.old) (submissions_left kind cursor.new)) }
     ensures less { IfOk result (λ _. length cursor.new.left.now < length cursor.old.left.now) }
-    ensures fault { IfErr result (λ e. Tells e (submissions_left cursor.old)) }
+    ensures fault { IfErr result (λ e. Tells e (submissions_left kind cursor.old)) }
 {
     let number = cursor.number;
     if let Err(error) = read_words(alloc, cursor, words) {
@@ -44,7 +45,7 @@ fn next_submission<'a>(
         }
         return Err(ScriptError::Line(cursor.number));
     }
-    let Some(event) = event(alloc, words)? else {
+    let Some(event) = event(alloc, kind, words)? else {
         return Err(ScriptError::Line(number));
     };
     match submitted(event) {
@@ -53,18 +54,19 @@ fn next_submission<'a>(
     }
 }
 
-/// The submissions up to the last line.
+/// The submissions to a session of this kind up to the last line.
 fn all_submissions<'a>(
     alloc: Global,
+    kind: SessionKind,
     cursor: &mut Cursor<'a>,
     words: &mut Line<'a>,
 ) -> Result<Seq<(Submission, u64)>, ScriptError>
-    ensures lines { IfOk result (λ lines. submissions_left cursor.old ≡ Ok lines) }
-    ensures fault { IfErr result (λ e. Tells e (submissions_left cursor.old)) }
+    ensures lines { IfOk result (λ lines. submissions_left kind cursor.old ≡ Ok lines) }
+    ensures fault { IfErr result (λ e. Tells e (submissions_left kind cursor.old)) }
 {
     let mut lines = Seq::new(alloc);
     loop {
-        match next_submission(alloc, cursor, words) {
+        match next_submission(alloc, kind, cursor, words) {
             Ok(Some(line)) => lines.push(line)?,
             Ok(None) => return Ok(lines),
             Err(error) => return Err(error),
@@ -72,11 +74,15 @@ fn all_submissions<'a>(
     }
 }
 
-/// Reads lines `submit ..`, the last one `end`: what each submits, with its word.
+/// Reads lines `submit ..` to a session of this kind, the last one `end`: what each submits, with its word.
 #[tactic(auto, unfolding(crate::specs::Lines::lines_of))]
-pub fn read_lines(alloc: Global, text: &[u8]) -> Result<Vec<(Submission, u64)>, ScriptError>
-    ensures lines { IfOk result (λ lines. lines_of text.now ≡ Ok lines.items) }
-    ensures fault { IfErr result (λ error. Tells error (lines_of text.now)) }
+pub fn read_lines(
+    alloc: Global,
+    kind: SessionKind,
+    text: &[u8],
+) -> Result<Vec<(Submission, u64)>, ScriptError>
+    ensures lines { IfOk result (λ lines. lines_of kind text.now ≡ Ok lines.items) }
+    ensures fault { IfErr result (λ error. Tells error (lines_of kind text.now)) }
 {
     let mut cursor = Cursor {
         left: text,
@@ -84,7 +90,7 @@ pub fn read_lines(alloc: Global, text: &[u8]) -> Result<Vec<(Submission, u64)>, 
         room: MAX_TEXT,
     };
     let mut words = Line::new(alloc);
-    match all_submissions(alloc, &mut cursor, &mut words) {
+    match all_submissions(alloc, kind, &mut cursor, &mut words) {
         Ok(lines) => Ok(lines.into_vec()),
         Err(error) => Err(error),
     }

@@ -33,6 +33,7 @@ submits_one (event.Ended l) = omega arith
 submits_one (event.ReadFault l kind) = omega arith
 submits_one (event.WriteFault l kind) = omega arith
 submits_one (event.Timeout ms) = omega arith
+submits_one event.DropStream = omega arith
 submits_one event.Shutdown = omega arith
 
 submissions_more : (es : List Event) (e : Event) → submissions_in (es ++ e ∷ []) ≡ submissions_in es + submits e.kind

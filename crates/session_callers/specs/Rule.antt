@@ -2,6 +2,8 @@
 -- Tickets are counted without end here, and the words have them modulo 2 ^ 64.
 use Rattle.std.specs.Prelude.{◌≡◌, ◌≢◌, ◌⊎◌, ℕ, suc, ◌+◌, ◌-◌, ◌%◌, ◌^◌, ◌<◌, ◌≤◌, ◌==◌, List, [], ◌∷◌, ◌++◌, length, Bool, true, false, Option, Some, None, if◌then◌else◌, max}
 use Rattle.driver_model.specs.declared.config.Config.{Config}
+use Rattle.driver_model.specs.declared.kind.SessionKind.TheVariants as kind
+use Rattle.driver_model.specs.Config.{config_of}
 use Rattle.driver_model.specs.declared.event.Event.{Event}
 use Rattle.driver_model.specs.declared.event.EventKind.{EventKind}
 use Rattle.driver_model.specs.declared.event.EventKind.TheVariants as event
@@ -163,6 +165,7 @@ submits (event.Ended l) = 0
 submits (event.ReadFault l kind) = 0
 submits (event.WriteFault l kind) = 0
 submits (event.Timeout ms) = 0
+submits event.DropStream = 0
 submits event.Shutdown = 0
 
 -- how many submissions a history has
@@ -211,7 +214,7 @@ abbrev pub newcomer : Config → ℕ → ℕ → List Event → ℕ → View
 newcomer config word number seen dial = record { stage = Idle; drawn = 0; number = number ∷ []; made = 0; config = config; word = word; seen = seen; failure = Sound; mine = []; dial = dial; claims = []; ended = []; fronts = [] }
 
 abbrev pub no_config : Config
-no_config = record { url = []; connect = None; response = None; limit = None; buffer = None; boundary = None; push = None; creds = None; lib = None }
+no_config = config_of kind.Single []
 
 -- what a seat that was joined is left with
 abbrev pub nobody : View

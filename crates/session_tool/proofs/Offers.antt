@@ -72,6 +72,7 @@ other_news o l turn timers uses (event.Creds c auth) h =
 other_news o l turn timers uses (event.CredsError c text) h = source_in o l turn (slice_get uses c) (denied text) silence h h h
 other_news o l turn timers uses (event.CredsEnd c) h = source_in o l turn (slice_get uses c) deserted unrenewed h h (either_in o l l.up l.info (record l.creds { over = true }) h)
 other_news o l turn timers uses (event.Timeout ms) h = h
+other_news o l turn timers uses event.DropStream h = h
 other_news o l turn timers uses event.Shutdown h = h
 
 push_in : (o : Offer) (l : Ledger) (mine : Bool) (kind : PushKind) → IsOfferIn o l → IsOfferIn o (noted_each l (if_mine mine (push_line kind)))

@@ -68,6 +68,7 @@ event_words (event.Creds c auth) = codes "creds " ++ decimal c
 event_words (event.CredsError c text) = codes "creds-err " ++ decimal c
 event_words (event.CredsEnd c) = codes "creds-end " ++ decimal c
 event_words (event.Timeout ms) = codes "timeout"
+event_words event.DropStream = codes "drop-stream"
 event_words event.Shutdown = codes "shutdown"
 
 -- why an event is bad, in words
@@ -99,6 +100,7 @@ bad_reason b (event.Creds c auth) = NoSource
 bad_reason b (event.CredsError c text) = NoSource
 bad_reason b (event.CredsEnd c) = NoSource
 bad_reason b (event.Timeout ms) = NoLink
+bad_reason b event.DropStream = NoLink
 bad_reason b event.Shutdown = NoLink
 
 -- an event that is bad after what is in this book, in words
@@ -133,6 +135,7 @@ kept_by kept (event.Creds c auth) = kept
 kept_by kept (event.CredsError c text) = kept
 kept_by kept (event.CredsEnd c) = kept
 kept_by kept (event.Timeout ms) = kept
+kept_by kept event.DropStream = kept
 kept_by kept event.Shutdown = kept
 
 abbrev pub kept_each : List Bool → List Event → List Bool

@@ -69,6 +69,7 @@ fn push_event(text: &mut Bytes, kind: &EventKind) -> Result<(), AllocError>
         }
         EventKind::CredsEnd { source } => push_words(text, b"creds-end ", u64::from(*source)),
         EventKind::Timeout { ms: _ } => text.extend_from_slice(b"timeout"),
+        EventKind::DropStream => text.extend_from_slice(b"drop-stream"),
         EventKind::Shutdown => text.extend_from_slice(b"shutdown"),
     }
 }

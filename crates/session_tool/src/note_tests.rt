@@ -32,11 +32,11 @@ fn noted_long(alloc: Global, length: u32) -> Result<(u8, MemSink), AllocError> {
 const LONG: [(u32, &[u8]); 3] = [
     (
         60,
-        b"line 2: aaaaaaaaaaaaaaaaaaaaaaaaaaaaaaaaaaaaaaaaaaaaaaaaaaaaaaaaaaaa: an event is submit, cancel, connected, refused, wrote, bytes, ended, read-fault, write-fault, fired, creds, creds-err, creds-end, timeout or shutdown, and the last line is end\n",
+        b"line 2: aaaaaaaaaaaaaaaaaaaaaaaaaaaaaaaaaaaaaaaaaaaaaaaaaaaaaaaaaaaa: an event is submit, cancel, connected, refused, wrote, bytes, ended, read-fault, write-fault, fired, creds, creds-err, creds-end, timeout, drop-stream or shutdown, and the last line is end\n",
     ),
     (
         61,
-        b"line 2: ..aaaaaaaaaaaaaaaaaaaaaaaaaaaaaaaaaaaaaaaaaaaaaaaaaaaaaaaaaaaa: an event is submit, cancel, connected, refused, wrote, bytes, ended, read-fault, write-fault, fired, creds, creds-err, creds-end, timeout or shutdown, and the last line is end\n",
+        b"line 2: ..aaaaaaaaaaaaaaaaaaaaaaaaaaaaaaaaaaaaaaaaaaaaaaaaaaaaaaaaaaaa: an event is submit, cancel, connected, refused, wrote, bytes, ended, read-fault, write-fault, fired, creds, creds-err, creds-end, timeout, drop-stream or shutdown, and the last line is end\n",
     ),
     (
         1_048_577,

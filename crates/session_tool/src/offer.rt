@@ -155,6 +155,8 @@ impl Offer {
                 }
             }
             Action::Push { link: _, info: _ } => self,
+            Action::Message { msg: _ } => self,
+            Action::Monitor { value: _ } => self,
             Action::Timer {
                 timer: _,
                 ms: _,

@@ -14,6 +14,7 @@ use Rattle.driver_model.specs.declared.event.EventKind.{EventKind}
 use Rattle.driver_model.specs.declared.event.EventKind.TheVariants as event
 use Rattle.driver_model.specs.declared.event.Submission.{Submission}
 use Rattle.driver_model.specs.Config.{address, connect_timeout}
+use Rattle.driver_model.specs.Kind.{is_single}
 use Rattle.driver_model.specs.Request.{packed_bytes, lacks_resp3}
 use Rattle.mux_conn.specs.declared.request.Pending.{Pending}
 use Rattle.mux_conn.specs.declared.act.LinkAct.{LinkAct}
@@ -71,7 +72,10 @@ told_shown link (act.Timer n ms ∷ more) os t c = told_shown link more os _ _
 told_shown link (act.RenewalTimer k ms ∷ more) os t c = told_shown link more os _ _
 told_shown link (act.NeedCreds ∷ more) os t c = told_shown link more os _ _
 told_shown link (act.Renewed message need len ∷ more) os t c = told_shown link more os _ _
+told_shown link (act.Watch message need len ∷ more) os t c = told_shown link more os _ _
 told_shown link (act.Push info ∷ more) os t c = told_shown link more os _ _
+told_shown link (act.Message m ∷ more) os t c = told_shown link more os _ _
+told_shown link (act.Monitor v ∷ more) os t c = told_shown link more os _ _
 told_shown link (act.Close ∷ more) os t c = told_shown link more os _ _
 told_shown link (act.Write bytes ∷ more) os t c = told_shown link more os _ _
 told_shown link (act.Wait n kind ∷ more) os t c = told_shown link more os _ _
@@ -101,7 +105,7 @@ outcomes-more config word es e =
 submitted_turns : (t : Turning) (what : Submission) → (submitted t what).core.turns ≡ t.core.turns
 submitted_turns t what =
     chosen (λ (x : Turning). x.core.turns ≡ t.core.turns) t.core.shut _ _ (λ _. refl)
-    (λ _. chosen (λ (x : Turning). x.core.turns ≡ t.core.turns) (lacks_resp3 t.core.single.connection.info.protocol what) _ _ (λ _. refl)
+    (λ _. chosen (λ (x : Turning). x.core.turns ≡ t.core.turns) (lacks_resp3 t.core.single.connection.hears t.core.single.connection.info.protocol what) _ _ (λ _. refl)
     (λ _. chosen (λ (x : Turning). x.core.turns ≡ t.core.turns) (length (packed_bytes what) == 0) _ _ (λ _. refl) (λ _. refl)))
 
 left_turns : (t : Turning) (slot : Option (Option Pending)) → (left_by t slot).core.turns ≡ t.core.turns
@@ -119,6 +123,7 @@ fired_turns t None = refl
 fired_turns t (Some (purpose.Connect l)) = refl
 fired_turns t (Some (purpose.Response owner.Setup)) = refl
 fired_turns t (Some (purpose.Response owner.Auth)) = refl
+fired_turns t (Some (purpose.Response owner.Monitor)) = refl
 fired_turns t (Some (purpose.Renewal l k)) = refl
 fired_turns t (Some (purpose.Response (owner.Try n round))) = late_turns t (slice_get t.core.table n)
 
@@ -128,7 +133,7 @@ requested_turns t (event.Cancel n) = left_turns t (slice_get t.core.table n)
 requested_turns t (event.Connected l) = refl
 requested_turns t (event.Refused l f) = refl
 requested_turns t (event.Fired n) = fired_turns t (slice_get t.core.timers n)
-requested_turns t (event.Timeout ms) = refl
+requested_turns t (event.Timeout ms) = chosen (λ (c : Core). c.turns ≡ t.core.turns) (is_single t.core.kind) (record t.core { timeout = ms }) t.core (λ y. refl) (λ y. refl)
 requested_turns t (event.Creds c auth) = refl
 requested_turns t (event.CredsError c text) = refl
 requested_turns t (event.CredsEnd c) = refl
@@ -137,6 +142,7 @@ requested_turns t (event.Bytes l piece) = refl
 requested_turns t (event.Ended l) = refl
 requested_turns t (event.ReadFault l kind) = refl
 requested_turns t (event.WriteFault l kind) = refl
+requested_turns t event.DropStream = refl
 requested_turns t event.Shutdown = refl
 
 turn_turns : (c : Core) (e : Event) → (next_turn c e.kind).core.turns ≡ c.turns + 1

@@ -8,6 +8,7 @@ use Rattle.driver_model.specs.declared.action.Purpose.{Purpose}
 use Rattle.driver_model.specs.declared.action.Purpose.TheVariants as purpose
 use Rattle.driver_model.specs.declared.event.EventKind.TheVariants as event
 use Rattle.driver_model.specs.declared.event.Submission.{Submission}
+use Rattle.driver_model.specs.Kind.{is_single}
 use Rattle.driver_model.specs.Request.{packed_bytes, lacks_resp3}
 use Rattle.mux_conn.specs.declared.act.LinkAct.{LinkAct}
 use Rattle.mux_conn.specs.declared.request.Pending.{Pending}
@@ -17,7 +18,7 @@ use Rattle.mux_conn.specs.Connection.{is_used_up, uses_up}
 use Rattle.mux_conn.specs.Passes.{passed}
 use Rattle.mux_conn.proofs.Spent.{spent_flushed}
 use Rattle.shared_session.specs.declared.core_state.Core.{Core}
-use Rattle.shared_session.specs.Turn.{Turning, work_of, counted, moved_on, heard, submitted, left_by, late_by, fired_by, requested, whole_effect, timers_of, sources_of, numbered, next_turn, has_run_out}
+use Rattle.shared_session.specs.Turn.{Turning, work_of, counted, moved_on, heard, submitted, left_by, late_by, fired_by, timed_by, requested, whole_effect, timers_of, sources_of, numbered, next_turn, has_run_out}
 
 or_true : (a b : Bool) → a ≡ true → (a || b) ≡ true
 or_true true b h = refl
@@ -68,6 +69,7 @@ fired_numbers t None = same_numbers t
 fired_numbers t (Some (purpose.Connect l)) = same_numbers t
 fired_numbers t (Some (purpose.Response owner.Setup)) = same_numbers t
 fired_numbers t (Some (purpose.Response owner.Auth)) = same_numbers t
+fired_numbers t (Some (purpose.Response owner.Monitor)) = same_numbers t
 fired_numbers t (Some (purpose.Renewal l k)) = same_numbers t
 fired_numbers t (Some (purpose.Response (owner.Try n round))) = late_numbers t (slice_get t.core.table n)
 
@@ -79,8 +81,13 @@ left_numbers t (Some (Some p)) = record { link = refl; timers = refl; sources = 
 submitted_numbers : (t : Turning) (what : Submission) → SameNumbers (submitted t what) t
 submitted_numbers t what =
     chosen (λ (x : Turning). SameNumbers x t) t.core.shut _ _ (λ _. record { link = refl; timers = refl; sources = refl })
-    (λ _. chosen (λ (x : Turning). SameNumbers x t) (lacks_resp3 t.core.single.connection.info.protocol what) _ _ (λ _. record { link = refl; timers = refl; sources = refl })
+    (λ _. chosen (λ (x : Turning). SameNumbers x t) (lacks_resp3 t.core.single.connection.hears t.core.single.connection.info.protocol what) _ _ (λ _. record { link = refl; timers = refl; sources = refl })
     (λ _. chosen (λ (x : Turning). SameNumbers x t) (length (packed_bytes what) == 0) _ _ (λ _. record { link = refl; timers = refl; sources = refl }) (λ _. record { link = refl; timers = refl; sources = refl })))
+
+timed_numbers : (t : Turning) (ms : Option ℕ) → SameNumbers (record t { core = timed_by t.core ms }) t
+timed_numbers t ms =
+    chosen (λ (c : Core). SameNumbers (record t { core = c }) t) (is_single t.core.kind) (record t.core { timeout = ms }) t.core
+    (λ _. record { link = refl; timers = refl; sources = refl }) (λ _. record { link = refl; timers = refl; sources = refl })
 
 requested_numbers : (t : Turning) (kind : EventKind) → SameNumbers (requested t kind) t
 requested_numbers t (event.Submit what) = submitted_numbers t what
@@ -88,7 +95,7 @@ requested_numbers t (event.Cancel n) = left_numbers t (slice_get t.core.table n)
 requested_numbers t (event.Connected l) = same_numbers t
 requested_numbers t (event.Refused l f) = same_numbers t
 requested_numbers t (event.Fired n) = fired_numbers t (slice_get t.core.timers n)
-requested_numbers t (event.Timeout ms) = record { link = refl; timers = refl; sources = refl }
+requested_numbers t (event.Timeout ms) = timed_numbers t ms
 requested_numbers t (event.Creds c auth) = same_numbers t
 requested_numbers t (event.CredsError c text) = same_numbers t
 requested_numbers t (event.CredsEnd c) = same_numbers t
@@ -97,6 +104,7 @@ requested_numbers t (event.Bytes l piece) = same_numbers t
 requested_numbers t (event.Ended l) = same_numbers t
 requested_numbers t (event.ReadFault l kind) = same_numbers t
 requested_numbers t (event.WriteFault l kind) = same_numbers t
+requested_numbers t event.DropStream = same_numbers t
 requested_numbers t event.Shutdown = same_numbers t
 
 -- until its end a turn leaves the timers, the sources and the link

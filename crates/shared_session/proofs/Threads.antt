@@ -2,6 +2,7 @@
 use denote.Param.Send.{IsSend, IsSync}
 use Rattle.redis_error.specs.contracts.redis_error.RedisError as RedisError
 use Rattle.driver_model.specs.contracts.event.Event as Event
+use Rattle.driver_model.specs.contracts.msg.Msg as Msg
 use Rattle.driver_model.specs.contracts.outcome.Outcome as Outcome
 use Rattle.driver_model.specs.contracts.push_info.PushInfo as PushInfo
 use Rattle.mux_conn.proofs.Threads as connections
@@ -40,11 +41,17 @@ info_send = search connections.crossing depth 60 fits 20000
 info_sync : IsSync PushInfo.the_field.row
 info_sync = search connections.crossing depth 60 fits 20000
 
+msg_send : IsSend Msg.the_field.row
+msg_send = search connections.crossing depth 60 fits 20000
+
+msg_sync : IsSync Msg.the_field.row
+msg_sync = search connections.crossing depth 60 fits 20000
+
 act_send : IsSend Act.the_field.row
-act_send = search (outcome_send, error_send, info_send, connections.crossing) depth 60 fits 20000
+act_send = search (outcome_send, error_send, info_send, msg_send, connections.crossing) depth 60 fits 20000
 
 act_sync : IsSync Act.the_field.row
-act_sync = search (outcome_sync, error_sync, info_sync, connections.crossing) depth 60 fits 20000
+act_sync = search (outcome_sync, error_sync, info_sync, msg_sync, connections.crossing) depth 60 fits 20000
 
 done_send : IsSend Done.the_field.row
 done_send = search (outcome_send, connections.crossing) depth 60 fits 20000

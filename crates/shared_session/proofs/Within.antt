@@ -57,6 +57,7 @@ news_within c (event.Bytes l piece) good = either_news (l == c.single.link) c.si
 news_within c (event.Ended l) good = either_news (l == c.single.link) c.single.connection.life (failed _) tt
 news_within c (event.ReadFault l kind) good = either_news (l == c.single.link) c.single.connection.life (failed _) tt
 news_within c (event.WriteFault l kind) good = either_news (l == c.single.link) c.single.connection.life (failed _) tt
+news_within c event.DropStream good = tt
 news_within c event.Shutdown good = tt
 
 -- a good cancel names a submission
@@ -76,6 +77,7 @@ known_good c (event.Bytes l piece) count same good = tt
 known_good c (event.Ended l) count same good = tt
 known_good c (event.ReadFault l kind) count same good = tt
 known_good c (event.WriteFault l kind) count same good = tt
+known_good c event.DropStream count same good = tt
 known_good c event.Shutdown count same good = tt
 
 -- the number of the turn makes no event bad
@@ -95,4 +97,5 @@ bad_counted c turns (event.Bytes l piece) = refl
 bad_counted c turns (event.Ended l) = refl
 bad_counted c turns (event.ReadFault l kind) = refl
 bad_counted c turns (event.WriteFault l kind) = refl
+bad_counted c turns event.DropStream = refl
 bad_counted c turns event.Shutdown = refl

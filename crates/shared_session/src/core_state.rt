@@ -66,12 +66,12 @@ impl Drop for Core {
 }
 
 impl Core {
-    ghost use Rattle.driver_model.specs.Request.{packed_bytes};
+    ghost use Rattle.driver_model.specs.Request.{packed_bytes, lacks_resp3};
     ghost use Rattle.driver_model.specs.News.{told, news_of};
     ghost use Rattle.mux_conn.specs.Effects.{IsWithin};
     ghost use Rattle.shared_session.specs.Turn.{turning_with, heard, refused_with, asked_for};
-    ghost use Rattle.shared_session.specs.Turn.{submitted, left_by, late_by, fired_by, requested};
-    ghost use Rattle.shared_session.specs.Turn.{effect, timers_of, sources_of};
+    ghost use Rattle.shared_session.specs.Turn.{submitted, left_by, late_by, fired_by, timed_by};
+    ghost use Rattle.shared_session.specs.Turn.{requested, effect, timers_of, sources_of};
     ghost use Rattle.shared_session.specs.Turn.{whole_effect, next_turn, is_bad, has_run_out};
     ghost use Rattle.shared_session.specs.Turn.{exceeds_offer, IsFewer, IsKnown};
 
@@ -151,6 +151,14 @@ impl Core {
         self.table.push(Some(pending))
     }
 
+    /// Whether a request needs RESP3 on the connection, whose server is told another protocol.
+    fn is_unspoken(&self, submission: &Submission) -> bool
+        ensures { result ≡ lacks_resp3 self.now.single.connection.hears self.now.single.connection.info.protocol submission.now }
+    {
+        let connection = &self.single.connection;
+        submission.lacks_resp3(connection.hears, connection.info.protocol)
+    }
+
     /// A caller hands in a request, which is refused after the shutdown, where it needs RESP3 and the server is told another
     /// protocol, and where it has no bytes.
     fn submit(
@@ -173,7 +181,7 @@ impl Core {
         if self.shut {
             return self.refuse(RedisError::Closed, acts);
         }
-        if submission.lacks_resp3(self.single.connection.info.protocol) {
+        if self.is_unspoken(submission) {
             return self.refuse(RedisError::Resp3Required, acts);
         }
         let packed = submission.packed(alloc)?;
@@ -240,6 +248,9 @@ impl Core {
                 owner: Owner::Setup,
             } => Ok(()),
             Purpose::Response { owner: Owner::Auth } => Ok(()),
+            Purpose::Response {
+                owner: Owner::Monitor,
+            } => Ok(()),
             Purpose::Renewal { link: _, number: _ } => Ok(()),
             Purpose::Response {
                 owner: Owner::Try {
@@ -247,6 +258,15 @@ impl Core {
                     round: _,
                 },
             } => self.run_late(submission, acts),
+        }
+    }
+
+    /// A new time for the requests that are handed in from now on: those of a multiplexed connection have one.
+    fn set_timeout(&mut self, ms: Option<u64>)
+        ensures { self.new ≡ timed_by self.old ms }
+    {
+        if self.kind.is_single() {
+            self.timeout = ms;
         }
     }
 
@@ -277,21 +297,21 @@ impl Core {
             }
             EventKind::Fired { timer } => self.fire(*timer, acts),
             EventKind::Timeout { ms } => {
-                self.timeout = *ms;
+                self.set_timeout(*ms);
                 Ok(())
             }
             _ => Ok(()),
         }
     }
 
-    /// Whether the event hands in a submission without a form, names what was never given out, or says that more was
+    /// Whether the event hands in a submission that the session has no form for, names what was never given out, or says that more was
     /// written than was offered.
     #[tactic(auto, unfolding(crate::specs::Turn::is_bad))]
     pub fn is_bad_event(&self, event: &EventKind) -> bool
         ensures { result ≡ is_bad self.now event.now }
     {
         match event {
-            EventKind::Submit { submission } => submission.is_formless(),
+            EventKind::Submit { submission } => submission.has_no_form(self.kind),
             EventKind::Cancel { submission } => *submission as usize >= self.table.len(),
             EventKind::Connected { link } => *link >= self.links,
             EventKind::Refused { link, fault: _ } => *link >= self.links,
@@ -307,6 +327,7 @@ impl Core {
             EventKind::CredsError { source, text: _ } => self.is_no_source(*source),
             EventKind::CredsEnd { source } => self.is_no_source(*source),
             EventKind::Timeout { ms: _ } => false,
+            EventKind::DropStream => false,
             EventKind::Shutdown => false,
         }
     }
@@ -325,7 +346,7 @@ impl Core {
         match &self.single.connection.life {
             Life::Dialing => count > 0,
             Life::Wanting { link } => count > link.offered_len(),
-            Life::SettingUp { link, with_user: _ } => count > link.offered_len(),
+            Life::SettingUp { link, greeting: _ } => count > link.offered_len(),
             Life::Ready { link } => count > link.offered_len(),
             Life::Ended { error: _ } => false,
         }

@@ -101,6 +101,7 @@ fn opened(alloc: Global, config: &Config, info: RedisConnectionInfo) -> Result<C
     let timers = opening_timers(alloc, config.connect_timeout())?;
     let renewal = Renewal::new(alloc, config.wants_credentials(), config.response_timeout());
     Ok(Core {
+        kind: config.kind,
         turns: 1,
         links: FIRST_LINK + 1,
         shut: false,
@@ -114,8 +115,8 @@ fn opened(alloc: Global, config: &Config, info: RedisConnectionInfo) -> Result<C
                 alloc,
                 config.buffer_size(),
                 config.boundary(),
-                config.limit,
-                config.hears_pushes(),
+                config.permits(),
+                config.hearing(),
                 info,
                 renewal,
             ),

@@ -81,6 +81,8 @@ fn action_of(link: u32, timer: u64, source: u64, act: LinkAct) -> Action
             link,
         },
         LinkAct::Push { info } => Action::Push { link, info },
+        LinkAct::Message { msg } => Action::Message { msg },
+        LinkAct::Monitor { value } => Action::Monitor { value },
         LinkAct::Close => Action::Close { link },
         LinkAct::Write { bytes } => Action::Write { link, bytes },
         LinkAct::Wait { request, wait } => Action::Wait {
@@ -94,6 +96,7 @@ fn action_of(link: u32, timer: u64, source: u64, act: LinkAct) -> Action
             len,
         } => started(link, message, try_of(request), need, len),
         LinkAct::SetUp { message, need, len } => started(link, message, Owner::Setup, need, len),
+        LinkAct::Watch { message, need, len } => started(link, message, Owner::Monitor, need, len),
         LinkAct::Renewed { message, need, len } => started(link, message, Owner::Auth, need, len),
         LinkAct::Outcome { request, outcome } => Action::Outcome {
             submission: request,

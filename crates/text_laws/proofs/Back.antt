@@ -1,29 +1,33 @@
 -- The configuration, the word and the events are read back from the words of their causes.
-use Rattle.std.proofs.Common.{◌≡◌, ℕ, Bool, true, false, ◌&&◌, ◌<◌, ◌^◌, ◌==◌, List, [], ◌∷◌, ◌++◌, All, Option, Some, None, map, option_map, option_and_then, decimal, codes, append_assoc, refl, sym, ap, ◌∙◌, if◌then◌else◌, arith}
+use Rattle.std.proofs.Common.{◌≡◌, ℕ, Bool, true, false, ◌&&◌, ◌<◌, ◌^◌, ◌==◌, List, [], ◌∷◌, ◌++◌, All, Option, Some, None, map, option_map, option_and_then, decimal, codes, append_assoc, refl, sym, ap, ◌∙◌, subst, if◌then◌else◌, arith}
+use Rattle.std.proofs.lemmas.Bool.{and_parts}
 use Rattle.std.proofs.lemmas.List.Elements.{All-head, All-tail}
-use Rattle.std.specs.Prelude.{is_some}
+use Rattle.std.specs.Prelude.{is_some, is_none}
 use Rattle.std.specs.List.{list_all}
 use Rattle.driver_model.specs.declared.action.Cause.TheVariants as cause
 use Rattle.driver_model.specs.declared.config.Config.{Config}
+use Rattle.driver_model.specs.declared.kind.SessionKind.{SessionKind}
+use Rattle.driver_model.specs.declared.kind.SessionKind.TheVariants as kind
+use Rattle.driver_model.specs.Config.{config_of as given_alone, is_bare}
 use Rattle.driver_model.specs.declared.event.Event.{Event}
 use Rattle.driver_model.specs.declared.event.EventKind.{EventKind}
 use Rattle.driver_model.specs.declared.event.EventKind.TheVariants as event
 use Rattle.driver_model.specs.declared.event.Submission.{Submission}
 use Rattle.driver_model.specs.declared.event.Submission.TheVariants as submission
 use Rattle.resp_write.specs.declared.subscription.SubscriptionAction.TheVariants as call
-use Rattle.driver_model.specs.Request.{is_single_nameless, has_no_form}
+use Rattle.driver_model.specs.Request.{is_single_nameless, is_formless, has_no_form}
 use Rattle.redis_error.specs.declared.fault_kind.FaultKind.{FaultKind}
 use Rattle.redis_error.specs.declared.fault_kind.FaultKind.TheVariants as fault
 use Rattle.redis_error.specs.Names.{fault_name}
 use Rattle.script_text.specs.Numbers.{number, max_u32, max_u64, time_limit, switch}
 use Rattle.script_text.specs.ConfigLine.{is_setting, keys, values, only, allows, given, config_of, opening_of}
 use Rattle.script_text.specs.Draws.{drawn}
-use Rattle.script_text.specs.EventLine.{by_first, commands, calls, submissions, faults, fault_among, failed, others, events, drawing, event_of}
-use Rattle.script_text.specs.Words.{LineWords, all_of}
+use Rattle.script_text.specs.EventLine.{by_first, commands, calls, requests, submissions, faults, fault_among, failed, others, events, drawing, event_of}
+use Rattle.script_text.specs.Words.{all_of}
 use Rattle.legal_trace.specs.Legal.{event_causes}
 use Rattle.trace_text.specs.Show.{url, draw_words, connect_words, response_words, buffer_words, limit_words, boundary_words, push_words, creds_words, lib_words, switch_words, times_words, numbers_words, later_words, config_words, time_word, first_of, behind_first, submission_words, submission_more, event_words, event_more}
 use Rattle.containers.proofs.Choices.{chosen, eq_from}
-use Rattle.text_laws.specs.Fits.{FitsSubmission, FitsKind, FitsEvent, FitsLimit, FitsNumber, FitsConfig, FitsHistory, HasForm, HaveForms}
+use Rattle.text_laws.specs.Fits.{FitsSubmission, FitsKind, FitsEvent, FitsLimit, FitsNumber, FitsConfig, FitsHistory, HasLine, HasForm, WithForm, HaveForms}
 use Rattle.text_laws.specs.History.{script_with, history_in}
 use Rattle.text_laws.proofs.Bytes.{number_back, decimal_is_no_none}
 use Rattle.text_laws.proofs.Turns.{cause_line}
@@ -41,22 +45,43 @@ commands_back ([] ∷ []) form = cc
 commands_back ([] ∷ command ∷ rest) form = refl
 commands_back ((word ∷ words) ∷ rest) form = refl
 
-submission_back : (s : Submission) → FitsSubmission s → has_no_form s ≡ false → by_first submissions (submission_words s) (submission_more s) ≡ Some s
+-- what is submitted to one multiplexed connection
+request_back : (s : Submission) → FitsSubmission s → is_formless s ≡ false → by_first requests (submission_words s) (submission_more s) ≡ Some s
 unfolding calls
-submission_back (submission.Cmd args) fits form = refl
-submission_back (submission.NoReply args) fits form = refl
-submission_back (submission.Pipe all) fits form = ap (λ cs. Some (submission.Pipe cs)) (commands_back all form)
-submission_back (submission.Multi all) fits form = ap (λ cs. Some (submission.Multi cs)) (commands_back all form)
-submission_back (submission.Packed offset count all) fits form =
+request_back (submission.Cmd args) fits form = refl
+request_back (submission.NoReply args) fits form = refl
+request_back (submission.Pipe all) fits form = ap (λ cs. Some (submission.Pipe cs)) (commands_back all form)
+request_back (submission.Multi all) fits form = ap (λ cs. Some (submission.Multi cs)) (commands_back all form)
+request_back (submission.Packed offset count all) fits form =
     ap (option_and_then (λ o. option_map (λ c. submission.Packed o c (commands (first_of all) (behind_first all))) (number max_u32 (decimal count)))) (small_number offset fits.0)
     ∙ ap (option_map (λ c. submission.Packed offset c (commands (first_of all) (behind_first all)))) (small_number count fits.1)
     ∙ ap (λ cs. Some (submission.Packed offset count cs)) (commands_back all form)
-submission_back (submission.Subscription call.Subscribe names) fits form = refl
-submission_back (submission.Subscription call.Unsubscribe names) fits form = refl
-submission_back (submission.Subscription call.PSubscribe names) fits form = refl
-submission_back (submission.Subscription call.PUnsubscribe names) fits form = refl
-submission_back (submission.Subscription call.SSubscribe names) fits form = cc form
-submission_back (submission.Subscription call.Sunsubscribe names) fits form = cc form
+request_back (submission.Subscription call.Subscribe names) fits form = refl
+request_back (submission.Subscription call.Unsubscribe names) fits form = refl
+request_back (submission.Subscription call.PSubscribe names) fits form = refl
+request_back (submission.Subscription call.PUnsubscribe names) fits form = refl
+request_back (submission.Subscription call.SSubscribe names) fits form = cc form
+request_back (submission.Subscription call.Sunsubscribe names) fits form = cc form
+request_back (submission.Ping message) fits form = cc form
+
+-- what is submitted to a session of this kind
+submission_back : (kind : SessionKind) (s : Submission) → FitsSubmission s → has_no_form kind s ≡ false → by_first (submissions kind) (submission_words s) (submission_more s) ≡ Some s
+unfolding calls
+submission_back kind.Single s fits form = request_back s fits form
+submission_back kind.PubSub (submission.Cmd args) fits form = cc form
+submission_back kind.PubSub (submission.NoReply args) fits form = cc form
+submission_back kind.PubSub (submission.Pipe all) fits form = cc form
+submission_back kind.PubSub (submission.Multi all) fits form = cc form
+submission_back kind.PubSub (submission.Packed offset count all) fits form = cc form
+submission_back kind.PubSub (submission.Subscription call.Subscribe names) fits form = refl
+submission_back kind.PubSub (submission.Subscription call.Unsubscribe names) fits form = refl
+submission_back kind.PubSub (submission.Subscription call.PSubscribe names) fits form = refl
+submission_back kind.PubSub (submission.Subscription call.PUnsubscribe names) fits form = refl
+submission_back kind.PubSub (submission.Subscription call.SSubscribe names) fits form = cc form
+submission_back kind.PubSub (submission.Subscription call.Sunsubscribe names) fits form = cc form
+submission_back kind.PubSub (submission.Ping None) fits form = refl
+submission_back kind.PubSub (submission.Ping (Some message)) fits form = refl
+submission_back kind.Monitor s fits form = cc form
 
 fault_back : (kind : FaultKind) → fault_among faults (fault_name kind) ≡ Some kind
 fault_back fault.Refused = refl
@@ -84,25 +109,26 @@ time_word_back None fits = refl
 time_word_back (Some ms) fits = time_back ms fits
 
 -- what happens is read back from its words
-kind_back : (kind : EventKind) → FitsKind kind → HasForm kind → by_first events (event_words kind) (event_more kind) ≡ Some kind
+kind_back : (session : SessionKind) (kind : EventKind) → FitsKind kind → HasForm session kind → by_first (events session) (event_words kind) (event_more kind) ≡ Some kind
 unfolding others
-kind_back (event.Submit s) fits form = ap (option_map event.Submit) (submission_back s fits form)
-kind_back (event.Cancel s) fits form = ap (option_map event.Cancel) (small_number s fits)
-kind_back (event.Connected link) fits form = ap (option_map event.Connected) (small_number link fits)
-kind_back (event.Refused link kind) fits form = failed_back event.Refused link kind fits
-kind_back (event.Wrote link count) fits form =
+kind_back session (event.Submit s) fits form = ap (option_map event.Submit) (submission_back session s fits form)
+kind_back session (event.Cancel s) fits form = ap (option_map event.Cancel) (small_number s fits)
+kind_back session (event.Connected link) fits form = ap (option_map event.Connected) (small_number link fits)
+kind_back session (event.Refused link kind) fits form = failed_back event.Refused link kind fits
+kind_back session (event.Wrote link count) fits form =
     ap (option_and_then (λ l. option_map (event.Wrote l) (number max_u64 (decimal count)))) (small_number link fits.0)
     ∙ ap (option_map (event.Wrote link)) (long_number count fits.1)
-kind_back (event.Bytes link piece) fits form = ap (option_map (λ l. event.Bytes l piece)) (small_number link fits.0)
-kind_back (event.Ended link) fits form = ap (option_map event.Ended) (small_number link fits)
-kind_back (event.ReadFault link kind) fits form = failed_back event.ReadFault link kind fits
-kind_back (event.WriteFault link kind) fits form = failed_back event.WriteFault link kind fits
-kind_back (event.Fired timer) fits form = ap (option_map event.Fired) (small_number timer fits)
-kind_back (event.Creds source auth) fits form = ap (option_map (λ c. event.Creds c auth)) (small_number source fits.0)
-kind_back (event.CredsError source text) fits form = ap (option_map (λ c. event.CredsError c text)) (small_number source fits.0)
-kind_back (event.CredsEnd source) fits form = ap (option_map event.CredsEnd) (small_number source fits)
-kind_back (event.Timeout ms) fits form = ap (option_map event.Timeout) (time_word_back ms fits)
-kind_back event.Shutdown fits form = refl
+kind_back session (event.Bytes link piece) fits form = ap (option_map (λ l. event.Bytes l piece)) (small_number link fits.0)
+kind_back session (event.Ended link) fits form = ap (option_map event.Ended) (small_number link fits)
+kind_back session (event.ReadFault link kind) fits form = failed_back event.ReadFault link kind fits
+kind_back session (event.WriteFault link kind) fits form = failed_back event.WriteFault link kind fits
+kind_back session (event.Fired timer) fits form = ap (option_map event.Fired) (small_number timer fits)
+kind_back session (event.Creds source auth) fits form = ap (option_map (λ c. event.Creds c auth)) (small_number source fits.0)
+kind_back session (event.CredsError source text) fits form = ap (option_map (λ c. event.CredsError c text)) (small_number source fits.0)
+kind_back session (event.CredsEnd source) fits form = ap (option_map event.CredsEnd) (small_number source fits)
+kind_back session (event.Timeout ms) fits form = ap (option_map event.Timeout) (time_word_back ms fits)
+kind_back session event.DropStream fits form = refl
+kind_back session event.Shutdown fits form = refl
 
 -- words that begin with no draw
 abbrev IsUndrawn : List (List ℕ) → Type 0
@@ -123,6 +149,7 @@ kind_undrawn (event.Creds source auth) = refl
 kind_undrawn (event.CredsError source text) = refl
 kind_undrawn (event.CredsEnd source) = refl
 kind_undrawn (event.Timeout ms) = refl
+kind_undrawn event.DropStream = refl
 kind_undrawn event.Shutdown = refl
 
 -- a draw before them
@@ -132,11 +159,11 @@ drawn_back w words small none =
     (λ t. none ∙ ap (λ n. Some (n, words)) (sym (eq_from w 0 t)))
     (λ f. ap (option_map (λ n. (n, words))) (long_number w small))
 
-pub event_back : (e : Event) → FitsEvent e → HasForm e.kind → event_of (cause_line (cause.Event e)) ≡ Some e
+pub event_back : (session : SessionKind) (e : Event) → FitsEvent e → HasForm session e.kind → event_of session (cause_line (cause.Event e)) ≡ Some e
 unfolding event_of
-event_back e fits form =
-    ap (option_and_then (λ d. option_map (drawing d.0) (by_first events d.1 (event_more e.kind)))) (drawn_back e.word (event_words e.kind) fits.word (kind_undrawn e.kind))
-    ∙ ap (option_map (drawing e.word)) (kind_back e.kind fits.kind form)
+event_back session e fits form =
+    ap (option_and_then (λ d. option_map (drawing d.0) (by_first (events session) d.1 (event_more e.kind)))) (drawn_back e.word (event_words e.kind) fits.word (kind_undrawn e.kind))
+    ∙ ap (option_map (drawing e.word)) (kind_back session e.kind fits.kind form)
 
 -- whether a setting is allowed, and what is read of it
 record Setting (A : Type 0) : Type 0 where
@@ -203,7 +230,7 @@ long_back : (n : Option ℕ) → FitsNumber (2 ^ 64) n → long_given n ≡ as_g
 long_back None fits = refl
 long_back (Some n) fits = read_once (number max_u64) (decimal n) n (long_number n fits)
 
--- whether words are settings, and the values that they give each key
+-- whether words are settings of one multiplexed connection, and the values that they give each key
 record Found : Type 0 where
   are : Bool
   url : List (List ℕ)
@@ -218,7 +245,7 @@ record Found : Type 0 where
 
 abbrev found_in : List (List ℕ) → Found
 found_in words = record {
-  are = list_all (is_setting keys) words;
+  are = list_all (is_setting (keys kind.Single)) words;
   url = values (codes "url") words;
   connect = values (codes "connect") words;
   response = values (codes "response") words;
@@ -339,13 +366,14 @@ later_row c =
 abbrev config_by : List ℕ → Setting (Option ℕ) → Setting (Option ℕ) → Setting ℕ → Setting ℕ → Setting ℕ → Setting Bool → Setting Bool → Setting Bool → Option Config
 config_by address connect response limit buffer boundary push creds lib =
     if ((connect.allowed && response.allowed) && (limit.allowed && (buffer.allowed && boundary.allowed))) && (push.allowed && (creds.allowed && lib.allowed))
-    then Some (record { url = address; connect = connect.read; response = response.read; limit = limit.read; buffer = buffer.read; boundary = boundary.read; push = push.read; creds = creds.read; lib = lib.read }) else None
+    then Some (record { kind = kind.Single; url = address; connect = connect.read; response = response.read; limit = limit.read; buffer = buffer.read; boundary = boundary.read; push = push.read; creds = creds.read; lib = lib.read }) else None
 
 -- a configuration by what is found in the words behind its address
 abbrev config_found : List ℕ → Found → Option Config
 config_found address f =
     if f.are && (((allows time_limit f.connect && allows time_limit f.response) && (allows (number max_u32) f.limit && (allows (number max_u32) f.buffer && allows (number max_u64) f.boundary))) && (allows switch f.push && (allows switch f.creds && allows switch f.lib)))
     then option_map (λ text. record {
+      kind = kind.Single;
       url = text;
       connect = given time_limit f.connect;
       response = given time_limit f.response;
@@ -357,9 +385,14 @@ config_found address f =
       lib = given switch f.lib;
     }) (only (address ∷ f.url)) else None
 
-config_back : (c : Config) → FitsConfig c → config_of (record { words = config_words c; more = [] }) ≡ Some c
+-- what is read of the line of a configuration
+abbrev ReadBack : Config → Type 0
+ReadBack c = config_of (record { words = config_words c; more = [] }) ≡ Some c
+
+-- one multiplexed connection
+connection_back : (c : Config) → FitsConfig c → ReadBack (record c { kind = kind.Single })
 unfolding url config_of
-config_back c fits =
+connection_back c fits =
     ap (config_found c.url) (ap found_in (later_row c) ∙ row_found c)
     ∙ ap (λ s. config_by c.url s (time_given c.response) (small_given c.limit) (small_given c.buffer) (long_given c.boundary) (switch_given c.push) (switch_given c.creds) (switch_given c.lib)) (limit_back c.connect fits.connect)
     ∙ ap (λ s. config_by c.url (as_given c.connect) s (small_given c.limit) (small_given c.buffer) (long_given c.boundary) (switch_given c.push) (switch_given c.creds) (switch_given c.lib)) (limit_back c.response fits.response)
@@ -370,26 +403,76 @@ config_back c fits =
     ∙ ap (λ s. config_by c.url (as_given c.connect) (as_given c.response) (as_given c.limit) (as_given c.buffer) (as_given c.boundary) (as_given c.push) s (switch_given c.lib)) (switch_back c.creds)
     ∙ ap (λ s. config_by c.url (as_given c.connect) (as_given c.response) (as_given c.limit) (as_given c.buffer) (as_given c.boundary) (as_given c.push) (as_given c.creds) s) (switch_back c.lib)
 
+-- the configuration of a link with this address
+abbrev link_at : SessionKind → List ℕ → Option Bool → Config
+link_at k address lib = record (given_alone k address) { lib = lib }
+
+-- a link of publish/subscribe
+pubsub_back : (address : List ℕ) (lib : Option Bool) → ReadBack (link_at kind.PubSub address lib)
+unfolding url config_of
+pubsub_back address None = refl
+pubsub_back address (Some true) = refl
+pubsub_back address (Some false) = refl
+
+-- and one of monitor mode
+monitor_back : (address : List ℕ) (lib : Option Bool) → ReadBack (link_at kind.Monitor address lib)
+unfolding url config_of
+monitor_back address None = refl
+monitor_back address (Some true) = refl
+monitor_back address (Some false) = refl
+
+is_missing : {A : Type 0} (o : Option A) → is_none o ≡ true → o ≡ None
+is_missing None is = refl
+is_missing (Some a) is = cc is
+
+-- a configuration of which nothing else is given
+bare_is : (c : Config) → is_bare c ≡ true → c ≡ link_at c.kind c.url c.lib
+bare_is c bare =
+    let creds = and_parts (is_none c.connect && is_none c.response && is_none c.limit && is_none c.buffer && is_none c.boundary && is_none c.push) (is_none c.creds) bare in
+    let push = and_parts (is_none c.connect && is_none c.response && is_none c.limit && is_none c.buffer && is_none c.boundary) (is_none c.push) creds.0 in
+    let boundary = and_parts (is_none c.connect && is_none c.response && is_none c.limit && is_none c.buffer) (is_none c.boundary) push.0 in
+    let buffer = and_parts (is_none c.connect && is_none c.response && is_none c.limit) (is_none c.buffer) boundary.0 in
+    let limit = and_parts (is_none c.connect && is_none c.response) (is_none c.limit) buffer.0 in
+    let times = and_parts (is_none c.connect) (is_none c.response) limit.0 in
+    λ i. record {
+      kind = c.kind;
+      url = c.url;
+      connect = is_missing c.connect times.0 i;
+      response = is_missing c.response times.1 i;
+      limit = is_missing c.limit limit.1 i;
+      buffer = is_missing c.buffer buffer.1 i;
+      boundary = is_missing c.boundary boundary.1 i;
+      push = is_missing c.push push.1 i;
+      creds = is_missing c.creds creds.1 i;
+      lib = c.lib;
+    }
+
+-- a configuration of this kind that has a line
+back_by : (k : SessionKind) (c : Config) → FitsConfig c → HasLine (record c { kind = k }) → ReadBack (record c { kind = k })
+back_by kind.Single c fits line = connection_back c fits
+back_by kind.PubSub c fits line = subst ReadBack (sym (bare_is (record c { kind = kind.PubSub }) line)) (pubsub_back c.url c.lib)
+back_by kind.Monitor c fits line = subst ReadBack (sym (bare_is (record c { kind = kind.Monitor }) line)) (monitor_back c.url c.lib)
+
+config_back : (c : Config) → FitsConfig c → HasLine c → ReadBack c
+config_back c fits line = back_by c.kind c fits line
+
 config_undrawn : (config : Config) → IsUndrawn (config_words config)
 config_undrawn config = refl
 
-pub opening_back : (config : Config) (word : ℕ) → FitsConfig config → word < 2 ^ 64 → opening_of (cause_line (cause.Opening config word)) ≡ Some (config, word)
-opening_back config word fits small =
+pub opening_back : (config : Config) (word : ℕ) → FitsConfig config → HasLine config → word < 2 ^ 64 → opening_of (cause_line (cause.Opening config word)) ≡ Some (config, word)
+opening_back config word fits line small =
     ap (option_and_then (λ d. option_map (λ c. (c, d.0)) (config_of (record { words = d.1; more = [] })))) (drawn_back word (config_words config) small (config_undrawn config))
-    ∙ ap (option_map (λ c. (c, word))) (config_back config fits)
+    ∙ ap (option_map (λ c. (c, word))) (config_back config fits line)
 
-abbrev WithForm : Event → Type 0
-WithForm e = HasForm e.kind
-
-events_back : (events : List Event) → All FitsEvent events → HaveForms events → all_of (map event_of (map cause_line (event_causes events))) ≡ Some events
-events_back [] fits forms = refl
-events_back (e ∷ es) fits forms =
-    ap (λ o. all_of (o ∷ map event_of (map cause_line (event_causes es)))) (event_back e (All-head FitsEvent e es fits) (All-head WithForm e es forms))
-    ∙ ap (option_map (λ xs. e ∷ xs)) (events_back es (All-tail FitsEvent e es fits) (All-tail WithForm e es forms))
+events_back : (session : SessionKind) (events : List Event) → All FitsEvent events → All (WithForm session) events → all_of (map (event_of session) (map cause_line (event_causes events))) ≡ Some events
+events_back session [] fits forms = refl
+events_back session (e ∷ es) fits forms =
+    ap (λ o. all_of (o ∷ map (event_of session) (map cause_line (event_causes es)))) (event_back session e (All-head FitsEvent e es fits) (All-head (WithForm session) e es forms))
+    ∙ ap (option_map (λ xs. e ∷ xs)) (events_back session es (All-tail FitsEvent e es fits) (All-tail (WithForm session) e es forms))
 
 -- a history is read back from what the text says of its causes
-pub causes_back : (config : Config) (word : ℕ) (events : List Event) → FitsHistory config word events → HaveForms events
+pub causes_back : (config : Config) (word : ℕ) (events : List Event) → FitsHistory config word events → HaveForms config events
     → history_in (map cause_line (cause.Opening config word ∷ event_causes events)) ≡ Some (record { config = config; word = word; events = events })
 causes_back config word events fits forms =
-    ap (option_and_then (λ opening. option_map (script_with opening) (all_of (map event_of (map cause_line (event_causes events)))))) (opening_back config word fits.config fits.word)
-    ∙ ap (option_map (script_with (config, word))) (events_back events fits.events forms)
+    ap (option_and_then (λ opening. option_map (script_with opening) (all_of (map (event_of opening.0.kind) (map cause_line (event_causes events)))))) (opening_back config word fits.config forms.config fits.word)
+    ∙ ap (option_map (script_with (config, word))) (events_back config.kind events fits.events forms.events)

@@ -1,5 +1,5 @@
 -- The words of a cause are bytes, and its numbers are read back.
-use Rattle.std.proofs.Common.{◌≡◌, ℕ, zero, suc, ◌+◌, ◌/◌, ◌%◌, ◌^◌, ◌<◌, ◌≤◌, Bool, true, false, not, ◌&&◌, ◌||◌, ◌==◌, nat_lt, nat_le, List, [], ◌∷◌, ◌++◌, length, get_or, All, Option, Some, None, codes, decimal, bytes_eq, refl, ap, ◌∙◌, if◌then◌else◌, arith}
+use Rattle.std.proofs.Common.{◌≡◌, ℕ, zero, suc, ◌+◌, ◌/◌, ◌%◌, ◌^◌, ◌<◌, ◌≤◌, Bool, true, false, not, ◌&&◌, ◌||◌, ◌==◌, nat_lt, nat_le, List, [], ◌∷◌, ◌++◌, length, get_or, All, Option, Some, None, IfSome, codes, decimal, bytes_eq, refl, ap, ◌∙◌, if◌then◌else◌, arith}
 use Rattle.std.specs.Fmt.{digits, digits_onto, digit_glyph}
 use Rattle.std.specs.List.{list_all}
 use Rattle.std.specs.Str.{all_ascii_digits}
@@ -12,6 +12,9 @@ use Rattle.std.proofs.lemmas.List.Elements.{All-nil, All-cons, All-head, All-tai
 use Rattle.driver_model.specs.declared.action.Cause.{Cause}
 use Rattle.driver_model.specs.declared.action.Cause.TheVariants.{Opening, Event}
 use Rattle.driver_model.specs.declared.config.Config.{Config}
+use Rattle.driver_model.specs.declared.kind.SessionKind.{SessionKind}
+use Rattle.driver_model.specs.declared.kind.SessionKind.TheVariants as kind
+use Rattle.driver_model.specs.Request.{listed}
 use Rattle.driver_model.specs.declared.event.EventKind.{EventKind}
 use Rattle.driver_model.specs.declared.event.EventKind.TheVariants as event
 use Rattle.driver_model.specs.declared.event.Submission.{Submission}
@@ -22,7 +25,7 @@ use Rattle.redis_error.specs.declared.fault_kind.FaultKind.{FaultKind}
 use Rattle.redis_error.specs.declared.fault_kind.FaultKind.TheVariants as fault
 use Rattle.redis_error.specs.Names.{fault_name}
 use Rattle.script_text.specs.Numbers.{is_decimal, number}
-use Rattle.trace_text.specs.Show.{url, connect_words, response_words, buffer_words, limit_words, boundary_words, lib_words, times_words, numbers_words, later_words, time_word, draw_words, config_words, first_of, behind_first, call_word, submission_words, submission_more, event_words, event_more, cause_words, cause_more, push_words, creds_words, switch_words}
+use Rattle.trace_text.specs.Show.{url, connect_words, response_words, buffer_words, limit_words, boundary_words, lib_words, times_words, numbers_words, later_words, time_word, draw_words, kind_word, config_words, first_of, behind_first, call_word, submission_words, submission_more, event_words, event_more, cause_words, cause_more, push_words, creds_words, switch_words}
 use Rattle.containers.proofs.Choices.{chosen, lt_from, not_lt_from, le_test, ne_test}
 use Rattle.text_laws.specs.Fits.{IsByte, AreBytes, FitsSubmission, FitsKind, FitsEvent, FitsConfig}
 
@@ -128,6 +131,10 @@ call_bytes call.PUnsubscribe = looked (codes "punsubscribe") refl
 call_bytes call.SSubscribe = looked (codes "ssubscribe") refl
 call_bytes call.Sunsubscribe = looked (codes "sunsubscribe") refl
 
+message_bytes : (message : Option (List ℕ)) → IfSome message AreBytes → All AreBytes (listed message)
+message_bytes None fits = no_words
+message_bytes (Some message) fits = word_and message [] fits no_words
+
 submission_bytes : (s : Submission) → FitsSubmission s → All AreBytes (submission_words s)
 submission_bytes (submission.Cmd args) fits = word_and (codes "cmd") args (looked (codes "cmd") refl) fits
 submission_bytes (submission.NoReply args) fits = word_and (codes "noreply") args (looked (codes "noreply") refl) fits
@@ -137,6 +144,7 @@ submission_bytes (submission.Packed offset count commands) fits =
     word_and (codes "packed") (decimal offset ∷ decimal count ∷ first_of commands) (looked (codes "packed") refl)
     (word_and (decimal offset) (decimal count ∷ first_of commands) (decimal_bytes offset) (word_and (decimal count) (first_of commands) (decimal_bytes count) (first_bytes commands fits.2)))
 submission_bytes (submission.Subscription what names) fits = word_and (call_word what) names (call_bytes what) fits
+submission_bytes (submission.Ping message) fits = word_and (codes "ping") (listed message) (looked (codes "ping") refl) (message_bytes message fits)
 
 submission_more_bytes : (s : Submission) → FitsSubmission s → All (All AreBytes) (submission_more s)
 submission_more_bytes (submission.Cmd args) fits = All-nil (All AreBytes)
@@ -145,6 +153,7 @@ submission_more_bytes (submission.Pipe commands) fits = behind_bytes commands fi
 submission_more_bytes (submission.Multi commands) fits = behind_bytes commands fits
 submission_more_bytes (submission.Packed offset count commands) fits = behind_bytes commands fits.2
 submission_more_bytes (submission.Subscription what names) fits = All-nil (All AreBytes)
+submission_more_bytes (submission.Ping message) fits = All-nil (All AreBytes)
 
 time_bytes : (ms : Option ℕ) → AreBytes (time_word ms)
 time_bytes None = looked (codes "none") refl
@@ -170,6 +179,7 @@ kind_bytes (event.CredsError source text) fits =
     word_and (codes "creds-err") (decimal source ∷ text ∷ []) (looked (codes "creds-err") refl) (word_and (decimal source) (text ∷ []) (decimal_bytes source) (word_and text [] fits.1 no_words))
 kind_bytes (event.CredsEnd source) fits = one_number (codes "creds-end") source (looked (codes "creds-end") refl)
 kind_bytes (event.Timeout ms) fits = word_and (codes "timeout") (time_word ms ∷ []) (looked (codes "timeout") refl) (word_and (time_word ms) [] (time_bytes ms) no_words)
+kind_bytes event.DropStream fits = word_and (codes "drop-stream") [] (looked (codes "drop-stream") refl) no_words
 kind_bytes event.Shutdown fits = word_and (codes "shutdown") [] (looked (codes "shutdown") refl) no_words
 
 kind_more_bytes : (kind : EventKind) → FitsKind kind → All (All AreBytes) (event_more kind)
@@ -187,6 +197,7 @@ kind_more_bytes (event.Creds source auth) fits = All-nil (All AreBytes)
 kind_more_bytes (event.CredsError source text) fits = All-nil (All AreBytes)
 kind_more_bytes (event.CredsEnd source) fits = All-nil (All AreBytes)
 kind_more_bytes (event.Timeout ms) fits = All-nil (All AreBytes)
+kind_more_bytes event.DropStream fits = All-nil (All AreBytes)
 kind_more_bytes event.Shutdown fits = All-nil (All AreBytes)
 
 draw_bytes : (w : ℕ) → All AreBytes (draw_words w)
@@ -255,10 +266,15 @@ later_bytes config =
     All-append AreBytes (times_words config ++ numbers_words config) (switch_words config)
     (All-append AreBytes (times_words config) (numbers_words config) (times_bytes config) (numbers_bytes config)) (switch_bytes config)
 
+name_bytes : (kind : SessionKind) → AreBytes (kind_word kind)
+name_bytes kind.Single = looked (codes "single") refl
+name_bytes kind.PubSub = looked (codes "pubsub") refl
+name_bytes kind.Monitor = looked (codes "monitor") refl
+
 config_bytes : (config : Config) → FitsConfig config → All AreBytes (config_words config)
 config_bytes config fits =
-    word_and (codes "config") (codes "single" ∷ url config ∷ later_words config) (looked (codes "config") refl)
-    (word_and (codes "single") (url config ∷ later_words config) (looked (codes "single") refl) (word_and (url config) (later_words config) (url_bytes config fits) (later_bytes config)))
+    word_and (codes "config") (kind_word config.kind ∷ url config ∷ later_words config) (looked (codes "config") refl)
+    (word_and (kind_word config.kind) (url config ∷ later_words config) (name_bytes config.kind) (word_and (url config) (later_words config) (url_bytes config fits) (later_bytes config)))
 
 -- a cause that its type holds
 abbrev pub FitsCause : Cause → Type 0

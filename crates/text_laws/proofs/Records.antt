@@ -7,6 +7,7 @@ use Rattle.std.proofs.lemmas.List.Elements.{All-nil, All-head, All-tail}
 use Rattle.driver_model.specs.declared.action.Cause.{Cause}
 use Rattle.driver_model.specs.declared.action.Cause.TheVariants as cause
 use Rattle.driver_model.specs.declared.config.Config.{Config}
+use Rattle.driver_model.specs.declared.kind.SessionKind.{SessionKind}
 use Rattle.driver_model.specs.declared.event.Event.{Event}
 use Rattle.driver_model.specs.declared.event.EventKind.{EventKind}
 use Rattle.driver_model.specs.declared.event.EventKind.TheVariants as event
@@ -24,7 +25,7 @@ use Rattle.trace_text.specs.Words.{escaped, line_of}
 use Rattle.trace_text.specs.Show.{cause_words, cause_more, event_words, event_more, script_line}
 use Rattle.trace_text.proofs.ScriptLines.{some_cause}
 use Rattle.containers.proofs.Choices.{chosen}
-use Rattle.text_laws.specs.Fits.{AreBytes, FitsEvent, FitsHistory, HasForm, HaveForms}
+use Rattle.text_laws.specs.Fits.{AreBytes, FitsEvent, FitsHistory, HasLine, HasForm, WithForm, HaveForms}
 use Rattle.text_laws.specs.Records.{event_lines, record_text, TellsRecord}
 use Rattle.text_laws.proofs.Back.{event_back, opening_back}
 use Rattle.text_laws.proofs.Bytes.{FitsCause, cause_bytes, more_bytes, looked, word_and, no_words}
@@ -43,6 +44,7 @@ goes_on_alone (event.Submit (submission.Pipe commands)) = refl
 goes_on_alone (event.Submit (submission.Multi commands)) = refl
 goes_on_alone (event.Submit (submission.Packed offset count commands)) = refl
 goes_on_alone (event.Submit (submission.Subscription what names)) = refl
+goes_on_alone (event.Submit (submission.Ping message)) = refl
 goes_on_alone (event.Cancel s) = refl
 goes_on_alone (event.Connected link) = refl
 goes_on_alone (event.Refused link kind) = refl
@@ -56,6 +58,7 @@ goes_on_alone (event.Creds source auth) = refl
 goes_on_alone (event.CredsError source text) = refl
 goes_on_alone (event.CredsEnd source) = refl
 goes_on_alone (event.Timeout ms) = refl
+goes_on_alone event.DropStream = refl
 goes_on_alone event.Shutdown = refl
 
 -- nor are they behind a word more
@@ -74,6 +77,7 @@ goes_on_behind word (event.Creds source auth) = refl
 goes_on_behind word (event.CredsError source text) = refl
 goes_on_behind word (event.CredsEnd source) = refl
 goes_on_behind word (event.Timeout ms) = refl
+goes_on_behind word event.DropStream = refl
 goes_on_behind word event.Shutdown = refl
 
 goes_on : (e : Event) → is_end (cause_line (cause.Event e)) ≡ false
@@ -119,50 +123,51 @@ lines_are [] = last_is ∙ sym (append-nil last_line)
 lines_are (e ∷ es) = append_assoc (script_line (cause.Event e)) (event_lines es) (codes "end\n") ∙ ap (λ t. script_line (cause.Event e) ++ t) (lines_are es)
 
 -- what is read of a line is what was written there
-an_event : (number room : ℕ) (e : Event) → FitsEvent e → HasForm e.kind → (behind : List (List ℕ)) → 0 < length behind → Keeps number room (raw_cause (cause.Event e) ∷ behind) → (es : List Event)
-    → events_from (number + 1) (room - (length (raw_cause (cause.Event e)) + 1)) behind ≡ Ok es → events_from number room (raw_cause (cause.Event e) ∷ behind) ≡ Ok (e ∷ es)
-an_event number room e fits form behind some keeps es rest =
+an_event : (session : SessionKind) (number room : ℕ) (e : Event) → FitsEvent e → HasForm session e.kind → (behind : List (List ℕ)) → 0 < length behind → Keeps number room (raw_cause (cause.Event e) ∷ behind) → (es : List Event)
+    → events_from session (number + 1) (room - (length (raw_cause (cause.Event e)) + 1)) behind ≡ Ok es → events_from session number room (raw_cause (cause.Event e) ∷ behind) ≡ Ok (e ∷ es)
+an_event session number room e fits form behind some keeps es rest =
     let line = raw_cause (cause.Event e) in
-    let left = events_from (number + 1) (room - (length line + 1)) behind in
-    ap (λ o. line_then number (option_and_then words_of_line o) (is_nothing behind) left) (kept_line number room line behind some keeps)
-    ∙ ap (λ o. line_then number o (is_nothing behind) left) (event_told e fits)
-    ∙ ap (λ b. if b then (if is_nothing behind then Ok [] else Err (number + 1)) else event_then number (event_of (cause_line (cause.Event e))) left) (goes_on e)
-    ∙ ap (λ o. event_then number o left) (event_back e fits form)
+    let left = events_from session (number + 1) (room - (length line + 1)) behind in
+    ap (λ o. line_then session number (option_and_then words_of_line o) (is_nothing behind) left) (kept_line number room line behind some keeps)
+    ∙ ap (λ o. line_then session number o (is_nothing behind) left) (event_told e fits)
+    ∙ ap (λ b. if b then (if is_nothing behind then Ok [] else Err (number + 1)) else event_then number (event_of session (cause_line (cause.Event e))) left) (goes_on e)
+    ∙ ap (λ o. event_then number o left) (event_back session e fits form)
     ∙ ap (result_map_both (λ events. e ∷ events) (λ n. n)) rest
 
-the_end : (number room : ℕ) → Keeps number room (raw_of end_words [] ∷ [] ∷ []) → events_from number room (raw_of end_words [] ∷ [] ∷ []) ≡ Ok []
-the_end number room keeps =
+the_end : (session : SessionKind) (number room : ℕ) → Keeps number room (raw_of end_words [] ∷ [] ∷ []) → events_from session number room (raw_of end_words [] ∷ [] ∷ []) ≡ Ok []
+the_end session number room keeps =
     let line = raw_of end_words [] in
-    let left = events_from (number + 1) (room - (length line + 1)) ([] ∷ []) in
-    ap (λ o. line_then number (option_and_then words_of_line o) true left) (kept_line number room line ([] ∷ []) (omega arith) keeps)
-    ∙ ap (λ o. line_then number o true left) end_told
+    let left = events_from session (number + 1) (room - (length line + 1)) ([] ∷ []) in
+    ap (λ o. line_then session number (option_and_then words_of_line o) true left) (kept_line number room line ([] ∷ []) (omega arith) keeps)
+    ∙ ap (λ o. line_then session number o true left) end_told
 
-events_told : (es : List Event) → All FitsEvent es → HaveForms es → (number room : ℕ) → Keeps number room (parts 10 (lines_behind es)) → events_from number room (parts 10 (lines_behind es)) ≡ Ok es
-events_told [] fits forms number room keeps =
+events_told : (session : SessionKind) (es : List Event) → All FitsEvent es → All (WithForm session) es → (number room : ℕ) → Keeps number room (parts 10 (lines_behind es))
+    → events_from session number room (parts 10 (lines_behind es)) ≡ Ok es
+events_told session [] fits forms number room keeps =
     let lines = parts_line end_words [] [] in
-    ap (events_from number room) lines ∙ the_end number room (subst (Keeps number room) lines keeps)
-events_told (e ∷ es) fits forms number room keeps =
+    ap (events_from session number room) lines ∙ the_end session number room (subst (Keeps number room) lines keeps)
+events_told session (e ∷ es) fits forms number room keeps =
     let c = cause.Event e in
     let behind = parts 10 (lines_behind es) in
     let some = some_parts 10 (lines_behind es) in
     let lines = parts_line (cause_words c) (cause_more c) (lines_behind es) in
     let kept = subst (Keeps number room) lines keeps in
-    let rest = events_told es (All-tail FitsEvent e es fits) (All-tail (λ x. HasForm x.kind) e es forms) (number + 1) (room - (length (raw_cause c) + 1)) (kept_behind number room (raw_cause c) behind some kept) in
-    ap (events_from number room) lines ∙ an_event number room e (All-head FitsEvent e es fits) (All-head (λ x. HasForm x.kind) e es forms) behind some kept es rest
+    let rest = events_told session es (All-tail FitsEvent e es fits) (All-tail (WithForm session) e es forms) (number + 1) (room - (length (raw_cause c) + 1)) (kept_behind number room (raw_cause c) behind some kept) in
+    ap (events_from session number room) lines ∙ an_event session number room e (All-head FitsEvent e es fits) (All-head (WithForm session) e es forms) behind some kept es rest
 
-an_opening : (config : Config) (word : ℕ) → FitsCause (cause.Opening config word) → (behind : List (List ℕ)) → 0 < length behind → Keeps 1 max_text (raw_cause (cause.Opening config word) ∷ behind) → (es : List Event)
-    → events_from 2 (max_text - (length (raw_cause (cause.Opening config word)) + 1)) behind ≡ Ok es
+an_opening : (config : Config) (word : ℕ) → FitsCause (cause.Opening config word) → HasLine config → (behind : List (List ℕ)) → 0 < length behind → Keeps 1 max_text (raw_cause (cause.Opening config word) ∷ behind) → (es : List Event)
+    → events_from config.kind 2 (max_text - (length (raw_cause (cause.Opening config word)) + 1)) behind ≡ Ok es
     → script_from (raw_cause (cause.Opening config word) ∷ behind) ≡ Ok (record { config = config; word = word; events = es })
-an_opening config word fits behind some keeps es rest =
+an_opening config word fits has behind some keeps es rest =
     let line = raw_cause (cause.Opening config word) in
-    let left = events_from 2 (max_text - (length line + 1)) behind in
+    let left = λ (session : SessionKind). events_from session 2 (max_text - (length line + 1)) behind in
     ap (λ o. config_then (option_and_then opening_of (option_and_then words_of_line o)) left) (kept_line 1 max_text line behind some keeps)
     ∙ ap (λ o. config_then (option_and_then opening_of o) left) (opening_told config word fits)
-    ∙ ap (λ o. config_then o left) (opening_back config word fits.0 fits.1)
-    ∙ ap (config_then (Some (config, word))) rest
+    ∙ ap (λ o. config_then o left) (opening_back config word fits.0 has fits.1)
+    ∙ ap (result_map_both (λ events. record { config = config; word = word; events = events }) (λ n. n)) rest
 
 -- where the text keeps the limits, it is the script of the history
-record_told : (config : Config) (word : ℕ) (events : List Event) → FitsHistory config word events → HaveForms events → keeps_limits (record_text config word events) ≡ true
+record_told : (config : Config) (word : ℕ) (events : List Event) → FitsHistory config word events → HaveForms config events → keeps_limits (record_text config word events) ≡ true
     → script_of (record_text config word events) ≡ Ok (record { config = config; word = word; events = events })
 unfolding script_of
 record_told config word events fits forms keeps =
@@ -172,14 +177,14 @@ record_told config word events fits forms keeps =
     let text = append_assoc (script_line c) (event_lines events) (codes "end\n") ∙ ap (λ t. script_line c ++ t) (lines_are events) in
     let lines = ap (parts 10) text ∙ parts_line (cause_words c) (cause_more c) (lines_behind events) in
     let kept = subst (Keeps 1 max_text) lines (keeps_parts (record_text config word events) keeps) in
-    let rest = events_told events fits.events forms 2 (max_text - (length (raw_cause c) + 1)) (kept_behind 1 max_text (raw_cause c) behind some kept) in
-    ap script_from lines ∙ an_opening config word (fits.config, fits.word) behind some kept events rest
+    let rest = events_told config.kind events fits.events forms.events 2 (max_text - (length (raw_cause c) + 1)) (kept_behind 1 max_text (raw_cause c) behind some kept) in
+    ap script_from lines ∙ an_opening config word (fits.config, fits.word) forms.config behind some kept events rest
 
-told_by : (config : Config) (word : ℕ) (events : List Event) → FitsHistory config word events → HaveForms events → (keeps : Bool) → keeps_limits (record_text config word events) ≡ keeps
+told_by : (config : Config) (word : ℕ) (events : List Event) → FitsHistory config word events → HaveForms config events → (keeps : Bool) → keeps_limits (record_text config word events) ≡ keeps
     → MatchBool keeps (script_of (record_text config word events) ≡ Ok (record { config = config; word = word; events = events })) (IsErr (script_of (record_text config word events)))
 told_by config word events fits forms true keeps = record_told config word events fits forms keeps
 told_by config word events fits forms false beyond = subst IsErr (sym (at_fault (record_text config word events) beyond).1) refl
 
 -- and else it is no script
-pub records_told : (config : Config) (word : ℕ) (events : List Event) → FitsHistory config word events → HaveForms events → TellsRecord config word events
+pub records_told : (config : Config) (word : ℕ) (events : List Event) → FitsHistory config word events → HaveForms config events → TellsRecord config word events
 records_told config word events fits forms = told_by config word events fits forms (keeps_limits (record_text config word events)) refl

@@ -1,5 +1,5 @@
--- The history that a script is has nothing but what its types hold, and its submissions have forms.
-use Rattle.std.proofs.Common.{◌≡◌, ℕ, ◌+◌, ◌-◌, Bool, ◌&&◌, ◌==◌, bytes_eq, codes, nat_le, nat_lt, List, [], ◌∷◌, length, All, Some, None, Option, IfSome, IfOk, Ok, Err, Result, map, option_and_then, if◌then◌else◌, arith}
+-- The history that a script is has nothing but what its types hold, its configuration has a line, and its submissions have forms.
+use Rattle.std.proofs.Common.{◌≡◌, ℕ, ◌+◌, ◌-◌, Bool, ◌&&◌, ◌==◌, bytes_eq, codes, nat_le, nat_lt, List, [], ◌∷◌, length, All, Some, None, Option, IfSome, IfOk, Ok, Err, Result, map, option_and_then, if◌then◌else◌}
 use Rattle.std.specs.List.{onto_first, slice_split}
 use Rattle.std.specs.Result.{result_map_both}
 use Rattle.std.proofs.lemmas.List.Elements.{All-nil, All-cons, All-head, All-tail, All-map, All-weaker}
@@ -7,6 +7,7 @@ use Rattle.std.proofs.lemmas.Result.{IfOk-at_ok}
 use Rattle.percent_encoding.specs.Percent.{percent_decode}
 use Rattle.percent_encoding.proofs.PercentLemmas.{All-percent_decode}
 use Rattle.driver_model.specs.declared.config.Config.{Config}
+use Rattle.driver_model.specs.declared.kind.SessionKind.{SessionKind}
 use Rattle.driver_model.specs.declared.event.Event.{Event}
 use Rattle.script_text.specs.declared.script.Script.{Script}
 use Rattle.script_text.specs.Words.{LineWords, parts, is_well_escaped, unescaped, is_separator, all_of, group_of, line_words, words_of_line}
@@ -14,7 +15,8 @@ use Rattle.script_text.specs.EventLine.{event_of}
 use Rattle.script_text.specs.ConfigLine.{opening_of}
 use Rattle.script_text.specs.Script.{max_lines, max_line, max_text, line_at, words_at, is_end, is_nothing, event_then, line_then, events_from, config_then, script_from, script_of}
 use Rattle.containers.proofs.Choices.{chosen}
-use Rattle.text_laws.specs.Fits.{IsByte, AreBytes, FitsConfig, FitsEvent, FitsHistory, HasForm, HaveForms}
+use Rattle.text_laws.specs.Fits.{IsByte, AreBytes, FitsEvent, FitsHistory, WithForm, HaveForms}
+use Rattle.text_laws.specs.History.{script_with}
 use Rattle.text_laws.proofs.Held.{then_read, if_read, all_read}
 use Rattle.text_laws.proofs.ScriptEvents.{IsByteLine, SaidEvent, event_fits}
 use Rattle.text_laws.proofs.ScriptConfigs.{FitsOpening, opening_fits}
@@ -71,55 +73,59 @@ line_bytes number room (line ∷ next ∷ rest) each =
 pub words_bytes : (number room : ℕ) (lines : List (List ℕ)) → AllBytes lines → IfSome (words_at number room lines) IsByteLine
 words_bytes number room lines each = then_read AreBytes IsByteLine words_of_line byte_line (line_at number room lines) (line_bytes number room lines each)
 
-abbrev AllFit : List Event → Type 0
-AllFit = All SaidEvent
+abbrev AllFit : SessionKind → List Event → Type 0
+AllFit session = All (SaidEvent session)
 
 -- the events of lines
-event_before : (e : Event) → SaidEvent e → (rest : Result (List Event) ℕ) → IfOk rest AllFit → IfOk (result_map_both (λ es. e ∷ es) (λ n. n) rest) AllFit
-event_before e fits (Ok es) each = All-cons SaidEvent e es fits each
-event_before e fits (Err n) each = tt
+module _ (session : SessionKind) where
+  event_before : (e : Event) → SaidEvent session e → (rest : Result (List Event) ℕ) → IfOk rest (AllFit session) → IfOk (result_map_both (λ es. e ∷ es) (λ n. n) rest) (AllFit session)
+  event_before e fits (Ok es) each = All-cons (SaidEvent session) e es fits each
+  event_before e fits (Err n) each = tt
 
-event_then_fits : (number : ℕ) (o : Option Event) → IfSome o SaidEvent → (rest : Result (List Event) ℕ) → IfOk rest AllFit → IfOk (event_then number o rest) AllFit
-event_then_fits number None fits rest each = tt
-event_then_fits number (Some e) fits rest each = event_before e fits rest each
+  event_then_fits : (number : ℕ) (o : Option Event) → IfSome o (SaidEvent session) → (rest : Result (List Event) ℕ) → IfOk rest (AllFit session) → IfOk (event_then number o rest) (AllFit session)
+  event_then_fits number None fits rest each = tt
+  event_then_fits number (Some e) fits rest each = event_before e fits rest each
 
-line_then_fits : (number : ℕ) (o : Option LineWords) → IfSome o IsByteLine → (nothing_behind : Bool) (rest : Result (List Event) ℕ) → IfOk rest AllFit → IfOk (line_then number o nothing_behind rest) AllFit
-line_then_fits number None small nothing_behind rest each = tt
-line_then_fits number (Some words) small nothing_behind rest each =
-    chosen (λ r. IfOk r AllFit) (is_end words) (if nothing_behind then Ok [] else Err (number + 1)) (event_then number (event_of words) rest)
-    (λ t. chosen (λ r. IfOk r AllFit) nothing_behind (Ok []) (Err (number + 1)) (λ u. All-nil SaidEvent) (λ f. tt))
-    (λ f. event_then_fits number (event_of words) (event_fits words small) rest each)
+  line_then_fits : (number : ℕ) (o : Option LineWords) → IfSome o IsByteLine → (nothing_behind : Bool) (rest : Result (List Event) ℕ) → IfOk rest (AllFit session) → IfOk (line_then session number o nothing_behind rest) (AllFit session)
+  line_then_fits number None small nothing_behind rest each = tt
+  line_then_fits number (Some words) small nothing_behind rest each =
+      chosen (λ r. IfOk r (AllFit session)) (is_end words) (if nothing_behind then Ok [] else Err (number + 1)) (event_then number (event_of session words) rest)
+      (λ t. chosen (λ r. IfOk r (AllFit session)) nothing_behind (Ok []) (Err (number + 1)) (λ u. All-nil (SaidEvent session)) (λ f. tt))
+      (λ f. event_then_fits number (event_of session words) (event_fits session words small) rest each)
 
-events_fit : (number room : ℕ) (lines : List (List ℕ)) → AllBytes lines → IfOk (events_from number room lines) AllFit
-events_fit number room [] each = tt
-events_fit number room (line ∷ rest) each =
-    line_then_fits number (words_at number room (line ∷ rest)) (words_bytes number room (line ∷ rest) each) (is_nothing rest)
-    (events_from (number + 1) (room - (length line + 1)) rest) (events_fit (number + 1) (room - (length line + 1)) rest (All-tail AreBytes line rest each))
+  events_fit : (number room : ℕ) (lines : List (List ℕ)) → AllBytes lines → IfOk (events_from session number room lines) (AllFit session)
+  events_fit number room [] each = tt
+  events_fit number room (line ∷ rest) each =
+      line_then_fits number (words_at number room (line ∷ rest)) (words_bytes number room (line ∷ rest) each) (is_nothing rest)
+      (events_from session (number + 1) (room - (length line + 1)) rest) (events_fit (number + 1) (room - (length line + 1)) rest (All-tail AreBytes line rest each))
 
--- a script that its types hold, and whose submissions have forms
+-- a script that its types hold, whose configuration has a line, and whose submissions have forms
 abbrev FitsScript : Script → Type 0
-FitsScript s = FitsHistory s.config s.word s.events × HaveForms s.events
+FitsScript s = FitsHistory s.config s.word s.events × HaveForms s.config s.events
 
-with_opening : (opening : Config × ℕ) → FitsOpening opening → (rest : Result (List Event) ℕ) → IfOk rest AllFit → IfOk (config_then (Some opening) rest) FitsScript
-with_opening opening fits (Ok es) each =
-    (record { config = fits.0; word = fits.1; events = All-weaker SaidEvent FitsEvent (λ e said. said.0) es each }, All-weaker SaidEvent (λ e. HasForm e.kind) (λ e said. said.1) es each)
+with_opening : (opening : Config × ℕ) → FitsOpening opening → (rest : Result (List Event) ℕ) → IfOk rest (AllFit opening.0.kind)
+    → IfOk (result_map_both (λ events. script_with opening events) (λ n. n) rest) FitsScript
+with_opening opening fits (Ok es) each = (
+  record { config = fits.0.0; word = fits.1; events = All-weaker (SaidEvent opening.0.kind) FitsEvent (λ e said. said.0) es each },
+  record { config = fits.0.1; events = All-weaker (SaidEvent opening.0.kind) (WithForm opening.0.kind) (λ e said. said.1) es each },
+)
 with_opening opening fits (Err n) each = tt
 
-config_then_fits : (o : Option (Config × ℕ)) → IfSome o FitsOpening → (rest : Result (List Event) ℕ) → IfOk rest AllFit → IfOk (config_then o rest) FitsScript
+config_then_fits : (o : Option (Config × ℕ)) → IfSome o FitsOpening → (rest : SessionKind → Result (List Event) ℕ) → ((session : SessionKind) → IfOk (rest session) (AllFit session)) → IfOk (config_then o rest) FitsScript
 config_then_fits None fits rest each = tt
-config_then_fits (Some opening) fits rest each = with_opening opening fits rest each
+config_then_fits (Some opening) fits rest each = with_opening opening fits (rest opening.0.kind) (each opening.0.kind)
 
 lines_fit : (lines : List (List ℕ)) → AllBytes lines → IfOk (script_from lines) FitsScript
 lines_fit [] each = tt
 lines_fit (first ∷ rest) each =
     config_then_fits (option_and_then opening_of (words_at 1 max_text (first ∷ rest)))
     (then_read IsByteLine FitsOpening opening_of opening_fits (words_at 1 max_text (first ∷ rest)) (words_bytes 1 max_text (first ∷ rest) each))
-    (events_from 2 (max_text - (length first + 1)) rest) (events_fit 2 (max_text - (length first + 1)) rest (All-tail AreBytes first rest each))
+    (λ session. events_from session 2 (max_text - (length first + 1)) rest) (λ session. events_fit session 2 (max_text - (length first + 1)) rest (All-tail AreBytes first rest each))
 
 text_fits : (text : List ℕ) → AreBytes text → IfOk (script_of text) FitsScript
 unfolding script_of
 text_fits text small = lines_fit (parts 10 text) (parts_bytes 10 text small)
 
 -- what a text of bytes says
-pub script_fits : (text : List ℕ) (s : Script) → AreBytes text → script_of text ≡ Ok s → FitsHistory s.config s.word s.events × HaveForms s.events
+pub script_fits : (text : List ℕ) (s : Script) → AreBytes text → script_of text ≡ Ok s → FitsHistory s.config s.word s.events × HaveForms s.config s.events
 script_fits text s small reads = IfOk-at_ok FitsScript reads (text_fits text small)

@@ -1,5 +1,5 @@
 -- The turns of a replay's trace are those of its history, and its text tells them.
-use Rattle.std.proofs.Common.{◌≡◌, ℕ, ◌+◌, false, List, [], ◌∷◌, ◌++◌, length, All, Option, Some, None, map, refl, ap, ◌∙◌}
+use Rattle.std.proofs.Common.{◌≡◌, ℕ, ◌+◌, Bool, true, false, not, if◌then◌else◌, List, [], ◌∷◌, ◌++◌, length, All, Option, Some, None, map, refl, ap, ◌∙◌, subst}
 use Rattle.std.specs.Prelude.{option_and_then}
 use Rattle.std.proofs.lemmas.List.Elements.{All-nil, All-cons, All-head, All-tail, All-same}
 use Rattle.driver_model.specs.declared.action.Action.{Action}
@@ -8,7 +8,10 @@ use Rattle.driver_model.specs.declared.action.Cause.{Cause}
 use Rattle.driver_model.specs.declared.action.Cause.TheVariants as cause
 use Rattle.connection_info.specs.declared.address.ConnectionInfo.{ConnectionInfo}
 use Rattle.driver_model.specs.declared.config.Config.{Config}
-use Rattle.driver_model.specs.Config.{address, connect_timeout}
+use Rattle.driver_model.specs.Config.{address, connect_timeout, hearing_of, permits, buffer_size, fault_in, has_line, first_fault}
+use Rattle.driver_model.specs.Hearing.{hears_pushes}
+use Rattle.redis_error.specs.declared.config_name.ConfigName.{ConfigName}
+use Rattle.redis_error.specs.declared.config_name.ConfigName.TheVariants as name
 use Rattle.driver_model.specs.declared.event.Event.{Event}
 use Rattle.driver_model.specs.declared.event.EventKind.{EventKind}
 use Rattle.driver_model.specs.declared.event.EventKind.TheVariants as event
@@ -19,10 +22,11 @@ use Rattle.shared_session.specs.Turn.{next_turn, is_bad, shown_each, actions_of}
 use Rattle.shared_session.specs.Replay.{opening_core, connect_asked, turns_on, trace_of, AreGoodOn, AreGood}
 use Rattle.legal_trace.specs.Legal.{causes, event_causes}
 use Rattle.trace_text.specs.Show.{show}
-use Rattle.text_laws.specs.Fits.{FitsEvent, FitsHistory, HasForm, HaveForms}
+use Rattle.text_laws.specs.Fits.{FitsEvent, FitsHistory, HasLine, HasForm, WithForm, HaveForms}
 use Rattle.text_laws.specs.History.{history_in, history_of}
 use Rattle.text_laws.proofs.Back.{causes_back}
 use Rattle.text_laws.proofs.Bytes.{FitsCause}
+use Rattle.shared_session.proofs.Stays.{turn_kind}
 use Rattle.text_laws.proofs.Turns.{cause_line, turns_told}
 
 -- what a connection shows begins no turn
@@ -35,6 +39,9 @@ no_causes l t c (act.RenewalTimer k ms ∷ more) = no_causes l (t + 1) (c + 0) m
 no_causes l t c (act.NeedCreds ∷ more) = no_causes l (t + 0) (c + 1) more
 no_causes l t c (act.Close ∷ more) = no_causes l (t + 0) (c + 0) more
 no_causes l t c (act.Push info ∷ more) = no_causes l (t + 0) (c + 0) more
+no_causes l t c (act.Message m ∷ more) = no_causes l (t + 0) (c + 0) more
+no_causes l t c (act.Monitor v ∷ more) = no_causes l (t + 0) (c + 0) more
+no_causes l t c (act.Watch message need len ∷ more) = no_causes l (t + 0) (c + 0) more
 no_causes l t c (act.Write bytes ∷ more) = no_causes l (t + 0) (c + 0) more
 no_causes l t c (act.Wait n kind ∷ more) = no_causes l (t + 0) (c + 0) more
 no_causes l t c (act.SetUp message need len ∷ more) = no_causes l (t + 0) (c + 0) more
@@ -49,6 +56,8 @@ causes_append (action.Connect link host port ∷ xs) ys = causes_append xs ys
 causes_append (action.Timer timer ms what ∷ xs) ys = causes_append xs ys
 causes_append (action.Took owner link count ∷ xs) ys = causes_append xs ys
 causes_append (action.Push link info ∷ xs) ys = causes_append xs ys
+causes_append (action.Message msg ∷ xs) ys = causes_append xs ys
+causes_append (action.Monitor value ∷ xs) ys = causes_append xs ys
 causes_append (action.NeedCreds source link ∷ xs) ys = causes_append xs ys
 causes_append (action.Close link ∷ xs) ys = causes_append xs ys
 causes_append (action.Write link bytes ∷ xs) ys = causes_append xs ys
@@ -91,7 +100,7 @@ causes_fit : (config : Config) (word : ℕ) (events : List Event) → FitsHistor
 causes_fit config word events fits = All-cons FitsCause (cause.Opening config word) (event_causes events) (fits.config, fits.word) (events_fit events fits.events)
 
 -- also where an event is bad, if no submission is without a form
-pub history_back : (config : Config) (word : ℕ) (events : List Event) → FitsHistory config word events → HaveForms events
+pub history_back : (config : Config) (word : ℕ) (events : List Event) → FitsHistory config word events → HaveForms config events
     → history_of (show (trace_of config word events)) ≡ Some (record { config = config; word = word; events = events })
 unfolding history_of
 history_back config word events fits forms =
@@ -100,7 +109,7 @@ history_back config word events fits forms =
     ∙ ap (λ (cs : List Cause). history_in (map cause_line cs)) turns ∙ causes_back config word events fits forms
 
 -- a good event hands in nothing without a form
-good_form : (c : Core) (kind : EventKind) → is_bad c kind ≡ false → HasForm kind
+good_form : (c : Core) (kind : EventKind) → is_bad c kind ≡ false → HasForm c.kind kind
 unfolding is_bad
 good_form c (event.Submit what) good = good
 good_form c (event.Cancel n) good = tt
@@ -116,18 +125,28 @@ good_form c (event.Creds source auth) good = tt
 good_form c (event.CredsError source text) good = tt
 good_form c (event.CredsEnd source) good = tt
 good_form c (event.Timeout ms) good = tt
+good_form c event.DropStream good = tt
 good_form c event.Shutdown good = tt
 
-good_forms_on : (c : Core) (es : List Event) → AreGoodOn c es → HaveForms es
-good_forms_on c [] good = All-nil (λ e. HasForm e.kind)
-good_forms_on c (e ∷ es) good = All-cons (λ x. HasForm x.kind) e es (good_form c e.kind good.0) (good_forms_on (next_turn c e.kind).core es good.1)
+good_forms_on : (c : Core) (es : List Event) → AreGoodOn c es → All (WithForm c.kind) es
+good_forms_on c [] good = All-nil (WithForm c.kind)
+good_forms_on c (e ∷ es) good =
+    All-cons (WithForm c.kind) e es (good_form c e.kind good.0) (subst (λ session. All (WithForm session) es) (turn_kind c e.kind) (good_forms_on (next_turn c e.kind).core es good.1))
+
+-- a configuration of which nothing is refused has a line
+line_by : (has : Bool) (rest : Option ConfigName) → (if not has then Some name.Kind else rest) ≡ None → has ≡ true
+line_by true rest none = refl
+line_by false rest none = cc none
+
+pub sound_line : (config : Config) → first_fault config ≡ None → HasLine config
+sound_line config none = line_by (has_line config) (fault_in (address config) (hears_pushes (hearing_of config)) (permits config) (buffer_size config)) none
 
 -- nor does a good history
-pub good_forms : (config : Config) (word : ℕ) (events : List Event) → AreGood config word events → HaveForms events
+pub good_forms : (config : Config) (word : ℕ) (events : List Event) → HasLine config → AreGood config word events → HaveForms config events
 unfolding AreGood
-good_forms config word events good = good_forms_on (opening_core config word) events good
+good_forms config word events line good = record { config = line; events = good_forms_on (opening_core config word) events good }
 
 -- without exception where no event is bad
-pub good_history_back : (config : Config) (word : ℕ) (events : List Event) → FitsHistory config word events → AreGood config word events
+pub good_history_back : (config : Config) (word : ℕ) (events : List Event) → FitsHistory config word events → HasLine config → AreGood config word events
     → history_of (show (trace_of config word events)) ≡ Some (record { config = config; word = word; events = events })
-good_history_back config word events fits good = history_back config word events fits (good_forms config word events good)
+good_history_back config word events fits line good = history_back config word events fits (good_forms config word events line good)

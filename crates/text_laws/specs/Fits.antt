@@ -1,7 +1,9 @@
 -- What the types of a history hold: each number is in the range of its type, and each byte is one. And which histories have
--- submissions with forms alone.
-use Rattle.std.specs.Prelude.{◌≡◌, ℕ, ◌^◌, ◌<◌, false, List, Option, Some, None, IfSome, All}
+-- lines: a configuration that has one, and submissions with forms alone.
+use Rattle.std.specs.Prelude.{◌≡◌, ℕ, ◌^◌, ◌<◌, true, false, List, Option, Some, None, IfSome, All}
 use Rattle.driver_model.specs.declared.config.Config.{Config}
+use Rattle.driver_model.specs.declared.kind.SessionKind.{SessionKind}
+use Rattle.driver_model.specs.Config.{has_line}
 use Rattle.driver_model.specs.declared.event.Event.{Event}
 use Rattle.driver_model.specs.declared.event.EventKind.{EventKind}
 use Rattle.driver_model.specs.declared.event.EventKind.TheVariants as event
@@ -29,6 +31,7 @@ FitsSubmission (submission.Pipe commands) = FitsCommands commands
 FitsSubmission (submission.Multi commands) = FitsCommands commands
 FitsSubmission (submission.Packed offset count commands) = (offset < 2 ^ 32) × (count < 2 ^ 32) × FitsCommands commands
 FitsSubmission (submission.Subscription what names) = All AreBytes names
+FitsSubmission (submission.Ping message) = IfSome message AreBytes
 
 -- a number that is less than this, where there is one
 abbrev pub FitsNumber : ℕ → Option ℕ → Type 0
@@ -51,6 +54,7 @@ FitsKind (event.Creds source auth) = (source < 2 ^ 32) × AreBytes auth.username
 FitsKind (event.CredsError source text) = (source < 2 ^ 32) × AreBytes text
 FitsKind (event.CredsEnd source) = source < 2 ^ 32
 FitsKind (event.Timeout ms) = FitsNumber (2 ^ 64) ms
+FitsKind event.DropStream = Unit {0}
 FitsKind event.Shutdown = Unit {0}
 
 -- an event that its type holds
@@ -77,24 +81,34 @@ pub record FitsHistory (c : Config) (w : ℕ) (es : List Event) : Type 0 where
   pub word : w < 2 ^ 64
   pub events : All FitsEvent es
 
--- an event that hands in no submission without a form
-abbrev pub HasForm : EventKind → Type 0
-HasForm (event.Submit s) = has_no_form s ≡ false
-HasForm (event.Cancel s) = Unit {0}
-HasForm (event.Connected link) = Unit {0}
-HasForm (event.Refused link kind) = Unit {0}
-HasForm (event.Wrote link count) = Unit {0}
-HasForm (event.Bytes link piece) = Unit {0}
-HasForm (event.Ended link) = Unit {0}
-HasForm (event.ReadFault link kind) = Unit {0}
-HasForm (event.WriteFault link kind) = Unit {0}
-HasForm (event.Fired timer) = Unit {0}
-HasForm (event.Creds source auth) = Unit {0}
-HasForm (event.CredsError source text) = Unit {0}
-HasForm (event.CredsEnd source) = Unit {0}
-HasForm (event.Timeout ms) = Unit {0}
-HasForm event.Shutdown = Unit {0}
+-- nothing is given but what its kind has, so that it is a line; of what is refused in no way this is true
+abbrev pub HasLine : Config → Type 0
+HasLine c = has_line c ≡ true
 
--- each submission has a form
-abbrev pub HaveForms : List Event → Type 0
-HaveForms events = All (λ e. HasForm e.kind) events
+-- an event that hands in no submission for which a session of this kind has no form
+abbrev pub HasForm : SessionKind → EventKind → Type 0
+HasForm session (event.Submit s) = has_no_form session s ≡ false
+HasForm session (event.Cancel s) = Unit {0}
+HasForm session (event.Connected link) = Unit {0}
+HasForm session (event.Refused link kind) = Unit {0}
+HasForm session (event.Wrote link count) = Unit {0}
+HasForm session (event.Bytes link piece) = Unit {0}
+HasForm session (event.Ended link) = Unit {0}
+HasForm session (event.ReadFault link kind) = Unit {0}
+HasForm session (event.WriteFault link kind) = Unit {0}
+HasForm session (event.Fired timer) = Unit {0}
+HasForm session (event.Creds source auth) = Unit {0}
+HasForm session (event.CredsError source text) = Unit {0}
+HasForm session (event.CredsEnd source) = Unit {0}
+HasForm session (event.Timeout ms) = Unit {0}
+HasForm session event.DropStream = Unit {0}
+HasForm session event.Shutdown = Unit {0}
+
+-- the same, of the event with its word
+abbrev pub WithForm : SessionKind → Event → Type 0
+WithForm session e = HasForm session e.kind
+
+-- the configuration has a line, and each submission a form
+pub record HaveForms (c : Config) (es : List Event) : Type 0 where
+  pub config : HasLine c
+  pub events : All (WithForm c.kind) es

@@ -4,6 +4,8 @@
 #[cfg(test)]
 mod errors;
 #[cfg(test)]
+mod listening;
+#[cfg(test)]
 mod scripts;
 #[cfg(test)]
 mod submissions;

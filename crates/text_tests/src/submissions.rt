@@ -1,5 +1,5 @@
 use containers::{Bytes, Names};
-use driver_model::{Commands, Event, EventKind, Submission};
+use driver_model::{Event, EventKind, SessionKind, Submission};
 use script_text::{ScriptError, read_config, read_lines, read_script};
 use std::alloc::{AllocError, Global};
 use std::test::Fail;
@@ -90,6 +90,13 @@ fn show_in(alloc: Global, out: &mut Bytes, submission: &Submission) -> Result<()
         } => show_packed(alloc, out, *offset, *count, commands.as_slice()),
         Submission::Subscription { action, names } => {
             show_word(out, action.word(), names.as_slice())
+        }
+        Submission::Ping { message: None } => out.extend_from_slice(b"ping"),
+        Submission::Ping {
+            message: Some(message),
+        } => {
+            out.extend_from_slice(b"ping ")?;
+            out.extend_from_slice(message.as_slice())
         }
     }
 }
@@ -250,19 +257,39 @@ fn lines_refused(rt: HostRuntime) -> Result<(), AllocError> {
     Ok(())
 }
 
-/// Lines that are submitted, each text with its line at fault, or 0.
-const LINES: [(&[u8], u32); 7] = [
-    (b"end\n", 0),
-    (b"@7 submit cmd GET a\nsubmit multi\nend\n", 0),
-    (b"submit cmd GET a\nconnected 0\nend\n", 2),
-    (b"submit cmd GET a\n", 2),
-    (b"end\nsubmit cmd\n", 2),
-    (b"@x submit cmd\nend\n", 1),
-    (b"config single url=redis://h:6379\nend\n", 1),
+/// Lines that are submitted, each text with the kind of its session and with its line at fault, or 0.
+const LINES: [(SessionKind, &[u8], u32); 11] = [
+    (SessionKind::Single, b"end\n", 0),
+    (
+        SessionKind::Single,
+        b"@7 submit cmd GET a\nsubmit multi\nend\n",
+        0,
+    ),
+    (
+        SessionKind::Single,
+        b"submit cmd GET a\nconnected 0\nend\n",
+        2,
+    ),
+    (SessionKind::Single, b"submit cmd GET a\n", 2),
+    (SessionKind::Single, b"end\nsubmit cmd\n", 2),
+    (SessionKind::Single, b"@x submit cmd\nend\n", 1),
+    (
+        SessionKind::Single,
+        b"config single url=redis://h:6379\nend\n",
+        1,
+    ),
+    (
+        SessionKind::PubSub,
+        b"submit subscribe a\n@7 submit ping\nend\n",
+        0,
+    ),
+    (SessionKind::PubSub, b"submit ping\nsubmit cmd\nend\n", 2),
+    (SessionKind::Monitor, b"end\n", 0),
+    (SessionKind::Monitor, b"submit ping\nend\n", 1),
 ];
 
-fn fault_of_lines(alloc: Global, text: &[u8]) -> Result<u32, AllocError> {
-    match read_lines(alloc, text) {
+fn fault_of_lines(alloc: Global, kind: SessionKind, text: &[u8]) -> Result<u32, AllocError> {
+    match read_lines(alloc, kind, text) {
         Ok(_) => Ok(0),
         Err(ScriptError::Line(line)) => Ok(line),
         Err(ScriptError::NoMemory) => Err(AllocError),
@@ -271,18 +298,21 @@ fn fault_of_lines(alloc: Global, text: &[u8]) -> Result<u32, AllocError> {
 
 #[test]
 fn lines_alone(rt: HostRuntime) -> Result<(), AllocError> {
-    for (text, line) in LINES {
-        let found = fault_of_lines(rt.alloc(), text)?;
+    for (kind, text, line) in LINES {
+        let found = fault_of_lines(rt.alloc(), kind, text)?;
         assert_eq!(rt; found, line);
     }
     Ok(())
 }
 
 /// The words behind `config`, and whether they are a configuration.
-const CONFIGS: [(&[&str], bool); 5] = [
+const CONFIGS: [(&[&str], bool); 8] = [
     (&["single", "url=redis://h:6379"], true),
     (&["single", "lib=off", "url=%72edis://h:6379"], true),
     (&["single"], false),
+    (&["pubsub", "url=redis://h:6379"], true),
+    (&["monitor", "lib=off", "url=redis://h:6379"], true),
+    (&["pubsub", "url=redis://h:6379", "limit=1"], false),
     (&["url=redis://h:6379"], false),
     (
         &["single", "url=redis://h:6379", "url=redis://h:6379"],

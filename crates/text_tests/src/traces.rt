@@ -3,7 +3,7 @@ use containers::{Bytes, Names, Seq};
 use credentials::BasicAuth;
 use driver_model::{
     Action, Cause, Commands, Config, Event, EventKind, Outcome, Owner, Purpose, PushInfo,
-    Submission, WaitKind,
+    SessionKind, Submission, WaitKind,
 };
 use redis_error::FaultKind;
 use resp_value::{PushKind, Value, Values};
@@ -510,6 +510,7 @@ fn opening(alloc: Global, word: u64, url: &[u8], given: Settings) -> Result<Acti
     let url = bytes(alloc, url)?;
     let (connect, response, buffer, limit, boundary, push, creds, lib) = given;
     let config = Config {
+        kind: SessionKind::Single,
         url,
         connect,
         response,

@@ -6,6 +6,7 @@ pub mod Server
 pub mod Allowed
 pub mod Opened
 pub mod Stood
+pub mod Single
 pub mod Refused
 pub mod Misplaced
 pub mod Unopened

@@ -29,6 +29,7 @@ some_words (event.Creds source auth) = omega arith
 some_words (event.CredsError source text) = omega arith
 some_words (event.CredsEnd source) = omega arith
 some_words (event.Timeout ms) = omega arith
+some_words event.DropStream = omega arith
 some_words event.Shutdown = omega arith
 
 behind_draw : (w : ℕ) (words : List (List ℕ)) → 0 < length words → 0 < length (draw_words w ++ words)

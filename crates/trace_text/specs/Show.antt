@@ -5,7 +5,12 @@ use Rattle.resp_value.specs.Data.{array, push, items_of}
 use Rattle.redis_error.specs.Names.{fault_name}
 use Rattle.redis_error.specs.declared.redis_error.RedisError.{RedisError}
 use Rattle.resp_value.specs.View.{data_of}
+use Rattle.resp_value.specs.declared.value.Value.{Value}
 use Rattle.driver_model.specs.declared.config.Config.{Config}
+use Rattle.driver_model.specs.declared.kind.SessionKind.{SessionKind}
+use Rattle.driver_model.specs.declared.kind.SessionKind.TheVariants as kind
+use Rattle.driver_model.specs.declared.msg.Msg.{Msg}
+use Rattle.driver_model.specs.Request.{listed}
 use Rattle.resp_write.specs.declared.subscription.SubscriptionAction.{SubscriptionAction}
 use Rattle.resp_write.specs.declared.subscription.SubscriptionAction.TheVariants as call
 use Rattle.driver_model.specs.declared.event.Submission.{Submission}
@@ -13,7 +18,7 @@ use Rattle.driver_model.specs.declared.event.Submission.TheVariants as submissio
 use Rattle.driver_model.specs.declared.event.EventKind.{EventKind}
 use Rattle.driver_model.specs.declared.event.EventKind.TheVariants as event
 use Rattle.driver_model.specs.declared.action.Owner.{Owner}
-use Rattle.driver_model.specs.declared.action.Owner.TheVariants.{Try, Setup, Auth}
+use Rattle.driver_model.specs.declared.action.Owner.TheVariants.{Try, Setup, Auth, Monitor}
 use Rattle.driver_model.specs.declared.action.WaitKind.{WaitKind}
 use Rattle.driver_model.specs.declared.action.WaitKind.TheVariants as wait
 use Rattle.driver_model.specs.declared.action.Purpose.{Purpose}
@@ -38,11 +43,12 @@ address host port = host ++ byte ":" ∷ decimal port
 abbrev pub submission_word : ℕ → List ℕ
 submission_word s = byte "s" ∷ decimal s
 
--- a try of a submission, its number and its round; what is said to the server before the first request; or new credentials
+-- a try of a submission, its number and its round; what is said to the server before the first request; new credentials; or MONITOR
 abbrev pub owner_word : Owner → List ℕ
 owner_word (Try s round) = submission_word s ++ byte "." ∷ decimal round
 owner_word Setup = codes "setup"
 owner_word Auth = codes "auth"
+owner_word Monitor = codes "monitor"
 
 abbrev pub wait_word : WaitKind → List ℕ
 wait_word wait.Connect = codes "connect"
@@ -121,9 +127,15 @@ switch_words c = push_words c.push ++ creds_words c.creds ++ lib_words c.lib
 abbrev pub later_words : Config → List (List ℕ)
 later_words c = times_words c ++ numbers_words c ++ switch_words c
 
--- the config line of one multiplexed connection
+-- the word of what a session is
+abbrev pub kind_word : SessionKind → List ℕ
+kind_word kind.Single = codes "single"
+kind_word kind.PubSub = codes "pubsub"
+kind_word kind.Monitor = codes "monitor"
+
+-- the config line of a session: what it is, and what is given
 abbrev pub config_words : Config → List (List ℕ)
-config_words c = codes "config" ∷ codes "single" ∷ url c ∷ later_words c
+config_words c = codes "config" ∷ kind_word c.kind ∷ url c ∷ later_words c
 
 -- a time: so many milliseconds, or any number
 abbrev pub time_word : Option ℕ → List ℕ
@@ -156,6 +168,7 @@ submission_words (submission.Pipe commands) = codes "pipe" ∷ first_of commands
 submission_words (submission.Multi commands) = codes "multi" ∷ first_of commands
 submission_words (submission.Packed offset count commands) = codes "packed" ∷ decimal offset ∷ decimal count ∷ first_of commands
 submission_words (submission.Subscription what names) = call_word what ∷ names
+submission_words (submission.Ping message) = codes "ping" ∷ listed message
 
 -- the words behind separators: the commands of a list but for the first
 abbrev pub submission_more : Submission → List (List (List ℕ))
@@ -165,6 +178,7 @@ submission_more (submission.Pipe commands) = behind_first commands
 submission_more (submission.Multi commands) = behind_first commands
 submission_more (submission.Packed offset count commands) = behind_first commands
 submission_more (submission.Subscription what names) = []
+submission_more (submission.Ping message) = []
 
 abbrev pub event_words : EventKind → List (List ℕ)
 event_words (event.Submit s) = codes "submit" ∷ submission_words s
@@ -181,6 +195,7 @@ event_words (event.Creds source auth) = codes "creds" ∷ decimal source ∷ aut
 event_words (event.CredsError source text) = codes "creds-err" ∷ decimal source ∷ text ∷ []
 event_words (event.CredsEnd source) = codes "creds-end" ∷ decimal source ∷ []
 event_words (event.Timeout ms) = codes "timeout" ∷ time_word ms ∷ []
+event_words event.DropStream = codes "drop-stream" ∷ []
 event_words event.Shutdown = codes "shutdown" ∷ []
 
 abbrev pub event_more : EventKind → List (List (List ℕ))
@@ -221,6 +236,15 @@ created_words (Some error) = codes "err" ∷ error_words error
 abbrev pub push_word : PushInfo → List ℕ
 push_word info = if is_disconnection info.kind then codes "disconnect" else canonical (push info.kind (items_of info.parts))
 
+-- the pattern that a message came by, or `-` where it came by its channel
+abbrev pub pattern_word : Option Value → List ℕ
+pattern_word None = codes "-"
+pattern_word (Some pattern) = canonical (data_of pattern)
+
+-- a message of publish/subscribe
+abbrev pub message_words : Msg → List (List ℕ)
+message_words msg = pattern_word msg.pattern ∷ canonical (data_of msg.channel) ∷ canonical (data_of msg.payload) ∷ []
+
 -- the words of an action, as they are before any escape
 abbrev pub words_of : Action → List (List ℕ)
 words_of (action.Turn number cause) = codes "turn" ∷ decimal number ∷ cause_words cause
@@ -228,6 +252,8 @@ words_of (action.Connect link host port) = codes "connect" ∷ decimal link ∷ 
 words_of (action.Timer timer ms what) = codes "timer" ∷ decimal timer ∷ decimal ms ∷ purpose_words what
 words_of (action.Took owner link count) = codes "took" ∷ owner_word owner ∷ decimal link ∷ decimal count ∷ []
 words_of (action.Push link info) = codes "push" ∷ decimal link ∷ push_word info ∷ []
+words_of (action.Message msg) = codes "message" ∷ message_words msg
+words_of (action.Monitor value) = codes "monitor" ∷ canonical (data_of value) ∷ []
 words_of (action.NeedCreds source link) = codes "need-creds" ∷ decimal source ∷ decimal link ∷ []
 words_of (action.Close link) = codes "close" ∷ decimal link ∷ []
 words_of (action.Write link bytes) = codes "write" ∷ decimal link ∷ bytes ∷ []

@@ -1,12 +1,14 @@
 ghost use Rattle.std.specs.Prelude.{◌≡◌, ◌∷◌, [], ◌++◌, OnOk, OnErr, IfOk};
 ghost use Rattle.trace_text.specs.Words.{following};
 ghost use Rattle.trace_text.specs.Show.{show, action_line, created_words, purpose_words, push_word};
+ghost use Rattle.trace_text.specs.Show.{pattern_word};
 ghost use Rattle.trace_text.specs.Writer.{Added, AddedWords};
 
 use crate::writer::Writer;
 use containers::Bytes;
-use driver_model::{Action, Cause, Event, Outcome, Owner, Purpose, PushInfo, WaitKind};
+use driver_model::{Action, Cause, Event, Msg, Outcome, Owner, Purpose, PushInfo, WaitKind};
 use redis_error::RedisError;
+use resp_value::Value;
 use std::alloc::{AllocError, Global};
 use std::mem;
 
@@ -108,6 +110,37 @@ impl Writer {
         self.first(b"push")?;
         self.number(u64::from(link))?;
         self.push_word(info)?;
+        self.end_line()
+    }
+
+    /// The pattern that a message came by, if it came by one.
+    fn pattern(&mut self, pattern: &Option<Value>) -> Result<(), AllocError>
+        ensures before { self.new.before ≡ self.old.before }
+        ensures ok { OnOk result (AddedWords self.old self.new (pattern_word pattern.now ∷ [])) }
+    {
+        match pattern {
+            None => self.literal(b"-"),
+            Some(pattern) => self.value_word(pattern),
+        }
+    }
+
+    fn message(&mut self, msg: &Msg) -> Result<(), AllocError>
+        ensures before { self.new.before ≡ self.old.before }
+        ensures ok { OnOk result (Added self.old self.new (action_line (Action.Message msg.now))) }
+    {
+        self.first(b"message")?;
+        self.pattern(&msg.pattern)?;
+        self.value_word(&msg.channel)?;
+        self.value_word(&msg.payload)?;
+        self.end_line()
+    }
+
+    fn monitored(&mut self, value: &Value) -> Result<(), AllocError>
+        ensures before { self.new.before ≡ self.old.before }
+        ensures ok { OnOk result (Added self.old self.new (action_line (Action.Monitor value.now))) }
+    {
+        self.first(b"monitor")?;
+        self.value_word(value)?;
         self.end_line()
     }
 
@@ -219,6 +252,8 @@ impl Writer {
             Action::Timer { timer, ms, purpose } => self.timer(*timer, *ms, *purpose),
             Action::Took { owner, link, count } => self.took(*owner, *link, *count),
             Action::Push { link, info } => self.pushed(*link, info),
+            Action::Message { msg } => self.message(msg),
+            Action::Monitor { value } => self.monitored(value),
             Action::NeedCreds { source, link } => self.need_creds(*source, *link),
             Action::Close { link } => self.close(*link),
             Action::Write { link, bytes } => self.write(*link, bytes),

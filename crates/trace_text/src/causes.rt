@@ -1,4 +1,5 @@
 ghost use Rattle.std.specs.Prelude.{◌≡◌, ◌++◌, ◌∷◌, [], OnOk, codes, decimal};
+ghost use Rattle.driver_model.specs.Request.{listed};
 ghost use Rattle.redis_error.specs.Names.{fault_name};
 ghost use Rattle.trace_text.specs.Words.{following, separated};
 ghost use Rattle.trace_text.specs.Show.{behind_first, config_words, connect_words, first_of, url};
@@ -165,7 +166,7 @@ impl Writer {
         ensures ok { OnOk result (AddedWords self.old self.new (config_words config.now)) }
     {
         self.literal(b"config")?;
-        self.literal(b"single")?;
+        self.kind(config.kind)?;
         self.url(config)?;
         self.later_settings(config)
     }
@@ -217,6 +218,19 @@ impl Writer {
         self.separated(more)
     }
 
+    /// PING, and its message where it has one.
+    fn ping(&mut self, message: &Option<Bytes>) -> Result<(), AllocError>
+        ensures before { self.new.before ≡ self.old.before }
+        ensures ok { OnOk result
+            (AddedWords self.old self.new (codes "ping" ∷ listed message.now)) }
+    {
+        self.literal(b"ping")?;
+        match message {
+            None => Ok(()),
+            Some(message) => self.word(message.as_slice()),
+        }
+    }
+
     /// The words of what a caller hands in.
     fn submitted(&mut self, submission: &Submission) -> Result<(), AllocError>
         ensures before { self.new.before ≡ self.old.before }
@@ -255,6 +269,7 @@ impl Writer {
                 self.word(call_word(*action))?;
                 self.arguments(names.as_slice())
             }
+            Submission::Ping { message } => self.ping(message),
         }
     }
 
@@ -335,6 +350,7 @@ impl Writer {
                 self.literal(b"timeout")?;
                 self.time(*ms)
             }
+            EventKind::DropStream => self.literal(b"drop-stream"),
             EventKind::Shutdown => self.literal(b"shutdown"),
         }
     }

@@ -1,12 +1,12 @@
 ghost use Rattle.std.specs.Prelude.{◌≡◌, ◌++◌, ◌∷◌, [], OnOk};
 ghost use Rattle.trace_text.specs.Words.{following};
 ghost use Rattle.trace_text.specs.Show.{address, draw_words, owner_word, submission_word};
-ghost use Rattle.trace_text.specs.Show.{wait_word};
+ghost use Rattle.trace_text.specs.Show.{kind_word, wait_word};
 ghost use Rattle.trace_text.specs.Writer.{AddedWords};
 
 use crate::writer::Writer;
 use containers::Bytes;
-use driver_model::{Owner, WaitKind};
+use driver_model::{Owner, SessionKind, WaitKind};
 use std::alloc::AllocError;
 
 impl Writer {
@@ -43,7 +43,7 @@ impl Writer {
         self.digits(u64::from(round))
     }
 
-    /// One more word: a try of a submission, what is said to the server before the first request, or new credentials.
+    /// One more word: a try of a submission, what is said to the server before the first request, new credentials, or MONITOR.
     pub fn owner(&mut self, owner: Owner) -> Result<(), AllocError>
         ensures before { self.new.before ≡ self.old.before }
         ensures ok { OnOk result (AddedWords self.old self.new (owner_word owner ∷ [])) }
@@ -52,6 +52,19 @@ impl Writer {
             Owner::Try { submission, round } => self.try_word(submission, round),
             Owner::Setup => self.literal(b"setup"),
             Owner::Auth => self.literal(b"auth"),
+            Owner::Monitor => self.literal(b"monitor"),
+        }
+    }
+
+    /// One more word: what a session is.
+    pub fn kind(&mut self, kind: SessionKind) -> Result<(), AllocError>
+        ensures before { self.new.before ≡ self.old.before }
+        ensures ok { OnOk result (AddedWords self.old self.new (kind_word kind ∷ [])) }
+    {
+        match kind {
+            SessionKind::Single => self.literal(b"single"),
+            SessionKind::PubSub => self.literal(b"pubsub"),
+            SessionKind::Monitor => self.literal(b"monitor"),
         }
     }
 

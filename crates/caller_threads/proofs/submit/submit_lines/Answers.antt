@@ -2,7 +2,7 @@ use Rattle.std.proofs.Common.{◌≡◌, length, List, sym, ap, ◌∙◌, subst
 use Rattle.shared_session.specs.declared.errors.StepError.TheVariants.{NoMemory}
 use Rattle.session_callers.specs.Calls.{Known}
 use Rattle.session_callers.specs.Rule.{Each}
-use Rattle.caller_threads.specs.Submits.{HaveRun, HaveStopped}
+use Rattle.caller_threads.specs.Submits.{AreAllowed, HaveRun, HaveStopped}
 use Rattle.caller_threads.specs.Jobs.{callers_of, IsOfTable}
 use Rattle.caller_threads.proofs.Results.{written_over}
 use Rattle.caller_threads.proofs.Jobs.{length_callers, each_of, none_submitted, run_and_refused}
@@ -18,6 +18,12 @@ submit_all-answer-requires-clause-of g c κs within =
     let z = c.args.shared.now.table.shared.table_id in
     subst (Each (IsOfTable z)) (sym c.as_mut_slice.ensures.value)
     (each_of z c.in-Ok.seated.items (subst (Each (λ (v : Known). v.table ≡ z)) (sym c.in-Ok.ensures.callers) c.requires.of))
+
+pub submit_all-answer-requires-clause-allowed : goal.submit_all-answer-requires-clause-allowed
+submit_all-answer-requires-clause-allowed g c κs within =
+    let lines = c.args.lines.items in
+    let before = ap callers_of c.as_mut_slice.ensures.value ∙ c.in-Ok.ensures.callers in
+    subst (Each (AreAllowed lines)) (sym before) c.requires.allowed
 
 pub unseat-requires-clause-room : goal.unseat-requires-clause-room
 unseat-requires-clause-room g c =

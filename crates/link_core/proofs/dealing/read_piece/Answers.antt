@@ -1,6 +1,5 @@
-use Rattle.std.proofs.Common.{◌++◌, map, ◌∙◌}
-use Rattle.resp_value.specs.View.{data_of}
-use Rattle.link_core.proofs.CameLemmas.{all_came, all_spoiled, items_came}
+use Rattle.std.proofs.Common.{◌++◌, ◌∙◌}
+use Rattle.link_core.proofs.CameLemmas.{all_came, all_spoiled}
 use Rattle.link_core.proofs.dealing.read_piece.Goals as goal
 
 pub returns-in-Ok : goal.returns-in-Ok
@@ -12,7 +11,6 @@ returns-in-Ok g c =
     let all = all_came reader.limits text c.args.came.now.items c.in-Ok.field-0 c.pump.new.self after c.requires.limits c.requires.none h in
     record {
       came = all.0;
-      items = items_came text (map data_of after) all.0;
       rest = all.1;
       spoiled = all.2;
       sound = λ _. h.2;
@@ -29,7 +27,6 @@ returns-in-Err-Parse g c =
     let all = all_spoiled reader.limits text c.args.came.now.items c.pump.new.self after c.requires.limits c.requires.none h in
     record {
       came = all.0;
-      items = items_came text (map data_of after) all.0;
       rest = all.1;
       spoiled = all.2;
       sound = λ e. cc;

@@ -5,8 +5,15 @@ use Rattle.session_callers.specs.Rule.{Each}
 use Rattle.shared_session.specs.Replay.{opening_actions}
 use Rattle.live_lines.specs.Flights.{IsBare}
 use Rattle.live_lines.proofs.RunningOut.{stopped_out}
-use Rattle.live_lines.proofs.Submitted.{are_submitted, tables_still, asked_well}
+use Rattle.live_lines.proofs.Submitted.{allowed_to, are_submitted, tables_still, asked_well}
 use Rattle.live_lines.proofs.flying.submitted.Goals as goal
+
+pub submit_lines-requires-clause-allowed : goal.submit_lines-requires-clause-allowed
+submit_lines-requires-clause-allowed g c κs within =
+    let first = c.in-Ok.made.1.view in
+    let callers = c.in-Ok-join_all.callers.items in
+    let bare = subst (λ (config : Config). Each (IsBare config first.word) callers) (ap (λ v. v.config) c.in-Ok.ensures.caller.1) c.in-Ok-join_all.ensures.bare in
+    allowed_to c.args.plan.config first.word c.args.lines.items callers c.requires.allowed bare
 
 pub returns-in-Err-clause-err : goal.returns-in-Err-clause-err
 returns-in-Err-clause-err g c =

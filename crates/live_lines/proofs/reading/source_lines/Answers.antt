@@ -8,4 +8,4 @@ use Rattle.live_lines.proofs.reading.source_lines.Goals as goal
 pub returns-in-Ok-read_lines-clause-allowed : goal.returns-in-Ok-read_lines-clause-allowed
 returns-in-Ok-read_lines-clause-allowed g c =
     let bytes : AreBytes c.as_slice-2.result.now = subst (λ (text : List ℕ). AreBytes text) (c.as_slice.ensures ∙ sym c.as_slice-2.ensures) c.a_slice_has_bytes.ensures in
-    subst (λ (r : Result (List Line) ℕ). IfOk r (Each IsAllowed)) c.in-Ok-read_lines.ensures.lines (all_allowed c.as_slice-2.result.now bytes)
+    subst (λ (r : Result (List Line) ℕ). IfOk r (Each (IsAllowed c.args.kind))) c.in-Ok-read_lines.ensures.lines (all_allowed c.args.kind c.as_slice-2.result.now bytes)

@@ -4,4 +4,4 @@ use Rattle.script_text.specs.ConfigLine.{is_setting, keys}
 use Rattle.script_text.proofs.config_fault.setting_fault.Given as goal
 
 abbrev pub invariant-loop-index : goal.invariant-loop-index
-invariant-loop-index l = list_all (is_setting keys) l.words ≡ list_all (is_setting keys) (drop l.index l.words)
+invariant-loop-index l = list_all (is_setting (keys l.kind)) l.words ≡ list_all (is_setting (keys l.kind)) (drop l.index l.words)

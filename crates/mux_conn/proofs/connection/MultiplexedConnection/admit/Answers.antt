@@ -14,7 +14,7 @@ use Rattle.mux_conn.proofs.connection.MultiplexedConnection.admit.Goals as goal
 is_up : (w : Work) (q : Waiting) (life : Life) → admits_none_at life (has_no_permit w.conn.limit w.conn.free) ≡ false → ((e : RedisError) → life ≡ Ended e → ⊥) → seated_or_behind (let_in w q) q ≡ admitted_at w q life
 is_up w q Dialing free up = absurd (cc)
 is_up w q (Wanting link) free up = absurd (cc)
-is_up w q (SettingUp link with_user) free up = absurd (cc)
+is_up w q (SettingUp link greeting) free up = absurd (cc)
 is_up w q (Ready link) free up = refl
 is_up w q (Ended e) free up = absurd (up e refl)
 

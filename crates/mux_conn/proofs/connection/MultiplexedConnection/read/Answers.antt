@@ -9,6 +9,6 @@ returns-clause-work c =
     let w : Work = record { conn = c.args.self.now; acts = c.args.out.now.items } in
     let v : Work = record { conn = c.read_setup.new.self; acts = c.read_setup.new.out.items } in
     let link = c.in-SettingUp.link in
-    let with_user = c.in-SettingUp.with_user in
-    let is : c.args.self.now.life ≡ SettingUp link with_user = search rules in
-    read_back w v c.replace-life.new.dest link with_user c.args.piece.now is c.in_ok-read_setup-in-SettingUp.ensures.work
+    let greeting = c.in-SettingUp.greeting in
+    let is : c.args.self.now.life ≡ SettingUp link greeting = search rules in
+    read_back w v c.replace-life.new.dest link greeting c.args.piece.now is c.in_ok-read_setup-in-SettingUp.ensures.work

@@ -1,0 +1,5 @@
+use Rattle.legal_laws.proofs.Reports.{tells_reports}
+use Rattle.legal_laws.proofs.a_monitor_tells_all_behind_its_answer.Goals as goal
+
+pub returns : goal.returns
+returns c = tells_reports

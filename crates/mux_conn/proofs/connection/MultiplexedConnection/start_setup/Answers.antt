@@ -1,8 +1,0 @@
-use Rattle.std.proofs.Common.{◌≡◌, []}
-use Rattle.mux_conn.proofs.Spent.{setup_spent}
-use Rattle.mux_conn.proofs.connection.MultiplexedConnection.start_setup.Goals as goal
-
-pub returns-in-Err-clause-spent : goal.returns-in-Err-clause-spent
-returns-in-Err-clause-spent c is =
-    let none : c.new-starts.result.items ≡ [] = cc in
-    setup_spent (record { conn = c.args.self.now; acts = c.args.out.now.items }) c.in-SettingUp.link c.in-SettingUp.with_user c.in-SettingUp.is (rw none at ((rw c.in-Err.is at c.start_ready-ready.ensures).spent is))

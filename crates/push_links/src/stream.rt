@@ -1,0 +1,57 @@
+use crate::held::{Held, Next};
+use driver_model::Msg;
+use futures::Stream;
+use futures::task::{Context, Poll};
+use std::alloc::{AllocError, Global};
+
+/// The messages of a link of publish/subscribe, in the order in which they came. It gives an item where it holds one, ends exactly
+/// where it is empty and its link has ended, and else yields.
+#[derive(Drop)]
+pub struct PubSubStream {
+    pub held: Held<Msg>,
+}
+
+impl PubSubStream {
+    ghost use Rattle.std.specs.Prelude.{◌≡◌, [], false, OnOk, OnErr};
+    ghost use Rattle.push_links.specs.Held.{put, finished};
+
+    /// An empty one, of a link that goes on. Takes no memory.
+    pub(crate) fn new(alloc: Global) -> PubSubStream
+        ensures { result.held ≡ record { items = []; ended = false } }
+    {
+        PubSubStream {
+            held: Held::new(alloc),
+        }
+    }
+
+    /// A message that the sink's step told comes behind those that it holds. After an error it is as it was.
+    pub fn put(&mut self, message: Msg) -> Result<(), AllocError>
+        ensures ok { OnOk result (self.new.held ≡ put self.old.held message) }
+        ensures err { OnErr result (self.new.held ≡ self.old.held) }
+    {
+        self.held.put(message)
+    }
+
+    /// Its link has ended. Takes no memory.
+    pub fn finish(&mut self)
+        ensures { self.new.held ≡ finished self.old.held }
+    {
+        self.held.finish();
+    }
+}
+
+impl Stream for PubSubStream {
+    ghost use Rattle.push_links.specs.Held.{Gives, IsItself};
+
+    type Item = Msg;
+
+    ghost yields = { λ s given last. Gives IsItself s.held.ended s.held.items given last };
+
+    fn poll_next(&mut self, cx: &mut Context<'_>) -> Poll<Option<Msg>> {
+        match self.held.next() {
+            Next::Item(message) => Poll::Ready(Some(message)),
+            Next::End => Poll::Ready(None),
+            Next::Nothing => cx.yield_now(),
+        }
+    }
+}

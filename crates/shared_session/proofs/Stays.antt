@@ -1,0 +1,79 @@
+-- A session stays what it is.
+use Rattle.std.proofs.Common.{◌≡◌, ℕ, List, [], ◌∷◌, length, Option, Some, None, refl, ◌∙◌, ◌==◌}
+use Rattle.std.specs.Prelude.{slice_get}
+use Rattle.containers.proofs.Choices.{chosen}
+use Rattle.driver_model.specs.declared.action.Owner.TheVariants as owner
+use Rattle.driver_model.specs.declared.action.Purpose.{Purpose}
+use Rattle.driver_model.specs.declared.action.Purpose.TheVariants as purpose
+use Rattle.driver_model.specs.declared.config.Config.{Config}
+use Rattle.driver_model.specs.declared.event.Event.{Event}
+use Rattle.driver_model.specs.declared.event.EventKind.{EventKind}
+use Rattle.driver_model.specs.declared.event.EventKind.TheVariants as event
+use Rattle.driver_model.specs.declared.event.Submission.{Submission}
+use Rattle.driver_model.specs.Kind.{is_single}
+use Rattle.driver_model.specs.Request.{packed_bytes, lacks_resp3}
+use Rattle.mux_conn.specs.declared.request.Pending.{Pending}
+use Rattle.shared_session.specs.declared.core_state.Core.{Core}
+use Rattle.shared_session.specs.Replay.{opening_core, run_on, state_after}
+use Rattle.shared_session.specs.Turn.{Turning, counted, heard, submitted, left_by, late_by, fired_by, timed_by, requested, next_turn}
+
+-- it does where something is submitted
+submitted_kind : (t : Turning) (what : Submission) → (submitted t what).core.kind ≡ t.core.kind
+submitted_kind t what =
+    chosen (λ (x : Turning). x.core.kind ≡ t.core.kind) t.core.shut _ _ (λ _. refl)
+    (λ _. chosen (λ (x : Turning). x.core.kind ≡ t.core.kind) (lacks_resp3 t.core.single.connection.hears t.core.single.connection.info.protocol what) _ _ (λ _. refl)
+    (λ _. chosen (λ (x : Turning). x.core.kind ≡ t.core.kind) (length (packed_bytes what) == 0) _ _ (λ _. refl) (λ _. refl)))
+
+left_kind : (t : Turning) (slot : Option (Option Pending)) → (left_by t slot).core.kind ≡ t.core.kind
+left_kind t None = refl
+left_kind t (Some None) = refl
+left_kind t (Some (Some p)) = refl
+
+late_kind : (t : Turning) (slot : Option (Option Pending)) → (late_by t slot).core.kind ≡ t.core.kind
+late_kind t None = refl
+late_kind t (Some None) = refl
+late_kind t (Some (Some p)) = refl
+
+fired_kind : (t : Turning) (slot : Option Purpose) → (fired_by t slot).core.kind ≡ t.core.kind
+fired_kind t None = refl
+fired_kind t (Some (purpose.Connect l)) = refl
+fired_kind t (Some (purpose.Response owner.Setup)) = refl
+fired_kind t (Some (purpose.Response owner.Auth)) = refl
+fired_kind t (Some (purpose.Response owner.Monitor)) = refl
+fired_kind t (Some (purpose.Renewal l k)) = refl
+fired_kind t (Some (purpose.Response (owner.Try n round))) = late_kind t (slice_get t.core.table n)
+
+timed_kind : (c : Core) (ms : Option ℕ) → (timed_by c ms).kind ≡ c.kind
+timed_kind c ms = chosen (λ (x : Core). x.kind ≡ c.kind) (is_single c.kind) (record c { timeout = ms }) c (λ _. refl) (λ _. refl)
+
+requested_kind : (t : Turning) (kind : EventKind) → (requested t kind).core.kind ≡ t.core.kind
+requested_kind t (event.Submit what) = submitted_kind t what
+requested_kind t (event.Cancel n) = left_kind t (slice_get t.core.table n)
+requested_kind t (event.Connected l) = refl
+requested_kind t (event.Refused l f) = refl
+requested_kind t (event.Fired n) = fired_kind t (slice_get t.core.timers n)
+requested_kind t (event.Timeout ms) = timed_kind t.core ms
+requested_kind t (event.Creds c auth) = refl
+requested_kind t (event.CredsError c text) = refl
+requested_kind t (event.CredsEnd c) = refl
+requested_kind t (event.Wrote l count) = refl
+requested_kind t (event.Bytes l piece) = refl
+requested_kind t (event.Ended l) = refl
+requested_kind t (event.ReadFault l kind) = refl
+requested_kind t (event.WriteFault l kind) = refl
+requested_kind t event.DropStream = refl
+requested_kind t event.Shutdown = refl
+
+-- and in any turn
+pub turn_kind : (c : Core) (kind : EventKind) → (next_turn c kind).core.kind ≡ c.kind
+unfolding next_turn
+turn_kind c kind = requested_kind (heard (counted c) kind) kind
+
+run_on_kind : (c : Core) (es : List Event) → (run_on c es).kind ≡ c.kind
+run_on_kind c [] = refl
+run_on_kind c (e ∷ es) = run_on_kind (next_turn c e.kind).core es ∙ turn_kind c e.kind
+
+-- so where a history leads it is what it was opened as
+pub state_kind : (config : Config) (word : ℕ) (es : List Event) → (state_after config word es).kind ≡ config.kind
+unfolding state_after
+state_kind config word es = run_on_kind (opening_core config word) es
