@@ -1,5 +1,5 @@
 -- A turn of an event: where it may stand, and what its link and the others hear.
-use Rattle.std.proofs.Common.{◌≡◌, ◌≢◌, ◌⊎◌, inl, inr, ℕ, zero, suc, ◌+◌, ◌<◌, ◌≤◌, ◌==◌, nat_lt, nat_le, false, ◌&&◌, ◌||◌, not, is_some, List, [], ◌∷◌, ◌++◌, length, slice_get, Some, refl, sym, ap, ◌∙◌, subst, arith, length-take, None, Option, if◌then◌else◌, true, Bool}
+use Rattle.std.proofs.Common.{◌≡◌, ◌≢◌, ◌⊎◌, inl, inr, ℕ, zero, suc, ◌+◌, ◌<◌, ◌≤◌, ◌==◌, nat_lt, nat_le, false, ◌&&◌, ◌||◌, not, is_some, List, [], ◌∷◌, ◌++◌, length, slice_get, Some, refl, sym, ap, ◌∙◌, subst, arith, length-take, None, Option, if◌then◌else◌, true}
 use Rattle.std.proofs.lemmas.List.{append-nil}
 use Rattle.containers.proofs.Choices.{by_test, chosen, taken_if, left_if, eq_test, ne_test, not_le_from, or_left}
 use Rattle.redis_error.specs.declared.redis_error.RedisError.TheVariants as error
@@ -29,7 +29,7 @@ use Rattle.legal_trace.specs.Ledger.{Ledger, Start, setup_count, authorized_by, 
 use Rattle.legal_trace.specs.Story.{Story, fires}
 use Rattle.legal_trace.specs.Book.{Book, book, entered, is_clock_of, hearing_in, timeout_after, kind_in}
 use Rattle.legal_trace.specs.Events.{is_bad_event}
-use Rattle.legal_trace.specs.Legal.{MayTurn, is_heard}
+use Rattle.legal_trace.specs.Legal.{MayTurn}
 use Rattle.session_laws.proofs.Tied.{AreAimed, AreUses, IsAim, owners_of, owners_each, setup_owners, Inner, inner, link_in, carried, whole_link, IsUnknown, TiedCreds, TiedLife, TiedSetup, TiedTries, TiedLines, AreQueued, TiedWaits, Tied, Sound, no_opening, has_ended, TiedNotices, TiedRenewal, sources_asked_in, HasGreetedAlone, is_reading}
 use Rattle.session_laws.proofs.States.{Between}
 use Rattle.session_laws.proofs.Entered.{book_more, sound_more}

@@ -33,7 +33,7 @@ use Rattle.shared_session.specs.Turn.{with_work, is_bad, use_after}
 use Rattle.legal_trace.specs.Ledger.{Ledger, Heard, ending, ending_unready, ending_up, is_ready as is_ready_link, lacks_credentials, setup_after, setup_count, setup_steps, Sourced, noted, noted_each, sources, source_due, Start}
 use Rattle.legal_trace.specs.Book.{Book, blank_book, book, entered, use_for, if_mine, hearing_in}
 use Rattle.legal_trace.specs.Story.{Story}
-use Rattle.legal_trace.specs.Legal.{AllStand, MayBeCreated, is_heard, MayNeed}
+use Rattle.legal_trace.specs.Legal.{AllStand, MayBeCreated, MayNeed}
 use Rattle.legal_trace.proofs.Setups.{ends_where_set, silent_is_set, silent_is_greeted}
 use Rattle.session_laws.proofs.Tied.{AreSetups, AreQueued, HasCredentials, IsEntry, IsQueued, IsSettingUp, IsSetupDue, IsSetUp, Inner, Tied, TiedLines, TiedNotices, TiedWaits, has_ended, inner, link_in, no_link, owner_of, queue_ids, shown_wait, waiting_ids, AreSought, AreUses, HasSaid, sources_asked_in, is_reading, AreSetupsAlone, IsWatching, greeting_at, owners_of, setup_owners, watch_queued}
 use Rattle.session_laws.proofs.States.{Between, HasApplied, IsFit, IsFitIn}

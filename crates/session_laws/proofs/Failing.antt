@@ -24,7 +24,7 @@ use Rattle.legal_trace.specs.Ledger.{Ledger, by_opening, ends, noted, noted_each
 use Rattle.legal_trace.specs.Story.{Story, bytes_of, is_open, last_of}
 use Rattle.legal_trace.specs.Book.{Book, blank_book, book, entered, if_mine, hearing_in}
 use Rattle.legal_trace.specs.Owed.{owed_to_try, owed_unstarted, unstarted_error}
-use Rattle.legal_trace.specs.Legal.{AllStand, FailuresAreShown, MayClose, MayFail, NoneEnds, ReadyIsShown, VerdictsAreShown, is_heard}
+use Rattle.legal_trace.specs.Legal.{AllStand, FailuresAreShown, MayClose, MayFail, NoneEnds, ReadyIsShown, VerdictsAreShown}
 use Rattle.session_laws.proofs.Numbers.{IsIn}
 use Rattle.session_laws.proofs.Tied.{AreSetups, IsUnknown, inner, link_in, no_link, TiedLines, Tied}
 use Rattle.session_laws.proofs.States.{Between, HasApplied}

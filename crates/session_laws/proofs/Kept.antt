@@ -11,7 +11,6 @@ use Rattle.mux_conn.specs.declared.request.Request.{Request}
 use Rattle.mux_conn.specs.declared.request.Waiting.{Waiting}
 use Rattle.legal_trace.specs.Book.{Book, if_mine, if_own, hearing_in}
 use Rattle.legal_trace.specs.Ledger.{Ledger, Line, noted, noted_each}
-use Rattle.legal_trace.specs.Legal.{is_heard}
 use Rattle.legal_trace.specs.Story.{Story, awaited_in, packed_in, shape_in, tried}
 use Rattle.session_laws.proofs.Names.{name_placed}
 use Rattle.session_laws.proofs.Owes.{request_story}

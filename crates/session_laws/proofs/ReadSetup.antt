@@ -1,5 +1,5 @@
 -- Bytes come on a link that is set up: its greeting may be answered then.
-use Rattle.std.proofs.Common.{if◌then◌else◌, ◌≡◌, ◌⊎◌, inl, inr, ℕ, suc, ◌+◌, ◌<◌, ◌≤◌, ◌==◌, nat_lt, Bool, true, false, ◌&&◌, ◌||◌, not, List, [], ◌∷◌, ◌++◌, length, Option, Some, None, refl, sym, ap, ◌∙◌, subst, arith}
+use Rattle.std.proofs.Common.{if◌then◌else◌, ◌≡◌, ◌⊎◌, inl, inr, ℕ, suc, ◌<◌, ◌≤◌, ◌==◌, nat_lt, Bool, true, false, ◌&&◌, ◌||◌, not, List, [], ◌∷◌, ◌++◌, length, Option, Some, None, refl, sym, ap, ◌∙◌, subst, arith}
 use Rattle.std.specs.List.{AllByRecursion}
 use Rattle.containers.proofs.Choices.{by_test, chosen, taken_if, left_if, lt_from, not_both, not_lt_from}
 use Rattle.redis_error.specs.declared.redis_error.RedisError.{RedisError}
@@ -28,7 +28,8 @@ use Rattle.link_core.specs.Dealing.{Dealing, dealing_with}
 use Rattle.link_core.specs.Ends.{row_hit, queue_closed}
 use Rattle.link_core.specs.Link.{LinkState, enqueued, read_on, read_with}
 use Rattle.link_laws.specs.Notices.{SayTheSame}
-use Rattle.link_laws.proofs.Notices.{IsBehind, heard_kinds, reads_behind, reads_tell}
+use Rattle.link_laws.specs.Greetings.{IsBehind}
+use Rattle.link_laws.proofs.Notices.{heard_kinds, reads_behind, reads_tell}
 use Rattle.link_laws.proofs.SetUp.{all_done, setup_sets}
 use Rattle.link_laws.proofs.TiedLink.{SameNames, TiedLink, deals, enqueued_tied, heard_is, named_tied}
 use Rattle.mux_conn.specs.declared.act.LinkAct.TheVariants as act

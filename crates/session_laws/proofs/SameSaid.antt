@@ -1,5 +1,5 @@
 -- Ledgers with the same starts, the same items, and the same to be said: how far they have come is the same.
-use Rattle.std.proofs.Common.{◌≡◌, ◌⊎◌, inl, inr, ℕ, zero, suc, ◌==◌, ◌<◌, Bool, true, false, ◌&&◌, ◌||◌, not, if◌then◌else◌, List, [], ◌∷◌, length, Option, Some, None, refl, ap, ◌∙◌, sym, subst, slice_get}
+use Rattle.std.proofs.Common.{◌≡◌, inl, inr, ℕ, zero, suc, ◌==◌, ◌<◌, true, ◌&&◌, ◌||◌, not, if◌then◌else◌, List, [], ◌∷◌, length, Option, Some, None, refl, ap, ◌∙◌, sym, subst, slice_get}
 use Rattle.std.specs.List.{AllByRecursion}
 use Rattle.connection_setup.specs.declared.judgement.SetupResult.TheVariants.{Ready as Well}
 use Rattle.connection_setup.specs.Setup.{setup}
@@ -13,7 +13,7 @@ use Rattle.mux_conn.specs.declared.life.Life.{Life}
 use Rattle.mux_conn.specs.declared.life.Life.TheVariants.{Dialing, Wanting, SettingUp, Ready, Ended}
 use Rattle.mux_conn.specs.Effects.{setup_id, setup_queued}
 use Rattle.legal_trace.specs.Ledger.{Ledger, Start, is_answered, is_full, is_greeted, is_set_up, is_well, lacks_credentials, last_result, monitor_among, monitor_of, repeats, result_of, setup_after, setup_count, setup_result, setup_steps}
-use Rattle.session_laws.proofs.Tied.{AreSetupsAlone, HasSaid, IsGreeting, IsSettingUp, IsWatching, greeting_at, owners_of, setup_owners, greeter}
+use Rattle.session_laws.proofs.Tied.{HasSaid, IsGreeting, IsSettingUp, IsWatching, greeting_at, owners_of, setup_owners, greeter}
 use Rattle.driver_model.specs.declared.action.Owner.TheVariants as owner
 
 -- of the second ledger the same is known of what is said to its server as of the first

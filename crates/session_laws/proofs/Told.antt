@@ -1,22 +1,19 @@
 -- One push is told of a link, or its end is: what this leaves as it is.
-use Rattle.std.proofs.Common.{◌≡◌, inl, inr, ℕ, zero, suc, Bool, if◌then◌else◌, List, [], ◌∷◌, None, Some, refl, ap, ◌∙◌, subst, arith, sym, ◌==◌, ◌+◌, ◌-◌, false}
+use Rattle.std.proofs.Common.{◌≡◌, ℕ, Bool, List, [], ◌∷◌, refl, ap, ◌∙◌, subst, arith, sym, ◌==◌, ◌+◌}
 use Rattle.std.specs.List.{AllByRecursion}
-use Rattle.connection_setup.specs.declared.judgement.SetupResult.TheVariants.{Ready as Well}
 use Rattle.driver_model.specs.declared.action.Action.TheVariants as action
 use Rattle.driver_model.specs.declared.action.Owner.{Owner}
 use Rattle.driver_model.specs.declared.push_info.PushInfo.{PushInfo}
-use Rattle.driver_model.specs.Setup.{says_nothing}
 use Rattle.link_core.specs.declared.message.Settled.{Settled}
 use Rattle.link_core.specs.Link.{LinkState}
 use Rattle.link_laws.specs.Settles.{IsOwed}
 use Rattle.link_laws.proofs.TiedLink.{TiedLink}
 use Rattle.mux_conn.specs.declared.life.Life.{Life}
 use Rattle.mux_conn.specs.declared.life.Life.TheVariants.{Dialing, Wanting, SettingUp, Ready, Ended}
-use Rattle.legal_trace.specs.Ledger.{Ledger, Heard, noted, is_well, is_set_up, lacks_credentials, last_result, setup_after, setup_count, setup_steps, Line, tells, parts, noted_each}
+use Rattle.legal_trace.specs.Ledger.{Ledger, Heard, noted, is_set_up, Line, tells, parts, noted_each}
 use Rattle.legal_trace.specs.Book.{Book, entered, push_line, current, hearing_in, if_mine}
-use Rattle.legal_trace.specs.Legal.{is_heard}
 use Rattle.session_laws.proofs.Kept.{mine_noted, others_kept, tied_by}
-use Rattle.session_laws.proofs.Tied.{Inner, HasSaid, Tied, TiedLife, TiedNotices, carried, whole_link, is_reading}
+use Rattle.session_laws.proofs.Tied.{Inner, Tied, TiedLife, TiedNotices, carried, whole_link, is_reading}
 use Rattle.session_laws.proofs.Renewals.{renewal_alike}
 use Rattle.session_laws.proofs.SameSaid.{SameSaid, said_alike, set_alike}
 use Rattle.driver_model.specs.declared.hearing.Notice.{Notice}

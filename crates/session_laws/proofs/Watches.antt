@@ -1,5 +1,5 @@
 -- MONITOR starts on a link whose server is put into monitor mode.
-use Rattle.std.proofs.Common.{Bool, List, None, Option, Some, [], ap, arith, false, inl, inr, length, refl, subst, suc, sym, true, zero, ℕ, ◌+◌, ◌++◌, ◌<◌, ◌≤◌, ◌∙◌, ◌∷◌, ◌≡◌, ◌⊎◌, ◌&&◌, slice_get}
+use Rattle.std.proofs.Common.{List, Some, [], ap, arith, false, inl, inr, length, refl, subst, sym, true, ℕ, ◌+◌, ◌++◌, ◌≤◌, ◌∙◌, ◌∷◌, ◌≡◌, ◌⊎◌, ◌&&◌, slice_get}
 use Rattle.std.proofs.lemmas.List.{length_push}
 use Rattle.std.specs.Prelude.{is_none}
 use Rattle.containers.proofs.Choices.{by_test, left_if, not_both, taken_if}
@@ -23,7 +23,7 @@ use Rattle.mux_conn.specs.declared.life.Life.TheVariants.{SettingUp}
 use Rattle.mux_conn.specs.declared.request.Request.{Request}
 use Rattle.shared_session.specs.declared.core_state.Core.{Core}
 use Rattle.legal_trace.specs.Book.{Book, book, entered}
-use Rattle.legal_trace.specs.Ledger.{Ledger, Start, begins, is_greeted, monitor_due, monitor_message, monitor_of, noted, reach, setup_count, setup_due}
+use Rattle.legal_trace.specs.Ledger.{Ledger, Start, begins, monitor_due, monitor_message, noted, reach, setup_count, setup_due}
 use Rattle.legal_trace.specs.Legal.{MayWatch, NoneEnds}
 use Rattle.legal_trace.specs.Story.{Story}
 use Rattle.legal_trace.proofs.Monitors.{monitor_begun}
@@ -40,7 +40,7 @@ use Rattle.session_laws.proofs.SetsUp.{HasBegun, greeted_more, none_set_up, sett
 use Rattle.session_laws.proofs.Settle.{quiet_asks, seen, trace_of_acts}
 use Rattle.session_laws.proofs.Start.{with_queue}
 use Rattle.session_laws.proofs.States.{IsFit}
-use Rattle.session_laws.proofs.Tied.{AreSetups, Inner, IsWatchDue, IsWatching, Tied, TiedTries, numbers_kept, watch_queued}
+use Rattle.session_laws.proofs.Tied.{Inner, IsWatchDue, IsWatching, Tied, TiedTries, numbers_kept, watch_queued}
 
 -- MONITOR is due
 --
