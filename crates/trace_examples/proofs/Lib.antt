@@ -20,3 +20,4 @@ pub mod Called
 pub mod Pushes
 pub mod Creds
 pub mod Renewals
+pub mod Listeners

@@ -42,7 +42,7 @@ is_heard_server : address heard ≡ Some third_server
 unfolding url_on_literals utf8_lossy utf8_valid_len
 is_heard_server = refl
 
-at_heard : IsPlace heard (codes "h") 6379
+pub at_heard : IsPlace heard (codes "h") 6379
 at_heard = record { sound = ap (λ a. fault_in a true None 50) is_heard_server; info = third_server; configured = is_heard_server; is = (refl, refl) }
 
 -- and so it does where they aren't
