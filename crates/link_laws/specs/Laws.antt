@@ -1,5 +1,5 @@
 -- The laws of a link, each as one statement.
-use Rattle.std.specs.Prelude.{◌≡◌, ℕ, ◌-◌, Bool, false, true, List, [], ◌∷◌, ◌++◌, length}
+use Rattle.std.specs.Prelude.{◌≡◌, ℕ, ◌-◌, Bool, false, true, List, [], ◌∷◌, ◌++◌, length, if◌then◌else◌}
 use Rattle.resp_value.specs.Data.{Data}
 use Rattle.resp_read.specs.Values.{values}
 use Rattle.driver_model.specs.declared.action.Owner.{Owner}
@@ -77,11 +77,11 @@ EndSettlesAll =
 abbrev pub NoticeStandsBehind : Type 0
 NoticeStandsBehind =
     (h : Hearing) (ready : Bool) (s : LinkState) (piece : List ℕ) (before after : List Data) (v : Data) → s.broken ≡ false
-    → values (s.rest ++ piece) ≡ before ++ v ∷ after → (taken_by h ready s before).strange ≡ false
+    → values (s.rest ++ piece) ≡ before ++ v ∷ after
     → (let d = taken_by h ready s before in
     let e = taken_by h ready s (before ++ v ∷ []) in
     (piece_read h ready s piece).notices
-    ≡ d.notices ++ noticed_behind (length d.out) (taking_in h ready d v).told ++ (taken_each h ready (record e { notices = [] }) after).notices)
+    ≡ d.notices ++ (if d.strange then [] else noticed_behind (length d.out) (taking_in h ready d v).told) ++ (taken_each h ready (record e { notices = [] }) after).notices)
 
 -- what a link tells with bytes is what its ledger hears then, in order; and each notice stands among the messages that these
 -- bytes settle where it came: behind those that were full before it, and before the others. Whether a value ends the link is the
