@@ -115,7 +115,7 @@ after_closes b t h done over = let a = after_end b t h over in (a.0, a.1, a.2, e
 pub no_push : (x : Option Heard) (y : Heard) → x ≡ None → x ≡ Some y → ⊥
 no_push x y e f = let no : ◌≡◌ {A = Option Heard} None (Some y) = sym e ∙ f in cc
 
--- where no push is still to be told none is
+-- where no notice is still to be told none is
 pub none_before : (b : Book) (t : Inner) (n : ℕ) → Tied b t → t.untold ≡ [] → is_heard b ≡ true → (push : Heard) → next_notice (b.link t.link) ≡ Some push → IsBefore b n push
 none_before b t n h none heard push next = absurd (no_push (next_notice (b.link t.link)) push (notices_told b t h none t.link heard) next)
 

@@ -134,7 +134,7 @@ still_none before c started h = h.settled.written.moved.begun.applied.ended
 pub tame_between : (before : List Action) (c : Core) (started : List ℕ) → Between before c started → IsTame ((book before).link c.single.link)
 tame_between before c started h = is_tame (book before) (inner c started) h.sound.tied (still_none before c started h c.single.link)
 
--- what is still to be told of the pushes
+-- what is still to be told of the notices
 pub pushes_still : (before : List Action) (c : Core) (started : List ℕ) (n : News) → Between before c started → BringsNothing n ⊎ (((book before).link c.single.link).up ≡ false) → PushesOf (hearing_in (book before).config) c.single.connection.hears (heard_by (book before) c n)
 pushes_still before c started n h k = pushes_hear ((book before).link c.single.link) c.turns n (hearing_in (book before).config) c.single.connection.hears (tame_between before c started h) k h.sound.tied.notices
 

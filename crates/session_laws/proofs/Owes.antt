@@ -280,7 +280,7 @@ get_behind zero (h ∷ hs) e = cc
 get_behind (suc n) [] e = refl
 get_behind (suc n) (h ∷ hs) e = get_behind n hs e
 
--- all pushes that came were told, where none is still to be
+-- all notices that came were told, where none is still to be
 pub notices_told : (b : Book) (t : Inner) → Tied b t → t.untold ≡ [] → NoticesAreTold b
 notices_told b t h none m heard = by_test (m == t.link) _
     (λ same. subst (λ k. next_notice (b.link k) ≡ None) (sym (eq_from m t.link same)) (get_behind (b.link t.link).told (b.link t.link).notices (h.notices.untold_is (ap hears_something (sym h.notices.heard_is) ∙ heard) ∙ none)))

@@ -184,7 +184,7 @@ setup_unheard l turn shut info started life down h = setup_hears l turn shut inf
 
 -- what is still to be told of a link stays
 --
--- what is told of its pushes, in a record of its ledger
+-- what is told of its notices, in a record of its ledger
 abbrev pub PushesOf : Hearing → Hearing → Ledger → Type 0
 PushesOf heard mine l = TiedNotices heard mine l.hearing l.notices l.told l.end l.parted l.strange (is_reading l) [] false
 

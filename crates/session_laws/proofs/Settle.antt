@@ -82,7 +82,7 @@ trace_of_acts before f acts = before ++ shown_each f.single.link (length f.timer
 abbrev pub Holds : List Action → Core → Work → List ℕ → List ℕ → Type 0
 Holds before f w pending started = Sound (trace_of_acts before f w.acts) (seen f w.acts w.conn pending started)
 
--- so it is in the middle of a turn, where these pushes are still to be told
+-- so it is in the middle of a turn, where these notices are still to be told
 abbrev pub Tells : List Action → Core → Work → List Heard → List ℕ → List ℕ → Type 0
 Tells before f w untold pending started = Sound (trace_of_acts before f w.acts) (record (seen f w.acts w.conn pending started) { untold = untold })
 
@@ -129,7 +129,7 @@ quiet_asks f t acts a timers sources =
     let ss = quiet_sources f.single.link (length f.sources) acts a sources in
     sym (λ i. record t { timers = f.timers ++ ts i; sources = f.sources ++ ss i })
 
--- also where these pushes are still to be told, and the end of the link is
+-- also where these notices are still to be told, and the end of the link is
 pub sound_told : (before : List Action) (f : Core) (acts : List LinkAct) (a : LinkAct) (conn : MultiplexedConnection) (untold : List Heard) (parting : Bool) (pending started : List ℕ) → AllStand blank_book (trace_of_acts before f acts) → MayStand (book (trace_of_acts before f acts)) (shown_now f acts a)
     → Tied (entered (book (trace_of_acts before f acts)) (shown_now f acts a)) (record (seen_more f acts a conn pending started) { untold = untold; parting = parting }) → Sound (trace_of_acts before f (acts ++ a ∷ [])) (record (seen f (acts ++ a ∷ []) conn pending started) { untold = untold; parting = parting })
 sound_told before f acts a conn untold parting pending started stands may tied =

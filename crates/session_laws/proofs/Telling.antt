@@ -1,4 +1,4 @@
--- The pushes that came are told, each behind as many of the messages that were settled as it came behind.
+-- The notices that came are told, each behind as many of the messages that were settled as it came behind.
 use Rattle.std.proofs.Common.{◌≡◌, inl, inr, ℕ, zero, suc, ◌+◌, ◌<◌, ◌≤◌, ◌==◌, nat_le, nat_lt, Bool, true, false, if◌then◌else◌, List, [], ◌∷◌, ◌++◌, length, drop, Option, Some, None, slice_get, refl, sym, ap, ◌∙◌, subst, arith}
 use Rattle.std.specs.List.{AllByRecursion}
 use Rattle.containers.proofs.Choices.{by_test, chosen, le_from, le_test, lt_from, not_both, not_le_from, not_lt_from, left_if}
@@ -65,7 +65,7 @@ next_of zero (x ∷ xs) h rest e = record { within = omega arith; behind = cc; n
 next_of (suc n) [] h rest e = cc
 next_of (suc n) (x ∷ xs) h rest e = let r = next_of n xs h rest e in record { within = (let w = r.within in omega arith); behind = (let e : suc n + 1 ≡ suc (n + 1) = omega arith in ap (λ m. drop m (x ∷ xs)) e ∙ r.behind); next = r.next }
 
--- whose message was full before a push came
+-- whose message was full before a notice came
 --
 -- the last try of a request whose message started as number k
 last_try : (b : Book) (t : Inner) (p k : ℕ) (of_shape : Shape) → Tied b t → p < length t.requests → StandsAs (b.link t.link).starts (owner_of t.requests p) of_shape k → last_of (b.story (name_at t.requests p)).tries ≡ Some (record { link = t.link; message = k })
@@ -93,7 +93,7 @@ none_started b p push name none before = no_try before.try (sym (ap last_of none
     no_try : (x : Try) → ◌≡◌ {A = Option Try} None (Some x) → ⊥
     no_try x e = cc
 
--- those whose message was not full before a push came
+-- those whose message was not full before a notice came
 --
 -- what started as this number
 pub record IsLate (l : Ledger) (name : ℕ → Owner) (push : Heard) (p : ℕ) : Type 0 where
@@ -147,13 +147,13 @@ pub record IsOnTime (l : Ledger) (name : ℕ → Owner) (push : Heard) (p : ℕ)
   pub stands : StandsAs l.starts (name p) of_shape number
   pub full : is_full_by l push.after number ≡ true
 
--- the same push
+-- the same notice
 same_push : (x y : Heard) → ◌≡◌ {A = Option Heard} (Some x) (Some y) → x ≡ y
 same_push x y e = cc
 
 -- telling
 --
--- some requests are to be answered, in line, and these pushes are still to be told; of the ledger of their link but this has
+-- some requests are to be answered, in line, and these notices are still to be told; of the ledger of their link but this has
 -- changed, and what is owed, and all names, are as they were
 pub record IsTelling (before : List Action) (f : Core) (ledger : Ledger) (owes : ℕ → Option Outcome) (name : ℕ → ℕ) (was : ℕ → Bool) (w : Work) (untold : List Heard) (pending started : List ℕ) : Type 0 where
   pub holds : Tells before f w untold pending started
@@ -178,7 +178,7 @@ late_now l now told name requests push p is named d =
     subst (λ (x : Ledger). IsLate x (owner_of requests) push p) (sym is)
     (record { number = d.number; of_shape = d.of_shape; stands = subst (λ n. StandsAs l.starts (if p == renewal_id then owner.Auth else owner.Try n 0) d.of_shape d.number) (sym named) d.stands; late = d.late })
 
--- a push that came
+-- a notice that came
 --
 -- tells no end, and came behind no more items than there are
 pub record IsHeard (l : Ledger) (h : Heard) : Type 0 where
@@ -262,7 +262,7 @@ lined_owed b l line m leaves = λ i.
     by_try None = end_same (b.link s.link) s.link
     by_try (Some t) = message_same (b.link t.link) t.message t.link (shape s)
 
--- as a push does
+-- as a notice does
 push_leaves_owed : (is : Bool) → LeavesOwed (if is then parts else tells)
 push_leaves_owed true = record { message = λ x n of_shape. refl; unstarted = λ x. refl }
 push_leaves_owed false = record { message = λ x n of_shape. refl; unstarted = λ x. refl }
@@ -311,7 +311,7 @@ one_told before f ledger owes name was w n h rest pending started hears alive sa
 
 -- an answer between
 --
--- the first of those that are to be answered is, where it is open: its message was full before the next push
+-- the first of those that are to be answered is, where it is open: its message was full before the next notice
 answered_between : (before : List Action) (f : Core) (ledger : Ledger) (owes : ℕ → Option Outcome) (name : ℕ → ℕ) (was : ℕ → Bool) (w : Work) (h : Heard) (rest : List Heard) (p : ℕ) (o : Outcome) (pending started : List ℕ) → hears_something w.conn.hears ≡ true → (was p ≡ true → owes (name p) ≡ Some o)
     → IsOnTime ledger (try_of name) h p → IsTelling before f ledger owes name was w (h ∷ rest) (p ∷ pending) started → IsTelling before f ledger owes name was (answered w p o) (h ∷ rest) pending started
 answered_between before f ledger owes name was w h rest p o pending started hears due early k =
@@ -358,7 +358,7 @@ answered_between before f ledger owes name was w h rest p o pending started hear
       opens = k.opens;
     }
 
--- where no push is left the others are answered
+-- where no notice is left the others are answered
 answered_last : (before : List Action) (f : Core) (ledger : Ledger) (owes : ℕ → Option Outcome) (name : ℕ → ℕ) (was : ℕ → Bool) (w : Work) (ss : List Settled) (started : List ℕ) → AllByRecursion (IsDue owes name was) ss
     → IsTelling before f ledger owes name was (renewing w (replied_each w.conn.renewal ss)) [] (requests_in (settled_ids ss) ++ []) started → IsTelling before f ledger owes name was (settled_each w ss) [] [] started
 answered_last before f ledger owes name was w ss started due k =
@@ -385,12 +385,12 @@ of_requests q ids i = elim (in_either q (requests_in ids) [] i) [ inl j ↦ in_l
 
 -- all of them
 --
--- where no push came they are answered
+-- where no notice came they are answered
 none_told : (w : Work) (n : ℕ) (ss : List Settled) → told_each w n [] ss ≡ settled_each w ss
 none_told w n [] = refl
 none_told w n (s ∷ ss) = refl
 
--- each that stands from this place on was not full before a push that came at or before it
+-- each that stands from this place on was not full before a notice that came at or before it
 behind_in : (name : ℕ → ℕ) (l : Ledger) (p : NoticeAt) (ps : List NoticeAt) (h : Heard) (hs : List Heard) (n j : ℕ) (ss : List Settled) → p.settled ≤ n → n ≤ j → AreApart (try_of name) l (p ∷ ps) (h ∷ hs) j ss → (q : ℕ) → IsIn q (settled_ids ss ++ []) → IsLate l (try_of name) h q
 behind_in name l p ps h hs n j [] early behind all q i = absurd i
 behind_in name l p ps h hs n j (s ∷ ss) early behind all q (inl same) = record {
@@ -404,7 +404,7 @@ behind_in name l p ps h hs n j (s ∷ ss) early behind all q (inl same) = record
     not_below a b within = by_test (nat_lt a b) _ (λ t. absurd (let less = lt_from a b t in omega arith)) (λ f. f)
 behind_in name l p ps h hs n j (s ∷ ss) early behind all q (inr i) = behind_in name l p ps h hs n (suc j) ss early (omega arith) all.1 q i
 
--- behind the first push they stand as they did
+-- behind the first notice they stand as they did
 apart_rest : (name : ℕ → Owner) (l : Ledger) (p : NoticeAt) (ps : List NoticeAt) (h : Heard) (hs : List Heard) (j : ℕ) (ss : List Settled) → AreApart name l (p ∷ ps) (h ∷ hs) j ss → AreApart name l ps hs j ss
 apart_rest name l p ps h hs j [] all = tt
 apart_rest name l p ps h hs j (s ∷ ss) all = (
@@ -412,7 +412,7 @@ apart_rest name l p ps h hs j (s ∷ ss) all = (
   apart_rest name l p ps h hs (suc j) ss all.1,
 )
 
--- a push leaves the connection
+-- a notice leaves the connection
 notice_leaves : (w : Work) (n : Notice) → Leaves w (noticed w n)
 notice_leaves w n = record { size = refl; boundary = refl; life = refl; waiting = refl; admitted = refl; fresh = refl; moved = refl; hears = refl }
 
@@ -427,7 +427,7 @@ told_leaves w n (p ∷ ps) (s ∷ ss) =
     (λ t. leaves_on w (noticed w p.notice) (told_each (noticed w p.notice) n ps (s ∷ ss)) (notice_leaves w p.notice) (told_leaves (noticed w p.notice) n ps (s ∷ ss)))
     (λ f. leaves_on w v (told_each v (n + 1) (p ∷ ps) ss) (one_leaves w s) (told_leaves v (n + 1) (p ∷ ps) ss))
 
--- each push is told in its place, and all else is answered
+-- each notice is told in its place, and all else is answered
 pub told_holds : (before : List Action) (f : Core) (ledger : Ledger) (owes : ℕ → Option Outcome) (name : ℕ → ℕ) (was : ℕ → Bool) (w : Work) (n : ℕ) (ps : List NoticeAt) (hs : List Heard) (ss : List Settled) (started : List ℕ) → hears_something w.conn.hears ≡ true → has_ended w.conn.life ≡ false → SayTheSame ps hs
     → AreApart (try_of name) ledger ps hs n ss → AllByRecursion (IsHeard ledger) hs → AllByRecursion (IsDue owes name was) ss → IsTelling before f ledger owes name was (renewing w (replied_each w.conn.renewal ss)) hs (requests_in (settled_ids ss) ++ []) started → IsTelling before f ledger owes name was (told_each w n ps ss) [] [] started
 told_holds before f ledger owes name was w n [] [] ss started hears alive same apart heard due k =

@@ -1,4 +1,4 @@
--- One push is told of a link, or its end is: what this leaves as it is.
+-- One notice is told of a link, or its end is: what this leaves as it is.
 use Rattle.std.proofs.Common.{◌≡◌, ℕ, Bool, List, [], ◌∷◌, refl, ap, ◌∙◌, subst, arith, sym, ◌==◌, ◌+◌}
 use Rattle.std.specs.List.{AllByRecursion}
 use Rattle.driver_model.specs.declared.action.Action.TheVariants as action
@@ -23,7 +23,7 @@ use Rattle.driver_model.specs.Push.{is_disconnection}
 use Rattle.containers.proofs.Choices.{left_if}
 use Rattle.link_laws.proofs.Notices.{IsNoEnd}
 
--- a ledger of which so many pushes were told, and its end or not
+-- a ledger of which so many notices were told, and its end or not
 abbrev pub retells : Ledger → ℕ → Bool → Ledger
 retells l told parted = record l { told = told; parted = parted }
 
