@@ -11,3 +11,4 @@ pub mod Pushes
 pub mod Creds
 pub mod Renewals
 pub mod Listeners
+pub mod Takings
