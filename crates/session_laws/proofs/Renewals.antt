@@ -20,7 +20,6 @@ use Rattle.containers.proofs.Places.{get_within}
 use Rattle.legal_trace.specs.Book.{Book}
 use Rattle.session_laws.proofs.Tied.{AreFullBefore, AreRenewed, Inner, Tied, TiedLife, IsLost, IsTold, NoneRenewed, TiedRenewal, timed_of, has_ended}
 use Rattle.session_laws.proofs.SetUp.{begun_open}
-use Rattle.driver_model.specs.News.{dropped}
 
 -- what is told next
 --
