@@ -1,5 +1,5 @@
 -- Links of publish/subscribe and of monitor mode: traces that can be relied on, and actions that stand where they may not.
-use Rattle.std.proofs.Common.{◌≡◌, ℕ, Bool, true, false, List, [], ◌∷◌, Option, Some, None, codes, pos, refl, sym, ap, ◌∙◌}
+use Rattle.std.proofs.Common.{◌≡◌, ℕ, Bool, true, false, List, [], ◌∷◌, ◌++◌, Option, Some, None, codes, pos, refl, sym, ap, ◌∙◌, subst}
 use Rattle.std.specs.Fmt.{digits}
 use Rattle.std.specs.Str.Lossy.{utf8_lossy, utf8_valid_len}
 use Rattle.url.proofs.OnLiterals.{url_on_literals}
@@ -16,7 +16,9 @@ use Rattle.resp_value.specs.declared.value.Value.{Value}
 use Rattle.resp_read.specs.Grammar.{max_depth}
 use Rattle.resp_read.specs.Values.{values, left_over, is_spoiled}
 use Rattle.resp_read.specs.Items.{items}
-use Rattle.driver_model.specs.Config.{address, fault_in}
+use Rattle.redis_error.specs.declared.config_name.ConfigName.TheVariants as name
+use Rattle.resp_write.specs.declared.subscription.SubscriptionAction.TheVariants.{SSubscribe}
+use Rattle.driver_model.specs.Config.{address, fault_in, first_fault}
 use Rattle.driver_model.specs.Push.{is_disconnection}
 use Rattle.driver_model.specs.declared.action.Action.TheVariants as action
 use Rattle.driver_model.specs.declared.action.Cause.{Cause}
@@ -25,24 +27,28 @@ use Rattle.driver_model.specs.declared.action.Owner.TheVariants as owner
 use Rattle.driver_model.specs.declared.event.EventKind.TheVariants as event
 use Rattle.driver_model.specs.declared.hearing.Notice.{Notice}
 use Rattle.driver_model.specs.declared.hearing.Notice.TheVariants as notice
+use Rattle.driver_model.specs.declared.event.Submission.{Submission}
+use Rattle.driver_model.specs.declared.event.Submission.TheVariants as submission
 use Rattle.driver_model.specs.declared.msg.Msg.{Msg}
 use Rattle.driver_model.specs.declared.outcome.Outcome.{Outcome}
 use Rattle.driver_model.specs.declared.outcome.Outcome.TheVariants as outcome
 use Rattle.driver_model.specs.declared.push_info.PushInfo.{PushInfo}
 use Rattle.legal_trace.specs.Book.{Book, blank_book}
 use Rattle.legal_trace.specs.Events.{is_bad_event}
-use Rattle.legal_trace.specs.Ledger.{Heard, next_notice}
+use Rattle.legal_trace.specs.Ledger.{Heard, is_full_by, next_notice}
+use Rattle.legal_trace.specs.Story.{Try}
 use Rattle.legal_trace.specs.Legal.{MayNotify, MayPushBy, MayTurn, are_pushes_heard}
 use Rattle.legal_trace.proofs.Plain.{same_some}
 use Rattle.trace_examples.specs.Claims.{IsTraceIn, NoneBeginsIn}
 use Rattle.trace_examples.specs.Fronts.{EachStands}
-use Rattle.trace_examples.specs.Listeners.{listener, watcher, secured_listener, secured_watcher, subscription, subscribed_line, message_line, greeting, bare_ping, pong_line, foo_line, plain_line, watched_line, answer_and_watched, called, confirmation_came, message_came, message_told, message_while_called, cut_off_called, dropped_called, closed_called, pinged, strange_came, dropped_alone, message_in_setup, watching, watch_answered, watched, setup_and_watching, listening_fronts, watching_fronts}
-use Rattle.trace_examples.specs.Parts.{unbounded, turn, okay_line}
+use Rattle.trace_examples.specs.Listeners.{listener, watcher, secured_listener, secured_watcher, subscription, subscribed_line, message_line, greeting, bare_ping, pong_line, foo_line, plain_line, watched_line, answer_and_watched, called, confirmation_came, message_came, message_told, message_while_called, cut_off_called, dropped_called, closed_called, pinged, both_came, message_and_more, item_came, begun, limited_listener, formless_fronts, subscribe_line, strange_came, dropped_alone, message_in_setup, watching, watch_answered, watched, setup_and_watching, listening_fronts, watching_fronts}
+use Rattle.trace_examples.specs.Parts.{unbounded, turn, command, okay_line}
 use Rattle.trace_examples.specs.Pushes.{heard, invalidation, pushed_alone}
 use Rattle.trace_examples.specs.Setups.{password_line, setup_sent}
 use Rattle.trace_examples.specs.Traces.{opening, came_up}
 use Rattle.trace_examples.proofs.Bounded.{blank_bounded, bounded_behind}
 use Rattle.trace_examples.proofs.Due.{IsPlace, legal, stands}
+use Rattle.trace_examples.proofs.Misplaced.{same_config}
 use Rattle.trace_examples.proofs.Pushes.{at_heard}
 use Rattle.trace_examples.proofs.Server.{at_h}
 use Rattle.trace_examples.proofs.Single.{none_is_some, other_fault}
@@ -101,6 +107,30 @@ pub told_while_called : IsTraceIn listener
     (action.Message greeting ∷ [])
 unfolding digits is_bad_event items values left_over is_spoiled max_depth kind_of url_on_literals utf8_lossy utf8_valid_len
 told_while_called word = legal listener word _ _ refl refl (at_listener, (refl, (refl, tt)))
+
+-- and in the order in which they came
+pub told_behind_the_outcome : IsTraceIn listener
+    (event.Connected 0 ∷ event.Submit subscription ∷ event.Bytes 0 (subscribed_line ++ message_line) ∷ [])
+    both_came
+    (action.Outcome 0 outcome.Done ∷ action.Message greeting ∷ [])
+unfolding digits is_bad_event items values left_over is_spoiled max_depth kind_of url_on_literals utf8_lossy utf8_valid_len
+told_behind_the_outcome word = legal listener word _ _ refl refl (at_listener, (refl, (refl, (refl, tt))))
+
+-- as it is where the link ends
+pub told_before_the_close : IsTraceIn listener
+    (event.Connected 0 ∷ event.Bytes 0 (message_line ++ plain_line) ∷ [])
+    message_and_more
+    (action.Message greeting ∷ action.Close 0 ∷ [])
+unfolding digits is_bad_event items values left_over is_spoiled max_depth kind_of url_on_literals utf8_lossy utf8_valid_len
+told_before_the_close word = legal listener word _ _ refl refl (at_listener, (refl, tt))
+
+-- no call has a timer, also where a time is set
+pub untimed : IsTraceIn listener
+    (event.Connected 0 ∷ event.Timeout (Some 100) ∷ event.Submit subscription ∷ [])
+    came_up
+    (turn 2 (event.Timeout (Some 100)) ∷ turn 3 (event.Submit subscription) ∷ action.Start 0 0 (owner.Try 0 0) 1 27 ∷ action.Write 0 subscribe_line ∷ [])
+unfolding digits is_bad_event items values left_over is_spoiled max_depth kind_of url_on_literals utf8_lossy utf8_valid_len
+untimed word = legal listener word _ _ refl refl (at_listener, (refl, tt))
 
 -- a ping is answered, and an array that is no message ends the link
 pub pinged_and_closed : IsTraceIn listener
@@ -187,21 +217,24 @@ listening_fronts_stand word =
     let closed = stands (closed_called listener word) refl (at_listener, (refl, tt)) in
     let dropped = stands (dropped_called listener word) refl (at_listener, (refl, tt)) in
     let other = stands (strange_came listener word) refl (at_listener, tt) in
+    let both = stands (both_came listener word) refl (at_listener, (refl, tt)) in
+    let more = stands (message_and_more listener word) refl (at_listener, tt) in
     let early = stands (message_in_setup secured_listener word) refl (at_secured_listener, (refl, tt)) in
     let push = stands (pushed_alone heard word) refl (at_heard, (refl, tt)) in
     let alone = stands (dropped_alone unbounded word) refl (at_h (Some None), tt) in
-    (asked, (confirmed, (came, (told, (meanwhile, (closed, (dropped, (other, (early, (push, (alone, tt)))))))))))
+    (asked, (confirmed, (came, (told, (meanwhile, (closed, (dropped, (other, (both, (more, (early, (push, (alone, tt)))))))))))))
 
 -- and so do these
 pub watching_fronts_stand : (word : ℕ) → EachStands (watching_fronts word)
 unfolding digits is_bad_event items values left_over is_spoiled max_depth kind_of url_on_literals utf8_lossy utf8_valid_len
 watching_fronts_stand word =
     let up = stands (came_up listener word) refl (at_listener, tt) in
-    let begun = stands (watching watcher word) refl (at_watcher, (refl, tt)) in
+    let sent = stands (watching watcher word) refl (at_watcher, (refl, tt)) in
     let replied = stands (watch_answered watcher word) refl (at_watcher, (refl, tt)) in
     let shown = stands (watched watcher word) refl (at_watcher, (refl, tt)) in
+    let item = stands (item_came watcher word) refl (at_watcher, (refl, tt)) in
     let greeted = stands (setup_sent secured_watcher word 1 22 password_line) refl (at_secured_watcher, (refl, tt)) in
-    (up, (begun, (replied, (shown, (greeted, tt)))))
+    (up, (sent, (replied, (shown, (item, (greeted, tt))))))
 
 -- where nothing waits nothing is told
 none_waits : (b : Book) (l : ℕ) (n : Notice) → next_notice (b.link l) ≡ None → MayNotify b l n → ⊥
@@ -228,6 +261,33 @@ greeting_heard = record { after = 1; what = notice.Message greeting }
 
 abbrev push_heard : Heard
 push_heard = record { after = 1; what = notice.Push invalidation }
+
+-- a message that is told before the outcome of the call that was confirmed before it
+pub told_before_the_outcome : (m : Msg) → NoneBeginsIn listener both_came (action.Message m)
+unfolding digits items values left_over is_spoiled max_depth kind_of url_on_literals utf8_lossy utf8_valid_len
+told_before_the_outcome m word events after h =
+    let b = book_of (both_came listener word) in
+    let may = may_stand listener word events (both_came listener word) after (action.Message m) h in
+    let first : Try = record { link = 0; message = 0 } in
+    may.answered 0 refl refl (record { try = first; last = refl; full = subst (λ (p : Heard). is_full_by (b.link 0) p.after 0 ≡ true) (same_some greeting_heard may.heard may.next) refl })
+
+-- a turn that begins while a message waits
+pub message_left_out : (number : ℕ) (c : Cause) → NoneBeginsIn listener message_came (action.Turn number c)
+unfolding digits items values left_over is_spoiled max_depth kind_of url_on_literals utf8_lossy utf8_valid_len
+message_left_out number c word events after h = of_cause c (may_stand listener word events (message_came listener word) after (action.Turn number c) h)
+  where
+    of_cause : (c : Cause) → MayTurn (book_of (message_came listener word)) number c → ⊥
+    of_cause (cause.Opening config draws) m = cc m.is_for
+    of_cause (cause.Event e) m = cc (m.is_for.1.written.moved.begun.applied.pushed 0 refl)
+
+-- or what a server in monitor mode tells
+pub item_left_out : (number : ℕ) (c : Cause) → NoneBeginsIn watcher item_came (action.Turn number c)
+unfolding digits items values left_over is_spoiled max_depth kind_of url_on_literals utf8_lossy utf8_valid_len
+item_left_out number c word events after h = of_cause c (may_stand watcher word events (item_came watcher word) after (action.Turn number c) h)
+  where
+    of_cause : (c : Cause) → MayTurn (book_of (item_came watcher word)) number c → ⊥
+    of_cause (cause.Opening config draws) m = cc m.is_for
+    of_cause (cause.Event e) m = cc (m.is_for.1.written.moved.begun.applied.pushed 0 refl)
 
 -- a message that is told as a push
 no_push : (b : Book) (info : PushInfo) (disconnects : Bool) → next_notice (b.link 0) ≡ Some greeting_heard → are_pushes_heard b ≡ false → MayPushBy disconnects b 0 info → ⊥
@@ -312,6 +372,11 @@ pub closed_by_a_message : NoneBeginsIn listener message_told (action.Close 0)
 unfolding digits items values left_over is_spoiled max_depth kind_of url_on_literals utf8_lossy utf8_valid_len
 closed_by_a_message word events after h = cc (may_stand listener word events (message_told listener word) after (action.Close 0) h).ends
 
+-- and a close before one is told
+pub closed_before_it_is_told : NoneBeginsIn listener message_and_more (action.Close 0)
+unfolding digits items values left_over is_spoiled max_depth kind_of url_on_literals utf8_lossy utf8_valid_len
+closed_before_it_is_told word events after h = cc ((may_stand listener word events (message_and_more listener word) after (action.Close 0) h).pushed 0 refl)
+
 -- a turn that begins behind a value that closes the link
 pub strange_and_not_closed : (number : ℕ) (c : Cause) → NoneBeginsIn listener strange_came (action.Turn number c)
 unfolding digits items values left_over is_spoiled max_depth kind_of url_on_literals utf8_lossy utf8_valid_len
@@ -340,3 +405,41 @@ fault_to_a_call kind word events after h =
 pub dropped_elsewhere : NoneBeginsIn unbounded dropped_alone (action.Close 0)
 unfolding digits url_on_literals utf8_lossy utf8_valid_len
 dropped_elsewhere word events after h = cc (may_stand unbounded word events (dropped_alone unbounded word) after (action.Close 0) h).ends
+
+-- the fronts of what has no form stand
+pub formless_fronts_stand : (word : ℕ) → EachStands (formless_fronts word)
+unfolding digits is_bad_event items values left_over is_spoiled max_depth kind_of url_on_literals utf8_lossy utf8_valid_len
+formless_fronts_stand word =
+    let up = stands (came_up listener word) refl (at_listener, tt) in
+    let other = stands (came_up unbounded word) refl (at_h (Some None), tt) in
+    let shown = stands (watched watcher word) refl (at_watcher, (refl, tt)) in
+    (up, (other, (shown, (stands (begun limited_listener word) refl tt, tt))))
+
+-- a command on a link of messages
+pub command_among_messages : NoneBeginsIn listener came_up (turn 2 (event.Submit (command 71)))
+unfolding is_bad_event
+command_among_messages word events after h = let x : true ≡ false = (may_stand listener word events (came_up listener word) after (turn 2 (event.Submit (command 71))) h).is_for.2 in cc x
+
+-- or a call of sharded channels
+pub sharded_call_among_messages : (names : List (List ℕ)) → NoneBeginsIn listener came_up (turn 2 (event.Submit (submission.Subscription SSubscribe names)))
+unfolding is_bad_event
+sharded_call_among_messages names word events after h =
+    let x : true ≡ false = (may_stand listener word events (came_up listener word) after (turn 2 (event.Submit (submission.Subscription SSubscribe names))) h).is_for.2 in cc x
+
+-- a ping on a multiplexed connection
+pub ping_elsewhere : NoneBeginsIn unbounded came_up (turn 2 (event.Submit bare_ping))
+unfolding is_bad_event
+ping_elsewhere word events after h = let x : true ≡ false = (may_stand unbounded word events (came_up unbounded word) after (turn 2 (event.Submit bare_ping)) h).is_for.2 in cc x
+
+-- anything in monitor mode
+pub submitted_in_monitor_mode : (what : Submission) → NoneBeginsIn watcher watched (turn 3 (event.Submit what))
+unfolding is_bad_event
+submitted_in_monitor_mode what word events after h = let x : true ≡ false = (may_stand watcher word events (watched watcher word) after (turn 3 (event.Submit what)) h).is_for.2 in cc x
+
+-- a link that is asked for where the configuration says what its kind doesn't have
+pub limited_and_asked_for : (l port : ℕ) (host : List ℕ) → NoneBeginsIn limited_listener begun (action.Connect l host port)
+limited_and_asked_for l port host word events after h =
+    let m = may_stand limited_listener word events (begun limited_listener word) after (action.Connect l host port) h in
+    let same : limited_listener ≡ m.config = same_config limited_listener m.config word m.word m.opens in
+    let sound : first_fault limited_listener ≡ None = ap first_fault same ∙ m.sound in
+    let x : Some name.Kind ≡ None = sound in cc x

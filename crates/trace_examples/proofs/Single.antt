@@ -48,13 +48,13 @@ single_has kind.Single what foreign formed = refl
 single_has kind.PubSub what foreign formed = absurd (not_both (is_foreign what) formed foreign)
 single_has kind.Monitor what foreign formed = cc formed
 
--- and what has no form there either has none in any session
+-- what has no form in either has none in any session
 pub no_session_has : (k : SessionKind) (what : Submission) → is_formless what ≡ true → is_foreign what ≡ true → has_no_form k what ≡ false → ⊥
 no_session_has kind.Single what formless foreign formed = not_both (is_formless what) formed formless
 no_session_has kind.PubSub what formless foreign formed = not_both (is_foreign what) formed foreign
 no_session_has kind.Monitor what formless foreign formed = cc formed
 
--- so is one to which it was handed in
+-- a session to which such a submission was handed in is one multiplexed connection
 pub single_behind : (config : Config) (word : ℕ) (events : List Event) (front after : List Action) (k : ℕ) (what : Submission) → (book_of front).config ≡ Some config → is_foreign what ≡ true
     → Legal config word events (front ++ turn k (event.Submit what) ∷ after) → config.kind ≡ kind.Single
 unfolding is_bad_event
@@ -67,11 +67,11 @@ of_hearing : (P : Hearing → Type 0) (pushes : Bool) → P hearing.Nothing → 
 of_hearing P true none some = some
 of_hearing P false none some = none
 
--- which doesn't put its server into monitor mode
+-- its server isn't put into monitor mode
 pub unwatched : (config : Config) → config.kind ≡ kind.Single → is_watching (hearing_of config) ≡ false
 unwatched config single = ap (λ k. is_watching (hearing_in k (unwrap_or config.push false))) single ∙ of_hearing (λ h. is_watching h ≡ false) (unwrap_or config.push false) refl refl
 
--- so of its book
+-- what holds of both books holds of the one that its configuration says
 pub of_single : (config : Config) (word : ℕ) (front : List Action) (P : Book → Type 0) → config.kind ≡ kind.Single
     → P (book_from config word front (told_info config) (wants_credentials config) hearing.Nothing)
     → P (book_from config word front (told_info config) (wants_credentials config) hearing.Pushes)
@@ -98,6 +98,7 @@ silent_parts db None (Some password) RESP3 skip e = cc e
 silent_parts db (Some name) (Some password) RESP2 skip e = cc e
 silent_parts db (Some name) (Some password) RESP3 skip e = cc e
 
+-- so of any server
 silent_info : (info : RedisConnectionInfo) → says_nothing (setup info true) ≡ true → info ≡ silent_as info.username
 silent_info info e = silent_parts info.db info.username info.password info.protocol info.skip_set_lib_name e
 
@@ -106,7 +107,7 @@ unwanted : (wanted : Bool) → (wanted && true) ≡ false → wanted ≡ false
 unwanted true e = cc e
 unwanted false e = refl
 
--- so of the book of a link that was up at once
+-- so it is of a link that was up at once
 pub of_silent : (config : Config) (word : ℕ) (front : List Action) (P : Book → Type 0) → config.kind ≡ kind.Single → IsSilent config → IsGiven config
     → ((name : Option (List ℕ)) → P (book_from config word front (silent_as name) false hearing.Nothing))
     → ((name : Option (List ℕ)) → P (book_from config word front (silent_as name) false hearing.Pushes))

@@ -7,6 +7,7 @@ use Rattle.resp_write.specs.declared.subscription.SubscriptionAction.TheVariants
 use Rattle.driver_model.specs.Config.{config_of}
 use Rattle.driver_model.specs.declared.action.Action.{Action}
 use Rattle.driver_model.specs.declared.action.Action.TheVariants as action
+use Rattle.driver_model.specs.declared.action.Cause.TheVariants as cause
 use Rattle.driver_model.specs.declared.action.Owner.TheVariants as owner
 use Rattle.driver_model.specs.declared.config.Config.{Config}
 use Rattle.driver_model.specs.declared.event.EventKind.TheVariants as event
@@ -99,6 +100,10 @@ message_came config word = confirmation_came config word ++ action.Outcome 0 out
 abbrev pub message_told : Config → ℕ → List Action
 message_told config word = message_came config word ++ action.Message greeting ∷ []
 
+-- or a message came right behind the confirmation
+abbrev pub both_came : Config → ℕ → List Action
+both_came config word = called config word ++ turn 3 (event.Bytes 0 (subscribed_line ++ message_line)) ∷ []
+
 -- or a message came while the call is open
 abbrev pub message_while_called : Config → ℕ → List Action
 message_while_called config word = called config word ++ turn 3 (event.Bytes 0 message_line) ∷ []
@@ -122,6 +127,10 @@ pinged config word = came_up config word ++ turn 2 (event.Submit bare_ping) ∷ 
 abbrev pub strange_came : Config → ℕ → List Action
 strange_came config word = came_up config word ++ turn 2 (event.Bytes 0 plain_line) ∷ []
 
+-- or a message came in front of it
+abbrev pub message_and_more : Config → ℕ → List Action
+message_and_more config word = came_up config word ++ turn 2 (event.Bytes 0 (message_line ++ plain_line)) ∷ []
+
 -- the stream of messages was dropped while nothing was open
 abbrev pub dropped_alone : Config → ℕ → List Action
 dropped_alone config word = came_up config word ++ turn 2 event.DropStream ∷ []
@@ -142,20 +151,36 @@ watch_answered config word = watching config word ++ turn 2 (event.Bytes 0 okay_
 abbrev pub watched : Config → ℕ → List Action
 watched config word = watch_answered config word ++ action.Created None ∷ []
 
+-- and the server tells something
+abbrev pub item_came : Config → ℕ → List Action
+item_came config word = watched config word ++ turn 3 (event.Bytes 0 watched_line) ∷ []
+
 -- the setup was answered, and then MONITOR was sent
 abbrev pub setup_and_watching : Config → ℕ → List Action
 setup_and_watching config word =
     setup_sent config word 1 22 password_line ++
     turn 2 (event.Wrote 0 22) ∷ turn 3 (event.Bytes 0 okay_line) ∷ action.Start 0 1 owner.Monitor 1 17 ∷ action.Write 0 monitor_line ∷ []
 
+-- the opening begins, and no link is asked for yet
+abbrev pub begun : Config → ℕ → List Action
+begun config word = action.Turn 0 (cause.Opening config word) ∷ []
+
+-- a link of publish/subscribe of which a number of permits is said, which its kind doesn't have
+abbrev pub limited_listener : Config
+limited_listener = record listener { limit = Some 1 }
+
 -- the fronts of the traces that are refused for what comes next
 abbrev pub listening_fronts : ℕ → List (List Action)
 listening_fronts word =
     called listener word ∷ confirmation_came listener word ∷ message_came listener word ∷ message_told listener word ∷
     message_while_called listener word ∷ closed_called listener word ∷ dropped_called listener word ∷ strange_came listener word ∷
-    message_in_setup secured_listener word ∷ pushed_alone heard word ∷ dropped_alone unbounded word ∷ []
+    both_came listener word ∷ message_and_more listener word ∷ message_in_setup secured_listener word ∷ pushed_alone heard word ∷
+    dropped_alone unbounded word ∷ []
 
 abbrev pub watching_fronts : ℕ → List (List Action)
 watching_fronts word =
     came_up listener word ∷ watching watcher word ∷ watch_answered watcher word ∷ watched watcher word ∷
-    setup_sent secured_watcher word 1 22 password_line ∷ []
+    item_came watcher word ∷ setup_sent secured_watcher word 1 22 password_line ∷ []
+
+abbrev pub formless_fronts : ℕ → List (List Action)
+formless_fronts word = came_up listener word ∷ came_up unbounded word ∷ watched watcher word ∷ begun limited_listener word ∷ []

@@ -1,5 +1,5 @@
 -- Texts of the protocol, and what becomes of the values that they are on a link on which something is heard.
-use Rattle.std.specs.Prelude.{◌≡◌, ℕ, pos, Bool, true, false, List, [], ◌∷◌, map, Option, Some, None, codes}
+use Rattle.std.specs.Prelude.{◌≡◌, ℕ, pos, Bool, true, false, List, [], ◌∷◌, map, Some, None, codes}
 use Rattle.resp_value.specs.Data.{bulk, int, array, items_of, simple, okay, push}
 use Rattle.resp_value.specs.View.{value_of}
 use Rattle.resp_value.specs.declared.push_kind.PushKind.TheVariants.{Invalidate, Subscribe}

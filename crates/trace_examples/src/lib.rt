@@ -87,7 +87,7 @@ ghost use Rattle.trace_examples.specs.Claims.{IsTraceOf, IsTraceIn};
 ghost use Rattle.trace_examples.specs.Claims.{NoneBegins, NoneBeginsIn, NoneIs};
 
 pub use dealing::these_become_of_values;
-pub use listening::{nor_do_these_listen, these_listen};
+pub use listening::{nor_do_these_listen, nor_have_these_a_form, these_listen};
 pub use renewing::{nor_are_these_renewals, these_renew_credentials};
 
 /// Does nothing. Its contract: these traces are legal. A transaction is aborted by the error of its

@@ -1,22 +1,25 @@
 //! Traces that tell what a link of publish/subscribe or of monitor mode hears, and traces that would
 //! do so where they may not.
 
-ghost use Rattle.std.specs.Prelude.{ℕ, [], ◌∷◌, Option, Some, None, codes};
+ghost use Rattle.std.specs.Prelude.{ℕ, List, [], ◌∷◌, ◌++◌, Option, Some, None, codes};
 ghost use Rattle.redis_error.specs.declared.fault_kind.FaultKind.{FaultKind};
 ghost use Rattle.redis_error.specs.declared.fault_kind.FaultKind.TheVariants.{Reset};
 ghost use Rattle.redis_error.specs.declared.redis_error.RedisError.TheVariants as error;
 ghost use Rattle.resp_value.specs.Data.{simple};
 ghost use Rattle.resp_value.specs.View.{value_of};
 ghost use Rattle.resp_value.specs.declared.value.Value.{Value};
+ghost use Rattle.resp_write.specs.declared.subscription.SubscriptionAction.TheVariants.{SSubscribe};
 ghost use Rattle.driver_model.specs.declared.action.Action.TheVariants as action;
 ghost use Rattle.driver_model.specs.declared.action.Cause.{Cause};
 ghost use Rattle.driver_model.specs.declared.action.Owner.TheVariants as owner;
 ghost use Rattle.driver_model.specs.declared.event.EventKind.TheVariants as event;
+ghost use Rattle.driver_model.specs.declared.event.Submission.{Submission};
+ghost use Rattle.driver_model.specs.declared.event.Submission.TheVariants as submission;
 ghost use Rattle.driver_model.specs.declared.msg.Msg.{Msg};
 ghost use Rattle.driver_model.specs.declared.outcome.Outcome.{Outcome};
 ghost use Rattle.driver_model.specs.declared.outcome.Outcome.TheVariants as outcome;
 ghost use Rattle.driver_model.specs.declared.push_info.PushInfo.{PushInfo};
-ghost use Rattle.trace_examples.specs.Parts.{unbounded, turn, okay_line};
+ghost use Rattle.trace_examples.specs.Parts.{unbounded, turn, command, okay_line};
 ghost use Rattle.trace_examples.specs.Pushes.{heard, pushed_alone};
 ghost use Rattle.trace_examples.specs.Setups.{password_line, setup_sent};
 ghost use Rattle.trace_examples.specs.Traces.{opening, came_up};
@@ -31,16 +34,19 @@ ghost use Rattle.trace_examples.specs.Listeners.{dropped_called, closed_called, 
 ghost use Rattle.trace_examples.specs.Listeners.{strange_came, dropped_alone, message_in_setup};
 ghost use Rattle.trace_examples.specs.Listeners.{watching, watch_answered, watched};
 ghost use Rattle.trace_examples.specs.Listeners.{setup_and_watching, listening_fronts};
-ghost use Rattle.trace_examples.specs.Listeners.{watching_fronts};
+ghost use Rattle.trace_examples.specs.Listeners.{watching_fronts, subscribe_line, both_came};
+ghost use Rattle.trace_examples.specs.Listeners.{message_and_more, item_came, begun};
+ghost use Rattle.trace_examples.specs.Listeners.{limited_listener, formless_fronts};
 ghost use Rattle.trace_examples.specs.Claims.{IsTraceIn, NoneBeginsIn};
 ghost use Rattle.trace_examples.specs.Fronts.{EachStands};
 
 /// Does nothing. Its contract: these are legal too. On a link of publish/subscribe a confirmed call
-/// is done, and a message is told, also while a call is open. A ping is answered, and an array that
-/// is no message ends the link, as does a value that nobody awaits, a fault and a dropped stream,
-/// each of which closes the open calls. On a multiplexed connection a dropped stream does nothing.
-/// MONITOR starts once the setup is answered; its answer shows the creation, and all behind that is
-/// told; a fault before it is the error of the creation.
+/// is done, and a message is told, also while a call is open, and in the order in which they came. No
+/// call has a timer, also where a time is set. A ping is answered, and an array that is no message
+/// ends the link, as does a value that nobody awaits, a fault and a dropped stream, each of which
+/// closes the open calls. On a multiplexed connection a dropped stream does nothing. MONITOR starts
+/// once the setup is answered; its answer shows the creation, and all behind that is told; a fault
+/// before it is the error of the creation.
 pub fn these_listen()
     ensures subscribed_and_told { IsTraceIn listener
         (event.Connected 0 ∷ event.Submit subscription ∷ event.Bytes 0 subscribed_line
@@ -48,6 +54,17 @@ pub fn these_listen()
     ensures told_while_called { IsTraceIn listener
         (event.Connected 0 ∷ event.Submit subscription ∷ event.Bytes 0 message_line ∷ [])
         message_while_called (action.Message greeting ∷ []) }
+    ensures told_behind_the_outcome { IsTraceIn listener
+        (event.Connected 0 ∷ event.Submit subscription
+        ∷ event.Bytes 0 (subscribed_line ++ message_line) ∷ []) both_came
+        (action.Outcome 0 outcome.Done ∷ action.Message greeting ∷ []) }
+    ensures told_before_the_close { IsTraceIn listener
+        (event.Connected 0 ∷ event.Bytes 0 (message_line ++ plain_line) ∷ []) message_and_more
+        (action.Message greeting ∷ action.Close 0 ∷ []) }
+    ensures untimed { IsTraceIn listener
+        (event.Connected 0 ∷ event.Timeout (Some 100) ∷ event.Submit subscription ∷ []) came_up
+        (turn 2 (event.Timeout (Some 100)) ∷ turn 3 (event.Submit subscription)
+        ∷ action.Start 0 0 (owner.Try 0 0) 1 27 ∷ action.Write 0 subscribe_line ∷ []) }
     ensures pinged_and_closed { IsTraceIn listener
         (event.Connected 0 ∷ event.Submit bare_ping ∷ event.Bytes 0 pong_line
         ∷ event.Submit bare_ping ∷ event.Bytes 0 foo_line ∷ []) pinged
@@ -87,19 +104,26 @@ pub fn these_listen()
 
 /// Does nothing. Its contract: no trace that begins so is legal, whatever its events were and
 /// whatever comes after: a message that is told twice, or that came before the setup was answered,
-/// or as a push, or as what a server in monitor mode tells, and a push as a message; a message as
-/// the outcome of a call, and a confirmation as a message; MONITOR's answer as what the server tells;
-/// MONITOR twice, or on a link of messages, or before the setup is answered; the creation before
-/// MONITOR's answer, and a turn that begins before it is shown; a close by a message, and a turn that
-/// begins behind a value that closes the link, or behind a dropped stream; the fault itself, given to
-/// a call on a link of messages; and a dropped stream that closes a multiplexed connection. Each
-/// action of the fronts stands where it may.
+/// or before the outcome of a call that was confirmed before it, or as a push, or as what a server in
+/// monitor mode tells, and a push as a message; a turn that begins while a message waits, or what the
+/// server tells; a message as the outcome of a call, and a confirmation as a message; MONITOR's
+/// answer as what the server tells; MONITOR twice, or on a link of messages, or before the setup is
+/// answered; the creation before MONITOR's answer, and a turn that begins before it is shown; a close
+/// by a message, or before one is told, and a turn that begins behind a value that closes the link,
+/// or behind a dropped stream; the fault itself, given to a call on a link of messages; and a dropped
+/// stream that closes a multiplexed connection. Each action of the fronts stands where it may.
 pub fn nor_do_these_listen()
     ensures fronts { (word : ℕ) → EachStands (listening_fronts word) }
     ensures fronts_of_monitors { (word : ℕ) → EachStands (watching_fronts word) }
     ensures told_twice { (m : Msg) → NoneBeginsIn listener message_told (action.Message m) }
     ensures told_early { (m : Msg)
         → NoneBeginsIn secured_listener message_in_setup (action.Message m) }
+    ensures told_before_the_outcome { (m : Msg)
+        → NoneBeginsIn listener both_came (action.Message m) }
+    ensures message_left_out { (number : ℕ) (c : Cause)
+        → NoneBeginsIn listener message_came (action.Turn number c) }
+    ensures item_left_out { (number : ℕ) (c : Cause)
+        → NoneBeginsIn watcher item_came (action.Turn number c) }
     ensures told_as_a_push { (info : PushInfo)
         → NoneBeginsIn listener message_came (action.Push 0 info) }
     ensures told_as_a_monitor { (value : Value)
@@ -123,6 +147,7 @@ pub fn nor_do_these_listen()
         (action.Start 0 k owner.Monitor count len) }
     ensures created_before_the_answer { NoneBeginsIn watcher watching (action.Created None) }
     ensures closed_by_a_message { NoneBeginsIn listener message_told (action.Close 0) }
+    ensures closed_before_it_is_told { NoneBeginsIn listener message_and_more (action.Close 0) }
     ensures strange_and_not_closed { (number : ℕ) (c : Cause)
         → NoneBeginsIn listener strange_came (action.Turn number c) }
     ensures dropped_and_not_closed { (number : ℕ) (c : Cause)
@@ -130,4 +155,19 @@ pub fn nor_do_these_listen()
     ensures fault_to_a_call { (kind : FaultKind) → NoneBeginsIn listener closed_called
         (action.Outcome 0 (outcome.Fault (error.Io kind))) }
     ensures dropped_elsewhere { NoneBeginsIn unbounded dropped_alone (action.Close 0) }
+{}
+
+/// Does nothing. Its contract: nor do these begin a legal trace: a turn that hands in a command or a
+/// call of sharded channels on a link of messages, a ping on a multiplexed connection, or anything in
+/// monitor mode; and a link that is asked for where the configuration says what its kind doesn't have.
+pub fn nor_have_these_a_form()
+    ensures fronts { (word : ℕ) → EachStands (formless_fronts word) }
+    ensures command_among_messages { NoneBeginsIn listener came_up (turn 2 (event.Submit (command 71))) }
+    ensures sharded_call_among_messages { (names : List (List ℕ)) → NoneBeginsIn listener came_up
+        (turn 2 (event.Submit (submission.Subscription SSubscribe names))) }
+    ensures ping_elsewhere { NoneBeginsIn unbounded came_up (turn 2 (event.Submit bare_ping)) }
+    ensures submitted_in_monitor_mode { (what : Submission)
+        → NoneBeginsIn watcher watched (turn 3 (event.Submit what)) }
+    ensures limited_and_asked_for { (l port : ℕ) (host : List ℕ)
+        → NoneBeginsIn limited_listener begun (action.Connect l host port) }
 {}

@@ -1,4 +1,4 @@
-use Rattle.trace_examples.proofs.Listeners.{listening_fronts_stand, watching_fronts_stand, told_twice, told_early, told_as_a_push, told_as_a_monitor, push_told_as_a_message, message_as_an_outcome, confirmation_as_a_message, answer_as_an_item, answered_and_not_created, watched_twice, watched_among_messages, watched_in_setup, created_before_the_answer, closed_by_a_message, strange_and_not_closed, dropped_and_not_closed, fault_to_a_call, dropped_elsewhere}
+use Rattle.trace_examples.proofs.Listeners.{listening_fronts_stand, watching_fronts_stand, told_twice, told_early, told_before_the_outcome, message_left_out, item_left_out, told_as_a_push, told_as_a_monitor, push_told_as_a_message, message_as_an_outcome, confirmation_as_a_message, answer_as_an_item, answered_and_not_created, watched_twice, watched_among_messages, watched_in_setup, created_before_the_answer, closed_by_a_message, closed_before_it_is_told, strange_and_not_closed, dropped_and_not_closed, fault_to_a_call, dropped_elsewhere}
 use Rattle.trace_examples.proofs.listening.nor_do_these_listen.Goals as goal
 
 pub returns : goal.returns
@@ -7,6 +7,9 @@ returns c = record {
   fronts_of_monitors = watching_fronts_stand;
   told_twice = told_twice;
   told_early = told_early;
+  told_before_the_outcome = told_before_the_outcome;
+  message_left_out = message_left_out;
+  item_left_out = item_left_out;
   told_as_a_push = told_as_a_push;
   told_as_a_monitor = told_as_a_monitor;
   push_told_as_a_message = push_told_as_a_message;
@@ -19,6 +22,7 @@ returns c = record {
   watched_in_setup = watched_in_setup;
   created_before_the_answer = created_before_the_answer;
   closed_by_a_message = closed_by_a_message;
+  closed_before_it_is_told = closed_before_it_is_told;
   strange_and_not_closed = strange_and_not_closed;
   dropped_and_not_closed = dropped_and_not_closed;
   fault_to_a_call = fault_to_a_call;

@@ -1,10 +1,13 @@
-use Rattle.trace_examples.proofs.Listeners.{subscribed_and_told, told_while_called, pinged_and_closed, closed_by_a_value, closed_by_a_fault, closed_by_the_drop, dropped_before_the_connect, nothing_to_drop, watched_and_told, answered_and_told_at_once, watched_behind_the_setup, failed_by_its_fault}
+use Rattle.trace_examples.proofs.Listeners.{subscribed_and_told, told_while_called, told_behind_the_outcome, told_before_the_close, untimed, pinged_and_closed, closed_by_a_value, closed_by_a_fault, closed_by_the_drop, dropped_before_the_connect, nothing_to_drop, watched_and_told, answered_and_told_at_once, watched_behind_the_setup, failed_by_its_fault}
 use Rattle.trace_examples.proofs.listening.these_listen.Goals as goal
 
 pub returns : goal.returns
 returns c = record {
   subscribed_and_told = subscribed_and_told;
   told_while_called = told_while_called;
+  told_behind_the_outcome = told_behind_the_outcome;
+  told_before_the_close = told_before_the_close;
+  untimed = untimed;
   pinged_and_closed = pinged_and_closed;
   closed_by_a_value = closed_by_a_value;
   closed_by_a_fault = closed_by_a_fault;
