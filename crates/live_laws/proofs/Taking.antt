@@ -9,7 +9,6 @@ use Rattle.driver_model.specs.declared.config.Config.{Config}
 use Rattle.driver_model.specs.declared.event.Event.{Event}
 use Rattle.driver_model.specs.declared.event.EventKind.{EventKind}
 use Rattle.mux_conn.specs.declared.act.LinkAct.{LinkAct}
-use Rattle.mux_conn.specs.declared.act.LinkAct.TheVariants as act
 use Rattle.shared_session.specs.declared.core_state.Core.{Core}
 use Rattle.shared_session.specs.Turn.{actions_of, next_turn, shown, shown_each, timer_of, source_of}
 use Rattle.shared_session.specs.Replay.{connect_asked, opening_actions, opening_core, trace_of, turns_on}
