@@ -31,7 +31,7 @@ fn callers(alloc: Global, words: &[&str]) -> Result<u32, AllocError> {
 }
 
 /// Words, and how many callers they set, 0 where they are no plan.
-const PLANS: [(&[&str], u32); 7] = [
+const PLANS: [(&[&str], u32); 10] = [
     (&["single", URL], 1),
     (&["callers=8", "single", URL, "lib=off"], 8),
     (&["callers=9", "single", URL], 0),
@@ -39,6 +39,9 @@ const PLANS: [(&[&str], u32); 7] = [
     (&["callers=2", "callers=2", "single", URL], 0),
     (&["callers=2"], 0),
     (&[], 0),
+    (&["pubsub", URL], 1),
+    (&["callers=2", "monitor", URL, "lib=off"], 2),
+    (&["pubsub", URL, "creds=on"], 0),
 ];
 
 #[test]
@@ -191,7 +194,7 @@ fn each_world_gives_its_outcomes(rt: HostRuntime) -> Result<(), AllocError> {
 }
 
 /// Words and lines that are refused, the status, and the line of their refusal.
-const FAULTS: [(&[&str], &[u8], u8, &[u8]); 9] = [
+const FAULTS: [(&[&str], &[u8], u8, &[u8]); 11] = [
     (THREE, b"submit cmd GET a\n", 2, b"script line 2\n"),
     (
         THREE,
@@ -202,6 +205,18 @@ const FAULTS: [(&[&str], &[u8], u8, &[u8]); 9] = [
     (THREE, b"end\nsubmit cmd GET a\n", 2, b"script line 2\n"),
     (THREE, b"", 2, b"script line 1\n"),
     (&["callers=9", "single", URL], LINES, 1, USAGE),
+    (
+        &["pubsub", URL, "lib=off"],
+        b"submit ping\nsubmit cmd GET a\nend\n",
+        2,
+        b"script line 2\n",
+    ),
+    (
+        &["monitor", URL, "lib=off"],
+        b"submit ping\nend\n",
+        2,
+        b"script line 1\n",
+    ),
     (
         &["single", URL, "creds=on", "lib=off", "connect=none"],
         LINES,
@@ -233,6 +248,15 @@ fn what_is_refused_is_told(rt: HostRuntime) -> Result<(), AllocError> {
     for (words, lines, number, wanted) in FAULTS {
         assert!(rt; gives(&rt, rt.alloc(), words, lines, &BOTH, (number, wanted))?);
     }
+    Ok(())
+}
+
+#[test]
+fn a_link_of_publish_and_subscribe_is_pinged(rt: HostRuntime) -> Result<(), AllocError> {
+    let words = ["pubsub", URL, "lib=off"];
+    let lines = b"submit ping\nsubmit ping a\nend\n".as_slice();
+    let wanted = b"outcome s0 ok +x%0D%0A\noutcome s1 ok +y%0D%0A\n".as_slice();
+    assert!(rt; gives(&rt, rt.alloc(), &words, lines, &BOTH, (0, wanted))?);
     Ok(())
 }
 

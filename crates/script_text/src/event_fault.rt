@@ -242,11 +242,7 @@ fn link_submission_fault(words: &[Word<'_>], more: &[Seq<Word<'_>>]) -> Option<F
 
 /// What is wrong with what is submitted to a session of this kind.
 #[tactic(auto, using(crate::proofs::Faults::nothing_submitted))]
-fn submission_fault(
-    kind: SessionKind,
-    words: &[Word<'_>],
-    more: &[Seq<Word<'_>>],
-) -> Option<Fault>
+fn submission_fault(kind: SessionKind, words: &[Word<'_>], more: &[Seq<Word<'_>>]) -> Option<Fault>
     ensures { FindsFault result (by_first (submissions kind) words.now more.now) }
 {
     match kind {
@@ -332,11 +328,7 @@ fn named_fault(
 }
 
 /// What is wrong with words, and those behind separators, as what happens in a session of this kind.
-fn happening_fault(
-    kind: SessionKind,
-    words: &[Word<'_>],
-    more: &[Seq<Word<'_>>],
-) -> Option<Fault>
+fn happening_fault(kind: SessionKind, words: &[Word<'_>], more: &[Seq<Word<'_>>]) -> Option<Fault>
     ensures { FindsFault result (by_first (events kind) words.now more.now) }
 {
     match words {

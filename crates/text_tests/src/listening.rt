@@ -1,9 +1,7 @@
 use crate::errors::bytes;
 use crate::traces::line;
 use containers::Bytes;
-use driver_model::{
-    Action, Cause, Config, Event, EventKind, Msg, Owner, SessionKind, Submission,
-};
+use driver_model::{Action, Cause, Config, Event, EventKind, Msg, Owner, SessionKind, Submission};
 use resp_value::Value;
 use script_text::{ScriptError, read_script};
 use std::alloc::{AllocError, Global};
