@@ -256,7 +256,14 @@ fn unheard(
     let mut settled = Vec::new(alloc);
     let mut notices = Vec::new(alloc);
     let piece = text.as_bytes();
-    link.read(alloc, piece, Hearing::Nothing, true, &mut settled, &mut notices)?;
+    link.read(
+        alloc,
+        piece,
+        Hearing::Nothing,
+        true,
+        &mut settled,
+        &mut notices,
+    )?;
     describe_all(alloc, settled.as_slice(), log)?;
     if link.is_broken() {
         log.extend_from_slice(b"malformed; ".as_slice())?;
