@@ -1,7 +1,7 @@
 -- What becomes of a value on a link of messages, by its form.
 use Rattle.std.proofs.Common.{◌≡◌, ℕ, Bool, true, false, List, [], ◌∷◌, Option, None, Some, refl, sym, ap, ◌∙◌, if◌then◌else◌}
 use Rattle.containers.proofs.Choices.{taken_if}
-use Rattle.resp_value.specs.Data.{Data, Items, list_of}
+use Rattle.resp_value.specs.Data.{Data}
 use Rattle.resp_value.specs.View.{data_of, list_of-items_of, value_of-data_of}
 use Rattle.resp_value.specs.Kinds.{has_reply, is_item}
 use Rattle.resp_value.specs.declared.push_kind.PushKind.{PushKind}
@@ -9,8 +9,7 @@ use Rattle.resp_value.specs.declared.value.Value.{Value}
 use Rattle.resp_value.specs.declared.value.Value.TheVariants.{Array, Push}
 use Rattle.driver_model.specs.declared.hearing.Notice.TheVariants.{Monitor}
 use Rattle.driver_model.specs.declared.msg.Msg.{Msg}
-use Rattle.driver_model.specs.Hearing.{Taking, answers, strange, as_message, bulk_text, plain_text, by_channel, by_pattern, message_of, message_named, is_answer_named, array_taken, push_taken, other_taken, message_taken, item_told}
-use Rattle.link_core.specs.declared.message.NoticeAt.{NoticeAt}
+use Rattle.driver_model.specs.Hearing.{Taking, answers, strange, as_message, bulk_text, plain_text, by_channel, by_pattern, message_of, message_named, is_answer_named, array_taken, other_taken, message_taken, item_told}
 use Rattle.link_core.specs.Dealing.{noticed_behind}
 
 -- a message isn't dealt, and neither is what is none

@@ -11,7 +11,7 @@ use Rattle.driver_model.specs.declared.hearing.Hearing.TheVariants.{Nothing}
 use Rattle.link_core.specs.declared.message.Entry.{Entry}
 use Rattle.link_core.specs.declared.message.NoticeAt.{NoticeAt}
 use Rattle.link_core.specs.declared.message.Settled.{Settled}
-use Rattle.link_core.specs.Dealing.{Dealing, dealing_with, dealing_on, with_item, settled_by, given, dealt_if, is_awaiting, taking_in, noticed_behind, taken_as, taken, taken_each}
+use Rattle.link_core.specs.Dealing.{Dealing, dealing_with, dealing_on, with_item, settled_by, dealt_if, is_awaiting, taking_in, noticed_behind, taken_as, taken, taken_each}
 
 -- a message with one item more, beside what was settled before
 given_parts : (more : Bool) (before : List Entry) (e : Entry) (es : List Entry) (out : List Settled) (notices : List NoticeAt) (strange : Bool)

@@ -19,3 +19,4 @@ pub mod Started
 pub mod PushKinds
 pub mod Notices
 pub mod Unheard
+pub mod Greetings

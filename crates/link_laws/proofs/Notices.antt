@@ -23,6 +23,7 @@ use Rattle.legal_trace.specs.Ledger.{Ledger, Start, Heard, full_count, is_full, 
 use Rattle.legal_trace.proofs.Came.{Came, came_on}
 use Rattle.legal_trace.proofs.Plain.{same_some}
 use Rattle.legal_trace.proofs.Setups.{AreSetups, start_at}
+pub use Rattle.link_laws.specs.Greetings.{IsBehind}
 use Rattle.link_laws.specs.Notices.{SayTheSame, AreApart}
 use Rattle.link_laws.proofs.Dealt.{IsDealt, all_append}
 use Rattle.link_laws.proofs.PushKinds.{IsFromText, values_from_text}
@@ -125,11 +126,7 @@ greeted_reads name h l s piece k x xs is tame lives last sets tied settled =
 
 -- what is told there stands behind the first settled message
 --
--- a notice stands behind some
-abbrev pub IsBehind : NoticeAt → Type 0
-IsBehind p = (p.settled == 0) ≡ false
-
--- so it is with one value
+-- with one value
 one_behind : (h : Hearing) (d : Dealing) (v : Data) → AllByRecursion IsBehind d.notices → AllByRecursion IsBehind (taken h false d v).notices
 one_behind h d v all =
     let n = length d.out in

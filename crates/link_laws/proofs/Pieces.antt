@@ -1,5 +1,5 @@
 -- Bytes that come in pieces, and where what is told of a value stands.
-use Rattle.std.proofs.Common.{◌≡◌, ℕ, ◌+◌, ◌==◌, nat_lt, Bool, true, false, ◌||◌, not, List, [], ◌∷◌, ◌++◌, length, Option, Some, None, refl, sym, ap, ◌∙◌, subst, append_assoc, arith, length-append}
+use Rattle.std.proofs.Common.{◌≡◌, ℕ, ◌+◌, ◌==◌, nat_lt, Bool, true, false, ◌||◌, not, if◌then◌else◌, List, [], ◌∷◌, ◌++◌, length, Option, Some, None, refl, sym, ap, ◌∙◌, subst, append_assoc, arith, length-append}
 use Rattle.std.proofs.lemmas.List.{append-nil}
 use Rattle.containers.proofs.Choices.{by_test, chosen, if_true, if_false, left_if, ne_test, taken_if, not_both}
 use Rattle.resp_value.specs.Data.{Data}
@@ -182,20 +182,25 @@ first_taken h ready ns d (v ∷ vs) =
     (chosen_both (λ (x y : Dealing). x ≡ told_first ns y) d.strange (told_first ns d) (taken_as (told_first ns d) t v) d (taken_as d t v) (λ y. refl) (λ n. first_as ns d t v))
     ∙ first_taken h ready ns (taken h ready d v) vs
 
--- so it stands behind what the values before it settled
-pub notice_stands : (h : Hearing) (ready : Bool) (s : LinkState) (piece : List ℕ) (before after : List Data) (v : Data) → s.broken ≡ false → values (s.rest ++ piece) ≡ before ++ v ∷ after → (taken_by h ready s before).strange ≡ false
+-- behind values
+one_told : (h : Hearing) (ready : Bool) (d : Dealing) (v : Data) → (taken h ready d v).notices ≡ d.notices ++ (if d.strange then [] else noticed_behind (length d.out) (taking_in h ready d v).told)
+one_told h ready d v =
+    let t = taking_in h ready d v in
+    let m : Dealing = record d { notices = d.notices ++ noticed_behind (length d.out) t.told; strange = t.ends } in
+    chosen_both (λ (x : Dealing) (ps : List NoticeAt). x.notices ≡ d.notices ++ ps) d.strange d (taken_as d t v) [] (noticed_behind (length d.out) t.told)
+    (λ y. sym (append-nil d.notices))
+    (λ n. chosen (λ (x : Dealing). x.notices ≡ m.notices) t.dealt (dealt m v) m (λ y. (item_tells m v d.row).0) (λ y. refl))
+
+-- so it stands behind what these settled
+pub notice_stands : (h : Hearing) (ready : Bool) (s : LinkState) (piece : List ℕ) (before after : List Data) (v : Data) → s.broken ≡ false → values (s.rest ++ piece) ≡ before ++ v ∷ after
     → (let d = taken_by h ready s before in
     let e = taken_by h ready s (before ++ v ∷ []) in
-    (piece_read h ready s piece).notices ≡ d.notices ++ noticed_behind (length d.out) (taking_in h ready d v).told ++ (taken_each h ready (record e { notices = [] }) after).notices)
-notice_stands h ready s piece before after v sound is tame =
+    (piece_read h ready s piece).notices ≡ d.notices ++ (if d.strange then [] else noticed_behind (length d.out) (taking_in h ready d v).told) ++ (taken_each h ready (record e { notices = [] }) after).notices)
+notice_stands h ready s piece before after v sound is =
     let start = dealing_with s.row in
     let d = taken_by h ready s before in
     let e = taken_by h ready s (before ++ v ∷ []) in
-    let t = taking_in h ready d v in
-    let one : e ≡ taken_as d t v = taken-append h ready start before (v ∷ []) ∙ left_if d.strange d (taken_as d t v) tame in
-    let m : Dealing = record d { notices = d.notices ++ noticed_behind (length d.out) t.told; strange = t.ends } in
-    let told : e.notices ≡ d.notices ++ noticed_behind (length d.out) t.told =
-    ap (λ (x : Dealing). x.notices) one ∙ chosen (λ (x : Dealing). x.notices ≡ m.notices) t.dealt (dealt m v) m (λ y. (item_tells m v d.row).0) (λ n. refl) in
+    let told = ap (λ (x : Dealing). x.notices) (taken-append h ready start before (v ∷ [])) ∙ one_told h ready d v in
     let bare : Dealing = record e { notices = [] } in
     let whole : e ≡ told_first e.notices bare = (λ i. record e { notices = sym (append-nil e.notices) i }) in
     ap (λ (x : Reading). x.notices) (left_if s.broken (nothing_read s) (came_all h ready s (s.rest ++ piece)) sound)

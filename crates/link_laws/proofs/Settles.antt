@@ -106,7 +106,7 @@ first_owed name l turn why e x ends is place =
     failed_owed name (ended l turn) e.awaited e.id k e.shape x place (cut_off_owed l turn k place.start e.shape x place.stands (omega arith) off)
 
 -- a fault is the same error to a link and in a trace
-same_error : (f : LinkFault) → fault_error f ≡ error_of f
+pub same_error : (f : LinkFault) → fault_error f ≡ error_of f
 same_error fault.Ended = refl
 same_error (fault.Io kind) = refl
 same_error fault.Parse = refl

@@ -1,16 +1,25 @@
 -- The laws of a link, each as one statement.
-use Rattle.std.specs.Prelude.{◌≡◌, ℕ, ◌-◌, Bool, false, true, List, [], ◌∷◌, ◌++◌, length}
+use Rattle.std.specs.Prelude.{◌≡◌, ℕ, ◌-◌, Bool, false, true, List, [], ◌∷◌, ◌++◌, length, if◌then◌else◌}
 use Rattle.resp_value.specs.Data.{Data}
 use Rattle.resp_read.specs.Values.{values}
 use Rattle.driver_model.specs.declared.action.Owner.{Owner}
+use Rattle.driver_model.specs.declared.action.Owner.TheVariants as owner
 use Rattle.driver_model.specs.declared.hearing.Hearing.{Hearing}
+use Rattle.driver_model.specs.declared.hearing.Hearing.TheVariants as hearing
+use Rattle.driver_model.specs.Config.{bare_info}
+use Rattle.driver_model.specs.Hearing.{is_watching}
+use Rattle.driver_model.specs.Setup.{says_nothing}
+use Rattle.connection_info.specs.declared.address.RedisConnectionInfo.{RedisConnectionInfo}
+use Rattle.connection_setup.specs.Setup.{setup}
 use Rattle.link_core.specs.declared.message.Settled.{Settled}
 use Rattle.link_core.specs.declared.message.Started.{Started}
 use Rattle.link_core.specs.Dealing.{noticed_behind, taking_in, taken_each}
 use Rattle.link_core.specs.Link.{LinkState, Starting, Settling, Reading, piece_read}
 use Rattle.link_core.specs.Row.{lack_of_row}
 use Rattle.link_core.specs.Waiting.{without}
-use Rattle.legal_trace.specs.Ledger.{Heard, reach, ledger}
+use Rattle.legal_trace.specs.Ledger.{Heard, is_set_up, ledger, monitor_message, reach}
+use Rattle.std.specs.List.{AllByRecursion}
+use Rattle.link_laws.specs.Greetings.{setup_start, greeting_link, greeting_ledger, IsBehind, HearAlike}
 use Rattle.link_laws.specs.Alike.{SameLink, SameStarting, SameSettling, SameReading, SetsUp, others, told}
 use Rattle.link_laws.specs.Pieces.{taken_by}
 use Rattle.link_laws.specs.Notices.{SayTheSame, AreApart}
@@ -68,11 +77,11 @@ EndSettlesAll =
 abbrev pub NoticeStandsBehind : Type 0
 NoticeStandsBehind =
     (h : Hearing) (ready : Bool) (s : LinkState) (piece : List ℕ) (before after : List Data) (v : Data) → s.broken ≡ false
-    → values (s.rest ++ piece) ≡ before ++ v ∷ after → (taken_by h ready s before).strange ≡ false
+    → values (s.rest ++ piece) ≡ before ++ v ∷ after
     → (let d = taken_by h ready s before in
     let e = taken_by h ready s (before ++ v ∷ []) in
     (piece_read h ready s piece).notices
-    ≡ d.notices ++ noticed_behind (length d.out) (taking_in h ready d v).told ++ (taken_each h ready (record e { notices = [] }) after).notices)
+    ≡ d.notices ++ (if d.strange then [] else noticed_behind (length d.out) (taking_in h ready d v).told) ++ (taken_each h ready (record e { notices = [] }) after).notices)
 
 -- what a link tells with bytes is what its ledger hears then, in order; and each notice stands among the messages that these
 -- bytes settle where it came: behind those that were full before it, and before the others. Whether a value ends the link is the
@@ -112,3 +121,23 @@ WithdrawalSparesOthers =
     (name : ℕ → Owner) (h : Hearing) (size boundary id : ℕ) (ops more : List Operation) → HasLeft id (run name h size boundary ops)
     → others id (run name h size boundary (ops ++ more)).settled
     ≡ others id (run name h size boundary (ops ++ withdraw id ∷ more)).settled
+
+-- what a link tells whose setup isn't answered stands behind the answer; where the setup is answered well with these bytes, it is
+-- what the ledger hears, and else the ledger hears nothing
+abbrev pub SetupIsHeard : Type 0
+SetupIsHeard =
+    (name : ℕ → Owner) (h : Hearing) (info : RedisConnectionInfo) (size boundary id : ℕ) (piece : List ℕ) → name id ≡ owner.Setup
+    → is_watching h ≡ false → says_nothing (setup info true) ≡ false
+    → (let s = setup_start info in
+    let l = greeting_ledger h info s piece in
+    let r = piece_read h false (greeting_link size boundary id s) piece in
+    AllByRecursion IsBehind r.notices × (is_set_up l ≡ true → HearAlike name l r) × (is_set_up l ≡ false → (l.notices ≡ []) × (l.strange ≡ false)))
+
+-- and what a link tells whose MONITOR isn't answered stands behind the answer, and is what the ledger hears
+abbrev pub MonitorIsHeard : Type 0
+MonitorIsHeard =
+    (name : ℕ → Owner) (size boundary id : ℕ) (piece : List ℕ) → name id ≡ owner.Monitor
+    → (let s = monitor_message in
+    let l = greeting_ledger hearing.Monitor bare_info s piece in
+    let r = piece_read hearing.Monitor false (greeting_link size boundary id s) piece in
+    AllByRecursion IsBehind r.notices × HearAlike name l r)

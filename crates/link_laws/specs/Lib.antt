@@ -2,6 +2,7 @@ pub mod Alike
 pub mod Places
 pub mod Settles
 pub mod Notices
+pub mod Greetings
 pub mod Starts
 pub mod Runs
 pub mod Pieces

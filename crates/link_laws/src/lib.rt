@@ -21,6 +21,7 @@ ghost use Rattle.link_laws.specs.Pieces.{pieces_read, EndsAlike};
 ghost use Rattle.link_laws.specs.Laws.{KeepsAlike, StartsAlike, SettlesAlike};
 ghost use Rattle.link_laws.specs.Laws.{ReadsAlike, ReadsItemsAlike};
 ghost use Rattle.link_laws.specs.Laws.{LackWhatWasNotDealt, OneLine, EndSettlesAll};
+ghost use Rattle.link_laws.specs.Laws.{SetupIsHeard, MonitorIsHeard};
 ghost use Rattle.link_laws.specs.Laws.{NoticeStandsBehind, EachNoticeIsHeard, NothingElseIsHeard};
 ghost use Rattle.link_laws.specs.Laws.{WithdrawalIsNotTold, WithdrawalSparesOthers};
 
@@ -102,6 +103,15 @@ pub fn a_notice_stands_behind_what_came_before_it()
 pub fn a_notice_is_heard_where_it_came()
     ensures heard { EachNoticeIsHeard }
     ensures only { NothingElseIsHeard }
+{}
+
+/// Does nothing. Its contract: of a link that isn't set up. What it tells stands behind the answer
+/// to its greeting, the setup or MONITOR. Where the setup is answered well with these bytes, and
+/// always of MONITOR, it is what the ledger hears, each notice where it came, and a value ends the
+/// one where it ends the other; else the ledger hears nothing.
+pub fn what_comes_behind_a_greeting_is_heard()
+    ensures setup { SetupIsHeard }
+    ensures monitor { MonitorIsHeard }
 {}
 
 /// Does nothing. Its contract: one withdrawal more, of a message that has left the queue, changes

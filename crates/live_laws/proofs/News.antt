@@ -9,9 +9,10 @@ use Rattle.driver_model.specs.declared.action.SourceUse.{SourceUse}
 use Rattle.driver_model.specs.declared.event.EventKind.{EventKind}
 use Rattle.driver_model.specs.declared.event.EventKind.TheVariants as event
 use Rattle.driver_model.specs.declared.news.LinkFault.TheVariants as fault
-use Rattle.driver_model.specs.News.{News, silence, connected, refused, overdue, took, came, failed, authorized, denied, deserted, renewed, unrenewed, late, shut, for_link, of_timer, of_source, is_source_of, renews, news_of}
+use Rattle.driver_model.specs.News.{News, silence, connected, refused, overdue, took, came, failed, authorized, denied, deserted, renewed, unrenewed, late, dropped, shut, for_link, of_timer, of_source, is_source_of, renews, news_of}
 use Rattle.legal_trace.specs.Ledger.{Ledger, Line, hears, offers, noted, noted_each, is_over, dials, refused_in, bytes_came, awaits_credentials, authorized_by, may_renew, renewed_by, unrenewed_by, is_renewal_open, lost_by}
 use Rattle.legal_trace.specs.Book.{if_mine}
+use Rattle.legal_trace.proofs.Came.{holds_bytes}
 use Rattle.live_laws.specs.Taken.{IsNoWrote}
 
 abbrev pub IsNoTook : News → Type 0
@@ -32,7 +33,10 @@ hears_stays g turn (refused f) quiet =
     chosen (λ (m : Ledger). Stays g (record m { heard = refused f })) (dials g) (refused_in g turn (error.Io f)) g (λ t. (λ u. u, refl, refl)) (λ e. (λ u. u, refl, refl))
 hears_stays g turn overdue quiet = (λ u. u, refl, refl)
 hears_stays g turn (took count) quiet = absurd quiet
-hears_stays g turn (came piece) quiet = chosen (λ (m : Ledger). Stays g (record m { heard = came piece })) g.up (bytes_came g piece) g (λ t. (λ u. u, refl, refl)) (λ f. (λ u. u, refl, refl))
+hears_stays g turn (came piece) quiet =
+    chosen (λ (m : Ledger). Stays g (record m { heard = came piece })) g.up (bytes_came g piece) g
+    (λ t. holds_bytes (λ (m : Ledger). Stays g (record m { heard = came piece })) g piece (λ rest strange told more. (λ u. u, refl, refl)))
+    (λ f. (λ u. u, refl, refl))
 hears_stays g turn (failed f) quiet = (λ u. u, refl, refl)
 hears_stays g turn (authorized c) quiet =
     chosen (λ (m : Ledger). Stays g (record m { heard = authorized c })) (awaits_credentials g) (authorized_by g c) g (λ t. (λ u. u, refl, refl)) (λ f. (λ u. u, refl, refl))
@@ -42,6 +46,7 @@ hears_stays g turn (renewed c) quiet = chosen (λ (m : Ledger). Stays g (record 
 hears_stays g turn unrenewed quiet = chosen (λ (m : Ledger). Stays g (record m { heard = unrenewed })) g.up (unrenewed_by g) g (λ t. (λ u. u, refl, refl)) (λ f. (λ u. u, refl, refl))
 hears_stays g turn (late k) quiet =
     chosen (λ (m : Ledger). Stays g (record m { heard = late k })) (g.up && is_renewal_open g k) (lost_by g) g (λ t. (λ u. u, refl, refl)) (λ f. (λ u. u, refl, refl))
+hears_stays g turn dropped quiet = (λ u. u, refl, refl)
 hears_stays g turn shut quiet = (λ u. u, refl, refl)
 
 not_took : (mine : Bool) (news : News) → IsNoTook news → IsNoTook (for_link mine news)
@@ -69,6 +74,7 @@ event_not_took timers sources n (event.Timeout ms) quiet = tt
 event_not_took timers sources n (event.Creds c auth) quiet = source_not_took n (slice_get sources c) (authorized auth) (renewed auth) tt tt
 event_not_took timers sources n (event.CredsError c text) quiet = source_not_took n (slice_get sources c) (denied text) silence tt tt
 event_not_took timers sources n (event.CredsEnd c) quiet = source_not_took n (slice_get sources c) deserted unrenewed tt tt
+event_not_took timers sources n event.DropStream quiet = tt
 event_not_took timers sources n event.Shutdown quiet = tt
 event_not_took timers sources n (event.Submit s) quiet = tt
 event_not_took timers sources n (event.Cancel s) quiet = tt

@@ -16,9 +16,9 @@ use Rattle.mux_conn.specs.declared.request.Waiting.{Waiting}
 use Rattle.mux_conn.specs.Connection.{Work, with_link, with_setup, admits_none, has_room}
 use Rattle.mux_conn.specs.Requests.{is_open_at, is_waiting_at, is_admitted_at, answered}
 use Rattle.mux_conn.specs.Passes.{shown_each, greeted_each, started, started_at, placed_at, told_at_place, seated, moved_up, moved_up_each, moved_up_all, still_admitted}
-use Rattle.mux_conn.specs.Passes.{permits_taken, took_shown, timer_asked, let_in, took, holding, put_behind, seated_or_behind, admitted_at, admitted, admitted_each, admitted_all, still_waiting, passed}
+use Rattle.mux_conn.specs.Passes.{permits_taken, took_shown, timer_asked, let_in, took, holding, put_behind, seated_or_behind, admitted_at, admitted, admitted_each, still_waiting, passed}
 use Rattle.mux_conn.specs.Renewals.{renewed}
-use Rattle.mux_conn.specs.Turn.{written, written_at, moved_wait, fresh_wait, wait_shown, moved_each_shown, fresh_each_shown, moved_shown, fresh_shown, flushed}
+use Rattle.mux_conn.specs.Turn.{written, written_at, moved_wait, fresh_wait, wait_shown, moved_each_shown, fresh_each_shown, moved_shown, flushed}
 
 abbrev pub renewal_of : Work → Renewal
 renewal_of w = w.conn.renewal

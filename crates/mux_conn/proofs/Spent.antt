@@ -6,7 +6,6 @@ use Rattle.containers.proofs.Choices.{taken_if, left_if, not_both}
 use Rattle.resp_value.specs.declared.value.Value.TheVariants.{Nil}
 use Rattle.driver_model.specs.declared.outcome.Outcome.{Outcome}
 use Rattle.driver_model.specs.declared.outcome.Outcome.TheVariants as outcome
-use Rattle.link_core.specs.declared.message.Started.{Started}
 use Rattle.link_core.specs.Link.{LinkState, is_spent, started_all}
 use Rattle.link_core.specs.Outbox.{can_offer}
 use Rattle.link_core.proofs.StartLemmas.{numbers_rise}

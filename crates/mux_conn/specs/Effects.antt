@@ -8,7 +8,6 @@ use Rattle.driver_model.specs.declared.news.LinkFault.{LinkFault}
 use Rattle.driver_model.specs.declared.news.LinkFault.TheVariants as fault
 use Rattle.driver_model.specs.declared.outcome.Outcome.TheVariants as outcome
 use Rattle.resp_value.specs.declared.push_kind.PushKind.TheVariants.{Disconnection}
-use Rattle.driver_model.specs.declared.push_info.PushInfo.{PushInfo}
 use Rattle.driver_model.specs.News.{News, silence, connected, refused, overdue, took, came, failed, authorized, denied, deserted, renewed, unrenewed, late, dropped, shut}
 use Rattle.connection_setup.specs.declared.judgement.SetupResult.{SetupResult}
 use Rattle.connection_setup.specs.declared.judgement.SetupResult.TheVariants as result
@@ -29,12 +28,11 @@ use Rattle.link_core.specs.Link.{Reading, piece_read}
 use Rattle.mux_conn.specs.declared.act.LinkAct.{LinkAct}
 use Rattle.mux_conn.specs.declared.act.LinkAct.TheVariants as act
 use Rattle.mux_conn.specs.declared.connection.MultiplexedConnection.{MultiplexedConnection}
-use Rattle.driver_model.specs.declared.hearing.Hearing.{Hearing}
 use Rattle.driver_model.specs.declared.hearing.Hearing.TheVariants as hearing
 use Rattle.driver_model.specs.declared.hearing.Notice.{Notice}
 use Rattle.driver_model.specs.declared.hearing.Notice.TheVariants as notice
 use Rattle.driver_model.specs.declared.outcome.Shape.TheVariants.{Single}
-use Rattle.driver_model.specs.Hearing.{hears_pushes, hears_messages, hears_something, is_watching, felt}
+use Rattle.driver_model.specs.Hearing.{hears_pushes, hears_messages, is_watching, felt}
 use Rattle.resp_write.specs.Pack.{pack}
 use Rattle.mux_conn.specs.declared.life.Greeting.{Greeting}
 use Rattle.mux_conn.specs.declared.life.Greeting.TheVariants as greet

@@ -65,7 +65,11 @@ impl MultiplexedConnection {
     }
 
     /// A greeting starts, if it can.
-    fn start_greeting(&mut self, alloc: Global, out: &mut Vec<LinkAct>) -> Result<(), ConnectionError>
+    fn start_greeting(
+        &mut self,
+        alloc: Global,
+        out: &mut Vec<LinkAct>,
+    ) -> Result<(), ConnectionError>
         requires { is_setting_up self.old.life ≡ true }
         ensures work { OnOk result (
             work_with self.new out.new.items ≡ started (work_with self.old out.old.items)

@@ -500,9 +500,14 @@ impl MultiplexedConnection {
         ensures count { length self.new.requests ≡ length self.old.requests }
         ensures failure { self.new.failure ≡ self.old.failure }
     {
-        if self.hears.hears_messages() {
-            self.fail(alloc, LinkFault::Ended, out)?;
+        if !self.hears.hears_messages() {
+            return Ok(());
         }
+        if self.life.is_dialing() {
+            self.close_opening(alloc, RedisError::Closed, out)?;
+            return Ok(());
+        }
+        self.fail(alloc, LinkFault::Ended, out)?;
         Ok(())
     }
 

@@ -235,7 +235,14 @@ impl MultiplexedConnection {
         let mut notices = Vec::new(alloc);
         let broken = match &mut self.life {
             Life::Wanting { link } => {
-                link.read(alloc, piece, Hearing::Nothing, false, &mut settled, &mut notices)?;
+                link.read(
+                    alloc,
+                    piece,
+                    Hearing::Nothing,
+                    false,
+                    &mut settled,
+                    &mut notices,
+                )?;
                 link.is_broken()
             }
             Life::SettingUp {

@@ -1,6 +1,8 @@
 -- The sessions that the generated script leads to.
 use Rattle.std.proofs.Common.{ℕ, false, List, [], Option, None}
 use Rattle.connection_info.specs.declared.address.RedisConnectionInfo.{RedisConnectionInfo}
+use Rattle.driver_model.specs.declared.hearing.Hearing.TheVariants as hearing
+use Rattle.driver_model.specs.declared.kind.SessionKind.TheVariants as kind
 use Rattle.link_core.specs.declared.message.Entry.{Entry}
 use Rattle.link_core.specs.declared.outbox.Outbox.{Outbox}
 use Rattle.link_core.specs.Link.{LinkState}
@@ -28,7 +30,7 @@ connection_with info life requests waiting fresh moved = record {
   boundary = 8192;
   limit = None;
   free = 0;
-  hears = false;
+  hears = hearing.Nothing;
   info = info;
   renewal = no_renewal false None;
   life = life;
@@ -39,7 +41,7 @@ connection_with info life requests waiting fresh moved = record {
   moved = moved;
   starts = tt;
   settled = tt;
-  pushes = tt;
+  notices = tt;
   failure = None;
 }
 
@@ -49,7 +51,7 @@ still info life requests = connection_with info life requests [] [] []
 
 -- a session over a connection, before its turn of that number, with these requests of its submissions
 abbrev pub session_with : ℕ → List (Option Pending) → MultiplexedConnection → Core
-session_with turns table connection = record { turns = turns; links = 1; shut = false; timeout = None; timers = []; sources = []; table = table; single = record { link = 0; connection = connection } }
+session_with turns table connection = record { kind = kind.Single; turns = turns; links = 1; shut = false; timeout = None; timers = []; sources = []; table = table; single = record { link = 0; connection = connection } }
 
 -- a session whose link is up
 abbrev pub up : RedisConnectionInfo → ℕ → List (Option Pending) → List Request → LinkState → Core

@@ -15,14 +15,16 @@ use Rattle.driver_model.specs.Config.{told_info}
 use Rattle.driver_model.specs.Setup.{says_nothing}
 use Rattle.driver_model.specs.Shape.{outcome_of, verdict_of}
 use Rattle.driver_model.specs.declared.event.EventKind.TheVariants as event
+use Rattle.driver_model.specs.declared.hearing.Hearing.TheVariants as hearing
 use Rattle.driver_model.specs.declared.outcome.Outcome.{Outcome}
 use Rattle.driver_model.specs.declared.outcome.Shape.TheVariants.{Single}
 use Rattle.link_core.specs.declared.message.Entry.{Entry}
 use Rattle.link_core.specs.declared.message.Settled.{Settled}
-use Rattle.link_core.specs.Link.{piece_dealt}
+use Rattle.link_core.specs.Link.{Reading, piece_read}
 use Rattle.link_core.specs.Row.{silent}
 use Rattle.mux_conn.specs.declared.act.LinkAct.TheVariants as act
 use Rattle.mux_conn.specs.declared.connection.MultiplexedConnection.{MultiplexedConnection}
+use Rattle.mux_conn.specs.declared.life.Greeting.TheVariants as greet
 use Rattle.mux_conn.specs.declared.life.Life.TheVariants.{Ready, Ended}
 use Rattle.mux_conn.specs.declared.request.Pending.{Pending}
 use Rattle.mux_conn.specs.declared.request.Progress.TheVariants as progress
@@ -30,7 +32,7 @@ use Rattle.mux_conn.specs.declared.request.Request.{Request}
 use Rattle.mux_conn.specs.Connection.{Work, work_with, acted}
 use Rattle.mux_conn.specs.Requests.{if_there, is_open, permits_or_none, name_at, closed, answered}
 use Rattle.mux_conn.specs.Renewals.{renewal_id, renewing, replied, is_done}
-use Rattle.mux_conn.specs.Effects.{new_link, all_fresh, made_ready, sets_up, cancelled_in, read_to}
+use Rattle.mux_conn.specs.Effects.{new_link, all_fresh, greeted, sets_up, cancelled_in, read_to}
 use Rattle.shared_session.specs.declared.core_state.Core.{Core}
 use Rattle.shared_session.specs.Replay.{opening_core}
 use Rattle.shared_session.specs.Turn.{Turning, turning_with, work_of, counted, left_by, moved_on, numbered, with_work, next_turn, pending}
@@ -54,7 +56,7 @@ unfolding next_turn
 connected_turn word =
     let t = counted (opening_core generated_config word) in
     let w = work_of t in
-    ap (λ b. numbered (moved_on (with_work t (if b then made_ready w (new_link w.conn) else sets_up (all_fresh w) (new_link w.conn) true)))) nothing_said
+    ap (λ b. numbered (moved_on (with_work t (if b then greeted w (new_link w.conn) else sets_up (all_fresh w) (new_link w.conn) greet.WithUser)))) nothing_said
 
 drop_all : (bs : List ℕ) → drop (length bs) bs ≡ []
 drop_all [] = refl
@@ -89,7 +91,7 @@ cancel_turn info turns k n table rs =
 abbrev settled : ℕ → Bool → List Settled
 settled p awaited = if awaited then record { id = p; verdict = verdict_of Single (simple (118 ∷ []) ∷ []) } ∷ [] else []
 
-dealt : (p k : ℕ) (awaited : Bool) → piece_dealt (record { link = link_with (entry p awaited ∷ []) k no_bytes; out = [] }) reply ≡ record { link = link_with [] k no_bytes; out = settled p awaited }
+dealt : (p k : ℕ) (awaited : Bool) → piece_read hearing.Nothing true (link_with (entry p awaited ∷ []) k no_bytes) reply ≡ record { link = link_with [] k no_bytes; out = settled p awaited; notices = []; strange = false }
 unfolding digits items values left_over is_spoiled max_depth
 dealt p k awaited = refl
 
@@ -112,7 +114,7 @@ answer_turn info turns k n table rs few =
     λ requests o name. over (work_with (record (still info (Ready (link_with [] k no_bytes)) requests) { free = min 0 (0 + permits_or_none o) }) (act.Outcome name answer ∷ [])) in
     let own : (p == renewal_id) ≡ false = ne_test p renewal_id (λ e. omega (arith, few, e)) in
     let taken = work_with bare [] in
-    ap (λ s. over (read_to w [] s)) (dealt p k true)
+    ap (λ (r : Reading). over (read_to w r)) (dealt p k true)
     ∙ ap (λ b. over (if b then renewing taken (replied bare.renewal (is_done (verdict_of Single (simple (118 ∷ []) ∷ [])))) else answered taken p answer)) own
     ∙ ap (λ o. over (if if_there is_open o then acted (work_with (closed bare p) []) (act.Outcome (name_at placed p) answer) else work_with bare [])) (get_last rs (come_to n progress.Placed))
     ∙ (λ i. done (permits_last rs n progress.Placed progress.Closed i) (get_last rs (come_to n progress.Placed) i) (name_last rs n progress.Placed i))
@@ -124,7 +126,7 @@ unfolding next_turn
 unheard_turn info turns k p table rs =
     let w = work_with (still info (Ready (link_with (entry p false ∷ []) k no_bytes)) rs) [] in
     let over : Work → Turning = λ v. numbered (moved_on (turning_with (session_with (turns + 1) table v.conn) v.acts)) in
-    ap (λ s. over (read_to w [] s)) (dealt p k false)
+    ap (λ (r : Reading). over (read_to w r)) (dealt p k false)
 
 -- everything is closed
 abbrev pub shut : RedisConnectionInfo → ℕ → List (Option Pending) → List Request → Core

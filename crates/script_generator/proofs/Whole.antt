@@ -76,7 +76,7 @@ connected_stands = record {
       ∙ ap (λ (u : Turning). u.core) (connected_turn generated_word);
   good = (refl, tt);
   unspent = (ap (λ (u : Turning). has_run_out u.core) (connected_turn generated_word) ∙ room_in 2 0 [] [] [] no_bytes (omega arith) (omega arith), tt);
-  tells = subst (λ (b : Book). Tells b 0 0 0) (sym (ap book first_trace)) (from_book _ (tells_connected generated_config generated_word (codes "h") 6379));
+  tells = subst (λ (b : Book). Tells b 0 0 0) (sym (ap book first_trace)) (from_book _ (tells_connected generated_config generated_word (codes "h") 6379 refl));
   takes = ap (count takes) first_trace;
   short = omega arith;
   few = let e = ap length first_trace in omega arith;

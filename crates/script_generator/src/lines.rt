@@ -2,7 +2,7 @@ ghost use Rattle.std.specs.Prelude.{◌≡◌, ◌∷◌, [], codes, IfOk};
 ghost use Rattle.script_generator.specs.Script.{generated_config, command, is_cancelled, replies};
 
 use containers::{Bytes, Names};
-use driver_model::{Config, Event, Submission};
+use driver_model::{Config, Event, SessionKind, Submission};
 use itoa::Buffer;
 use std::alloc::{AllocError, Global};
 
@@ -12,6 +12,7 @@ pub fn generated_config(alloc: Global) -> Result<Config, AllocError>
 {
     let url = Bytes::from_slice(alloc, b"redis://h:6379")?;
     Ok(Config {
+        kind: SessionKind::Single,
         url,
         connect: Some(None),
         response: Some(None),

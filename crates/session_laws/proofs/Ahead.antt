@@ -14,6 +14,7 @@ use Rattle.link_laws.proofs.TiedLink.{TiedLink, unwritten_is}
 use Rattle.link_laws.specs.Settles.{awaited_ids}
 use Rattle.mux_conn.specs.Connection.{has_no_permit, in_front, is_ready}
 use Rattle.mux_conn.specs.Requests.{if_there, is_admitted, is_admitted_at, is_open as is_open_progress, is_open_at, is_placed, is_placed_at, is_waiting, is_waiting_at, name_at}
+use Rattle.mux_conn.specs.declared.life.Greeting.{Greeting}
 use Rattle.mux_conn.specs.declared.life.Life.{Life}
 use Rattle.mux_conn.specs.declared.life.Life.TheVariants.{Dialing, Ended, Ready, Wanting, SettingUp}
 use Rattle.mux_conn.specs.declared.request.Pending.{Pending}
@@ -25,14 +26,14 @@ use Rattle.legal_trace.specs.Ledger.{Ledger, dials, is_over, is_set_up, lacks_cr
 use Rattle.legal_trace.specs.Steps.{Step, asks, free_permits, is_held, is_held_back, is_in_line, is_let_in, is_outside, line_before, next_step, nothing, permits_in, queue_size, renewals_in_line, starts_or_waits, step_holding, step_open, step_placed, step_ready, step_taking, step_timed, takes, tells, unready_wait, waits}
 use Rattle.legal_trace.specs.Story.{Story, has_place, is_awaited, is_room, is_told, is_unstarted, shape}
 use Rattle.session_laws.proofs.Behind.{nil_told, open_untold}
-use Rattle.session_laws.proofs.Creds.{has_credentials, lacking_undecided, wanting_lacks}
+use Rattle.session_laws.proofs.Creds.{has_credentials, wanting_lacks}
 use Rattle.session_laws.proofs.InLine.{first_is_least, kept_ids, kept_in}
 use Rattle.session_laws.proofs.Moves.{IsLater, later_of, open_unstarted, told_unstarted, or_true}
 use Rattle.session_laws.proofs.Names.{earlier_name, get_some, name_of_some, names_rise, open_within}
 use Rattle.session_laws.proofs.Numbers.{IsIn, Rising, in_left, in_right, rising_apart, rising_in, rising_right, rising_within, requests_in}
 use Rattle.session_laws.proofs.Owes.{later_unstarted, request_story}
 use Rattle.session_laws.proofs.Renewals.{due_in}
-use Rattle.session_laws.proofs.SetUp.{not_set_up}
+use Rattle.session_laws.proofs.SetUp.{not_set_up, lacking_unset}
 use Rattle.session_laws.proofs.States.{IsFit}
 use Rattle.session_laws.proofs.Tied.{AreSought, HasSaid, Inner, IsQueued, Tied, TiedLife, TiedNames, TiedNumbers, carried, has_ended, link_in, owner_of, queue_ids, shown_wait, waiting_ids, whole_link}
 
@@ -170,7 +171,7 @@ pub record IsRunning (t : Inner) : Type 0 where
 pub ready_alive : (life : Life) → is_ready life ≡ true → has_ended life ≡ false
 ready_alive Dialing e = refl
 ready_alive (Wanting link) e = refl
-ready_alive (SettingUp link with_user) e = refl
+ready_alive (SettingUp link greeting) e = refl
 ready_alive (Ready link) e = refl
 ready_alive (Ended x) e = cc
 
@@ -187,7 +188,7 @@ running_of t link none life fit seats = record {
 pub ready_is : (life : Life) → is_ready life ≡ true → life ≡ Ready (link_in life)
 ready_is Dialing e = cc
 ready_is (Wanting link) e = cc
-ready_is (SettingUp link with_user) e = cc
+ready_is (SettingUp link greeting) e = cc
 ready_is (Ready link) e = refl
 ready_is (Ended x) e = cc
 
@@ -195,7 +196,7 @@ ready_is (Ended x) e = cc
 pub ready_up : (l : Ledger) (created : ℕ) (life : Life) → is_ready life ≡ true → TiedLife l created life → l.up ≡ true
 ready_up l created Dialing e h = cc
 ready_up l created (Wanting link) e h = cc
-ready_up l created (SettingUp link with_user) e h = cc
+ready_up l created (SettingUp link greeting) e h = cc
 ready_up l created (Ready link) e h = h.1
 ready_up l created (Ended x) e h = cc
 
@@ -203,7 +204,7 @@ ready_up l created (Ended x) e h = cc
 ready_set : (l : Ledger) (started : List ℕ) (life : Life) → is_ready life ≡ true → HasSaid l started life → is_set_up l ≡ true
 ready_set l started Dialing e h = cc
 ready_set l started (Wanting link) e h = cc
-ready_set l started (SettingUp link with_user) e h = cc
+ready_set l started (SettingUp link greeting) e h = cc
 ready_set l started (Ready link) e h = h.well
 ready_set l started (Ended x) e h = cc
 
@@ -211,7 +212,7 @@ ready_set l started (Ended x) e h = cc
 ready_link : (l : Ledger) (requests : List Request) (life : Life) → is_ready life ≡ true → TiedLink (carried life requests) l (whole_link life) → TiedLink (owner_of requests) l (link_in life)
 ready_link l requests Dialing e h = cc
 ready_link l requests (Wanting link) e h = cc
-ready_link l requests (SettingUp link with_user) e h = cc
+ready_link l requests (SettingUp link greeting) e h = cc
 ready_link l requests (Ready link) e h = h
 ready_link l requests (Ended x) e h = cc
 
@@ -625,7 +626,7 @@ ask_step b t p ms h r o has time none =
 dialing_dials : (l : Ledger) (created : ℕ) (life : Life) → life ≡ Dialing → TiedLife l created life → dials l ≡ true
 dialing_dials l created Dialing e h = λ i. h.0 i && not (h.1 i) && not (is_some (h.2 i))
 dialing_dials l created (Wanting link) e h = cc
-dialing_dials l created (SettingUp link with_user) e h = cc
+dialing_dials l created (SettingUp link greeting) e h = cc
 dialing_dials l created (Ready link) e h = cc
 dialing_dials l created (Ended x) e h = cc
 
@@ -637,14 +638,14 @@ dialing_step b t p h dialing within =
     taken_if (dials (b.link s.link)) (waits wait.Connect) _ (ap (λ l. dials (b.link l)) q.on ∙ dialing_dials (b.link t.link) b.created t.life dialing h.life)
 
 -- and the setup, while the link isn't set up
-pub setup_step : (b : Book) (t : Inner) (p : ℕ) (link : LinkState) (with_user : Bool) → Tied b t → t.life ≡ SettingUp link with_user → p < length t.requests → next_step b (name_at t.requests p) ≡ waits wait.Setup
-setup_step b t p link with_user h setting within =
+pub setup_step : (b : Book) (t : Inner) (p : ℕ) (link : LinkState) (greeting : Greeting) → Tied b t → t.life ≡ SettingUp link greeting → p < length t.requests → next_step b (name_at t.requests p) ≡ waits wait.Setup
+setup_step b t p link greeting h setting within =
     let q = request_story b t p h within in
     let l = b.link t.link in
     let life = subst (TiedLife l b.created) setting h.life in
     let said = subst (HasSaid l t.started) setting h.setup.said in
     let has = has_credentials l.creds (subst (AreSought l.creds) setting h.creds.sought).0 in
-    unready_step b (name_at t.requests p) (ap (λ m. (b.link m).up) q.on ∙ life.1) (ap (λ m. is_set_up (b.link m)) q.on ∙ (not_set_up l link with_user said.1).unwell)
+    unready_step b (name_at t.requests p) (ap (λ m. (b.link m).up) q.on ∙ life.1) (ap (λ m. is_set_up (b.link m)) q.on ∙ (not_set_up l link greeting said.1).unset)
     ∙ ap (λ (kind : WaitKind). waits kind) (ap (λ m. unready_wait (b.link m)) q.on ∙ left_if (lacks_credentials l) wait.Creds wait.Setup has)
 
 -- and credentials, while they are to come
@@ -654,5 +655,5 @@ creds_step b t p link h wanting within =
     let l = b.link t.link in
     let life = subst (TiedLife l b.created) wanting h.life in
     let lacks = wanting_lacks l.creds link (subst (AreSought l.creds) wanting h.creds.sought) in
-    unready_step b (name_at t.requests p) (ap (λ m. (b.link m).up) q.on ∙ life.1) (ap (λ m. is_set_up (b.link m)) q.on ∙ (lacking_undecided l lacks).unwell)
+    unready_step b (name_at t.requests p) (ap (λ m. (b.link m).up) q.on ∙ life.1) (ap (λ m. is_set_up (b.link m)) q.on ∙ (lacking_unset l lacks).unset)
     ∙ ap (λ (kind : WaitKind). waits kind) (ap (λ m. unready_wait (b.link m)) q.on ∙ taken_if (lacks_credentials l) wait.Creds wait.Setup lacks)

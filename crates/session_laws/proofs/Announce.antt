@@ -15,7 +15,7 @@ use Rattle.driver_model.specs.declared.action.Cause.TheVariants as cause
 use Rattle.driver_model.specs.declared.event.EventKind.{EventKind}
 use Rattle.driver_model.specs.declared.event.EventKind.TheVariants as event
 use Rattle.driver_model.specs.declared.news.LinkFault.TheVariants as fault
-use Rattle.driver_model.specs.News.{News, silence, connected, took, came, failed, authorized, denied, deserted, shut, for_link, news_of, refused, overdue, of_timer, renewed, unrenewed, late, of_source}
+use Rattle.driver_model.specs.News.{News, silence, connected, took, came, failed, authorized, denied, deserted, shut, for_link, news_of, refused, overdue, of_timer, renewed, unrenewed, late, of_source, dropped}
 use Rattle.driver_model.specs.declared.outcome.Outcome.TheVariants as outcome
 use Rattle.link_core.specs.Link.{LinkState}
 use Rattle.link_laws.proofs.TiedLink.{TiedLink}
@@ -27,10 +27,10 @@ use Rattle.shared_session.specs.declared.core_state.Core.{Core}
 use Rattle.shared_session.specs.Turn.{is_shutdown, shut_by, exceeds_offer, is_no_link, is_bad, use_after}
 use Rattle.legal_trace.specs.Ledger.{Ledger, Start, setup_count, authorized_by, awaits_credentials, hears, noted, is_over, bytes_came, dials, refused_in, Heard, is_renewal_open, lost_by, may_renew, renewed_by, unrenewed_by, Sourced}
 use Rattle.legal_trace.specs.Story.{Story, fires}
-use Rattle.legal_trace.specs.Book.{Book, book, entered, is_clock_of}
+use Rattle.legal_trace.specs.Book.{Book, book, entered, is_clock_of, hearing_in, timeout_after, kind_in}
 use Rattle.legal_trace.specs.Events.{is_bad_event}
-use Rattle.legal_trace.specs.Legal.{MayTurn, is_heard}
-use Rattle.session_laws.proofs.Tied.{AreAimed, AreUses, IsAim, owners_of, owners_each, setup_owners, Inner, inner, link_in, carried, whole_link, IsUnknown, TiedCreds, TiedLife, TiedSetup, TiedTries, TiedLines, AreQueued, TiedWaits, Tied, Sound, no_opening, has_ended, TiedPushes, TiedRenewal, sources_asked_in}
+use Rattle.legal_trace.specs.Legal.{MayTurn}
+use Rattle.session_laws.proofs.Tied.{AreAimed, AreUses, IsAim, owners_of, owners_each, setup_owners, Inner, inner, link_in, carried, whole_link, IsUnknown, TiedCreds, TiedLife, TiedSetup, TiedTries, TiedLines, AreQueued, TiedWaits, Tied, Sound, no_opening, has_ended, TiedNotices, TiedRenewal, sources_asked_in, HasGreetedAlone, is_reading}
 use Rattle.session_laws.proofs.States.{Between}
 use Rattle.session_laws.proofs.Entered.{book_more, sound_more}
 use Rattle.session_laws.proofs.Answer.{some_end}
@@ -38,6 +38,11 @@ use Rattle.session_laws.proofs.Kept.{tied_by}
 use Rattle.session_laws.proofs.Settle.{seen, trace_of_acts, Holds}
 use Rattle.session_laws.proofs.Names.{get_more}
 use Rattle.mux_conn.specs.declared.renewal.Renewal.{Renewal}
+use Rattle.driver_model.specs.Hearing.{is_watching}
+use Rattle.legal_trace.proofs.Came.{holds_bytes}
+use Rattle.driver_model.specs.declared.kind.SessionKind.{SessionKind}
+use Rattle.driver_model.specs.Request.{has_no_form}
+use Rattle.driver_model.specs.declared.kind.SessionKind.TheVariants as session
 
 -- bad events
 --
@@ -49,14 +54,14 @@ offered_length name l s h = ap length h.offer ∙ (let e = length-take s.outbox.
 too_much : (l : Ledger) (created : ℕ) (life : Life) (requests : List Request) (count : ℕ) → TiedLife l created life → (has_ended life ≡ false → TiedLink (carried life requests) l (whole_link life)) → (not (is_over l) && nat_lt (length l.offer) count) ≡ exceeds_offer life count
 too_much l created Dialing requests count h link = (λ i. not (is_some (h.2 i)) && nat_lt (offered_length (carried Dialing requests) l (whole_link Dialing) (link refl) i) count)
 too_much l created (Wanting s) requests count h link = (λ i. not (is_some (h.2 i)) && nat_lt (offered_length (carried (Wanting s) requests) l s (link refl) i) count)
-too_much l created (SettingUp s with_user) requests count h link = (λ i. not (is_some (h.2 i)) && nat_lt (offered_length (carried (SettingUp s with_user) requests) l s (link refl) i) count)
+too_much l created (SettingUp s greeting) requests count h link = (λ i. not (is_some (h.2 i)) && nat_lt (offered_length (carried (SettingUp s greeting) requests) l s (link refl) i) count)
 too_much l created (Ready s) requests count h link = (λ i. not (is_some (h.2 i)) && nat_lt (offered_length (carried (Ready s) requests) l s (link refl) i) count)
 too_much l created (Ended e) requests count h link = ap (λ o. not o && nat_lt (length l.offer) count) (some_end l.end (outcome.Fault e) h.1)
 
 -- an event is bad after a trace where it is bad for its session
 pub same_badness : (b : Book) (c : Core) (started : List ℕ) (kind : EventKind) → Tied b (inner c started) → is_bad_event b kind ≡ is_bad c kind
 unfolding is_bad_event is_bad
-same_badness b c started (event.Submit what) h = refl
+same_badness b c started (event.Submit what) h = ap (λ (kind : SessionKind). has_no_form kind what) h.numbers.kind_is
 same_badness b c started (event.Cancel n) h = ap (λ k. nat_le k n) h.numbers.submissions
 same_badness b c started (event.Connected l) h = ap (λ k. nat_le k l) h.numbers.links
 same_badness b c started (event.Refused l f) h = ap (λ k. nat_le k l) h.numbers.links
@@ -69,6 +74,7 @@ same_badness b c started (event.Ended l) h = ap (λ k. nat_le k l) h.numbers.lin
 same_badness b c started (event.ReadFault l kind) h = ap (λ k. nat_le k l) h.numbers.links
 same_badness b c started (event.WriteFault l kind) h = ap (λ k. nat_le k l) h.numbers.links
 same_badness b c started (event.Timeout ms) h = refl
+same_badness b c started event.DropStream h = refl
 same_badness b c started event.Shutdown h = refl
 same_badness b c started (event.Wrote l count) h =
     ap (λ k. nat_le k l || (not (is_over (b.link l)) && nat_lt (length (b.link l).offer) count)) h.numbers.links
@@ -127,7 +133,7 @@ elsewhere_given link m n sources first later uses other = by_source (slice_get s
     by_source (Some what) e = ap (λ (x : SourceUse). of_source m (Some x) first later) (uses n what e) ∙ by_use n
 
 -- whatever the event is
-elsewhere : (c : Core) (m : ℕ) (kind : EventKind) → ((k : ℕ) → k < c.links → k ≡ c.single.link) → AreAimed c.timers c.single.link (length c.table) → AreUses c.sources c.single.link → is_bad c kind ≡ false → m ≢ c.single.link → (news_of c.timers c.sources m kind ≡ silence) ⊎ (news_of c.timers c.sources m kind ≡ shut)
+elsewhere : (c : Core) (m : ℕ) (kind : EventKind) → ((k : ℕ) → k < c.links → k ≡ c.single.link) → AreAimed c.timers c.single.link (length c.table) → AreUses c.sources c.single.link → is_bad c kind ≡ false → m ≢ c.single.link → (news_of c.timers c.sources m kind ≡ silence) ⊎ ((news_of c.timers c.sources m kind ≡ shut) ⊎ (news_of c.timers c.sources m kind ≡ dropped))
 unfolding is_bad
 elsewhere c m (event.Submit what) only aims uses good other = inl refl
 elsewhere c m (event.Cancel n) only aims uses good other = inl refl
@@ -143,19 +149,21 @@ elsewhere c m (event.Creds n auth) only aims uses good other = inl (elsewhere_gi
 elsewhere c m (event.CredsError n text) only aims uses good other = inl (elsewhere_given c.single.link m n c.sources (denied text) silence uses other)
 elsewhere c m (event.CredsEnd n) only aims uses good other = inl (elsewhere_given c.single.link m n c.sources deserted unrenewed uses other)
 elsewhere c m (event.Timeout ms) only aims uses good other = inl refl
-elsewhere c m event.Shutdown only aims uses good other = inr refl
+elsewhere c m event.DropStream only aims uses good other = inr (inr refl)
+elsewhere c m event.Shutdown only aims uses good other = inr (inl refl)
 
 -- and stay unknown
-unknown_heard : (l : Ledger) (turn : ℕ) (n : News) → (n ≡ silence) ⊎ (n ≡ shut) → IsUnknown l → IsUnknown (noted l (hears turn n))
-unknown_heard l turn n (inl e) h = subst (λ (x : News). IsUnknown (noted l (hears turn x))) (sym e) (record { asked = h.asked; up = h.up; end = h.end; starts = h.starts; pushes = h.pushes })
-unknown_heard l turn n (inr e) h = subst (λ (x : News). IsUnknown (noted l (hears turn x))) (sym e) (record { asked = h.asked; up = h.up; end = h.end; starts = h.starts; pushes = h.pushes })
+unknown_heard : (l : Ledger) (turn : ℕ) (n : News) → (n ≡ silence) ⊎ ((n ≡ shut) ⊎ (n ≡ dropped)) → IsUnknown l → IsUnknown (noted l (hears turn n))
+unknown_heard l turn n (inl e) h = subst (λ (x : News). IsUnknown (noted l (hears turn x))) (sym e) (record { asked = h.asked; up = h.up; end = h.end; starts = h.starts; notices = h.notices })
+unknown_heard l turn n (inr (inl e)) h = subst (λ (x : News). IsUnknown (noted l (hears turn x))) (sym e) (record { asked = h.asked; up = h.up; end = h.end; starts = h.starts; notices = h.notices })
+unknown_heard l turn n (inr (inr e)) h = subst (λ (x : News). IsUnknown (noted l (hears turn x))) (sym e) (record { asked = h.asked; up = h.up; end = h.end; starts = h.starts; notices = h.notices })
 
 -- so all other links stay unknown
 pub others_heard : (b : Book) (c : Core) (started : List ℕ) (kind : EventKind) → Tied b (inner c started) → is_bad c kind ≡ false → (m : ℕ) → m ≢ c.single.link → IsUnknown (noted (b.link m) (hears c.turns (news_of b.timers b.sources m kind)))
 others_heard b c started kind h good m other =
     let same : news_of b.timers b.sources m kind ≡ news_of c.timers c.sources m kind = λ i. news_of (h.numbers.timers i) (h.numbers.sources i) m kind in
     unknown_heard (b.link m) c.turns (news_of b.timers b.sources m kind)
-    (subst (λ (n : News). (n ≡ silence) ⊎ (n ≡ shut)) (sym same) (elsewhere c m kind h.numbers.only h.numbers.aims h.numbers.uses good other)) (h.others m other)
+    (subst (λ (n : News). (n ≡ silence) ⊎ ((n ≡ shut) ⊎ (n ≡ dropped))) (sym same) (elsewhere c m kind h.numbers.only h.numbers.aims h.numbers.uses good other)) (h.others m other)
 
 -- the event that names a link names the connection's
 pub own_news : (c : Core) (l : ℕ) (n : News) → ((k : ℕ) → k < c.links → k ≡ c.single.link) → is_no_link c l ≡ false → for_link (l == c.single.link) n ≡ n
@@ -183,7 +191,7 @@ heard_starts l turn (refused f) = chosen (λ (x : Ledger). x.starts ≡ l.starts
 heard_starts l turn overdue = refl
 heard_starts l turn connected = chosen (λ (x : Ledger). x.starts ≡ l.starts) (is_over l) l _ (λ t. refl) (λ f. refl)
 heard_starts l turn (took count) = chosen (λ (x : Ledger). x.starts ≡ l.starts) l.up _ l (λ t. refl) (λ f. refl)
-heard_starts l turn (came piece) = chosen (λ (x : Ledger). x.starts ≡ l.starts) l.up (bytes_came l piece) l (λ t. refl) (λ f. refl)
+heard_starts l turn (came piece) = chosen (λ (x : Ledger). x.starts ≡ l.starts) l.up (bytes_came l piece) l (λ t. holds_bytes (λ (x : Ledger). x.starts ≡ l.starts) l piece (λ rest strange told more. refl)) (λ f. refl)
 heard_starts l turn (failed f) = refl
 heard_starts l turn (authorized c) = chosen (λ (x : Ledger). x.starts ≡ l.starts) (awaits_credentials l) (authorized_by l c) l (λ t. refl) (λ f. refl)
 heard_starts l turn (renewed c) = chosen (λ (x : Ledger). x.starts ≡ l.starts) (may_renew l) (renewed_by l c) l (λ t. refl) (λ f. refl)
@@ -191,6 +199,7 @@ heard_starts l turn unrenewed = chosen (λ (x : Ledger). x.starts ≡ l.starts) 
 heard_starts l turn (late k) = chosen (λ (x : Ledger). x.starts ≡ l.starts) (l.up && is_renewal_open l k) (lost_by l) l (λ t. refl) (λ f. refl)
 heard_starts l turn (denied text) = refl
 heard_starts l turn deserted = refl
+heard_starts l turn dropped = refl
 heard_starts l turn shut = refl
 
 -- the turn of an event that is of no account for submissions
@@ -211,6 +220,7 @@ IsNewsKind timers (event.Timeout ms) = ⊥
 IsNewsKind timers (event.Creds c auth) = Unit {0}
 IsNewsKind timers (event.CredsError c text) = Unit {0}
 IsNewsKind timers (event.CredsEnd c) = Unit {0}
+IsNewsKind timers event.DropStream = Unit {0}
 IsNewsKind timers event.Shutdown = Unit {0}
 
 -- leaves the stories
@@ -222,34 +232,81 @@ heard_book b number word kind = record b {
   link = λ m. noted (b.link m) (hears number (news_of b.timers b.sources m kind));
 }
 
--- with as many submissions as before
-still_as_many : (b : Book) (number word : ℕ) (kind : EventKind) → record (heard_book b number word kind) { submissions = b.submissions + 0 } ≡ heard_book b number word kind
-still_as_many b number word kind = let e : b.submissions + 0 ≡ b.submissions = omega arith in λ i. record (heard_book b number word kind) { submissions = e i }
+-- an event sets no time for requests
+abbrev pub SetsNoTime : EventKind → Type 0
+SetsNoTime (event.Timeout ms) = ⊥
+SetsNoTime (event.Submit what) = Unit {0}
+SetsNoTime (event.Cancel n) = Unit {0}
+SetsNoTime (event.Connected l) = Unit {0}
+SetsNoTime (event.Refused l f) = Unit {0}
+SetsNoTime (event.Fired n) = Unit {0}
+SetsNoTime (event.Wrote l count) = Unit {0}
+SetsNoTime (event.Bytes l piece) = Unit {0}
+SetsNoTime (event.Ended l) = Unit {0}
+SetsNoTime (event.ReadFault l f) = Unit {0}
+SetsNoTime (event.WriteFault l f) = Unit {0}
+SetsNoTime (event.Creds c auth) = Unit {0}
+SetsNoTime (event.CredsError c text) = Unit {0}
+SetsNoTime (event.CredsEnd c) = Unit {0}
+SetsNoTime event.DropStream = Unit {0}
+SetsNoTime event.Shutdown = Unit {0}
+
+-- so that stays
+pub time_still : (is : SessionKind) (old : Option ℕ) (kind : EventKind) → SetsNoTime kind → timeout_after is old kind ≡ old
+time_still session.PubSub old kind k = refl
+time_still session.Monitor old kind k = refl
+time_still session.Single old (event.Timeout ms) k = absurd k
+time_still session.Single old (event.Submit what) k = refl
+time_still session.Single old (event.Cancel n) k = refl
+time_still session.Single old (event.Connected l) k = refl
+time_still session.Single old (event.Refused l f) k = refl
+time_still session.Single old (event.Fired n) k = refl
+time_still session.Single old (event.Wrote l count) k = refl
+time_still session.Single old (event.Bytes l piece) k = refl
+time_still session.Single old (event.Ended l) k = refl
+time_still session.Single old (event.ReadFault l f) k = refl
+time_still session.Single old (event.WriteFault l f) k = refl
+time_still session.Single old (event.Creds c auth) k = refl
+time_still session.Single old (event.CredsError c text) k = refl
+time_still session.Single old (event.CredsEnd c) k = refl
+time_still session.Single old event.DropStream k = refl
+time_still session.Single old event.Shutdown k = refl
+
+-- with as many submissions as before, and the same time
+still_as_many : (b : Book) (number word : ℕ) (kind : EventKind) → SetsNoTime kind
+    → record (heard_book b number word kind) { submissions = b.submissions + 0; timeout = timeout_after (kind_in b.config) b.timeout kind } ≡ heard_book b number word kind
+still_as_many b number word kind k =
+    let e : b.submissions + 0 ≡ b.submissions = omega arith in
+    let same = time_still (kind_in b.config) b.timeout kind k in
+    λ i. record (heard_book b number word kind) { submissions = e i; timeout = same i }
 
 -- the book with its turn is that book
 pub heard_is : (b : Book) (number word : ℕ) (kind : EventKind) → IsNewsKind b.timers kind → entered b (action.Turn number (cause.Event (record { word = word; kind = kind }))) ≡ heard_book b number word kind
 heard_is b number word (event.Submit what) k = absurd k
 heard_is b number word (event.Cancel n) k = absurd k
-heard_is b number word (event.Connected l) k = still_as_many b number word (event.Connected l)
-heard_is b number word (event.Refused l f) k = still_as_many b number word (event.Refused l f)
+heard_is b number word (event.Connected l) k = still_as_many b number word (event.Connected l) tt
+heard_is b number word (event.Refused l f) k = still_as_many b number word (event.Refused l f) tt
 heard_is b number word (event.Fired n) k =
     let e : b.submissions + 0 ≡ b.submissions = omega arith in
-    λ i. record (heard_book b number word (event.Fired n)) { submissions = e i; story = λ m. left_if (is_clock_of m (slice_get b.timers n)) (fires (b.story m)) (b.story m) (k m) i }
-heard_is b number word (event.Wrote l count) k = still_as_many b number word (event.Wrote l count)
-heard_is b number word (event.Bytes l piece) k = still_as_many b number word (event.Bytes l piece)
-heard_is b number word (event.Ended l) k = still_as_many b number word (event.Ended l)
-heard_is b number word (event.ReadFault l kind) k = still_as_many b number word (event.ReadFault l kind)
-heard_is b number word (event.WriteFault l kind) k = still_as_many b number word (event.WriteFault l kind)
+    let same = time_still (kind_in b.config) b.timeout (event.Fired n) tt in
+    λ i. record (heard_book b number word (event.Fired n)) { submissions = e i; timeout = same i; story = λ m. left_if (is_clock_of m (slice_get b.timers n)) (fires (b.story m)) (b.story m) (k m) i }
+heard_is b number word (event.Wrote l count) k = still_as_many b number word (event.Wrote l count) tt
+heard_is b number word (event.Bytes l piece) k = still_as_many b number word (event.Bytes l piece) tt
+heard_is b number word (event.Ended l) k = still_as_many b number word (event.Ended l) tt
+heard_is b number word (event.ReadFault l kind) k = still_as_many b number word (event.ReadFault l kind) tt
+heard_is b number word (event.WriteFault l kind) k = still_as_many b number word (event.WriteFault l kind) tt
 heard_is b number word (event.Timeout ms) k = absurd k
-heard_is b number word (event.Creds c auth) k = still_as_many b number word (event.Creds c auth)
-heard_is b number word (event.CredsError c text) k = still_as_many b number word (event.CredsError c text)
-heard_is b number word (event.CredsEnd c) k = still_as_many b number word (event.CredsEnd c)
-heard_is b number word event.Shutdown k = still_as_many b number word event.Shutdown
+heard_is b number word (event.Creds c auth) k = still_as_many b number word (event.Creds c auth) tt
+heard_is b number word (event.CredsError c text) k = still_as_many b number word (event.CredsError c text) tt
+heard_is b number word (event.CredsEnd c) k = still_as_many b number word (event.CredsEnd c) tt
+heard_is b number word event.DropStream k = still_as_many b number word event.DropStream tt
+heard_is b number word event.Shutdown k = still_as_many b number word event.Shutdown tt
 
 -- tries are of the starts
-tries_by : (l after : Ledger) (story : ℕ → Story) (requests : List Request) (link : ℕ) (started : List ℕ) → after.starts ≡ l.starts → TiedTries l story requests link started → TiedTries after story requests link started
-tries_by l after story requests link started e h = record {
-  owners = subst (λ (ss : List Start). owners_of ss ≡ setup_owners (setup_count ss) (owners_each requests started)) (sym e) h.owners;
+tries_by : (l after : Ledger) (story : ℕ → Story) (requests : List Request) (link : ℕ) (started : List ℕ) → after.starts ≡ l.starts → after.hearing ≡ l.hearing → TiedTries l story requests link started → TiedTries after story requests link started
+tries_by l after story requests link started e hearing h = record {
+  owners = λ plain. subst (λ (ss : List Start). owners_of ss ≡ setup_owners (setup_count ss) (owners_each requests started)) (sym e) (h.owners (ap is_watching (sym hearing) ∙ plain));
+  greeted = λ w. subst (λ (ss : List Start). HasGreetedAlone ss started) (sym e) (h.greeted (ap is_watching (sym hearing) ∙ w));
   shapes = λ k p s w i j. h.shapes k p s w i (ap (λ (ss : List Start). slice_get ss (setup_count ss + k)) (sym e) ∙ j);
   tried = λ k p w i. h.tried k p w i ∙ ap (λ (ss : List Start). record { link = link; message = setup_count ss + k } ∷ []) (sym e);
   untried = h.untried;
@@ -282,6 +339,7 @@ aims_longer timers link count more l h k what e = by_purpose what (h k what e)
     by_purpose (purpose.Connect m) is = is
     by_purpose (purpose.Response owner.Setup) is = absurd is
     by_purpose (purpose.Response owner.Auth) is = absurd is
+    by_purpose (purpose.Response owner.Monitor) is = absurd is
     by_purpose (purpose.Renewal m k) is = is
     by_purpose (purpose.Response (owner.Try n round)) is = (let less = is.0 in omega arith, is.1)
 
@@ -297,7 +355,7 @@ pub record ComesAs (b : Book) (c : Core) (l : Ledger) (created : ℕ) (info : Re
   pub lines : TiedLines b.story c.single.connection.requests (link_in life) c.single.connection.waiting c.single.connection.admitted pending started
   pub told : has_ended life ≡ false → AreQueued b.story c.single.connection.requests (link_in life)
   pub waits : TiedWaits b.story c.single.connection.requests life fresh c.single.connection.moved
-  pub pushes : TiedPushes (is_heard b) c.single.connection.hears l.pushes l.told l.end l.parted untold false
+  pub notices : TiedNotices (hearing_in b.config) c.single.connection.hears l.hearing l.notices l.told l.end l.parted l.strange (is_reading l) untold false
 
 -- where its new credentials are as they were
 abbrev pub ComesTo : Book → Core → Ledger → ℕ → RedisConnectionInfo → Life → List ℕ → List ℕ → List Heard → List ℕ → Type 0
@@ -311,12 +369,20 @@ renews_as c info renewal life fresh = record c.single.connection { info = info; 
 abbrev pub comes_as : Core → RedisConnectionInfo → Life → List ℕ → MultiplexedConnection
 comes_as c info life fresh = record c.single.connection { info = info; life = life; fresh = fresh }
 
+-- where the server is put into monitor mode no credentials come of sources, and none wait
+abbrev pub StaysQuiet : Core → Renewal → Type 0
+StaysQuiet c r = is_watching c.single.connection.hears ≡ true → (r.wanted ≡ false) × (r.waiting ≡ [])
+
+-- so it is between turns
+pub quiet_still : (b : Book) (c : Core) (started : List ℕ) → Tied b (inner c started) → StaysQuiet c c.single.connection.renewal
+quiet_still b c started h w = let q = h.numbers.quiet w in (q.unwanted, q.unrenewed)
+
 -- the session tied to a book with these ledgers, and with these sources of credentials, where new credentials came to this
 pub heard_tied_as : (b : Book) (c : Core) (started : List ℕ) (word created : ℕ) (kind : EventKind) (info : RedisConnectionInfo) (renewal : Renewal) (life : Life) (fresh pending : List ℕ) (untold : List Heard) (links : ℕ → Ledger) (l : Ledger) (asked uses : List SourceUse) → Tied b (inner c started)
-    → renewal.within ≡ c.single.connection.renewal.within
+    → renewal.within ≡ c.single.connection.renewal.within → StaysQuiet c renewal
     → ((m : ℕ) → m ≢ c.single.link → IsUnknown (links m)) → links c.single.link ≡ l → asked ≡ uses → AreUses uses c.single.link → length uses ≡ sources_asked_in l.creds → ComesAs b c l created info renewal life fresh pending untold started
     → Tied (record (heard_book b c.turns word kind) { created = created; link = links; sources = asked }) (record (seen (turned c kind) [] (renews_as c info renewal life fresh) pending started) { untold = untold; sources = uses })
-heard_tied_as b c started word created kind info renewal life fresh pending untold links l asked uses h within others is sourced used counted k =
+heard_tied_as b c started word created kind info renewal life fresh pending untold links l asked uses h within quiet others is sourced used counted k =
     let after = record (heard_book b c.turns word kind) { created = created; link = links; sources = asked } in
     let t = record (seen (turned c kind) [] (renews_as c info renewal life fresh) pending started) { untold = untold; sources = uses } in
     tied_by after t l is (record {
@@ -334,11 +400,13 @@ heard_tied_as b c started word created kind info renewal life fresh pending unto
         within = h.numbers.within ∙ sym within;
         few = h.numbers.few;
         settings = record { size_is = h.numbers.settings.size_is; bound_is = h.numbers.settings.bound_is; limit_is = h.numbers.settings.limit_is; some = h.numbers.settings.some; limited = h.numbers.settings.limited };
+        kind_is = h.numbers.kind_is;
+        quiet = λ w. record { none = (h.numbers.quiet w).none; unwanted = (quiet w).0; unrenewed = (quiet w).1 };
         one = h.numbers.one;
         only = h.numbers.only;
       };
       others = others;
-      pushes = k.pushes;
+      notices = k.notices;
       life = k.lived;
       creds = k.creds;
       count = counted;
@@ -347,7 +415,7 @@ heard_tied_as b c started word created kind info renewal life fresh pending unto
       link = k.linked;
       names = h.names;
       story = h.story;
-      tries = tries_by (b.link c.single.link) l b.story c.single.connection.requests c.single.link started k.starts h.tries;
+      tries = tries_by (b.link c.single.link) l b.story c.single.connection.requests c.single.link started k.starts (k.notices.hearing_is ∙ sym h.notices.hearing_is) h.tries;
       lines = k.lines;
       told = k.told;
       waits = k.waits;
@@ -360,7 +428,7 @@ pub heard_tied_by : (b : Book) (c : Core) (started : List ℕ) (word created : �
     → ((m : ℕ) → m ≢ c.single.link → IsUnknown (links m)) → links c.single.link ≡ l → asked ≡ uses → AreUses uses c.single.link → length uses ≡ sources_asked_in l.creds → ComesTo b c l created info life fresh pending untold started
     → Tied (record (heard_book b c.turns word kind) { created = created; link = links; sources = asked }) (record (seen (turned c kind) [] (comes_as c info life fresh) pending started) { untold = untold; sources = uses })
 heard_tied_by b c started word created kind info life fresh pending untold links l asked uses h others is sourced used counted k =
-    heard_tied_as b c started word created kind info c.single.connection.renewal life fresh pending untold links l asked uses h refl others is sourced used counted k
+    heard_tied_as b c started word created kind info c.single.connection.renewal life fresh pending untold links l asked uses h refl (quiet_still b c started h) others is sourced used counted k
 
 -- news ask for no source
 pub sources_hear : (l : Ledger) (turn : ℕ) (n : News) → sources_asked_in (noted l (hears turn n)).creds ≡ sources_asked_in l.creds
@@ -369,7 +437,7 @@ sources_hear l turn overdue = refl
 sources_hear l turn connected = chosen (λ (x : Ledger). sources_asked_in x.creds ≡ sources_asked_in l.creds) (is_over l) l (record l { up = true }) (λ t. refl) (λ f. refl)
 sources_hear l turn (refused f) = chosen (λ (x : Ledger). sources_asked_in x.creds ≡ sources_asked_in l.creds) (dials l) (refused_in l turn (error.Io f)) l (λ t. refl) (λ d. refl)
 sources_hear l turn (took count) = chosen (λ (x : Ledger). sources_asked_in x.creds ≡ sources_asked_in l.creds) l.up _ l (λ t. refl) (λ f. refl)
-sources_hear l turn (came piece) = chosen (λ (x : Ledger). sources_asked_in x.creds ≡ sources_asked_in l.creds) l.up (bytes_came l piece) l (λ t. refl) (λ f. refl)
+sources_hear l turn (came piece) = chosen (λ (x : Ledger). sources_asked_in x.creds ≡ sources_asked_in l.creds) l.up (bytes_came l piece) l (λ t. holds_bytes (λ (x : Ledger). sources_asked_in x.creds ≡ sources_asked_in l.creds) l piece (λ rest strange told more. refl)) (λ f. refl)
 sources_hear l turn (failed f) = refl
 sources_hear l turn (authorized c) = chosen (λ (x : Ledger). sources_asked_in x.creds ≡ sources_asked_in l.creds) (awaits_credentials l) (authorized_by l c) l (λ t. refl) (λ f. refl)
 sources_hear l turn (denied text) = refl
@@ -377,6 +445,7 @@ sources_hear l turn deserted = refl
 sources_hear l turn (renewed c) = chosen (λ (x : Ledger). sources_asked_in x.creds ≡ sources_asked_in l.creds) (may_renew l) (renewed_by l c) l (λ t. refl) (λ f. refl)
 sources_hear l turn unrenewed = chosen (λ (x : Ledger). sources_asked_in x.creds ≡ sources_asked_in l.creds) l.up (unrenewed_by l) l (λ t. refl) (λ f. refl)
 sources_hear l turn (late k) = chosen (λ (x : Ledger). sources_asked_in x.creds ≡ sources_asked_in l.creds) (l.up && is_renewal_open l k) (lost_by l) l (λ t. refl) (λ f. refl)
+sources_hear l turn dropped = refl
 sources_hear l turn shut = refl
 
 -- nor for a timer
@@ -386,7 +455,7 @@ timed_hear l turn overdue = refl
 timed_hear l turn connected = chosen (λ (x : Ledger). x.creds.timed ≡ l.creds.timed) (is_over l) l (record l { up = true }) (λ t. refl) (λ f. refl)
 timed_hear l turn (refused f) = chosen (λ (x : Ledger). x.creds.timed ≡ l.creds.timed) (dials l) (refused_in l turn (error.Io f)) l (λ t. refl) (λ d. refl)
 timed_hear l turn (took count) = chosen (λ (x : Ledger). x.creds.timed ≡ l.creds.timed) l.up _ l (λ t. refl) (λ f. refl)
-timed_hear l turn (came piece) = chosen (λ (x : Ledger). x.creds.timed ≡ l.creds.timed) l.up (bytes_came l piece) l (λ t. refl) (λ f. refl)
+timed_hear l turn (came piece) = chosen (λ (x : Ledger). x.creds.timed ≡ l.creds.timed) l.up (bytes_came l piece) l (λ t. holds_bytes (λ (x : Ledger). x.creds.timed ≡ l.creds.timed) l piece (λ rest strange told more. refl)) (λ f. refl)
 timed_hear l turn (failed f) = refl
 timed_hear l turn (authorized c) = chosen (λ (x : Ledger). x.creds.timed ≡ l.creds.timed) (awaits_credentials l) (authorized_by l c) l (λ t. refl) (λ f. refl)
 timed_hear l turn (denied text) = refl
@@ -394,6 +463,7 @@ timed_hear l turn deserted = refl
 timed_hear l turn (renewed c) = chosen (λ (x : Ledger). x.creds.timed ≡ l.creds.timed) (may_renew l) (renewed_by l c) l (λ t. refl) (λ f. refl)
 timed_hear l turn unrenewed = chosen (λ (x : Ledger). x.creds.timed ≡ l.creds.timed) l.up (unrenewed_by l) l (λ t. refl) (λ f. refl)
 timed_hear l turn (late k) = chosen (λ (x : Ledger). x.creds.timed ≡ l.creds.timed) (l.up && is_renewal_open l k) (lost_by l) l (λ t. refl) (λ f. refl)
+timed_hear l turn dropped = refl
 timed_hear l turn shut = refl
 
 -- nor for a second source
@@ -403,7 +473,7 @@ renews_hear l turn overdue = refl
 renews_hear l turn connected = chosen (λ (x : Ledger). x.creds.renews ≡ l.creds.renews) (is_over l) l (record l { up = true }) (λ t. refl) (λ f. refl)
 renews_hear l turn (refused f) = chosen (λ (x : Ledger). x.creds.renews ≡ l.creds.renews) (dials l) (refused_in l turn (error.Io f)) l (λ t. refl) (λ d. refl)
 renews_hear l turn (took count) = chosen (λ (x : Ledger). x.creds.renews ≡ l.creds.renews) l.up _ l (λ t. refl) (λ f. refl)
-renews_hear l turn (came piece) = chosen (λ (x : Ledger). x.creds.renews ≡ l.creds.renews) l.up (bytes_came l piece) l (λ t. refl) (λ f. refl)
+renews_hear l turn (came piece) = chosen (λ (x : Ledger). x.creds.renews ≡ l.creds.renews) l.up (bytes_came l piece) l (λ t. holds_bytes (λ (x : Ledger). x.creds.renews ≡ l.creds.renews) l piece (λ rest strange told more. refl)) (λ f. refl)
 renews_hear l turn (failed f) = refl
 renews_hear l turn (authorized c) = chosen (λ (x : Ledger). x.creds.renews ≡ l.creds.renews) (awaits_credentials l) (authorized_by l c) l (λ t. refl) (λ f. refl)
 renews_hear l turn (denied text) = refl
@@ -411,6 +481,7 @@ renews_hear l turn deserted = refl
 renews_hear l turn (renewed c) = chosen (λ (x : Ledger). x.creds.renews ≡ l.creds.renews) (may_renew l) (renewed_by l c) l (λ t. refl) (λ f. refl)
 renews_hear l turn unrenewed = chosen (λ (x : Ledger). x.creds.renews ≡ l.creds.renews) l.up (unrenewed_by l) l (λ t. refl) (λ f. refl)
 renews_hear l turn (late k) = chosen (λ (x : Ledger). x.creds.renews ≡ l.creds.renews) (l.up && is_renewal_open l k) (lost_by l) l (λ t. refl) (λ f. refl)
+renews_hear l turn dropped = refl
 renews_hear l turn shut = refl
 
 -- with none more there are as many
@@ -418,11 +489,11 @@ pub counted_on : (sources : List SourceUse) (c : Sourced) → length sources ≡
 counted_on sources c h = ap (λ (ss : List SourceUse). length ss) (append-nil sources) ∙ h
 
 -- by what its link hears, where new credentials came to this
-pub heard_tied_new : (b : Book) (c : Core) (started : List ℕ) (word created : ℕ) (kind : EventKind) (info : RedisConnectionInfo) (renewal : Renewal) (life : Life) (fresh pending : List ℕ) (untold : List Heard) (l : Ledger) → Tied b (inner c started) → renewal.within ≡ c.single.connection.renewal.within → is_bad c kind ≡ false
+pub heard_tied_new : (b : Book) (c : Core) (started : List ℕ) (word created : ℕ) (kind : EventKind) (info : RedisConnectionInfo) (renewal : Renewal) (life : Life) (fresh pending : List ℕ) (untold : List Heard) (l : Ledger) → Tied b (inner c started) → renewal.within ≡ c.single.connection.renewal.within → StaysQuiet c renewal → is_bad c kind ≡ false
     → noted (b.link c.single.link) (hears c.turns (news_of b.timers b.sources c.single.link kind)) ≡ l → ComesAs b c l created info renewal life fresh pending untold started
     → Tied (record (heard_book b c.turns word kind) { created = created }) (record (seen (turned c kind) [] (renews_as c info renewal life fresh) pending started) { untold = untold })
-heard_tied_new b c started word created kind info renewal life fresh pending untold l h within good is k =
-    heard_tied_as b c started word created kind info renewal life fresh pending untold (heard_book b c.turns word kind).link l b.sources (c.sources ++ []) h within (others_heard b c started kind h good) is
+heard_tied_new b c started word created kind info renewal life fresh pending untold l h within quiet good is k =
+    heard_tied_as b c started word created kind info renewal life fresh pending untold (heard_book b c.turns word kind).link l b.sources (c.sources ++ []) h within quiet (others_heard b c started kind h good) is
     (h.numbers.sources ∙ sym (append-nil c.sources)) (uses_on c.sources c.single.link h.numbers.uses)
     (counted_on c.sources l.creds (h.count ∙ sym (sources_hear (b.link c.single.link) c.turns (news_of b.timers b.sources c.single.link kind)) ∙ ap (λ (x : Ledger). sources_asked_in x.creds) is)) k
 
@@ -430,7 +501,7 @@ heard_tied_new b c started word created kind info renewal life fresh pending unt
 pub heard_tied : (b : Book) (c : Core) (started : List ℕ) (word created : ℕ) (kind : EventKind) (info : RedisConnectionInfo) (life : Life) (fresh pending : List ℕ) (untold : List Heard) (l : Ledger) → Tied b (inner c started) → is_bad c kind ≡ false
     → noted (b.link c.single.link) (hears c.turns (news_of b.timers b.sources c.single.link kind)) ≡ l → ComesTo b c l created info life fresh pending untold started
     → Tied (record (heard_book b c.turns word kind) { created = created }) (record (seen (turned c kind) [] (comes_as c info life fresh) pending started) { untold = untold })
-heard_tied b c started word created kind info life fresh pending untold l h good is k = heard_tied_new b c started word created kind info c.single.connection.renewal life fresh pending untold l h refl good is k
+heard_tied b c started word created kind info life fresh pending untold l h good is k = heard_tied_new b c started word created kind info c.single.connection.renewal life fresh pending untold l h refl (quiet_still b c started h) good is k
 
 -- the trace begins
 --

@@ -18,7 +18,7 @@ use Rattle.mux_conn.specs.declared.request.Progress.TheVariants as progress
 use Rattle.mux_conn.specs.declared.request.Request.{Request}
 use Rattle.mux_conn.specs.declared.request.Waiting.{Waiting}
 use Rattle.mux_conn.specs.Requests.{is_open as is_open_progress, is_placed, is_open_at, name_at, permits_at, with_permits, given_back}
-use Rattle.legal_trace.specs.Ledger.{End, Heard, ending_alive, ending_asked, Ledger, is_over, ending, next_push}
+use Rattle.legal_trace.specs.Ledger.{End, Heard, ending_alive, ending_asked, Ledger, is_over, ending, next_notice}
 use Rattle.legal_trace.specs.Story.{Story, Try, last_of, is_no_error, is_open, packed_in, shape_in, bytes_of, answered}
 use Rattle.legal_trace.specs.Book.{Book, entered}
 use Rattle.legal_trace.specs.Owed.{owed, owed_to_try, owed_to_message, owed_unstarted, unstarted_error}
@@ -31,7 +31,7 @@ use Rattle.session_laws.proofs.InLine.{kept_ids, line_of, IsInLine, awaited_in, 
 use Rattle.session_laws.proofs.Behind.{open_unanswered, told_answered}
 use Rattle.session_laws.proofs.Closing.{Closes, closed_other, late_closed, with_closed, story_closed, tries_closed, packs_closed, queue_closed, waits_closed, kept_other, IsUntried, told_closed}
 use Rattle.session_laws.proofs.Permits.{permits_closed}
-use Rattle.session_laws.proofs.Owes.{request_story, open_request, answered_closed, ends_told, failures_shown, pushes_told}
+use Rattle.session_laws.proofs.Owes.{request_story, open_request, answered_closed, ends_told, failures_shown, notices_told}
 
 -- where it may stand
 --
@@ -39,7 +39,7 @@ use Rattle.session_laws.proofs.Owes.{request_story, open_request, answered_close
 -- due before
 pub may_answer : (b : Book) (t : Inner) (p : ℕ) (o : Outcome) → Tied b t → is_open_at t.requests p ≡ true → owed b (name_at t.requests p) ≡ Some o
     → ((q : ℕ) → q < p → is_open_at t.requests q ≡ true → owed b (name_at t.requests q) ≡ None)
-    → (is_heard b ≡ true → (push : Heard) → next_push (b.link t.link) ≡ Some push → IsBefore b (name_at t.requests p) push)
+    → (is_heard b ≡ true → (push : Heard) → next_notice (b.link t.link) ≡ Some push → IsBefore b (name_at t.requests p) push)
     → (is_over (b.link t.link) ≡ true → NoneEnds b × VerdictsAreShown b × FailuresAreShown b × EndsAreTold b) → MayAnswer b (name_at t.requests p) o
 may_answer b t p o h e owes before pushed after =
     let l = open_within t.requests p e in
@@ -51,14 +51,14 @@ may_answer b t p o h e owes before pushed after =
           let q = open_request b t m h asked in
           let k = open_within t.requests q.number q.open_at in
           ap (owed b) (sym q.named) ∙ before q.number (earlier_name t.table t.requests q.number p h.names k l (subst (λ n. n < name_at t.requests p) (sym q.named) less)) q.open_at;
-      after_pushes = λ heard push next. pushed heard push (subst (λ n. next_push (b.link n) ≡ Some push) r.on next);
+      after_notices = λ heard push next. pushed heard push (subst (λ n. next_notice (b.link n) ≡ Some push) r.on next);
       after_closes = λ over. after (subst (λ n. is_over (b.link n) ≡ true) r.on over);
       after_sources = λ over. sources_asked b t h;
     }
 
 -- what isn't up need not end where it isn't asked for, or is over
 pub not_up_ends : (l : Ledger) → l.up ≡ false → (l.asked && not (is_over l)) ≡ false → ending l ≡ None
-not_up_ends l down no_dial = left_if l.up (ending_alive l) _ down ∙ left_if (l.asked && not (is_over l)) (ending_asked l.heard) None no_dial
+not_up_ends l down no_dial = left_if l.up (ending_alive l) _ down ∙ left_if (l.asked && not (is_over l)) (ending_asked l l.heard) None no_dial
 
 -- nor what was never asked for
 pub unknown_ends : (l : Ledger) → IsUnknown l → ending l ≡ None
@@ -81,7 +81,7 @@ over_not_asked l over = ap (λ o. l.asked && not o) over ∙ none_of l.asked
 ended_over : (l : Ledger) (created : ℕ) (life : Life) → has_ended life ≡ true → TiedLife l created life → is_over l ≡ true
 ended_over l created Dialing over h = cc
 ended_over l created (Wanting link) over h = cc
-ended_over l created (SettingUp link with_user) over h = cc
+ended_over l created (SettingUp link greeting) over h = cc
 ended_over l created (Ready link) over h = cc
 ended_over l created (Ended e) over h = some_end l.end (outcome.Fault e) h.1
 
@@ -89,7 +89,7 @@ ended_over l created (Ended e) over h = some_end l.end (outcome.Fault e) h.1
 ended_ends : (l : Ledger) (created : ℕ) (life : Life) → has_ended life ≡ true → TiedLife l created life → ending l ≡ None
 ended_ends l created Dialing over h = cc
 ended_ends l created (Wanting link) over h = cc
-ended_ends l created (SettingUp link with_user) over h = cc
+ended_ends l created (SettingUp link greeting) over h = cc
 ended_ends l created (Ready link) over h = cc
 ended_ends l created (Ended e) over h = not_up_ends l h.0 (over_not_asked l (some_end l.end (outcome.Fault e) h.1))
 
@@ -115,9 +115,9 @@ after_closes b t h done over = let a = after_end b t h over in (a.0, a.1, a.2, e
 pub no_push : (x : Option Heard) (y : Heard) → x ≡ None → x ≡ Some y → ⊥
 no_push x y e f = let no : ◌≡◌ {A = Option Heard} None (Some y) = sym e ∙ f in cc
 
--- where no push is still to be told none is
-pub none_before : (b : Book) (t : Inner) (n : ℕ) → Tied b t → t.untold ≡ [] → is_heard b ≡ true → (push : Heard) → next_push (b.link t.link) ≡ Some push → IsBefore b n push
-none_before b t n h none heard push next = absurd (no_push (next_push (b.link t.link)) push (pushes_told b t h none t.link heard) next)
+-- where no notice is still to be told none is
+pub none_before : (b : Book) (t : Inner) (n : ℕ) → Tied b t → t.untold ≡ [] → is_heard b ≡ true → (push : Heard) → next_notice (b.link t.link) ≡ Some push → IsBefore b n push
+none_before b t n h none heard push next = absurd (no_push (next_notice (b.link t.link)) push (notices_told b t h none t.link heard) next)
 
 -- what it leaves
 --
@@ -225,7 +225,7 @@ answer_apart b t p pending o l apart told h =
     record {
       numbers = numbers_kept b b.link (entered b (action.Outcome n o)).story now t.life (given_back t.limit t.free (permits_at t.requests p)) (with_permits t.requests p progress.Closed 0) t.waiting t.admitted t.fresh t.moved t.letting pending t.started h.numbers;
       others = h.others;
-      pushes = h.pushes;
+      notices = h.notices;
       life = h.life;
       creds = h.creds;
       count = h.count;

@@ -3,7 +3,6 @@ use Rattle.std.proofs.lemmas.List.{append-nil}
 use Rattle.std.proofs.Common.{◌≡◌, ◌≢◌, inl, inr, ℕ, ◌+◌, ◌<◌, ◌≤◌, ◌==◌, Bool, true, false, ◌||◌, ◌&&◌, not, List, [], ◌∷◌, ◌++◌, length, Some, slice_get, if◌then◌else◌, refl, sym, ap, ◌∙◌, subst, append_assoc, arith, length-append, ◌^◌}
 use Rattle.containers.proofs.Places.{get_within}
 use Rattle.containers.proofs.Choices.{chosen, not_both}
-use Rattle.connection_info.specs.declared.address.RedisConnectionInfo.{RedisConnectionInfo}
 use Rattle.redis_error.specs.declared.redis_error.RedisError.{RedisError}
 use Rattle.redis_error.specs.declared.redis_error.RedisError.TheVariants as error
 use Rattle.driver_model.specs.declared.action.Action.{Action}
@@ -12,7 +11,7 @@ use Rattle.driver_model.specs.declared.event.EventKind.TheVariants as event
 use Rattle.driver_model.specs.declared.event.Submission.{Submission}
 use Rattle.driver_model.specs.declared.outcome.Outcome.TheVariants as outcome
 use Rattle.driver_model.specs.News.{silence}
-use Rattle.driver_model.specs.Request.{packed_bytes, shape_of, is_reply_awaited, lacks_resp3}
+use Rattle.driver_model.specs.Request.{packed_bytes, shape_of, is_reply_awaited, lacks_resp3, has_no_form}
 use Rattle.link_laws.proofs.Lists.{get_last}
 use Rattle.link_laws.proofs.TiedLink.{told_tied, all_push}
 use Rattle.mux_conn.specs.declared.request.Progress.{Progress}
@@ -23,22 +22,27 @@ use Rattle.mux_conn.specs.Requests.{is_open as is_open_progress, is_waiting, is_
 use Rattle.shared_session.specs.declared.core_state.Core.{Core}
 use Rattle.shared_session.specs.Turn.{Turning, heard, refused_with, asked_for, pending, effect, counted, is_bad}
 use Rattle.legal_trace.specs.Story.{Story, is_no_error, is_told, is_awaited}
-use Rattle.legal_trace.specs.Book.{Book, blank_book, book, entered, current, is_unspoken}
+use Rattle.legal_trace.specs.Book.{Book, blank_book, book, entered, current, is_unspoken, kind_in}
 use Rattle.legal_trace.specs.Legal.{AllStand, NoneEnds, MayAnswer}
 use Rattle.session_laws.proofs.Renewals.{renewal_alike}
 use Rattle.session_laws.proofs.Numbers.{IsIn, in_left, in_right, Rising, rising_next, requests_in, request_in}
 use Rattle.session_laws.proofs.Tied.{carried, inner, link_in, queue_ids, waiting_ids, whole_link, IsOf, IsRequest, IsPacked, IsKept, TiedLines, TiedWaits, Tied, no_opening}
 use Rattle.session_laws.proofs.States.{Between, HasApplied}
 use Rattle.session_laws.proofs.Entered.{all_stand-append, book_more, sound_more}
-use Rattle.session_laws.proofs.Names.{there_within, names_asked}
+use Rattle.session_laws.proofs.Names.{there_within, names_asked, submits_unwatched}
 use Rattle.session_laws.proofs.Owes.{started_within}
 use Rattle.session_laws.proofs.Settle.{seen}
-use Rattle.session_laws.proofs.Announce.{aims_longer, aims_on, turn_of, turned, may_turn, uses_on, counted_on}
-use Rattle.session_laws.proofs.Heard.{told_life, silent_no_end, silent_applied, still_none}
-use Rattle.session_laws.proofs.Said.{setup_on}
+use Rattle.session_laws.proofs.Announce.{aims_longer, aims_on, turn_of, turned, may_turn, uses_on, counted_on, time_still}
+use Rattle.session_laws.proofs.Heard.{told_life, silent_no_end, silent_applied, still_none, tame_between}
+use Rattle.session_laws.proofs.Said.{setup_on, IsTame, renoticed}
 use Rattle.session_laws.proofs.Further.{one_longer, there_longer, before_or_new, further_story, tries_longer, queue_longer, packs_longer, entries_longer, link_longer, told_longer, IsNext, waits_longer, permits_longer, late_longer}
 use Rattle.session_laws.proofs.InLine.{kept_ids, awaited_in}
 use Rattle.session_laws.proofs.Submit.{stories_with, new_story, story_is_new, others_before, within_line, IsErrorOf, may_refuse, core_refused, refused_tied}
+
+-- a submission that isn't bad has a form
+formed : (c : Core) (what : Submission) → is_bad c (event.Submit what) ≡ false → has_no_form c.kind what ≡ false
+unfolding is_bad
+formed c what good = good
 
 -- it is answered at once
 pub refused_applied : (before : List Action) (c : Core) (started : List ℕ) (word : ℕ) (what : Submission) (e : RedisError) → Between before c started → length c.table < 2 ^ 32 → is_bad c (event.Submit what) ≡ false → IsErrorOf (book before).shut (is_unspoken (book before) what) what e
@@ -55,7 +59,7 @@ refused_applied before c started word what e h few good why =
     let may : MayAnswer now (length c.table) (outcome.Fault e) = may_refuse b c started word what e h.sound.tied applied.answered applied.ended applied.created.failed why in
     record {
       sound = sound_more front a t all (inl (subst (λ (x : Book). MayAnswer x (length c.table) (outcome.Fault e)) (sym book_is) may))
-          (subst (λ (x : Book). Tied (entered x a) t) (sym book_is) (refused_tied b c started word what e h.sound.tied few h.fresh));
+          (subst (λ (x : Book). Tied (entered x a) t) (sym book_is) (refused_tied b c started word what e h.sound.tied (tame_between before c started h) (formed c what good) few h.fresh));
       ended = subst NoneEnds (sym (book_more front a ∙ ap (λ (x : Book). entered x a) book_is)) (λ m. silent_no_end (b.link m) c.turns (still_none before c started h m));
       began = λ z. absurd (omega arith);
       moved = h.moved;
@@ -211,9 +215,9 @@ abbrev core_asked : Core → Submission → Core
 core_asked c what = record (turned c (event.Submit what)) { table = c.table ++ Some (pending (length c.single.connection.requests)) ∷ [] }
 
 -- the session is tied with it
-asked_tied : (b : Book) (c : Core) (started : List ℕ) (word : ℕ) (what : Submission) → Tied b (inner c started) → length c.table < 2 ^ 32 → c.single.connection.fresh ≡ [] → b.shut ≡ false → is_unspoken b what ≡ false → packed_bytes what ≢ []
+asked_tied : (b : Book) (c : Core) (started : List ℕ) (word : ℕ) (what : Submission) → Tied b (inner c started) → IsTame (b.link c.single.link) → has_no_form c.kind what ≡ false → length c.table < 2 ^ 32 → c.single.connection.fresh ≡ [] → b.shut ≡ false → is_unspoken b what ≡ false → packed_bytes what ≢ []
     → Tied (entered b (turn_of c word (event.Submit what))) (seen (core_asked c what) [] (asked c.single.connection (length c.table) (packed_bytes what) (shape_of what) (is_reply_awaited what) c.timeout) [] started)
-asked_tied b c started word what h few no_fresh up speaks some =
+asked_tied b c started word what h tame form few no_fresh up speaks some =
     let conn = c.single.connection in
     let ledger = b.link c.single.link in
     let after = stories_with b what in
@@ -237,16 +241,18 @@ asked_tied b c started word what h few no_fresh up speaks some =
         aims = aims_on c.timers c.single.link (length (c.table ++ next ∷ [])) (aims_longer c.timers c.single.link (length c.table) (length (c.table ++ next ∷ [])) (omega (arith, length-append c.table (next ∷ []))) h.numbers.aims);
         timed = λ config other opens bounded none. no_opening _ config other opens;
         submissions = (let k = h.numbers.submissions in omega (arith, length-append c.table (next ∷ [])));
-        timeout = h.numbers.timeout;
+        timeout = time_still (kind_in b.config) b.timeout (event.Submit what) tt ∙ h.numbers.timeout;
         shut = ap (λ s. s || false) h.numbers.shut;
         within = h.numbers.within;
         few = omega (arith, few, length-append c.table (next ∷ []));
         settings = record { size_is = h.numbers.settings.size_is; bound_is = h.numbers.settings.bound_is; limit_is = h.numbers.settings.limit_is; some = h.numbers.settings.some; limited = h.numbers.settings.limited };
+        kind_is = h.numbers.kind_is;
+        quiet = λ w. absurd (submits_unwatched b (inner c started) what h form w);
         one = h.numbers.one;
         only = h.numbers.only;
       };
-      others = λ m other. let u = h.others m other in record { asked = u.asked; up = u.up; end = u.end; starts = u.starts; pushes = u.pushes };
-      pushes = h.pushes;
+      others = λ m other. let u = h.others m other in record { asked = u.asked; up = u.up; end = u.end; starts = u.starts; notices = u.notices };
+      notices = renoticed tame h.notices;
       life = told_life ledger b.created conn.life silence h.life;
       creds = h.creds;
       count = counted_on c.sources ledger.creds h.count;
@@ -269,7 +275,7 @@ asked_tied b c started word what h few no_fresh up speaks some =
           (omega (arith, h.names.few, few, length-append conn.requests (new_request c ∷ [])))
           (λ p other i. within_line conn.requests (requests_in started) queue last p h.lines.line (in_left p (requests_in started) (queue ++ last) (request_in p started other i))) (λ k p other i. started_within b (inner c started) k p h other i)
           (λ p r i past. ap (λ (s : Story). s.tries) (own_at p r i past))
-          (record { owners = h.tries.owners; shapes = h.tries.shapes; tried = h.tries.tried; untried = h.tries.untried });
+          (record { owners = h.tries.owners; greeted = h.tries.greeted; shapes = h.tries.shapes; tried = h.tries.tried; untried = h.tries.untried });
       lines = asked_lines b c started what h;
       told = λ up. told_longer c.table b.story after conn.requests (more_requests c) (link_in conn.life) same longer (λ u. absurd (new_untold (is_awaited (new_story b what)) (ap is_told (sym (story_is_new b c started what h)) ∙ u.0))) (h.told up);
       waits = asked_waits b c started what h no_fresh;
@@ -284,7 +290,7 @@ pub asked_applied : (before : List Action) (c : Core) (started : List ℕ) (word
 asked_applied before c started word what h few good up speaks some =
     let b = book before in
     silent_applied before c started word (event.Submit what) (core_asked c what) (asked c.single.connection (length c.table) (packed_bytes what) (shape_of what) (is_reply_awaited what) c.timeout) h good (λ m. silent_no_end (b.link m) c.turns (still_none before c started h m)) (λ z. absurd (omega arith)) h.moved (record { wanting = h.fit.wanting; setup = h.fit.setup; link = h.fit.link; none = h.fit.none })
-    (asked_tied b c started word what h.sound.tied few h.fresh up speaks some)
+    (asked_tied b c started word what h.sound.tied (tame_between before c started h) (formed c what good) few h.fresh up speaks some)
 
 -- one or the other
 --
@@ -298,10 +304,12 @@ some_bytes : (bytes : List ℕ) → (length bytes == 0) ≡ false → bytes ≢ 
 some_bytes bytes f e = not_both (length bytes == 0) f (ap (λ (bs : List ℕ). length bs == 0) e)
 
 -- what the session says to the server is what the book tells of the link that a submission goes to
-lacks_as_told : (b : Book) (c : Core) (started : List ℕ) (what : Submission) → Tied b (inner c started) → lacks_resp3 c.single.connection.info.protocol what ≡ is_unspoken b what
+lacks_as_told : (b : Book) (c : Core) (started : List ℕ) (what : Submission) → Tied b (inner c started) → lacks_resp3 c.single.connection.hears c.single.connection.info.protocol what ≡ is_unspoken b what
 lacks_as_told b c started what h =
     let on : c.single.link ≡ current b = (let e = h.numbers.links in let one = h.numbers.one in omega arith) in
-    ap (λ (info : RedisConnectionInfo). lacks_resp3 info.protocol what) (sym h.setup.info_is ∙ ap (λ m. (b.link m).info) on)
+    let says = sym h.setup.info_is ∙ ap (λ m. (b.link m).info) on in
+    let hears = sym h.notices.hearing_is ∙ ap (λ m. (b.link m).hearing) on in
+    λ i. lacks_resp3 (hears i) (says i).protocol what
 
 -- a submission, whichever it is
 pub submit_applied : (before : List Action) (c : Core) (started : List ℕ) (word : ℕ) (what : Submission) → Between before c started → length c.table < 2 ^ 32 → is_bad c (event.Submit what) ≡ false
@@ -310,7 +318,7 @@ submit_applied before c started word what h few good =
     let t = heard (counted c) (event.Submit what) in
     let front = before ++ turn_of c word (event.Submit what) ∷ [] in
     let shut_is : (c.shut || false) ≡ (book before).shut = or_none c.shut ∙ sym h.sound.tied.numbers.shut in
-    let lacks = lacks_resp3 c.single.connection.info.protocol what in
+    let lacks = lacks_resp3 c.single.connection.hears c.single.connection.info.protocol what in
     let lacks_is : lacks ≡ is_unspoken (book before) what = lacks_as_told (book before) c started what h.sound.tied in
     let some = if length (packed_bytes what) == 0 then refused_with t error.EmptyCommand else asked_for t what in
     chosen (λ (x : Turning). HasApplied front x started) (c.shut || false) (refused_with t error.Closed) (if lacks then refused_with t error.Resp3Required else some)

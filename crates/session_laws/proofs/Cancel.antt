@@ -31,12 +31,12 @@ use Rattle.shared_session.specs.declared.core_state.Core.{Core}
 use Rattle.shared_session.specs.Turn.{with_work, heard, is_shutdown, left_by, effect, counted, is_bad}
 use Rattle.legal_trace.specs.Ledger.{Ledger, Sourced, ending, hears, noted}
 use Rattle.legal_trace.specs.Story.{Story, is_open, is_told, left}
-use Rattle.legal_trace.specs.Book.{Book, after_event, book, entered, if_own, shuts, submitted_by, timeout_after}
+use Rattle.legal_trace.specs.Book.{Book, after_event, book, entered, if_own, shuts, submitted_by, timeout_after, kind_in}
 use Rattle.mux_conn.specs.Renewals.{renewal_id}
 use Rattle.mux_conn.specs.declared.renewal.Renewal.{Renewal}
 use Rattle.session_laws.proofs.Renewals.{renewal_alike}
 use Rattle.session_laws.proofs.Numbers.{IsIn, in_left, in_right, in_either, Rising, rising_from, rising_in, rising_right, rising_tail, requests_in, request_in, request_of, request_other, requests_first}
-use Rattle.session_laws.proofs.Tied.{carried, inner, no_link, link_in, owner_of, queue_ids, whole_link, IsQueued, IsEntry, AreQueued, TiedCreds, TiedLife, TiedStory, TiedNames, TiedNumbers, TiedPermits, TiedLines, TiedSetup, IsUnknown, Tied, no_opening, has_ended, TiedRenewal}
+use Rattle.session_laws.proofs.Tied.{carried, inner, no_link, link_in, owner_of, queue_ids, whole_link, IsQueued, IsEntry, AreQueued, TiedCreds, TiedLife, TiedStory, TiedNames, TiedNumbers, TiedPermits, TiedLines, TiedSetup, IsUnknown, Tied, no_opening, has_ended, TiedRenewal, greeter}
 use Rattle.session_laws.proofs.States.{IsFit, IsFitIn, Between, HasApplied}
 use Rattle.session_laws.proofs.Names.{name_within, open_within, name_of_some, owners_with, length_with, names_with, with_other, with_then, request_not}
 use Rattle.session_laws.proofs.InLine.{row_ids, kept_ids, chosen_in, awaited_in, wanted_in}
@@ -46,11 +46,11 @@ use Rattle.legal_trace.specs.Legal.{NoneEnds}
 use Rattle.session_laws.proofs.Closing.{Closes, WasReady, WasSettingUp, WasWanting, closed_other, late_closed, with_closed, story_closed, tries_closed, packs_closed, queued_other, queue_closed, AreOthers, waits_closed, kept_other, IsUntried, told_closed}
 use Rattle.session_laws.proofs.Answer.{entries_answered}
 use Rattle.session_laws.proofs.Settle.{seen}
-use Rattle.session_laws.proofs.Announce.{aims_on, turn_of, turned, uses_on, counted_on}
+use Rattle.session_laws.proofs.Announce.{aims_on, turn_of, turned, uses_on, counted_on, time_still}
 use Rattle.session_laws.proofs.Kept.{tied_by}
 use Rattle.session_laws.proofs.Permits.{permits_closed}
-use Rattle.session_laws.proofs.Heard.{silent_applied, still_none, told_life, silent_no_end}
-use Rattle.session_laws.proofs.Said.{carried_tied, setup_on}
+use Rattle.session_laws.proofs.Heard.{silent_applied, still_none, told_life, silent_no_end, tame_between}
+use Rattle.session_laws.proofs.Said.{carried_tied, setup_on, IsTame, renoticed}
 
 -- one who leaves closes its story
 --
@@ -245,7 +245,7 @@ left_lines table story requests link waiting admitted p started closed names l o
 pub left_life : (l : Ledger) (created : ℕ) (life : Life) (p : ℕ) → TiedLife l created life → TiedLife (record l { heard = silence }) created (cancelled_in life p)
 left_life l created Dialing p h = h
 left_life l created (Wanting link) p h = h
-left_life l created (SettingUp link with_user) p h = h
+left_life l created (SettingUp link greeting) p h = h
 left_life l created (Ready link) p h = h
 left_life l created (Ended e) p h = h
 
@@ -253,7 +253,7 @@ left_life l created (Ended e) p h = h
 pub left_creds : (c : Sourced) (wants : Bool) (life : Life) (p : ℕ) → TiedCreds c wants life → TiedCreds c wants (cancelled_in life p)
 left_creds c wants Dialing p h = h
 left_creds c wants (Wanting link) p h = h
-left_creds c wants (SettingUp link with_user) p h = h
+left_creds c wants (SettingUp link greeting) p h = h
 left_creds c wants (Ready link) p h = record { wanted_is = h.wanted_is; sought = h.sought }
 left_creds c wants (Ended e) p h = h
 
@@ -261,7 +261,7 @@ left_creds c wants (Ended e) p h = h
 pub left_renewal : (l : Ledger) (r : Renewal) (life : Life) (p : ℕ) → TiedRenewal l r life → TiedRenewal l r (cancelled_in life p)
 left_renewal l r Dialing p h = h
 left_renewal l r (Wanting link) p h = h
-left_renewal l r (SettingUp link with_user) p h = h
+left_renewal l r (SettingUp link greeting) p h = h
 left_renewal l r (Ready link) p h = h
 left_renewal l r (Ended e) p h = h
 
@@ -269,7 +269,7 @@ left_renewal l r (Ended e) p h = h
 pub left_setup : (l : Ledger) (info : RedisConnectionInfo) (started : List ℕ) (life : Life) (p : ℕ) → TiedSetup l info started life → TiedSetup (record l { heard = silence }) info started (cancelled_in life p)
 left_setup l info started Dialing p h = setup_on l l.asked l.up l.end l.taken l.offer l.rest silence info started Dialing h
 left_setup l info started (Wanting link) p h = setup_on l l.asked l.up l.end l.taken l.offer l.rest silence info started (Wanting link) h
-left_setup l info started (SettingUp link with_user) p h = setup_on l l.asked l.up l.end l.taken l.offer l.rest silence info started (SettingUp link with_user) h
+left_setup l info started (SettingUp link greeting) p h = setup_on l l.asked l.up l.end l.taken l.offer l.rest silence info started (SettingUp link greeting) h
 left_setup l info started (Ready link) p h = let k = setup_on l l.asked l.up l.end l.taken l.offer l.rest silence info started (Ready link) h in record { info_is = k.info_is; sent = k.sent; said = k.said }
 left_setup l info started (Ended e) p h = setup_on l l.asked l.up l.end l.taken l.offer l.rest silence info started (Ended e) h
 
@@ -278,7 +278,7 @@ pub left_link : (requests : List Request) (l : Ledger) (life : Life) (p : ℕ) �
     → TiedLink (carried (cancelled_in life p) requests) (record l { heard = silence }) (whole_link (cancelled_in life p))
 left_link requests l Dialing p h n = told_tied (owner_of requests) l (whole_link Dialing) l.asked l.up silence (h refl)
 left_link requests l (Wanting link) p h n = told_tied (λ (q : ℕ). owner.Setup) l link l.asked l.up silence (h refl)
-left_link requests l (SettingUp link with_user) p h n = told_tied (λ (q : ℕ). owner.Setup) l link l.asked l.up silence (h refl)
+left_link requests l (SettingUp link greeting) p h n = told_tied (λ (q : ℕ). greeter greeting) l link l.asked l.up silence (h refl)
 left_link requests l (Ready link) p h n = told_tied (owner_of requests) l (cancelled link p) l.asked l.up silence (cancelled_tied (owner_of requests) l link p (h refl))
 left_link requests l (Ended e) p h n = cc
 
@@ -286,7 +286,7 @@ left_link requests l (Ended e) p h n = cc
 pub still_dials : (life : Life) (p : ℕ) → cancelled_in life p ≡ Dialing → life ≡ Dialing
 still_dials Dialing p e = refl
 still_dials (Wanting link) p e = cc
-still_dials (SettingUp link with_user) p e = cc
+still_dials (SettingUp link greeting) p e = cc
 still_dials (Ready link) p e = cc
 still_dials (Ended x) p e = cc
 
@@ -294,7 +294,7 @@ still_dials (Ended x) p e = cc
 pub was_ready : (life : Life) (p : ℕ) → WasReady life (cancelled_in life p)
 was_ready Dialing p x e = cc
 was_ready (Wanting link) p x e = cc
-was_ready (SettingUp link with_user) p x e = cc
+was_ready (SettingUp link greeting) p x e = cc
 was_ready (Ready link) p x e = (link, refl)
 was_ready (Ended y) p x e = cc
 
@@ -302,7 +302,7 @@ was_ready (Ended y) p x e = cc
 pub was_wanting : (life : Life) (p : ℕ) → WasWanting life (cancelled_in life p)
 was_wanting Dialing p x e = cc
 was_wanting (Wanting link) p x e = (x, e)
-was_wanting (SettingUp link with_user) p x e = cc
+was_wanting (SettingUp link greeting) p x e = cc
 was_wanting (Ready link) p x e = cc
 was_wanting (Ended y) p x e = cc
 
@@ -310,7 +310,7 @@ was_wanting (Ended y) p x e = cc
 pub was_setting : (life : Life) (p : ℕ) → WasSettingUp life (cancelled_in life p)
 was_setting Dialing p x u e = cc
 was_setting (Wanting link) p x u e = cc
-was_setting (SettingUp link with_user) p x u e = (x, e)
+was_setting (SettingUp link greeting) p x u e = (x, e)
 was_setting (Ready link) p x u e = cc
 was_setting (Ended y) p x u e = cc
 
@@ -332,7 +332,7 @@ left_lines_in table story requests life waiting admitted p started closed names 
     by_life (Ready link) r h = left_lines table story requests link waiting admitted p started closed names l other asked c (r refl) h
     by_life Dialing r h = bare h
     by_life (Wanting link) r h = bare h
-    by_life (SettingUp link with_user) r h = bare h
+    by_life (SettingUp link greeting) r h = bare h
     by_life (Ended e) r h = bare h
 
 -- who was told is none that leaves, and is in the queue still
@@ -350,7 +350,7 @@ left_told story requests life p asked h = by_life life h
     by_life (Ready link) g n = told_closed story requests p (λ m. left (story m)) link (cancelled link p) own (λ q is i. without_others link.queue p q (other q is) i) (g refl)
     by_life Dialing g n = told_closed story requests p (λ m. left (story m)) no_link no_link own (λ q is i. i) (g refl)
     by_life (Wanting link) g n = told_closed story requests p (λ m. left (story m)) no_link no_link own (λ q is i. i) (g refl)
-    by_life (SettingUp link with_user) g n = told_closed story requests p (λ m. left (story m)) no_link no_link own (λ q is i. i) (g refl)
+    by_life (SettingUp link greeting) g n = told_closed story requests p (λ m. left (story m)) no_link no_link own (λ q is i. i) (g refl)
     by_life (Ended e) g n = cc
 
 -- those that are awaited in the queue then are others
@@ -361,7 +361,7 @@ left_others requests (Ready link) ys p lo r q i =
     ((λ same. without_apart link.queue ys p lo (length requests) r (subst (λ n. IsIn n (awaited_ids (without link.queue p))) (sym same) i)), k.1, was)
 left_others requests Dialing ys p lo r q i = absurd i
 left_others requests (Wanting link) ys p lo r q i = absurd i
-left_others requests (SettingUp link with_user) ys p lo r q i = absurd i
+left_others requests (SettingUp link greeting) ys p lo r q i = absurd i
 left_others requests (Ended e) ys p lo r q i = absurd i
 
 -- the link is fit
@@ -373,11 +373,11 @@ left_fit c free requests (Wanting link) p is h = record {
   link = λ x e. cc;
   none = λ n. h.none (λ x e. (let no : Wanting link ≡ Ready x = sym is ∙ e in cc));
 }
-left_fit c free requests (SettingUp link with_user) p is h = record {
+left_fit c free requests (SettingUp link greeting) p is h = record {
   wanting = λ x e. cc;
-  setup = λ x u e. let same : link ≡ x = cc in subst (IsFit c.size c.boundary) same (h.setup link with_user is);
+  setup = λ x u e. let same : link ≡ x = cc in subst (IsFit c.size c.boundary) same (h.setup link greeting is);
   link = λ x e. cc;
-  none = λ n. h.none (λ x e. (let no : SettingUp link with_user ≡ Ready x = sym is ∙ e in cc));
+  none = λ n. h.none (λ x e. (let no : SettingUp link greeting ≡ Ready x = sym is ∙ e in cc));
 }
 left_fit c free requests (Ended y) p is h = record { wanting = λ x e. cc; setup = λ x u e. cc; link = λ x e. cc; none = λ n. h.none (λ x e. (let no : Ended y ≡ Ready x = sym is ∙ e in cc)) }
 left_fit c free requests (Ready link) p is h = record {
@@ -403,7 +403,7 @@ none_more n = omega arith
 pub record IsSilent (b : Book) (c : Core) (kind : EventKind) (timeout : Option ℕ) : Type 0 where
   pub silent : (m : ℕ) → news_of b.timers b.sources m kind ≡ silence
   pub none : submitted_by kind ≡ 0
-  pub time : timeout_after b.timeout kind ≡ timeout
+  pub time : timeout_after (kind_in b.config) b.timeout kind ≡ timeout
   pub shut : (b.shut || shuts kind) ≡ (c.shut || is_shutdown kind)
 
 -- the core of its turn
@@ -427,22 +427,24 @@ silent_numbers b c started word kind timeout story free life requests pending q 
   within = h.numbers.within;
   few = h.numbers.few;
   settings = record { size_is = h.numbers.settings.size_is; bound_is = h.numbers.settings.bound_is; limit_is = h.numbers.settings.limit_is; some = h.numbers.settings.some; limited = h.numbers.settings.limited };
+  kind_is = h.numbers.kind_is;
+  quiet = h.numbers.quiet;
   one = h.numbers.one;
   only = h.numbers.only;
 }
 
 -- all other links stay unknown
 pub silent_others : (b : Book) (c : Core) (kind : EventKind) (timeout : Option ℕ) (m : ℕ) → IsSilent b c kind timeout → IsUnknown (b.link m) → IsUnknown (noted (b.link m) (hears c.turns (news_of b.timers b.sources m kind)))
-silent_others b c kind timeout m q u = subst (λ (x : News). IsUnknown (noted (b.link m) (hears c.turns x))) (sym (q.silent m)) (record { asked = u.asked; up = u.up; end = u.end; starts = u.starts; pushes = u.pushes })
+silent_others b c kind timeout m q u = subst (λ (x : News). IsUnknown (noted (b.link m) (hears c.turns x))) (sym (q.silent m)) (record { asked = u.asked; up = u.up; end = u.end; starts = u.starts; notices = u.notices })
 
 -- no link must end
 pub silent_ends : (b : Book) (c : Core) (kind : EventKind) (timeout : Option ℕ) → IsSilent b c kind timeout → NoneEnds b → (m : ℕ) → ending (noted (b.link m) (hears c.turns (news_of b.timers b.sources m kind))) ≡ None
 silent_ends b c kind timeout q none m = ap (λ (x : News). ending (noted (b.link m) (hears c.turns x))) (q.silent m) ∙ silent_no_end (b.link m) c.turns (none m)
 
 -- where nothing else changes, the session is tied as it was
-pub still_tied : (b : Book) (c : Core) (started : List ℕ) (word : ℕ) (kind : EventKind) (timeout : Option ℕ) → IsSilent b c kind timeout → ((m : ℕ) → after_event b m kind ≡ b.story m) → Tied b (inner c started)
+pub still_tied : (b : Book) (c : Core) (started : List ℕ) (word : ℕ) (kind : EventKind) (timeout : Option ℕ) → IsSilent b c kind timeout → ((m : ℕ) → after_event b m kind ≡ b.story m) → Tied b (inner c started) → IsTame (b.link c.single.link)
     → Tied (entered b (turn_of c word kind)) (seen (silent_core c kind timeout) [] c.single.connection [] started)
-still_tied b c started word kind timeout q same h =
+still_tied b c started word kind timeout q same h tame =
     let conn = c.single.connection in
     let ledger = b.link c.single.link in
     let now = entered b (turn_of c word kind) in
@@ -453,7 +455,7 @@ still_tied b c started word kind timeout q same h =
     (tied_by (record now { story = b.story }) t (record ledger { heard = silence }) heard (record {
       numbers = silent_numbers b c started word kind timeout b.story conn.free conn.life conn.requests [] q h;
       others = λ m other. silent_others b c kind timeout m q (h.others m other);
-      pushes = h.pushes;
+      notices = renoticed tame h.notices;
       life = told_life ledger b.created conn.life silence h.life;
       creds = h.creds;
       count = counted_on c.sources ledger.creds h.count;
@@ -462,7 +464,7 @@ still_tied b c started word kind timeout q same h =
       link = λ alive. told_tied (carried conn.life conn.requests) ledger (whole_link conn.life) ledger.asked ledger.up silence (h.link alive);
       names = h.names;
       story = h.story;
-      tries = record { owners = h.tries.owners; shapes = h.tries.shapes; tried = h.tries.tried; untried = h.tries.untried };
+      tries = record { owners = h.tries.owners; greeted = h.tries.greeted; shapes = h.tries.shapes; tried = h.tries.tried; untried = h.tries.untried };
       lines = h.lines;
       told = h.told;
       waits = h.waits;
@@ -472,12 +474,12 @@ still_tied b c started word kind timeout q same h =
 
 -- a leave is silent
 leave_silent : (b : Book) (c : Core) (started n : ℕ) (line : List ℕ) → Tied b (inner c line) → IsSilent b c (event.Cancel n) c.timeout
-leave_silent b c started n line h = record { silent = λ m. refl; none = refl; time = h.numbers.timeout; shut = ap (λ s. s || false) h.numbers.shut }
+leave_silent b c started n line h = record { silent = λ m. refl; none = refl; time = time_still (kind_in b.config) b.timeout (event.Cancel n) tt ∙ h.numbers.timeout; shut = ap (λ s. s || false) h.numbers.shut }
 
 -- an open one has gone
-gone_tied : (b : Book) (c : Core) (started : List ℕ) (word p n : ℕ) → Tied b (inner c started) → is_open_at c.single.connection.requests p ≡ true → name_at c.single.connection.requests p ≡ n
+gone_tied : (b : Book) (c : Core) (started : List ℕ) (word p n : ℕ) → Tied b (inner c started) → IsTame (b.link c.single.link) → is_open_at c.single.connection.requests p ≡ true → name_at c.single.connection.requests p ≡ n
     → Tied (entered b (turn_of c word (event.Cancel n))) (seen (turned c (event.Cancel n)) [] (record (closed_conn c.single.connection p) { life = cancelled_in c.single.connection.life p }) [] started)
-gone_tied b c started word p n h o named =
+gone_tied b c started word p n h tame o named =
     let conn = c.single.connection in
     let requests = with_permits conn.requests p progress.Closed 0 in
     let free = given_back conn.limit conn.free (permits_at conn.requests p) in
@@ -495,8 +497,8 @@ gone_tied b c started word p n h o named =
     subst (λ m. Tied (entered b (turn_of c word (event.Cancel m))) (seen (turned c (event.Cancel m)) [] (record (closed_conn conn p) { life = cancelled_in conn.life p }) [] started)) named
     (record {
       numbers = silent_numbers b c started word (event.Cancel own) c.timeout after free (cancelled_in conn.life p) requests [] (leave_silent b c word own started h) h;
-      others = λ m other. let u = h.others m other in record { asked = u.asked; up = u.up; end = u.end; starts = u.starts; pushes = u.pushes };
-      pushes = h.pushes;
+      others = λ m other. let u = h.others m other in record { asked = u.asked; up = u.up; end = u.end; starts = u.starts; notices = u.notices };
+      notices = renoticed tame h.notices;
       life = left_life ledger b.created conn.life p h.life;
       creds = left_creds ledger.creds conn.renewal.wanted conn.life p h.creds;
       count = counted_on c.sources ledger.creds h.count;
@@ -505,7 +507,7 @@ gone_tied b c started word p n h o named =
       link = λ alive. left_link requests ledger conn.life p (λ up. carried_tied conn.life conn.requests requests ledger (sym (owners_with conn.requests p progress.Closed 0)) (h.link up)) alive;
       names = names_with c.table conn.requests p progress.Closed 0 h.names;
       story = λ m. story_closed b.story c.table conn.requests c.single.link p closed m h.names l (leave_frees (b.story own) asked) (k m) (h.story m);
-      tries = tries_closed (record ledger { heard = silence }) b.story conn.requests c.single.link p closed started k (record { owners = h.tries.owners; shapes = h.tries.shapes; tried = h.tries.tried; untried = h.tries.untried });
+      tries = tries_closed (record ledger { heard = silence }) b.story conn.requests c.single.link p closed started k (record { owners = h.tries.owners; greeted = h.tries.greeted; shapes = h.tries.shapes; tried = h.tries.tried; untried = h.tries.untried });
       lines = left_lines_in c.table b.story conn.requests conn.life conn.waiting conn.admitted p started closed h.names l (request_not b (inner c started) p h l) asked k (λ up. row_in_line b (inner c started) h up) h.lines;
       told = left_told b.story conn.requests conn.life p asked h.told;
       waits = waits_closed c.table b.story conn.requests p closed conn.life (cancelled_in conn.life p) conn.fresh conn.moved h.names l (still_dials conn.life p) (was_wanting conn.life p) (was_setting conn.life p) (was_ready conn.life p) (left_others conn.requests conn.life (kept_ids conn.admitted conn.waiting) p 0 line) h.waits;
@@ -530,7 +532,7 @@ cancel_applied before c started word n h good = by_entry (slice_get c.table n) r
 
     still : is_open (b.story n) ≡ false → HasApplied (before ++ turn_of c word (event.Cancel n) ∷ []) (with_work (record { core = turned c (event.Cancel n); acts = [] }) (record { conn = c.single.connection; acts = [] })) started
     still f = silent_applied before c started word (event.Cancel n) (turned c (event.Cancel n)) c.single.connection h good (λ m. silent_no_end (b.link m) c.turns (still_none before c started h m)) (λ z. absurd (omega arith)) h.moved h.fit
-        (still_tied b c started word (event.Cancel n) c.timeout (leave_silent b c word n started h.sound.tied) (stays_left b n f) h.sound.tied)
+        (still_tied b c started word (event.Cancel n) c.timeout (leave_silent b c word n started h.sound.tied) (stays_left b n f) h.sound.tied (tame_between before c started h))
 
     by_entry : (x : Option (Option Pending)) → slice_get c.table n ≡ x → TiedStory (b.story n) c.single.connection.requests c.single.link x → HasApplied (before ++ turn_of c word (event.Cancel n) ∷ []) (left_by (heard (counted c) (event.Cancel n)) x) started
     by_entry None e s = still (ap is_open s)
@@ -543,5 +545,5 @@ cancel_applied before c started word n h good = by_entry (slice_get c.table n) r
         (is_open_at conn.requests p.number) (record (closed_conn conn p.number) { life = cancelled_in conn.life p.number }) conn
         (λ t. silent_applied before c started word (event.Cancel n) (turned c (event.Cancel n)) (record (closed_conn conn p.number) { life = cancelled_in conn.life p.number }) h good
         (λ m. silent_no_end (b.link m) c.turns (still_none before c started h m)) (λ z. absurd (omega arith)) h.moved (left_fit conn (given_back conn.limit conn.free (permits_at conn.requests p.number)) (with_permits conn.requests p.number progress.Closed 0) conn.life p.number refl h.fit)
-        (gone_tied b c started word p.number n h.sound.tied t named))
+        (gone_tied b c started word p.number n h.sound.tied (tame_between before c started h) t named))
         (λ f. still (s.open_is ∙ f))

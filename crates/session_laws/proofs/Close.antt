@@ -21,7 +21,7 @@ use Rattle.mux_conn.specs.declared.request.Request.{Request}
 use Rattle.mux_conn.specs.declared.request.Waiting.{Waiting}
 use Rattle.mux_conn.specs.Connection.{Work, acted, at_life}
 use Rattle.mux_conn.specs.Requests.{is_open_at, name_at}
-use Rattle.mux_conn.specs.Effects.{waiting_failed, nobody_waits, failed_each, settled_each, ended, all_answered, cut_short, parted, pushed}
+use Rattle.mux_conn.specs.Effects.{waiting_failed, nobody_waits, failed_each, settled_each, ended, all_answered, cut_short, parted, noticed}
 use Rattle.shared_session.specs.declared.core_state.Core.{Core}
 use Rattle.shared_session.specs.Turn.{with_work}
 use Rattle.legal_trace.specs.Ledger.{Ledger, Ending, ends, noted, ending, ending_or_shutdown, failure_of, is_fault, is_cut, parts, by_fault}
@@ -34,7 +34,7 @@ use Rattle.session_laws.proofs.Tied.{Inner, no_link, link_in, owner_of, queue_id
 use Rattle.session_laws.proofs.Said.{ready_shown, sources_asked}
 use Rattle.session_laws.proofs.States.{HasApplied}
 use Rattle.session_laws.proofs.InLine.{kept_ids, kept_in, line_of, IsInLine, awaited_rises, awaited_in}
-use Rattle.session_laws.proofs.Owes.{in_time, none_owed, in_line, later_unstarted, owed_none_started, settled_owed, pushes_told, lives}
+use Rattle.session_laws.proofs.Owes.{in_time, none_owed, in_line, later_unstarted, owed_none_started, settled_owed, notices_told, lives}
 use Rattle.session_laws.proofs.Kept.{mine_noted, others_kept, tied_by}
 use Rattle.session_laws.proofs.Answer.{unknown_ends, after_end}
 use Rattle.session_laws.proofs.Settle.{book_of_more, seen, trace_of_acts, Holds, IsAnswering, answering, IsDue, IsDueError, settled_holds, failed_holds, Leaves, leaves_on, settled_leaves, failed_leaves, Parts, sound_told, replied_each, replied_keeps, renewal_over}
@@ -46,6 +46,8 @@ use Rattle.driver_model.specs.declared.news.LinkFault.{LinkFault}
 use Rattle.session_laws.proofs.Names.{open_within, request_not}
 use Rattle.session_laws.proofs.Renewals.{renewal_ended}
 use Rattle.mux_conn.specs.Renewals.{renewing}
+use Rattle.driver_model.specs.Hearing.{hears_pushes}
+use Rattle.driver_model.specs.declared.hearing.Notice.TheVariants as notice
 
 -- the link is closed
 --
@@ -58,7 +60,7 @@ may_close b t why h none told n must = record {
   answered = λ m asked alive. none_owed b t h none n m asked;
   created = ready_shown b t h;
   sourced = sources_asked b t h;
-  pushed = pushes_told b t h told;
+  pushed = notices_told b t h told;
 }
 
 -- the wanted messages of the row and the queue are to be answered
@@ -84,7 +86,7 @@ ended_waits story requests life e fresh moved h = record {
   early = h.early;
   connect = λ p w d. cc;
   creds = λ p link w s. cc;
-  setup = λ p link with_user w s. cc;
+  setup = λ p link greeting w s. cc;
   permit = λ p link w r. cc;
   place = h.place;
   room = λ p i. absurd i;
@@ -92,7 +94,7 @@ ended_waits story requests life e fresh moved h = record {
   rising = h.rising;
   no_connect = λ p i w d. cc;
   no_creds = λ p link i w s. cc;
-  no_setup = λ p link with_user i w s. cc;
+  no_setup = λ p link greeting i w s. cc;
   no_permit = λ p link i w r. cc;
   no_place = h.no_place;
   seatless = h.seatless;
@@ -109,21 +111,23 @@ ends_failed l turn created why must shown e fails = shown e (sym (ap (λ w. fail
 
 -- the session is tied to the book with the end of the link; the creation may be shown with it
 pub close_tied : (b : Book) (t : Inner) (created : ℕ) (why : Ending) (e : RedisError) (parting : Bool) (pending : List ℕ) → pending ≡ requests_in (wanted (link_in t.life).row) ++ awaited_ids (link_in t.life).queue → ending (b.link t.link) ≡ Some why → unstarted_error why ≡ e
-    → ((f : RedisError) → failure_of why ≡ Some f → created ≢ 0) → (t.hears ≡ true → parting ≡ false → is_fault why ≡ false) → has_ended t.life ≡ false → Tied b (record t { pending = []; untold = []; parting = false })
+    → ((f : RedisError) → failure_of why ≡ Some f → created ≢ 0) → (hears_pushes t.hears ≡ true → parting ≡ false → is_fault why ≡ false) → has_ended t.life ≡ false → Tied b (record t { pending = []; untold = []; parting = false })
     → Tied (record (entered b (action.Close t.link)) { created = created }) (record t { life = Ended e; pending = pending; untold = []; parting = parting })
 close_tied b t created why e parting pending ids must is shown mild up h =
     let turn = b.turns - 1 in
     let after = record (entered b (action.Close t.link)) { created = created } in
     tied_by after (record t { life = Ended e; pending = pending; untold = []; parting = parting }) (noted (b.link t.link) (ends turn)) (mine_noted (b.link t.link) t.link (ends turn)) (record {
-      numbers = record { turns = h.numbers.turns; links = h.numbers.links; timers = h.numbers.timers; sources = h.numbers.sources; uses = h.numbers.uses; aims = h.numbers.aims; timed = h.numbers.timed; submissions = h.numbers.submissions; timeout = h.numbers.timeout; shut = h.numbers.shut; within = h.numbers.within; few = h.numbers.few; settings = record { size_is = h.numbers.settings.size_is; bound_is = h.numbers.settings.bound_is; limit_is = h.numbers.settings.limit_is; some = h.numbers.settings.some; limited = h.numbers.settings.limited }; one = h.numbers.one; only = h.numbers.only };
+      numbers = record { turns = h.numbers.turns; links = h.numbers.links; timers = h.numbers.timers; sources = h.numbers.sources; uses = h.numbers.uses; aims = h.numbers.aims; timed = h.numbers.timed; submissions = h.numbers.submissions; timeout = h.numbers.timeout; shut = h.numbers.shut; within = h.numbers.within; few = h.numbers.few; settings = record { size_is = h.numbers.settings.size_is; bound_is = h.numbers.settings.bound_is; limit_is = h.numbers.settings.limit_is; some = h.numbers.settings.some; limited = h.numbers.settings.limited }; kind_is = h.numbers.kind_is; quiet = h.numbers.quiet; one = h.numbers.one; only = h.numbers.only };
       others = others_kept b t.link (ends turn) h.others;
-      pushes = record {
-        heard_is = h.pushes.heard_is;
-        within = h.pushes.within;
-        untold_is = h.pushes.untold_is;
+      notices = record {
+        heard_is = h.notices.heard_is;
+        hearing_is = h.notices.hearing_is;
+        within = h.notices.within;
+        untold_is = h.notices.untold_is;
         parts = λ heard done cut. absurd (not_both (is_fault why) (mild heard done) (sym (ap (λ w. is_fault (ending_or_shutdown w)) must) ∙ cut));
         alive = λ none. cc;
-        due = λ parted. h.pushes.alive (lives (b.link t.link) b.created t.life h.life up);
+        due = λ parted. h.notices.alive (lives (b.link t.link) b.created t.life h.life up);
+        tame = λ none r. cc;
       };
       life = (refl, ends_owed (b.link t.link) turn why e must is, ends_failed (b.link t.link) turn created why must shown);
       creds = record { wanted_is = h.creds.wanted_is; sought = tt };
@@ -133,7 +137,7 @@ close_tied b t created why e parting pending ids must is shown mild up h =
       link = λ n. cc;
       names = h.names;
       story = h.story;
-      tries = record { owners = h.tries.owners; shapes = h.tries.shapes; tried = h.tries.tried; untried = h.tries.untried };
+      tries = record { owners = h.tries.owners; greeted = h.tries.greeted; shapes = h.tries.shapes; tried = h.tries.tried; untried = h.tries.untried };
       lines = close_lines b.story t.requests (link_in t.life) t.waiting t.admitted pending t.started ids h.lines;
       told = λ n. cc;
       waits = ended_waits b.story t.requests t.life e t.fresh t.moved h.waits;
@@ -341,7 +345,7 @@ no_failure e is = cc
 
 -- so is a link that must end; where a fault ends it that somebody hears, this is still to be told
 pub cut_holds : (before : List Action) (f : Core) (w : Work) (row queue : List Settled) (why : Ending) (parting : Bool) (started : List ℕ) → Holds before f w [] started → has_ended w.conn.life ≡ false → unstarted_error why ≡ error.Closed → failure_of why ≡ None
-    → (w.conn.hears ≡ true → parting ≡ false → is_fault why ≡ false)
+    → (hears_pushes w.conn.hears ≡ true → parting ≡ false → is_fault why ≡ false)
     → (let b = book (trace_of_acts before f w.acts) in let l = b.link f.single.link in
     (ending l ≡ Some why) × SettlesAll (owner_of w.conn.requests) (noted l (ends (b.turns - 1))) (link_in w.conn.life) row queue)
     → IsCutShort before f (cut_short w) parting (queue_ids (link_in w.conn.life).queue) row queue started
@@ -380,7 +384,7 @@ all_ends before f w ids row queue started h =
     let later = all_waiting_due c s error.Closed tied h.early owed_end in
     let come = replied_each w.conn.renewal out in
     let kept = replied_keeps w.conn.renewal out in
-    let come_tied : Tied c (record s { renewal = come }) = renewal_over c s come error.Closed kept.0 kept.1 kept.2 h.over tied in
+    let come_tied : Tied c (record s { renewal = come }) = renewal_over c s come error.Closed kept.0 kept.1 kept.2 kept.3 h.over tied in
     let held : Holds before f (renewing w come) ns started = record { stands = h.holds.stands; tied = come_tied } in
     let a = answering before f (renewing w come) (ns ++ []) started (subst (λ ms. Holds before f (renewing w come) ms started) (sym (append-nil ns)) held) (subst (IsInLine w.conn.requests (link_in w.conn.life) w.conn.admitted w.conn.waiting) (sym (append-nil ns)) line) in
     let u = settled_each w out in
@@ -401,13 +405,13 @@ ended_holds before f w row queue why started h alive closes opened mild must =
     all_ends before f (cut_short w) (queue_ids (link_in w.conn.life).queue) row queue started (cut_holds before f w row queue why false started h alive closes opened (λ heard done. mild) must)
 
 -- that it was closed by a fault is told, where somebody hears it
-parts_may : (b : Book) (t : Inner) (e : RedisError) → Tied b t → t.life ≡ Ended e → t.hears ≡ true → t.parting ≡ true → is_cut (b.link t.link).end ≡ true → MayPart b t.link (record { kind = Disconnection; parts = [] })
+parts_may : (b : Book) (t : Inner) (e : RedisError) → Tied b t → t.life ≡ Ended e → hears_pushes t.hears ≡ true → t.parting ≡ true → is_cut (b.link t.link).end ≡ true → MayPart b t.link (record { kind = Disconnection; parts = [] })
 parts_may b t e h over hears due cut =
     let a = after_end b t h (ap has_ended over) in
     record {
-      heard = h.pushes.heard_is ∙ hears;
+      heard = ap hears_pushes h.notices.heard_is ∙ hears;
       ended = cut;
-      once = h.pushes.due due;
+      once = h.notices.due due;
       bare = refl;
       in_order = λ m less other. absurd (not_both (is_cut (b.link m).end) (ap is_cut (h.others m (λ same. absurd (omega arith))).end) other);
       closed = a.0;
@@ -416,8 +420,8 @@ parts_may b t e h over hears due cut =
     }
 
 -- so all are answered then
-pub parted_holds : (before : List Action) (f : Core) (w : Work) (ids : List ℕ) (row queue : List Settled) (started : List ℕ) → w.conn.hears ≡ true → is_cut ((book (trace_of_acts before f w.acts)).link f.single.link).end ≡ true → IsCutShort before f w true ids row queue started
-    → IsCutShort before f (pushed w (record { kind = Disconnection; parts = [] })) false ids row queue started
+pub parted_holds : (before : List Action) (f : Core) (w : Work) (ids : List ℕ) (row queue : List Settled) (started : List ℕ) → hears_pushes w.conn.hears ≡ true → is_cut ((book (trace_of_acts before f w.acts)).link f.single.link).end ≡ true → IsCutShort before f w true ids row queue started
+    → IsCutShort before f (noticed w (notice.Push (record { kind = Disconnection; parts = [] }))) false ids row queue started
 parted_holds before f w ids row queue started hears cut h =
     let info : PushInfo = record { kind = Disconnection; parts = [] } in
     let b = book (trace_of_acts before f w.acts) in
@@ -425,16 +429,18 @@ parted_holds before f w ids row queue started hears cut h =
     let t = record (seen f w.acts w.conn ns started) { parting = true } in
     let l = b.link f.single.link in
     let after = record l { parted = true } in
-    let link_is : (book (trace_of_acts before f (pushed w info).acts)).link f.single.link ≡ after = ap (λ (x : Book). x.link f.single.link) (book_of_more before f w.acts (act.Push info)) ∙ mine_noted l f.single.link parts in
+    let link_is : (book (trace_of_acts before f (noticed w (notice.Push info)).acts)).link f.single.link ≡ after = ap (λ (x : Book). x.link f.single.link) (book_of_more before f w.acts (act.Push info)) ∙ mine_noted l f.single.link parts in
     record {
       holds = sound_told before f w.acts (act.Push info) w.conn [] false ns started h.holds.stands (parts_may b t error.Closed h.holds.tied h.over hears refl cut)
           (push_tied b t info l.told true [] false refl (record {
-            heard_is = h.holds.tied.pushes.heard_is;
-            within = h.holds.tied.pushes.within;
-            untold_is = h.holds.tied.pushes.untold_is;
+            heard_is = h.holds.tied.notices.heard_is;
+            hearing_is = h.holds.tied.notices.hearing_is;
+            within = h.holds.tied.notices.within;
+            untold_is = h.holds.tied.notices.untold_is;
             parts = λ heard done was. refl;
             alive = λ none. absurd (not_both (is_cut l.end) (ap is_cut none) cut);
             due = λ no_more. cc;
+            tame = h.holds.tied.notices.tame;
           }) h.holds.tied);
       over = h.over;
       line = h.line;
@@ -460,11 +466,11 @@ faulted_holds before f w row queue fault started h alive must =
     let ids = queue_ids (link_in w.conn.life).queue in
     let cut : is_cut ((book (trace_of_acts before f v.acts)).link f.single.link).end ≡ true =
     ap (λ (x : Book). is_cut (x.link f.single.link).end) (book_of_more before f w.acts act.Close) ∙ ap (λ (x : Ledger). is_cut x.end) (mine_noted l f.single.link (ends (b.turns - 1))) ∙ ap (λ x. is_fault (ending_or_shutdown x)) must.0 in
-    chosen (λ (x : Work). HasEnded before f (all_answered x (row ++ queue)) error.Closed started) w.conn.hears (pushed v (record { kind = Disconnection; parts = [] })) v
+    chosen (λ (x : Work). HasEnded before f (all_answered x (row ++ queue)) error.Closed started) (hears_pushes w.conn.hears) (noticed v (notice.Push (record { kind = Disconnection; parts = [] }))) v
     (λ t.
-    all_ends before f (pushed v (record { kind = Disconnection; parts = [] })) ids row queue started
+    all_ends before f (noticed v (notice.Push (record { kind = Disconnection; parts = [] }))) ids row queue started
     (parted_holds before f v ids row queue started t cut (cut_holds before f w row queue (by_fault fault) true started h alive refl refl (λ heard done. cc) must)))
-    (λ n. all_ends before f v ids row queue started (cut_holds before f w row queue (by_fault fault) false started h alive refl refl (λ heard done. absurd (not_both w.conn.hears n heard)) must))
+    (λ n. all_ends before f v ids row queue started (cut_holds before f w row queue (by_fault fault) false started h alive refl refl (λ heard done. absurd (not_both (hears_pushes w.conn.hears) n heard)) must))
 
 -- those that were moved in this turn stay
 pub ended_moved : (w : Work) (out : List Settled) → (ended w out).conn.moved ≡ w.conn.moved
@@ -476,8 +482,8 @@ ended_moved w out =
 pub parted_moved : (w : Work) (out : List Settled) → (all_answered (parted (cut_short w)) out).conn.moved ≡ w.conn.moved
 parted_moved w out =
     let v = cut_short w in
-    chosen (λ (x : Work). (all_answered x out).conn.moved ≡ w.conn.moved) v.conn.hears (pushed v (record { kind = Disconnection; parts = [] })) v
-    (λ t. answered_moved (pushed v (record { kind = Disconnection; parts = [] })) out)
+    chosen (λ (x : Work). (all_answered x out).conn.moved ≡ w.conn.moved) (hears_pushes v.conn.hears) (noticed v (notice.Push (record { kind = Disconnection; parts = [] }))) v
+    (λ t. answered_moved (noticed v (notice.Push (record { kind = Disconnection; parts = [] }))) out)
     (λ t. answered_moved v out)
 
 -- so the event has had its effect
@@ -489,7 +495,7 @@ ended_applied before f w e started began none_moved h = record {
   moved = none_moved;
   fit = record {
     wanting = λ link is. (let no : Ended e ≡ Wanting link = sym h.over ∙ is in cc);
-    setup = λ link with_user is. (let no : Ended e ≡ SettingUp link with_user = sym h.over ∙ is in cc);
+    setup = λ link greeting is. (let no : Ended e ≡ SettingUp link greeting = sym h.over ∙ is in cc);
     link = λ link is. (let no : Ended e ≡ Ready link = sym h.over ∙ is in cc);
     none = λ n. h.none_admitted;
   };

@@ -9,6 +9,7 @@ use Rattle.driver_model.specs.declared.outcome.Shape.{Shape}
 use Rattle.link_core.specs.declared.message.Queued.{Queued}
 use Rattle.link_core.specs.Link.{LinkState}
 use Rattle.link_laws.specs.Settles.{awaited_ids}
+use Rattle.mux_conn.specs.declared.life.Greeting.{Greeting}
 use Rattle.mux_conn.specs.declared.life.Life.{Life}
 use Rattle.mux_conn.specs.declared.life.Life.TheVariants.{Dialing, Wanting, SettingUp, Ready}
 use Rattle.mux_conn.specs.declared.request.Pending.{Pending}
@@ -123,7 +124,8 @@ tries_closed l story requests link p closed started c h =
     let after = with_closed story requests p closed in
     let still = name_with requests p progress.Closed 0 in
     record {
-      owners = h.owners ∙ ap (setup_owners (setup_count l.starts)) (sym (owners_each_still requests p started));
+      owners = λ plain. h.owners plain ∙ ap (setup_owners (setup_count l.starts)) (sym (owners_each_still requests p started));
+      greeted = h.greeted;
       shapes = λ k q s w i j. h.shapes k q s (subst (λ n. q < n) (length_with requests p progress.Closed 0) w) i j ∙ ap shape_in (sym (closed_submission story requests p closed (name_at requests q) (c (name_at requests q)))) ∙ ap (λ n. shape (after n)) (sym (still q));
       tried = λ k q w i. ap (λ n. (after n).tries) (still q) ∙ closed_tries story requests p closed (name_at requests q) (c (name_at requests q)) ∙ h.tried k q (subst (λ n. q < n) (length_with requests p progress.Closed 0) w) i;
       untried = λ q r i not_started.
@@ -206,7 +208,7 @@ WasWanting life after = (link : LinkState) → after ≡ Wanting link → (x : L
 
 -- a link that is set up was so before
 abbrev pub WasSettingUp : Life → Life → Type 0
-WasSettingUp life after = (link : LinkState) (with_user : Bool) → after ≡ SettingUp link with_user → (x : LinkState) × (life ≡ SettingUp x with_user)
+WasSettingUp life after = (link : LinkState) (greeting : Greeting) → after ≡ SettingUp link greeting → (x : LinkState) × (life ≡ SettingUp x greeting)
 
 -- the waits of the others stay
 pub waits_closed : (table : List (Option Pending)) (story : ℕ → Story) (requests : List Request) (p : ℕ) (closed : ℕ → Story) (life after : Life) (fresh moved : List ℕ) → TiedNames table requests → p < length requests
@@ -227,10 +229,10 @@ waits_closed table story requests p closed life after fresh moved names l dials 
           let k = waits q w in
           let x = wants link c in
           elim (h.creds q x.0 k.1 x.1) [ inl i ↦ inl i | inr e ↦ inr (same q k.0 (there_within is_waiting requests q k.1) ∙ e) ];
-      setup = λ q link with_user w s.
+      setup = λ q link greeting w s.
           let k = waits q w in
-          let x = sets link with_user s in
-          elim (h.setup q x.0 with_user k.1 x.1) [ inl i ↦ inl i | inr e ↦ inr (same q k.0 (there_within is_waiting requests q k.1) ∙ e) ];
+          let x = sets link greeting s in
+          elim (h.setup q x.0 greeting k.1 x.1) [ inl i ↦ inl i | inr e ↦ inr (same q k.0 (there_within is_waiting requests q k.1) ∙ e) ];
       permit = λ q link w r.
           let k = waits q w in
           let x = ready link r in
@@ -245,7 +247,7 @@ waits_closed table story requests p closed life after fresh moved names l dials 
       rising = subst (Rising 0 moved) (sym (length_with requests p progress.Closed 0)) h.rising;
       no_connect = λ q i w d e. let k = waits q w in h.no_connect q i k.1 (dials d) (sym (same q k.0 (there_within is_waiting requests q k.1)) ∙ e);
       no_creds = λ q link i w c e. let k = waits q w in let x = wants link c in h.no_creds q x.0 i k.1 x.1 (sym (same q k.0 (there_within is_waiting requests q k.1)) ∙ e);
-      no_setup = λ q link with_user i w s e. let k = waits q w in let x = sets link with_user s in h.no_setup q x.0 with_user i k.1 x.1 (sym (same q k.0 (there_within is_waiting requests q k.1)) ∙ e);
+      no_setup = λ q link greeting i w s e. let k = waits q w in let x = sets link greeting s in h.no_setup q x.0 greeting i k.1 x.1 (sym (same q k.0 (there_within is_waiting requests q k.1)) ∙ e);
       no_permit = λ q link i w r e. let k = waits q w in let x = ready link r in h.no_permit q x.0 i k.1 x.1 (sym (same q k.0 (there_within is_waiting requests q k.1)) ∙ e);
       no_place = λ q i a e. let k = admits q a in h.no_place q i k.1 (sym (same q k.0 (there_within is_admitted requests q k.1)) ∙ e);
       seatless = λ q a e. let k = admits q a in h.seatless q k.1 (sym (same q k.0 (there_within is_admitted requests q k.1)) ∙ e);

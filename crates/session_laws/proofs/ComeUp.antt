@@ -22,7 +22,7 @@ use Rattle.mux_conn.specs.declared.act.LinkAct.TheVariants as act
 use Rattle.mux_conn.specs.declared.life.Life.{Life}
 use Rattle.mux_conn.specs.declared.life.Life.TheVariants.{Dialing, Wanting, SettingUp, Ready, Ended}
 use Rattle.mux_conn.specs.Requests.{is_waiting_at}
-use Rattle.mux_conn.specs.Effects.{all_fresh, come_up, made_ready, sets_up, setup_queued, steps_of, numbers_of}
+use Rattle.mux_conn.specs.Effects.{all_fresh, come_up, made_ready, sets_up, setup_queued, steps_of, numbers_of, greeted, setup_id}
 use Rattle.mux_conn.specs.Turn.{early_wait}
 use Rattle.mux_conn.specs.Connection.{Work, is_ready, acted, with_link}
 use Rattle.mux_conn.specs.declared.connection.MultiplexedConnection.{MultiplexedConnection}
@@ -30,12 +30,12 @@ use Rattle.mux_conn.specs.declared.request.Request.{Request}
 use Rattle.mux_conn.specs.declared.request.Waiting.{Waiting}
 use Rattle.shared_session.specs.declared.core_state.Core.{Core}
 use Rattle.shared_session.specs.Turn.{with_work, is_bad, use_after}
-use Rattle.legal_trace.specs.Ledger.{Ledger, Heard, ending, ending_unready, ending_up, is_ready as is_ready_link, lacks_credentials, setup_after, setup_count, setup_steps, Sourced, noted, noted_each, sources, source_due}
-use Rattle.legal_trace.specs.Book.{Book, blank_book, book, entered, use_for, if_mine}
+use Rattle.legal_trace.specs.Ledger.{Ledger, Heard, ending, ending_unready, ending_up, is_ready as is_ready_link, lacks_credentials, setup_after, setup_count, setup_steps, Sourced, noted, noted_each, sources, source_due, Start}
+use Rattle.legal_trace.specs.Book.{Book, blank_book, book, entered, use_for, if_mine, hearing_in}
 use Rattle.legal_trace.specs.Story.{Story}
-use Rattle.legal_trace.specs.Legal.{AllStand, MayBeCreated, is_heard, MayNeed}
-use Rattle.legal_trace.proofs.Setups.{ends_where_set, silent_is_set}
-use Rattle.session_laws.proofs.Tied.{AreSetups, AreQueued, HasCredentials, IsEntry, IsQueued, IsSettingUp, IsSetupDue, IsSetUp, Inner, Tied, TiedLines, TiedPushes, TiedWaits, has_ended, inner, link_in, no_link, owner_of, queue_ids, shown_wait, waiting_ids, AreSought, AreUses, HasSaid, sources_asked_in}
+use Rattle.legal_trace.specs.Legal.{AllStand, MayBeCreated, MayNeed}
+use Rattle.legal_trace.proofs.Setups.{ends_where_set, silent_is_set, silent_is_greeted}
+use Rattle.session_laws.proofs.Tied.{AreSetups, AreQueued, HasCredentials, IsEntry, IsQueued, IsSettingUp, IsSetupDue, IsSetUp, Inner, Tied, TiedLines, TiedNotices, TiedWaits, has_ended, inner, link_in, no_link, owner_of, queue_ids, shown_wait, waiting_ids, AreSought, AreUses, HasSaid, sources_asked_in, is_reading, AreSetupsAlone, IsWatching, greeting_at, owners_of, setup_owners, watch_queued}
 use Rattle.session_laws.proofs.States.{Between, HasApplied, IsFit, IsFitIn}
 use Rattle.session_laws.proofs.Creds.{has_credentials, IsOfRenewals, down_sourced}
 use Rattle.session_laws.proofs.Said.{PushesOf, ending_setting, readied, setup_recredited, well_readied}
@@ -48,8 +48,11 @@ use Rattle.session_laws.proofs.Heard.{book_kind, book_news, fresh_applied, heard
 use Rattle.session_laws.proofs.Ahead.{waiting_open}
 use Rattle.session_laws.proofs.Renewals.{early_renewal, renewed_first}
 use Rattle.session_laws.proofs.Kept.{mine_noted, others_kept}
-use Rattle.std.proofs.lemmas.List.{length_push}
+use Rattle.std.proofs.lemmas.List.{length_push, nil_from_length}
 use Rattle.session_laws.proofs.Failing.{unstarted_owed}
+use Rattle.mux_conn.specs.declared.life.Greeting.TheVariants as greet
+use Rattle.mux_conn.specs.declared.life.Greeting.{Greeting}
+use Rattle.driver_model.specs.Hearing.{is_watching}
 
 -- the waits
 --
@@ -89,7 +92,7 @@ fresh_rises b t h =
 shown_early : (b : Book) (t : Inner) (p : ℕ) (life : Life) → Tied b t → t.fresh ≡ [] → t.life ≡ life → is_ready life ≡ false → has_ended life ≡ false → is_waiting_at t.requests p ≡ true → shown_wait b.story t.requests p ≡ Some (early_wait life)
 shown_early b t p Dialing h none e f g w = elim (h.waits.connect p w e) [ inl i ↦ absurd (subst (IsIn p) none i) | inr s ↦ s ]
 shown_early b t p (Wanting link) h none e f g w = elim (h.waits.creds p link w e) [ inl i ↦ absurd (subst (IsIn p) none i) | inr s ↦ s ]
-shown_early b t p (SettingUp link with_user) h none e f g w = elim (h.waits.setup p link with_user w e) [ inl i ↦ absurd (subst (IsIn p) none i) | inr s ↦ s ]
+shown_early b t p (SettingUp link greeting) h none e f g w = elim (h.waits.setup p link greeting w e) [ inl i ↦ absurd (subst (IsIn p) none i) | inr s ↦ s ]
 shown_early b t p (Ready link) h none e f g w = cc
 shown_early b t p (Ended x) h none e f g w = cc
 
@@ -154,7 +157,7 @@ pub record IsEarly (life : Life) (after : WaitKind) : Type 0 where
 early_started : (l : Ledger) (started : List ℕ) (life : Life) → is_ready life ≡ false → has_ended life ≡ false → HasSaid l started life → started ≡ []
 early_started l started Dialing unready alive h = h.1
 early_started l started (Wanting link) unready alive h = h.1
-early_started l started (SettingUp link with_user) unready alive h = h.0
+early_started l started (SettingUp link greeting) unready alive h = h.0
 early_started l started (Ready link) unready alive h = cc
 early_started l started (Ended e) unready alive h = cc
 
@@ -162,7 +165,7 @@ early_started l started (Ended e) unready alive h = cc
 pub early_sources : (c : Sourced) (life : Life) → is_ready life ≡ false → has_ended life ≡ false → AreSought c life → c.renews ≡ false
 early_sources c Dialing unready alive h = h.2
 early_sources c (Wanting link) unready alive h = h.3
-early_sources c (SettingUp link with_user) unready alive h = h.1
+early_sources c (SettingUp link greeting) unready alive h = h.1
 early_sources c (Ready link) unready alive h = cc
 early_sources c (Ended e) unready alive h = cc
 
@@ -173,7 +176,7 @@ pub record IsReadied (b : Book) (c : Core) (l : Ledger) (info : RedisConnectionI
   pub wanted_is : l.creds.wanted ≡ c.single.connection.renewal.wanted
   pub has : HasCredentials l.creds
   pub made : IsMade l b.created c.single.connection.requests link
-  pub pushes : TiedPushes (is_heard b) c.single.connection.hears l.pushes l.told l.end l.parted untold false
+  pub notices : TiedNotices (hearing_in b.config) c.single.connection.hears l.hearing l.notices l.told l.end l.parted l.strange (is_reading l) untold false
 
 -- what the session needs of it, also where a second source is asked for
 readied_comes : (b : Book) (c : Core) (started : List ℕ) (n : News) (info : RedisConnectionInfo) (link : LinkState) (untold : List Heard) (more : Bool) → Tied b (inner c started) → IsFitIn c.single.connection → c.single.connection.fresh ≡ [] → (IsOfRenewals n → ⊥) → IsEarly c.single.connection.life wait.Permit
@@ -216,7 +219,7 @@ readied_comes b c started n info link untold more h0 fit no_fresh other early fa
       lines = bare_lines b.story conn.requests link conn.waiting conn.admitted started made.queue made.row (subst (λ (x : LinkState). TiedLines b.story conn.requests x conn.waiting conn.admitted [] started) early.bare h0.lines);
       told = λ z m told none. absurd (let q = subst (λ (x : LinkState). AreQueued b.story conn.requests x) early.bare (h0.told early.alive) m told none in q.3);
       waits = fresh_waits b (inner c started) conn.life (Ready link) h0 refl nobody no_fresh refl early.bare early.unready early.alive early.other made.queue;
-      pushes = facts.pushes;
+      notices = facts.notices;
     }
 
 -- the creation may be shown then
@@ -402,45 +405,49 @@ says_same l info is = ap (λ (x : RedisConnectionInfo). says_nothing (setup x tr
 -- nothing is to be said: it is ready
 comes_ready : (before : List Action) (c : Core) (started : List ℕ) (word : ℕ) (kind : EventKind) (n : News) (info : RedisConnectionInfo) (link : LinkState) → Between before c started → is_bad c kind ≡ false → IsNewsKind c.timers kind → news_of c.timers c.sources c.single.link kind ≡ n
     → (IsOfRenewals n → ⊥) → IsEarly c.single.connection.life wait.Permit
-    → (let l = heard_by (book before) c n in IsUpNow l (book before).created c.single.connection info started link → HasCredentials l.creds → PushesOf (is_heard (book before)) c.single.connection.hears l → ((more : Bool) → ending_up (readied more l) n ≡ None)
-    → says_nothing (setup info true) ≡ true
+    → (let l = heard_by (book before) c n in IsUpNow l (book before).created c.single.connection info started link → HasCredentials l.creds → PushesOf (hearing_in (book before).config) c.single.connection.hears l → ((more : Bool) → ending_up (readied more l) n ≡ None)
+    → says_nothing (setup info true) ≡ true → is_watching c.single.connection.hears ≡ false
     → HasApplied (before ++ turn_of c word kind ∷ []) (with_work (record { core = turned c kind; acts = [] }) (made_ready (record { conn = record c.single.connection { info = info }; acts = [] }) link)) started)
-comes_ready before c started word kind n info link h good k is other early u has pushes calm nothing =
+comes_ready before c started word kind n info link h good k is other early u has notices calm nothing plain =
     let conn = record c.single.connection { info = info } in
     let l = heard_by (book before) c n in
     let more = c.single.connection.renewal.wanted in
     let silent : says_nothing (setup_steps l 0) ≡ true = says_same l info u.info_is ∙ nothing in
-    let said : IsSetUp l = record { well = silent_is_set l (has_credentials l.creds has) silent; none = λ t. ap setup_count u.starts } in
+    let said : IsSetUp l = record { well = silent_is_set l (ap is_watching notices.hearing_is ∙ plain) (has_credentials l.creds has) silent; none = λ t. ap setup_count u.starts } in
     let made : IsMade l (book before).created conn.requests link = record { asked = u.asked; up = u.up; alive = u.alive; unshown = u.unshown; said = said; tied = u.tied (owner_of conn.requests); queue = u.queue; row = u.row } in
     ready_applied (before ++ turn_of c word kind ∷ []) (turned c kind) conn link (readied more l) started (λ z. absurd (omega arith)) h.moved u.fit (ends_where_set (readied more l) u.up (well_readied more l ∙ said.well) ∙ calm more)
-    (makes_ready before c started word kind n info link [] h good k is other early (record { info_is = u.info_is; sent = u.sent; wanted_is = u.wanted_is; has = has; made = made; pushes = pushes }))
+    (makes_ready before c started word kind n info link [] h good k is other early (record { info_is = u.info_is; sent = u.sent; wanted_is = u.wanted_is; has = has; made = made; notices = notices }))
+
+-- on a link on which nothing has started setups stand alone
+bare_alone : (l : Ledger) → l.starts ≡ [] → AreSetupsAlone l
+bare_alone l none = ap owners_of none ∙ ap (λ (ss : List Start). setup_owners (setup_count ss) []) (sym none)
 
 -- or its setup is to start
 comes_to_say : (before : List Action) (c : Core) (started : List ℕ) (word : ℕ) (kind : EventKind) (n : News) (info : RedisConnectionInfo) (link : LinkState) → Between before c started → is_bad c kind ≡ false → IsNewsKind c.timers kind → news_of c.timers c.sources c.single.link kind ≡ n
     → (IsOfRenewals n → ⊥) → IsEarly c.single.connection.life wait.Setup
-    → (let l = heard_by (book before) c n in IsUpNow l (book before).created c.single.connection info started link → HasCredentials l.creds → PushesOf (is_heard (book before)) c.single.connection.hears l → ending_unready l n ≡ None
+    → (let l = heard_by (book before) c n in IsUpNow l (book before).created c.single.connection info started link → HasCredentials l.creds → PushesOf (hearing_in (book before).config) c.single.connection.hears l → ending_unready l n ≡ None
     → says_nothing (setup info true) ≡ false
-    → HasApplied (before ++ turn_of c word kind ∷ []) (with_work (record { core = turned c kind; acts = [] }) (sets_up (all_fresh (record { conn = record c.single.connection { info = info }; acts = [] })) link true)) started)
-comes_to_say before c started word kind n info link h good k is other early u has pushes calm something =
+    → HasApplied (before ++ turn_of c word kind ∷ []) (with_work (record { core = turned c kind; acts = [] }) (sets_up (all_fresh (record { conn = record c.single.connection { info = info }; acts = [] })) link greet.WithUser)) started)
+comes_to_say before c started word kind n info link h good k is other early u has notices calm something =
     let b = book before in
     let h0 = h.sound.tied in
     let conn = c.single.connection in
     let l = heard_by b c n in
-    let q = setup_queued (setup info true) true in
+    let q = setup_queued (setup info true) (setup_id greet.WithUser) in
     let next = enqueued link q in
-    let life = SettingUp next true in
+    let life = SettingUp next greet.WithUser in
     let given : lacks_credentials l ≡ false = has_credentials l.creds has in
     let says : says_nothing (setup_steps l 0) ≡ false = says_same l info u.info_is ∙ something in
     let count : setup_count l.starts ≡ 0 = ap setup_count u.starts in
     let nobody = h.fit.none (λ x r. not_both (is_ready conn.life) early.unready (ap is_ready r)) in
-    let due : IsSetupDue l next true = record {
+    let due : IsSetupDue l next greet.WithUser = record {
       due = subst (λ m. setup_after l m ≡ Some m) (sym count) (left_if (lacks_credentials l || says_nothing (setup_steps l 0)) None (Some 0) (λ i. given i || says i));
-      user = subst (λ m. true ≡ (m == 0)) (sym count) refl;
+      user = subst (λ m. greet.WithUser ≡ greeting_at m) (sym count) refl;
       queue = ap (λ (qs : List Queued). qs ++ q ∷ []) u.queue
-          ∙ subst (λ m. q ∷ [] ≡ setup_queued (setup_steps l m) true ∷ []) (sym count) (ap (λ (x : RedisConnectionInfo). setup_queued (setup x true) true ∷ []) (sym u.info_is));
+          ∙ subst (λ m. q ∷ [] ≡ setup_queued (setup_steps l m) (setup_id greet.WithUser) ∷ []) (sym count) (ap (λ (x : RedisConnectionInfo). setup_queued (setup x true) (setup_id greet.WithUser) ∷ []) (sym u.info_is));
       row = u.row;
     } in
-    let said : IsSettingUp l next true = record { says = says; stage = inl due; awaited = subst (AllByRecursion (λ (e : Entry). e.awaited ≡ true)) (sym u.row) tt } in
+    let said : IsSettingUp l next greet.WithUser = record { says = says; alone = bare_alone l u.starts; stage = inl due; awaited = subst (AllByRecursion (λ (e : Entry). e.awaited ≡ true)) (sym u.row) tt } in
     let some = h0.numbers.settings.some in
     let fits : IsFit conn.size conn.boundary next = record {
       sound = u.fit.sound;
@@ -459,9 +466,88 @@ comes_to_say before c started word kind n info link h good k is other early u ha
       lines = subst (λ (x : LinkState). TiedLines b.story conn.requests x conn.waiting conn.admitted [] started) early.bare h0.lines;
       told = λ z. subst (λ (x : LinkState). AreQueued b.story conn.requests x) early.bare (h0.told early.alive);
       waits = fresh_waits b (inner c started) conn.life life h0 refl nobody h.fresh refl early.bare early.unready early.alive early.other refl;
-      pushes = pushes;
+      notices = notices;
     })
-    (ending_setting l next true u.up said ∙ calm)
+    (ending_setting l next greet.WithUser u.up said ∙ calm)
+    (record {
+      wanting = λ x same. cc;
+      setup = λ x w same. (let one : next ≡ x = cc in subst (IsFit conn.size conn.boundary) one fits);
+      link = λ x same. cc;
+      none = λ z. nobody;
+    })
+
+-- where there are no requests nobody waits
+none_wait : (story : ℕ → Story) (requests : List Request) (life : Life) (link : LinkState) (greeting : Greeting) (fresh moved : List ℕ) → requests ≡ [] → TiedWaits story requests life fresh moved → TiedWaits story requests (SettingUp link greeting) fresh moved
+none_wait story requests life link greeting fresh moved empty h = record {
+  early = h.early;
+  connect = λ p w d. absurd (nobody p w);
+  creds = λ p x w d. absurd (nobody p w);
+  setup = λ p x u w d. absurd (nobody p w);
+  permit = λ p x w d. absurd (nobody p w);
+  place = h.place;
+  room = λ p i. absurd i;
+  newer = h.newer;
+  rising = h.rising;
+  no_connect = λ p i w d. absurd (nobody p w);
+  no_creds = λ p x i w d. absurd (nobody p w);
+  no_setup = λ p x u i w d. absurd (nobody p w);
+  no_permit = λ p x i w d. absurd (nobody p w);
+  no_place = h.no_place;
+  seatless = h.seatless;
+  no_room = λ p i j. absurd j;
+}
+  where
+    nobody : (p : ℕ) → is_waiting_at requests p ≡ true → ⊥
+    nobody p w = not_both (is_waiting_at requests p) (ap (λ (rs : List Request). is_waiting_at rs p) empty) w
+
+-- where its server is put into monitor mode there are none
+none_asked : (b : Book) (t : Inner) → Tied b t → is_watching t.hears ≡ true → t.requests ≡ []
+none_asked b t h w = nil_from_length t.requests (let none = ap length (h.numbers.quiet w).none in let few = h.names.few in omega arith)
+
+-- or, where nothing is to be said, MONITOR is
+comes_to_watch : (before : List Action) (c : Core) (started : List ℕ) (word : ℕ) (kind : EventKind) (n : News) (info : RedisConnectionInfo) (link : LinkState) → Between before c started → is_bad c kind ≡ false → IsNewsKind c.timers kind → news_of c.timers c.sources c.single.link kind ≡ n
+    → (IsOfRenewals n → ⊥) → IsEarly c.single.connection.life wait.Setup
+    → (let l = heard_by (book before) c n in IsUpNow l (book before).created c.single.connection info started link → HasCredentials l.creds → PushesOf (hearing_in (book before).config) c.single.connection.hears l → ending_unready l n ≡ None
+    → says_nothing (setup info true) ≡ true → is_watching c.single.connection.hears ≡ true
+    → HasApplied (before ++ turn_of c word kind ∷ []) (with_work (record { core = turned c kind; acts = [] }) (sets_up (record { conn = record c.single.connection { info = info }; acts = [] }) link greet.Monitor)) started)
+comes_to_watch before c started word kind n info link h good k is other early u has notices calm nothing watches =
+    let b = book before in
+    let h0 = h.sound.tied in
+    let conn = c.single.connection in
+    let l = heard_by b c n in
+    let next = enqueued link watch_queued in
+    let life = SettingUp next greet.Monitor in
+    let silent : says_nothing (setup_steps l 0) ≡ true = says_same l info u.info_is ∙ nothing in
+    let count : setup_count l.starts ≡ 0 = ap setup_count u.starts in
+    let nobody = h.fit.none (λ x r. not_both (is_ready conn.life) early.unready (ap is_ready r)) in
+    let said : IsWatching l next = record {
+      watches = ap is_watching notices.hearing_is ∙ watches;
+      greeted = silent_is_greeted l (has_credentials l.creds has) silent;
+      none = λ t. count;
+      stage = inl (record { alone = bare_alone l u.starts; answered = λ j less. absurd (omega (arith, less, count)); queue = ap (λ (qs : List Queued). qs ++ watch_queued ∷ []) u.queue; row = u.row });
+      awaited = subst (AllByRecursion (λ (e : Entry). e.awaited ≡ true)) (sym u.row) tt;
+    } in
+    let some = h0.numbers.settings.some in
+    let fits : IsFit conn.size conn.boundary next = record {
+      sound = u.fit.sound;
+      size_is = u.fit.size_is;
+      bound_is = u.fit.bound_is;
+      within = (let one : length (link.queue ++ watch_queued ∷ []) ≡ 1 = ap (λ (qs : List Queued). length (qs ++ watch_queued ∷ [])) u.queue in omega (arith, some, one));
+    } in
+    fresh_applied before c started word kind n info life conn.fresh h good k is
+    (record {
+      starts = heard_starts (b.link c.single.link) c.turns n;
+      lived = (u.asked, u.up, u.alive, u.unshown);
+      creds = record { wanted_is = u.wanted_is; sought = (has, renews_hear (b.link c.single.link) c.turns n ∙ early_sources (b.link c.single.link).creds conn.life early.unready early.alive h0.creds.sought) };
+      renewal_is = none_hears (b.link c.single.link) c.turns n conn.renewal other (early_renewal (b.link c.single.link) conn.renewal conn.life early.unready early.alive h0.renewal);
+      said = record { info_is = u.info_is; sent = u.sent; said = (u.none, said) };
+      linked = λ z. enqueued_tied _ l link watch_queued (u.tied _);
+      lines = subst (λ (x : LinkState). TiedLines b.story conn.requests x conn.waiting conn.admitted [] started) early.bare h0.lines;
+      told = λ z. subst (λ (x : LinkState). AreQueued b.story conn.requests x) early.bare (h0.told early.alive);
+      waits = none_wait b.story conn.requests conn.life next greet.Monitor conn.fresh conn.moved (none_asked b (inner c started) h0 watches) h0.waits;
+      notices = notices;
+    })
+    (ending_setting l next greet.Monitor u.up said ∙ calm)
     (record {
       wanting = λ x same. cc;
       setup = λ x w same. (let one : next ≡ x = cc in subst (IsFit conn.size conn.boundary) one fits);
@@ -472,11 +558,13 @@ comes_to_say before c started word kind n info link h good k is other early u ha
 -- so it comes up
 pub comes_up : (before : List Action) (c : Core) (started : List ℕ) (word : ℕ) (kind : EventKind) (n : News) (info : RedisConnectionInfo) (link : LinkState) → Between before c started → is_bad c kind ≡ false → IsNewsKind c.timers kind → news_of c.timers c.sources c.single.link kind ≡ n
     → (IsOfRenewals n → ⊥) → IsEarly c.single.connection.life wait.Permit → IsEarly c.single.connection.life wait.Setup
-    → (let l = heard_by (book before) c n in IsUpNow l (book before).created c.single.connection info started link → HasCredentials l.creds → PushesOf (is_heard (book before)) c.single.connection.hears l → ((more : Bool) → ending_up (readied more l) n ≡ None) × (ending_unready l n ≡ None)
+    → (let l = heard_by (book before) c n in IsUpNow l (book before).created c.single.connection info started link → HasCredentials l.creds → PushesOf (hearing_in (book before).config) c.single.connection.hears l → ((more : Bool) → ending_up (readied more l) n ≡ None) × (ending_unready l n ≡ None)
     → HasApplied (before ++ turn_of c word kind ∷ []) (with_work (record { core = turned c kind; acts = [] }) (come_up (record { conn = record c.single.connection { info = info }; acts = [] }) link)) started)
-comes_up before c started word kind n info link h good k is other ready setting u has pushes calm =
+comes_up before c started word kind n info link h good k is other ready setting u has notices calm =
     let w : Work = record { conn = record c.single.connection { info = info }; acts = [] } in
-    chosen (λ (x : Work). HasApplied (before ++ turn_of c word kind ∷ []) (with_work (record { core = turned c kind; acts = [] }) x) started) (says_nothing (steps_of w.conn true))
-    (made_ready w link) (sets_up (all_fresh w) link true)
-    (λ t. comes_ready before c started word kind n info link h good k is other ready u has pushes calm.0 t)
-    (λ f. comes_to_say before c started word kind n info link h good k is other setting u has pushes calm.1 f)
+    chosen (λ (x : Work). HasApplied (before ++ turn_of c word kind ∷ []) (with_work (record { core = turned c kind; acts = [] }) x) started) (says_nothing (steps_of w.conn greet.WithUser))
+    (greeted w link) (sets_up (all_fresh w) link greet.WithUser)
+    (λ t. chosen (λ (x : Work). HasApplied (before ++ turn_of c word kind ∷ []) (with_work (record { core = turned c kind; acts = [] }) x) started) (is_watching w.conn.hears) (sets_up w link greet.Monitor) (made_ready w link)
+    (λ y. comes_to_watch before c started word kind n info link h good k is other setting u has notices calm.1 t y)
+    (λ y. comes_ready before c started word kind n info link h good k is other ready u has notices calm.0 t y))
+    (λ f. comes_to_say before c started word kind n info link h good k is other setting u has notices calm.1 f)

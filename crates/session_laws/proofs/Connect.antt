@@ -12,36 +12,39 @@ use Rattle.driver_model.specs.declared.action.SourceUse.TheVariants as source
 use Rattle.driver_model.specs.declared.action.WaitKind.{WaitKind}
 use Rattle.driver_model.specs.declared.action.WaitKind.TheVariants as wait
 use Rattle.driver_model.specs.declared.event.EventKind.{EventKind}
-use Rattle.driver_model.specs.News.{connected, news_of, News, refused, overdue}
+use Rattle.driver_model.specs.News.{connected, news_of, News, refused, overdue, dropped}
 use Rattle.link_core.specs.Link.{LinkState, fresh}
 use Rattle.link_laws.proofs.TiedLink.{TiedLink, connected_tied, named_tied, sourced_tied}
 use Rattle.link_laws.specs.Settles.{wanted, awaited_ids}
 use Rattle.mux_conn.specs.declared.life.Life.{Life}
 use Rattle.mux_conn.specs.declared.life.Life.TheVariants.{Dialing, Wanting, SettingUp, Ready, Ended}
-use Rattle.mux_conn.specs.Effects.{come_up, comes_to_want, new_link, numbers_of, connected_at, refused_at, overdue_at}
+use Rattle.mux_conn.specs.Effects.{come_up, comes_to_want, new_link, numbers_of, connected_at, refused_at, overdue_at, dropped_at, dropped_by}
 use Rattle.mux_conn.specs.Connection.{Work, is_ready}
 use Rattle.mux_conn.specs.Turn.{early_wait}
 use Rattle.mux_conn.specs.declared.act.LinkAct.TheVariants as act
 use Rattle.shared_session.specs.declared.core_state.Core.{Core}
 use Rattle.shared_session.specs.Turn.{with_work, is_bad, use_after}
-use Rattle.legal_trace.specs.Ledger.{Ledger, hears, lacks_credentials, noted, noted_each, ending, ending_alive, is_over, by_opening, ends, dials, refused_in, failure_in, failure_of, ending_or_shutdown, source_due, sources, is_set_up}
+use Rattle.legal_trace.specs.Ledger.{Ledger, hears, lacks_credentials, noted, noted_each, ending, ending_alive, is_over, by_opening, ends, dials, refused_in, failure_in, failure_of, ending_or_shutdown, source_due, sources, is_set_up, ending_asked}
 use Rattle.legal_trace.specs.Book.{Book, blank_book, book, entered, if_mine, use_for}
 use Rattle.legal_trace.specs.Legal.{AllStand, MayNeed}
 use Rattle.session_laws.proofs.Tied.{AreQueued, AreSought, HasSaid, inner, no_link, link_in, carried, whole_link, owner_of, Tied, TiedLife, TiedLines, has_ended, sources_asked_in}
-use Rattle.session_laws.proofs.Creds.{down_sourced, lacking_undecided}
-use Rattle.session_laws.proofs.Said.{ending_wanting, ready_heard, setting_heard, setup_hears}
+use Rattle.session_laws.proofs.Creds.{down_sourced}
+use Rattle.session_laws.proofs.Said.{ending_wanting, ready_heard, setting_heard, setup_hears, dropped_end}
 use Rattle.session_laws.proofs.Failing.{IsFailing, failing_applied, unready_shown, unstarted_owed}
 use Rattle.session_laws.proofs.States.{IsFit, Between, HasApplied}
 use Rattle.session_laws.proofs.Entered.{all_stand-append, book_more, sound_more, shown_more}
 use Rattle.session_laws.proofs.Settle.{seen, trace_of_acts, book_of_more}
 use Rattle.session_laws.proofs.Announce.{IsNewsKind, comes_as, heard_book, heard_is, heard_starts, heard_tied, heard_tied_by, may_turn, others_heard, turn_of, turned, uses_more, timed_hear}
-use Rattle.session_laws.proofs.Heard.{heard_by, book_kind, book_news, lives_as, none_ends, leads_still, quiet_applied, ended_quiet, pushes_still, none_hears}
-use Rattle.session_laws.proofs.End.{up_tied, setting_tied, setting_overdue, wanting_tied, wanting_overdue, plain_begins}
+use Rattle.session_laws.proofs.Heard.{heard_by, book_kind, book_news, lives_as, none_ends, leads_still, quiet_applied, ended_quiet, pushes_still, none_hears, still_none}
+use Rattle.session_laws.proofs.End.{up_tied, setting_tied, setting_overdue, wanting_tied, wanting_overdue, plain_begins, IsPlain, dropped_up, plain_is}
 use Rattle.session_laws.proofs.Kept.{mine_noted, others_kept}
 use Rattle.session_laws.proofs.Close.{may_close, close_tied, ended_waits}
 use Rattle.session_laws.proofs.ComeUp.{IsEarly, IsUpNow, comes_up, fresh_waits}
 use Rattle.session_laws.proofs.Renewals.{renewal_ended, early_renewal}
 use Rattle.session_laws.proofs.Numbers.{requests_in}
+use Rattle.session_laws.proofs.SetUp.{lacking_unset}
+use Rattle.driver_model.specs.Hearing.{hears_messages}
+use Rattle.redis_error.specs.declared.redis_error.RedisError.{RedisError}
 
 -- news of no account
 --
@@ -177,14 +180,14 @@ connected_wants before c started word kind h good k is e wants =
       lines = subst (λ (x : LinkState). TiedLines b.story conn.requests x conn.waiting conn.admitted [] started) early.bare h0.lines;
       told = λ z. subst (λ (x : LinkState). AreQueued b.story conn.requests x) early.bare (h0.told early.alive);
       waits = fresh_waits b (inner c started) conn.life life h0 refl nobody h.fresh refl early.bare early.unready early.alive early.other refl;
-      pushes = pushes_still before c started connected h (inl tt);
+      notices = pushes_still before c started connected h (inl tt);
     }) in
     let may : MayNeed now (length c.sources) mine = record {
       due = ap source_due own ∙ (λ i. u.up i && wanted_is i && (not (unasked i) || (is_set_up l && not l.creds.renews)));
       next = ap length (sym h0.numbers.sources);
       in_order = λ m less. down_sourced (now.link m) (others m (λ one. omega arith)).up;
       answered = unstarted_owed b now c started h0 u.none (λ m. refl) (ap (λ (y : Ledger). y.end) own ∙ u.alive);
-      created = unready_shown now mine l own others (lacking_undecided l lacks).unwell;
+      created = unready_shown now mine l own others (lacking_unset l lacks).unset;
     } in
     let book_is : book front ≡ now = book_more before (turn_of c word kind) ∙ heard_is b c.turns word kind (book_kind b c kind h0.numbers.timers k) in
     let all : AllStand blank_book front = all_stand-append before (turn_of c word kind ∷ []) h.sound.stands (may_turn before c started word kind h good, tt) in
@@ -225,9 +228,9 @@ connected_applied before c started word kind h good k is = by_life c.single.conn
     by_life (Wanting link) e =
         let s = wanting_tied (book before) (inner c started) link e h.sound.tied in
         again s.up s.alive (ending_wanting (record l { heard = connected }) s.up s.lacks)
-    by_life (SettingUp link with_user) e =
-        let s = setting_tied (book before) (inner c started) link with_user e h.sound.tied in
-        again s.up s.alive (setting_heard l connected link with_user s.up s.said)
+    by_life (SettingUp link greeting) e =
+        let s = setting_tied (book before) (inner c started) link greeting e h.sound.tied in
+        again s.up s.alive (setting_heard l connected link greeting s.up s.said)
     by_life (Ready link) e =
         let u = up_tied (book before) (inner c started) link e h.sound.tied in
         again u.up u.alive (ready_heard l connected u.up u.well)
@@ -271,7 +274,7 @@ refused_fails before c started word kind f h good k is e =
       lines = subst (λ (x : Life). TiedLines b.story conn.requests (link_in x) conn.waiting conn.admitted [] started) e h0.lines;
       told = λ n. cc;
       waits = ended_waits b.story conn.requests conn.life (error.Io f) conn.fresh conn.moved h0.waits;
-      pushes = pushes_still before c started (refused f) h (inl tt);
+      notices = pushes_still before c started (refused f) h (inl tt);
     }) in
     let book_is : book front ≡ now = book_more before (turn_of c word kind) ∙ heard_is b c.turns word kind (book_kind b c kind h0.numbers.timers k) in
     record {
@@ -314,9 +317,9 @@ refused_applied before c started word kind f h good k is = by_life c.single.conn
     by_life (Wanting link) e =
         let s = wanting_tied (book before) (inner c started) link e h.sound.tied in
         late s.up (ending_wanting (record l { heard = refused f }) s.up s.lacks)
-    by_life (SettingUp link with_user) e =
-        let s = setting_tied (book before) (inner c started) link with_user e h.sound.tied in
-        late s.up (setting_heard l (refused f) link with_user s.up s.said)
+    by_life (SettingUp link greeting) e =
+        let s = setting_tied (book before) (inner c started) link greeting e h.sound.tied in
+        late s.up (setting_heard l (refused f) link greeting s.up s.said)
     by_life (Ready link) e =
         let u = up_tied (book before) (inner c started) link e h.sound.tied in
         late u.up (ready_heard l (refused f) u.up u.well)
@@ -325,23 +328,22 @@ refused_applied before c started word kind f h good k is = by_life c.single.conn
 -- a connect that isn't answered in time
 --
 -- the link is closed, and its opening has failed
-overdue_fails : (before : List Action) (c : Core) (started : List ℕ) (word : ℕ) (kind : EventKind) → Between before c started → is_bad c kind ≡ false → IsNewsKind c.timers kind → news_of c.timers c.sources c.single.link kind ≡ overdue → c.single.connection.life ≡ Dialing
-    → IsFailing (trace_of_acts (before ++ turn_of c word kind ∷ []) (turned c kind) (act.Close ∷ [])) (turned c kind) (act.Close ∷ []) c.single.connection (error.Io kinds.TimedOut) started
-overdue_fails before c started word kind h good k is e =
+closing_fails : (before : List Action) (c : Core) (started : List ℕ) (word : ℕ) (kind : EventKind) (n : News) (x : RedisError) → IsPlain n → (let l = record ((book before).link c.single.link) { heard = n } in ending_asked l n ≡ Some (by_opening x)) → Between before c started → is_bad c kind ≡ false → IsNewsKind c.timers kind → news_of c.timers c.sources c.single.link kind ≡ n → c.single.connection.life ≡ Dialing
+    → IsFailing (trace_of_acts (before ++ turn_of c word kind ∷ []) (turned c kind) (act.Close ∷ [])) (turned c kind) (act.Close ∷ []) c.single.connection x started
+closing_fails before c started word kind n x plain asks h good k is e =
     let l0 = (book before).link c.single.link in
     let conn = c.single.connection in
     let front = before ++ turn_of c word kind ∷ [] in
     let f = turned c kind in
-    let why = by_opening (error.Io kinds.TimedOut) in
-    let x = error.Io kinds.TimedOut in
-    let begins = plain_begins before c started word kind overdue tt h good k is in
+    let why = by_opening x in
+    let begins = plain_begins before c started word kind n plain h good k is in
     let b = book (trace_of_acts front f []) in
     let t = seen f [] conn [] started in
     let l = b.link c.single.link in
     let lived0 = subst (λ (y : Life). TiedLife l0 (book before).created y) e h.sound.tied.life in
     let lived = subst (λ (y : Life). TiedLife l b.created y) e begins.holds.tied.life in
     let asked : (l0.asked && not (is_over l0)) ≡ true = (λ i. lived0.0 i && not (is_some (lived0.2 i))) in
-    let must : ending l ≡ Some why = ap ending begins.ledger ∙ left_if l0.up (ending_alive (record l0 { heard = overdue })) _ lived0.1 ∙ taken_if (l0.asked && not (is_over l0)) (Some why) None asked in
+    let must : ending l ≡ Some why = ap ending (begins.ledger ∙ plain_is l0 c.turns n plain) ∙ left_if l0.up (ending_alive (record l0 { heard = n })) _ lived0.1 ∙ taken_if (l0.asked && not (is_over l0)) (ending_asked (record l0 { heard = n }) n) None asked ∙ asks in
     let now = entered b (action.Close c.single.link) in
     let tied = close_tied b t (b.created + 1) why x false [] (ap (λ (y : Life). requests_in (wanted (link_in y).row) ++ awaited_ids (link_in y).queue) (sym e)) must refl (λ y fails z. absurd (omega arith)) (λ heard done. refl) (ap has_ended e) begins.holds.tied in
     let trace = trace_of_acts front f (act.Close ∷ []) in
@@ -364,10 +366,31 @@ overdue_applied before c started word kind h good k is = by_life c.single.connec
     by_life : (x : Life) → c.single.connection.life ≡ x → HasApplied (before ++ turn_of c word kind ∷ []) (with_work (record { core = turned c kind; acts = [] }) (overdue_at (record { conn = c.single.connection; acts = [] }) x)) started
     by_life Dialing e =
         failing_applied (before ++ turn_of c word kind ∷ []) (turned c kind) (record { conn = c.single.connection; acts = act.Close ∷ [] }) (error.Io kinds.TimedOut) started (λ z. absurd (omega arith)) h.moved
-        (overdue_fails before c started word kind h good k is e)
+        (closing_fails before c started word kind overdue (error.Io kinds.TimedOut) tt refl h good k is e)
     by_life (Wanting link) e = wanting_overdue before c started word kind link h good k is e
-    by_life (SettingUp link with_user) e = setting_overdue before c started word kind link with_user h good k is e
+    by_life (SettingUp link greeting) e = setting_overdue before c started word kind link greeting h good k is e
     by_life (Ready link) e =
         let u = up_tied (book before) (inner c started) link e h.sound.tied in
         passed_over before c started word kind overdue h good k is refl (ready_heard ((book before).link c.single.link) overdue u.up u.well)
     by_life (Ended x) e = ended_quiet before c started word kind overdue x h good k is e
+
+-- the stream of messages is dropped
+--
+pub dropped_applied : (before : List Action) (c : Core) (started : List ℕ) (word : ℕ) (kind : EventKind) → Between before c started → is_bad c kind ≡ false → IsNewsKind c.timers kind → news_of c.timers c.sources c.single.link kind ≡ dropped
+    → HasApplied (before ++ turn_of c word kind ∷ []) (with_work (record { core = turned c kind; acts = [] }) (dropped_by (record { conn = c.single.connection; acts = [] }))) started
+dropped_applied before c started word kind h good k is =
+    let w : Work = record { conn = c.single.connection; acts = [] } in
+    let l = (book before).link c.single.link in
+    let same = h.sound.tied.notices.hearing_is in
+    chosen (λ (x : Work). HasApplied (before ++ turn_of c word kind ∷ []) (with_work (record { core = turned c kind; acts = [] }) x) started) (hears_messages w.conn.hears) (dropped_at w w.conn.life) w
+    (λ t. by_life t c.single.connection.life refl)
+    (λ f. passed_over before c started word kind dropped h good k is refl (dropped_end l (ap hears_messages same ∙ f) (still_none before c started h c.single.link)))
+  where
+    by_life : hears_messages c.single.connection.hears ≡ true → (x : Life) → c.single.connection.life ≡ x → HasApplied (before ++ turn_of c word kind ∷ []) (with_work (record { core = turned c kind; acts = [] }) (dropped_at (record { conn = c.single.connection; acts = [] }) x)) started
+    by_life listens Dialing e =
+        failing_applied (before ++ turn_of c word kind ∷ []) (turned c kind) (record { conn = c.single.connection; acts = act.Close ∷ [] }) error.Closed started (λ z. absurd (omega arith)) h.moved
+        (closing_fails before c started word kind dropped error.Closed tt (taken_if (hears_messages ((book before).link c.single.link).hearing) (Some (by_opening error.Closed)) None (ap hears_messages h.sound.tied.notices.hearing_is ∙ listens)) h good k is e)
+    by_life listens (Wanting link) e = dropped_up before c started word kind listens h good k is (Wanting link) e (λ z. cc)
+    by_life listens (SettingUp link greeting) e = dropped_up before c started word kind listens h good k is (SettingUp link greeting) e (λ z. cc)
+    by_life listens (Ready link) e = dropped_up before c started word kind listens h good k is (Ready link) e (λ z. cc)
+    by_life listens (Ended x) e = dropped_up before c started word kind listens h good k is (Ended x) e (λ z. cc)

@@ -14,7 +14,7 @@ use Rattle.shared_session.specs.declared.core_state.Core.{Core}
 use Rattle.shared_session.specs.Turn.{with_work, heard, fired_by, late_by, effect, counted, is_no_link, exceeds_offer, is_bad}
 use Rattle.session_laws.proofs.States.{Between, HasApplied}
 use Rattle.session_laws.proofs.Announce.{turn_of, turned, own_news, own_source, own_timer}
-use Rattle.session_laws.proofs.Connect.{connected_applied, refused_applied, overdue_applied, passed_over}
+use Rattle.session_laws.proofs.Connect.{connected_applied, dropped_applied, refused_applied, overdue_applied, passed_over}
 use Rattle.session_laws.proofs.Given.{authorized_applied, denied_applied, end_denies, text_denies}
 use Rattle.session_laws.proofs.Took.{took_applied}
 use Rattle.session_laws.proofs.Read.{read_applied}
@@ -40,7 +40,7 @@ by_news before c started word kind heard n e h = subst (λ (x : News). HasApplie
 can_take : (life : Life) (count : ℕ) → exceeds_offer life count ≡ false → CanTake life count
 can_take Dialing count f = tt
 can_take (Wanting link) count f = not_lt_from link.outbox.offered count f
-can_take (SettingUp link with_user) count f = not_lt_from link.outbox.offered count f
+can_take (SettingUp link greeting) count f = not_lt_from link.outbox.offered count f
 can_take (Ready link) count f = not_lt_from link.outbox.offered count f
 can_take (Ended e) count f = tt
 
@@ -59,6 +59,7 @@ fired before c started word n (purpose.Renewal l k) h good is =
     let own : news_of c.timers c.sources c.single.link (event.Fired n) ≡ late k = ap (of_timer c.single.link) is ∙ taken_if (l == c.single.link) (late k) silence (eq_test l c.single.link (h.sound.tied.numbers.aims n (purpose.Renewal l k) is)) in
     by_news before c started word (event.Fired n) (news_of c.timers c.sources c.single.link (event.Fired n)) (late k) own (renewal_late before c started word (event.Fired n) k h good (λ m. ap (is_clock_of m) is) own)
 fired before c started word n (purpose.Response owner.Setup) h good is = absurd (h.sound.tied.numbers.aims n (purpose.Response owner.Setup) is)
+fired before c started word n (purpose.Response owner.Monitor) h good is = absurd (h.sound.tied.numbers.aims n (purpose.Response owner.Monitor) is)
 fired before c started word n (purpose.Response (owner.Try m round)) h good is =
     let aim : (m < length c.table) × (round ≡ 0) = h.sound.tied.numbers.aims n (purpose.Response (owner.Try m round)) is in
     let first = is ∙ ap (λ k. Some (purpose.Response (owner.Try m k))) aim.1 in
@@ -134,4 +135,5 @@ effect_holds before c started word (event.CredsEnd n) h good room =
     (λ f.
     let is = own ∙ left_if (n == 0) deserted unrenewed f in
     by_news before c started word kind news unrenewed is (unrenewed_applied before c started word kind h good tt is (second_source n (length c.sources) (ne_from n 0 f) (not_le_from (length c.sources) n good))))
+effect_holds before c started word event.DropStream h good room = dropped_applied before c started word event.DropStream h good tt refl
 effect_holds before c started word event.Shutdown h good room = shut_applied before c started word event.Shutdown h good tt refl

@@ -1,7 +1,7 @@
 -- A fault ends the connection's link, or the shutdown does.
-use Rattle.std.proofs.Common.{if◌then◌else◌, inl, inr, ◌≡◌, ◌≢◌, ℕ, ◌-◌, Bool, true, false, List, [], ◌∷◌, ◌++◌, Some, None, refl, sym, ap, ◌∙◌, subst, ◌&&◌, not, is_some, arith}
+use Rattle.std.proofs.Common.{if◌then◌else◌, inl, inr, ◌≡◌, ◌≢◌, ℕ, ◌-◌, true, false, List, [], ◌∷◌, ◌++◌, Some, None, refl, sym, ap, ◌∙◌, subst, ◌&&◌, not, is_some, arith, Option, ◌≤◌, ◌+◌, length, take}
 use Rattle.std.specs.List.{AllByRecursion}
-use Rattle.containers.proofs.Choices.{chosen, taken_if, left_if}
+use Rattle.containers.proofs.Choices.{chosen, taken_if, left_if, le_test, not_both}
 use Rattle.redis_error.specs.declared.fault_kind.FaultKind.TheVariants as kinds
 use Rattle.redis_error.specs.declared.redis_error.RedisError.{RedisError}
 use Rattle.redis_error.specs.declared.redis_error.RedisError.TheVariants as error
@@ -11,36 +11,44 @@ use Rattle.driver_model.specs.declared.action.Owner.TheVariants as owner
 use Rattle.driver_model.specs.declared.event.EventKind.{EventKind}
 use Rattle.driver_model.specs.declared.news.LinkFault.{LinkFault}
 use Rattle.driver_model.specs.declared.outcome.Verdict.TheVariants as verdict
-use Rattle.driver_model.specs.News.{News, failed, denied, deserted, shut, news_of, overdue}
+use Rattle.driver_model.specs.News.{News, failed, denied, deserted, shut, news_of, overdue, dropped}
 use Rattle.link_core.specs.declared.message.Queued.{Queued}
 use Rattle.link_core.specs.declared.message.Settled.{Settled}
-use Rattle.link_core.specs.Ends.{failed_by, row_closed, row_hit, queue_closed}
+use Rattle.link_core.specs.Ends.{failed_by, row_closed, row_hit, queue_closed, error_of}
 use Rattle.link_core.specs.Link.{LinkState}
 use Rattle.link_laws.specs.Settles.{settled_ids, wanted, awaited_ids, IsOwed}
 use Rattle.link_laws.proofs.Dealt.{all_append}
 use Rattle.link_laws.proofs.Once.{closed_ids, hit_ids}
-use Rattle.link_laws.proofs.Settles.{row_hit_owed, row_closed_owed}
+use Rattle.link_laws.proofs.Settles.{row_hit_owed, row_closed_owed, same_error}
 use Rattle.link_laws.proofs.TiedLink.{TiedLink}
+use Rattle.mux_conn.specs.declared.life.Greeting.{Greeting}
 use Rattle.mux_conn.specs.declared.life.Life.{Life}
 use Rattle.mux_conn.specs.declared.life.Life.TheVariants.{Dialing, Wanting, SettingUp, Ready, Ended}
 use Rattle.mux_conn.specs.Connection.{Work}
-use Rattle.mux_conn.specs.Effects.{ended, ended_by, failed_at, overdue_at, shut_at, unauthorized_at}
+use Rattle.mux_conn.specs.Effects.{ended, ended_by, failed_at, overdue_at, shut_at, unauthorized_at, greeting_error, dropped_at}
 use Rattle.shared_session.specs.declared.core_state.Core.{Core}
 use Rattle.shared_session.specs.Turn.{with_work, is_bad}
-use Rattle.legal_trace.specs.Ledger.{Ledger, by_fault, by_opening, by_shutdown, ends, hears, noted, ending, ending_alive, ending_unready, ending_up, is_over, is_set_up, lacks_credentials}
-use Rattle.legal_trace.specs.Book.{Book, book}
+use Rattle.legal_trace.specs.Ledger.{Ledger, by_fault, by_opening, by_shutdown, ends, hears, noted, ending, ending_alive, ending_unready, ending_up, is_over, is_set_up, lacks_credentials, fault_error, opening_error, monitor_among, reach, Start, setup_count, is_full}
+use Rattle.legal_trace.specs.Book.{Book, book, hearing_in}
 use Rattle.session_laws.proofs.Numbers.{IsIn}
-use Rattle.session_laws.proofs.Tied.{AreSought, HasCredentials, Inner, inner, link_in, no_link, carried, whole_link, owner_of, queue_ids, HasSaid, IsSettingUp, Tied, TiedLife, has_ended}
-use Rattle.session_laws.proofs.Creds.{asked_sourced, has_sourced, lacking_undecided, wanting_lacks}
-use Rattle.session_laws.proofs.SetUp.{not_set_up}
-use Rattle.session_laws.proofs.Said.{ending_wanting, ready_heard, setting_heard, setting_told}
+use Rattle.session_laws.proofs.Tied.{AreSought, HasCredentials, Inner, inner, link_in, no_link, carried, whole_link, owner_of, queue_ids, HasSaid, Tied, TiedLife, has_ended, IsGreeting, IsWatchSent, greeter}
+use Rattle.session_laws.proofs.Creds.{asked_sourced, has_sourced, wanting_lacks}
+use Rattle.session_laws.proofs.SetUp.{not_set_up, lacking_unset, alone_unwatched}
+use Rattle.session_laws.proofs.Said.{ending_wanting, ready_heard, setting_heard, setting_told, renoticed}
 use Rattle.session_laws.proofs.Failing.{Fails, IsUnready, setup_failed}
 use Rattle.session_laws.proofs.States.{Between, HasApplied}
 use Rattle.session_laws.proofs.Settle.{seen, trace_of_acts, Holds}
 use Rattle.session_laws.proofs.Close.{HasEnded, IsClosedOf, SettlesAll, ended_holds, ended_moved, ended_applied, faulted_holds, parted_moved}
 use Rattle.session_laws.proofs.Announce.{turn_of, turned, IsNewsKind}
-use Rattle.session_laws.proofs.Heard.{IsOfAnother, heard_by, Begins, Leads, heard_begins, leads_still, ended_quiet, dialing_quiet}
-use Rattle.legal_trace.specs.Legal.{is_heard}
+use Rattle.session_laws.proofs.Heard.{IsOfAnother, heard_by, Begins, Leads, heard_begins, leads_still, ended_quiet, dialing_quiet, tame_between}
+use Rattle.driver_model.specs.Hearing.{felt, hears_messages}
+use Rattle.driver_model.specs.declared.hearing.Hearing.{Hearing}
+use Rattle.link_laws.proofs.Rows.{none_open, open_list, open_rows}
+use Rattle.link_core.specs.Dealing.{is_awaiting}
+use Rattle.mux_conn.specs.declared.life.Greeting.TheVariants as greet
+use Rattle.driver_model.specs.declared.news.LinkFault.TheVariants as faults
+use Rattle.link_core.specs.declared.message.Entry.{Entry}
+use Rattle.std.proofs.lemmas.List.{take_all}
 
 -- what waits in the queue gets the closed connection
 queue_waits : (ids : List ℕ) (queue : List Queued) → ((n : ℕ) → IsIn n (queue_ids queue) → IsIn n ids) → AllByRecursion (IsClosedOf ids) (queue_closed queue)
@@ -118,7 +126,7 @@ wanting_tied b t link is h =
     }
 
 -- a link that is set up, with its ledger
-pub record IsSetting (l : Ledger) (created : ℕ) (started : List ℕ) (link : LinkState) (with_user : Bool) : Type 0 where
+pub record IsSetting (l : Ledger) (created : ℕ) (started : List ℕ) (link : LinkState) (greeting : Greeting) : Type 0 where
   pub asked : l.asked ≡ true
   pub up : l.up ≡ true
   pub alive : l.end ≡ None
@@ -126,12 +134,12 @@ pub record IsSetting (l : Ledger) (created : ℕ) (started : List ℕ) (link : L
   pub has : HasCredentials l.creds
   pub once : l.creds.renews ≡ false
   pub none : started ≡ []
-  pub said : IsSettingUp l link with_user
-  pub tied : TiedLink (λ p. owner.Setup) l link
+  pub said : IsGreeting l link greeting
+  pub tied : TiedLink (λ p. greeter greeting) l link
 
 -- so it is while the connection says so
-pub setting_tied : (b : Book) (t : Inner) (link : LinkState) (with_user : Bool) → t.life ≡ SettingUp link with_user → Tied b t → IsSetting (b.link t.link) b.created t.started link with_user
-setting_tied b t link with_user is h =
+pub setting_tied : (b : Book) (t : Inner) (link : LinkState) (greeting : Greeting) → t.life ≡ SettingUp link greeting → Tied b t → IsSetting (b.link t.link) b.created t.started link greeting
+setting_tied b t link greeting is h =
     let l = b.link t.link in
     let lived = subst (λ (x : Life). TiedLife l b.created x) is h.life in
     let said = subst (λ (x : Life). HasSaid l t.started x) is h.setup.said in
@@ -190,16 +198,21 @@ IsPlain shut = Unit {0}
 IsPlain overdue = Unit {0}
 IsPlain (denied text) = Unit {0}
 IsPlain deserted = Unit {0}
+IsPlain dropped = Unit {0}
 IsPlain _ = ⊥
 
 -- the link stays as it is
+pub plain_is : (l : Ledger) (turn : ℕ) (n : News) → IsPlain n → noted l (hears turn n) ≡ record l { heard = n }
+plain_is l turn (failed f) k = refl
+plain_is l turn shut k = refl
+plain_is l turn overdue k = refl
+plain_is l turn (denied text) k = refl
+plain_is l turn deserted k = refl
+plain_is l turn dropped k = refl
+plain_is l turn _ k = absurd k
+
 plain_leads : (before : List Action) (c : Core) (started : List ℕ) (n : News) → IsPlain n → Between before c started → Leads (book before) c n c.single.connection.life [] started
-plain_leads before c started (failed f) k h = leads_still before c started (failed f) h refl
-plain_leads before c started shut k h = leads_still before c started shut h refl
-plain_leads before c started overdue k h = leads_still before c started overdue h refl
-plain_leads before c started (denied text) k h = leads_still before c started (denied text) h refl
-plain_leads before c started deserted k h = leads_still before c started deserted h refl
-plain_leads before c started _ k h = absurd k
+plain_leads before c started n k h = leads_still before c started n h (plain_is ((book before).link c.single.link) c.turns n k)
 
 -- the turn of such an event begins with its link as it was
 pub plain_begins : (before : List Action) (c : Core) (started : List ℕ) (word : ℕ) (kind : EventKind) (n : News) → IsPlain n → Between before c started → is_bad c kind ≡ false → IsNewsKind c.timers kind → news_of c.timers c.sources c.single.link kind ≡ n
@@ -207,48 +220,84 @@ pub plain_begins : (before : List Action) (c : Core) (started : List ℕ) (word 
 plain_begins before c started word kind n p h good k is = heard_begins before c started word kind n c.single.connection.life [] h good k is (plain_leads before c started n p h)
 
 -- a link that is set up still isn't ready
-pub setting_unready : (b : Book) (t : Inner) (link : LinkState) (with_user : Bool) → t.life ≡ SettingUp link with_user → Tied b t → IsUnready b.created t.life t.started
-setting_unready b t link with_user e h = let s = setting_tied b t link with_user e h in record { bare = ap link_in e; none = s.none; unshown = s.unshown }
+pub setting_unready : (b : Book) (t : Inner) (link : LinkState) (greeting : Greeting) → t.life ≡ SettingUp link greeting → Tied b t → IsUnready b.created t.life t.started
+setting_unready b t link greeting e h = let s = setting_tied b t link greeting e h in record { bare = ap link_in e; none = s.none; unshown = s.unshown }
 
 -- nor is one that waits for credentials
 pub wanting_unready : (b : Book) (t : Inner) (link : LinkState) → t.life ≡ Wanting link → Tied b t → IsUnready b.created t.life t.started
 wanting_unready b t link e h = let s = wanting_tied b t link e h in record { bare = ap link_in e; none = s.none; unshown = s.unshown }
 
 -- a link that is set up fails by news that leave its ledger
-plain_fails : (before : List Action) (c : Core) (started : List ℕ) (n : News) (x : RedisError) (link : LinkState) (with_user : Bool) → Between before c started → c.single.connection.life ≡ SettingUp link with_user
-    → (let l = record ((book before).link c.single.link) { heard = n } in ending_unready l n ≡ Some (by_opening x)) → Fails (record ((book before).link c.single.link) { heard = n }) c.single.connection.info c.single.connection.renewal.wanted (is_heard (book before)) c.single.connection.hears x
-plain_fails before c started n x link with_user h e is =
+plain_fails : (before : List Action) (c : Core) (started : List ℕ) (n : News) (x : RedisError) (link : LinkState) (greeting : Greeting) → Between before c started → c.single.connection.life ≡ SettingUp link greeting
+    → (let l = record ((book before).link c.single.link) { heard = n } in ending_unready l n ≡ Some (by_opening x)) → Fails (record ((book before).link c.single.link) { heard = n }) c.single.connection.info c.single.connection.renewal.wanted (hearing_in (book before).config) c.single.connection.hears x
+plain_fails before c started n x link greeting h e is =
     let b = book before in
     let l = b.link c.single.link in
-    let s = setting_tied b (inner c started) link with_user e h.sound.tied in
+    let s = setting_tied b (inner c started) link greeting e h.sound.tied in
     record {
       alive = s.alive;
-      unready = (not_set_up (record l { heard = n }) link with_user (setting_told l n link with_user s.said)).unwell;
-      must = setting_heard l n link with_user s.up s.said ∙ is;
+      unready = (not_set_up (record l { heard = n }) link greeting (setting_told l n link greeting s.said)).unset;
+      must = setting_heard l n link greeting s.up s.said ∙ is;
       info_is = h.sound.tied.setup.info_is;
       wanted_is = h.sound.tied.creds.wanted_is;
-      sourced = has_sourced (record l { heard = n }) s.has (not_set_up (record l { heard = n }) link with_user (setting_told l n link with_user s.said)).unwell;
+      sourced = has_sourced (record l { heard = n }) s.has (not_set_up (record l { heard = n }) link greeting (setting_told l n link greeting s.said)).unset;
       sent = h.sound.tied.setup.sent;
-      pushes = h.sound.tied.pushes;
+      notices = renoticed (tame_between before c started h) h.sound.tied.notices;
     }
 
 -- and so does one that waits for credentials
 wanting_fails : (before : List Action) (c : Core) (started : List ℕ) (n : News) (x : RedisError) (link : LinkState) → Between before c started → c.single.connection.life ≡ Wanting link
-    → (let l = record ((book before).link c.single.link) { heard = n } in ending_unready l n ≡ Some (by_opening x)) → Fails (record ((book before).link c.single.link) { heard = n }) c.single.connection.info c.single.connection.renewal.wanted (is_heard (book before)) c.single.connection.hears x
+    → (let l = record ((book before).link c.single.link) { heard = n } in ending_unready l n ≡ Some (by_opening x)) → Fails (record ((book before).link c.single.link) { heard = n }) c.single.connection.info c.single.connection.renewal.wanted (hearing_in (book before).config) c.single.connection.hears x
 wanting_fails before c started n x link h e is =
     let b = book before in
     let l = b.link c.single.link in
     let s = wanting_tied b (inner c started) link e h.sound.tied in
     record {
       alive = s.alive;
-      unready = (lacking_undecided (record l { heard = n }) s.lacks).unwell;
+      unready = (lacking_unset (record l { heard = n }) s.lacks).unset;
       must = ending_wanting (record l { heard = n }) s.up s.lacks ∙ is;
       info_is = h.sound.tied.setup.info_is;
       wanted_is = h.sound.tied.creds.wanted_is;
-      sourced = asked_sourced (record l { heard = n }) s.sought.1 (inl (lacking_undecided (record l { heard = n }) s.lacks).unwell);
+      sourced = asked_sourced (record l { heard = n }) s.sought.1 (inl (lacking_unset (record l { heard = n }) s.lacks).unset);
       sent = h.sound.tied.setup.sent;
-      pushes = h.sound.tied.pushes;
+      notices = renoticed (tame_between before c started h) h.sound.tied.notices;
     }
+
+-- MONITOR that isn't answered takes items
+watch_awaits : (name : ℕ → Owner) (l : Ledger) (link : LinkState) (row : List Entry) → link.row ≡ row → IsWatchSent l link → l.end ≡ None → TiedLink name l link → is_awaiting row ≡ true
+watch_awaits name l link (e ∷ es) is sent alive tied = refl
+watch_awaits name l link [] is sent alive tied =
+    let none : open_rows l.starts l.dealt ≡ [] = sym (tied.row alive) ∙ ap (open_list name) is in
+    let far = none_open l.starts l.dealt none in
+    let all : take (sent.k + 1) l.starts ≡ l.starts = take_all (sent.k + 1) l.starts (omega (arith, sent.long)) in
+    absurd (not_both (is_full l sent.k) sent.open_is (le_test _ _ (subst (λ (ss : List Start). reach ss l.dealt ≤ length l.dealt) (sym all) far)))
+
+-- the error of a greeting that a fault ends is that of the opening
+pub opening_error_is : (name : ℕ → Owner) (l : Ledger) (link : LinkState) (greeting : Greeting) (f : LinkFault) → IsGreeting l link greeting → l.end ≡ None → TiedLink name l link → opening_error l f ≡ greeting_error greeting link.row f
+opening_error_is name l link greet.WithUser f h alive tied = ap (λ (o : Option ℕ). if is_some o then fault_error f else error.Closed) (alone_unwatched l.starts (setup_count l.starts) 0 h.alone)
+opening_error_is name l link greet.WithoutUser f h alive tied = ap (λ (o : Option ℕ). if is_some o then fault_error f else error.Closed) (alone_unwatched l.starts (setup_count l.starts) 0 h.alone)
+opening_error_is name l link greet.Monitor f h alive tied = elim h.stage [
+  | inl due ↦
+      ap (λ (o : Option ℕ). if is_some o then fault_error f else error.Closed) (alone_unwatched l.starts (setup_count l.starts) 0 due.alone)
+      ∙ ap (λ (row : List Entry). if is_awaiting row then error_of f else error.Closed) (sym due.row)
+  | inr sent ↦
+      ap (λ (o : Option ℕ). if is_some o then fault_error f else error.Closed) sent.sent ∙ same_error f
+      ∙ sym (taken_if (is_awaiting link.row) (error_of f) error.Closed (watch_awaits name l link link.row refl sent alive tied))
+]
+
+-- and that of a link on which nothing has started is the closed connection
+pub bare_error_is : (l : Ledger) (f : LinkFault) → l.starts ≡ [] → opening_error l f ≡ error.Closed
+bare_error_is l f none = ap (λ (ss : List Start). if is_some (monitor_among ss 0) then fault_error f else error.Closed) none
+
+-- a fault of a link that is set up ends it
+fault_applied : (before : List Action) (c : Core) (started : List ℕ) (word : ℕ) (kind : EventKind) (n : News) (link : LinkState) (f : LinkFault) → Between before c started
+    → Begins (before ++ turn_of c word kind ∷ []) (turned c kind) c.single.connection (heard_by (book before) c n) (book before).story [] started → c.single.connection.life ≡ Ready link
+    → ending ((book (trace_of_acts (before ++ turn_of c word kind ∷ []) (turned c kind) [])).link c.single.link) ≡ Some (by_fault f)
+    → HasApplied (before ++ turn_of c word kind ∷ []) (with_work (record { core = turned c kind; acts = [] }) (ended_by (record { conn = c.single.connection; acts = [] }) link f)) started
+fault_applied before c started word kind n link f h begins e must =
+    ended_applied (before ++ turn_of c word kind ∷ []) (turned c kind) (ended_by (record { conn = c.single.connection; acts = [] }) link f) error.Closed started (λ z. absurd (omega arith))
+    (parted_moved (record { conn = c.single.connection; acts = [] }) (row_hit f link.row ++ queue_closed link.queue) ∙ h.moved)
+    (fault_ends (before ++ turn_of c word kind ∷ []) (turned c kind) (record { conn = c.single.connection; acts = [] }) link f started begins.holds e must)
 
 -- a fault, or the peer's end
 pub failed_applied : (before : List Action) (c : Core) (started : List ℕ) (word : ℕ) (kind : EventKind) (f : LinkFault) → Between before c started → is_bad c kind ≡ false → IsNewsKind c.timers kind → news_of c.timers c.sources c.single.link kind ≡ failed f
@@ -258,28 +307,58 @@ failed_applied before c started word kind f h good k is = by_life c.single.conne
     by_life : (x : Life) → c.single.connection.life ≡ x → HasApplied (before ++ turn_of c word kind ∷ []) (with_work (record { core = turned c kind; acts = [] }) (failed_at (record { conn = c.single.connection; acts = [] }) f x)) started
     by_life Dialing e = dialing_quiet before c started word kind (failed f) tt h good k is e
     by_life (Ended x) e = ended_quiet before c started word kind (failed f) x h good k is e
-    by_life (SettingUp link with_user) e =
-        setup_failed before c started word kind (failed f) error.Closed h good k is (setting_unready (book before) (inner c started) link with_user e h.sound.tied)
-        (plain_fails before c started (failed f) error.Closed link with_user h e refl)
+    by_life (SettingUp link greeting) e =
+        let s = setting_tied (book before) (inner c started) link greeting e h.sound.tied in
+        let x = greeting_error greeting link.row f in
+        setup_failed before c started word kind (failed f) x h good k is (setting_unready (book before) (inner c started) link greeting e h.sound.tied)
+        (plain_fails before c started (failed f) x link greeting h e (ap (λ (y : RedisError). Some (by_opening y)) (opening_error_is (λ p. greeter greeting) ((book before).link c.single.link) link greeting f s.said s.alive s.tied)))
     by_life (Wanting link) e =
         setup_failed before c started word kind (failed f) error.Closed h good k is (wanting_unready (book before) (inner c started) link e h.sound.tied)
-        (wanting_fails before c started (failed f) error.Closed link h e refl)
+        (wanting_fails before c started (failed f) error.Closed link h e (ap (λ (y : RedisError). Some (by_opening y)) (bare_error_is ((book before).link c.single.link) f (wanting_tied (book before) (inner c started) link e h.sound.tied).starts)))
     by_life (Ready link) e =
         let begins = plain_begins before c started word kind (failed f) tt h good k is in
         let l = (book before).link c.single.link in
         let u = up_tied (book before) (inner c started) link e h.sound.tied in
-        let must = ap ending begins.ledger ∙ ready_heard l (failed f) u.up u.well in
-        ended_applied (before ++ turn_of c word kind ∷ []) (turned c kind) (failed_at (record { conn = c.single.connection; acts = [] }) f (Ready link)) error.Closed started (λ z. absurd (omega arith))
-        (parted_moved (record { conn = c.single.connection; acts = [] }) (row_hit f link.row ++ queue_closed link.queue) ∙ h.moved)
-        (fault_ends (before ++ turn_of c word kind ∷ []) (turned c kind) (record { conn = c.single.connection; acts = [] }) link f started begins.holds e must)
+        let g = felt c.single.connection.hears f in
+        let must = ap ending begins.ledger ∙ ready_heard l (failed f) u.up u.well ∙ ap (λ (x : Hearing). Some (by_fault (felt x f))) h.sound.tied.notices.hearing_is in
+        fault_applied before c started word kind (failed f) link g h begins e must
+
+-- the stream of messages is dropped on a link that is up
+pub dropped_up : (before : List Action) (c : Core) (started : List ℕ) (word : ℕ) (kind : EventKind) → hears_messages c.single.connection.hears ≡ true → Between before c started → is_bad c kind ≡ false → IsNewsKind c.timers kind → news_of c.timers c.sources c.single.link kind ≡ dropped
+    → (x : Life) → c.single.connection.life ≡ x → x ≢ Dialing → HasApplied (before ++ turn_of c word kind ∷ []) (with_work (record { core = turned c kind; acts = [] }) (dropped_at (record { conn = c.single.connection; acts = [] }) x)) started
+dropped_up before c started word kind listens h good k is = by_life
+  where
+    l : Ledger
+    l = (book before).link c.single.link
+
+    heard : hears_messages l.hearing ≡ true
+    heard = ap hears_messages h.sound.tied.notices.hearing_is ∙ listens
+
+    opens : ending_unready (record l { heard = dropped }) dropped ≡ Some (by_opening error.Closed)
+    opens = taken_if (hears_messages l.hearing) (Some (by_opening error.Closed)) None heard
+
+    by_life : (x : Life) → c.single.connection.life ≡ x → x ≢ Dialing → HasApplied (before ++ turn_of c word kind ∷ []) (with_work (record { core = turned c kind; acts = [] }) (dropped_at (record { conn = c.single.connection; acts = [] }) x)) started
+    by_life Dialing e other = absurd (other refl)
+    by_life (Ended x) e other = ended_quiet before c started word kind dropped x h good k is e
+    by_life (SettingUp link greeting) e other =
+        setup_failed before c started word kind dropped error.Closed h good k is (setting_unready (book before) (inner c started) link greeting e h.sound.tied)
+        (plain_fails before c started dropped error.Closed link greeting h e opens)
+    by_life (Wanting link) e other =
+        setup_failed before c started word kind dropped error.Closed h good k is (wanting_unready (book before) (inner c started) link e h.sound.tied)
+        (wanting_fails before c started dropped error.Closed link h e opens)
+    by_life (Ready link) e other =
+        let begins = plain_begins before c started word kind dropped tt h good k is in
+        let u = up_tied (book before) (inner c started) link e h.sound.tied in
+        let must = ap ending begins.ledger ∙ ready_heard l dropped u.up u.well ∙ taken_if (hears_messages l.hearing) (Some (by_fault faults.Ended)) None heard in
+        fault_applied before c started word kind dropped link faults.Ended h begins e must
 
 -- the time of the opening is over while the link is set up
-pub setting_overdue : (before : List Action) (c : Core) (started : List ℕ) (word : ℕ) (kind : EventKind) (link : LinkState) (with_user : Bool) → Between before c started → is_bad c kind ≡ false → IsNewsKind c.timers kind → news_of c.timers c.sources c.single.link kind ≡ overdue
-    → c.single.connection.life ≡ SettingUp link with_user
-    → HasApplied (before ++ turn_of c word kind ∷ []) (with_work (record { core = turned c kind; acts = [] }) (overdue_at (record { conn = c.single.connection; acts = [] }) (SettingUp link with_user))) started
-setting_overdue before c started word kind link with_user h good k is e =
+pub setting_overdue : (before : List Action) (c : Core) (started : List ℕ) (word : ℕ) (kind : EventKind) (link : LinkState) (greeting : Greeting) → Between before c started → is_bad c kind ≡ false → IsNewsKind c.timers kind → news_of c.timers c.sources c.single.link kind ≡ overdue
+    → c.single.connection.life ≡ SettingUp link greeting
+    → HasApplied (before ++ turn_of c word kind ∷ []) (with_work (record { core = turned c kind; acts = [] }) (overdue_at (record { conn = c.single.connection; acts = [] }) (SettingUp link greeting))) started
+setting_overdue before c started word kind link greeting h good k is e =
     let x = error.Io kinds.TimedOut in
-    setup_failed before c started word kind overdue x h good k is (setting_unready (book before) (inner c started) link with_user e h.sound.tied) (plain_fails before c started overdue x link with_user h e refl)
+    setup_failed before c started word kind overdue x h good k is (setting_unready (book before) (inner c started) link greeting e h.sound.tied) (plain_fails before c started overdue x link greeting h e refl)
 
 -- or while it waits for credentials
 pub wanting_overdue : (before : List Action) (c : Core) (started : List ℕ) (word : ℕ) (kind : EventKind) (link : LinkState) → Between before c started → is_bad c kind ≡ false → IsNewsKind c.timers kind → news_of c.timers c.sources c.single.link kind ≡ overdue
@@ -305,7 +384,7 @@ denied_fails before c started word kind n x link d h good k is e =
     let l = b.link c.single.link in
     let s = wanting_tied b (inner c started) link e h.sound.tied in
     setup_failed before c started word kind n x h good k is (wanting_unready b (inner c started) link e h.sound.tied)
-    (subst (λ (y : Ledger). Fails y c.single.connection.info c.single.connection.renewal.wanted (is_heard b) c.single.connection.hears x) (sym (d.stays l c.turns))
+    (subst (λ (y : Ledger). Fails y c.single.connection.info c.single.connection.renewal.wanted (hearing_in b.config) c.single.connection.hears x) (sym (d.stays l c.turns))
     (wanting_fails before c started n x link h e (d.ends (record l { heard = n }) ∙ taken_if (lacks_credentials l) (Some (by_opening x)) None s.lacks)))
 
 -- everything is shut down
@@ -336,9 +415,9 @@ shut_applied before c started word kind h good k is = by_life c.single.connectio
     by_life (Wanting link) e =
         let s = wanting_tied (book before) (inner c started) link e h.sound.tied in
         bare (Wanting link) e refl refl (ending_wanting (record l { heard = shut }) s.up s.lacks)
-    by_life (SettingUp link with_user) e =
-        let s = setting_tied (book before) (inner c started) link with_user e h.sound.tied in
-        bare (SettingUp link with_user) e refl refl (setting_heard l shut link with_user s.up s.said)
+    by_life (SettingUp link greeting) e =
+        let s = setting_tied (book before) (inner c started) link greeting e h.sound.tied in
+        bare (SettingUp link greeting) e refl refl (setting_heard l shut link greeting s.up s.said)
     by_life (Ready link) e =
         let u = up_tied (book before) (inner c started) link e h.sound.tied in
         let must = ap ending begins.ledger ∙ ready_heard l shut u.up u.well in

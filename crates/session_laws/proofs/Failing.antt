@@ -20,11 +20,11 @@ use Rattle.mux_conn.specs.Effects.{opening_failed}
 use Rattle.mux_conn.specs.Requests.{name_at}
 use Rattle.shared_session.specs.declared.core_state.Core.{Core}
 use Rattle.shared_session.specs.Turn.{with_work, is_bad}
-use Rattle.legal_trace.specs.Ledger.{Ledger, by_opening, ends, noted, noted_each, ending, ending_or_shutdown, failure_in, failure_of, is_ready, is_set_up, Heard, is_fault, next_push, source_due}
+use Rattle.legal_trace.specs.Ledger.{Ledger, by_opening, ends, noted, noted_each, ending, ending_or_shutdown, failure_in, failure_of, is_ready, is_set_up, Heard, is_fault, next_notice, source_due}
 use Rattle.legal_trace.specs.Story.{Story, bytes_of, is_open, last_of}
-use Rattle.legal_trace.specs.Book.{Book, blank_book, book, entered, if_mine}
+use Rattle.legal_trace.specs.Book.{Book, blank_book, book, entered, if_mine, hearing_in}
 use Rattle.legal_trace.specs.Owed.{owed_to_try, owed_unstarted, unstarted_error}
-use Rattle.legal_trace.specs.Legal.{AllStand, FailuresAreShown, MayClose, MayFail, NoneEnds, ReadyIsShown, VerdictsAreShown, is_heard}
+use Rattle.legal_trace.specs.Legal.{AllStand, FailuresAreShown, MayClose, MayFail, NoneEnds, ReadyIsShown, VerdictsAreShown}
 use Rattle.session_laws.proofs.Numbers.{IsIn}
 use Rattle.session_laws.proofs.Tied.{AreSetups, IsUnknown, inner, link_in, no_link, TiedLines, Tied}
 use Rattle.session_laws.proofs.States.{Between, HasApplied}
@@ -40,6 +40,8 @@ use Rattle.session_laws.proofs.Announce.{turn_of, turned, IsNewsKind, first_book
 use Rattle.session_laws.proofs.Heard.{heard_by, book_kind, book_news}
 use Rattle.session_laws.proofs.Said.{PushesOf, sources_asked}
 use Rattle.session_laws.proofs.Renewals.{renewal_ended}
+use Rattle.driver_model.specs.declared.hearing.Hearing.{Hearing}
+use Rattle.driver_model.specs.Hearing.{hears_something}
 
 -- the failure is shown
 --
@@ -105,7 +107,7 @@ unready_shown now link l own others unready m ready = by_test (m == link) _
     (λ other. absurd (not_both (now.link m).up (others m (ne_from m link other)).up (both_left (now.link m).up (is_set_up (now.link m)) ready)))
 
 -- a link that isn't set up, and whose opening fails with this error
-pub record Fails (l : Ledger) (info : RedisConnectionInfo) (wants heard mine : Bool) (x : RedisError) : Type 0 where
+pub record Fails (l : Ledger) (info : RedisConnectionInfo) (wants : Bool) (heard mine : Hearing) (x : RedisError) : Type 0 where
   pub alive : l.end ≡ None
   pub unready : is_set_up l ≡ false
   pub must : ending l ≡ Some (by_opening x)
@@ -113,7 +115,7 @@ pub record Fails (l : Ledger) (info : RedisConnectionInfo) (wants heard mine : B
   pub wanted_is : l.creds.wanted ≡ wants
   pub sourced : source_due l ≡ false
   pub sent : AreSetups l
-  pub pushes : PushesOf heard mine l
+  pub notices : PushesOf heard mine l
 
 -- a connection whose link is up and not set up, so that no message of a request has started
 pub record IsUnready (created : ℕ) (life : Life) (started : List ℕ) : Type 0 where
@@ -123,7 +125,7 @@ pub record IsUnready (created : ℕ) (life : Life) (started : List ℕ) : Type 0
 
 -- it is closed, and its opening has failed
 pub setup_fails : (before : List Action) (c : Core) (started : List ℕ) (word : ℕ) (kind : EventKind) (n : News) (x : RedisError) → Between before c started → is_bad c kind ≡ false → IsNewsKind c.timers kind → news_of c.timers c.sources c.single.link kind ≡ n
-    → IsUnready (book before).created c.single.connection.life started → Fails (heard_by (book before) c n) c.single.connection.info c.single.connection.renewal.wanted (is_heard (book before)) c.single.connection.hears x
+    → IsUnready (book before).created c.single.connection.life started → Fails (heard_by (book before) c n) c.single.connection.info c.single.connection.renewal.wanted (hearing_in (book before).config) c.single.connection.hears x
     → IsFailing (trace_of_acts (before ++ turn_of c word kind ∷ []) (turned c kind) (act.Close ∷ [])) (turned c kind) (act.Close ∷ []) c.single.connection x started
 setup_fails before c started word kind n x h good k is u fails =
     let b = book before in
@@ -154,13 +156,15 @@ setup_fails before c started word kind n x h good k is u fails =
       lines = subst (λ (y : LinkState). TiedLines b.story conn.requests y conn.waiting conn.admitted [] started) u.bare h0.lines;
       told = λ z. cc;
       waits = ended_waits b.story conn.requests conn.life x conn.fresh conn.moved h0.waits;
-      pushes = record {
-        heard_is = fails.pushes.heard_is;
-        within = fails.pushes.within;
-        untold_is = fails.pushes.untold_is;
+      notices = record {
+        heard_is = fails.notices.heard_is;
+        hearing_is = fails.notices.hearing_is;
+        within = fails.notices.within;
+        untold_is = fails.notices.untold_is;
         parts = λ heard done cut. absurd (not_both (is_fault (by_opening x)) refl (sym (ap (λ w. is_fault (ending_or_shutdown w)) fails.must) ∙ cut));
         alive = λ none. cc;
-        due = fails.pushes.due;
+        due = fails.notices.due;
+        tame = λ none r. cc;
       };
     }) in
     let first : book (trace_of_acts front f []) ≡ now = first_book before (turn_of c word kind) f ∙ heard_is b c.turns word kind (book_kind b c kind h0.numbers.timers k) in
@@ -178,8 +182,8 @@ setup_fails before c started word kind n x h good k is u fails =
           (λ same. subst (λ i. source_due (now.link i) ≡ false) (sym (eq_from m c.single.link same)) (ap source_due own ∙ fails.sourced))
           (λ other. down_sourced (now.link m) (others m (ne_from m c.single.link other)).up);
       pushed = λ m heard. by_test (m == c.single.link) _
-          (λ same. subst (λ i. next_push (now.link i) ≡ None) (sym (eq_from m c.single.link same)) (ap next_push own ∙ get_behind l.told l.pushes (fails.pushes.untold_is (sym fails.pushes.heard_is ∙ heard))))
-          (λ other. ap (λ (hs : List Heard). slice_get hs (now.link m).told) (others m (ne_from m c.single.link other)).pushes);
+          (λ same. subst (λ i. next_notice (now.link i) ≡ None) (sym (eq_from m c.single.link same)) (ap next_notice own ∙ get_behind l.told l.notices (fails.notices.untold_is (ap hears_something (sym fails.notices.heard_is) ∙ heard))))
+          (λ other. ap (λ (hs : List Heard). slice_get hs (now.link m).told) (others m (ne_from m c.single.link other)).notices);
     } in
     record {
       stands = subst (AllStand blank_book) (sym shown) (all_stand-append (trace_of_acts front f []) (close ∷ []) all (subst (λ (y : Book). MayClose y c.single.link) (sym first) may, tt));
@@ -190,7 +194,7 @@ setup_fails before c started word kind n x h good k is u fails =
 
 -- so the event has had its effect
 pub setup_failed : (before : List Action) (c : Core) (started : List ℕ) (word : ℕ) (kind : EventKind) (n : News) (x : RedisError) → Between before c started → is_bad c kind ≡ false → IsNewsKind c.timers kind → news_of c.timers c.sources c.single.link kind ≡ n
-    → IsUnready (book before).created c.single.connection.life started → Fails (heard_by (book before) c n) c.single.connection.info c.single.connection.renewal.wanted (is_heard (book before)) c.single.connection.hears x
+    → IsUnready (book before).created c.single.connection.life started → Fails (heard_by (book before) c n) c.single.connection.info c.single.connection.renewal.wanted (hearing_in (book before).config) c.single.connection.hears x
     → HasApplied (before ++ turn_of c word kind ∷ []) (with_work (record { core = turned c kind; acts = [] }) (opening_failed (record { conn = c.single.connection; acts = act.Close ∷ [] }) x)) started
 setup_failed before c started word kind n x h good k is u fails =
     failing_applied (before ++ turn_of c word kind ∷ []) (turned c kind) (record { conn = c.single.connection; acts = act.Close ∷ [] }) x started (λ z. absurd (omega arith)) h.moved

@@ -135,7 +135,8 @@ pub tries_longer : (table : List (Option Pending)) (l : Ledger) (story after : �
     → length more ≤ 2 ^ 32 → ((p : ℕ) → p ≢ renewal_id → IsIn p started → p < length requests) → ((k p : ℕ) → p ≢ renewal_id → slice_get started k ≡ Some p → p < length requests) → ((p : ℕ) (r : Request) → slice_get more p ≡ Some r → length requests ≤ p → (after r.name).tries ≡ [])
     → TiedTries l story requests link started → TiedTries l after more link started
 tries_longer table l story after requests more link started names same longer few within at new h = record {
-  owners = h.owners ∙ ap (setup_owners (setup_count l.starts)) (sym (owners_longer requests more started longer within));
+  owners = λ plain. h.owners plain ∙ ap (setup_owners (setup_count l.starts)) (sym (owners_longer requests more started longer within));
+  greeted = h.greeted;
   shapes = λ k p s inside i j. let was = at k p (numbered p inside) i in h.shapes k p s was i j ∙ ap shape (sym (story_at table story after requests more p names same longer was));
   tried = λ k p inside i. let was = at k p (numbered p inside) i in ap (λ (s : Story). s.tries) (story_at table story after requests more p names same longer was) ∙ h.tried k p was i;
   untried = λ p r i out. before_or_new requests more p ((after r.name).tries ≡ [])
@@ -203,7 +204,7 @@ owners_of_row requests more (e ∷ es) longer all = (sym (owner_longer requests 
 pub link_longer : (l : Ledger) (requests more : List Request) (life : Life) → IsLonger requests more → AllByRecursion (IsEntry requests) (link_in life).row → TiedLink (carried life requests) l (whole_link life) → TiedLink (carried life more) l (whole_link life)
 link_longer l requests more Dialing longer all h = named_tied (owner_of requests) (owner_of more) l no_link tt h
 link_longer l requests more (Wanting link) longer all h = h
-link_longer l requests more (SettingUp link with_user) longer all h = h
+link_longer l requests more (SettingUp link greeting) longer all h = h
 link_longer l requests more (Ready link) longer all h = named_tied (owner_of requests) (owner_of more) l link (owners_of_row requests more link.row longer all) h
 link_longer l requests more (Ended e) longer all h = named_tied (owner_of requests) (owner_of more) l no_link tt h
 

@@ -22,14 +22,13 @@ use Rattle.mux_conn.specs.Turn.{early_wait}
 use Rattle.shared_session.specs.declared.core_state.Core.{Core}
 use Rattle.shared_session.specs.Turn.{with_work, is_bad}
 use Rattle.legal_trace.specs.Ledger.{Ledger, authorized_by, by_opening, ending, lacks_credentials, setup_count}
-use Rattle.legal_trace.specs.Book.{book}
-use Rattle.legal_trace.specs.Legal.{is_heard}
+use Rattle.legal_trace.specs.Book.{book, hearing_in}
 use Rattle.session_laws.proofs.Tied.{AreSetups, has_ended, inner, link_in}
 use Rattle.session_laws.proofs.Creds.{awaited_is, has_credentials, none_awaited, unawaited_is, wanting_awaits}
-use Rattle.session_laws.proofs.Said.{PushesOf, ready_heard, setting_heard}
+use Rattle.session_laws.proofs.Said.{PushesOf, ready_heard, setting_heard, renoticed}
 use Rattle.session_laws.proofs.States.{Between, HasApplied}
 use Rattle.session_laws.proofs.Announce.{IsNewsKind, turn_of, turned}
-use Rattle.session_laws.proofs.Heard.{dialing_quiet, ended_quiet, heard_by}
+use Rattle.session_laws.proofs.Heard.{dialing_quiet, ended_quiet, heard_by, tame_between}
 use Rattle.session_laws.proofs.End.{Denies, denied_fails, setting_tied, up_tied, wanting_tied}
 use Rattle.session_laws.proofs.ComeUp.{IsEarly, IsUpNow, comes_up}
 use Rattle.session_laws.proofs.Connect.{passed_over}
@@ -94,7 +93,7 @@ given_up before c started word kind a link h good k is e =
     let same = given_is before c started a link h e in
     comes_up before c started word kind (authorized a) (said_by conn.info a) link h good k is (λ x. x) (early_wanting conn.life wait.Permit link e (λ x. cc)) (early_wanting conn.life wait.Setup link e (λ x. cc)) (given_now before c started a link h e)
     (inr (ap (λ (x : Ledger). x.creds.asked) same ∙ s.sought.1, ap (λ (x : Ledger). x.creds.given) same))
-    (subst (λ (x : Ledger). PushesOf (is_heard b) conn.hears x) (sym same) h.sound.tied.pushes) (λ more. refl, refl)
+    (subst (λ (x : Ledger). PushesOf (hearing_in b.config) conn.hears x) (sym same) (renoticed (tame_between before c started h) h.sound.tied.notices)) (λ more. refl, refl)
 
 -- credentials come
 pub authorized_applied : (before : List Action) (c : Core) (started : List ℕ) (word : ℕ) (kind : EventKind) (a : Credentials) → Between before c started → is_bad c kind ≡ false → IsNewsKind c.timers kind → news_of c.timers c.sources c.single.link kind ≡ authorized a
@@ -111,9 +110,9 @@ authorized_applied before c started word kind a h good k is = by_life c.single.c
     by_life : (x : Life) → c.single.connection.life ≡ x → HasApplied (before ++ turn_of c word kind ∷ []) (with_work (record { core = turned c kind; acts = [] }) (authorized_at (record { conn = c.single.connection; acts = [] }) a x)) started
     by_life Dialing e = dialing_quiet before c started word kind (authorized a) tt h good k is e
     by_life (Wanting link) e = given_up before c started word kind a link h good k is e
-    by_life (SettingUp link with_user) e =
-        let s = setting_tied (book before) (inner c started) link with_user e h.sound.tied in
-        late (has_credentials l.creds s.has) (setting_heard l (authorized a) link with_user s.up s.said)
+    by_life (SettingUp link greeting) e =
+        let s = setting_tied (book before) (inner c started) link greeting e h.sound.tied in
+        late (has_credentials l.creds s.has) (setting_heard l (authorized a) link greeting s.up s.said)
     by_life (Ready link) e =
         let u = up_tied (book before) (inner c started) link e h.sound.tied in
         late (has_credentials l.creds u.has) (ready_heard l (authorized a) u.up u.well)
@@ -144,9 +143,9 @@ denied_applied before c started word kind n x d h good k is = by_life c.single.c
     by_life : (y : Life) → c.single.connection.life ≡ y → HasApplied (before ++ turn_of c word kind ∷ []) (with_work (record { core = turned c kind; acts = [] }) (unauthorized_at (record { conn = c.single.connection; acts = [] }) x y)) started
     by_life Dialing e = dialing_quiet before c started word kind n d.apart h good k is e
     by_life (Wanting link) e = denied_fails before c started word kind n x link d h good k is e
-    by_life (SettingUp link with_user) e =
-        let s = setting_tied (book before) (inner c started) link with_user e h.sound.tied in
-        late (setting_heard l n link with_user s.up s.said ∙ d.ends told ∙ left_if (lacks_credentials l) (Some (by_opening x)) None (has_credentials l.creds s.has))
+    by_life (SettingUp link greeting) e =
+        let s = setting_tied (book before) (inner c started) link greeting e h.sound.tied in
+        late (setting_heard l n link greeting s.up s.said ∙ d.ends told ∙ left_if (lacks_credentials l) (Some (by_opening x)) None (has_credentials l.creds s.has))
     by_life (Ready link) e =
         let u = up_tied (book before) (inner c started) link e h.sound.tied in
         late (ready_heard l n u.up u.well ∙ d.calm told)

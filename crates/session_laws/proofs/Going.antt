@@ -1,38 +1,41 @@
 -- A session whose event has had its own effect, while requests are moved.
 use Rattle.std.proofs.Common.{◌+◌, ◌≤◌, List, None, Option, Some, [], ap, arith, false, inl, inr, length, refl, subst, sym, true, ℕ, ◌++◌, ◌<◌, ◌∙◌, ◌∷◌, ◌≡◌, ◌⊎◌}
-use Rattle.std.specs.Prelude.{Bool, if◌then◌else◌, is_some, ◌==◌}
+use Rattle.std.specs.Prelude.{if◌then◌else◌, is_some, ◌==◌}
 use Rattle.containers.proofs.Choices.{by_test, chosen, eq_from, left_if, ne_from, not_both}
 use Rattle.redis_error.specs.declared.redis_error.RedisError.{RedisError}
 use Rattle.credentials.specs.Credentials.{Credentials}
 use Rattle.driver_model.specs.declared.action.Action.{Action}
-use Rattle.driver_model.specs.declared.action.Owner.TheVariants as owner
 use Rattle.driver_model.specs.declared.action.WaitKind.TheVariants as wait
 use Rattle.link_core.specs.Link.{LinkState, holds_back, is_full_beside}
 use Rattle.link_laws.proofs.TiedLink.{TiedLink}
 use Rattle.mux_conn.specs.Connection.{has_no_permit, in_front, is_due as is_renewal_due, is_ready}
-use Rattle.mux_conn.specs.Effects.{setup_queued}
+use Rattle.mux_conn.specs.Effects.{setup_queued, setup_id}
 use Rattle.mux_conn.specs.Requests.{name_at}
 use Rattle.mux_conn.specs.declared.renewal.Renewal.{Renewal}
+use Rattle.mux_conn.specs.declared.life.Greeting.{Greeting}
 use Rattle.mux_conn.specs.declared.life.Life.{Life}
 use Rattle.mux_conn.specs.declared.life.Life.TheVariants.{Dialing, Ended, Ready, SettingUp, Wanting}
 use Rattle.legal_trace.specs.Book.{Book, blank_book, book, entered, if_mine}
-use Rattle.legal_trace.specs.Ledger.{Ledger, Line, dials, ending, is_set_up, lacks_credentials, noted, noted_each, renewal_count, renewal_due, renewals_asked, setup_count, setup_due, setup_steps}
-use Rattle.legal_trace.specs.Legal.{AllStand, CanMove, IsApplied, IsBegun, IsFirstToMove, IsMoved, MayStand, NoneEnds, RenewalsAreStarted, RenewalsAreTimed, SetupsAreStarted}
+use Rattle.legal_trace.specs.Ledger.{Ledger, Line, dials, ending, is_set_up, lacks_credentials, noted, noted_each, renewal_count, renewal_due, renewals_asked, setup_count, setup_due, setup_steps, monitor_due, is_greeted, setup_result}
+use Rattle.legal_trace.specs.Legal.{AllStand, CanMove, IsApplied, IsBegun, IsFirstToMove, IsMoved, MayStand, NoneEnds, RenewalsAreStarted, RenewalsAreTimed, SetupsAreStarted, MonitorsAreStarted}
 use Rattle.legal_trace.specs.Steps.{Step, is_due, is_held_back, next_step, nothing, starts_or_waits, step_ready, unready_wait, waits}
 use Rattle.session_laws.proofs.Ahead.{HasSeats, IsRunning, creds_step, full_step, held_by, permit_step, queue_step, ready_alive, running_of, setup_step}
 use Rattle.session_laws.proofs.Behind.{alive_behind}
-use Rattle.session_laws.proofs.Creds.{lacking_undue, wanting_lacks}
+use Rattle.session_laws.proofs.Creds.{lacking_undue, wanting_lacks, lacking_undecided}
 use Rattle.session_laws.proofs.Entered.{book_more, sound_more}
 use Rattle.session_laws.proofs.InLine.{first_is_least, kept_ids, kept_in}
 use Rattle.session_laws.proofs.Moves.{IsLater, later_of, unstarted_alive}
 use Rattle.session_laws.proofs.Names.{earlier_name}
 use Rattle.session_laws.proofs.Numbers.{IsIn, Rising, in_left, in_right, rising_in, rising_right, requests_in}
-use Rattle.session_laws.proofs.Owes.{created_is, ends_told, none_open, none_owed, pushes_told}
+use Rattle.session_laws.proofs.Owes.{created_is, ends_told, none_open, none_owed, notices_told}
 use Rattle.session_laws.proofs.Renewals.{all_timed, down_renewed_due, due_is, none_renewed_due}
 use Rattle.session_laws.proofs.Said.{sources_asked}
-use Rattle.session_laws.proofs.SetUp.{down_undue, none_due, sent_undue, set_up_undue}
+use Rattle.session_laws.proofs.SetUp.{down_undue, none_due, sent_undue, set_up_undue, setting_undecided}
 use Rattle.session_laws.proofs.States.{IsFit}
-use Rattle.session_laws.proofs.Tied.{AreSought, HasSaid, Inner, IsSetUp, Sound, Tied, TiedLife, TiedRenewal, carried, has_ended, link_in, owner_of, queue_ids, AreRenewed, waiting_ids, whole_link, IsToldIn}
+use Rattle.session_laws.proofs.Tied.{AreSought, HasSaid, Inner, IsSetUp, Sound, Tied, TiedLife, TiedRenewal, carried, has_ended, link_in, owner_of, queue_ids, AreRenewed, waiting_ids, whole_link, IsToldIn, greeter, IsGreeting, watch_queued}
+use Rattle.mux_conn.specs.declared.life.Greeting.TheVariants as greet
+use Rattle.legal_trace.proofs.Setups.{IsUndecided, greeted_is_undue}
+use Rattle.legal_trace.proofs.Watching.{watch_is_up, watch_is_greeted, watch_is_new, watch_is_unset}
 
 -- where new credentials are to be told on a link that is set up, their timer was asked for, and the link is held back
 abbrev pub HasRenewed : Renewal → Life → Type 0
@@ -54,10 +57,10 @@ going_more trace a t stands may tied none renewed = record {
 
 -- the event has had its effect, while nothing is to be answered and the link has not ended
 pub applied_up : (b : Book) (t : Inner) → Tied b t → t.pending ≡ [] → IsToldIn t → has_ended t.life ≡ false → NoneEnds b → IsApplied b
-applied_up b t h none told up ended = record { answered = none_owed b t h none up; ended = ended; created = created_is b t h; pushed = pushes_told b t h told.0; parted = ends_told b t h told.1; sourced = sources_asked b t h; timed = h.numbers.timed }
+applied_up b t h none told up ended = record { answered = none_owed b t h none up; ended = ended; created = created_is b t h; pushed = notices_told b t h told.0; parted = ends_told b t h told.1; sourced = sources_asked b t h; timed = h.numbers.timed }
 
 -- each setup has started that is to start, but where its link is held back, where it is so of the link of the session
-pub setups_started : (b : Book) (t : Inner) → Tied b t → ((link : LinkState) (with_user : Bool) → t.life ≡ SettingUp link with_user → (setup_due (b.link t.link) ≡ None) ⊎ (is_held_back b (b.link t.link) ≡ true)) → SetupsAreStarted b
+pub setups_started : (b : Book) (t : Inner) → Tied b t → ((link : LinkState) (greeting : Greeting) → t.life ≡ SettingUp link greeting → (setup_due (b.link t.link) ≡ None) ⊎ (is_held_back b (b.link t.link) ≡ true)) → SetupsAreStarted b
 setups_started b t h mine m k due = by_test (m == t.link) _
     (λ same. subst (λ n. is_held_back b (b.link n) ≡ true) (sym (eq_from m t.link same)) (by_life t.life refl (subst (λ n. setup_due (b.link n) ≡ Some k) (eq_from m t.link same) due)))
     (λ other. absurd (undue (b.link m) (down_undue (b.link m) (h.others m (ne_from m t.link other)).up) due))
@@ -72,15 +75,33 @@ setups_started b t h mine m k due = by_test (m == t.link) _
         let said : HasSaid l t.started (Wanting link) = subst (HasSaid l t.started) e h.setup.said in
         let lacks : lacks_credentials l ≡ true = wanting_lacks l.creds link (subst (AreSought l.creds) e h.creds.sought) in
         absurd (undue l (none_due l (lacking_undue l lacks said.0)) d)
-    by_life (SettingUp link with_user) e d = elim (mine link with_user e) [ inl none ↦ absurd (undue (b.link t.link) none d) | inr held ↦ held ]
+    by_life (SettingUp link greeting) e d = elim (mine link greeting e) [ inl none ↦ absurd (undue (b.link t.link) none d) | inr held ↦ held ]
     by_life (Ready link) e d =
         let said : IsSetUp (b.link t.link) = subst (HasSaid (b.link t.link) t.started) e h.setup.said in
         absurd (undue (b.link t.link) (none_due (b.link t.link) (set_up_undue (b.link t.link) said)) d)
     by_life (Ended x) e d = absurd (undue (b.link t.link) (down_undue (b.link t.link) (subst (TiedLife (b.link t.link) b.created) e h.life).0) d)
 
+-- and so has MONITOR
+pub monitors_started : (b : Book) (t : Inner) → Tied b t → ((link : LinkState) → t.life ≡ SettingUp link greet.Monitor → (monitor_due (b.link t.link) ≡ true → ⊥) ⊎ (is_held_back b (b.link t.link) ≡ true)) → MonitorsAreStarted b
+monitors_started b t h mine m due = by_test (m == t.link) _
+    (λ same. subst (λ n. is_held_back b (b.link n) ≡ true) (sym (eq_from m t.link same)) (by_life t.life refl (subst (λ n. monitor_due (b.link n) ≡ true) (eq_from m t.link same) due)))
+    (λ other. absurd (not_both (b.link m).up (h.others m (ne_from m t.link other)).up (watch_is_up (b.link m) due)))
+  where
+    ungreeted : (l : Ledger) → IsUndecided (setup_result l) → monitor_due l ≡ true → ⊥
+    ungreeted l open_is d = not_both (is_greeted l) open_is.unwell (watch_is_greeted l d)
+
+    by_life : (life : Life) → t.life ≡ life → monitor_due (b.link t.link) ≡ true → is_held_back b (b.link t.link) ≡ true
+    by_life Dialing e d = absurd (not_both (b.link t.link).up (subst (TiedLife (b.link t.link) b.created) e h.life).1 (watch_is_up (b.link t.link) d))
+    by_life (Wanting link) e d = let l = b.link t.link in absurd (ungreeted l (lacking_undecided l (wanting_lacks l.creds link (subst (AreSought l.creds) e h.creds.sought))) d)
+    by_life (SettingUp link greet.WithUser) e d = let l = b.link t.link in absurd (ungreeted l (setting_undecided l link greet.WithUser (subst (HasSaid l t.started) e h.setup.said).1) d)
+    by_life (SettingUp link greet.WithoutUser) e d = let l = b.link t.link in absurd (ungreeted l (setting_undecided l link greet.WithoutUser (subst (HasSaid l t.started) e h.setup.said).1) d)
+    by_life (SettingUp link greet.Monitor) e d = elim (mine link e) [ inl never ↦ absurd (never d) | inr held ↦ held ]
+    by_life (Ready link) e d = let l = b.link t.link in absurd (not_both (is_set_up l) (watch_is_unset l d) (subst (HasSaid l t.started) e h.setup.said).well)
+    by_life (Ended x) e d = absurd (not_both (b.link t.link).up (subst (TiedLife (b.link t.link) b.created) e h.life).0 (watch_is_up (b.link t.link) d))
+
 -- what is ready isn't being set up
-ready_not_setting : (life : Life) (link : LinkState) (with_user : Bool) → is_ready life ≡ true → life ≡ SettingUp link with_user → ⊥
-ready_not_setting life link with_user r e = not_both (is_ready life) (ap is_ready e) r
+ready_not_setting : (life : Life) (link : LinkState) (greeting : Greeting) → is_ready life ≡ true → life ≡ SettingUp link greeting → ⊥
+ready_not_setting life link greeting r e = not_both (is_ready life) (ap is_ready e) r
 
 -- new credentials
 --
@@ -116,7 +137,7 @@ renewals_timed b t h asked m some = by_test (m == t.link) _
         let r = subst (TiedRenewal l t.renewal) e h.renewal in
         let k = undue_asked l (none_renewed_due l t.renewal r) in
         omega (arith, r.unstarted)
-    by_life (SettingUp link with_user) e =
+    by_life (SettingUp link greeting) e =
         let r = subst (TiedRenewal l t.renewal) e h.renewal in
         let k = undue_asked l (none_renewed_due l t.renewal r) in
         omega (arith, r.unstarted)
@@ -141,7 +162,7 @@ renewals_started b t h bound renewed m c due = by_test (m == t.link) _
     by_life : (life : Life) → t.life ≡ life → renewal_due (b.link t.link) ≡ Some c → is_held_back b (b.link t.link) ≡ true
     by_life Dialing e d = absurd (no_due (b.link t.link) (down_renewed_due (b.link t.link) (subst (TiedLife (b.link t.link) b.created) e h.life).1) d)
     by_life (Wanting link) e d = let r = subst (TiedRenewal (b.link t.link) t.renewal) e h.renewal in absurd (no_due (b.link t.link) (none_renewed_due (b.link t.link) t.renewal r) d)
-    by_life (SettingUp link with_user) e d = let r = subst (TiedRenewal (b.link t.link) t.renewal) e h.renewal in absurd (no_due (b.link t.link) (none_renewed_due (b.link t.link) t.renewal r) d)
+    by_life (SettingUp link greeting) e d = let r = subst (TiedRenewal (b.link t.link) t.renewal) e h.renewal in absurd (no_due (b.link t.link) (none_renewed_due (b.link t.link) t.renewal r) d)
     by_life (Ready link) e d =
         let l = b.link t.link in
         let r = subst (TiedRenewal l t.renewal) e h.renewal in
@@ -154,7 +175,8 @@ renewals_started b t h bound renewed m c due = by_test (m == t.link) _
 pub begun_up : (b : Book) (t : Inner) → Tied b t → IsRunning t → IsToldIn t → NoneEnds b → HasRenewed t.renewal t.life → IsBegun b
 begun_up b t h r told ended renewed = record {
   applied = applied_up b t h r.settled told (ready_alive t.life r.up) ended;
-  setups = setups_started b t h (λ link with_user e. absurd (ready_not_setting t.life link with_user r.up e));
+  setups = setups_started b t h (λ link greeting e. absurd (ready_not_setting t.life link greeting r.up e));
+  monitors = monitors_started b t h (λ link e. absurd (ready_not_setting t.life link greet.Monitor r.up e));
   timed = renewals_timed b t h (λ link e due. (renewed link e due).0);
   renewed = renewals_started b t h (λ link e. ap (λ (x : Life). (link_in x).boundary) (sym e) ∙ r.fit.bound_is) renewed;
 }
@@ -165,7 +187,7 @@ applied_over b t e h none told over empty ended = record {
   answered = λ n o. absurd (none_open b t e n h none over empty o);
   ended = ended;
   created = created_is b t h;
-  pushed = pushes_told b t h told.0;
+  pushed = notices_told b t h told.0;
   parted = ends_told b t h told.1;
   sourced = sources_asked b t h;
   timed = h.numbers.timed;
@@ -248,7 +270,7 @@ down_moves_none b t h down n m =
 dialing_down : (l : Ledger) (created : ℕ) (life : Life) → life ≡ Dialing → TiedLife l created life → l.up ≡ false
 dialing_down l created Dialing e h = h.1
 dialing_down l created (Wanting link) e h = cc
-dialing_down l created (SettingUp link with_user) e h = cc
+dialing_down l created (SettingUp link greeting) e h = cc
 dialing_down l created (Ready link) e h = cc
 dialing_down l created (Ended x) e h = cc
 
@@ -259,23 +281,52 @@ wanting_moves_none b t link h e n m =
     not_both (is_due (next_step b n)) (ap (λ k. is_due (next_step b k)) (sym a.name) ∙ ap is_due (creds_step b t a.p link h e a.within)) m.due
 
 -- nor does one on a link that isn't set up
-setting_moves_none : (b : Book) (t : Inner) (link : LinkState) (with_user : Bool) → Tied b t → t.life ≡ SettingUp link with_user → (n : ℕ) → CanMove b n → ⊥
-setting_moves_none b t link with_user h e n m =
+setting_moves_none : (b : Book) (t : Inner) (link : LinkState) (greeting : Greeting) → Tied b t → t.life ≡ SettingUp link greeting → (n : ℕ) → CanMove b n → ⊥
+setting_moves_none b t link greeting h e n m =
     let a = alive_behind b t n h (unstarted_alive (b.story n) m.unstarted) in
-    not_both (is_due (next_step b n)) (ap (λ k. is_due (next_step b k)) (sym a.name) ∙ ap is_due (setup_step b t a.p link with_user h e a.within)) m.due
+    not_both (is_due (next_step b n)) (ap (λ k. is_due (next_step b k)) (sym a.name) ∙ ap is_due (setup_step b t a.p link greeting h e a.within)) m.due
 
--- the setup of a link is to start no more, or is held back
-setting_done : (b : Book) (t : Inner) (link : LinkState) (with_user : Bool) → Tied b t → t.life ≡ SettingUp link with_user → IsFit t.size t.bound link → (link.queue ≡ []) ⊎ (holds_back link ≡ true) → (setup_due (b.link t.link) ≡ None) ⊎ (is_held_back b (b.link t.link) ≡ true)
-setting_done b t link with_user h e fit held =
+-- what gives no number is nothing
+pub none_given : (o : Option ℕ) → ((k : ℕ) → o ≡ Some k → ⊥) → o ≡ None
+none_given None never = refl
+none_given (Some k) never = absurd (never k refl)
+
+-- a link is held back by what is unwritten
+setting_held : (b : Book) (t : Inner) (link : LinkState) (greeting : Greeting) → Tied b t → t.life ≡ SettingUp link greeting → IsFit t.size t.bound link → holds_back link ≡ true → is_held_back b (b.link t.link) ≡ true
+setting_held b t link greeting h e fit stuck =
+    let l = b.link t.link in
+    let tied : TiedLink (λ (p : ℕ). greeter greeting) l link = subst (λ (x : Life). TiedLink (carried x t.requests) l (whole_link x)) e (h.link (ap has_ended e)) in
+    held_by b t (λ (p : ℕ). greeter greeting) link h.numbers fit.bound_is tied ∙ stuck
+
+-- the setup of a link is to start no more, where nothing is in its queue
+setup_gone : (l : Ledger) (link : LinkState) (greeting : Greeting) → IsGreeting l link greeting → link.queue ≡ [] → setup_due l ≡ None
+setup_gone l link greet.WithUser said empty = elim said.stage [
+  | inl due ↦ absurd (let no : [] ≡ setup_queued (setup_steps l (setup_count l.starts)) (setup_id greet.WithUser) ∷ [] = sym empty ∙ due.queue in cc)
+  | inr sent ↦ none_due l (sent_undue l link greet.WithUser sent)
+]
+setup_gone l link greet.WithoutUser said empty = elim said.stage [
+  | inl due ↦ absurd (let no : [] ≡ setup_queued (setup_steps l (setup_count l.starts)) (setup_id greet.WithoutUser) ∷ [] = sym empty ∙ due.queue in cc)
+  | inr sent ↦ none_due l (sent_undue l link greet.WithoutUser sent)
+]
+setup_gone l link greet.Monitor said empty = none_given (setup_due l) (λ k due. greeted_is_undue l k said.greeted due)
+
+-- it is to start no more, or is held back
+setting_done : (b : Book) (t : Inner) (link : LinkState) (greeting : Greeting) → Tied b t → t.life ≡ SettingUp link greeting → IsFit t.size t.bound link → (link.queue ≡ []) ⊎ (holds_back link ≡ true) → (setup_due (b.link t.link) ≡ None) ⊎ (is_held_back b (b.link t.link) ≡ true)
+setting_done b t link greeting h e fit held =
+    let said = (subst (HasSaid (b.link t.link) t.started) e h.setup.said).1 in
+    elim held [ inl empty ↦ inl (setup_gone (b.link t.link) link greeting said empty) | inr stuck ↦ inr (setting_held b t link greeting h e fit stuck) ]
+
+-- and so is MONITOR
+watching_done : (b : Book) (t : Inner) (link : LinkState) → Tied b t → t.life ≡ SettingUp link greet.Monitor → IsFit t.size t.bound link → (link.queue ≡ []) ⊎ (holds_back link ≡ true) → (monitor_due (b.link t.link) ≡ true → ⊥) ⊎ (is_held_back b (b.link t.link) ≡ true)
+watching_done b t link h e fit held =
     let l = b.link t.link in
     let said = (subst (HasSaid l t.started) e h.setup.said).1 in
-    let tied : TiedLink (λ (p : ℕ). owner.Setup) l link = subst (λ (x : Life). TiedLink (carried x t.requests) l (whole_link x)) e (h.link (ap has_ended e)) in
     elim held [
-      | inl empty ↦ elim said.stage [
-        | inl due ↦ absurd (let no : [] ≡ setup_queued (setup_steps l (setup_count l.starts)) with_user ∷ [] = sym empty ∙ due.queue in cc)
-        | inr sent ↦ inl (none_due l (sent_undue l link with_user sent))
-      ]
-      | inr stuck ↦ inr (held_by b t (λ (p : ℕ). owner.Setup) link h.numbers fit.bound_is tied ∙ stuck)
+      | inl empty ↦ inl (λ due. elim said.stage [
+        | inl queued ↦ (let no : [] ≡ watch_queued ∷ [] = sym empty ∙ queued.queue in cc)
+        | inr sent ↦ (let no : ◌≡◌ {A = Option ℕ} None (Some sent.k) = sym (watch_is_new l due) ∙ sent.sent in cc)
+      ])
+      | inr stuck ↦ inr (setting_held b t link greet.Monitor h e fit stuck)
     ]
 
 -- on a link that is up what is in the queue is held back, those that wait for a place find it full, and the others no permit
@@ -302,12 +353,15 @@ up_moves_none b t h r nobody still full none n m =
 pub is_moved : (b : Book) (t : Inner) → Tied b t → t.pending ≡ [] → IsToldIn t → t.letting ≡ [] → NoneEnds b → ((link : LinkState) → t.life ≡ Ready link → IsFit t.size t.bound link) → (((link : LinkState) → t.life ≡ Ready link → ⊥) → t.admitted ≡ [])
     → ((link : LinkState) → t.life ≡ Ready link → (link.queue ≡ []) ⊎ (holds_back link ≡ true)) → ((link : LinkState) → t.life ≡ Ready link → (t.admitted ≡ []) ⊎ (is_full_beside link (in_front t.renewal) ≡ true))
     → ((link : LinkState) → t.life ≡ Ready link → (t.waiting ≡ []) ⊎ (has_no_permit t.limit t.free ≡ true)) → (has_ended t.life ≡ true → t.waiting ≡ [])
-    → ((link : LinkState) (with_user : Bool) → t.life ≡ SettingUp link with_user → IsFit t.size t.bound link) → ((link : LinkState) (with_user : Bool) → t.life ≡ SettingUp link with_user → (link.queue ≡ []) ⊎ (holds_back link ≡ true))
+    → ((link : LinkState) (greeting : Greeting) → t.life ≡ SettingUp link greeting → IsFit t.size t.bound link) → ((link : LinkState) (greeting : Greeting) → t.life ≡ SettingUp link greeting → (link.queue ≡ []) ⊎ (holds_back link ≡ true))
     → HasSeats t.moved (in_front t.renewal) (link_in t.life) t.size → HasRenewed t.renewal t.life → IsMoved b
 is_moved b t h none told alone ends fit nobody held full stuck gone setup_fit setup_held seats renewed = by_life t.life refl
   where
     setups : SetupsAreStarted b
-    setups = setups_started b t h (λ link with_user e. setting_done b t link with_user h e (setup_fit link with_user e) (setup_held link with_user e))
+    setups = setups_started b t h (λ link greeting e. setting_done b t link greeting h e (setup_fit link greeting e) (setup_held link greeting e))
+
+    monitors : MonitorsAreStarted b
+    monitors = monitors_started b t h (λ link e. watching_done b t link h e (setup_fit link greet.Monitor e) (setup_held link greet.Monitor e))
 
     timed : RenewalsAreTimed b
     timed = renewals_timed b t h (λ link e due. (renewed link e due).0)
@@ -317,21 +371,21 @@ is_moved b t h none told alone ends fit nobody held full stuck gone setup_fit se
 
     by_life : (life : Life) → t.life ≡ life → IsMoved b
     by_life Dialing e = record {
-      begun = record { applied = applied_up b t h none told (ap has_ended e) ends; setups = setups; timed = timed; renewed = told_all };
+      begun = record { applied = applied_up b t h none told (ap has_ended e) ends; setups = setups; monitors = monitors; timed = timed; renewed = told_all };
       moved = down_moves_none b t h (dialing_down (b.link t.link) b.created t.life e h.life);
     }
     by_life (Wanting link) e = record {
-      begun = record { applied = applied_up b t h none told (ap has_ended e) ends; setups = setups; timed = timed; renewed = told_all };
+      begun = record { applied = applied_up b t h none told (ap has_ended e) ends; setups = setups; monitors = monitors; timed = timed; renewed = told_all };
       moved = wanting_moves_none b t link h e;
     }
-    by_life (SettingUp link with_user) e = record {
-      begun = record { applied = applied_up b t h none told (ap has_ended e) ends; setups = setups; timed = timed; renewed = told_all };
-      moved = setting_moves_none b t link with_user h e;
+    by_life (SettingUp link greeting) e = record {
+      begun = record { applied = applied_up b t h none told (ap has_ended e) ends; setups = setups; monitors = monitors; timed = timed; renewed = told_all };
+      moved = setting_moves_none b t link greeting h e;
     }
     by_life (Ready link) e =
         let here : link_in t.life ≡ link = ap link_in e in
         record {
-          begun = record { applied = applied_up b t h none told (ap has_ended e) ends; setups = setups; timed = timed; renewed = told_all };
+          begun = record { applied = applied_up b t h none told (ap has_ended e) ends; setups = setups; monitors = monitors; timed = timed; renewed = told_all };
           moved = up_moves_none b t h (running_of t link none e (fit link e) (subst (λ (x : LinkState). HasSeats t.moved (in_front t.renewal) x t.size) here seats)) alone
               (subst (λ (x : LinkState). (x.queue ≡ []) ⊎ (holds_back x ≡ true)) (sym here) (held link e))
               (subst (λ (x : LinkState). (t.admitted ≡ []) ⊎ (is_full_beside x (in_front t.renewal) ≡ true)) (sym here) (full link e))
@@ -341,6 +395,7 @@ is_moved b t h none told alone ends fit nobody held full stuck gone setup_fit se
       begun = record {
         applied = applied_over b t x h none told e (λ i. kept_ids (nobody (λ link r. (let no : Ended x ≡ Ready link = sym e ∙ r in cc)) i) (gone (ap has_ended e) i)) ends;
         setups = setups;
+        monitors = monitors;
         timed = timed;
         renewed = told_all;
       };

@@ -1,6 +1,6 @@
 -- For how many new credentials a connection was asked: its effects leave it, and where a turn's moves ask for more, these are told,
 -- or wait on a link that is ready.
-use Rattle.std.proofs.Common.{◌≡◌, ◌⊎◌, inl, inr, ℕ, ◌+◌, ◌==◌, nat_le, Bool, true, false, ◌&&◌, List, [], ◌∷◌, length, Option, Some, None, slice_get, if◌then◌else◌, refl, ap, ◌∙◌}
+use Rattle.std.proofs.Common.{◌≡◌, ◌⊎◌, inl, inr, ℕ, ◌+◌, ◌==◌, nat_le, Bool, true, false, ◌&&◌, List, [], ◌∷◌, length, Option, Some, None, slice_get, if◌then◌else◌, refl, ap, ◌∙◌, ◌||◌}
 use Rattle.containers.proofs.Choices.{chosen, not_both, both_left, both_right}
 use Rattle.credentials.specs.Credentials.{Credentials}
 use Rattle.redis_error.specs.declared.redis_error.RedisError.{RedisError}
@@ -22,14 +22,15 @@ use Rattle.driver_model.specs.declared.news.LinkFault.{LinkFault}
 use Rattle.driver_model.specs.declared.news.LinkFault.TheVariants as fault
 use Rattle.driver_model.specs.declared.outcome.Outcome.{Outcome}
 use Rattle.driver_model.specs.declared.outcome.Outcome.TheVariants as outcome
-use Rattle.driver_model.specs.News.{News, silence, connected, refused, overdue, took, came, failed, authorized, denied, deserted, renewed, unrenewed, late, shut, news_of}
-use Rattle.link_core.specs.declared.message.PushAt.{PushAt}
+use Rattle.driver_model.specs.News.{News, silence, connected, refused, overdue, took, came, failed, authorized, denied, deserted, renewed, unrenewed, late, shut, news_of, dropped}
+use Rattle.link_core.specs.declared.message.NoticeAt.{NoticeAt}
 use Rattle.link_core.specs.declared.message.Settled.{Settled}
 use Rattle.link_core.specs.declared.message.Started.{Started}
-use Rattle.link_core.specs.Link.{LinkState, closed_all, faulted, holds_back, started_all, piece_dealt, offered_of}
+use Rattle.link_core.specs.Link.{LinkState, closed_all, faulted, holds_back, started_all, piece_read, offered_of}
 use Rattle.link_core.specs.Outbox.{can_offer}
 use Rattle.mux_conn.specs.declared.act.LinkAct.TheVariants as act
 use Rattle.mux_conn.specs.declared.connection.MultiplexedConnection.{MultiplexedConnection}
+use Rattle.mux_conn.specs.declared.life.Greeting.{Greeting}
 use Rattle.mux_conn.specs.declared.life.Life.{Life}
 use Rattle.mux_conn.specs.declared.life.Life.TheVariants.{Dialing, Wanting, SettingUp, Ready, Ended}
 use Rattle.mux_conn.specs.declared.request.Pending.{Pending}
@@ -38,13 +39,17 @@ use Rattle.mux_conn.specs.Connection.{Work, acted, admits_none, at_life, has_roo
 use Rattle.mux_conn.specs.Requests.{answered, is_admitted_at, is_open_at, is_waiting_at, name_at}
 use Rattle.mux_conn.specs.Renewals.{is_done, renewal_asked, renewal_id, renewal_moved, renewing, replied, takes_more, is_unanswered, asked_next, renewal_timed}
 use Rattle.mux_conn.specs.Renewals.{renewed as auth_told}
-use Rattle.mux_conn.specs.Effects.{all_answered, all_fresh, answered_setup, applied, authorized_at, behind_first, broken_at, cancelled_in, come_up, comes_to_want, connected_at, cut_short, failed_at, failed_each, heard_in, heard_on, judged_by, made_ready, new_link, nobody_waits, opening_failed, overdue_at, parted, pushed, pushed_each, read_at, refused_at, set_up_by, sets_up, settled_each, settled_one, shut_at, steps_of, taken_at, timed_out, told_each, unauthorized_at, waiting_failed, with_credentials}
-use Rattle.mux_conn.specs.Passes.{admitted, admitted_at, admitted_each, let_in, moved_up, moved_up_all, moved_up_each, passed, permits_taken, placed_at, put_behind, seated, set_up_each, shown_each, started, started_at, still_admitted, still_waiting, timer_asked, told_at_place, took_shown}
+use Rattle.mux_conn.specs.Effects.{all_answered, all_fresh, answered_setup, applied, authorized_at, behind_first, broken_at, cancelled_in, come_up, comes_to_want, connected_at, cut_short, failed_at, failed_each, heard_on, judged_by, made_ready, new_link, nobody_waits, opening_failed, overdue_at, parted, read_at, refused_at, set_up_by, sets_up, settled_each, settled_one, shut_at, steps_of, taken_at, timed_out, told_each, unauthorized_at, waiting_failed, with_credentials, dropped_at, dropped_by, ended_by, greeted, greeted_by, greeting_error, is_unreadable, noticed, noticed_each}
+use Rattle.mux_conn.specs.Passes.{admitted, admitted_at, admitted_each, let_in, moved_up, moved_up_all, moved_up_each, passed, permits_taken, placed_at, put_behind, seated, greeted_each, greeting_act, shown_each, started, started_at, still_admitted, still_waiting, timer_asked, told_at_place, took_shown}
 use Rattle.mux_conn.specs.Passes.{took as took_permits}
 use Rattle.mux_conn.specs.Turn.{flushed, fresh_each_shown, fresh_wait, moved_each_shown, moved_shown, moved_wait, wait_shown, written, written_at}
 use Rattle.shared_session.specs.declared.core_state.Core.{Core}
 use Rattle.shared_session.specs.Turn.{Turning, asked_for, counted, effect, fired_by, heard, late_by, left_by, moved_on, refused_with, requested, submitted, work_of}
 use Rattle.session_laws.proofs.ComeUp.{made_conn}
+use Rattle.driver_model.specs.Hearing.{hears_pushes, hears_messages, is_watching, felt}
+use Rattle.driver_model.specs.Kind.{is_single}
+use Rattle.mux_conn.specs.declared.life.Greeting.TheVariants as greet
+use Rattle.driver_model.specs.declared.hearing.Hearing.TheVariants as hearing
 
 -- so many were asked for
 abbrev HasAsked : ℕ → Work → Type 0
@@ -74,17 +79,17 @@ failed_asked n w e (q ∷ qs) h = failed_asked n (answered w q.number (outcome.F
 waiting_asked : (n : ℕ) (w : Work) (e : RedisError) → HasAsked n w → HasAsked n (waiting_failed w e)
 waiting_asked n w e h = failed_asked n (failed_each (nobody_waits w) e w.conn.admitted) e w.conn.waiting (failed_asked n (nobody_waits w) e w.conn.admitted h)
 
--- pushes that are told
-pushed_asked : (n : ℕ) (w : Work) (ps : List PushAt) → HasAsked n w → HasAsked n (pushed_each w ps)
-pushed_asked n w [] h = h
-pushed_asked n w (p ∷ ps) h = pushed_asked n (pushed w p.info) ps h
+-- notices that are told
+noticed_asked : (n : ℕ) (w : Work) (ns : List NoticeAt) → HasAsked n w → HasAsked n (noticed_each w ns)
+noticed_asked n w [] h = h
+noticed_asked n w (x ∷ xs) h = noticed_asked n (noticed w x.notice) xs h
 
--- settled messages, and pushes between them
-told_asked : (n : ℕ) (w : Work) (k : ℕ) (ps : List PushAt) (ss : List Settled) → HasAsked n w → HasAsked n (told_each w k ps ss)
-told_asked n w k ps [] h = pushed_asked n w ps h
+-- settled messages, and notices between them
+told_asked : (n : ℕ) (w : Work) (k : ℕ) (ns : List NoticeAt) (ss : List Settled) → HasAsked n w → HasAsked n (told_each w k ns ss)
+told_asked n w k ns [] h = noticed_asked n w ns h
 told_asked n w k [] (s ∷ ss) h = settled_asked n w (s ∷ ss) h
-told_asked n w k (p ∷ ps) (s ∷ ss) h =
-    chosen (HasAsked n) (nat_le p.settled k) (told_each (pushed w p.info) k ps (s ∷ ss)) (told_each (settled_one w s) (k + 1) (p ∷ ps) ss) (λ t. told_asked n (pushed w p.info) k ps (s ∷ ss) h) (λ f. told_asked n (settled_one w s) (k + 1) (p ∷ ps) ss (one_asked n w s h))
+told_asked n w k (x ∷ xs) (s ∷ ss) h =
+    chosen (HasAsked n) (nat_le x.settled k) (told_each (noticed w x.notice) k xs (s ∷ ss)) (told_each (settled_one w s) (k + 1) (x ∷ xs) ss) (λ t. told_asked n (noticed w x.notice) k xs (s ∷ ss) h) (λ f. told_asked n (settled_one w s) (k + 1) (x ∷ xs) ss (one_asked n w s h))
 
 -- the answers of an end
 all_asked : (n : ℕ) (w : Work) (out : List Settled) → HasAsked n w → HasAsked n (all_answered w out)
@@ -92,7 +97,7 @@ all_asked n w out h = waiting_asked n (settled_each w out) error.Closed (settled
 
 -- that it is told
 parted_asked : (n : ℕ) (w : Work) → HasAsked n w → HasAsked n (parted w)
-parted_asked n w h = chosen (HasAsked n) w.conn.hears _ w (λ t. h) (λ f. h)
+parted_asked n w h = chosen (HasAsked n) (hears_pushes w.conn.hears) _ w (λ t. h) (λ f. h)
 
 -- an opening that fails
 opening_asked : (n : ℕ) (w : Work) (e : RedisError) → HasAsked n w → HasAsked n (opening_failed w e)
@@ -102,15 +107,19 @@ opening_asked n w e h = waiting_asked n (acted (at_life w (Ended e)) (act.Create
 made_asked : (n : ℕ) (w : Work) (link : LinkState) → HasAsked n w → HasAsked n (made_ready w link)
 made_asked n w link h = ap (λ (c : MultiplexedConnection). c.renewal.asked) (made_conn w link) ∙ h
 
+-- or whose server is put into monitor mode first
+greeted_asked : (n : ℕ) (w : Work) (link : LinkState) → HasAsked n w → HasAsked n (greeted w link)
+greeted_asked n w link h = chosen (HasAsked n) (is_watching w.conn.hears) (sets_up w link greet.Monitor) (made_ready w link) (λ t. h) (λ f. made_asked n w link h)
+
 -- or comes up
 come_asked : (n : ℕ) (w : Work) (link : LinkState) → HasAsked n w → HasAsked n (come_up w link)
-come_asked n w link h = chosen (HasAsked n) (says_nothing (steps_of w.conn true)) (made_ready w link) (sets_up (all_fresh w) link true) (λ t. made_asked n w link h) (λ f. h)
+come_asked n w link h = chosen (HasAsked n) (says_nothing (steps_of w.conn greet.WithUser)) (greeted w link) (sets_up (all_fresh w) link greet.WithUser) (λ t. greeted_asked n w link h) (λ f. h)
 
 -- a connect that succeeds
 connected_asked : (n : ℕ) (w : Work) (life : Life) → HasAsked n w → HasAsked n (connected_at w life)
 connected_asked n w Dialing h = chosen (HasAsked n) w.conn.renewal.wanted (comes_to_want w (new_link w.conn)) (come_up w (new_link w.conn)) (λ t. h) (λ f. come_asked n w (new_link w.conn) h)
 connected_asked n w (Wanting link) h = h
-connected_asked n w (SettingUp link with_user) h = h
+connected_asked n w (SettingUp link greeting) h = h
 connected_asked n w (Ready link) h = h
 connected_asked n w (Ended e) h = h
 
@@ -118,7 +127,7 @@ connected_asked n w (Ended e) h = h
 authorized_asked : (n : ℕ) (w : Work) (c : Credentials) (life : Life) → HasAsked n w → HasAsked n (authorized_at w c life)
 authorized_asked n w c (Wanting link) h = come_asked n (with_credentials w c) link h
 authorized_asked n w c Dialing h = h
-authorized_asked n w c (SettingUp link with_user) h = h
+authorized_asked n w c (SettingUp link greeting) h = h
 authorized_asked n w c (Ready link) h = h
 authorized_asked n w c (Ended e) h = h
 
@@ -126,7 +135,7 @@ authorized_asked n w c (Ended e) h = h
 unauthorized_asked : (n : ℕ) (w : Work) (e : RedisError) (life : Life) → HasAsked n w → HasAsked n (unauthorized_at w e life)
 unauthorized_asked n w e (Wanting link) h = opening_asked n (acted w act.Close) e h
 unauthorized_asked n w e Dialing h = h
-unauthorized_asked n w e (SettingUp link with_user) h = h
+unauthorized_asked n w e (SettingUp link greeting) h = h
 unauthorized_asked n w e (Ready link) h = h
 unauthorized_asked n w e (Ended x) h = h
 
@@ -134,7 +143,7 @@ unauthorized_asked n w e (Ended x) h = h
 refused_asked : (n : ℕ) (w : Work) (f : FaultKind) (life : Life) → HasAsked n w → HasAsked n (refused_at w f life)
 refused_asked n w f Dialing h = opening_asked n w (error.Io f) h
 refused_asked n w f (Wanting link) h = h
-refused_asked n w f (SettingUp link with_user) h = h
+refused_asked n w f (SettingUp link greeting) h = h
 refused_asked n w f (Ready link) h = h
 refused_asked n w f (Ended e) h = h
 
@@ -142,7 +151,7 @@ refused_asked n w f (Ended e) h = h
 overdue_asked : (n : ℕ) (w : Work) (life : Life) → HasAsked n w → HasAsked n (overdue_at w life)
 overdue_asked n w Dialing h = opening_asked n (acted w act.Close) _ h
 overdue_asked n w (Wanting link) h = opening_asked n (acted w act.Close) _ h
-overdue_asked n w (SettingUp link with_user) h = opening_asked n (acted w act.Close) _ h
+overdue_asked n w (SettingUp link greeting) h = opening_asked n (acted w act.Close) _ h
 overdue_asked n w (Ready link) h = h
 overdue_asked n w (Ended e) h = h
 
@@ -151,51 +160,73 @@ taken_asked : (n : ℕ) (w : Work) (count : ℕ) (life : Life) → HasAsked n w 
 taken_asked n w count (Ready link) h = h
 taken_asked n w count Dialing h = h
 taken_asked n w count (Wanting link) h = h
-taken_asked n w count (SettingUp link with_user) h = h
+taken_asked n w count (SettingUp link greeting) h = h
 taken_asked n w count (Ended e) h = h
+
+-- an end by a fault
+ended_asked : (n : ℕ) (w : Work) (link : LinkState) (f : LinkFault) → HasAsked n w → HasAsked n (ended_by w link f)
+ended_asked n w link f h = all_asked n (parted (cut_short w)) (faulted (record { link = link; out = [] }) f).out (parted_asked n (cut_short w) h)
 
 -- a fault
 fault_asked : (n : ℕ) (w : Work) (f : LinkFault) (life : Life) → HasAsked n w → HasAsked n (failed_at w f life)
-fault_asked n w f (Ready link) h = all_asked n (parted (cut_short w)) (faulted (record { link = link; out = [] }) f).out (parted_asked n (cut_short w) h)
+fault_asked n w f (Ready link) h = ended_asked n w link (felt w.conn.hears f) h
 fault_asked n w f Dialing h = h
 fault_asked n w f (Wanting link) h = opening_asked n (acted w act.Close) error.Closed h
-fault_asked n w f (SettingUp link with_user) h = opening_asked n (acted w act.Close) error.Closed h
+fault_asked n w f (SettingUp link greeting) h = opening_asked n (acted w act.Close) (greeting_error greeting link.row f) h
 fault_asked n w f (Ended e) h = h
+
+-- the stream of messages that is dropped
+stream_asked : (n : ℕ) (w : Work) (life : Life) → HasAsked n w → HasAsked n (dropped_at w life)
+stream_asked n w (Ready link) h = ended_asked n w link fault.Ended h
+stream_asked n w Dialing h = opening_asked n (acted w act.Close) error.Closed h
+stream_asked n w (Wanting link) h = opening_asked n (acted w act.Close) error.Closed h
+stream_asked n w (SettingUp link greeting) h = opening_asked n (acted w act.Close) error.Closed h
+stream_asked n w (Ended e) h = h
+
+dropped_asked : (n : ℕ) (w : Work) → HasAsked n w → HasAsked n (dropped_by w)
+dropped_asked n w h = chosen (HasAsked n) (hears_messages w.conn.hears) (dropped_at w w.conn.life) w (λ t. stream_asked n w w.conn.life h) (λ f. h)
 
 -- bytes that begin no value
 broken_asked : (n : ℕ) (broken : Bool) (w : Work) → HasAsked n w → HasAsked n (broken_at broken w)
 broken_asked n broken w h = chosen (HasAsked n) broken (failed_at w fault.Parse w.conn.life) w (λ t. fault_asked n w fault.Parse w.conn.life h) (λ f. h)
 
--- what the replies to the setup come to
-judged_asked : (n : ℕ) (w : Work) (link : LinkState) (r : SetupResult) → HasAsked n w → HasAsked n (set_up_by w link r)
-judged_asked n w link result.Ready h = made_asked n w link h
-judged_asked n w link result.RepeatWithoutUser h = h
-judged_asked n w link (result.Failed e) h = opening_asked n (acted w act.Close) e h
-judged_asked n w link result.NoMemory h = h
+-- a greeting that is answered well
+well_asked : (n : ℕ) (w : Work) (link : LinkState) (greeting : Greeting) → HasAsked n w → HasAsked n (greeted_by w link greeting)
+well_asked n w link greet.WithUser h = greeted_asked n w link h
+well_asked n w link greet.WithoutUser h = greeted_asked n w link h
+well_asked n w link greet.Monitor h = made_asked n w link h
 
--- the pushes behind it
-heard_asked : (n : ℕ) (w : Work) (ps : List PushAt) → HasAsked n w → HasAsked n (heard_on w ps)
-heard_asked n w ps h = chosen (HasAsked n) (is_ready w.conn.life) (pushed_each w ps) w (λ t. pushed_asked n w ps h) (λ f. h)
+-- what the replies to it come to
+judged_asked : (n : ℕ) (w : Work) (link : LinkState) (greeting : Greeting) (r : SetupResult) → HasAsked n w → HasAsked n (set_up_by w link greeting r)
+judged_asked n w link greeting result.Ready h = well_asked n w link greeting h
+judged_asked n w link greeting result.RepeatWithoutUser h = h
+judged_asked n w link greeting (result.Failed e) h = opening_asked n (acted w act.Close) e h
+judged_asked n w link greeting result.NoMemory h = h
 
--- the reply to the setup
-setup_asked : (n : ℕ) (w : Work) (link : LinkState) (with_user : Bool) (ps : List PushAt) (ss : List Settled) → HasAsked n w → HasAsked n (answered_setup w link with_user ps ss)
-setup_asked n w link with_user ps [] h = h
-setup_asked n w link with_user ps (s ∷ ss) h =
-    let r = judged_by (steps_of w.conn with_user) s.verdict in
-    heard_asked n (set_up_by w link r) (behind_first ps) (judged_asked n w link r h)
+-- the notices behind it
+heard_asked : (n : ℕ) (w : Work) (ns : List NoticeAt) → HasAsked n w → HasAsked n (heard_on w ns)
+heard_asked n w ns h = chosen (HasAsked n) (is_ready w.conn.life) (noticed_each w ns) w (λ t. noticed_asked n w ns h) (λ f. h)
+
+-- the reply to a greeting
+setup_asked : (n : ℕ) (w : Work) (link : LinkState) (greeting : Greeting) (ns : List NoticeAt) (ss : List Settled) → HasAsked n w → HasAsked n (answered_setup w link greeting ns ss)
+setup_asked n w link greeting ns [] h = h
+setup_asked n w link greeting ns (s ∷ ss) h =
+    let r = judged_by (steps_of w.conn greeting) s.verdict in
+    heard_asked n (set_up_by w link greeting r) (behind_first ns) (judged_asked n w link greeting r h)
 
 -- bytes that come
 read_asked : (n : ℕ) (w : Work) (piece : List ℕ) (life : Life) → HasAsked n w → HasAsked n (read_at w piece life)
 read_asked n w piece (Ready link) h =
-    let s = piece_dealt (record { link = link; out = [] }) piece in
-    broken_asked n s.link.broken (told_each (with_link w s.link) 0 (heard_in w link piece) s.out) (told_asked n (with_link w s.link) 0 (heard_in w link piece) s.out h)
+    let r = piece_read w.conn.hears true link piece in
+    broken_asked n (r.link.broken || r.strange) (told_each (with_link w r.link) 0 r.notices r.out) (told_asked n (with_link w r.link) 0 r.notices r.out h)
 read_asked n w piece Dialing h = h
 read_asked n w piece (Wanting link) h =
-    let s = piece_dealt (record { link = link; out = [] }) piece in
-    broken_asked n s.link.broken (with_wanting w s.link) h
-read_asked n w piece (SettingUp link with_user) h =
-    let s = piece_dealt (record { link = link; out = [] }) piece in
-    broken_asked n s.link.broken (answered_setup w s.link with_user (heard_in w link piece) s.out) (setup_asked n w s.link with_user (heard_in w link piece) s.out h)
+    let r = piece_read hearing.Nothing false link piece in
+    broken_asked n r.link.broken (with_wanting w r.link) h
+read_asked n w piece (SettingUp link greeting) h =
+    let r = piece_read w.conn.hears false link piece in
+    let answered = answered_setup w r.link greeting r.notices r.out in
+    broken_asked n (is_unreadable r answered) answered (setup_asked n w r.link greeting r.notices r.out h)
 read_asked n w piece (Ended e) h = h
 
 -- the shutdown
@@ -203,7 +234,7 @@ shut_asked : (n : ℕ) (w : Work) (life : Life) → HasAsked n w → HasAsked n 
 shut_asked n w (Ready link) h = all_asked n (cut_short w) (closed_all (record { link = link; out = [] })).out h
 shut_asked n w Dialing h = all_asked n (cut_short w) [] h
 shut_asked n w (Wanting link) h = all_asked n (cut_short w) [] h
-shut_asked n w (SettingUp link with_user) h = all_asked n (cut_short w) [] h
+shut_asked n w (SettingUp link greeting) h = all_asked n (cut_short w) [] h
 shut_asked n w (Ended e) h = h
 
 -- any news
@@ -221,6 +252,7 @@ applied_asked n w deserted h = unauthorized_asked n w (error.AuthFailed []) w.co
 applied_asked n w (renewed c) h = chosen (λ (x : MultiplexedConnection). x.renewal.asked ≡ n) (is_ready w.conn.life && takes_more w.conn.renewal) _ w.conn (λ t. h) (λ f. h)
 applied_asked n w unrenewed h = h
 applied_asked n w (late k) h = chosen (λ (x : MultiplexedConnection). x.renewal.asked ≡ n) (is_unanswered w.conn.renewal k) _ w.conn (λ t. h) (λ f. h)
+applied_asked n w dropped h = dropped_asked n w h
 applied_asked n w shut h = shut_asked n w w.conn.life h
 
 -- what the event is to submissions
@@ -247,13 +279,14 @@ fired_asked n t None h = h
 fired_asked n t (Some (purpose.Connect l)) h = h
 fired_asked n t (Some (purpose.Response owner.Setup)) h = h
 fired_asked n t (Some (purpose.Response owner.Auth)) h = h
+fired_asked n t (Some (purpose.Response owner.Monitor)) h = h
 fired_asked n t (Some (purpose.Renewal l k)) h = h
 fired_asked n t (Some (purpose.Response (owner.Try m round))) h = late_asked n t (slice_get t.core.table m) h
 
 -- a submission
 submitted_asked : (n : ℕ) (t : Turning) (what : Submission) → HasAsked n (work_of t) → HasAsked n (work_of (submitted t what))
 submitted_asked n t what h =
-    let lacks = lacks_resp3 t.core.single.connection.info.protocol what in
+    let lacks = lacks_resp3 t.core.single.connection.hears t.core.single.connection.info.protocol what in
     let packed = if length (packed_bytes what) == 0 then refused_with t error.EmptyCommand else asked_for t what in
     chosen (λ (x : Turning). HasAsked n (work_of x)) t.core.shut (refused_with t error.Closed) (if lacks then refused_with t error.Resp3Required else packed) (λ s. h)
     (λ f. chosen (λ (x : Turning). HasAsked n (work_of x)) lacks (refused_with t error.Resp3Required) packed (λ s. h)
@@ -266,7 +299,7 @@ requested_asked n t (event.Cancel m) h = left_asked n t (slice_get t.core.table 
 requested_asked n t (event.Connected l) h = h
 requested_asked n t (event.Refused l f) h = h
 requested_asked n t (event.Fired m) h = fired_asked n t (slice_get t.core.timers m) h
-requested_asked n t (event.Timeout ms) h = h
+requested_asked n t (event.Timeout ms) h = chosen (λ (c : Core). c.single.connection.renewal.asked ≡ n) (is_single t.core.kind) _ t.core (λ s. h) (λ f. h)
 requested_asked n t (event.Creds c auth) h = h
 requested_asked n t (event.CredsError c text) h = h
 requested_asked n t (event.CredsEnd c) h = h
@@ -275,6 +308,7 @@ requested_asked n t (event.Bytes l piece) h = h
 requested_asked n t (event.Ended l) h = h
 requested_asked n t (event.ReadFault l kind) h = h
 requested_asked n t (event.WriteFault l kind) h = h
+requested_asked n t event.DropStream h = h
 requested_asked n t event.Shutdown h = h
 
 -- an event's effect asks for none
@@ -299,10 +333,10 @@ shown_grown : (n : ℕ) (w : Work) (ss : List Started) → HasGrown n w.conn →
 shown_grown n w [] h = h
 shown_grown n w (s ∷ ss) h = shown_grown n (acted w (act.Start s.msg (name_at w.conn.requests s.id) s.need s.len)) ss h
 
--- also of a setup
-setups_grown : (n : ℕ) (w : Work) (ss : List Started) → HasGrown n w.conn → HasGrown n (set_up_each w ss).conn
-setups_grown n w [] h = h
-setups_grown n w (s ∷ ss) h = setups_grown n (acted w (act.SetUp s.msg s.need s.len)) ss h
+-- also of a greeting
+greetings_grown : (n : ℕ) (w : Work) (greeting : Greeting) (ss : List Started) → HasGrown n w.conn → HasGrown n (greeted_each w greeting ss).conn
+greetings_grown n w greeting [] h = h
+greetings_grown n w greeting (s ∷ ss) h = greetings_grown n (acted w (greeting_act greeting s)) greeting ss h
 
 -- one that isn't has asked for no more
 unready_grown : (n : ℕ) (c : MultiplexedConnection) → is_ready c.life ≡ false → HasGrown n c → c.renewal.asked ≡ n
@@ -318,7 +352,7 @@ started_grown n w h = by_life w.conn.life refl
     by_life (Wanting link) e = h
     by_life (Ended x) e = h
     by_life (Ready link) e = let s = started_all (record { link = link; out = [] }) in shown_grown n (with_link w s.link) s.out (ready_grown n w.conn s.link h)
-    by_life (SettingUp link with_user) e = let s = started_all (record { link = link; out = [] }) in setups_grown n (with_setup w s.link with_user) s.out (inl (unready_grown n w.conn (ap is_ready e) h))
+    by_life (SettingUp link greeting) e = let s = started_all (record { link = link; out = [] }) in greetings_grown n (with_setup w s.link greeting) greeting s.out (inl (unready_grown n w.conn (ap is_ready e) h))
 
 -- an answer
 answered_grown : (n : ℕ) (w : Work) (p : ℕ) (o : Outcome) → HasGrown n w.conn → HasGrown n (answered w p o).conn
@@ -330,7 +364,7 @@ placed_grown n w q (Ready link) (inl same) = inl same
 placed_grown n w q (Ready link) (inr more) = inr (refl, more.1)
 placed_grown n w q Dialing h = h
 placed_grown n w q (Wanting link) h = h
-placed_grown n w q (SettingUp link with_user) h = h
+placed_grown n w q (SettingUp link greeting) h = h
 placed_grown n w q (Ended e) h = h
 
 -- with what starts then
@@ -368,7 +402,7 @@ admitted_grown n w q (Ready link) h = chosen (λ (x : Work). HasGrown n x.conn) 
 admitted_grown n w q (Ended e) h = answered_grown n w q.number (outcome.Fault e) h
 admitted_grown n w q Dialing h = h
 admitted_grown n w q (Wanting link) h = h
-admitted_grown n w q (SettingUp link with_user) h = h
+admitted_grown n w q (SettingUp link greeting) h = h
 
 -- all that wait for the connection
 each_grown : (n : ℕ) (w : Work) (qs : List Waiting) → HasGrown n w.conn → HasGrown n (admitted_each w qs).conn
@@ -383,7 +417,7 @@ told_grown n w (Ready link) (c ∷ cs) h = chosen (λ (x : Work). HasGrown n x.c
 told_grown n w (Ready link) [] h = h
 told_grown n w Dialing cs h = h
 told_grown n w (Wanting link) cs h = h
-told_grown n w (SettingUp link with_user) cs h = h
+told_grown n w (SettingUp link greeting) cs h = h
 told_grown n w (Ended e) cs h = h
 
 -- where they are to be
@@ -406,7 +440,7 @@ written_grown : (n : ℕ) (w : Work) (life : Life) → w.conn.life ≡ life → 
 written_grown n w (Ready link) e h = chosen (λ (x : Work). HasGrown n x.conn) (can_offer link.outbox) _ w (λ t. ready_grown n w.conn (offered_of link) h) (λ f. h)
 written_grown n w Dialing e h = h
 written_grown n w (Wanting link) e h = h
-written_grown n w (SettingUp link with_user) e h = chosen (λ (x : Work). HasGrown n x.conn) (can_offer link.outbox) _ w (λ t. inl (unready_grown n w.conn (ap is_ready e) h)) (λ f. h)
+written_grown n w (SettingUp link greeting) e h = chosen (λ (x : Work). HasGrown n x.conn) (can_offer link.outbox) _ w (λ t. inl (unready_grown n w.conn (ap is_ready e) h)) (λ f. h)
 written_grown n w (Ended x) e h = h
 
 -- a wait that is shown

@@ -7,7 +7,7 @@ use Rattle.driver_model.specs.declared.action.Action.{Action}
 use Rattle.connection_info.specs.declared.address.RedisConnectionInfo.{RedisConnectionInfo}
 use Rattle.driver_model.specs.declared.action.Purpose.{Purpose}
 use Rattle.driver_model.specs.declared.event.EventKind.{EventKind}
-use Rattle.driver_model.specs.News.{News, silence, connected, took, came, failed, authorized, denied, deserted, shut, news_of, refused, overdue, renewed, unrenewed, late}
+use Rattle.driver_model.specs.News.{News, silence, connected, took, came, failed, authorized, denied, deserted, shut, news_of, refused, overdue, renewed, unrenewed, late, dropped}
 use Rattle.driver_model.specs.declared.outcome.Outcome.TheVariants as outcome
 use Rattle.link_core.specs.Link.{LinkState}
 use Rattle.link_laws.proofs.TiedLink.{TiedLink, told_tied, unheard_tied}
@@ -18,10 +18,10 @@ use Rattle.mux_conn.specs.declared.life.Life.TheVariants.{Dialing, Wanting, Sett
 use Rattle.shared_session.specs.declared.core_state.Core.{Core}
 use Rattle.shared_session.specs.Turn.{with_work, is_bad}
 use Rattle.legal_trace.specs.Ledger.{Ledger, Ending, Sourced, hears, noted, ending, ending_alive, ending_asked, is_over, bytes_came, dials, refused_in, authorized_by, awaits_credentials, is_renewal_open, lost_by, may_renew, renewed_by, unrenewed_by, renewal_count}
-use Rattle.legal_trace.specs.Book.{Book, book, entered}
+use Rattle.legal_trace.specs.Book.{Book, book, entered, hearing_in}
 use Rattle.legal_trace.specs.Story.{Story}
-use Rattle.legal_trace.specs.Legal.{NoneEnds, is_heard}
-use Rattle.session_laws.proofs.Said.{mild_end, setup_on, setup_unheard, BringsNothing, PushesOf, pushes_hear}
+use Rattle.legal_trace.specs.Legal.{NoneEnds}
+use Rattle.session_laws.proofs.Said.{mild_end, setup_on, setup_unheard, BringsNothing, PushesOf, pushes_hear, IsTame, is_tame, renoticed}
 use Rattle.session_laws.proofs.Creds.{creds_hear, down_unawaited, unawaited_is, down_may_renew, IsOfRenewals}
 use Rattle.session_laws.proofs.Tied.{Inner, inner, link_in, carried, whole_link, TiedCreds, TiedLife, TiedSetup, TiedLines, AreQueued, TiedWaits, Tied, has_ended, TiedRenewal, NoneRenewed}
 use Rattle.session_laws.proofs.States.{IsFit, IsFitIn, Between, HasApplied}
@@ -30,6 +30,8 @@ use Rattle.session_laws.proofs.Settle.{seen, trace_of_acts, Holds}
 use Rattle.session_laws.proofs.Announce.{ComesTo, comes_as, turn_of, turned, IsNewsKind, heard_book, heard_is, heard_starts, heard_tied, announced_sound, holds_first, first_book}
 use Rattle.session_laws.proofs.Renewals.{renewal_alike}
 use Rattle.mux_conn.specs.declared.renewal.Renewal.{Renewal}
+use Rattle.legal_trace.proofs.Came.{holds_bytes}
+use Rattle.mux_conn.specs.declared.life.Greeting.{Greeting}
 
 -- what a turn of news does to the ledger of the connection's link
 abbrev pub heard_by : Book → Core → News → Ledger
@@ -61,7 +63,7 @@ pub record Leads (b : Book) (c : Core) (n : News) (life : Life) (pending started
   pub lines : TiedLines b.story c.single.connection.requests (link_in life) c.single.connection.waiting c.single.connection.admitted pending started
   pub told : has_ended life ≡ false → AreQueued b.story c.single.connection.requests (link_in life)
   pub waits : TiedWaits b.story c.single.connection.requests life c.single.connection.fresh c.single.connection.moved
-  pub pushes : PushesOf (is_heard b) c.single.connection.hears (heard_by b c n)
+  pub notices : PushesOf (hearing_in b.config) c.single.connection.hears (heard_by b c n)
 
 -- the news by the timers and the sources of the book
 pub book_news : (b : Book) (c : Core) (started : List ℕ) (kind : EventKind) (n : News) → Tied b (inner c started) → news_of c.timers c.sources c.single.link kind ≡ n → news_of b.timers b.sources c.single.link kind ≡ n
@@ -93,7 +95,7 @@ pub heard_begins : (before : List Action) (c : Core) (started : List ℕ) (word 
     → Leads (book before) c n life pending started → Begins (before ++ turn_of c word kind ∷ []) (turned c kind) (lives_as c life) (heard_by (book before) c n) (book before).story pending started
 heard_begins before c started word kind n life pending h good k is g =
     let s = fresh_begins before c started word kind n c.single.connection.info life c.single.connection.fresh pending h good k is
-    (record { starts = heard_starts ((book before).link c.single.link) c.turns n; lived = g.lived; creds = g.creds; renewal_is = g.renewal_is; said = g.said; linked = g.linked; lines = g.lines; told = g.told; waits = g.waits; pushes = g.pushes }) in
+    (record { starts = heard_starts ((book before).link c.single.link) c.turns n; lived = g.lived; creds = g.creds; renewal_is = g.renewal_is; said = g.said; linked = g.linked; lines = g.lines; told = g.told; waits = g.waits; notices = g.notices }) in
     record { holds = s.holds; ledger = s.ledger; stories = s.stories }
 
 -- where the link need not end then, and no act follows, the event has had its effect
@@ -124,9 +126,17 @@ quiet_applied before c started word kind n life h good k is g no_end fit =
       fit = fit;
     }
 
--- what is still to be told of the pushes
-pub pushes_still : (before : List Action) (c : Core) (started : List ℕ) (n : News) → Between before c started → BringsNothing n ⊎ (((book before).link c.single.link).up ≡ false) → PushesOf (is_heard (book before)) c.single.connection.hears (heard_by (book before) c n)
-pushes_still before c started n h k = pushes_hear ((book before).link c.single.link) c.turns n (is_heard (book before)) c.single.connection.hears k h.sound.tied.pushes
+-- between two turns no link must end
+pub still_none : (before : List Action) (c : Core) (started : List ℕ) → Between before c started → NoneEnds (book before)
+still_none before c started h = h.settled.written.moved.begun.applied.ended
+
+-- no value came that ends the link
+pub tame_between : (before : List Action) (c : Core) (started : List ℕ) → Between before c started → IsTame ((book before).link c.single.link)
+tame_between before c started h = is_tame (book before) (inner c started) h.sound.tied (still_none before c started h c.single.link)
+
+-- what is still to be told of the notices
+pub pushes_still : (before : List Action) (c : Core) (started : List ℕ) (n : News) → Between before c started → BringsNothing n ⊎ (((book before).link c.single.link).up ≡ false) → PushesOf (hearing_in (book before).config) c.single.connection.hears (heard_by (book before) c n)
+pushes_still before c started n h k = pushes_hear ((book before).link c.single.link) c.turns n (hearing_in (book before).config) c.single.connection.hears (tame_between before c started h) k h.sound.tied.notices
 
 -- such news bring no new credentials, and deal nothing
 --
@@ -145,6 +155,7 @@ creds_still l turn deserted (inl k) = refl
 creds_still l turn (renewed c) (inl k) = absurd k
 creds_still l turn unrenewed (inl k) = absurd k
 creds_still l turn (late m) (inl k) = absurd k
+creds_still l turn dropped (inl k) = refl
 creds_still l turn shut (inl k) = refl
 
 -- as many items
@@ -162,6 +173,7 @@ dealt_still l turn deserted k = refl
 dealt_still l turn (renewed c) k = chosen (λ (x : Ledger). x.dealt ≡ l.dealt) (may_renew l) (renewed_by l c) l (λ t. refl) (λ f. refl)
 dealt_still l turn unrenewed k = chosen (λ (x : Ledger). x.dealt ≡ l.dealt) l.up (unrenewed_by l) l (λ t. refl) (λ f. refl)
 dealt_still l turn (late m) k = chosen (λ (x : Ledger). x.dealt ≡ l.dealt) (l.up && is_renewal_open l m) (lost_by l) l (λ t. refl) (λ f. refl)
+dealt_still l turn dropped k = refl
 dealt_still l turn shut k = refl
 
 -- so they leave the new credentials
@@ -176,7 +188,7 @@ none_new l turn connected other = chosen (λ (x : Ledger). (x.creds.over ≡ l.c
 none_new l turn (refused f) other =
     chosen (λ (x : Ledger). (x.creds.over ≡ l.creds.over) × (x.creds.renewals ≡ l.creds.renewals) × (x.creds.timed ≡ l.creds.timed) × (x.creds.lost ≡ l.creds.lost)) (dials l) (refused_in l turn (error.Io f)) l (λ t. (refl, refl, refl, refl)) (λ d. (refl, refl, refl, refl))
 none_new l turn (took count) other = chosen (λ (x : Ledger). (x.creds.over ≡ l.creds.over) × (x.creds.renewals ≡ l.creds.renewals) × (x.creds.timed ≡ l.creds.timed) × (x.creds.lost ≡ l.creds.lost)) l.up _ l (λ t. (refl, refl, refl, refl)) (λ f. (refl, refl, refl, refl))
-none_new l turn (came piece) other = chosen (λ (x : Ledger). (x.creds.over ≡ l.creds.over) × (x.creds.renewals ≡ l.creds.renewals) × (x.creds.timed ≡ l.creds.timed) × (x.creds.lost ≡ l.creds.lost)) l.up (bytes_came l piece) l (λ t. (refl, refl, refl, refl)) (λ f. (refl, refl, refl, refl))
+none_new l turn (came piece) other = chosen (λ (x : Ledger). (x.creds.over ≡ l.creds.over) × (x.creds.renewals ≡ l.creds.renewals) × (x.creds.timed ≡ l.creds.timed) × (x.creds.lost ≡ l.creds.lost)) l.up (bytes_came l piece) l (λ t. holds_bytes (λ (x : Ledger). (x.creds.over ≡ l.creds.over) × (x.creds.renewals ≡ l.creds.renewals) × (x.creds.timed ≡ l.creds.timed) × (x.creds.lost ≡ l.creds.lost)) l piece (λ rest strange told more. (refl, refl, refl, refl))) (λ f. (refl, refl, refl, refl))
 none_new l turn (failed f) other = (refl, refl, refl, refl)
 none_new l turn (authorized c) other =
     chosen (λ (x : Ledger). (x.creds.over ≡ l.creds.over) × (x.creds.renewals ≡ l.creds.renewals) × (x.creds.timed ≡ l.creds.timed) × (x.creds.lost ≡ l.creds.lost)) (awaits_credentials l) (authorized_by l c) l (λ t. (refl, refl, refl, refl)) (λ f. (refl, refl, refl, refl))
@@ -185,6 +197,7 @@ none_new l turn deserted other = (refl, refl, refl, refl)
 none_new l turn (renewed c) other = absurd (other tt)
 none_new l turn unrenewed other = absurd (other tt)
 none_new l turn (late m) other = absurd (other tt)
+none_new l turn dropped other = (refl, refl, refl, refl)
 none_new l turn shut other = (refl, refl, refl, refl)
 
 -- so none are there then
@@ -208,13 +221,13 @@ none_hears l turn n r other h =
 pub leads_on : (before : List Action) (c : Core) (started : List ℕ) (n : News) → Between before c started → BringsNothing n ⊎ (((book before).link c.single.link).up ≡ false) → (let l = heard_by (book before) c n in let life = c.single.connection.life in
     TiedLife l (book before).created life × TiedCreds l.creds c.single.connection.renewal.wanted life × TiedSetup l c.single.connection.info started life × (has_ended life ≡ false → TiedLink (carried life c.single.connection.requests) l (whole_link life)))
     → Leads (book before) c n c.single.connection.life [] started
-leads_on before c started n h k g = record { lived = g.0; creds = g.1; renewal_is = renewal_still ((book before).link c.single.link) c.turns n c.single.connection.renewal c.single.connection.life k h.sound.tied.renewal; said = g.2; linked = g.3; lines = h.sound.tied.lines; told = h.sound.tied.told; waits = h.sound.tied.waits; pushes = pushes_still before c started n h k }
+leads_on before c started n h k g = record { lived = g.0; creds = g.1; renewal_is = renewal_still ((book before).link c.single.link) c.turns n c.single.connection.renewal c.single.connection.life k h.sound.tied.renewal; said = g.2; linked = g.3; lines = h.sound.tied.lines; told = h.sound.tied.told; waits = h.sound.tied.waits; notices = pushes_still before c started n h k }
 
 -- what the news are is of no account for how far a link has come
 pub told_life : (l : Ledger) (created : ℕ) (life : Life) (n : News) → TiedLife l created life → TiedLife (record l { heard = n }) created life
 told_life l created Dialing n h = h
 told_life l created (Wanting link) n h = h
-told_life l created (SettingUp link with_user) n h = h
+told_life l created (SettingUp link greeting) n h = h
 told_life l created (Ready link) n h = h
 told_life l created (Ended e) n h = h
 
@@ -235,7 +248,7 @@ leads_still before c started n h stays =
       lines = t.lines;
       told = t.told;
       waits = t.waits;
-      pushes = subst (λ (x : Ledger). PushesOf (is_heard b) conn.hears x) (sym stays) t.pushes;
+      notices = subst (λ (x : Ledger). PushesOf (hearing_in b.config) conn.hears x) (sym stays) (renoticed (tame_between before c started h) t.notices);
     }
 
 -- a link that has ended hears nothing
@@ -264,6 +277,7 @@ ended_hears l created e turn unrenewed h = if_false (λ (x : Ledger). TiedLife x
 ended_hears l created e turn (late m) h = if_false (λ (x : Ledger). TiedLife x created (Ended e)) (l.up && is_renewal_open l m) (lost_by l) l (ap (λ u. u && is_renewal_open l m) h.0) h
 ended_hears l created e turn (denied text) h = h
 ended_hears l created e turn deserted h = h
+ended_hears l created e turn dropped h = h
 ended_hears l created e turn shut h = h
 
 -- and need not end again
@@ -308,6 +322,7 @@ IsOfAnother silence = ⊥
 IsOfAnother (refused f) = ⊥
 IsOfAnother overdue = ⊥
 IsOfAnother connected = ⊥
+IsOfAnother dropped = ⊥
 IsOfAnother shut = ⊥
 
 -- a link whose connect is not answered stays as it is
@@ -325,31 +340,33 @@ dialing_hears l created turn unrenewed k h = absurd k
 dialing_hears l created turn (late m) k h = absurd k
 dialing_hears l created turn (denied text) k h = h
 dialing_hears l created turn deserted k h = h
+dialing_hears l created turn dropped k h = absurd k
 dialing_hears l created turn shut k h = absurd k
 
 -- such news end no link that is not up
-asked_on : (n : News) → IsOfAnother n → ending_asked n ≡ None
-asked_on silence k = refl
-asked_on (refused f) k = refl
-asked_on overdue k = absurd k
-asked_on connected k = refl
-asked_on (took count) k = refl
-asked_on (came piece) k = refl
-asked_on (failed f) k = refl
-asked_on (authorized c) k = refl
-asked_on (renewed c) k = refl
-asked_on unrenewed k = refl
-asked_on (late m) k = refl
-asked_on (denied text) k = refl
-asked_on deserted k = refl
-asked_on shut k = absurd k
+asked_on : (l : Ledger) (n : News) → IsOfAnother n → ending_asked l n ≡ None
+asked_on l silence k = refl
+asked_on l (refused f) k = refl
+asked_on l overdue k = absurd k
+asked_on l connected k = refl
+asked_on l (took count) k = refl
+asked_on l (came piece) k = refl
+asked_on l (failed f) k = refl
+asked_on l (authorized c) k = refl
+asked_on l (renewed c) k = refl
+asked_on l unrenewed k = refl
+asked_on l (late m) k = refl
+asked_on l (denied text) k = refl
+asked_on l deserted k = refl
+asked_on l dropped k = absurd k
+asked_on l shut k = absurd k
 
 -- so it need not end
 dialing_no_end : (l : Ledger) (created turn : ℕ) (n : News) → IsOfAnother n → TiedLife l created Dialing → ending (noted l (hears turn n)) ≡ None
 dialing_no_end l created turn n k h =
     let after = noted l (hears turn n) in
     left_if after.up (ending_alive after) _ (dialing_hears l created turn n k h).1
-    ∙ chosen (λ (x : Option Ending). x ≡ None) (after.asked && not (is_over after)) (ending_asked n) None (λ t. asked_on n k) (λ f. refl)
+    ∙ chosen (λ (x : Option Ending). x ≡ None) (after.asked && not (is_over after)) (ending_asked after n) None (λ t. asked_on after n k) (λ f. refl)
 
 -- and the event has no effect
 pub dialing_quiet : (before : List Action) (c : Core) (started : List ℕ) (word : ℕ) (kind : EventKind) (n : News) → IsOfAnother n → Between before c started → is_bad c kind ≡ false → IsNewsKind c.timers kind → news_of c.timers c.sources c.single.link kind ≡ n → c.single.connection.life ≡ Dialing
@@ -371,10 +388,6 @@ dialing_quiet before c started word kind n o h good k is dialing =
 pub silent_no_end : (l : Ledger) (turn : ℕ) → ending l ≡ None → ending (noted l (hears turn silence)) ≡ None
 silent_no_end l turn none = mild_end l l.taken l.offer silence tt none
 
--- between two turns no link must end
-pub still_none : (before : List Action) (c : Core) (started : List ℕ) → Between before c started → NoneEnds (book before)
-still_none before c started h = h.settled.written.moved.begun.applied.ended
-
 -- a turn in which nothing is heard, and no act follows
 pub silent_applied : (before : List Action) (c : Core) (started : List ℕ) (word : ℕ) (kind : EventKind) (f : Core) (conn : MultiplexedConnection) → Between before c started → is_bad c kind ≡ false → ((m : ℕ) → ending ((entered (book before) (turn_of c word kind)).link m) ≡ None)
     → f.turns ≢ 0 → conn.moved ≡ [] → IsFitIn conn → Tied (entered (book before) (turn_of c word kind)) (seen f [] conn [] started)
@@ -392,8 +405,8 @@ silent_applied before c started word kind f conn h good no_end began none_moved 
 -- a link that is set up
 --
 -- is fit
-pub setting_fit : (c : MultiplexedConnection) (link after : LinkState) (was with_user : Bool) (fresh : List ℕ) → c.life ≡ SettingUp link was → IsFitIn c → IsFit c.size c.boundary after → IsFitIn (record c { life = SettingUp after with_user; fresh = fresh })
-setting_fit c link after was with_user fresh e h k = record {
+pub setting_fit : (c : MultiplexedConnection) (link after : LinkState) (was greeting : Greeting) (fresh : List ℕ) → c.life ≡ SettingUp link was → IsFitIn c → IsFit c.size c.boundary after → IsFitIn (record c { life = SettingUp after greeting; fresh = fresh })
+setting_fit c link after was greeting fresh e h k = record {
   wanting = λ x is. cc;
   setup = λ x u is. (let same : after ≡ x = cc in subst (IsFit c.size c.boundary) same k);
   link = λ x is. cc;
@@ -401,8 +414,8 @@ setting_fit c link after was with_user fresh e h k = record {
 }
 
 -- its waits stay as long as it is set up
-pub setting_waits : (story : ℕ → Story) (requests : List Request) (link after : LinkState) (was with_user : Bool) (fresh moved : List ℕ) → TiedWaits story requests (SettingUp link was) fresh moved → TiedWaits story requests (SettingUp after with_user) fresh moved
-setting_waits story requests link after was with_user fresh moved h = record {
+pub setting_waits : (story : ℕ → Story) (requests : List Request) (link after : LinkState) (was greeting : Greeting) (fresh moved : List ℕ) → TiedWaits story requests (SettingUp link was) fresh moved → TiedWaits story requests (SettingUp after greeting) fresh moved
+setting_waits story requests link after was greeting fresh moved h = record {
   early = h.early;
   connect = λ p w d. cc;
   creds = λ p x w s. cc;

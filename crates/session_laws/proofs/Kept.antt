@@ -9,19 +9,18 @@ use Rattle.link_laws.proofs.TiedLink.{TiedLink}
 use Rattle.mux_conn.specs.Requests.{name_at}
 use Rattle.mux_conn.specs.declared.request.Request.{Request}
 use Rattle.mux_conn.specs.declared.request.Waiting.{Waiting}
-use Rattle.legal_trace.specs.Book.{Book, if_mine, if_own}
+use Rattle.legal_trace.specs.Book.{Book, if_mine, if_own, hearing_in}
 use Rattle.legal_trace.specs.Ledger.{Ledger, Line, noted, noted_each}
-use Rattle.legal_trace.specs.Legal.{is_heard}
 use Rattle.legal_trace.specs.Story.{Story, awaited_in, packed_in, shape_in, tried}
 use Rattle.session_laws.proofs.Names.{name_placed}
 use Rattle.session_laws.proofs.Owes.{request_story}
-use Rattle.session_laws.proofs.Tied.{AreLate, AreQueued, Inner, IsOf, IsPacked, IsQueued, IsRequest, IsUnknown, Tied, TiedCreds, TiedLife, TiedLines, TiedNames, TiedNumbers, TiedPermits, TiedPushes, TiedSetup, TiedStory, TiedTries, TiedWaits, carried, has_ended, link_in, whole_link, TiedRenewal, sources_asked_in}
+use Rattle.session_laws.proofs.Tied.{AreLate, AreQueued, Inner, IsOf, IsPacked, IsQueued, IsRequest, IsUnknown, Tied, TiedCreds, TiedLife, TiedLines, TiedNames, TiedNumbers, TiedPermits, TiedNotices, TiedSetup, TiedStory, TiedTries, TiedWaits, carried, has_ended, link_in, whole_link, TiedRenewal, sources_asked_in, is_reading}
 
 -- a session and the ledger of its link, which is that of the book
 pub record TiedBy (b : Book) (t : Inner) (l : Ledger) : Type 0 where
   pub numbers : TiedNumbers b t
   pub others : (m : ℕ) → m ≢ t.link → IsUnknown (b.link m)
-  pub pushes : TiedPushes (is_heard b) t.hears l.pushes l.told l.end l.parted t.untold t.parting
+  pub notices : TiedNotices (hearing_in b.config) t.hears l.hearing l.notices l.told l.end l.parted l.strange (is_reading l) t.untold t.parting
   pub life : TiedLife l b.created t.life
   pub creds : TiedCreds l.creds t.renewal.wanted t.life
   pub count : length t.sources ≡ sources_asked_in l.creds
@@ -42,7 +41,7 @@ pub tied_by : (b : Book) (t : Inner) (l : Ledger) → b.link t.link ≡ l → Ti
 tied_by b t l e h = record {
   numbers = h.numbers;
   others = h.others;
-  pushes = subst (λ (x : Ledger). TiedPushes (is_heard b) t.hears x.pushes x.told x.end x.parted t.untold t.parting) (sym e) h.pushes;
+  notices = subst (λ (x : Ledger). TiedNotices (hearing_in b.config) t.hears x.hearing x.notices x.told x.end x.parted x.strange (is_reading x) t.untold t.parting) (sym e) h.notices;
   life = subst (λ (x : Ledger). TiedLife x b.created t.life) (sym e) h.life;
   creds = subst (λ (x : Ledger). TiedCreds x.creds t.renewal.wanted t.life) (sym e) h.creds;
   count = h.count ∙ ap (λ (x : Ledger). sources_asked_in x.creds) (sym e);
@@ -126,6 +125,7 @@ queued_same f g requests (q ∷ qs) same told all = (
 pub tries_same : (l : Ledger) (f g : ℕ → Story) (requests : List Request) (link : ℕ) (started : List ℕ) → SameSubmissions f g → ((n : ℕ) → (f n).tries ≡ (g n).tries) → TiedTries l f requests link started → TiedTries l g requests link started
 tries_same l f g requests link started same tried h = record {
   owners = h.owners;
+  greeted = h.greeted;
   shapes = λ k p s l i j. h.shapes k p s l i j ∙ ap shape_in (same (name_at requests p));
   tried = λ k p l i. sym (tried (name_at requests p)) ∙ h.tried k p l i;
   untried = λ p r i out. sym (tried r.name) ∙ h.untried p r i out;

@@ -34,7 +34,7 @@ use Rattle.shared_session.specs.Turn.{with_work, late_by, effect, counted, is_ba
 use Rattle.legal_trace.specs.Ledger.{hears, is_over, noted}
 use Rattle.legal_trace.specs.Owed.{owed, owed_to_try}
 use Rattle.legal_trace.specs.Story.{Story, answered, awaited_in, bytes_of, fires, is_no_error, is_open, is_told, last_of}
-use Rattle.legal_trace.specs.Book.{Book, after_event, book, entered, if_own, is_clock_of}
+use Rattle.legal_trace.specs.Book.{Book, after_event, book, entered, if_own, is_clock_of, kind_in, timeout_after}
 use Rattle.legal_trace.specs.Legal.{NoneEnds}
 use Rattle.mux_conn.specs.Renewals.{renewal_id}
 use Rattle.session_laws.proofs.Renewals.{renewal_alike}
@@ -50,9 +50,13 @@ use Rattle.session_laws.proofs.Kept.{one_changed, packed_same, queued_same, tied
 use Rattle.session_laws.proofs.Closing.{one_of, told_closed}
 use Rattle.session_laws.proofs.Answer.{answer_apart, may_answer, owed_untold, none_before}
 use Rattle.session_laws.proofs.Settle.{book_of_more, holds_more, seen, trace_of_acts}
-use Rattle.session_laws.proofs.Announce.{announced_sound, first_book, holds_first, turn_of, turned, counted_on}
-use Rattle.session_laws.proofs.Heard.{silent_applied, still_none}
+use Rattle.session_laws.proofs.Announce.{announced_sound, first_book, holds_first, turn_of, turned, counted_on, time_still}
+use Rattle.session_laws.proofs.Heard.{silent_applied, still_none, tame_between}
 use Rattle.session_laws.proofs.Cancel.{IsSilent, left_creds, left_fit, left_life, left_link, left_others, left_setup, none_more, queued_apart, silenced_wanted, silent_core, silent_ends, silent_numbers, silent_others, still_dials, still_tied, was_ready, was_setting, was_wanting, without_awaited, without_others, without_rises, apart_behind, rising_behind, left_renewal}
+use Rattle.driver_model.specs.declared.kind.SessionKind.{SessionKind}
+use Rattle.driver_model.specs.declared.kind.SessionKind.TheVariants as session
+use Rattle.driver_model.specs.Kind.{is_single}
+use Rattle.session_laws.proofs.Said.{IsTame, renoticed}
 
 -- a story whose timer fires
 --
@@ -180,7 +184,7 @@ late_lines_in m story requests Dialing waiting admitted p started apart h =
 late_lines_in m story requests (Wanting link) waiting admitted p started apart h =
     let k = late_lines m story requests no_link waiting admitted p started apart h in
     record { line = k.line; queued = k.queued; entries = k.entries; packs = k.packs; packed_in = k.packed_in; there = k.there }
-late_lines_in m story requests (SettingUp link with_user) waiting admitted p started apart h =
+late_lines_in m story requests (SettingUp link greeting) waiting admitted p started apart h =
     let k = late_lines m story requests no_link waiting admitted p started apart h in
     record { line = k.line; queued = k.queued; entries = k.entries; packs = k.packs; packed_in = k.packed_in; there = k.there }
 late_lines_in m story requests (Ended e) waiting admitted p started apart h =
@@ -208,7 +212,7 @@ late_told story requests life p o h up n is none = by_life life h up
     by_life (Ready link) g f = let k = g refl n was untried in (k.0, k.1, k.2, without_others link.queue p k.0 (other k.0 k.2) k.3)
     by_life Dialing g f = g refl n was untried
     by_life (Wanting link) g f = g refl n was untried
-    by_life (SettingUp link with_user) g f = g refl n was untried
+    by_life (SettingUp link greeting) g f = g refl n was untried
     by_life (Ended e) g f = cc
 
 -- the waits that were shown
@@ -250,7 +254,7 @@ late_silent : (b : Book) (c : Core) (started : List ℕ) (n : ℕ) (who : Option
 late_silent b c started n who h is none = record {
   silent = λ m. ap (λ (ts : List Purpose). of_timer m (slice_get ts n)) h.numbers.timers ∙ ap (of_timer m) is ∙ none m;
   none = refl;
-  time = h.numbers.timeout;
+  time = time_still (kind_in b.config) b.timeout (event.Fired n) tt ∙ h.numbers.timeout;
   shut = ap (λ s. s || false) h.numbers.shut;
 }
 
@@ -259,9 +263,9 @@ abbrev late_conn : Core → ℕ → MultiplexedConnection
 late_conn c p = record c.single.connection { life = cancelled_in c.single.connection.life p }
 
 -- the session with the turn in which the time of an open request is over
-late_tied : (b : Book) (c : Core) (started : List ℕ) (word n p : ℕ) → Tied b (inner c started) → IsClock c n p → is_open_at c.single.connection.requests p ≡ true
+late_tied : (b : Book) (c : Core) (started : List ℕ) (word n p : ℕ) → Tied b (inner c started) → IsTame (b.link c.single.link) → IsClock c n p → is_open_at c.single.connection.requests p ≡ true
     → Tied (entered b (turn_of c word (event.Fired n))) (seen (turned c (event.Fired n)) [] (late_conn c p) (p ∷ []) started)
-late_tied b c started word n p h is o =
+late_tied b c started word n p h tame is o =
     let conn = c.single.connection in
     let m = name_at conn.requests p in
     let l = open_within conn.requests p o in
@@ -282,7 +286,7 @@ late_tied b c started word n p h is o =
     (tied_by (record now { story = after }) t (record ledger { heard = silence }) heard (record {
       numbers = silent_numbers b c started word (event.Fired n) c.timeout after conn.free (cancelled_in conn.life p) conn.requests (p ∷ []) q h;
       others = λ k other. silent_others b c (event.Fired n) c.timeout k q (h.others k other);
-      pushes = h.pushes;
+      notices = renoticed tame h.notices;
       life = left_life ledger b.created conn.life p h.life;
       creds = left_creds ledger.creds conn.renewal.wanted conn.life p h.creds;
       count = counted_on c.sources ledger.creds h.count;
@@ -292,7 +296,7 @@ late_tied b c started word n p h is o =
       names = h.names;
       story = one_changed b (inner c started) p fires h l (fires_request (b.story m) conn.requests c.single.link p);
       tries = tries_same (record ledger { heard = silence }) b.story after conn.requests c.single.link started (λ k. (fired_at m b.story k).submission) (λ k. (fired_at m b.story k).tries)
-          (record { owners = h.tries.owners; shapes = h.tries.shapes; tried = h.tries.tried; untried = h.tries.untried });
+          (record { owners = h.tries.owners; greeted = h.tries.greeted; shapes = h.tries.shapes; tried = h.tries.tried; untried = h.tries.untried });
       lines = late_lines_in m b.story conn.requests conn.life conn.waiting conn.admitted p started (request_not b (inner c started) p h l) h.lines;
       told = late_told b.story conn.requests conn.life p asked h.told;
       waits = late_waits b.story conn.requests m conn.life p kept conn.fresh conn.moved line h.waits;
@@ -329,7 +333,7 @@ fired_overdue b c started word n p h is o =
 late_apart : (b : Book) (t : Inner) (life : Life) (p : ℕ) → Tied b t → t.life ≡ life → has_ended life ≡ false → p ≢ renewal_id → is_open (b.story (name_at t.requests p)) ≡ true → IsIn p (wanted (link_in (cancelled_in life p)).row ++ queue_ids (link_in (cancelled_in life p)).queue) → ⊥
 late_apart b t Dialing p h e up other o i = i
 late_apart b t (Wanting link) p h e up other o i = i
-late_apart b t (SettingUp link with_user) p h e up other o i = i
+late_apart b t (SettingUp link greeting) p h e up other o i = i
 late_apart b t (Ended x) p h e up other o i = cc
 late_apart b t (Ready link) p h e up other o i =
     let here : link_in t.life ≡ link = ap link_in e in
@@ -361,7 +365,7 @@ open_alive before c started p h o = by_life c.single.connection.life refl
     by_life : (x : Life) → conn.life ≡ x → has_ended conn.life ≡ false
     by_life Dialing e = ap has_ended e
     by_life (Wanting link) e = ap has_ended e
-    by_life (SettingUp link with_user) e = ap has_ended e
+    by_life (SettingUp link greeting) e = ap has_ended e
     by_life (Ready link) e = ap has_ended e
     by_life (Ended x) e =
         let b = book before in
@@ -373,7 +377,7 @@ open_alive before c started p h o = by_life c.single.connection.life refl
 still_alive : (life : Life) (p : ℕ) → has_ended life ≡ false → has_ended (cancelled_in life p) ≡ false
 still_alive Dialing p e = refl
 still_alive (Wanting link) p e = refl
-still_alive (SettingUp link with_user) p e = refl
+still_alive (SettingUp link greeting) p e = refl
 still_alive (Ready link) p e = refl
 still_alive (Ended x) p e = e
 
@@ -393,7 +397,7 @@ late_answered before c started word n p h good is o =
     let m = name_at conn.requests p in
     let a = act.Outcome m over in
     let t = seen f [] (late_conn c p) (p ∷ []) started in
-    let tied = late_tied b0 c started word n p h.sound.tied is o in
+    let tied = late_tied b0 c started word n p h.sound.tied (tame_between before c started h) is o in
     let holds = holds_first front f (late_conn c p) (p ∷ []) started (announced_sound before c started word kind t h good tied) in
     let b = book (trace_of_acts front f []) in
     let book_is : b ≡ now = first_book before (turn_of c word kind) f in
@@ -450,7 +454,7 @@ late_applied before c started word n m h good is = by_entry (slice_get c.table m
         let timer = ap (λ (ts : List Purpose). slice_get ts n) h.sound.tied.numbers.timers ∙ is in
         let q = late_silent b c started n (Some (purpose.Response (owner.Try m 0))) h.sound.tied is (λ k. refl) in
         silent_applied before c started word (event.Fired n) (turned c (event.Fired n)) conn h good (silent_ends b c (event.Fired n) c.timeout q (still_none before c started h)) (λ z. absurd (omega arith)) h.moved h.fit
-        (still_tied b c started word (event.Fired n) c.timeout q (stays_fired b n m timer f) h.sound.tied)
+        (still_tied b c started word (event.Fired n) c.timeout q (stays_fired b n m timer f) h.sound.tied (tame_between before c started h))
 
     by_entry : (x : Option (Option Pending)) → slice_get c.table m ≡ x → TiedStory (b.story m) conn.requests c.single.link x
         → HasApplied (before ++ turn_of c word (event.Fired n) ∷ []) (late_by (with_work (record { core = turned c (event.Fired n); acts = [] }) work) x) started
@@ -477,6 +481,21 @@ pub time_applied : (before : List Action) (c : Core) (started : List ℕ) (word 
     → HasApplied (before ++ turn_of c word (event.Timeout ms) ∷ []) (effect (counted c) (event.Timeout ms)) started
 time_applied before c started word ms h good =
     let b = book before in
-    let q : IsSilent b c (event.Timeout ms) ms = record { silent = λ m. refl; none = refl; time = refl; shut = ap (λ s. s || false) h.sound.tied.numbers.shut } in
-    silent_applied before c started word (event.Timeout ms) (silent_core c (event.Timeout ms) ms) c.single.connection h good (silent_ends b c (event.Timeout ms) ms q (still_none before c started h)) (λ z. absurd (omega arith)) h.moved h.fit
-    (still_tied b c started word (event.Timeout ms) ms q (λ m. refl) h.sound.tied)
+    let kind_is = h.sound.tied.numbers.kind_is in
+    let shut = ap (λ s. s || false) h.sound.tied.numbers.shut in
+    let set = λ (time : Option ℕ) (q : IsSilent b c (event.Timeout ms) time).
+    silent_applied before c started word (event.Timeout ms) (silent_core c (event.Timeout ms) time) c.single.connection h good (silent_ends b c (event.Timeout ms) time q (still_none before c started h)) (λ z. absurd (omega arith)) h.moved h.fit
+    (still_tied b c started word (event.Timeout ms) time q (λ m. refl) h.sound.tied (tame_between before c started h)) in
+    chosen (λ (x : Core). HasApplied (before ++ turn_of c word (event.Timeout ms) ∷ []) (record { core = x; acts = [] }) started) (is_single c.kind) (silent_core c (event.Timeout ms) ms) (turned c (event.Timeout ms))
+    (λ single. set ms (record { silent = λ m. refl; none = refl; time = single_time (kind_in b.config) b.timeout ms (ap is_single kind_is ∙ single); shut = shut }))
+    (λ other. set c.timeout (record { silent = λ m. refl; none = refl; time = other_time (kind_in b.config) b.timeout ms (ap is_single kind_is ∙ other) ∙ h.sound.tied.numbers.timeout; shut = shut }))
+  where
+    single_time : (is : SessionKind) (old new : Option ℕ) → is_single is ≡ true → timeout_after is old (event.Timeout new) ≡ new
+    single_time session.Single old new e = refl
+    single_time session.PubSub old new e = cc
+    single_time session.Monitor old new e = cc
+
+    other_time : (is : SessionKind) (old new : Option ℕ) → is_single is ≡ false → timeout_after is old (event.Timeout new) ≡ old
+    other_time session.Single old new e = cc
+    other_time session.PubSub old new e = refl
+    other_time session.Monitor old new e = refl

@@ -7,6 +7,7 @@ use Rattle.connection_info.specs.declared.address.ConnectionInfo.{ConnectionInfo
 use Rattle.redis_error.specs.declared.redis_error.RedisError.TheVariants as error
 use Rattle.driver_model.specs.Request.{packed_bytes, lacks_resp3}
 use Rattle.driver_model.specs.Config.{address, connect_timeout}
+use Rattle.driver_model.specs.Kind.{is_single}
 use Rattle.driver_model.specs.declared.action.Action.{Action}
 use Rattle.driver_model.specs.declared.action.Action.TheVariants as action
 use Rattle.driver_model.specs.declared.action.Cause.TheVariants as cause
@@ -47,7 +48,7 @@ IsStillOf t link timers sources = (t.core.single.link ≡ link) × (t.core.timer
 refused_still : (t : Turning) (what : Submission) → IsStillOf (submitted t what) t.core.single.link t.core.timers t.core.sources
 refused_still t what =
     let still = λ (x : Turning). IsStillOf x t.core.single.link t.core.timers t.core.sources in
-    let lacks = lacks_resp3 t.core.single.connection.info.protocol what in
+    let lacks = lacks_resp3 t.core.single.connection.hears t.core.single.connection.info.protocol what in
     let packed = if length (packed_bytes what) == 0 then refused_with t error.EmptyCommand else asked_for t what in
     chosen still t.core.shut (refused_with t error.Closed) (if lacks then refused_with t error.Resp3Required else packed)
     (λ s. (refl, refl, refl))
@@ -72,6 +73,7 @@ fired_still t None = (refl, refl, refl)
 fired_still t (Some (purpose.Connect l)) = (refl, refl, refl)
 fired_still t (Some (purpose.Response owner.Setup)) = (refl, refl, refl)
 fired_still t (Some (purpose.Response owner.Auth)) = (refl, refl, refl)
+fired_still t (Some (purpose.Response owner.Monitor)) = (refl, refl, refl)
 fired_still t (Some (purpose.Renewal l k)) = (refl, refl, refl)
 fired_still t (Some (purpose.Response (owner.Try n round))) = late_still t (slice_get t.core.table n)
 
@@ -82,7 +84,9 @@ effect_still c (event.Cancel n) = left_still (heard (counted c) (event.Cancel n)
 effect_still c (event.Connected l) = (refl, refl, refl)
 effect_still c (event.Refused l f) = (refl, refl, refl)
 effect_still c (event.Fired n) = fired_still (heard (counted c) (event.Fired n)) (slice_get c.timers n)
-effect_still c (event.Timeout ms) = (refl, refl, refl)
+effect_still c (event.Timeout ms) =
+    let was = (heard (counted c) (event.Timeout ms)).core in
+    chosen (λ (x : Core). (x.single.link ≡ c.single.link) × (x.timers ≡ c.timers) × (x.sources ≡ c.sources)) (is_single was.kind) (record was { timeout = ms }) was (λ t. (refl, refl, refl)) (λ f. (refl, refl, refl))
 effect_still c (event.Creds s auth) = (refl, refl, refl)
 effect_still c (event.CredsError s text) = (refl, refl, refl)
 effect_still c (event.CredsEnd s) = (refl, refl, refl)
@@ -91,6 +95,7 @@ effect_still c (event.Bytes l piece) = (refl, refl, refl)
 effect_still c (event.Ended l) = (refl, refl, refl)
 effect_still c (event.ReadFault l kind) = (refl, refl, refl)
 effect_still c (event.WriteFault l kind) = (refl, refl, refl)
+effect_still c event.DropStream = (refl, refl, refl)
 effect_still c event.Shutdown = (refl, refl, refl)
 
 -- one turn leads from between two turns to between the next two
@@ -153,6 +158,9 @@ no_causes l n c (act.Took k count ∷ acts) = no_causes l (n + length (timer_of 
 no_causes l n c (act.Timer k ms ∷ acts) = no_causes l (n + length (timer_of l (act.Timer k ms))) (c + length (source_of l c (act.Timer k ms))) acts
 no_causes l n c (act.RenewalTimer k ms ∷ acts) = no_causes l (n + length (timer_of l (act.RenewalTimer k ms))) (c + length (source_of l c (act.RenewalTimer k ms))) acts
 no_causes l n c (act.Push info ∷ acts) = no_causes l (n + length (timer_of l (act.Push info))) (c + length (source_of l c (act.Push info))) acts
+no_causes l n c (act.Message m ∷ acts) = no_causes l (n + length (timer_of l (act.Message m))) (c + length (source_of l c (act.Message m))) acts
+no_causes l n c (act.Monitor v ∷ acts) = no_causes l (n + length (timer_of l (act.Monitor v))) (c + length (source_of l c (act.Monitor v))) acts
+no_causes l n c (act.Watch m count len ∷ acts) = no_causes l (n + length (timer_of l (act.Watch m count len))) (c + length (source_of l c (act.Watch m count len))) acts
 no_causes l n c (act.NeedCreds ∷ acts) = no_causes l (n + length (timer_of l act.NeedCreds)) (c + length (source_of l c act.NeedCreds)) acts
 no_causes l n c (act.Close ∷ acts) = no_causes l (n + length (timer_of l act.Close)) (c + length (source_of l c act.Close)) acts
 no_causes l n c (act.Write bytes ∷ acts) = no_causes l (n + length (timer_of l (act.Write bytes))) (c + length (source_of l c (act.Write bytes))) acts

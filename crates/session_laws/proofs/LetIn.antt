@@ -252,7 +252,8 @@ tries_let l f g requests link started p count eased before =
     let still = name_with requests p progress.Waiting count in
     let within : (m : ℕ) → m < length (with_permits requests p progress.Waiting count) → m < length requests = λ m l. subst (λ x. m < x) (length_with requests p progress.Waiting count) l in
     record {
-      owners = h.owners ∙ ap (setup_owners (setup_count l.starts)) (sym (owners_let started));
+      owners = λ plain. h.owners plain ∙ ap (setup_owners (setup_count l.starts)) (sym (owners_let started));
+      greeted = h.greeted;
       shapes = λ k m s l i j. h.shapes k m s (within m l) i j ∙ ap (λ n. shape (g n)) (sym (still m));
       tried = λ k m l i. ap (λ n. (g n).tries) (still m) ∙ h.tried k m (within m l) i;
       untried = λ m r i out. let x = was_with requests p progress.Waiting count m r i in ap (λ n. (g n).tries) (sym x.2) ∙ h.untried m x.0 x.1 out;
@@ -297,7 +298,7 @@ let_tied : (b : Book) (t : Inner) (p count free : ℕ) (g : ℕ → Story) (note
 let_tied b t p count free g noted timers w alone eased has sum numbers h = record {
   numbers = numbers;
   others = h.others;
-  pushes = h.pushes;
+  notices = h.notices;
   life = h.life;
   creds = h.creds;
   count = h.count;
@@ -495,6 +496,8 @@ ask_tied b t p number ms w alone h =
       within = k.within;
       few = k.few;
       settings = record { size_is = k.settings.size_is; bound_is = k.settings.bound_is; limit_is = k.settings.limit_is; some = k.settings.some; limited = k.settings.limited };
+      kind_is = k.kind_is;
+      quiet = k.quiet;
       one = k.one;
       only = k.only;
     }) h

@@ -3,6 +3,7 @@ pub mod Tied
 pub mod States
 pub mod Creds
 pub mod SetUp
+pub mod SameSaid
 pub mod Said
 pub mod Entered
 pub mod Names
@@ -24,8 +25,13 @@ pub mod Place
 pub mod Settle
 pub mod LetIn
 pub mod SetsUp
+pub mod Watches
 pub mod Close
 pub mod Telling
+pub mod More
+pub mod New
+pub mod Judged
+pub mod Greeted
 pub mod Replies
 pub mod Announce
 pub mod Heard
@@ -36,6 +42,7 @@ pub mod Connect
 pub mod Given
 pub mod Renewed
 pub mod Took
+pub mod HeardBytes
 pub mod ReadSetup
 pub mod ReadWanting
 pub mod Read

@@ -12,6 +12,7 @@ use Rattle.mux_conn.specs.Connection.{Work, admits_none, admits_none_at, has_no_
 use Rattle.mux_conn.specs.Effects.{failed_each, nobody_waits, waiting_failed}
 use Rattle.mux_conn.specs.Passes.{admitted, admitted_all, admitted_at, admitted_each, moved_up_all, moved_up_each, passed, started_at, still_admitted, still_waiting}
 use Rattle.mux_conn.specs.Requests.{answered, with_permits, is_open as is_open_progress, is_open_at, is_waiting, is_waiting_at}
+use Rattle.mux_conn.specs.declared.life.Greeting.{Greeting}
 use Rattle.mux_conn.specs.declared.life.Life.{Life}
 use Rattle.mux_conn.specs.declared.life.Life.TheVariants.{Dialing, Ended, Ready, Wanting, SettingUp}
 use Rattle.mux_conn.specs.declared.request.Progress.TheVariants as progress
@@ -31,7 +32,7 @@ use Rattle.session_laws.proofs.InLine.{kept_ids}
 use Rattle.session_laws.proofs.Names.{open_within, with_other, with_then}
 use Rattle.session_laws.proofs.Numbers.{IsIn, Rising, rising_right, requests_in}
 use Rattle.session_laws.proofs.Passes.{IsDone, IsSeated, IsUp, admitted_done, moved_up_seated, moved_up_waits, moving, started_keeps, started_up, no_room}
-use Rattle.session_laws.proofs.SetsUp.{setting_begun}
+use Rattle.session_laws.proofs.Watches.{setting_begun}
 use Rattle.session_laws.proofs.Settle.{Holds, answered_leaves, failed_leaves, seen, trace_of_acts}
 use Rattle.session_laws.proofs.States.{IsFit, IsFitIn, IsStill}
 use Rattle.session_laws.proofs.Tied.{Inner, Sound, Tied, has_ended, link_in, queue_ids, waiting_ids}
@@ -59,8 +60,8 @@ one_link : (life : Life) (link link' : LinkState) → life ≡ Ready link → li
 one_link life link link' e k = let both : Ready link ≡ Ready link' = sym e ∙ k in cc
 
 -- which isn't set up still
-not_both_lives : (life : Life) (link link' : LinkState) (with_user : Bool) → life ≡ Ready link → life ≡ SettingUp link' with_user → ⊥
-not_both_lives life link link' with_user e k = let both : Ready link ≡ SettingUp link' with_user = sym e ∙ k in cc
+not_both_lives : (life : Life) (link link' : LinkState) (greeting : Greeting) → life ≡ Ready link → life ≡ SettingUp link' greeting → ⊥
+not_both_lives life link link' greeting e k = let both : Ready link ≡ SettingUp link' greeting = sym e ∙ k in cc
 
 -- nor does it wait for credentials
 not_wanting_too : (life : Life) (link link' : LinkState) → life ≡ Ready link → life ≡ Wanting link' → ⊥
@@ -148,7 +149,7 @@ record IsStuck (w : Work) : Type 0 where
   none_starts : started_at w w.conn.life ≡ w
   admits : admits_none w.conn ≡ true
   down : (link : LinkState) → w.conn.life ≡ Ready link → ⊥
-  unset : (link : LinkState) (with_user : Bool) → w.conn.life ≡ SettingUp link with_user → ⊥
+  unset : (link : LinkState) (greeting : Greeting) → w.conn.life ≡ SettingUp link greeting → ⊥
   alive : has_ended w.conn.life ≡ false
 
 -- all stays there
@@ -198,13 +199,13 @@ wanting_stuck w link life = record {
 -- while the link is set up
 --
 -- the setup starts, and all else stays
-setting_moved : (before : List Action) (f : Core) (w : Work) (started : List ℕ) (link : LinkState) (with_user : Bool) → w.conn.life ≡ SettingUp link with_user → IsReady before f w started → HasMoved before f (passed w)
-setting_moved before f w started link with_user life h =
-    let none = h.fit.none (λ x e. absurd (not_both_lives w.conn.life x link with_user e life)) in
-    let v = started_at w (SettingUp link with_user) in
-    let begun = setting_begun before f w started link with_user life (h.fit.setup link with_user life) none (record { sound = h.holds; ended = h.ended; renewed = λ x e. absurd (not_both_lives w.conn.life x link with_user e life) }) in
+setting_moved : (before : List Action) (f : Core) (w : Work) (started : List ℕ) (link : LinkState) (greeting : Greeting) → w.conn.life ≡ SettingUp link greeting → IsReady before f w started → HasMoved before f (passed w)
+setting_moved before f w started link greeting life h =
+    let none = h.fit.none (λ x e. absurd (not_both_lives w.conn.life x link greeting e life)) in
+    let v = started_at w (SettingUp link greeting) in
+    let begun = setting_begun before f w started link greeting life (h.fit.setup link greeting life) none (record { sound = h.holds; ended = h.ended; renewed = λ x e. absurd (not_both_lives w.conn.life x link greeting e life) }) in
     let c = v.conn in
-    let down : (x : LinkState) → c.life ≡ Ready x → ⊥ = λ x e. not_both_lives c.life x begun.link with_user e begun.life in
+    let down : (x : LinkState) → c.life ≡ Ready x → ⊥ = λ x e. not_both_lives c.life x begun.link greeting e begun.life in
     let same : passed w ≡ v =
     ap (λ (x : Work). admitted_all (moved_up_all (started_at x x.conn.life))) (unready_renewed w (ap is_ready life))
     ∙ ap (λ (x : Life). admitted_all (moved_up_all (started_at w x))) life ∙ ap admitted_all (none_moved_up v begun.admitted) ∙ stuck_stays (still_waiting v []) c.waiting (ap (λ (x : Life). admits_none_at x (has_no_permit c.limit c.free)) begun.life) in
@@ -213,13 +214,13 @@ setting_moved before f w started link with_user life h =
       holds = begun.going.sound;
       ended = begun.going.ended;
       fit = record {
-        wanting = λ x e. absurd (let no : SettingUp begun.link with_user ≡ Wanting x = sym begun.life ∙ e in cc);
-        setup = λ x u e. subst (IsFit c.size c.boundary) (one_setting c.life begun.link x with_user u begun.life e) begun.fit;
+        wanting = λ x e. absurd (let no : SettingUp begun.link greeting ≡ Wanting x = sym begun.life ∙ e in cc);
+        setup = λ x u e. subst (IsFit c.size c.boundary) (one_setting c.life begun.link x greeting u begun.life e) begun.fit;
         link = λ x e. absurd (down x e);
         none = λ no. begun.admitted;
       };
       still = record {
-        setup = λ x u e. subst (λ (y : LinkState). (y.queue ≡ []) ⊎ (holds_back y ≡ true)) (one_setting c.life begun.link x with_user u begun.life e) begun.held;
+        setup = λ x u e. subst (λ (y : LinkState). (y.queue ≡ []) ⊎ (holds_back y ≡ true)) (one_setting c.life begun.link x greeting u begun.life e) begun.held;
         held = λ x e. absurd (down x e);
         full = λ x e. absurd (down x e);
         renewed = λ x e. absurd (down x e);
@@ -229,7 +230,7 @@ setting_moved before f w started link with_user life h =
       seats = λ p i k. absurd (subst (λ (x : Life). IsIn p (queue_ids (link_in x).queue)) begun.life k);
     })
   where
-    one_setting : (life : Life) (link link' : LinkState) (u u' : Bool) → life ≡ SettingUp link u → life ≡ SettingUp link' u' → link ≡ link'
+    one_setting : (life : Life) (link link' : LinkState) (u u' : Greeting) → life ≡ SettingUp link u → life ≡ SettingUp link' u' → link ≡ link'
     one_setting life link link' u u' e k = let both : SettingUp link u ≡ SettingUp link' u' = sym e ∙ k in cc
 
 -- on a link that has ended
@@ -305,8 +306,8 @@ over_moved before f w e started over h =
       seats = λ p i k. absurd (subst (λ (x : Life). IsIn p (queue_ids (link_in x).queue)) done.over k);
     })
   where
-    over_setting : (link : LinkState) (with_user : Bool) → Ended e ≡ SettingUp link with_user → ⊥
-    over_setting link with_user same = cc
+    over_setting : (link : LinkState) (greeting : Greeting) → Ended e ≡ SettingUp link greeting → ⊥
+    over_setting link greeting same = cc
 
     over_wanting : (link : LinkState) → Ended e ≡ Wanting link → ⊥
     over_wanting link same = cc
@@ -318,6 +319,6 @@ passed_moved before f w started h = by_life w.conn.life refl
     by_life : (life : Life) → w.conn.life ≡ life → HasMoved before f (passed w)
     by_life Dialing e = stuck_moved before f w started (dialing_stuck w e) h
     by_life (Wanting link) e = stuck_moved before f w started (wanting_stuck w link e) h
-    by_life (SettingUp link with_user) e = setting_moved before f w started link with_user e h
+    by_life (SettingUp link greeting) e = setting_moved before f w started link greeting e h
     by_life (Ready link) e = ready_moved before f w started link e h
     by_life (Ended x) e = over_moved before f w x started e h

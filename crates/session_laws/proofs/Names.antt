@@ -12,8 +12,16 @@ use Rattle.mux_conn.specs.declared.request.Progress.{Progress}
 use Rattle.mux_conn.specs.declared.request.Request.{Request}
 use Rattle.mux_conn.specs.Requests.{is_open, if_there, is_open_at, name_or_none, name_at, permits_or_none, permits_at, with_permits, at_progress}
 use Rattle.mux_conn.specs.Renewals.{renewal_id}
-use Rattle.legal_trace.specs.Book.{Book}
+use Rattle.legal_trace.specs.Book.{Book, hearing_in, kind_in}
 use Rattle.session_laws.proofs.Tied.{owner_of, Inner, Tied, TiedNames}
+use Rattle.driver_model.specs.Hearing.{is_watching}
+use Rattle.driver_model.specs.declared.kind.SessionKind.{SessionKind}
+use Rattle.driver_model.specs.declared.kind.SessionKind.TheVariants as session
+use Rattle.driver_model.specs.Config as Configs
+use Rattle.driver_model.specs.declared.config.Config.{Config}
+use Rattle.driver_model.specs.declared.event.Submission.{Submission}
+use Rattle.driver_model.specs.Request.{has_no_form}
+use Rattle.std.specs.Prelude.{unwrap_or}
 
 -- what stands at a place within
 pub get_some : {X : Type 0} (xs : List X) (n : ℕ) → n < length xs → (x : X) × (slice_get xs n ≡ Some x)
@@ -252,6 +260,29 @@ request_not b t p h within = few_not p (let few = h.names.few in let all = h.num
   where
     few_not : (p : ℕ) → p < 2 ^ 32 → p ≢ renewal_id
     few_not p less e = omega (arith, less, e)
+
+-- and where there is one, the server isn't put into monitor mode
+pub asked_unwatched : (b : Book) (t : Inner) (p : ℕ) → Tied b t → p < length t.requests → is_watching (b.link t.link).hearing ≡ false
+asked_unwatched b t p h within = by_test (is_watching (b.link t.link).hearing) _
+    (λ w. absurd (let none = ap length (h.numbers.quiet (ap is_watching (sym h.notices.hearing_is) ∙ w)).none in let few = h.names.few in omega arith))
+    (λ f. f)
+
+-- what is put into monitor mode is a session of that kind
+pub watching_kind : (is : SessionKind) (pushes : Bool) → is_watching (Configs.hearing_in is pushes) ≡ true → is ≡ session.Monitor
+watching_kind session.Single true w = cc
+watching_kind session.Single false w = cc
+watching_kind session.PubSub pushes w = cc
+watching_kind session.Monitor pushes w = refl
+
+watching_book : (config : Option Config) → is_watching (hearing_in config) ≡ true → kind_in config ≡ session.Monitor
+watching_book None w = cc
+watching_book (Some config) w = watching_kind config.kind (unwrap_or config.push false) w
+
+-- which nothing is submitted to
+pub submits_unwatched : (b : Book) (t : Inner) (what : Submission) → Tied b t → has_no_form t.kind what ≡ false → is_watching t.hears ≡ true → ⊥
+submits_unwatched b t what h form w =
+    let is : t.kind ≡ session.Monitor = sym h.numbers.kind_is ∙ watching_book b.config (ap is_watching h.notices.heard_is ∙ w) in
+    not_both (has_no_form t.kind what) form (ap (λ (x : SessionKind). has_no_form x what) is)
 
 -- so its message is its submission's
 pub owner_below : (requests : List Request) (p : ℕ) → p ≢ renewal_id → owner_of requests p ≡ owner.Try (name_at requests p) 0

@@ -1,6 +1,6 @@
 -- The opening: the first link is asked for.
-use Rattle.std.proofs.Common.{List, None, Option, Some, [], ap, arith, false, inl, inr, refl, subst, suc, sym, zero, ℕ, ◌+◌, ◌<◌, ◌∙◌, ◌∷◌, ◌≡◌, ◌≢◌, Bool, ◌&&◌, not}
-use Rattle.std.specs.Prelude.{unwrap_or, ◌==◌}
+use Rattle.std.proofs.Common.{List, None, Option, Some, [], ap, arith, false, inl, inr, refl, subst, suc, sym, zero, ℕ, ◌+◌, ◌<◌, ◌∙◌, ◌∷◌, ◌≡◌, ◌≢◌, Bool, ◌&&◌, not, true}
+use Rattle.std.specs.Prelude.{unwrap_or, ◌==◌, slice_get, if◌then◌else◌}
 use Rattle.containers.proofs.Choices.{chosen, left_if, ne_from, ne_test}
 use Rattle.connection_info.specs.declared.address.ConnectionInfo.{ConnectionInfo}
 use Rattle.redis_error.specs.declared.config_name.ConfigName.{ConfigName}
@@ -8,7 +8,7 @@ use Rattle.redis_error.specs.declared.config_name.ConfigName.TheVariants as name
 use Rattle.driver_model.specs.declared.action.Action.TheVariants as action
 use Rattle.driver_model.specs.declared.action.Cause.TheVariants as cause
 use Rattle.driver_model.specs.declared.config.Config.{Config}
-use Rattle.driver_model.specs.Config.{address, boundary, buffer_fault, buffer_size, connect_timeout, fault_in, response_timeout, room_fault, told_info, hears_pushes, wants_credentials}
+use Rattle.driver_model.specs.Config.{address, boundary, buffer_fault, buffer_size, connect_timeout, fault_in, response_timeout, room_fault, told_info, hearing_of, has_line, permits, wants_credentials}
 use Rattle.driver_model.specs.declared.action.Action.{Action}
 use Rattle.driver_model.specs.declared.action.Cause.{Cause}
 use Rattle.driver_model.specs.declared.action.Purpose.{Purpose}
@@ -30,6 +30,9 @@ use Rattle.session_laws.proofs.Waits.{IsQuiet}
 use Rattle.session_laws.proofs.Write.{is_written}
 use Rattle.connection_info.specs.Protocol.{is_resp3}
 use Rattle.mux_conn.specs.Renewals.{no_renewal}
+use Rattle.driver_model.specs.Hearing.{hears_pushes}
+use Rattle.driver_model.specs.Kind.{is_single}
+use Rattle.session_laws.proofs.Names.{watching_kind}
 
 -- what timers the opening has asked for
 abbrev asks_timers : List Purpose → Book → Book
@@ -42,6 +45,7 @@ opened config word info timers = asks_timers timers (entered (entered blank_book
 -- the session then
 abbrev opened_core : Config → List Purpose → Core
 opened_core config timers = record {
+  kind = config.kind;
   turns = 1;
   links = first_link + 1;
   shut = false;
@@ -49,12 +53,12 @@ opened_core config timers = record {
   timers = timers;
   sources = [];
   table = [];
-  single = record { link = first_link; connection = dialing (buffer_size config) (boundary config) config.limit (hears_pushes config) (told_info config) (no_renewal (wants_credentials config) (response_timeout config)) };
+  single = record { link = first_link; connection = dialing (buffer_size config) (boundary config) (permits config) (hearing_of config) (told_info config) (no_renewal (wants_credentials config) (response_timeout config)) };
 }
 
 -- no other link is told of
 opened_link : (config : Config) (word : ℕ) (info : ConnectionInfo) (timers : List Purpose) (m : ℕ) → m ≢ first_link → (opened config word info timers).link m ≡ blank_ledger
-opened_link config word info timers m other = ap (noted_each blank_ledger) (left_if (first_link == m) (asks (told_info config) (wants_credentials config) ∷ []) [] (ne_test first_link m (λ e. other (sym e))))
+opened_link config word info timers m other = ap (noted_each blank_ledger) (left_if (first_link == m) (asks (told_info config) (wants_credentials config) (hearing_of config) ∷ []) [] (ne_test first_link m (λ e. other (sym e))))
 
 -- the opening that runs is its own
 own_opening : (config other : Config) (word another : ℕ) → ◌≡◌ {A = Option Cause} (Some (cause.Opening config word)) (Some (cause.Opening other another)) → config ≡ other
@@ -101,7 +105,7 @@ sized info heard limit size =
     chosen (λ (x : Option ConfigName). x ≡ None → IsSized limit size) (heard && not (is_resp3 info.redis.protocol)) (Some name.Push) (room_fault limit size) (λ t e. absurd (no_fault name.Push e)) (λ n e. room_sized limit size e)
 
 -- its numbers
-opening_numbers : (config : Config) (word : ℕ) (info : ConnectionInfo) (timeout : Option ℕ) → IsSized config.limit (buffer_size config) → connect_timeout config ≡ timeout → TiedNumbers (opened config word info (connect_timers timeout)) (inner (opened_core config (connect_timers timeout)) [])
+opening_numbers : (config : Config) (word : ℕ) (info : ConnectionInfo) (timeout : Option ℕ) → IsSized (permits config) (buffer_size config) → connect_timeout config ≡ timeout → TiedNumbers (opened config word info (connect_timers timeout)) (inner (opened_core config (connect_timers timeout)) [])
 opening_numbers config word info timeout some is = record {
   turns = refl;
   links = refl;
@@ -116,6 +120,8 @@ opening_numbers config word info timeout some is = record {
   within = refl;
   few = omega arith;
   settings = record { size_is = refl; bound_is = refl; limit_is = refl; some = some.some; limited = some.limited };
+  kind_is = refl;
+  quiet = λ w. record { none = refl; unwanted = ap (λ is. is_single is && unwrap_or config.creds false) (watching_kind config.kind (unwrap_or config.push false) w); unrenewed = refl };
   one = refl;
   only = λ m less. omega arith;
 }
@@ -159,33 +165,33 @@ opening_names = record { few = omega arith; named = λ p r e. cc; kept = λ n p 
 
 -- its tries
 opening_tries : (l : Ledger) → l.starts ≡ [] → TiedTries l (λ n. blank_story) [] first_link []
-opening_tries l none = record { owners = ap owners_of none ∙ ap (λ (ss : List Start). setup_owners (setup_count ss) []) (sym none); shapes = λ k p s w e i. cc; tried = λ k p w e. cc; untried = λ p r e out. cc }
+opening_tries l none = record { greeted = λ w. record { none = refl; greets = λ k s e. (let no : ◌≡◌ {A = Option Start} None (Some s) = sym (ap (λ (ss : List Start). slice_get ss k) none) ∙ e in cc) }; owners = λ plain. ap owners_of none ∙ ap (λ (ss : List Start). setup_owners (setup_count ss) []) (sym none); shapes = λ k p s w e i. cc; tried = λ k p w e. cc; untried = λ p r e out. cc }
 
 -- the session is tied to it
-opening_tied : (config : Config) (word : ℕ) (info : ConnectionInfo) (timeout : Option ℕ) → IsSized config.limit (buffer_size config) → connect_timeout config ≡ timeout → Tied (opened config word info (connect_timers timeout)) (inner (opened_core config (connect_timers timeout)) [])
+opening_tied : (config : Config) (word : ℕ) (info : ConnectionInfo) (timeout : Option ℕ) → IsSized (permits config) (buffer_size config) → connect_timeout config ≡ timeout → Tied (opened config word info (connect_timers timeout)) (inner (opened_core config (connect_timers timeout)) [])
 opening_tied config word info timeout some is = record {
   numbers = opening_numbers config word info timeout some is;
-  others = λ m other. subst IsUnknown (sym (opened_link config word info (connect_timers timeout) m other)) (record { asked = refl; up = refl; end = refl; starts = refl; pushes = refl });
-  pushes = record { heard_is = refl; within = λ y. omega arith; untold_is = λ y. refl; parts = λ y d z. cc; alive = λ z. refl; due = λ z. cc };
+  others = λ m other. subst IsUnknown (sym (opened_link config word info (connect_timers timeout) m other)) (record { asked = refl; up = refl; end = refl; starts = refl; notices = refl });
+  notices = record { heard_is = refl; hearing_is = refl; within = λ y. omega arith; untold_is = λ y. refl; parts = λ y d z. cc; alive = λ z. refl; due = λ z. cc; tame = λ z r. refl };
   life = (refl, refl, refl, refl);
   creds = record { wanted_is = refl; sought = (refl, refl, refl) };
   count = refl;
   renewal = record { over_is = refl; came = refl; waits = refl; untimed = refl; unstarted = refl; unasked = refl; unpending = refl; told = refl; kept = refl; found = refl };
   setup = record { info_is = refl; sent = λ k s less e. absurd (omega arith); said = (refl, refl) };
-  link = λ e. asked_tied (owner_of []) blank_ledger (told_info config) (wants_credentials config) no_link (fresh_tied (owner_of []) 0 0);
+  link = λ e. asked_tied (owner_of []) blank_ledger (told_info config) (wants_credentials config) (hearing_of config) no_link (fresh_tied (owner_of []) 0 0);
   names = opening_names;
   story = λ n. refl;
   tries = opening_tries ((opened config word info (connect_timers timeout)).link first_link) refl;
   lines = opening_lines;
   told = λ e n is none. cc;
   waits = opening_waits;
-  permits = opening_permits config.limit;
+  permits = opening_permits (permits config);
   late = λ p o e. cc;
 }
 
 -- no link must end
 opening_ends : (config : Config) (word : ℕ) (info : ConnectionInfo) (timers : List Purpose) → NoneEnds (opened config word info timers)
-opening_ends config word info timers m = chosen (λ (ls : List Line). ending (noted_each blank_ledger ls) ≡ None) (first_link == m) (asks (told_info config) (wants_credentials config) ∷ []) [] (λ t. refl) (λ f. refl)
+opening_ends config word info timers m = chosen (λ (ls : List Line). ending (noted_each blank_ledger ls) ≡ None) (first_link == m) (asks (told_info config) (wants_credentials config) (hearing_of config) ∷ []) [] (λ t. refl) (λ f. refl)
 
 -- what the opening shows
 abbrev opened_actions : Config → ℕ → ConnectionInfo → Option ℕ → List Action
@@ -210,7 +216,7 @@ opening_stands config word info timeout sound at is = (
 )
 
 -- the session after an opening with an address
-opened_between : (config : Config) (word : ℕ) (info : ConnectionInfo) (timeout : Option ℕ) → IsSound config → address config ≡ Some info → IsSized config.limit (buffer_size config) → connect_timeout config ≡ timeout
+opened_between : (config : Config) (word : ℕ) (info : ConnectionInfo) (timeout : Option ℕ) → IsSound config → address config ≡ Some info → IsSized (permits config) (buffer_size config) → connect_timeout config ≡ timeout
     → IsBetween (opened_actions config word info timeout) (opened_core config (connect_timers timeout))
 opened_between config word info timeout sound at some is =
     let timers = connect_timers timeout in
@@ -240,9 +246,16 @@ opened_between config word info timeout sound at some is =
 
 -- and after that of a sound configuration
 pub opening_between : (config : Config) (word : ℕ) → IsSound config → IsBetween (opening_actions config word) (opening_core config word)
-opening_between config word sound = by_address (address config) refl sound
+opening_between config word sound = by_line (has_line config) sound
   where
-    by_address : (x : Option ConnectionInfo) → address config ≡ x → fault_in x (hears_pushes config) config.limit (buffer_size config) ≡ None
+    heard : Bool
+    heard = hears_pushes (hearing_of config)
+
+    by_address : (x : Option ConnectionInfo) → address config ≡ x → fault_in x heard (permits config) (buffer_size config) ≡ None
         → IsBetween (action.Turn 0 (cause.Opening config word) ∷ connect_asked x (connect_timeout config)) (opening_core config word)
     by_address None at none = cc
-    by_address (Some info) at none = opened_between config word info (connect_timeout config) sound at (sized info (hears_pushes config) config.limit (buffer_size config) none) refl
+    by_address (Some info) at none = opened_between config word info (connect_timeout config) sound at (sized info heard (permits config) (buffer_size config) none) refl
+
+    by_line : (line : Bool) → (if not line then Some name.Kind else fault_in (address config) heard (permits config) (buffer_size config)) ≡ None → IsBetween (opening_actions config word) (opening_core config word)
+    by_line true none = by_address (address config) refl none
+    by_line false none = cc

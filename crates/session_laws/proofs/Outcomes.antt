@@ -120,6 +120,7 @@ event_outcomes os b number word (event.Bytes l piece) h = same_outcomes os b (ac
 event_outcomes os b number word (event.Ended l) h = same_outcomes os b (action.Turn number (cause.Event (record { word = word; kind = event.Ended l }))) (omega arith) (λ n. (refl, refl)) h
 event_outcomes os b number word (event.ReadFault l kind) h = same_outcomes os b (action.Turn number (cause.Event (record { word = word; kind = event.ReadFault l kind }))) (omega arith) (λ n. (refl, refl)) h
 event_outcomes os b number word (event.WriteFault l kind) h = same_outcomes os b (action.Turn number (cause.Event (record { word = word; kind = event.WriteFault l kind }))) (omega arith) (λ n. (refl, refl)) h
+event_outcomes os b number word event.DropStream h = same_outcomes os b (action.Turn number (cause.Event (record { word = word; kind = event.DropStream }))) (omega arith) (λ n. (refl, refl)) h
 event_outcomes os b number word event.Shutdown h = same_outcomes os b (action.Turn number (cause.Event (record { word = word; kind = event.Shutdown }))) (omega arith) (λ n. (refl, refl)) h
 
 -- any action
@@ -147,16 +148,21 @@ action_outcomes os b (action.Connect l host port) may h = same_outcomes os b (ac
 action_outcomes os b (action.Timer t ms what) may h = same_outcomes os b (action.Timer t ms what) refl (timer_same b t ms what) h
 action_outcomes os b (action.Took owner.Setup l count) may h = absurd may
 action_outcomes os b (action.Took owner.Auth l count) may h = absurd may
+action_outcomes os b (action.Took owner.Monitor l count) may h = absurd may
 action_outcomes os b (action.Took (owner.Try m round) l count) may h = same_outcomes os b (action.Took (owner.Try m round) l count) refl (took_same b m round l count) h
 action_outcomes os b (action.Push l info) may h = same_outcomes os b (action.Push l info) refl (λ n. (refl, refl)) h
+action_outcomes os b (action.Message m) may h = same_outcomes os b (action.Message m) refl (λ n. (refl, refl)) h
+action_outcomes os b (action.Monitor v) may h = same_outcomes os b (action.Monitor v) refl (λ n. (refl, refl)) h
 action_outcomes os b (action.NeedCreds c l) may h = same_outcomes os b (action.NeedCreds c l) refl (λ n. (refl, refl)) h
 action_outcomes os b (action.Close l) may h = same_outcomes os b (action.Close l) refl (λ n. (refl, refl)) h
 action_outcomes os b (action.Write l bytes) may h = same_outcomes os b (action.Write l bytes) refl (λ n. (refl, refl)) h
 action_outcomes os b (action.Wait owner.Setup kind) may h = absurd may
 action_outcomes os b (action.Wait owner.Auth kind) may h = absurd may
+action_outcomes os b (action.Wait owner.Monitor kind) may h = absurd may
 action_outcomes os b (action.Wait (owner.Try m round) kind) may h = same_outcomes os b (action.Wait (owner.Try m round) kind) refl (wait_same b m round kind) h
 action_outcomes os b (action.Start l k owner.Setup count len) may h = same_outcomes os b (action.Start l k owner.Setup count len) refl (λ n. (refl, refl)) h
 action_outcomes os b (action.Start l k owner.Auth count len) may h = same_outcomes os b (action.Start l k owner.Auth count len) refl (λ n. (refl, refl)) h
+action_outcomes os b (action.Start l k owner.Monitor count len) may h = same_outcomes os b (action.Start l k owner.Monitor count len) refl (λ n. (refl, refl)) h
 action_outcomes os b (action.Start l k (owner.Try m round) count len) may h = same_outcomes os b (action.Start l k (owner.Try m round) count len) refl (start_same b l k m round count len) h
 action_outcomes os b (action.Created e) may h = same_outcomes os b (action.Created e) refl (λ n. (refl, refl)) h
 action_outcomes os b (action.Outcome n o) (inl may) h = answer_outcomes os b n o may.asked h

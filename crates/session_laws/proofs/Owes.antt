@@ -20,17 +20,18 @@ use Rattle.mux_conn.specs.declared.life.Life.TheVariants.{Dialing, Wanting, Sett
 use Rattle.mux_conn.specs.declared.request.Pending.{Pending}
 use Rattle.mux_conn.specs.declared.request.Request.{Request}
 use Rattle.mux_conn.specs.Requests.{name_at, is_open_at}
-use Rattle.legal_trace.specs.Ledger.{full_count, Ledger, Heard, Start, End, failure_in, is_cut, is_of_setup, next_push, setup_count}
+use Rattle.legal_trace.specs.Ledger.{full_count, Ledger, Heard, Start, End, failure_in, is_cut, is_of_setup, next_notice, setup_count}
 use Rattle.legal_trace.specs.Story.{Story, bytes_of, shape, last_of, is_open}
 use Rattle.legal_trace.specs.Book.{Book}
 use Rattle.legal_trace.specs.Owed.{owed, owed_to_message, owed_unstarted, owed_to_try}
-use Rattle.legal_trace.specs.Legal.{IsOpen, NoneIsOwed, IsCreated, FailuresAreShown, PushesAreTold, EndsAreTold}
+use Rattle.legal_trace.specs.Legal.{IsOpen, NoneIsOwed, IsCreated, FailuresAreShown, NoticesAreTold, EndsAreTold}
 use Rattle.session_laws.proofs.Numbers.{Rising, IsIn, in_either, rising_in, rising_left, rising_right, rising_apart, requests_in, request_in, request_of}
 use Rattle.session_laws.proofs.Said.{ready_shown}
-use Rattle.session_laws.proofs.Tied.{IsEntry, Inner, carried, link_in, owner_of, setup_owners, whole_link, owners_of, owners_each, queue_ids, IsRequest, TiedStory, TiedLife, Tied, FailureIsShown, has_ended}
-use Rattle.session_laws.proofs.Names.{get_some, open_within, name_of_some, name_placed, same_name, owner_no_setup, auth_owner, request_owner, request_not}
+use Rattle.session_laws.proofs.Tied.{IsEntry, Inner, carried, link_in, owner_of, setup_owners, whole_link, owners_of, owners_each, queue_ids, IsRequest, TiedStory, TiedLife, Tied, FailureIsShown, has_ended, is_of_greeting}
+use Rattle.session_laws.proofs.Names.{get_some, open_within, name_of_some, name_placed, same_name, owner_no_setup, auth_owner, request_owner, request_not, asked_unwatched}
 use Rattle.session_laws.proofs.InLine.{AtPlaces, IsInLine, wanted_rises, places_rise, row_ids, wanted_in, kept_ids, line_of, open_in_line}
 use Rattle.mux_conn.specs.Renewals.{renewal_id}
+use Rattle.driver_model.specs.Hearing.{is_watching, hears_something, hears_pushes}
 
 -- each request is a submission
 pub request_story : (b : Book) (t : Inner) (p : ℕ) → Tied b t → p < length t.requests → IsRequest (b.story (name_at t.requests p)) t.requests t.link p
@@ -104,7 +105,7 @@ pub stands_started : (b : Book) (t : Inner) (p k : ℕ) (of_shape : Shape) → T
     → (j : ℕ) × (k ≡ setup_count (b.link t.link).starts + j) × (slice_get t.started j ≡ Some p)
 stands_started b t p k of_shape h l place =
     let starts = (b.link t.link).starts in
-    let s = started_at starts t.requests t.started (setup_count starts) k place.start h.tries.owners place.stands (ap is_of_setup place.owned ∙ owner_no_setup t.requests p) in
+    let s = started_at starts t.requests t.started (setup_count starts) k place.start (h.tries.owners (asked_unwatched b t p h l)) place.stands (ap is_of_setup place.owned ∙ owner_no_setup t.requests p) in
     let named = request_owner t.requests s.2 p (request_not b t p h l) (s.4 ∙ place.owned) in
     let same = same_name t.table t.requests s.2 p h.names (started_within b t s.0 s.2 h named.0 s.3) l named.1 in
     (s.0, s.1, s.3 ∙ ap Some same)
@@ -115,7 +116,10 @@ auth_started : (b : Book) (t : Inner) (e : Entry) (k : ℕ) → Tied b t → e.i
 auth_started b t e k h is place =
     let starts = (b.link t.link).starts in
     let auth : owner_of t.requests e.id ≡ owner.Auth = taken_if (e.id == renewal_id) owner.Auth (owner.Try (name_at t.requests e.id) 0) (eq_test e.id renewal_id is) in
-    let s = started_at starts t.requests t.started (setup_count starts) k place.start h.tries.owners place.stands (ap is_of_setup place.owned ∙ owner_no_setup t.requests e.id) in
+    let plain : is_watching (b.link t.link).hearing ≡ false = by_test (is_watching (b.link t.link).hearing) _
+    (λ w. absurd (not_both (is_of_greeting place.start.owner) (ap is_of_greeting (place.owned ∙ auth)) ((h.tries.greeted w).greets k place.start place.stands)))
+    (λ f. f) in
+    let s = started_at starts t.requests t.started (setup_count starts) k place.start (h.tries.owners plain) place.stands (ap is_of_setup place.owned ∙ owner_no_setup t.requests e.id) in
     (s.0, s.1, s.3 ∙ ap Some (auth_owner t.requests s.2 (s.4 ∙ place.owned ∙ auth) ∙ sym is))
 
 -- what takes items started so
@@ -188,7 +192,7 @@ wanted_entry name l k (e ∷ es) p all (inr i) = let w = wanted_entry name l (su
 pub lives : (l : Ledger) (created : ℕ) (life : Life) → TiedLife l created life → has_ended life ≡ false → l.end ≡ None
 lives l created Dialing h n = h.2
 lives l created (Wanting link) h n = h.2
-lives l created (SettingUp link with_user) h n = h.2
+lives l created (SettingUp link greeting) h n = h.2
 lives l created (Ready link) h n = h.2
 lives l created (Ended e) h n = cc
 
@@ -196,7 +200,7 @@ lives l created (Ended e) h n = cc
 pub row_link : (l : Ledger) (requests : List Request) (life : Life) (p : ℕ) → IsIn p (row_ids (link_in life).row) → TiedLink (carried life requests) l (whole_link life) → TiedLink (owner_of requests) l (link_in life)
 row_link l requests Dialing p i h = absurd i
 row_link l requests (Wanting link) p i h = absurd i
-row_link l requests (SettingUp link with_user) p i h = absurd i
+row_link l requests (SettingUp link greeting) p i h = absurd i
 row_link l requests (Ready link) p i h = h
 row_link l requests (Ended e) p i h = absurd i
 
@@ -251,7 +255,7 @@ alive_failure end created none e fails = absurd (let no : ◌≡◌ {A = Option 
 failure_shown : (l : Ledger) (created : ℕ) (life : Life) → TiedLife l created life → FailureIsShown l.end created
 failure_shown l created Dialing h = alive_failure l.end created h.2
 failure_shown l created (Wanting link) h = alive_failure l.end created h.2
-failure_shown l created (SettingUp link with_user) h = alive_failure l.end created h.2
+failure_shown l created (SettingUp link greeting) h = alive_failure l.end created h.2
 failure_shown l created (Ready link) h = alive_failure l.end created h.2
 failure_shown l created (Ended e) h = h.2
 
@@ -276,16 +280,16 @@ get_behind zero (h ∷ hs) e = cc
 get_behind (suc n) [] e = refl
 get_behind (suc n) (h ∷ hs) e = get_behind n hs e
 
--- all pushes that came were told, where none is still to be
-pub pushes_told : (b : Book) (t : Inner) → Tied b t → t.untold ≡ [] → PushesAreTold b
-pushes_told b t h none m heard = by_test (m == t.link) _
-    (λ same. subst (λ k. next_push (b.link k) ≡ None) (sym (eq_from m t.link same)) (get_behind (b.link t.link).told (b.link t.link).pushes (h.pushes.untold_is (sym h.pushes.heard_is ∙ heard) ∙ none)))
-    (λ other. ap (λ (hs : List Heard). slice_get hs (b.link m).told) (h.others m (ne_from m t.link other)).pushes)
+-- all notices that came were told, where none is still to be
+pub notices_told : (b : Book) (t : Inner) → Tied b t → t.untold ≡ [] → NoticesAreTold b
+notices_told b t h none m heard = by_test (m == t.link) _
+    (λ same. subst (λ k. next_notice (b.link k) ≡ None) (sym (eq_from m t.link same)) (get_behind (b.link t.link).told (b.link t.link).notices (h.notices.untold_is (ap hears_something (sym h.notices.heard_is) ∙ heard) ∙ none)))
+    (λ other. ap (λ (hs : List Heard). slice_get hs (b.link m).told) (h.others m (ne_from m t.link other)).notices)
 
 -- and so was the end of each link, where none is
 pub ends_told : (b : Book) (t : Inner) → Tied b t → t.parting ≡ false → EndsAreTold b
 ends_told b t h none m heard cut = by_test (m == t.link) _
-    (λ same. let e = eq_from m t.link same in subst (λ k. (b.link k).parted ≡ true) (sym e) (h.pushes.parts (sym h.pushes.heard_is ∙ heard) none (subst (λ k. is_cut (b.link k).end ≡ true) e cut)))
+    (λ same. let e = eq_from m t.link same in subst (λ k. (b.link k).parted ≡ true) (sym e) (h.notices.parts (ap hears_pushes (sym h.notices.heard_is) ∙ heard) none (subst (λ k. is_cut (b.link k).end ≡ true) e cut)))
     (λ other. absurd (not_both (is_cut (b.link m).end) (ap is_cut (h.others m (ne_from m t.link other)).end) cut))
 
 -- the entries of a row are started one after another

@@ -37,7 +37,7 @@ use Rattle.session_laws.proofs.Names.{length_still, length_with, name_still, nam
 use Rattle.session_laws.proofs.Numbers.{IsIn, Rising, rising_left, rising_right, rising_tail, rising_without, in_either, in_right, requests_in, rising_apart}
 use Rattle.session_laws.proofs.Owes.{request_story}
 use Rattle.session_laws.proofs.Place.{IsNext, admit_tied, next_admitted, next_waiting, passed_admitted, passed_waiting, place_tied, tell_tied, with_place, with_told}
-use Rattle.session_laws.proofs.SetsUp.{set_up_conn}
+use Rattle.session_laws.proofs.SetsUp.{greeted_conn}
 use Rattle.session_laws.proofs.Settle.{answered_leaves, quiet_asks, seen, trace_of_acts}
 use Rattle.session_laws.proofs.Start.{on_link}
 use Rattle.session_laws.proofs.Starts.{each_fit, each_going, each_held, shown_is, shows, shows_sources, shows_timers, each_seats}
@@ -107,9 +107,9 @@ keeps_on u v w h k = record { admitted = k.admitted ∙ h.admitted; waiting = k.
 pub started_keeps : (w : Work) (life : Life) → Keeps w (started_at w life)
 started_keeps w Dialing = record { admitted = refl; waiting = refl }
 started_keeps w (Wanting link) = record { admitted = refl; waiting = refl }
-started_keeps w (SettingUp link with_user) =
+started_keeps w (SettingUp link greeting) =
     let s = started_all (record { link = link; out = [] }) in
-    let same = set_up_conn (with_setup w s.link with_user) s.out in
+    let same = greeted_conn (with_setup w s.link greeting) greeting s.out in
     record { admitted = ap (λ (c : MultiplexedConnection). c.admitted) same; waiting = ap (λ (c : MultiplexedConnection). c.waiting) same }
 started_keeps w (Ready link) =
     let s = started_all (record { link = link; out = [] }) in
@@ -121,7 +121,7 @@ started_keeps w (Ended e) = record { admitted = refl; waiting = refl }
 placed_keeps : (w : Work) (q : Waiting) (life : Life) → Keeps w (placed_at w q life)
 placed_keeps w q Dialing = record { admitted = refl; waiting = refl }
 placed_keeps w q (Wanting link) = record { admitted = refl; waiting = refl }
-placed_keeps w q (SettingUp link with_user) = record { admitted = refl; waiting = refl }
+placed_keeps w q (SettingUp link greeting) = record { admitted = refl; waiting = refl }
 placed_keeps w q (Ready link) = record { admitted = refl; waiting = refl }
 placed_keeps w q (Ended e) = record { admitted = refl; waiting = refl }
 

@@ -125,7 +125,8 @@ owners_further requests p now (m ∷ ms) = λ i. owners_still requests p now i m
 -- and so are the tries
 tries_further : (l : Ledger) (story : ℕ → Story) (requests : List Request) (link p : ℕ) (now : Progress) (started : List ℕ) → TiedTries l story requests link started → TiedTries l story (at_progress requests p now) link started
 tries_further l story requests link p now started h = record {
-  owners = h.owners ∙ ap (setup_owners (setup_count l.starts)) (sym (owners_further requests p now started));
+  owners = λ plain. h.owners plain ∙ ap (setup_owners (setup_count l.starts)) (sym (owners_further requests p now started));
+  greeted = h.greeted;
   shapes = λ k m s l i j. h.shapes k m s (subst (λ x. m < x) (length_still requests p now) l) i j ∙ ap (λ n. shape (story n)) (sym (name_still requests p now m));
   tried = λ k m l i. ap (λ n. (story n).tries) (name_still requests p now m) ∙ h.tried k m (subst (λ x. m < x) (length_still requests p now) l) i;
   untried = λ m r i out. let w = name_was requests p now m r i in ap (λ n. (story n).tries) (sym w.2) ∙ h.untried m w.0 w.1 out;
@@ -488,7 +489,7 @@ place_tied b t link q waiting admitted yes_awaited next h =
     record {
       numbers = numbers_kept b _ _ (on_link t link) _ _ _ _ _ _ _ _ _ _ h.numbers;
       others = h.others;
-      pushes = h.pushes;
+      notices = h.notices;
       life = h.life;
       creds = record { wanted_is = h.creds.wanted_is; sought = h.creds.sought };
       count = h.count;
@@ -556,7 +557,7 @@ tell_tied b t link q waiting admitted not_awaited next h =
     record {
       numbers = numbers_kept b _ _ (on_link t link) _ _ _ _ _ _ _ _ _ _ h.numbers;
       others = h.others;
-      pushes = h.pushes;
+      notices = h.notices;
       life = h.life;
       creds = record { wanted_is = h.creds.wanted_is; sought = h.creds.sought };
       count = h.count;
@@ -608,7 +609,7 @@ admit_tied b t link q qs w is last h =
     record {
       numbers = numbers_kept b _ _ (record (on_link t link) { waiting = q ∷ qs; letting = q.number ∷ [] }) _ _ _ _ _ _ _ _ _ _ h.numbers;
       others = h.others;
-      pushes = h.pushes;
+      notices = h.notices;
       life = h.life;
       creds = record { wanted_is = h.creds.wanted_is; sought = h.creds.sought };
       count = h.count;

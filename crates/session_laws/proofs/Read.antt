@@ -1,24 +1,26 @@
 -- Bytes come: what they settle is answered, and bytes that begin no value end the link.
-use Rattle.std.proofs.Common.{◌≡◌, inl, inr, ℕ, Bool, true, false, List, [], ◌∷◌, ◌++◌, length, Some, None, if◌then◌else◌, refl, sym, ap, ◌∙◌, subst, append_assoc, arith}
+use Rattle.std.proofs.Common.{◌≡◌, inl, inr, ℕ, Bool, true, false, ◌||◌, List, [], ◌∷◌, ◌++◌, length, Some, None, if◌then◌else◌, refl, sym, ap, ◌∙◌, subst, append_assoc, arith}
 use Rattle.std.specs.List.{AllByRecursion}
 use Rattle.std.proofs.lemmas.List.{append-nil}
-use Rattle.containers.proofs.Choices.{chosen, taken_if, left_if, not_both}
+use Rattle.containers.proofs.Choices.{by_test, chosen, taken_if, left_if, not_both}
 use Rattle.redis_error.specs.declared.redis_error.RedisError.TheVariants as error
 use Rattle.resp_value.specs.Data.{Data}
 use Rattle.resp_read.specs.Values.{is_spoiled, values}
-use Rattle.resp_read.specs.Items.{items}
 use Rattle.driver_model.specs.declared.action.Action.{Action}
 use Rattle.driver_model.specs.declared.action.Owner.{Owner}
 use Rattle.driver_model.specs.declared.event.EventKind.{EventKind}
 use Rattle.driver_model.specs.declared.news.LinkFault.TheVariants as fault
 use Rattle.driver_model.specs.News.{came, news_of, News}
-use Rattle.link_core.specs.Dealing.{Dealing, dealt_each, heard_of}
-use Rattle.link_core.specs.Link.{LinkState, Settling, pushes_came}
+use Rattle.link_core.specs.Dealing.{Dealing, dealing_with, taken_each}
+use Rattle.link_core.specs.Link.{LinkState, Reading, read_on, read_with}
 use Rattle.link_core.specs.Ends.{row_hit, queue_closed}
 use Rattle.link_laws.specs.Settles.{settled_ids, wanted, awaited_ids, IsOwed}
-use Rattle.link_laws.proofs.Once.{items_keep}
+use Rattle.link_laws.specs.Notices.{AreApart, SayTheSame}
+use Rattle.link_laws.proofs.Notices.{heard_kinds, reads_tell, set_reads, settles_apart}
+use Rattle.link_laws.proofs.Once.{taken_keeps}
+use Rattle.link_laws.proofs.SetUp.{stays_set}
 use Rattle.link_laws.proofs.Settles.{read_owed}
-use Rattle.link_laws.proofs.TiedLink.{TiedLink, deals, has_read, has_heard, reads_on, heard_is, read_tied}
+use Rattle.link_laws.proofs.TiedLink.{ReadsAlike, TiedLink, deals, has_read, has_heard, reads_on, heard_is, read_taken, read_tied}
 use Rattle.mux_conn.specs.declared.connection.MultiplexedConnection.{MultiplexedConnection}
 use Rattle.mux_conn.specs.declared.life.Life.{Life}
 use Rattle.mux_conn.specs.declared.life.Life.TheVariants.{Dialing, Wanting, SettingUp, Ready, Ended}
@@ -29,92 +31,155 @@ use Rattle.mux_conn.specs.Requests.{is_open_at, name_at}
 use Rattle.mux_conn.specs.Effects.{failed_at, read_to, read_at, read_setup, read_wanting, told_each}
 use Rattle.shared_session.specs.declared.core_state.Core.{Core}
 use Rattle.shared_session.specs.Turn.{with_work, is_bad}
-use Rattle.legal_trace.specs.Ledger.{Ledger, by_fault, ending, is_set_up, Heard, heard_each, hears, noted}
+use Rattle.legal_trace.specs.Ledger.{Ledger, by_fault, bytes_came, ending, ending_up, is_set_up, is_unreadable, Heard, hears, noted}
 use Rattle.legal_trace.specs.Story.{Story}
-use Rattle.legal_trace.specs.Book.{Book, book, entered}
+use Rattle.legal_trace.specs.Book.{Book, book, entered, hearing_in}
 use Rattle.legal_trace.specs.Owed.{owed}
 use Rattle.session_laws.proofs.Numbers.{IsIn, Rising, requests_in, requests_in-append}
-use Rattle.session_laws.proofs.Tied.{inner, link_in, owner_of, queue_ids, IsEntry, TiedLines, TiedSetup, AreQueued, TiedWaits, has_ended, Tied, Sound, AreSought, TiedRenewal}
+use Rattle.session_laws.proofs.Tied.{inner, link_in, owner_of, queue_ids, IsEntry, TiedLines, TiedSetup, AreQueued, TiedWaits, has_ended, Tied, Sound, AreRenewed, AreSought, IsSetUp, TiedRenewal}
 use Rattle.session_laws.proofs.SetUp.{set_up_hears}
 use Rattle.legal_trace.proofs.Setups.{ends_where_set}
-use Rattle.session_laws.proofs.ReadSetup.{dealt_all, setup_read, all_heard, fit_by, heard_pushes}
+use Rattle.legal_trace.proofs.Came.{Came, bytes_are}
+use Rattle.session_laws.proofs.Greeted.{values_all}
+use Rattle.session_laws.proofs.HeardBytes.{all_heard, heard_notices, none_noticed}
+use Rattle.session_laws.proofs.More.{after_came, after_is}
+use Rattle.session_laws.proofs.ReadSetup.{setup_read, fit_by}
 use Rattle.session_laws.proofs.ReadWanting.{wanting_read}
 use Rattle.session_laws.proofs.States.{IsFit, Between, HasApplied}
 use Rattle.session_laws.proofs.InLine.{kept_ids, IsInLine}
 use Rattle.session_laws.proofs.Owes.{in_line}
 use Rattle.session_laws.proofs.Settle.{seen, trace_of_acts, IsDue, Tells, replied_each, replied_keeps}
 use Rattle.session_laws.proofs.Close.{AreInTime, are_in_time, HasEnded, pending_due, ended_applied, parted_moved}
-use Rattle.session_laws.proofs.Announce.{turn_of, turned, IsNewsKind, announced_sound, first_book, heard_book, heard_is as turn_is, heard_tied_new}
-use Rattle.session_laws.proofs.Heard.{heard_by, lives_as, none_ends, ended_quiet, dialing_quiet, book_kind, book_news}
+use Rattle.session_laws.proofs.Announce.{turn_of, turned, IsNewsKind, announced_sound, first_book, heard_book, heard_is as turn_is, heard_tied_new, StaysQuiet}
+use Rattle.session_laws.proofs.Heard.{heard_by, lives_as, none_ends, ended_quiet, dialing_quiet, book_kind, book_news, tame_between}
 use Rattle.session_laws.proofs.End.{up_tied, fault_ends}
 use Rattle.session_laws.proofs.Took.{queue_waits}
-use Rattle.legal_trace.specs.Legal.{is_heard}
 use Rattle.session_laws.proofs.Told.{retells, well_told}
-use Rattle.session_laws.proofs.Telling.{IsTelling, telling, told_holds, told_leaves, unheard_holds}
-use Rattle.link_laws.proofs.Pushes.{pushes_say, set_stays, settles_apart}
-use Rattle.link_core.specs.declared.message.PushAt.{PushAt}
+use Rattle.session_laws.proofs.Telling.{IsHeard, IsTelling, telling, told_holds, told_leaves, unheard_holds}
+use Rattle.link_core.specs.declared.message.NoticeAt.{NoticeAt}
 use Rattle.link_core.specs.declared.message.Settled.{Settled}
 use Rattle.session_laws.proofs.Names.{request_not}
 use Rattle.session_laws.proofs.Replies.{read_renewed}
 use Rattle.mux_conn.specs.Renewals.{renewing}
+use Rattle.mux_conn.specs.declared.renewal.Renewal.{Renewal}
+use Rattle.driver_model.specs.declared.hearing.Hearing.{Hearing}
+use Rattle.driver_model.specs.declared.hearing.Hearing.TheVariants as hearing
+use Rattle.driver_model.specs.declared.news.LinkFault.{LinkFault}
+use Rattle.driver_model.specs.Hearing.{felt, hears_something}
 
--- items that are dealt leave entries as they are, but for what they got
-dealt_entries : (requests : List Request) (d : Dealing) (vs : List Data) → AllByRecursion (IsEntry requests) d.row → AllByRecursion (IsEntry requests) (dealt_each d vs).row
-dealt_entries requests d vs all = dealt_all (IsEntry requests) (λ e item h. elim h [ inl r ↦ inl (record { below = r.below; placed_at = r.placed_at }) | inr a ↦ inr (record { is = a.is; awaited_is = a.awaited_is; shape_is = a.shape_is }) ]) d vs all
+-- values that are taken leave entries as they are, but for what they got
+taken_entries : (requests : List Request) (h : Hearing) (d : Dealing) (vs : List Data) → AllByRecursion (IsEntry requests) d.row → AllByRecursion (IsEntry requests) (taken_each h true d vs).row
+taken_entries requests h d vs all = values_all (IsEntry requests) (λ e item k. elim k [ inl r ↦ inl (record { below = r.below; placed_at = r.placed_at }) | inr a ↦ inr (record { is = a.is; awaited_is = a.awaited_is; shape_is = a.shape_is }) ]) h true d vs all
 
 -- those that bytes settle, and those still wanted, are those wanted before
-read_wanted : (link : LinkState) (piece : List ℕ) → settled_ids (deals link piece).out ++ wanted (deals link piece).row ≡ wanted link.row
-read_wanted link piece = items_keep (record { row = link.row; out = [] }) (items (link.rest ++ piece))
+read_wanted : (h : Hearing) (link : LinkState) (piece : List ℕ) → settled_ids (deals h true link piece).out ++ wanted (deals h true link piece).row ≡ wanted link.row
+read_wanted h link piece = taken_keeps h true (dealing_with link.row) (values (link.rest ++ piece))
 
 -- so it is of requests
-read_asked : (link : LinkState) (piece : List ℕ) → requests_in (settled_ids (deals link piece).out) ++ requests_in (wanted (deals link piece).row) ≡ requests_in (wanted link.row)
-read_asked link piece = sym (requests_in-append (settled_ids (deals link piece).out) (wanted (deals link piece).row)) ∙ ap requests_in (read_wanted link piece)
+read_asked : (h : Hearing) (link : LinkState) (piece : List ℕ) → requests_in (settled_ids (deals h true link piece).out) ++ requests_in (wanted (deals h true link piece).row) ≡ requests_in (wanted link.row)
+read_asked h link piece = sym (requests_in-append (settled_ids (deals h true link piece).out) (wanted (deals h true link piece).row)) ∙ ap requests_in (read_wanted h link piece)
 
 -- the lines, with those that are to be answered
-read_lines : (story : ℕ → Story) (requests : List Request) (link : LinkState) (piece : List ℕ) (waiting admitted : List Waiting) (started : List ℕ) → TiedLines story requests link waiting admitted [] started
-    → TiedLines story requests (has_read link piece) waiting admitted (requests_in (settled_ids (deals link piece).out)) started
-read_lines story requests link piece waiting admitted started h =
-    let ids = requests_in (settled_ids (deals link piece).out) in
-    let rows = requests_in (wanted (deals link piece).row) in
+read_lines : (story : ℕ → Story) (requests : List Request) (h : Hearing) (link : LinkState) (piece : List ℕ) (waiting admitted : List Waiting) (started : List ℕ) → TiedLines story requests link waiting admitted [] started
+    → TiedLines story requests (has_read h true link piece) waiting admitted (requests_in (settled_ids (deals h true link piece).out)) started
+read_lines story requests h link piece waiting admitted started k =
+    let ids = requests_in (settled_ids (deals h true link piece).out) in
+    let rows = requests_in (wanted (deals h true link piece).row) in
     let queue = awaited_ids link.queue in
     record {
-      line = h.line;
-      queued = h.queued;
-      entries = dealt_entries requests (record { row = link.row; out = [] }) (items (link.rest ++ piece)) h.entries;
-      packs = h.packs;
-      packed_in = h.packed_in;
-      there = λ p e. elim (h.there p e) [
-        | inl i ↦ inl (subst (λ ns. IsIn p ns) (ap (λ ns. ns ++ queue) (sym (read_asked link piece)) ∙ append_assoc ids rows queue) i)
+      line = k.line;
+      queued = k.queued;
+      entries = taken_entries requests h (dealing_with link.row) (values (link.rest ++ piece)) k.entries;
+      packs = k.packs;
+      packed_in = k.packed_in;
+      there = λ p e. elim (k.there p e) [
+        | inl i ↦ inl (subst (λ ns. IsIn p ns) (ap (λ ns. ns ++ queue) (sym (read_asked h link piece)) ∙ append_assoc ids rows queue) i)
         | inr w ↦ inr w
       ];
     }
 
 -- and are in line
-read_in_line : (requests : List Request) (link : LinkState) (piece : List ℕ) (admitted waiting : List Waiting) → IsInLine requests link admitted waiting [] → IsInLine requests (has_read link piece) admitted waiting (requests_in (settled_ids (deals link piece).out))
-read_in_line requests link piece admitted waiting r =
-    let ids = requests_in (settled_ids (deals link piece).out) in
-    let rows = requests_in (wanted (deals link piece).row) in
+read_in_line : (requests : List Request) (h : Hearing) (link : LinkState) (piece : List ℕ) (admitted waiting : List Waiting) → IsInLine requests link admitted waiting [] → IsInLine requests (has_read h true link piece) admitted waiting (requests_in (settled_ids (deals h true link piece).out))
+read_in_line requests h link piece admitted waiting r =
+    let ids = requests_in (settled_ids (deals h true link piece).out) in
+    let rows = requests_in (wanted (deals h true link piece).row) in
     let later = queue_ids link.queue ++ kept_ids admitted waiting in
-    subst (λ ns. Rising 0 ns (length requests)) (ap (λ ns. ns ++ later) (sym (read_asked link piece)) ∙ append_assoc ids rows later) r
+    subst (λ ns. Rising 0 ns (length requests)) (ap (λ ns. ns ++ later) (sym (read_asked h link piece)) ∙ append_assoc ids rows later) r
 
--- what ends the link is what breaks it
-read_ending : (name : ℕ → Owner) (l : Ledger) (told : ℕ) (link : LinkState) (piece : List ℕ) → l.up ≡ true → is_set_up (has_heard l piece) ≡ true → TiedLink name (has_heard l piece) (has_read link piece)
-    → ending (retells (has_heard l piece) told l.parted) ≡ (if (has_read link piece).broken then Some (by_fault fault.Parse) else None)
-read_ending name l told link piece up well h =
-    ends_where_set (retells (has_heard l piece) told l.parted) up (well_told (has_heard l piece) told l.parted ∙ well)
-    ∙ ap (λ (b : Bool). if b then Some (by_fault fault.Parse) else None) (ap is_spoiled h.rest ∙ sym h.broken)
+-- what ends the link is what can't be read on
+read_ending : (after : Ledger) (told : ℕ) (piece : List ℕ) → after.heard ≡ came piece → after.up ≡ true → is_set_up after ≡ true → ending (retells after told after.parted) ≡ (if is_unreadable after then Some (by_fault (felt after.hearing fault.Parse)) else None)
+read_ending after told piece heard up well = ends_where_set (retells after told after.parted) up (well_told after told after.parted ∙ well) ∙ ap (ending_up (retells after told after.parted)) heard
 
 -- a link that is not broken is fit
-read_fit : (size bound : ℕ) (link : LinkState) (piece : List ℕ) → IsFit size bound link → (has_read link piece).broken ≡ false → (x : LinkState) → Ready (has_read link piece) ≡ Ready x → IsFit size bound x
-read_fit size bound link piece h sound x e = let same : has_read link piece ≡ x = cc in subst (IsFit size bound) same (record { sound = sound; size_is = h.size_is; bound_is = h.bound_is; within = h.within })
+read_fit : (size bound : ℕ) (h : Hearing) (link : LinkState) (piece : List ℕ) → IsFit size bound link → (has_read h true link piece).broken ≡ false → (x : LinkState) → Ready (has_read h true link piece) ≡ Ready x → IsFit size bound x
+read_fit size bound h link piece fit sound x e = let same : has_read h true link piece ≡ x = cc in subst (IsFit size bound) same (record { sound = sound; size_is = fit.size_is; bound_is = fit.bound_is; within = fit.within })
 
--- a link that reads on, and what it has settled
+-- what the link of a connection has taken of bytes that come
+abbrev deals_of : Core → LinkState → List ℕ → Dealing
+deals_of c link piece = deals c.single.connection.hears true link piece
+
+-- the link then
+abbrev read_of : Core → LinkState → List ℕ → LinkState
+read_of c link piece = has_read c.single.connection.hears true link piece
+
+-- and the connection, before anything is answered
 abbrev reads : Core → LinkState → List ℕ → Work
-reads c link piece = record { conn = lives_as c (Ready (has_read link piece)); acts = [] }
+reads c link piece = record { conn = lives_as c (Ready (read_of c link piece)); acts = [] }
 
 -- the link that is up
 --
--- the turn begins, with those to be answered that the bytes settle, and the pushes to be told that came
+-- what bytes that came on it leave is what its ledger has taken
+record IsReadUp (l after : Ledger) (requests : List Request) (read : LinkState) (d : Dealing) (r : Renewal) : Type 0 where
+  pub tied : TiedLink (owner_of requests) after read
+  pub well : IsSetUp after
+  pub renewed : AreRenewed after (replied_each r d.out)
+  pub owed : AllByRecursion (IsOwed (owner_of requests) after) d.out
+  pub heard : List Heard
+  pub notices : after.notices ≡ l.notices ++ heard
+  pub same : SayTheSame d.notices heard
+  pub there : AllByRecursion (IsHeard after) heard
+  pub apart : AreApart (owner_of requests) after d.notices heard 0 d.out
+  pub strange : after.strange ≡ d.strange
+
+-- so it is
+reads_up : (before : List Action) (c : Core) (started : List ℕ) (piece : List ℕ) (link : LinkState) → Between before c started → c.single.connection.life ≡ Ready link
+    → (let l = (book before).link c.single.link in IsReadUp l (has_heard l piece) c.single.connection.requests (read_of c link piece) (deals_of c link piece) c.single.connection.renewal)
+reads_up before c started piece link h e =
+    let b = book before in
+    let h0 = h.sound.tied in
+    let l = b.link c.single.link in
+    let conn = c.single.connection in
+    let name = owner_of conn.requests in
+    let d = deals_of c link piece in
+    let after = has_heard l piece in
+    let u = up_tied b (inner c started) link e h0 in
+    let renewal = subst (λ (x : Life). TiedRenewal l conn.renewal x) e h0.renewal in
+    let lines = subst (λ (x : Life). TiedLines b.story conn.requests (link_in x) conn.waiting conn.admitted [] started) e h0.lines in
+    let said = subst (λ (x : Life). TiedSetup l conn.info started x) e h0.setup in
+    let alike : ReadsAlike conn.hears true l link piece = set_reads conn.hears l link piece h0.notices.hearing_is (tame_between before c started h u.alive) (stays_set l (λ i x less at. (said.sent i x less at).1) u.well) in
+    let t = read_taken name conn.hears true l link piece u.alive alike u.tied in
+    record {
+      tied = read_tied name conn.hears true l link piece u.alive alike u.tied;
+      well = set_up_hears l piece said.sent said.said;
+      renewed = read_renewed conn.requests conn.hears l link piece conn.renewal u.alive alike u.tied lines.entries (λ p less. request_not b (inner c started) p h0 less) renewal;
+      owed = read_owed name conn.hears true l link piece u.alive alike u.tied;
+      heard = t.heard;
+      notices = t.notices;
+      same = t.same;
+      there = all_heard after t.heard (heard_kinds d.notices t.heard t.same (reads_tell conn.hears true link piece)) t.within;
+      apart = settles_apart name l.notices after d t;
+      strange = t.strange;
+    }
+
+-- of the ledger on which this came
+reads_after : (before : List Action) (c : Core) (started : List ℕ) (piece : List ℕ) (link : LinkState) (it : Came ((book before).link c.single.link) (bytes_came ((book before).link c.single.link) piece)) → Between before c started → c.single.connection.life ≡ Ready link
+    → (let l = (book before).link c.single.link in IsReadUp l (after_came l piece it) c.single.connection.requests (read_of c link piece) (deals_of c link piece) c.single.connection.renewal)
+reads_after before c started piece link it h e =
+    let l = (book before).link c.single.link in
+    let conn = c.single.connection in
+    subst (λ (m : Ledger). IsReadUp l m conn.requests (read_of c link piece) (deals_of c link piece) conn.renewal) (after_is l piece it) (reads_up before c started piece link h e)
+
+-- the turn begins, with those to be answered that the bytes settle, and what came that is to be told
 record BeginsTelling (before : List Action) (f : Core) (conn : MultiplexedConnection) (l : Ledger) (story : ℕ → Story) (untold : List Heard) (pending started : List ℕ) : Type 0 where
   pub holds : Tells before f (record { conn = conn; acts = [] }) untold pending started
   pub ledger : (book (trace_of_acts before f [])).link f.single.link ≡ l
@@ -122,37 +187,41 @@ record BeginsTelling (before : List Action) (f : Core) (conn : MultiplexedConnec
 
 -- so it does
 read_begins : (before : List Action) (c : Core) (started : List ℕ) (word : ℕ) (kind : EventKind) (piece : List ℕ) (link : LinkState) (untold : List Heard) → Between before c started → is_bad c kind ≡ false → IsNewsKind c.timers kind → news_of c.timers c.sources c.single.link kind ≡ came piece
-    → c.single.connection.life ≡ Ready link → (let l = (book before).link c.single.link in c.single.connection.hears ≡ true → untold ≡ heard_each l (values (l.rest ++ piece)))
-    → BeginsTelling (before ++ turn_of c word kind ∷ []) (turned c kind) (renewing (reads c link piece) (replied_each c.single.connection.renewal (deals link piece).out)).conn (has_heard ((book before).link c.single.link) piece) (book before).story untold (requests_in (settled_ids (deals link piece).out)) started
-read_begins before c started word kind piece link untold h good k is e came_so =
+    → c.single.connection.life ≡ Ready link
+    → (let l = (book before).link c.single.link in (it : Came l (bytes_came l piece)) → (r : IsReadUp l (after_came l piece it) c.single.connection.requests (read_of c link piece) (deals_of c link piece) c.single.connection.renewal)
+    → (hears_something c.single.connection.hears ≡ true → untold ≡ r.heard)
+    → BeginsTelling (before ++ turn_of c word kind ∷ []) (turned c kind) (renewing (reads c link piece) (replied_each c.single.connection.renewal (deals_of c link piece).out)).conn (after_came l piece it) (book before).story untold (requests_in (settled_ids (deals_of c link piece).out)) started)
+read_begins before c started word kind piece link untold h good k is e it r came_so =
     let b = book before in
     let h0 = h.sound.tied in
     let l = b.link c.single.link in
+    let after = after_came l piece it in
     let conn = c.single.connection in
-    let life = Ready (has_read link piece) in
-    let ids = requests_in (settled_ids (deals link piece).out) in
-    let name = owner_of conn.requests in
-    let come = replied_each conn.renewal (deals link piece).out in
-    let keeps = replied_keeps conn.renewal (deals link piece).out in
+    let d = deals_of c link piece in
+    let read = read_of c link piece in
+    let life = Ready read in
+    let ids = requests_in (settled_ids d.out) in
+    let come = replied_each conn.renewal d.out in
+    let keeps = replied_keeps conn.renewal d.out in
     let u = up_tied b (inner c started) link e h0 in
     let sought = subst (λ (x : Life). AreSought l.creds x) e h0.creds.sought in
-    let renewal = subst (λ (x : Life). TiedRenewal l conn.renewal x) e h0.renewal in
     let lines = subst (λ (x : Life). TiedLines b.story conn.requests (link_in x) conn.waiting conn.admitted [] started) e h0.lines in
     let said = subst (λ (x : Life). TiedSetup l conn.info started x) e h0.setup in
-    let same : noted l (hears c.turns (news_of b.timers b.sources c.single.link kind)) ≡ has_heard l piece = ap (λ (x : News). heard_by b c x) (book_news b c started kind (came piece) h0 is) ∙ heard_is l c.turns piece u.up in
+    let quiet : StaysQuiet c come = λ w. (let q = h0.numbers.quiet w in (keeps.1 ∙ q.unwanted, keeps.2 ∙ q.unrenewed)) in
+    let same : noted l (hears c.turns (news_of b.timers b.sources c.single.link kind)) ≡ after = ap (λ (x : News). heard_by b c x) (book_news b c started kind (came piece) h0 is) ∙ heard_is l c.turns piece u.up ∙ after_is l piece it in
     let t = record (seen (turned c kind) [] (renewing (reads c link piece) come).conn ids started) { untold = untold } in
-    let tied : Tied (heard_book b c.turns word kind) t = heard_tied_new b c started word b.created kind conn.info come life conn.fresh ids untold (has_heard l piece) h0 keeps.0 good same
+    let tied : Tied (heard_book b c.turns word kind) t = heard_tied_new b c started word b.created kind conn.info come life conn.fresh ids untold after h0 keeps.0 quiet good same
     (record {
       starts = refl;
       lived = (u.asked, u.up, u.alive, u.shown);
       creds = record { wanted_is = h0.creds.wanted_is ∙ sym keeps.1; sought = sought };
-      renewal_is = read_renewed conn.requests l link piece conn.renewal u.alive u.tied lines.entries (λ p less. request_not b (inner c started) p h0 less) renewal;
-      said = record { info_is = said.info_is; sent = said.sent; said = set_up_hears l piece said.sent said.said };
-      linked = λ n. read_tied name l link piece u.alive u.tied;
-      lines = read_lines b.story conn.requests link piece conn.waiting conn.admitted started lines;
+      renewal_is = r.renewed;
+      said = record { info_is = said.info_is; sent = said.sent; said = r.well };
+      linked = λ n. r.tied;
+      lines = read_lines b.story conn.requests conn.hears link piece conn.waiting conn.admitted started lines;
       told = λ n. subst (λ (x : Life). AreQueued b.story conn.requests (link_in x)) e (h0.told (ap has_ended e));
-      waits = queue_waits b.story conn.requests link (has_read link piece) conn.fresh conn.moved (λ p i. i) (subst (λ (x : Life). TiedWaits b.story conn.requests x conn.fresh conn.moved) e h0.waits);
-      pushes = heard_pushes l piece (is_heard b) conn.hears untold came_so h0.pushes;
+      waits = queue_waits b.story conn.requests link read conn.fresh conn.moved (λ p i. i) (subst (λ (x : Life). TiedWaits b.story conn.requests x conn.fresh conn.moved) e h0.waits);
+      notices = heard_notices l piece it (hearing_in b.config) conn.hears r.heard untold u.up r.notices came_so h0.notices;
     }) in
     let book_is : entered b (turn_of c word kind) ≡ heard_book b c.turns word kind = turn_is b c.turns word kind (book_kind b c kind h0.numbers.timers k) in
     let first = first_book before (turn_of c word kind) (turned c kind) ∙ book_is in
@@ -174,93 +243,105 @@ record Reads (front : List Action) (f : Core) (l : Ledger) (w : Work) (untold : 
 
 -- so it is
 read_due : (before : List Action) (c : Core) (started : List ℕ) (word : ℕ) (kind : EventKind) (piece : List ℕ) (link : LinkState) (untold : List Heard) → Between before c started → is_bad c kind ≡ false → IsNewsKind c.timers kind → news_of c.timers c.sources c.single.link kind ≡ came piece
-    → c.single.connection.life ≡ Ready link → (let l = (book before).link c.single.link in c.single.connection.hears ≡ true → untold ≡ heard_each l (values (l.rest ++ piece)))
-    → Reads (before ++ turn_of c word kind ∷ []) (turned c kind) (has_heard ((book before).link c.single.link) piece) (reads c link piece) untold (deals link piece).out started
-read_due before c started word kind piece link untold h good k is e came_so =
+    → c.single.connection.life ≡ Ready link
+    → (let l = (book before).link c.single.link in (it : Came l (bytes_came l piece)) → (r : IsReadUp l (after_came l piece it) c.single.connection.requests (read_of c link piece) (deals_of c link piece) c.single.connection.renewal)
+    → (hears_something c.single.connection.hears ≡ true → untold ≡ r.heard)
+    → Reads (before ++ turn_of c word kind ∷ []) (turned c kind) (after_came l piece it) (reads c link piece) untold (deals_of c link piece).out started)
+read_due before c started word kind piece link untold h good k is e it r came_so =
     let b = book before in
     let l = b.link c.single.link in
     let conn = c.single.connection in
     let name = owner_of conn.requests in
-    let u = up_tied b (inner c started) link e h.sound.tied in
-    let begins = read_begins before c started word kind piece link untold h good k is e came_so in
+    let begins = read_begins before c started word kind piece link untold h good k is e it r came_so in
     let front = before ++ turn_of c word kind ∷ [] in
     let f = turned c kind in
     let now = book (trace_of_acts front f []) in
     let w = reads c link piece in
-    let out = (deals link piece).out in
+    let read = read_of c link piece in
+    let out = (deals_of c link piece).out in
     let come = renewing w (replied_each conn.renewal out) in
     let ids = requests_in (settled_ids out) in
     let before_line = subst (λ (x : Life). IsInLine conn.requests (link_in x) conn.admitted conn.waiting []) e (in_line b (inner c started) h.sound.tied (ap has_ended e)) in
-    let line : IsInLine conn.requests (has_read link piece) conn.admitted conn.waiting ids = read_in_line conn.requests link piece conn.admitted conn.waiting before_line in
-    let all = subst (λ (x : Ledger). AllByRecursion (IsOwed name x) out) (sym begins.ledger) (read_owed name l link piece u.alive u.tied) in
+    let line : IsInLine conn.requests read conn.admitted conn.waiting ids = read_in_line conn.requests conn.hears link piece conn.admitted conn.waiting before_line in
+    let all = subst (λ (x : Ledger). AllByRecursion (IsOwed name x) out) (sym begins.ledger) r.owed in
     let early = read_in_time now b conn.requests begins.stories (are_in_time b (inner c started) h.sound.tied refl) in
     record {
       ledger = begins.ledger;
       due = pending_due now (record (seen f [] come.conn ids started) { untold = untold }) out begins.holds.tied early all;
-      telling = telling front f come untold (ids ++ []) started (subst (λ ns. Tells front f come untold ns started) (sym (append-nil ids)) begins.holds) (subst (IsInLine conn.requests (has_read link piece) conn.admitted conn.waiting) (sym (append-nil ids)) line);
+      telling = telling front f come untold (ids ++ []) started (subst (λ ns. Tells front f come untold ns started) (sym (append-nil ids)) begins.holds) (subst (IsInLine conn.requests read conn.admitted conn.waiting) (sym (append-nil ids)) line);
     }
 
--- what the bytes settle is answered, and the pushes that came are told
+-- what the bytes settle is answered, and what came is told
 read_answered : (before : List Action) (c : Core) (started : List ℕ) (word : ℕ) (kind : EventKind) (piece : List ℕ) (link : LinkState) → Between before c started → is_bad c kind ≡ false → IsNewsKind c.timers kind → news_of c.timers c.sources c.single.link kind ≡ came piece
     → c.single.connection.life ≡ Ready link
+    → (let l = (book before).link c.single.link in (it : Came l (bytes_came l piece)) → IsReadUp l (after_came l piece it) c.single.connection.requests (read_of c link piece) (deals_of c link piece) c.single.connection.renewal
     → (let front = before ++ turn_of c word kind ∷ [] in let f = turned c kind in
-    IsTelling front f (has_heard ((book before).link c.single.link) piece) (owed (book (trace_of_acts front f []))) (name_at c.single.connection.requests) (is_open_at c.single.connection.requests)
-    (told_each (reads c link piece) 0 (heard_of c.single.connection.hears (pushes_came link piece)) (deals link piece).out) [] [] started)
-read_answered before c started word kind piece link h good k is e =
-    let b = book before in
-    let l = b.link c.single.link in
+    IsTelling front f (after_came l piece it) (owed (book (trace_of_acts front f []))) (name_at c.single.connection.requests) (is_open_at c.single.connection.requests)
+    (told_each (reads c link piece) 0 (deals_of c link piece).notices (deals_of c link piece).out) [] [] started))
+read_answered before c started word kind piece link h good k is e it r =
+    let l = (book before).link c.single.link in
     let conn = c.single.connection in
-    let name = owner_of conn.requests in
-    let after = has_heard l piece in
-    let hs = heard_each l (values (l.rest ++ piece)) in
-    let out = (deals link piece).out in
-    let u = up_tied b (inner c started) link e h.sound.tied in
-    let said = subst (λ (x : Life). TiedSetup l conn.info started x) e h.sound.tied.setup in
+    let after = after_came l piece it in
+    let d = deals_of c link piece in
+    let out = d.out in
     let front = before ++ turn_of c word kind ∷ [] in
     let f = turned c kind in
     let owes = owed (book (trace_of_acts front f [])) in
     let w = reads c link piece in
-    let sound = (h.fit.link link e).sound in
-    let stays = set_stays l (λ i x less at. (said.sent i x less at).1) u.well in
-    chosen (λ (ps : List PushAt). IsTelling front f after owes (name_at conn.requests) (is_open_at conn.requests) (told_each w 0 ps out) [] [] started) conn.hears (pushes_came link piece) []
+    by_test (hears_something conn.hears) (IsTelling front f after owes (name_at conn.requests) (is_open_at conn.requests) (told_each w 0 d.notices out) [] [] started)
     (λ t.
-    let r = read_due before c started word kind piece link hs h good k is e (λ y. refl) in
-    told_holds front f after owes (name_at conn.requests) (is_open_at conn.requests) w 0 (pushes_came link piece) hs out started t refl (pushes_say name l link piece sound stays u.tied) (settles_apart name l link piece u.alive sound stays u.tied) (all_heard l piece) r.due
-    (subst (λ (x : Ledger). IsTelling front f x owes (name_at conn.requests) (is_open_at conn.requests) (renewing w (replied_each conn.renewal out)) hs (requests_in (settled_ids out) ++ []) started) r.ledger r.telling))
+    let q = read_due before c started word kind piece link r.heard h good k is e it r (λ y. refl) in
+    told_holds front f after owes (name_at conn.requests) (is_open_at conn.requests) w 0 d.notices r.heard out started t refl r.same r.apart r.there q.due
+    (subst (λ (x : Ledger). IsTelling front f x owes (name_at conn.requests) (is_open_at conn.requests) (renewing w (replied_each conn.renewal out)) r.heard (requests_in (settled_ids out) ++ []) started) q.ledger q.telling))
     (λ n.
-    let r = read_due before c started word kind piece link [] h good k is e (λ y. absurd (not_both conn.hears n y)) in
-    unheard_holds front f after owes (name_at conn.requests) (is_open_at conn.requests) w 0 out started r.due
-    (subst (λ (x : Ledger). IsTelling front f x owes (name_at conn.requests) (is_open_at conn.requests) (renewing w (replied_each conn.renewal out)) [] (requests_in (settled_ids out) ++ []) started) r.ledger r.telling))
+    let q = read_due before c started word kind piece link [] h good k is e it r (λ y. absurd (not_both (hears_something conn.hears) n y)) in
+    subst (λ (ns : List NoticeAt). IsTelling front f after owes (name_at conn.requests) (is_open_at conn.requests) (told_each w 0 ns out) [] [] started) (sym (none_noticed conn.hears true link piece n))
+    (unheard_holds front f after owes (name_at conn.requests) (is_open_at conn.requests) w 0 out started q.due
+    (subst (λ (x : Ledger). IsTelling front f x owes (name_at conn.requests) (is_open_at conn.requests) (renewing w (replied_each conn.renewal out)) [] (requests_in (settled_ids out) ++ []) started) q.ledger q.telling)))
 
--- a link that is up reads on, or is broken and ends
-read_on : (before : List Action) (c : Core) (started : List ℕ) (word : ℕ) (kind : EventKind) (piece : List ℕ) (link : LinkState) → Between before c started → is_bad c kind ≡ false → IsNewsKind c.timers kind → news_of c.timers c.sources c.single.link kind ≡ came piece
-    → c.single.connection.life ≡ Ready link
-    → HasApplied (before ++ turn_of c word kind ∷ []) (with_work (record { core = turned c kind; acts = [] }) (read_to (record { conn = c.single.connection; acts = [] }) (heard_of c.single.connection.hears (pushes_came link piece)) (record { link = has_read link piece; out = (deals link piece).out }))) started
-read_on before c started word kind piece link h good k is e =
+-- what can't be read on is so of the link and of its ledger
+unread_is : (name : ℕ → Owner) (after : Ledger) (read : LinkState) (d : Dealing) → TiedLink name after read → after.strange ≡ d.strange → is_unreadable after ≡ (read.broken || d.strange)
+unread_is name after read d tied strange = (λ i. (ap is_spoiled tied.rest ∙ sym tied.broken) i || strange i)
+
+-- the first of two, where neither is so
+neither : (p q : Bool) → (p || q) ≡ false → p ≡ false
+neither true q none = cc
+neither false q none = refl
+
+-- a link that is up reads on, or ends where it can't, on which this came
+read_up : (before : List Action) (c : Core) (started : List ℕ) (word : ℕ) (kind : EventKind) (piece : List ℕ) (link : LinkState) → Between before c started → is_bad c kind ≡ false → IsNewsKind c.timers kind → news_of c.timers c.sources c.single.link kind ≡ came piece
+    → c.single.connection.life ≡ Ready link → Came ((book before).link c.single.link) (bytes_came ((book before).link c.single.link) piece)
+    → HasApplied (before ++ turn_of c word kind ∷ []) (with_work (record { core = turned c kind; acts = [] }) (read_to (record { conn = c.single.connection; acts = [] }) (read_with (read_on link (link.rest ++ piece)) (deals_of c link piece)))) started
+read_up before c started word kind piece link h good k is e it =
     let b = book before in
     let l = b.link c.single.link in
-    let name = owner_of c.single.connection.requests in
+    let conn = c.single.connection in
+    let name = owner_of conn.requests in
     let u = up_tied b (inner c started) link e h.sound.tied in
-    let said = subst (λ (x : Life). TiedSetup l c.single.connection.info started x) e h.sound.tied.setup in
-    let a = read_answered before c started word kind piece link h good k is e in
+    let r = reads_after before c started piece link it h e in
+    let a = read_answered before c started word kind piece link h good k is e it r in
     let front = before ++ turn_of c word kind ∷ [] in
     let f = turned c kind in
-    let after = has_read link piece in
-    let ps = heard_of c.single.connection.hears (pushes_came link piece) in
-    let v = told_each (reads c link piece) 0 ps (deals link piece).out in
-    let still = told_leaves (reads c link piece) 0 ps (deals link piece).out in
-    let ends_so = ap ending a.ledger_is ∙ read_ending name l a.told link piece u.up (set_up_hears l piece said.sent said.said).well (read_tied name l link piece u.alive u.tied) in
-    chosen (λ (x : Work). HasApplied front (with_work (record { core = f; acts = [] }) x) started) after.broken (failed_at v fault.Parse v.conn.life) v
+    let d = deals_of c link piece in
+    let read = read_of c link piece in
+    let after = after_came l piece it in
+    let v = told_each (reads c link piece) 0 d.notices d.out in
+    let still = told_leaves (reads c link piece) 0 d.notices d.out in
+    let why = by_fault (felt after.hearing fault.Parse) in
+    let ends_so : ending ((book (trace_of_acts front f v.acts)).link f.single.link) ≡ (if is_unreadable after then Some why else None) = ap ending a.ledger_is ∙ read_ending after a.told piece refl u.up r.well.well in
+    let unread = unread_is name after read d r.tied r.strange in
+    let felt_so : felt after.hearing fault.Parse ≡ felt v.conn.hears fault.Parse = ap (λ (x : Hearing). felt x fault.Parse) (h.sound.tied.notices.hearing_is ∙ sym still.hears) in
+    chosen (λ (x : Work). HasApplied front (with_work (record { core = f; acts = [] }) x) started) (read.broken || d.strange) (failed_at v fault.Parse v.conn.life) v
     (λ t. ended_applied front f (failed_at v fault.Parse v.conn.life) error.Closed started (λ z. absurd (omega arith))
-    (subst (λ (x : Life). (failed_at v fault.Parse x).conn.moved ≡ []) (sym still.life) (parted_moved v (row_hit fault.Parse after.row ++ queue_closed after.queue) ∙ still.moved ∙ h.moved))
+    (subst (λ (x : Life). (failed_at v fault.Parse x).conn.moved ≡ []) (sym still.life) (parted_moved v (row_hit (felt v.conn.hears fault.Parse) read.row ++ queue_closed read.queue) ∙ still.moved ∙ h.moved))
     (subst (λ (x : Life). HasEnded front f (failed_at v fault.Parse x) error.Closed started) (sym still.life)
-    (fault_ends front f v after fault.Parse started a.holds still.life (ends_so ∙ taken_if after.broken (Some (by_fault fault.Parse)) None t))))
+    (fault_ends front f v read (felt v.conn.hears fault.Parse) started a.holds still.life (ends_so ∙ taken_if (is_unreadable after) (Some why) None (unread ∙ t) ∙ ap (λ (x : LinkFault). Some (by_fault x)) felt_so))))
     (λ n. record {
       sound = a.holds;
-      ended = none_ends (book (trace_of_acts front f v.acts)) (seen f v.acts v.conn [] started) a.holds.tied (ends_so ∙ left_if after.broken (Some (by_fault fault.Parse)) None n);
+      ended = none_ends (book (trace_of_acts front f v.acts)) (seen f v.acts v.conn [] started) a.holds.tied (ends_so ∙ left_if (is_unreadable after) (Some why) None (unread ∙ n));
       began = λ z. absurd (omega arith);
       moved = still.moved ∙ h.moved;
-      fit = fit_by v.conn c.single.connection.size c.single.connection.boundary after still.size still.boundary still.life (read_fit c.single.connection.size c.single.connection.boundary link piece (h.fit.link link e) n);
+      fit = fit_by v.conn conn.size conn.boundary read still.size still.boundary still.life (read_fit conn.size conn.boundary conn.hears link piece (h.fit.link link e) (neither read.broken d.strange n));
     })
 
 -- bytes come
@@ -268,15 +349,19 @@ pub read_applied : (before : List Action) (c : Core) (started : List ℕ) (word 
     → HasApplied (before ++ turn_of c word kind ∷ []) (with_work (record { core = turned c kind; acts = [] }) (read_at (record { conn = c.single.connection; acts = [] }) piece c.single.connection.life)) started
 read_applied before c started word kind piece h good k is = by_life c.single.connection.life refl
   where
-    by_life : (x : Life) → c.single.connection.life ≡ x → HasApplied (before ++ turn_of c word kind ∷ []) (with_work (record { core = turned c kind; acts = [] }) (read_at (record { conn = c.single.connection; acts = [] }) piece x)) started
+    w : Work
+    w = record { conn = c.single.connection; acts = [] }
+
+    applied : Work → Type 0
+    applied x = HasApplied (before ++ turn_of c word kind ∷ []) (with_work (record { core = turned c kind; acts = [] }) x) started
+
+    by_life : (x : Life) → c.single.connection.life ≡ x → applied (read_at w piece x)
     by_life Dialing e = dialing_quiet before c started word kind (came piece) tt h good k is e
     by_life (Ended x) e = ended_quiet before c started word kind (came piece) x h good k is e
     by_life (Wanting link) e =
-        subst (λ (s : Settling). HasApplied (before ++ turn_of c word kind ∷ []) (with_work (record { core = turned c kind; acts = [] }) (read_wanting (record { conn = c.single.connection; acts = [] }) s)) started)
-        (sym (reads_on link [] piece (h.fit.wanting link e).sound)) (wanting_read before c started word kind piece link h good k is e)
-    by_life (SettingUp link with_user) e =
-        subst (λ (s : Settling). HasApplied (before ++ turn_of c word kind ∷ []) (with_work (record { core = turned c kind; acts = [] }) (read_setup (record { conn = c.single.connection; acts = [] }) with_user (heard_of c.single.connection.hears (pushes_came link piece)) s)) started)
-        (sym (reads_on link [] piece (h.fit.setup link with_user e).sound)) (setup_read before c started word kind piece link with_user h good k is e)
+        subst (λ (r : Reading). applied (read_wanting w r)) (sym (reads_on hearing.Nothing false link piece (h.fit.wanting link e).sound)) (wanting_read before c started word kind piece link h good k is e)
+    by_life (SettingUp link greeting) e =
+        subst (λ (r : Reading). applied (read_setup w greeting r)) (sym (reads_on c.single.connection.hears false link piece (h.fit.setup link greeting e).sound)) (setup_read before c started word kind piece link greeting h good k is e)
     by_life (Ready link) e =
-        subst (λ (s : Settling). HasApplied (before ++ turn_of c word kind ∷ []) (with_work (record { core = turned c kind; acts = [] }) (read_to (record { conn = c.single.connection; acts = [] }) (heard_of c.single.connection.hears (pushes_came link piece)) s)) started)
-        (sym (reads_on link [] piece (h.fit.link link e).sound)) (read_on before c started word kind piece link h good k is e)
+        subst (λ (r : Reading). applied (read_to w r)) (sym (reads_on c.single.connection.hears true link piece (h.fit.link link e).sound))
+        (read_up before c started word kind piece link h good k is e (bytes_are ((book before).link c.single.link) piece))

@@ -1,44 +1,48 @@
 -- Bytes come on a link whose setup waits for credentials: they answer nothing, and those that begin no value end it.
-use Rattle.std.proofs.Common.{◌≡◌, ℕ, Bool, true, false, List, [], ◌∷◌, ◌++◌, Some, None, sym, ap, ◌∙◌, subst, inl}
+use Rattle.std.proofs.Common.{◌≡◌, ℕ, ◌≤◌, Bool, true, false, if◌then◌else◌, List, [], ◌∷◌, ◌++◌, length, Some, None, sym, ap, ◌∙◌, subst, arith, inl}
 use Rattle.containers.proofs.Choices.{chosen, taken_if, left_if}
+use Rattle.redis_error.specs.declared.redis_error.RedisError.{RedisError}
 use Rattle.redis_error.specs.declared.redis_error.RedisError.TheVariants as error
-use Rattle.resp_read.specs.Values.{is_spoiled}
-use Rattle.resp_read.specs.Items.{items}
+use Rattle.resp_read.specs.Values.{values}
 use Rattle.driver_model.specs.declared.action.Action.{Action}
 use Rattle.driver_model.specs.declared.action.Owner.{Owner}
 use Rattle.driver_model.specs.declared.action.Owner.TheVariants as owner
 use Rattle.driver_model.specs.declared.event.EventKind.{EventKind}
 use Rattle.driver_model.specs.declared.news.LinkFault.TheVariants as fault
 use Rattle.driver_model.specs.News.{came, news_of}
-use Rattle.link_core.specs.Dealing.{Dealing, dealt_each}
-use Rattle.link_core.specs.Link.{LinkState}
-use Rattle.link_laws.proofs.Pushes.{heard_none}
-use Rattle.link_laws.proofs.TiedLink.{TiedLink, deals, has_read, has_heard, heard_is, read_tied}
+use Rattle.driver_model.specs.declared.hearing.Hearing.TheVariants as hearing
+use Rattle.link_core.specs.Dealing.{dealing_with}
+use Rattle.link_core.specs.Link.{LinkState, read_on, read_with}
+use Rattle.link_laws.proofs.SetUp.{all_done}
+use Rattle.link_laws.proofs.TiedLink.{TiedLink, deals, has_read, heard_is}
 use Rattle.mux_conn.specs.declared.life.Life.{Life}
 use Rattle.mux_conn.specs.declared.life.Life.TheVariants.{Wanting}
 use Rattle.mux_conn.specs.Connection.{Work, with_wanting, is_ready}
 use Rattle.mux_conn.specs.Effects.{failed_at, read_wanting}
 use Rattle.shared_session.specs.declared.core_state.Core.{Core}
 use Rattle.shared_session.specs.Turn.{with_work, is_bad}
-use Rattle.legal_trace.specs.Ledger.{Ledger, by_opening, ending, is_set_up}
-use Rattle.legal_trace.specs.Book.{Book, book}
-use Rattle.legal_trace.specs.Legal.{is_heard}
+use Rattle.legal_trace.specs.Ledger.{Ledger, by_opening, bytes_came, ending, is_set_up, is_unreadable}
+use Rattle.legal_trace.specs.Book.{Book, book, hearing_in}
+use Rattle.legal_trace.proofs.Came.{Came, bytes_are}
 use Rattle.session_laws.proofs.Tied.{AreQueued, TiedCreds, TiedLife, TiedLines, TiedSetup, TiedWaits, has_ended, inner, link_in}
-use Rattle.session_laws.proofs.Creds.{asked_sourced, lacking_undecided}
+use Rattle.session_laws.proofs.Creds.{asked_sourced}
 use Rattle.session_laws.proofs.States.{Between, HasApplied}
 use Rattle.session_laws.proofs.Said.{PushesOf, ending_wanting}
 use Rattle.session_laws.proofs.Failing.{Fails, setup_failed}
 use Rattle.session_laws.proofs.Announce.{IsNewsKind, turn_of, turned}
-use Rattle.session_laws.proofs.Heard.{heard_by, quiet_applied, wanting_fit, wanting_waits, none_hears}
-use Rattle.session_laws.proofs.End.{IsWanting, wanting_tied, wanting_unready}
-use Rattle.session_laws.proofs.ReadSetup.{dealt_none, heard_pushes}
+use Rattle.session_laws.proofs.Heard.{heard_by, quiet_applied, tame_between, wanting_fit, wanting_waits, none_hears}
+use Rattle.session_laws.proofs.End.{IsWanting, bare_error_is, wanting_tied, wanting_unready}
+use Rattle.session_laws.proofs.Greeted.{IsReadUnset, unset_of}
+use Rattle.session_laws.proofs.HeardBytes.{quiet_notices, unset_unreadable}
+use Rattle.session_laws.proofs.More.{after_came, after_is}
 use Rattle.session_laws.proofs.Renewals.{early_renewal}
+use Rattle.session_laws.proofs.SetUp.{lacking_unset}
 
--- the event has its effect
-pub wanting_read : (before : List Action) (c : Core) (started : List ℕ) (word : ℕ) (kind : EventKind) (piece : List ℕ) (link : LinkState) → Between before c started → is_bad c kind ≡ false → IsNewsKind c.timers kind → news_of c.timers c.sources c.single.link kind ≡ came piece
-    → c.single.connection.life ≡ Wanting link
-    → HasApplied (before ++ turn_of c word kind ∷ []) (with_work (record { core = turned c kind; acts = [] }) (read_wanting (record { conn = c.single.connection; acts = [] }) (record { link = has_read link piece; out = (deals link piece).out }))) started
-wanting_read before c started word kind piece link h good k is e =
+-- the event has its effect, where this came
+wanting_reads : (before : List Action) (c : Core) (started : List ℕ) (word : ℕ) (kind : EventKind) (piece : List ℕ) (link : LinkState) → Between before c started → is_bad c kind ≡ false → IsNewsKind c.timers kind → news_of c.timers c.sources c.single.link kind ≡ came piece
+    → c.single.connection.life ≡ Wanting link → Came ((book before).link c.single.link) (bytes_came ((book before).link c.single.link) piece)
+    → HasApplied (before ++ turn_of c word kind ∷ []) (with_work (record { core = turned c kind; acts = [] }) (read_wanting (record { conn = c.single.connection; acts = [] }) (read_with (read_on link (link.rest ++ piece)) (deals hearing.Nothing false link piece)))) started
+wanting_reads before c started word kind piece link h good k is e it =
     chosen applied read.broken (failed_at v fault.Parse v.conn.life) v ends_so goes_on
   where
     b : Book
@@ -48,10 +52,10 @@ wanting_read before c started word kind piece link h good k is e =
     l = b.link c.single.link
 
     after : Ledger
-    after = has_heard l piece
+    after = after_came l piece it
 
     read : LinkState
-    read = has_read link piece
+    read = has_read hearing.Nothing false link piece
 
     v : Work
     v = with_wanting (record { conn = c.single.connection; acts = [] }) read
@@ -66,37 +70,45 @@ wanting_read before c started word kind piece link h good k is e =
     s = wanting_tied b (inner c started) link e h.sound.tied
 
     same : heard_by b c (came piece) ≡ after
-    same = heard_is l c.turns piece s.up
-
-    tied : TiedLink name after read
-    tied = read_tied name l link piece s.alive s.tied
-
-    spoiled : (x : Bool) → read.broken ≡ x → is_spoiled after.rest ≡ x
-    spoiled x t = ap is_spoiled tied.rest ∙ sym tied.broken ∙ t
+    same = heard_is l c.turns piece s.up ∙ after_is l piece it
 
     unready : is_set_up after ≡ false
-    unready = (lacking_undecided after s.lacks).unwell
+    unready = (lacking_unset after s.lacks).unset
 
-    -- no push is to be told
-    quiet : PushesOf (is_heard b) c.single.connection.hears after
-    quiet = heard_pushes l piece (is_heard b) c.single.connection.hears [] (λ y. sym (heard_none l piece (λ i x less at. (h.sound.tied.setup.sent i x less at).1) unready)) h.sound.tied.pushes
+    few : length link.row ≤ 1
+    few = let none : length link.row ≡ 0 = ap length s.row in omega arith
+
+    quiet : IsReadUnset name hearing.Nothing l link piece it
+    quiet = unset_of name hearing.Nothing l link piece it (tame_between before c started h s.alive) s.alive few (λ i x less at. (h.sound.tied.setup.sent i x less at).1) unready s.tied
+
+    -- nothing is to be told
+    notices : PushesOf (hearing_in b.config) c.single.connection.hears after
+    notices = quiet_notices name hearing.Nothing l link piece it (hearing_in b.config) c.single.connection.hears s.up quiet h.sound.tied.notices
+
+    -- what can't be read on is what breaks it
+    spoiled : (x : Bool) → read.broken ≡ x → is_unreadable after ≡ x
+    spoiled x t = unset_unreadable name hearing.Nothing l link piece it quiet ∙ t
+
+    -- it ends then as a link on which nothing has started
+    must : ending after ≡ (if is_unreadable after then Some (by_opening error.Closed) else None)
+    must = ending_wanting after s.up s.lacks ∙ ap (λ (x : RedisError). if is_unreadable after then Some (by_opening x) else None) (bare_error_is after fault.Parse s.starts)
 
     -- nothing takes items
     row : read.row ≡ []
-    row = ap (λ (x : Dealing). x.row) (ap (λ r. dealt_each (record { row = r; out = [] }) (items (link.rest ++ piece))) s.row ∙ dealt_none [] (items (link.rest ++ piece)))
+    row = (all_done hearing.Nothing false (dealing_with link.row) (values (link.rest ++ piece)) s.row).0
 
     ends_so : read.broken ≡ true → applied (failed_at v fault.Parse v.conn.life)
     ends_so t =
         setup_failed before c started word kind (came piece) error.Closed h good k is (wanting_unready b (inner c started) link e h.sound.tied)
-        (subst (λ (y : Ledger). Fails y c.single.connection.info c.single.connection.renewal.wanted (is_heard b) c.single.connection.hears error.Closed) (sym same) (record {
+        (subst (λ (y : Ledger). Fails y c.single.connection.info c.single.connection.renewal.wanted (hearing_in b.config) c.single.connection.hears error.Closed) (sym same) (record {
           alive = s.alive;
           unready = unready;
-          must = ending_wanting after s.up s.lacks ∙ taken_if (is_spoiled after.rest) (Some (by_opening error.Closed)) None (spoiled true t);
+          must = must ∙ taken_if (is_unreadable after) (Some (by_opening error.Closed)) None (spoiled true t);
           info_is = h.sound.tied.setup.info_is;
           wanted_is = h.sound.tied.creds.wanted_is;
           sourced = asked_sourced after s.sought.1 (inl unready);
           sent = h.sound.tied.setup.sent;
-          pushes = quiet;
+          notices = notices;
         }))
 
     goes_on : read.broken ≡ false → applied v
@@ -108,11 +120,17 @@ wanting_read before c started word kind piece link h good k is e =
           creds = subst (λ (y : Ledger). TiedCreds y.creds c.single.connection.renewal.wanted (Wanting read)) (sym same) (record { wanted_is = h.sound.tied.creds.wanted_is; sought = s.sought });
           renewal_is = none_hears l c.turns (came piece) c.single.connection.renewal (λ x. x) (early_renewal l c.single.connection.renewal c.single.connection.life (ap is_ready e) (ap has_ended e) h.sound.tied.renewal);
           said = subst (λ (y : Ledger). TiedSetup y c.single.connection.info started (Wanting read)) (sym same) (record { info_is = h.sound.tied.setup.info_is; sent = h.sound.tied.setup.sent; said = (s.starts, s.none, s.queue, row) });
-          linked = λ z. subst (λ (y : Ledger). TiedLink name y read) (sym same) tied;
+          linked = λ z. subst (λ (y : Ledger). TiedLink name y read) (sym same) quiet.of.tied;
           lines = subst (λ (x : Life). TiedLines b.story c.single.connection.requests (link_in x) c.single.connection.waiting c.single.connection.admitted [] started) e h.sound.tied.lines;
           told = λ z. subst (λ (x : Life). AreQueued b.story c.single.connection.requests (link_in x)) e (h.sound.tied.told (ap has_ended e));
           waits = wanting_waits b.story c.single.connection.requests link read c.single.connection.fresh c.single.connection.moved (subst (λ (x : Life). TiedWaits b.story c.single.connection.requests x c.single.connection.fresh c.single.connection.moved) e h.sound.tied.waits);
-          pushes = subst (λ (y : Ledger). PushesOf (is_heard b) c.single.connection.hears y) (sym same) quiet;
+          notices = subst (λ (y : Ledger). PushesOf (hearing_in b.config) c.single.connection.hears y) (sym same) notices;
         })
-        (ap ending same ∙ ending_wanting after s.up s.lacks ∙ left_if (is_spoiled after.rest) (Some (by_opening error.Closed)) None (spoiled false f))
+        (ap ending same ∙ must ∙ left_if (is_unreadable after) (Some (by_opening error.Closed)) None (spoiled false f))
         (wanting_fit c.single.connection link read e h.fit (record { sound = f; size_is = fit.size_is; bound_is = fit.bound_is; within = fit.within }))
+
+-- so it has
+pub wanting_read : (before : List Action) (c : Core) (started : List ℕ) (word : ℕ) (kind : EventKind) (piece : List ℕ) (link : LinkState) → Between before c started → is_bad c kind ≡ false → IsNewsKind c.timers kind → news_of c.timers c.sources c.single.link kind ≡ came piece
+    → c.single.connection.life ≡ Wanting link
+    → HasApplied (before ++ turn_of c word kind ∷ []) (with_work (record { core = turned c kind; acts = [] }) (read_wanting (record { conn = c.single.connection; acts = [] }) (read_with (read_on link (link.rest ++ piece)) (deals hearing.Nothing false link piece)))) started
+wanting_read before c started word kind piece link h good k is e = wanting_reads before c started word kind piece link h good k is e (bytes_are ((book before).link c.single.link) piece)

@@ -20,6 +20,7 @@ use Rattle.containers.proofs.Places.{get_within}
 use Rattle.legal_trace.specs.Book.{Book}
 use Rattle.session_laws.proofs.Tied.{AreFullBefore, AreRenewed, Inner, Tied, TiedLife, IsLost, IsTold, NoneRenewed, TiedRenewal, timed_of, has_ended}
 use Rattle.session_laws.proofs.SetUp.{begun_open}
+use Rattle.driver_model.specs.News.{dropped}
 
 -- what is told next
 --
@@ -188,7 +189,7 @@ none_alike l m r creds starts h = record {
 pub renewal_alike : (l m : Ledger) (r : Renewal) (life : Life) → m.creds ≡ l.creds → m.starts ≡ l.starts → m.dealt ≡ l.dealt → TiedRenewal l r life → TiedRenewal m r life
 renewal_alike l m r Dialing creds starts dealt h = none_alike l m r creds starts h
 renewal_alike l m r (Wanting link) creds starts dealt h = none_alike l m r creds starts h
-renewal_alike l m r (SettingUp link with_user) creds starts dealt h = none_alike l m r creds starts h
+renewal_alike l m r (SettingUp link greeting) creds starts dealt h = none_alike l m r creds starts h
 renewal_alike l m r (Ready link) creds starts dealt h = renewed_alike l m r creds starts dealt h
 renewal_alike l m r (Ended e) creds starts dealt h =
     let same = ap renewal_count starts in
@@ -219,7 +220,7 @@ none_ended l m r starts h = let none = ap renewal_count starts ∙ h.unstarted i
 pub renewal_ended : (l m : Ledger) (r : Renewal) (life : Life) → m.creds.timed ≡ l.creds.timed → m.starts ≡ l.starts → TiedRenewal l r life → ((r.within ≢ None) → renewal_count m.starts ≤ m.creds.timed) × (renewal_count m.starts ≤ r.asked)
 renewal_ended l m r Dialing timed starts h = none_ended l m r starts h
 renewal_ended l m r (Wanting link) timed starts h = none_ended l m r starts h
-renewal_ended l m r (SettingUp link with_user) timed starts h = none_ended l m r starts h
+renewal_ended l m r (SettingUp link greeting) timed starts h = none_ended l m r starts h
 renewal_ended l m r (Ready link) timed starts h = (timed_ended l m r timed starts h, asked_ended l m r starts h)
 renewal_ended l m r (Ended e) timed starts h =
     let same = ap renewal_count starts in
@@ -230,7 +231,7 @@ renewal_ended l m r (Ended e) timed starts h =
 pub early_renewal : (l : Ledger) (r : Renewal) (life : Life) → is_ready life ≡ false → has_ended life ≡ false → TiedRenewal l r life → NoneRenewed l r
 early_renewal l r Dialing unready alive h = h
 early_renewal l r (Wanting link) unready alive h = h
-early_renewal l r (SettingUp link with_user) unready alive h = h
+early_renewal l r (SettingUp link greeting) unready alive h = h
 early_renewal l r (Ready link) unready alive h = cc
 early_renewal l r (Ended e) unready alive h = cc
 

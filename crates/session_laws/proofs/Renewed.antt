@@ -1,7 +1,7 @@
 -- News of new credentials: some came, no more come, or some are not answered in time.
 use Rattle.std.proofs.Common.{◌≡◌, ◌⊎◌, inl, inr, ℕ, suc, ◌+◌, ◌≤◌, ◌==◌, Bool, true, false, ◌&&◌, ◌||◌, not, is_some, if◌then◌else◌, List, [], ◌∷◌, ◌++◌, length, Option, Some, None, refl, sym, ap, ◌∙◌, subst, arith, length-append}
 use Rattle.std.proofs.lemmas.List.{drop-append-le}
-use Rattle.containers.proofs.Choices.{by_test, chosen, taken_if, left_if, not_both, eq_from, eq_test, ne_from, ne_test, both_left}
+use Rattle.containers.proofs.Choices.{by_test, chosen, taken_if, left_if, not_both, eq_from, eq_test, ne_from, ne_test, both_left, both_right}
 use Rattle.credentials.specs.Credentials.{Credentials}
 use Rattle.redis_error.specs.declared.redis_error.RedisError.{RedisError}
 use Rattle.driver_model.specs.declared.action.Action.{Action}
@@ -22,12 +22,12 @@ use Rattle.shared_session.specs.Turn.{is_bad, numbered, with_work}
 use Rattle.legal_trace.specs.Ledger.{Ledger, Sourced, cut, ending, ending_up, is_done, is_full, is_full_last, is_renewal_open, is_set_up, is_taken, last_renewal, lost_by, may_renew, renewal_count, renewal_due, renewed_by, unrenewed_by}
 use Rattle.legal_trace.specs.Book.{Book, book}
 use Rattle.legal_trace.proofs.Setups.{ends_where_set}
-use Rattle.session_laws.proofs.Announce.{IsNewsKind, heard_book, heard_tied_new, heard_is, turn_of, turned, announced_sound, first_book, holds_first}
+use Rattle.session_laws.proofs.Announce.{IsNewsKind, StaysQuiet, quiet_still, heard_book, heard_tied_new, heard_is, turn_of, turned, announced_sound, first_book, holds_first}
 use Rattle.session_laws.proofs.Connect.{passed_over}
 use Rattle.session_laws.proofs.End.{up_tied}
-use Rattle.session_laws.proofs.Heard.{heard_by, book_kind, book_news, ended_quiet, none_ends, still_none}
+use Rattle.session_laws.proofs.Heard.{heard_by, book_kind, book_news, ended_quiet, none_ends, still_none, tame_between}
 use Rattle.session_laws.proofs.Renewals.{due_is, due_well, none_renewed_due, renewed_alike}
-use Rattle.session_laws.proofs.Said.{recredited, setup_on, setup_recredited, well_on, well_recredited, mild_end}
+use Rattle.session_laws.proofs.Said.{recredited, setup_on, setup_recredited, well_on, well_recredited, mild_end, renoticed}
 use Rattle.session_laws.proofs.Settle.{renewal_over, seen, trace_of_acts}
 use Rattle.session_laws.proofs.States.{Between, HasApplied, trace_with}
 use Rattle.session_laws.proofs.Tied.{AreRenewed, AreSought, NoneRenewed, Tied, TiedCreds, TiedLife, TiedRenewal, TiedSetup, carried, has_ended, inner, sources_asked_in, whole_link}
@@ -36,12 +36,12 @@ use Rattle.session_laws.proofs.ComeUp.{early_sources}
 -- a link that has ended
 --
 -- the event has had its effect also where new credentials came to this
-over_renewal : (front : List Action) (f : Core) (conn : MultiplexedConnection) (r : Renewal) (e : RedisError) (started : List ℕ) → conn.life ≡ Ended e → r.within ≡ conn.renewal.within → r.wanted ≡ conn.renewal.wanted → r.asked ≡ conn.renewal.asked
+over_renewal : (front : List Action) (f : Core) (conn : MultiplexedConnection) (r : Renewal) (e : RedisError) (started : List ℕ) → conn.life ≡ Ended e → r.within ≡ conn.renewal.within → r.wanted ≡ conn.renewal.wanted → r.waiting ≡ conn.renewal.waiting → r.asked ≡ conn.renewal.asked
     → HasApplied front (with_work (record { core = f; acts = [] }) (record { conn = conn; acts = [] })) started → HasApplied front (with_work (record { core = f; acts = [] }) (record { conn = with_renewal conn r; acts = [] })) started
-over_renewal front f conn r e started over within wanted asked h =
+over_renewal front f conn r e started over within wanted waiting asked h =
     let t = with_work (record { core = f; acts = [] }) (record { conn = conn; acts = [] }) in
     record {
-      sound = record { stands = h.sound.stands; tied = renewal_over (book (trace_with front t)) (inner (numbered t).core started) r e within wanted asked over h.sound.tied };
+      sound = record { stands = h.sound.stands; tied = renewal_over (book (trace_with front t)) (inner (numbered t).core started) r e within wanted waiting asked over h.sound.tied };
       ended = h.ended;
       began = h.began;
       moved = h.moved;
@@ -52,11 +52,11 @@ over_renewal front f conn r e started over within wanted asked h =
 --
 -- of which other new credentials are known
 ready_renewal : (before : List Action) (c : Core) (started : List ℕ) (word : ℕ) (kind : EventKind) (n : News) (link : LinkState) (renewals : List Credentials) (over lost : Bool) (r : Renewal) → Between before c started → is_bad c kind ≡ false → IsNewsKind c.timers kind
-    → news_of c.timers c.sources c.single.link kind ≡ n → c.single.connection.life ≡ Ready link → r.within ≡ c.single.connection.renewal.within → r.wanted ≡ c.single.connection.renewal.wanted
+    → news_of c.timers c.sources c.single.link kind ≡ n → c.single.connection.life ≡ Ready link → r.within ≡ c.single.connection.renewal.within → r.wanted ≡ c.single.connection.renewal.wanted → StaysQuiet c r
     → (let l = (book before).link c.single.link in let m = recredited l l.creds.asked l.creds.renews renewals over l.creds.timed lost in
     heard_by (book before) c n ≡ record m { heard = n } → AreRenewed (record m { heard = n }) r → ending_up (record m { heard = n }) n ≡ None
     → HasApplied (before ++ turn_of c word kind ∷ []) (with_work (record { core = turned c kind; acts = [] }) (record { conn = with_renewal c.single.connection r; acts = [] })) started)
-ready_renewal before c started word kind n link renewals over lost r h good k is e within wanted same are calm =
+ready_renewal before c started word kind n link renewals over lost r h good k is e within wanted quiet same are calm =
     let b = book before in
     let h0 = h.sound.tied in
     let conn = c.single.connection in
@@ -71,7 +71,7 @@ ready_renewal before c started word kind n link renewals over lost r h good k is
     let f = turned c kind in
     let own = ap (heard_by b c) (book_news b c started kind n h0 is) ∙ same in
     let t = seen f [] (with_renewal conn r) [] started in
-    let tied : Tied (heard_book b c.turns word kind) t = heard_tied_new b c started word b.created kind conn.info r conn.life conn.fresh [] [] after h0 within good own
+    let tied : Tied (heard_book b c.turns word kind) t = heard_tied_new b c started word b.created kind conn.info r conn.life conn.fresh [] [] after h0 within quiet good own
     (record {
       starts = refl;
       lived = subst (λ (x : Life). TiedLife after b.created x) (sym e) (u.asked, u.up, u.alive, u.shown);
@@ -82,7 +82,7 @@ ready_renewal before c started word kind n link renewals over lost r h good k is
       lines = h0.lines;
       told = h0.told;
       waits = h0.waits;
-      pushes = record { heard_is = h0.pushes.heard_is; within = h0.pushes.within; untold_is = h0.pushes.untold_is; parts = h0.pushes.parts; alive = h0.pushes.alive; due = h0.pushes.due };
+      notices = renoticed (tame_between before c started h) h0.notices;
     }) in
     let turn_is = heard_is b c.turns word kind (book_kind b c kind h0.numbers.timers k) in
     let holds = holds_first front f (with_renewal conn r) [] started (announced_sound before c started word kind t h good (subst (λ (x : Book). Tied x t) (sym turn_is) tied)) in
@@ -167,18 +167,20 @@ renewed_applied before c started word kind a h good k is two = by_life c.single.
         let tied : AreRenewed l conn.renewal = subst (λ (x : Life). TiedRenewal l conn.renewal x) e h.sound.tied.renewal in
         let may = may_is l conn.renewal u.up u.well (sought.1 ∙ h.sound.tied.creds.wanted_is) tied.over_is in
         let now = expected conn.renewal a in
+        let still = quiet_still b c started h.sound.tied in
         chosen done (is_ready conn.life && takes_more conn.renewal) (with_renewal conn now) conn
         (λ t.
         let so : may_renew l ≡ true = may ∙ ap (λ y. y && takes_more conn.renewal) (sym (ap is_ready e)) ∙ t in
-        ready_renewal before c started word kind (renewed a) link (l.creds.renewals ++ a ∷ []) l.creds.over l.creds.lost now h good k is e refl refl (ap (λ (x : Ledger). record x { heard = renewed a }) (taken_if (may_renew l) (renewed_by l a) l so)) (expects l conn.renewal a (renewed a) tied) refl)
+        let wants : StaysQuiet c now = λ w. absurd (not_both conn.renewal.wanted (still w).0 (both_left conn.renewal.wanted (not conn.renewal.over) (both_right (is_ready conn.life) (takes_more conn.renewal) t))) in
+        ready_renewal before c started word kind (renewed a) link (l.creds.renewals ++ a ∷ []) l.creds.over l.creds.lost now h good k is e refl refl wants (ap (λ (x : Ledger). record x { heard = renewed a }) (taken_if (may_renew l) (renewed_by l a) l so)) (expects l conn.renewal a (renewed a) tied) refl)
         (λ f.
         let so : may_renew l ≡ false = may ∙ ap (λ y. y && takes_more conn.renewal) (sym (ap is_ready e)) ∙ f in
-        ready_renewal before c started word kind (renewed a) link l.creds.renewals l.creds.over l.creds.lost conn.renewal h good k is e refl refl (ap (λ (x : Ledger). record x { heard = renewed a }) (left_if (may_renew l) (renewed_by l a) l so)) (renewed_alike l (record l { heard = renewed a }) conn.renewal refl refl refl tied) refl)
+        ready_renewal before c started word kind (renewed a) link l.creds.renewals l.creds.over l.creds.lost conn.renewal h good k is e refl refl still (ap (λ (x : Ledger). record x { heard = renewed a }) (left_if (may_renew l) (renewed_by l a) l so)) (renewed_alike l (record l { heard = renewed a }) conn.renewal refl refl refl tied) refl)
 
     by_life : (x : Life) → conn.life ≡ x → done (expecting conn a)
     by_life Dialing e = early Dialing e refl refl
     by_life (Wanting link) e = early (Wanting link) e refl refl
-    by_life (SettingUp link with_user) e = early (SettingUp link with_user) e refl refl
+    by_life (SettingUp link greeting) e = early (SettingUp link greeting) e refl refl
     by_life (Ready link) e = ready link e
     by_life (Ended x) e = unready (Ended x) e refl (ended_quiet before c started word kind (renewed a) x h good k is e)
 
@@ -224,12 +226,13 @@ unrenewed_applied before c started word kind h good k is two = by_life c.single.
     by_life : (x : Life) → conn.life ≡ x → done (none_follow conn)
     by_life Dialing e = early Dialing e refl refl
     by_life (Wanting link) e = early (Wanting link) e refl refl
-    by_life (SettingUp link with_user) e = early (SettingUp link with_user) e refl refl
+    by_life (SettingUp link greeting) e = early (SettingUp link greeting) e refl refl
     by_life (Ready link) e =
         let u = up_tied (book before) (inner c started) link e h.sound.tied in
         let tied : AreRenewed l conn.renewal = subst (λ (x : Life). TiedRenewal l conn.renewal x) e h.sound.tied.renewal in
-        ready_renewal before c started word kind unrenewed link l.creds.renewals true l.creds.lost over h good k is e refl refl (ap (λ (x : Ledger). record x { heard = unrenewed }) (taken_if l.up (unrenewed_by l) l u.up)) (none_follows l conn.renewal unrenewed tied) refl
-    by_life (Ended x) e = over_renewal (before ++ turn_of c word kind ∷ []) (turned c kind) conn over x started e refl refl refl (ended_quiet before c started word kind unrenewed x h good k is e)
+        let still = quiet_still (book before) c started h.sound.tied in
+        ready_renewal before c started word kind unrenewed link l.creds.renewals true l.creds.lost over h good k is e refl refl still (ap (λ (x : Ledger). record x { heard = unrenewed }) (taken_if l.up (unrenewed_by l) l u.up)) (none_follows l conn.renewal unrenewed tied) refl
+    by_life (Ended x) e = over_renewal (before ++ turn_of c word kind ∷ []) (turned c kind) conn over x started e refl refl refl refl (ended_quiet before c started word kind unrenewed x h good k is e)
 
 -- some are not answered in time
 --
@@ -337,30 +340,31 @@ renewal_late before c started word kind m h good k is = by_life c.single.connect
         let u = up_tied b (inner c started) link e h.sound.tied in
         let tied : AreRenewed l conn.renewal = subst (λ (x : Life). TiedRenewal l conn.renewal x) e h.sound.tied.renewal in
         let open_is = l.up && is_renewal_open l m in
+        let still = quiet_still b c started h.sound.tied in
         by_test conn.renewal.lost (done (late_for conn m))
         (λ lost.
         let was : conn.renewal ≡ gone = (λ i. record conn.renewal { lost = lost i }) in
         let lost_too : done (with_renewal conn gone) = by_test open_is (done (with_renewal conn gone))
         (λ t.
-        ready_renewal before c started word kind (late m) link l.creds.renewals l.creds.over true gone h good k is e refl refl (ap (λ (x : Ledger). record x { heard = late m }) (taken_if open_is (lost_by l) l t)) (late_lost l conn.renewal true (late m) (λ z. refl) (inr lost) tied) refl)
+        ready_renewal before c started word kind (late m) link l.creds.renewals l.creds.over true gone h good k is e refl refl still (ap (λ (x : Ledger). record x { heard = late m }) (taken_if open_is (lost_by l) l t)) (late_lost l conn.renewal true (late m) (λ z. refl) (inr lost) tied) refl)
         (λ f.
-        ready_renewal before c started word kind (late m) link l.creds.renewals l.creds.over l.creds.lost gone h good k is e refl refl (ap (λ (x : Ledger). record x { heard = late m }) (left_if open_is (lost_by l) l f)) (late_lost l conn.renewal l.creds.lost (late m) (λ z. z) (inr lost) tied) refl) in
+        ready_renewal before c started word kind (late m) link l.creds.renewals l.creds.over l.creds.lost gone h good k is e refl refl still (ap (λ (x : Ledger). record x { heard = late m }) (left_if open_is (lost_by l) l f)) (late_lost l conn.renewal l.creds.lost (late m) (λ z. z) (inr lost) tied) refl) in
         chosen done (is_unanswered conn.renewal m) (with_renewal conn gone) conn (λ t. lost_too) (λ f. subst (λ r. done (with_renewal conn r)) (sym was) lost_too))
         (λ kept.
         let same : is_renewal_open l m ≡ is_unanswered conn.renewal m = open_is_unanswered l conn.renewal m u.up kept (λ due. (h.still.renewed link e due).0) tied in
         chosen done (is_unanswered conn.renewal m) (with_renewal conn gone) conn
         (λ t.
-        ready_renewal before c started word kind (late m) link l.creds.renewals l.creds.over true gone h good k is e refl refl (ap (λ (x : Ledger). record x { heard = late m }) (taken_if open_is (lost_by l) l (λ i. u.up i && (same ∙ t) i))) (late_lost l conn.renewal true (late m) (λ z. refl) (inl refl) tied)
+        ready_renewal before c started word kind (late m) link l.creds.renewals l.creds.over true gone h good k is e refl refl still (ap (λ (x : Ledger). record x { heard = late m }) (taken_if open_is (lost_by l) l (λ i. u.up i && (same ∙ t) i))) (late_lost l conn.renewal true (late m) (λ z. refl) (inl refl) tied)
         refl)
         (λ f.
-        ready_renewal before c started word kind (late m) link l.creds.renewals l.creds.over l.creds.lost conn.renewal h good k is e refl refl (ap (λ (x : Ledger). record x { heard = late m }) (left_if open_is (lost_by l) l (ap (λ y. l.up && y) (same ∙ f) ∙ none_of l.up)))
+        ready_renewal before c started word kind (late m) link l.creds.renewals l.creds.over l.creds.lost conn.renewal h good k is e refl refl still (ap (λ (x : Ledger). record x { heard = late m }) (left_if open_is (lost_by l) l (ap (λ y. l.up && y) (same ∙ f) ∙ none_of l.up)))
         (renewed_alike l (record l { heard = late m }) conn.renewal refl refl refl tied) refl))
 
     by_life : (x : Life) → conn.life ≡ x → done (late_for conn m)
     by_life Dialing e = early (subst (λ (x : Life). TiedRenewal l conn.renewal x) e h.sound.tied.renewal)
     by_life (Wanting link) e = early (subst (λ (x : Life). TiedRenewal l conn.renewal x) e h.sound.tied.renewal)
-    by_life (SettingUp link with_user) e = early (subst (λ (x : Life). TiedRenewal l conn.renewal x) e h.sound.tied.renewal)
+    by_life (SettingUp link greeting) e = early (subst (λ (x : Life). TiedRenewal l conn.renewal x) e h.sound.tied.renewal)
     by_life (Ready link) e = ready link e
     by_life (Ended x) e =
         let quiet = ended_quiet before c started word kind (late m) x h good k is e in
-        chosen done (is_unanswered conn.renewal m) (with_renewal conn gone) conn (λ t. over_renewal (before ++ turn_of c word kind ∷ []) (turned c kind) conn gone x started e refl refl refl quiet) (λ f. quiet)
+        chosen done (is_unanswered conn.renewal m) (with_renewal conn gone) conn (λ t. over_renewal (before ++ turn_of c word kind ∷ []) (turned c kind) conn gone x started e refl refl refl refl quiet) (λ f. quiet)

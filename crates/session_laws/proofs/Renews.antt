@@ -2,7 +2,7 @@
 use Rattle.std.proofs.Common.{List, None, Option, Some, [], ap, arith, false, inl, inr, length, length-append, refl, subst, sym, true, ℕ, ◌+◌, ◌++◌, ◌≤◌, ◌∙◌, ◌∷◌, ◌≡◌, ◌≢◌}
 use Rattle.std.proofs.lemmas.List.{append-nil}
 use Rattle.std.specs.Prelude.{if◌then◌else◌, slice_get, ◌==◌, ◌&&◌}
-use Rattle.containers.proofs.Choices.{both_right, chosen, eq_test, left_if, not_both, taken_if}
+use Rattle.containers.proofs.Choices.{both_right, chosen, eq_test, left_if, not_both, taken_if, by_test}
 use Rattle.containers.proofs.Places.{get_within}
 use Rattle.credentials.specs.Credentials.{Credentials}
 use Rattle.credentials.specs.Message.{auth_bytes}
@@ -36,7 +36,7 @@ use Rattle.legal_trace.specs.Story.{Story}
 use Rattle.legal_trace.proofs.Setups.{count_more}
 use Rattle.session_laws.proofs.Ahead.{held_by}
 use Rattle.session_laws.proofs.Behind.{some_more}
-use Rattle.session_laws.proofs.Going.{HasRenewed, applied_up, none_ends_kept, none_ends_mine, renewals_timed, setups_started, undue_asked}
+use Rattle.session_laws.proofs.Going.{HasRenewed, applied_up, none_ends_kept, none_ends_mine, renewals_timed, setups_started, undue_asked, monitors_started}
 use Rattle.session_laws.proofs.InLine.{kept_ids}
 use Rattle.session_laws.proofs.Kept.{mine_noted, others_kept, tied_by}
 use Rattle.session_laws.proofs.Names.{get_more}
@@ -49,6 +49,8 @@ use Rattle.session_laws.proofs.Starts.{begins_ends_none}
 use Rattle.session_laws.proofs.States.{IsFit}
 use Rattle.session_laws.proofs.Tied.{AreAimed, AreRenewed, Inner, IsAim, IsEntry, IsUnknown, Tied, TiedRenewal, TiedTries, numbers_kept, owner_of, owners_each, queue_ids, setup_owners, timed_of}
 use Rattle.session_laws.proofs.Took.{queue_waits}
+use Rattle.mux_conn.specs.declared.life.Greeting.TheVariants as greet
+use Rattle.driver_model.specs.Hearing.{is_watching}
 
 -- their timer
 --
@@ -81,6 +83,7 @@ may_time_renewal b t link number ms counted none due within h ended =
     record {
       applied = applied_up b was h refl (refl, refl) refl ended;
       setups = setups_started b was h (λ x u e. absurd (not_setting link x u e));
+      monitors = monitors_started b was h (λ x e. absurd (not_setting link x greet.Monitor e));
       l = t.link;
       within = h.numbers.within ∙ within;
       asked = omega (arith, timed, one, unasked, h.renewal.asked_is);
@@ -112,11 +115,13 @@ time_tied b t link number ms none due within h =
         within = k.within;
         few = k.few;
         settings = record { size_is = k.settings.size_is; bound_is = k.settings.bound_is; limit_is = k.settings.limit_is; some = k.settings.some; limited = k.settings.limited };
+        kind_is = k.kind_is;
+        quiet = λ w. let q = h.numbers.quiet w in record { none = q.none; unwanted = q.unwanted; unrenewed = q.unrenewed };
         one = k.one;
         only = k.only;
       };
       others = others_kept b t.link times h.others;
-      pushes = h.pushes;
+      notices = h.notices;
       life = h.life;
       creds = record { wanted_is = h.creds.wanted_is; sought = h.creds.sought };
       count = h.count;
@@ -125,7 +130,7 @@ time_tied b t link number ms none due within h =
       link = λ e. timed_tied (owner_of t.requests) l link (h.link refl);
       names = h.names;
       story = h.story;
-      tries = record { owners = h.tries.owners; shapes = h.tries.shapes; tried = h.tries.tried; untried = h.tries.untried };
+      tries = record { owners = h.tries.owners; greeted = h.tries.greeted; shapes = h.tries.shapes; tried = h.tries.tried; untried = h.tries.untried };
       lines = h.lines;
       told = h.told;
       waits = h.waits;
@@ -144,13 +149,14 @@ auth_owner : (requests : List Request) → owner_of requests renewal_id ≡ owne
 auth_owner requests = taken_if (renewal_id == renewal_id) owner.Auth (owner.Try (name_at requests renewal_id) 0) (eq_test renewal_id renewal_id refl)
 
 -- one more of the started, that is none of a request
-tries_told : (l : Ledger) (story : ℕ → Story) (requests : List Request) (link : ℕ) (started : List ℕ) (s : Start) → length requests ≤ renewal_id → s.owner ≡ owner.Auth → TiedTries l story requests link started → TiedTries (noted l (begins s)) story requests link (started ++ renewal_id ∷ [])
-tries_told l story requests link started s few owned h =
+tries_told : (l : Ledger) (story : ℕ → Story) (requests : List Request) (link : ℕ) (started : List ℕ) (s : Start) → length requests ≤ renewal_id → s.owner ≡ owner.Auth → is_watching l.hearing ≡ false → TiedTries l story requests link started → TiedTries (noted l (begins s)) story requests link (started ++ renewal_id ∷ [])
+tries_told l story requests link started s few owned plain h =
     let c = setup_count l.starts in
     let same : setup_count (l.starts ++ s ∷ []) ≡ c = count_more l.starts s (ap is_of_setup owned) in
     let own : s.owner ≡ owner_of requests renewal_id = owned ∙ sym (auth_owner requests) in
     record {
-      owners = owners-append l.starts (s ∷ []) ∙ (λ i. h.owners i ++ own i ∷ []) ∙ setup_owners-append c (owners_each requests started) (owner_of requests renewal_id ∷ [])
+      greeted = λ w. absurd (not_both (is_watching l.hearing) plain w);
+      owners = λ same_plain. owners-append l.starts (s ∷ []) ∙ (λ i. h.owners plain i ++ own i ∷ []) ∙ setup_owners-append c (owners_each requests started) (owner_of requests renewal_id ∷ [])
           ∙ (λ i. setup_owners (sym same i) (sym (owners_each-append requests started (renewal_id ∷ [])) i));
       shapes = λ j m x inside i e. elim (get_more started renewal_id j m i) [
         | inl a ↦ elim (get_more l.starts s (c + j) x (ap (λ y. slice_get (l.starts ++ s ∷ []) (y + j)) (sym same) ∙ e)) [
@@ -167,7 +173,7 @@ tries_told l story requests link started s few owned h =
     }
   where
     past : (j m : ℕ) → slice_get started j ≡ Some m → setup_count l.starts + j ≡ length l.starts → ⊥
-    past j m a e = let w = get_within started j m a in let long = owners_length l.starts requests started (setup_count l.starts) h.owners in omega arith
+    past j m a e = let w = get_within started j m a in let long = owners_length l.starts requests started (setup_count l.starts) (h.owners plain) in omega arith
 
 -- an entry of AUTH is no request's
 wanted_told : (row : List Entry) (c : Credentials) → requests_in (wanted (row ++ entry_of (renewal_queued c) ∷ [])) ≡ requests_in (wanted row)
@@ -191,6 +197,7 @@ may_renew b t link c cs due pending waits fit free h ended =
     record {
       applied = applied_up b was h refl (refl, refl) refl ended;
       setups = setups_started b was h (λ x u e. absurd (not_setting link x u e));
+      monitors = monitors_started b was h (λ x e. absurd (not_setting link x greet.Monitor e));
       timed = renewals_timed b was h (λ x e d. pending);
       credentials = c;
       due = due_first l t.renewal c cs h.life.1 h.renewal due waits;
@@ -214,6 +221,8 @@ auth_tied b t link c cs due pending waits h =
     let owned : s.owner ≡ owner.Auth = auth_owner t.requests in
     let told : message_of b t.link owner.Auth ≡ s = ap renewal_in (due_first l t.renewal c cs h.life.1 h.renewal due waits) ∙ (λ i. record { owner = sym owned i; shape = Confirmation; bytes = auth_bytes c.username c.password }) in
     let up = h.link refl in
+    let plain : is_watching t.hears ≡ true → ⊥ = λ w. (let no : [] ≡ c ∷ cs = sym (h.numbers.quiet w).unrenewed ∙ waits in cc) in
+    let unwatched : is_watching l.hearing ≡ false = by_test (is_watching l.hearing) _ (λ w. absurd (plain (ap is_watching (sym h.notices.hearing_is) ∙ w))) (λ f. f) in
     let few : length t.requests ≤ renewal_id = omega (arith, h.names.few, h.numbers.few) in
     let k = numbers_kept b b.link b.story (on_link t link) (Ready (begun link q)) t.free t.requests t.waiting t.admitted t.fresh t.moved t.letting [] (t.started ++ renewal_id ∷ []) h.numbers in
     tied_by (entered b (auth_action t link c)) (after_auth t link c cs) (noted l (begins s)) (mine_noted l t.link (begins (message_of b t.link owner.Auth)) ∙ ap (λ x. noted l (begins x)) told) (record {
@@ -231,11 +240,13 @@ auth_tied b t link c cs due pending waits h =
         within = k.within;
         few = k.few;
         settings = record { size_is = k.settings.size_is; bound_is = k.settings.bound_is; limit_is = k.settings.limit_is; some = k.settings.some; limited = k.settings.limited };
+        kind_is = k.kind_is;
+        quiet = λ w. absurd (plain w);
         one = k.one;
         only = k.only;
       };
       others = others_kept b t.link (begins (message_of b t.link owner.Auth)) h.others;
-      pushes = h.pushes;
+      notices = h.notices;
       life = h.life;
       creds = record { wanted_is = h.creds.wanted_is; sought = h.creds.sought };
       count = h.count;
@@ -244,7 +255,7 @@ auth_tied b t link c cs due pending waits h =
       link = λ e. begun_tied name l link q (auth_some c) up;
       names = h.names;
       story = h.story;
-      tries = tries_told l b.story t.requests t.link t.started s few owned h.tries;
+      tries = tries_told l b.story t.requests t.link t.started s few owned unwatched h.tries;
       lines = record {
         line = subst (λ ns. Rising 0 (ns ++ (queue_ids link.queue ++ kept_ids t.admitted t.waiting)) (length t.requests)) (sym (requests_in-append t.started (renewal_id ∷ []) ∙ ap (λ ns. requests_in t.started ++ ns) (requests_behind []) ∙ append-nil (requests_in t.started))) h.lines.line;
         queued = h.lines.queued;
@@ -305,7 +316,7 @@ asked_told before f w started link life holds ended fit moved due =
         let l = b.link f.single.link in
         let r = w.conn.renewal in
         let now = subst (TiedRenewal l (asked_next r)) (sym life) (asked_renewed l r n due e (subst (TiedRenewal l r) life holds.tied.renewal)) in
-        record { life = life; holds = record { stands = holds.stands; tied = renewal_tied b t (asked_next r) refl refl now holds.tied }; ended = ended; fit = fit; moved = moved; due = due; pending = refl }
+        record { life = life; holds = record { stands = holds.stands; tied = renewal_tied b t (asked_next r) refl refl refl now holds.tied }; ended = ended; fit = fit; moved = moved; due = due; pending = refl }
     by_within (Some ms) e n =
         let r = w.conn.renewal in
         let a = act.RenewalTimer r.asked ms in

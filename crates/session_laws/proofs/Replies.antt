@@ -1,12 +1,10 @@
 -- Replies to new credentials: what bytes that come make of them.
-use Rattle.std.proofs.Common.{◌≡◌, ◌≢◌, ◌⊎◌, inl, inr, ℕ, zero, suc, ◌+◌, ◌-◌, ◌<◌, ◌≤◌, ◌==◌, nat_le, Bool, true, false, ◌&&◌, ◌||◌, not, if◌then◌else◌, List, [], ◌∷◌, ◌++◌, length, take, drop, Option, Some, None, slice_get, refl, sym, ap, ◌∙◌, subst, arith, length-append}
+use Rattle.std.proofs.Common.{◌≡◌, ◌≢◌, ◌⊎◌, inl, inr, ℕ, zero, suc, ◌+◌, ◌<◌, ◌≤◌, ◌==◌, nat_le, Bool, true, false, ◌&&◌, ◌||◌, not, if◌then◌else◌, List, [], ◌∷◌, ◌++◌, length, take, drop, Option, Some, None, slice_get, refl, sym, ap, ◌∙◌, subst, arith}
 use Rattle.std.specs.List.{AllByRecursion}
-use Rattle.std.proofs.lemmas.List.{append-nil}
 use Rattle.containers.proofs.Choices.{by_test, chosen, taken_if, left_if, not_both, not_le_from, not_le_test, eq_from, eq_test, ne_from}
 use Rattle.containers.proofs.Places.{get_within}
 use Rattle.resp_value.specs.Data.{Data}
-use Rattle.resp_read.specs.Items.{items}
-use Rattle.resp_read.specs.Values.{left_over}
+use Rattle.resp_read.specs.Values.{values}
 use Rattle.driver_model.specs.declared.action.Owner.{Owner}
 use Rattle.driver_model.specs.declared.action.Owner.TheVariants as owner
 use Rattle.driver_model.specs.declared.outcome.Shape.{Shape}
@@ -16,21 +14,23 @@ use Rattle.driver_model.specs.declared.outcome.Verdict.TheVariants as verdict
 use Rattle.driver_model.specs.Shape.{need_of, verdict_of}
 use Rattle.link_core.specs.declared.message.Entry.{Entry}
 use Rattle.link_core.specs.declared.message.Settled.{Settled}
-use Rattle.link_core.specs.Dealing.{Dealing, dealt, dealt_each}
+use Rattle.driver_model.specs.declared.hearing.Hearing.{Hearing}
+use Rattle.driver_model.specs.News.{came}
+use Rattle.link_core.specs.Dealing.{Dealing, dealing_with}
 use Rattle.link_core.specs.Link.{LinkState}
 use Rattle.link_laws.specs.Settles.{settled_ids, wanted}
-use Rattle.link_laws.proofs.Dealt.{IsDealt, all_append, cut_more, cut_within, each_dealt, items_with, one_wanted, taken_item}
-use Rattle.link_laws.proofs.Once.{items_keep}
-use Rattle.link_laws.proofs.Pushes.{IsNew, item_settles}
+use Rattle.link_laws.proofs.Dealt.{IsDealt}
+use Rattle.link_laws.proofs.Once.{taken_keeps}
+use Rattle.link_laws.proofs.Taken.{IsNew}
 use Rattle.link_laws.proofs.Started.{full_or_open, row_open}
-use Rattle.link_laws.proofs.TiedLink.{TiedLink, deals, has_heard, has_read, read_tied}
+use Rattle.link_laws.proofs.TiedLink.{ReadsAlike, TiedLink, deals, has_heard, read_taken}
 use Rattle.mux_conn.specs.declared.renewal.Renewal.{Renewal}
 use Rattle.mux_conn.specs.declared.request.Request.{Request}
 use Rattle.mux_conn.specs.Requests.{name_at}
 use Rattle.mux_conn.specs.Renewals.{is_done, renewal_id, replied}
-use Rattle.legal_trace.specs.Ledger.{Ledger, Start, cut, is_full, is_of_renewal, is_taken, last_renewal, reach}
+use Rattle.legal_trace.specs.Ledger.{Ledger, Start, bytes_came, cut, is_full, is_of_renewal, is_taken, last_renewal, reach}
 use Rattle.legal_trace.specs.Ledger.{is_done as is_taken_so}
-use Rattle.legal_trace.proofs.Ledgers.{reach_alike}
+use Rattle.legal_trace.proofs.Came.{bytes_are, grown, holds_came}
 use Rattle.legal_trace.proofs.Renewals.{last_told, taken_more}
 use Rattle.legal_trace.proofs.Setups.{full_stays}
 use Rattle.session_laws.proofs.InLine.{row_ids, wanted_in}
@@ -39,67 +39,9 @@ use Rattle.session_laws.proofs.Numbers.{IsIn, in_left, in_right, in_either}
 use Rattle.session_laws.proofs.Owes.{wanted_entry}
 use Rattle.session_laws.proofs.Settle.{replied_each}
 use Rattle.session_laws.proofs.Tied.{AreFullBefore, AreRenewed, IsEntry, IsLost, IsTold, owner_of}
-use Rattle.session_laws.proofs.ReadSetup.{full_stays as full_still}
-
--- what is settled was not full before
---
--- more items leave it settled
-new_later : (name : ℕ → Owner) (ss : List Start) (base now more : List Data) (s : Settled) → IsNew name ss base now s → IsNew name ss base (now ++ more) s
-new_later name ss base now more s h =
-    let c = h.cut.cut in
-    let k = c.number in
-    let far = cut_within ss now (name s.id) h.cut.of_shape k c.place c.full in
-    let next : reach (take (suc k) ss) (now ++ more) ≡ reach (take (suc k) ss) now = reach_alike (take (suc k) ss) (now ++ more) now in
-    record {
-      cut = record {
-        of_shape = h.cut.of_shape;
-        got = h.cut.got;
-        cut = record { number = k; place = c.place; full = omega (arith, next, c.full, length-append now more); cut_is = c.cut_is ∙ sym (cut_more ss now more h.cut.of_shape k far) };
-        verdict_is = h.cut.verdict_is;
-      };
-      late = h.late;
-    }
-
--- of each
-all_later : (name : ℕ → Owner) (ss : List Start) (base now more : List Data) (out : List Settled) → AllByRecursion (IsNew name ss base now) out → AllByRecursion (IsNew name ss base (now ++ more)) out
-all_later name ss base now more [] all = tt
-all_later name ss base now more (s ∷ out) all = (new_later name ss base now more s all.0, all_later name ss base now more out all.1)
-
--- nor was it before that
-new_earlier : (name : ℕ → Owner) (ss : List Start) (base before now : List Data) (s : Settled) → length base ≤ length before → IsNew name ss before now s → IsNew name ss base now s
-new_earlier name ss base before now s few h =
-    let far = reach_alike (take (suc h.cut.cut.number) ss) before base in
-    let late = h.late in
-    record { cut = h.cut; late = omega arith }
-
--- item by item
-each_new : (name : ℕ → Owner) (ss : List Start) (all : ℕ) (base before : List Data) (d : Dealing) (vs : List Data) → reach ss before ≡ all → length base ≤ length before → IsDealt name ss before d → AllByRecursion (IsNew name ss base before) d.out
-    → AllByRecursion (IsNew name ss base (items_with all before vs)) (dealt_each d vs).out
-each_new name ss all base before d [] e few h new = all_later name ss base before (take (all - length before) []) d.out new
-each_new name ss all base before d (v ∷ vs) e few h new =
-    let next = items_with all before (v ∷ []) in
-    let taken = taken_item all before v in
-    let rest : items_with all taken [] ≡ taken = ap (λ ys. taken ++ ys) (none_taken (all - length taken)) ∙ append-nil taken in
-    let next_is : next ≡ taken = one_wanted all before v [] ∙ rest in
-    let later = all_later name ss base before (take (all - length before) (v ∷ [])) d.out new in
-    let long = length-append before (take (all - length before) (v ∷ [])) in
-    let so = each_dealt name ss all before d (v ∷ []) e h in
-    let more : AllByRecursion (IsNew name ss base next) (dealt d v).out = elim (subst (λ n. ((dealt d v).out ≡ d.out) ⊎ ((s : Settled) × ((dealt d v).out ≡ d.out ++ s ∷ []) × IsNew name ss before (items_with n before (v ∷ [])) s)) e (item_settles name ss before d v d.row refl h)) [
-      | inl same ↦ subst (AllByRecursion (IsNew name ss base next)) (sym same) later
-      | inr one ↦ subst (AllByRecursion (IsNew name ss base next)) (sym one.1) (all_append (IsNew name ss base next) d.out (one.0 ∷ []) later (new_earlier name ss base before next one.0 few one.2, tt))
-    ] in
-    subst (λ xs. AllByRecursion (IsNew name ss base xs) (dealt_each (dealt d v) vs).out) (ap (λ xs. items_with all xs vs) next_is ∙ sym (one_wanted all before v vs))
-    (each_new name ss all base next (dealt d v) vs (reach_alike ss next before ∙ e) (omega arith) so more)
-  where
-    none_taken : (n : ℕ) → ◌≡◌ {A = List Data} (take n []) []
-    none_taken zero = refl
-    none_taken (suc n) = refl
-
--- of the bytes that come
-read_new : (name : ℕ → Owner) (l : Ledger) (link : LinkState) (piece : List ℕ) → l.end ≡ None → TiedLink name l link → AllByRecursion (IsNew name l.starts l.dealt (has_heard l piece).dealt) (deals link piece).out
-read_new name l link piece lives h =
-    subst (λ (vs : List Data). AllByRecursion (IsNew name l.starts l.dealt (items_with (reach l.starts l.dealt) l.dealt vs)) (deals link piece).out) (ap (λ bs. items (bs ++ piece)) (sym h.rest))
-    (each_new name l.starts (reach l.starts l.dealt) l.dealt l.dealt (record { row = link.row; out = [] }) (items (link.rest ++ piece)) refl (omega arith) (record { row = h.row lives; within = h.within; cuts = tt }) tt)
+use Rattle.session_laws.proofs.More.{full_more}
+use Rattle.session_laws.proofs.New.{read_new}
+use Rattle.session_laws.proofs.Renewals.{renewed_alike}
 
 -- AUTH's number
 --
@@ -128,6 +70,7 @@ auth_is : (o : Owner) → is_of_renewal o ≡ true → o ≡ owner.Auth
 auth_is owner.Auth e = refl
 auth_is owner.Setup e = cc
 auth_is (owner.Try n round) e = cc
+auth_is owner.Monitor e = cc
 
 -- and none is behind the last
 last_behind : (l : Ledger) (k j : ℕ) (s : Start) → last_renewal l.starts 0 None ≡ Some k → slice_get l.starts j ≡ Some s → is_of_renewal s.owner ≡ true → j ≤ k
@@ -144,32 +87,34 @@ last_behind l k j s last at is =
 auth_name : (requests : List Request) (p : ℕ) → p ≡ renewal_id → is_of_renewal (owner_of requests p) ≡ true
 auth_name requests p is = ap is_of_renewal (taken_if (p == renewal_id) owner.Auth (owner.Try (name_at requests p) 0) (eq_test p renewal_id is))
 
--- what bytes leave
+-- what more items leave
 --
+-- a ledger with more items
+abbrev with_items : Ledger → List Data → Ledger
+with_items l more = record l { dealt = l.dealt ++ more }
+
 -- what a start that is full took
-cut_after : (l : Ledger) (piece : List ℕ) (k : ℕ) (s : Start) → slice_get l.starts k ≡ Some s → s.shape ≡ Confirmation → is_full l k ≡ true → cut (has_heard l piece) k Confirmation ≡ cut l k Confirmation
-cut_after l piece k s at shaped full =
-    let rest = left_over (l.rest ++ piece) in
-    let more = take (reach l.starts l.dealt - length l.dealt) (items (l.rest ++ piece)) in
-    subst (λ n. take n (drop (reach (take k l.starts) (l.dealt ++ more)) (l.dealt ++ more)) ≡ take n (drop (reach (take k l.starts) l.dealt) l.dealt)) (ap need_of shaped) (full_stays l rest more k s at full).1
+cut_after : (l : Ledger) (more : List Data) (k : ℕ) (s : Start) → slice_get l.starts k ≡ Some s → s.shape ≡ Confirmation → is_full l k ≡ true → cut (with_items l more) k Confirmation ≡ cut l k Confirmation
+cut_after l more k s at shaped full =
+    subst (λ n. take n (drop (reach (take k l.starts) (l.dealt ++ more)) (l.dealt ++ more)) ≡ take n (drop (reach (take k l.starts) l.dealt) l.dealt)) (ap need_of shaped) (full_stays l l.rest more k s at full).1
 
 -- all before a start
-before_after : (l : Ledger) (piece : List ℕ) (k : ℕ) → AreFullBefore l k → AreFullBefore (has_heard l piece) k
-before_after l piece k h j s less at is = full_still l piece j (h j s less at is)
+before_after : (l : Ledger) (more : List Data) (k : ℕ) → AreFullBefore l k → AreFullBefore (with_items l more) k
+before_after l more k h j s less at is = full_more l more j (h j s less at is)
 
 -- those that were lost are
-lost_after : (l : Ledger) (piece : List ℕ) → ((k : ℕ) (s : Start) → slice_get l.starts k ≡ Some s → is_of_renewal s.owner ≡ true → s.shape ≡ Confirmation) → IsLost l → IsLost (has_heard l piece)
-lost_after l piece shaped (inl lost) = inl lost
-lost_after l piece shaped (inr (k, last, full, undone)) =
+lost_after : (l : Ledger) (more : List Data) → ((k : ℕ) (s : Start) → slice_get l.starts k ≡ Some s → is_of_renewal s.owner ≡ true → s.shape ≡ Confirmation) → IsLost l → IsLost (with_items l more)
+lost_after l more shaped (inl lost) = inl lost
+lost_after l more shaped (inr (k, last, full, undone)) =
     let m = last_start l k last in
-    inr (k, last, full_still l piece k full, ap (λ ds. is_taken_so (verdict_of Confirmation ds)) (cut_after l piece k m.0 m.1 (shaped k m.0 m.1 m.2) full) ∙ undone)
+    inr (k, last, full_more l more k full, ap (λ ds. is_taken_so (verdict_of Confirmation ds)) (cut_after l more k m.0 m.1 (shaped k m.0 m.1 m.2) full) ∙ undone)
 
 -- and those that were taken
-taken_after : (l : Ledger) (piece : List ℕ) (o : Option ℕ) → last_renewal l.starts 0 None ≡ o → ((k : ℕ) (s : Start) → slice_get l.starts k ≡ Some s → is_of_renewal s.owner ≡ true → s.shape ≡ Confirmation) → is_taken l o ≡ true → is_taken (has_heard l piece) o ≡ true
-taken_after l piece None e shaped h = refl
-taken_after l piece (Some k) e shaped h =
+taken_after : (l : Ledger) (more : List Data) (o : Option ℕ) → last_renewal l.starts 0 None ≡ o → ((k : ℕ) (s : Start) → slice_get l.starts k ≡ Some s → is_of_renewal s.owner ≡ true → s.shape ≡ Confirmation) → is_taken l o ≡ true → is_taken (with_items l more) o ≡ true
+taken_after l more None e shaped h = refl
+taken_after l more (Some k) e shaped h =
     let m = last_start l k e in
-    taken_more l (left_over (l.rest ++ piece)) (take (reach l.starts l.dealt - length l.dealt) (items (l.rest ++ piece))) k m.0 m.1 (shaped k m.0 m.1 m.2) h
+    taken_more l l.rest more k m.0 m.1 (shaped k m.0 m.1 m.2) h
 
 -- what replies make of them
 --
@@ -228,14 +173,14 @@ wanted_at (x ∷ row) zero e at is =
 wanted_at (x ∷ row) (suc n) e at is = in_right e.id (if x.awaited then x.id ∷ [] else []) (wanted row) (wanted_at row n e at is)
 
 -- AUTH that was settled, of a link on which one may be
-record IsReplied (l : Ledger) (piece : List ℕ) (s : Settled) : Type 0 where
+record IsReplied (l : Ledger) (more : List Data) (s : Settled) : Type 0 where
   pub number : ℕ
   pub start : Start
   pub at : slice_get l.starts number ≡ Some start
   pub is : is_of_renewal start.owner ≡ true
   pub was : is_full l number ≡ false
-  pub full : is_full (has_heard l piece) number ≡ true
-  pub says : is_done s.verdict ≡ is_taken_so (verdict_of Confirmation (cut (has_heard l piece) number Confirmation))
+  pub full : is_full (with_items l more) number ≡ true
+  pub says : is_done s.verdict ≡ is_taken_so (verdict_of Confirmation (cut (with_items l more) number Confirmation))
 
 -- one definition is the other
 done_same : (v : Verdict) → is_done v ≡ is_taken_so v
@@ -245,9 +190,9 @@ done_same (verdict.Many xs) = refl
 done_same (verdict.Fault e) = refl
 
 -- it was open before
-auth_replied : (requests : List Request) (l : Ledger) (piece : List ℕ) (s : Settled) → ((k : ℕ) (x : Start) → slice_get l.starts k ≡ Some x → is_of_renewal x.owner ≡ true → x.shape ≡ Confirmation) → s.id ≡ renewal_id
-    → IsNew (owner_of requests) l.starts l.dealt (has_heard l piece).dealt s → IsReplied l piece s
-auth_replied requests l piece s shaped auth h =
+auth_replied : (requests : List Request) (l : Ledger) (more : List Data) (s : Settled) → ((k : ℕ) (x : Start) → slice_get l.starts k ≡ Some x → is_of_renewal x.owner ≡ true → x.shape ≡ Confirmation) → s.id ≡ renewal_id
+    → IsNew (owner_of requests) l.starts l.dealt (with_items l more).dealt s → IsReplied l more s
+auth_replied requests l more s shaped auth h =
     let c = h.cut.cut in
     let n = c.number in
     let is = ap is_of_renewal c.place.owned ∙ auth_name requests s.id auth in
@@ -259,34 +204,34 @@ auth_replied requests l piece s shaped auth h =
       at = c.place.stands;
       is = is;
       was = not_le_test (reach (take (n + 1) l.starts) l.dealt) (length l.dealt) (let late = h.late in subst (λ m. length l.dealt < reach (take m l.starts) l.dealt) one late);
-      full = le_so (reach (take (n + 1) l.starts) (has_heard l piece).dealt) (length (has_heard l piece).dealt) (subst (λ m. reach (take m l.starts) (has_heard l piece).dealt ≤ length (has_heard l piece).dealt) one c.full);
-      says = ap is_done h.cut.verdict_is ∙ (λ i. is_done (verdict_of (of_shape i) (c.cut_is i))) ∙ says_so n h.cut.of_shape of_shape ∙ done_same (verdict_of Confirmation (cut (has_heard l piece) n Confirmation));
+      full = le_so (reach (take (n + 1) l.starts) (with_items l more).dealt) (length (with_items l more).dealt) (subst (λ m. reach (take m l.starts) (with_items l more).dealt ≤ length (with_items l more).dealt) one c.full);
+      says = ap is_done h.cut.verdict_is ∙ (λ i. is_done (verdict_of (of_shape i) (c.cut_is i))) ∙ says_so n h.cut.of_shape of_shape ∙ done_same (verdict_of Confirmation (cut (with_items l more) n Confirmation));
     }
   where
     le_so : (a b : ℕ) → a ≤ b → nat_le a b ≡ true
     le_so a b l = by_test (nat_le a b) _ (λ t. t) (λ f. absurd (let no = not_le_from a b f in omega arith))
 
     says_so : (n : ℕ) (of_shape : Shape) → of_shape ≡ Confirmation
-        → is_done (verdict_of Confirmation (let from = drop (reach (take n l.starts) (has_heard l piece).dealt) (has_heard l piece).dealt in take (need_of of_shape) from)) ≡ is_done (verdict_of Confirmation (cut (has_heard l piece) n Confirmation))
-    says_so n of_shape is = ap (λ x. is_done (verdict_of Confirmation (let from = drop (reach (take n l.starts) (has_heard l piece).dealt) (has_heard l piece).dealt in take (need_of x) from))) is
+        → is_done (verdict_of Confirmation (let from = drop (reach (take n l.starts) (with_items l more).dealt) (with_items l more).dealt in take (need_of of_shape) from)) ≡ is_done (verdict_of Confirmation (cut (with_items l more) n Confirmation))
+    says_so n of_shape is = ap (λ x. is_done (verdict_of Confirmation (let from = drop (reach (take n l.starts) (with_items l more).dealt) (with_items l more).dealt in take (need_of x) from))) is
 
 -- so no reply of AUTH is settled where all are answered
-none_settled : (requests : List Request) (l : Ledger) (piece : List ℕ) (out : List Settled) → ((k : ℕ) (x : Start) → slice_get l.starts k ≡ Some x → is_of_renewal x.owner ≡ true → x.shape ≡ Confirmation) → ((s : Settled) → IsReplied l piece s → ⊥)
-    → AllByRecursion (IsNew (owner_of requests) l.starts l.dealt (has_heard l piece).dealt) out → (n : ℕ) → IsIn n (settled_ids out) → n ≢ renewal_id
-none_settled requests l piece [] shaped never all n i = absurd i
-none_settled requests l piece (s ∷ out) shaped never all n (inl same) = λ is. never s (auth_replied requests l piece s shaped (same ∙ is) all.0)
-none_settled requests l piece (s ∷ out) shaped never all n (inr i) = none_settled requests l piece out shaped never all.1 n i
+none_settled : (requests : List Request) (l : Ledger) (more : List Data) (out : List Settled) → ((k : ℕ) (x : Start) → slice_get l.starts k ≡ Some x → is_of_renewal x.owner ≡ true → x.shape ≡ Confirmation) → ((s : Settled) → IsReplied l more s → ⊥)
+    → AllByRecursion (IsNew (owner_of requests) l.starts l.dealt (with_items l more).dealt) out → (n : ℕ) → IsIn n (settled_ids out) → n ≢ renewal_id
+none_settled requests l more [] shaped never all n i = absurd i
+none_settled requests l more (s ∷ out) shaped never all n (inl same) = λ is. never s (auth_replied requests l more s shaped (same ∙ is) all.0)
+none_settled requests l more (s ∷ out) shaped never all n (inr i) = none_settled requests l more out shaped never all.1 n i
 
 -- and each says what the last was answered
-all_say : (requests : List Request) (l : Ledger) (piece : List ℕ) (out : List Settled) (k : ℕ) → ((k : ℕ) (x : Start) → slice_get l.starts k ≡ Some x → is_of_renewal x.owner ≡ true → x.shape ≡ Confirmation) → ((s : Settled) (h : IsReplied l piece s) → h.number ≡ k)
-    → AllByRecursion (IsNew (owner_of requests) l.starts l.dealt (has_heard l piece).dealt) out
-    → AllByRecursion (λ (x : Settled). x.id ≡ renewal_id → is_done x.verdict ≡ is_taken_so (verdict_of Confirmation (cut (has_heard l piece) k Confirmation))) out
-all_say requests l piece [] k shaped only all = tt
-all_say requests l piece (s ∷ out) k shaped only all = (
+all_say : (requests : List Request) (l : Ledger) (more : List Data) (out : List Settled) (k : ℕ) → ((k : ℕ) (x : Start) → slice_get l.starts k ≡ Some x → is_of_renewal x.owner ≡ true → x.shape ≡ Confirmation) → ((s : Settled) (h : IsReplied l more s) → h.number ≡ k)
+    → AllByRecursion (IsNew (owner_of requests) l.starts l.dealt (with_items l more).dealt) out
+    → AllByRecursion (λ (x : Settled). x.id ≡ renewal_id → is_done x.verdict ≡ is_taken_so (verdict_of Confirmation (cut (with_items l more) k Confirmation))) out
+all_say requests l more [] k shaped only all = tt
+all_say requests l more (s ∷ out) k shaped only all = (
   (λ is.
-      let h = auth_replied requests l piece s shaped is all.0 in
-      h.says ∙ ap (λ n. is_taken_so (verdict_of Confirmation (cut (has_heard l piece) n Confirmation))) (only s h)),
-  all_say requests l piece out k shaped only all.1,
+      let h = auth_replied requests l more s shaped is all.0 in
+      h.says ∙ ap (λ n. is_taken_so (verdict_of Confirmation (cut (with_items l more) n Confirmation))) (only s h)),
+  all_say requests l more out k shaped only all.1,
 )
 
 -- those that were told last, and aren't answered, are in the row
@@ -310,29 +255,41 @@ told_in_row requests l link k lives tied entries few last open_is =
     one_start : (x y : Start) → ◌≡◌ {A = Option Start} (Some x) (Some y) → x ≡ y
     one_start x y e = cc
 
--- bytes come
-pub read_renewed : (requests : List Request) (l : Ledger) (link : LinkState) (piece : List ℕ) (r : Renewal) → l.end ≡ None → TiedLink (owner_of requests) l link → AllByRecursion (IsEntry requests) link.row → ((p : ℕ) → p < length requests → p ≢ renewal_id) → AreRenewed l r
-    → AreRenewed (has_heard l piece) (replied_each r (deals link piece).out)
-read_renewed requests l link piece r lives tied entries few h =
+-- a link with a row and more items
+row_tied : (name : ℕ → Owner) (l : Ledger) (link : LinkState) (more : List Data) (d : Dealing) → IsDealt name l.starts (l.dealt ++ more) d → TiedLink name l link → TiedLink name (with_items l more) (record link { row = d.row })
+row_tied name l link more d dealt_so h = record {
+  sent = h.sent;
+  offer = h.offer;
+  bound = h.bound;
+  rest = h.rest;
+  broken = h.broken;
+  started = h.started;
+  within = dealt_so.within;
+  bytes = h.bytes;
+  row = λ e. dealt_so.row;
+}
+
+-- more items are dealt
+items_renewed : (requests : List Request) (l : Ledger) (link : LinkState) (more : List Data) (d : Dealing) (r : Renewal) → l.end ≡ None → TiedLink (owner_of requests) l link → AllByRecursion (IsEntry requests) link.row → ((p : ℕ) → p < length requests → p ≢ renewal_id)
+    → IsDealt (owner_of requests) l.starts (l.dealt ++ more) d → AllByRecursion (IsNew (owner_of requests) l.starts l.dealt (l.dealt ++ more)) d.out → settled_ids d.out ++ wanted d.row ≡ wanted link.row → AreRenewed l r
+    → AreRenewed (with_items l more) (replied_each r d.out)
+items_renewed requests l link more d r lives tied entries few dealt_so new kept h =
     by_test r.unanswered (AreRenewed after (replied_each r out)) waiting_reply all_answered
   where
     after : Ledger
-    after = has_heard l piece
+    after = with_items l more
 
     out : List Settled
-    out = (deals link piece).out
-
-    new : AllByRecursion (IsNew (owner_of requests) l.starts l.dealt after.dealt) out
-    new = read_new (owner_of requests) l link piece lives tied
+    out = d.out
 
     lost_still : r.lost ≡ true → IsLost after
-    lost_still x = lost_after l piece h.shaped (h.lost x)
+    lost_still x = lost_after l more h.shaped (h.lost x)
 
     -- all were answered before
     all_answered : r.unanswered ≡ false → AreRenewed after (replied_each r out)
     all_answered u =
-        let none : (s : Settled) → IsReplied l piece s → ⊥ = λ s x. not_both (is_full l x.number) x.was (h.answered u x.number x.start (get_within l.starts x.number x.start x.at) x.at x.is) in
-        subst (AreRenewed after) (sym (none_replied r out (none_settled requests l piece out h.shaped none new))) (record {
+        let none : (s : Settled) → IsReplied l more s → ⊥ = λ s x. not_both (is_full l x.number) x.was (h.answered u x.number x.start (get_within l.starts x.number x.start x.at) x.at x.is) in
+        subst (AreRenewed after) (sym (none_replied r out (none_settled requests l more out h.shaped none new))) (record {
           over_is = h.over_is;
           waits = h.waits;
           some = h.some;
@@ -340,10 +297,10 @@ read_renewed requests l link piece r lives tied entries few h =
           timed_is = h.timed_is;
           next = h.next;
           shaped = h.shaped;
-          answered = λ w. before_after l piece (length l.starts) (h.answered w);
+          answered = λ w. before_after l more (length l.starts) (h.answered w);
           unanswered = λ w. absurd (not_both r.unanswered u w);
           kept = h.kept;
-          taken = λ k w. taken_after l piece (last_renewal l.starts 0 None) refl h.shaped (h.taken k w);
+          taken = λ k w. taken_after l more (last_renewal l.starts 0 None) refl h.shaped (h.taken k w);
           lost = lost_still;
         })
 
@@ -353,7 +310,7 @@ read_renewed requests l link piece r lives tied entries few h =
         let t = h.unanswered u in
         by_test (is_full after t.k) (AreRenewed after (replied_each r out)) (λ full. answered_now u t full) (λ open_is. open_still u t open_is)
       where
-        only_last : (t : IsTold l) (s : Settled) (x : IsReplied l piece s) → x.number ≡ t.k
+        only_last : (t : IsTold l) (s : Settled) (x : IsReplied l more s) → x.number ≡ t.k
         only_last t s x =
             let most = last_behind l t.k x.number x.start t.last x.at x.is in
             by_test (x.number == t.k) (x.number ≡ t.k) (eq_from x.number t.k)
@@ -363,8 +320,8 @@ read_renewed requests l link piece r lives tied entries few h =
 
         open_still : r.unanswered ≡ true → (t : IsTold l) → is_full after t.k ≡ false → AreRenewed after (replied_each r out)
         open_still u t open_is =
-            let none : (s : Settled) → IsReplied l piece s → ⊥ = λ s x. not_both (is_full after t.k) open_is (subst (λ n. is_full after n ≡ true) (only_last t s x) x.full) in
-            subst (AreRenewed after) (sym (none_replied r out (none_settled requests l piece out h.shaped none new))) (record {
+            let none : (s : Settled) → IsReplied l more s → ⊥ = λ s x. not_both (is_full after t.k) open_is (subst (λ n. is_full after n ≡ true) (only_last t s x) x.full) in
+            subst (AreRenewed after) (sym (none_replied r out (none_settled requests l more out h.shaped none new))) (record {
               over_is = h.over_is;
               waits = h.waits;
               some = h.some;
@@ -373,16 +330,16 @@ read_renewed requests l link piece r lives tied entries few h =
               next = h.next;
               shaped = h.shaped;
               answered = λ w. absurd (not_both r.unanswered w u);
-              unanswered = λ w. record { k = t.k; last = t.last; open_is = open_is; earlier = before_after l piece t.k t.earlier };
+              unanswered = λ w. record { k = t.k; last = t.last; open_is = open_is; earlier = before_after l more t.k t.earlier };
               kept = h.kept;
               taken = λ k w. absurd (not_both r.unanswered w u);
               lost = lost_still;
             })
 
-        still_open : (t : IsTold l) → is_full after t.k ≡ true → IsIn renewal_id (row_ids (deals link piece).row) → ⊥
+        still_open : (t : IsTold l) → is_full after t.k ≡ true → IsIn renewal_id (row_ids d.row) → ⊥
         still_open t full i =
-            let rows = row_open (owner_of requests) after (has_read link piece) lives (read_tied (owner_of requests) l link piece lives tied) in
-            let w = wanted_entry (owner_of requests) after _ (has_read link piece).row renewal_id rows i in
+            let rows = row_open (owner_of requests) after (record link { row = d.row }) lives (row_tied (owner_of requests) l link more d dealt_so tied) in
+            let w = wanted_entry (owner_of requests) after _ d.row renewal_id rows i in
             let place = w.open_as.place in
             let is : is_of_renewal place.start.owner ≡ true = ap is_of_renewal place.owned ∙ auth_name requests w.entry.id w.is in
             let most = last_behind l t.k w.number place.start t.last place.stands is in
@@ -390,7 +347,7 @@ read_renewed requests l link piece r lives tied entries few h =
             (λ same. not_both (is_full after w.number) w.open_as.takes_more (subst (λ n. is_full after n ≡ true) (sym (eq_from w.number t.k same)) full))
             (λ f.
             let other = ne_from w.number t.k f in
-            not_both (is_full after w.number) w.open_as.takes_more (full_still l piece w.number (t.earlier w.number place.start (omega arith) place.stands is)))
+            not_both (is_full after w.number) w.open_as.takes_more (full_more l more w.number (t.earlier w.number place.start (omega arith) place.stands is)))
 
         first_not : (a b : Bool) → (a || not b) ≡ false → a ≡ false
         first_not true b e = cc
@@ -410,12 +367,11 @@ read_renewed requests l link piece r lives tied entries few h =
         answered_now u t full =
             let done = is_taken_so (verdict_of Confirmation (cut after t.k Confirmation)) in
             let before = told_in_row requests l link t.k lives tied entries few t.last t.open_is in
-            let kept = items_keep (record { row = link.row; out = [] }) (items (link.rest ++ piece)) in
-            let there : IsIn renewal_id (settled_ids out) = elim (in_either renewal_id (settled_ids out) (wanted (deals link piece).row) (subst (IsIn renewal_id) (sym kept) before)) [
+            let there : IsIn renewal_id (settled_ids out) = elim (in_either renewal_id (settled_ids out) (wanted d.row) (subst (IsIn renewal_id) (sym kept) before)) [
               | inl i ↦ i
-              | inr i ↦ absurd (still_open t full (wanted_in renewal_id (deals link piece).row i))
+              | inr i ↦ absurd (still_open t full (wanted_in renewal_id d.row i))
             ] in
-            subst (AreRenewed after) (sym (some_replied r done out there (all_say requests l piece out t.k h.shaped (λ s x. only_last t s x) new))) (record {
+            subst (AreRenewed after) (sym (some_replied r done out there (all_say requests l more out t.k h.shaped (λ s x. only_last t s x) new))) (record {
               over_is = h.over_is;
               waits = h.waits;
               some = h.some;
@@ -426,9 +382,22 @@ read_renewed requests l link piece r lives tied entries few h =
               answered = λ w j s less at is.
                   let most = last_behind l t.k j s t.last at is in
                   by_test (j == t.k) (is_full after j ≡ true) (λ same. subst (λ n. is_full after n ≡ true) (sym (eq_from j t.k same)) full)
-                  (λ f. let other = ne_from j t.k f in full_still l piece j (t.earlier j s (omega arith) at is));
+                  (λ f. let other = ne_from j t.k f in full_more l more j (t.earlier j s (omega arith) at is));
               unanswered = λ w. cc w;
               kept = λ k. h.kept (first_not r.lost done k);
               taken = λ k w. ap (is_taken after) t.last ∙ (λ i. full i && second_not r.lost done k i);
               lost = λ x. by_test r.lost (IsLost after) lost_still (λ f. inr (t.k, t.last, full, third_not r.lost done f x));
             })
+
+-- bytes come
+pub read_renewed : (requests : List Request) (h : Hearing) (l : Ledger) (link : LinkState) (piece : List ℕ) (r : Renewal) → l.end ≡ None → ReadsAlike h true l link piece → TiedLink (owner_of requests) l link → AllByRecursion (IsEntry requests) link.row
+    → ((p : ℕ) → p < length requests → p ≢ renewal_id) → AreRenewed l r → AreRenewed (has_heard l piece) (replied_each r (deals h true link piece).out)
+read_renewed requests h l link piece r lives alike tied entries few renewed =
+    let name = owner_of requests in
+    let d = deals h true link piece in
+    let now = replied_each r d.out in
+    holds_came (λ (m : Ledger). IsDealt name m.starts m.dealt d → AllByRecursion (IsNew name l.starts l.dealt m.dealt) d.out → AreRenewed (record m { heard = came piece }) now) l (bytes_came l piece) (bytes_are l piece)
+    (λ rest strange told more dealt_so new.
+    renewed_alike (with_items l more) (record (grown l rest strange told more) { heard = came piece }) now refl refl refl
+    (items_renewed requests l link more d r lives tied entries few dealt_so new (taken_keeps h true (dealing_with link.row) (values (link.rest ++ piece))) renewed))
+    (read_taken name h true l link piece lives alike tied).deals (read_new name h true l link piece lives alike tied)

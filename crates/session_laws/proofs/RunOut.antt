@@ -55,7 +55,7 @@ spent_up b t h e = by_life t.life h.life e
     by_life : (life : Life) → TiedLife (b.link t.link) b.created life → is_spent_in life ≡ true → (b.link t.link).up ≡ true
     by_life Dialing k s = absurd (let far = le_from (2 ^ 32) 0 s in omega arith)
     by_life (Wanting link) k s = k.1
-    by_life (SettingUp link with_user) k s = k.1
+    by_life (SettingUp link greeting) k s = k.1
     by_life (Ready link) k s = k.1
     by_life (Ended x) k s = absurd (let far = le_from (2 ^ 32) 0 s in omega arith)
 
@@ -66,7 +66,7 @@ up_started b t h up = by_life t.life h.life h.link
     by_life : (life : Life) → TiedLife (b.link t.link) b.created life → (has_ended life ≡ false → TiedLink (carried life t.requests) (b.link t.link) (whole_link life)) → started_in life ≡ length (b.link t.link).starts
     by_life Dialing k tied = absurd (not_both (b.link t.link).up k.1 up)
     by_life (Wanting link) k tied = (tied refl).started
-    by_life (SettingUp link with_user) k tied = (tied refl).started
+    by_life (SettingUp link greeting) k tied = (tied refl).started
     by_life (Ready link) k tied = (tied refl).started
     by_life (Ended x) k tied = absurd (not_both (b.link t.link).up k.0 up)
 
@@ -268,7 +268,7 @@ last_asked b t n conn life renewal h few (inr more) many = by_life t.life refl
     by_life : (x : Life) → t.life ≡ x → 2 ^ 32 ≤ renewals_asked (b.link t.link)
     by_life Dialing e = absurd (not_both (is_ready t.life) (ap is_ready e) ready)
     by_life (Wanting link) e = absurd (not_both (is_ready t.life) (ap is_ready e) ready)
-    by_life (SettingUp link with_user) e = absurd (not_both (is_ready t.life) (ap is_ready e) ready)
+    by_life (SettingUp link greeting) e = absurd (not_both (is_ready t.life) (ap is_ready e) ready)
     by_life (Ended x) e = absurd (not_both (is_ready t.life) (ap is_ready e) ready)
     by_life (Ready link) e =
         let l = b.link t.link in
@@ -299,7 +299,7 @@ book_asked b t h waits many = by_life t.life refl
     by_life : (x : Life) → t.life ≡ x → 2 ^ 32 ≤ t.renewal.asked
     by_life Dialing e = absurd (none (subst (TiedRenewal l t.renewal) e h.renewal))
     by_life (Wanting link) e = absurd (none (subst (TiedRenewal l t.renewal) e h.renewal))
-    by_life (SettingUp link with_user) e = absurd (none (subst (TiedRenewal l t.renewal) e h.renewal))
+    by_life (SettingUp link greeting) e = absurd (none (subst (TiedRenewal l t.renewal) e h.renewal))
     by_life (Ended x) e =
         let few = (subst (TiedRenewal l t.renewal) e h.renewal).1 in
         let down = (subst (TiedLife l b.created) e h.life).0 in

@@ -1,28 +1,31 @@
 -- How far the setup of a link has come: what it stands on, and what it is to the end of the link.
-use Rattle.std.proofs.Common.{◌≡◌, ◌≢◌, inl, inr, ℕ, zero, suc, ◌==◌, Bool, true, false, ◌&&◌, not, if◌then◌else◌, List, [], ◌++◌, take, Option, None, Some, refl, sym, ap, ◌∙◌, subst, ◌⊎◌}
-use Rattle.std.specs.List.{AllByRecursion}
+use Rattle.std.proofs.Common.{◌≡◌, ◌≢◌, inl, inr, ℕ, ◌==◌, Bool, true, false, ◌&&◌, not, if◌then◌else◌, List, [], ◌++◌, take, Option, None, Some, refl, sym, ap, ◌∙◌, subst, ◌⊎◌, ◌||◌}
 use Rattle.containers.proofs.Choices.{by_test, chosen, taken_if, left_if, if_false, both_left, both_right, eq_from, ne_from, not_both}
 use Rattle.redis_error.specs.declared.redis_error.RedisError.{RedisError}
 use Rattle.redis_error.specs.declared.redis_error.RedisError.TheVariants as error
 use Rattle.connection_info.specs.declared.address.RedisConnectionInfo.{RedisConnectionInfo}
-use Rattle.connection_setup.specs.declared.judgement.SetupResult.TheVariants.{Ready as Well, Failed}
-use Rattle.driver_model.specs.Setup.{says_nothing}
+use Rattle.connection_setup.specs.declared.judgement.SetupResult.TheVariants.{Failed}
 use Rattle.driver_model.specs.declared.action.Owner.TheVariants as owner
-use Rattle.driver_model.specs.News.{News, silence, connected, refused, overdue, took, came, failed, authorized, denied, deserted, shut, renewed, unrenewed, late}
-use Rattle.link_core.specs.declared.message.Entry.{Entry}
+use Rattle.driver_model.specs.News.{News, silence, connected, refused, overdue, took, came, failed, authorized, denied, deserted, shut, renewed, unrenewed, late, dropped}
 use Rattle.link_core.specs.Link.{LinkState}
 use Rattle.link_laws.proofs.TiedLink.{TiedLink}
+use Rattle.mux_conn.specs.declared.life.Greeting.{Greeting}
 use Rattle.mux_conn.specs.declared.life.Life.{Life}
 use Rattle.mux_conn.specs.declared.life.Life.TheVariants.{Dialing, Wanting, SettingUp, Ready, Ended}
 use Rattle.mux_conn.specs.declared.request.Request.{Request}
-use Rattle.legal_trace.specs.Ledger.{Ledger, End, Ending, by_opening, hears, noted, authorized_by, awaits_credentials, is_over, dials, refused_in, bytes_came, ending, ending_up, ending_asked, ending_unready, ending_by, ending_alive, error_in, is_well, is_set_up, is_ready, lacks_credentials, last_result, setup_after, setup_count, setup_result, setup_steps, is_renewal_open, lost_by, may_renew, renewed_by, unrenewed_by, source_due}
-use Rattle.legal_trace.proofs.Setups.{IsUndecided, ends_where_set}
+use Rattle.legal_trace.specs.Ledger.{Ledger, End, Ending, by_opening, hears, noted, authorized_by, awaits_credentials, is_over, dials, refused_in, bytes_came, ending, ending_up, ending_asked, ending_unready, ending_by, ending_alive, error_in, is_well, is_set_up, is_ready, lacks_credentials, setup_after, setup_result, is_renewal_open, lost_by, may_renew, renewed_by, unrenewed_by, source_due, is_unreadable, opening_error, by_fault, Heard}
+use Rattle.legal_trace.proofs.Setups.{ends_where_set, ungreeted_is_unset}
 use Rattle.legal_trace.specs.Book.{Book}
 use Rattle.legal_trace.specs.Legal.{ReadyIsShown, SourcesAreAsked}
-use Rattle.session_laws.proofs.Creds.{down_unawaited, lacking_undecided, unawaited_is, wanting_lacks, down_may_renew, down_sourced, asked_sourced, has_sourced, ready_sourced}
-use Rattle.session_laws.proofs.SetUp.{not_set_up}
-use Rattle.session_laws.proofs.Tied.{AreSought, Inner, HasSaid, IsSettingUp, Tied, TiedLife, TiedSetup, carried, owner_of, whole_link, TiedPushes}
+use Rattle.session_laws.proofs.Creds.{down_unawaited, unawaited_is, wanting_lacks, down_may_renew, down_sourced, asked_sourced, has_sourced, ready_sourced}
+use Rattle.session_laws.proofs.SetUp.{not_set_up, lacking_unset, IsUnset}
+use Rattle.session_laws.proofs.Tied.{AreSought, Inner, HasSaid, Tied, TiedLife, TiedSetup, carried, owner_of, whole_link, TiedNotices, IsGreeting, greeter, is_reading, brings_bytes}
 use Rattle.credentials.specs.Credentials.{Credentials}
+use Rattle.session_laws.proofs.SameSaid.{SameSaid, after_alike, greeting_link, said_alike, set_alike, setup_alike}
+use Rattle.driver_model.specs.declared.hearing.Hearing.{Hearing}
+use Rattle.driver_model.specs.Hearing.{felt, hears_messages}
+use Rattle.driver_model.specs.declared.news.LinkFault.TheVariants as fault
+use Rattle.resp_read.specs.Values.{is_spoiled}
 
 -- whose messages a link carries
 --
@@ -30,7 +33,7 @@ use Rattle.credentials.specs.Credentials.{Credentials}
 pub carried_same : (life : Life) (requests other : List Request) → owner_of requests ≡ owner_of other → carried life requests ≡ carried life other
 carried_same Dialing requests other e = λ i p. e i p
 carried_same (Wanting link) requests other e = λ i p. owner.Setup
-carried_same (SettingUp link with_user) requests other e = λ i p. owner.Setup
+carried_same (SettingUp link greeting) requests other e = λ i p. greeter greeting
 carried_same (Ready link) requests other e = λ i p. e i p
 carried_same (Ended x) requests other e = λ i p. e i p
 
@@ -44,42 +47,25 @@ carried_tied life requests other l e h = subst (λ name. TiedLink name l (whole_
 abbrev pub retold : Ledger → Bool → Bool → Option End → List ℕ → List ℕ → List ℕ → News → Ledger
 retold l asked up end taken offer rest heard = record l { asked = asked; up = up; end = end; taken = taken; offer = offer; rest = rest; heard = heard }
 
+-- the same is said of it
+retold_said : (l : Ledger) (asked up : Bool) (end : Option End) (taken offer rest : List ℕ) (heard : News) → SameSaid l (retold l asked up end taken offer rest heard)
+retold_said l asked up end taken offer rest heard = record { starts = refl; dealt = refl; info = refl; hearing = refl; wanted = refl; given = refl }
+
 -- what is due next there
 pub after_on : (l : Ledger) (asked up : Bool) (end : Option End) (taken offer rest : List ℕ) (heard : News) (n : ℕ) → setup_after (retold l asked up end taken offer rest heard) n ≡ setup_after l n
-after_on l asked up end taken offer rest heard zero = refl
-after_on l asked up end taken offer rest heard (suc zero) = refl
-after_on l asked up end taken offer rest heard (suc (suc k)) = refl
+after_on l asked up end taken offer rest heard n = after_alike l (retold l asked up end taken offer rest heard) (retold_said l asked up end taken offer rest heard) n
 
--- and what the last setup came to
-last_on : (l : Ledger) (asked up : Bool) (end : Option End) (taken offer rest : List ℕ) (heard : News) (n : ℕ) → last_result (retold l asked up end taken offer rest heard) n ≡ last_result l n
-last_on l asked up end taken offer rest heard zero = refl
-last_on l asked up end taken offer rest heard (suc k) = refl
-
--- are the same
+-- and what the last setup came to are the same
 pub result_on : (l : Ledger) (asked up : Bool) (end : Option End) (taken offer rest : List ℕ) (heard : News) → setup_result (retold l asked up end taken offer rest heard) ≡ setup_result l
-result_on l asked up end taken offer rest heard = λ i. if lacks_credentials l then None else if says_nothing (setup_steps l 0) then Some Well else last_on l asked up end taken offer rest heard (setup_count l.starts) i
+result_on l asked up end taken offer rest heard = setup_alike l (retold l asked up end taken offer rest heard) (retold_said l asked up end taken offer rest heard)
 
 -- so is whether it is set up
 pub well_on : (l : Ledger) (asked up : Bool) (end : Option End) (taken offer rest : List ℕ) (heard : News) → is_set_up (retold l asked up end taken offer rest heard) ≡ is_set_up l
-well_on l asked up end taken offer rest heard = ap is_well (result_on l asked up end taken offer rest heard)
+well_on l asked up end taken offer rest heard = set_alike l (retold l asked up end taken offer rest heard) (retold_said l asked up end taken offer rest heard)
 
 -- and how far it has come
 pub said_on : (l : Ledger) (asked up : Bool) (end : Option End) (taken offer rest : List ℕ) (heard : News) (started : List ℕ) (life : Life) → HasSaid l started life → HasSaid (retold l asked up end taken offer rest heard) started life
-said_on l asked up end taken offer rest heard started Dialing h = h
-said_on l asked up end taken offer rest heard started (Wanting link) h = h
-said_on l asked up end taken offer rest heard started (SettingUp link with_user) h = (
-  h.0,
-  record {
-    says = h.1.says;
-    stage = elim h.1.stage [
-      | inl d ↦ inl (record { due = after_on l asked up end taken offer rest heard (setup_count l.starts) ∙ d.due; user = d.user; queue = d.queue; row = d.row })
-      | inr s ↦ inr (record { k = s.k; few = s.few; count = s.count; user = s.user; queue = s.queue; earlier = s.earlier; open_is = s.open_is })
-    ];
-    awaited = h.1.awaited;
-  },
-)
-said_on l asked up end taken offer rest heard started (Ready link) h = record { well = well_on l asked up end taken offer rest heard ∙ h.well; none = h.none }
-said_on l asked up end taken offer rest heard started (Ended e) h = tt
+said_on l asked up end taken offer rest heard started life h = said_alike l (retold l asked up end taken offer rest heard) started life (retold_said l asked up end taken offer rest heard) h
 
 -- with all that is known of it
 pub setup_on : (l : Ledger) (asked up : Bool) (end : Option End) (taken offer rest : List ℕ) (heard : News) (info : RedisConnectionInfo) (started : List ℕ) (life : Life) → TiedSetup l info started life
@@ -87,21 +73,11 @@ pub setup_on : (l : Ledger) (asked up : Bool) (end : Option End) (taken offer re
 setup_on l asked up end taken offer rest heard info started life h = record { info_is = h.info_is; sent = h.sent; said = said_on l asked up end taken offer rest heard started life h.said }
 
 -- on a link with the same messages
-pub setup_link : (l : Ledger) (info : RedisConnectionInfo) (started : List ℕ) (link after : LinkState) (with_user : Bool) → after.queue ≡ link.queue → after.row ≡ link.row → TiedSetup l info started (SettingUp link with_user) → TiedSetup l info started (SettingUp after with_user)
-setup_link l info started link after with_user queue row h = record {
+pub setup_link : (l : Ledger) (info : RedisConnectionInfo) (started : List ℕ) (link after : LinkState) (greeting : Greeting) → after.queue ≡ link.queue → after.row ≡ link.row → TiedSetup l info started (SettingUp link greeting) → TiedSetup l info started (SettingUp after greeting)
+setup_link l info started link after greeting queue row h = record {
   info_is = h.info_is;
   sent = h.sent;
-  said = (
-    h.said.0,
-    record {
-      says = h.said.1.says;
-      stage = elim h.said.1.stage [
-        | inl d ↦ inl (record { due = d.due; user = d.user; queue = queue ∙ d.queue; row = row ∙ d.row })
-        | inr s ↦ inr (record { k = s.k; few = s.few; count = s.count; user = s.user; queue = queue ∙ s.queue; earlier = s.earlier; open_is = s.open_is })
-      ];
-      awaited = subst (AllByRecursion (λ (e : Entry). e.awaited ≡ true)) (sym row) h.said.1.awaited;
-    },
-  );
+  said = (h.said.0, greeting_link l link after greeting queue row h.said.1);
 }
 
 -- also where it waits for credentials
@@ -116,15 +92,9 @@ setup_ready l info started link after h = record { info_is = h.info_is; sent = h
 abbrev pub recredited : Ledger → Bool → Bool → List Credentials → Bool → ℕ → Bool → Ledger
 recredited l asked renews renewals over timed lost = record l { creds = record l.creds { asked = asked; renews = renews; renewals = renewals; over = over; timed = timed; lost = lost } }
 
--- what the last setup came to
-last_recredited : (l : Ledger) (asked renews : Bool) (renewals : List Credentials) (over : Bool) (timed : ℕ) (lost : Bool) (n : ℕ) → last_result (recredited l asked renews renewals over timed lost) n ≡ last_result l n
-last_recredited l asked renews renewals over timed lost zero = refl
-last_recredited l asked renews renewals over timed lost (suc k) = refl
-
--- and whether it is set up are the same
+-- whether it is set up is the same
 pub well_recredited : (l : Ledger) (asked renews : Bool) (renewals : List Credentials) (over : Bool) (timed : ℕ) (lost : Bool) → is_set_up (recredited l asked renews renewals over timed lost) ≡ is_set_up l
-well_recredited l asked renews renewals over timed lost =
-    ap is_well (λ i. if lacks_credentials l then None else if says_nothing (setup_steps l 0) then Some Well else last_recredited l asked renews renewals over timed lost (setup_count l.starts) i)
+well_recredited l asked renews renewals over timed lost = set_alike l (recredited l asked renews renewals over timed lost) (record { starts = refl; dealt = refl; info = refl; hearing = refl; wanted = refl; given = refl })
 
 -- so is all that is known of the setup of one that is set up
 pub setup_recredited : (l : Ledger) (asked renews : Bool) (renewals : List Credentials) (over : Bool) (timed : ℕ) (lost : Bool) (info : RedisConnectionInfo) (started : List ℕ) (link : LinkState) → TiedSetup l info started (Ready link)
@@ -158,6 +128,7 @@ BringsNothing (took count) = Unit {0}
 BringsNothing (failed f) = Unit {0}
 BringsNothing (denied text) = Unit {0}
 BringsNothing deserted = Unit {0}
+BringsNothing dropped = Unit {0}
 BringsNothing shut = Unit {0}
 
 -- so it does
@@ -185,6 +156,7 @@ setup_hears l turn unrenewed info started life k h = absurd k
 setup_hears l turn (late m) info started life k h = absurd k
 setup_hears l turn (denied text) info started life k h = setup_on l l.asked l.up l.end l.taken l.offer l.rest (denied text) info started life h
 setup_hears l turn deserted info started life k h = setup_on l l.asked l.up l.end l.taken l.offer l.rest deserted info started life h
+setup_hears l turn dropped info started life k h = setup_on l l.asked l.up l.end l.taken l.offer l.rest dropped info started life h
 setup_hears l turn shut info started life k h = setup_on l l.asked l.up l.end l.taken l.offer l.rest shut info started life h
 
 -- and so do bytes and credentials, where the link isn't up
@@ -207,68 +179,133 @@ setup_unheard l turn (late m) info started life down h =
     if_false (λ (x : Ledger). TiedSetup (record x { heard = late m }) info started life) (l.up && is_renewal_open l m) (lost_by l) l (ap (λ u. u && is_renewal_open l m) down) (setup_on l l.asked l.up l.end l.taken l.offer l.rest (late m) info started life h)
 setup_unheard l turn (denied text) info started life down h = setup_hears l turn (denied text) info started life tt h
 setup_unheard l turn deserted info started life down h = setup_hears l turn deserted info started life tt h
+setup_unheard l turn dropped info started life down h = setup_hears l turn dropped info started life tt h
 setup_unheard l turn shut info started life down h = setup_hears l turn shut info started life tt h
 
 -- what is still to be told of a link stays
 --
--- what is told of its pushes, in a record of its ledger
-abbrev pub PushesOf : Bool → Bool → Ledger → Type 0
-PushesOf heard mine l = TiedPushes heard mine l.pushes l.told l.end l.parted [] false
+-- what is told of its notices, in a record of its ledger
+abbrev pub PushesOf : Hearing → Hearing → Ledger → Type 0
+PushesOf heard mine l = TiedNotices heard mine l.hearing l.notices l.told l.end l.parted l.strange (is_reading l) [] false
+
+-- another turn brings it, where no value came that ends the link
+pub renoticed : {heard hears hearing : Hearing} {notices : List Heard} {told : ℕ} {end : Option End} {parted strange was now : Bool} {untold : List Heard} {parting : Bool} → (end ≡ None → strange ≡ false)
+    → TiedNotices heard hears hearing notices told end parted strange was untold parting → TiedNotices heard hears hearing notices told end parted strange now untold parting
+renoticed tame h = record { heard_is = h.heard_is; hearing_is = h.hearing_is; within = h.within; untold_is = h.untold_is; parts = h.parts; alive = h.alive; due = h.due; tame = λ e r. tame e }
+
+-- no value came that ends the link, where it has not ended
+abbrev pub IsTame : Ledger → Type 0
+IsTame l = l.end ≡ None → l.strange ≡ false
 
 -- so it does whatever news come that bring a link that is up nothing
-pub pushes_hear : (l : Ledger) (turn : ℕ) (n : News) (heard mine : Bool) → BringsNothing n ⊎ (l.up ≡ false) → PushesOf heard mine l → PushesOf heard mine (noted l (hears turn n))
-pushes_hear l turn silence heard mine k h = h
-pushes_hear l turn overdue heard mine k h = h
-pushes_hear l turn (refused f) heard mine k h =
-    chosen (λ (x : Ledger). PushesOf heard mine x) (dials l) (refused_in l turn (error.Io f)) l
-    (λ t. record { heard_is = h.heard_is; within = h.within; untold_is = h.untold_is; parts = λ y d cut. cc; alive = λ e. cc; due = h.due })
-    (λ t. h)
-pushes_hear l turn connected heard mine k h = chosen (λ (x : Ledger). PushesOf heard mine x) (is_over l) l (record l { up = true }) (λ t. h) (λ f. h)
-pushes_hear l turn (took count) heard mine k h = chosen (λ (x : Ledger). PushesOf heard mine x) l.up (record l { taken = l.taken ++ take count l.offer; offer = [] }) l (λ t. h) (λ f. h)
-pushes_hear l turn (came piece) heard mine k h = elim k [
+pub pushes_hear : (l : Ledger) (turn : ℕ) (n : News) (heard mine : Hearing) → IsTame l → BringsNothing n ⊎ (l.up ≡ false) → PushesOf heard mine l → PushesOf heard mine (noted l (hears turn n))
+pushes_hear l turn silence heard mine tame k h = renoticed tame h
+pushes_hear l turn overdue heard mine tame k h = renoticed tame h
+pushes_hear l turn (refused f) heard mine tame k h =
+    chosen (λ (x : Ledger). PushesOf heard mine (record x { heard = refused f })) (dials l) (refused_in l turn (error.Io f)) l
+    (λ t. record { heard_is = h.heard_is; hearing_is = h.hearing_is; within = h.within; untold_is = h.untold_is; parts = λ y d cut. cc; alive = λ e. cc; due = h.due; tame = λ e. cc })
+    (λ t. renoticed tame h)
+pushes_hear l turn connected heard mine tame k h = chosen (λ (x : Ledger). PushesOf heard mine (record x { heard = connected })) (is_over l) l (record l { up = true }) (λ t. renoticed tame h) (λ f. renoticed tame h)
+pushes_hear l turn (took count) heard mine tame k h = chosen (λ (x : Ledger). PushesOf heard mine (record x { heard = took count })) l.up (record l { taken = l.taken ++ take count l.offer; offer = [] }) l (λ t. renoticed tame h) (λ f. renoticed tame h)
+pushes_hear l turn (came piece) heard mine tame k h = elim k [
   | inl piece_is ↦ absurd piece_is
-  | inr down ↦ if_false (λ (x : Ledger). PushesOf heard mine x) l.up (bytes_came l piece) l down h
+  | inr down ↦ if_false (λ (x : Ledger). PushesOf heard mine (record x { heard = came piece })) l.up (bytes_came l piece) l down (renoticed tame h)
 ]
-pushes_hear l turn (failed f) heard mine k h = h
-pushes_hear l turn (authorized c) heard mine k h = chosen (λ (x : Ledger). PushesOf heard mine x) (awaits_credentials l) (authorized_by l c) l (λ t. h) (λ f. h)
-pushes_hear l turn (renewed c) heard mine k h = chosen (λ (x : Ledger). PushesOf heard mine x) (may_renew l) (renewed_by l c) l (λ t. h) (λ f. h)
-pushes_hear l turn unrenewed heard mine k h = chosen (λ (x : Ledger). PushesOf heard mine x) l.up (unrenewed_by l) l (λ t. h) (λ f. h)
-pushes_hear l turn (late m) heard mine k h = chosen (λ (x : Ledger). PushesOf heard mine x) (l.up && is_renewal_open l m) (lost_by l) l (λ t. h) (λ f. h)
-pushes_hear l turn (denied text) heard mine k h = h
-pushes_hear l turn deserted heard mine k h = h
-pushes_hear l turn shut heard mine k h = h
+pushes_hear l turn (failed f) heard mine tame k h = renoticed tame h
+pushes_hear l turn (authorized c) heard mine tame k h = chosen (λ (x : Ledger). PushesOf heard mine (record x { heard = authorized c })) (awaits_credentials l) (authorized_by l c) l (λ t. renoticed tame h) (λ f. renoticed tame h)
+pushes_hear l turn (renewed c) heard mine tame k h = chosen (λ (x : Ledger). PushesOf heard mine (record x { heard = renewed c })) (may_renew l) (renewed_by l c) l (λ t. renoticed tame h) (λ f. renoticed tame h)
+pushes_hear l turn unrenewed heard mine tame k h = chosen (λ (x : Ledger). PushesOf heard mine (record x { heard = unrenewed })) l.up (unrenewed_by l) l (λ t. renoticed tame h) (λ f. renoticed tame h)
+pushes_hear l turn (late m) heard mine tame k h = chosen (λ (x : Ledger). PushesOf heard mine (record x { heard = late m })) (l.up && is_renewal_open l m) (lost_by l) l (λ t. renoticed tame h) (λ f. renoticed tame h)
+pushes_hear l turn (denied text) heard mine tame k h = renoticed tame h
+pushes_hear l turn deserted heard mine tame k h = renoticed tame h
+pushes_hear l turn dropped heard mine tame k h = renoticed tame h
+pushes_hear l turn shut heard mine tame k h = renoticed tame h
+
+-- what ends by an error, or by this, by nothing ends
+both_none : (x : Option RedisError) (y : Option Ending) → ending_by x y ≡ None → y ≡ None
+both_none None y e = e
+both_none (Some z) y e = cc
+
+-- what doesn't end a link isn't there
+unended : (b : Bool) (why : Ending) → (if b then Some why else None) ≡ None → b ≡ false
+unended true why e = cc
+unended false why e = refl
+
+-- what ends nothing was no value that ends
+no_ending : (l : Ledger) (piece : List ℕ) → l.up ≡ true → (let m = record l { heard = came piece } in ending m ≡ None) → l.strange ≡ false
+no_ending l piece up none =
+    let m = record l { heard = came piece } in
+    let alive : ending_alive m ≡ None = sym (taken_if m.up (ending_alive m) _ up) ∙ none in
+    let unready : is_unreadable m ≡ false =
+    by_test (is_set_up m) _
+    (λ t. unended (is_unreadable m) (by_fault (felt m.hearing fault.Parse)) (sym (taken_if (is_set_up m) (ending_up m (came piece)) _ t) ∙ alive))
+    (λ f. unended (is_unreadable m) (by_opening (opening_error m fault.Parse)) (both_none (error_in (setup_result m)) (ending_unready m (came piece)) (sym (left_if (is_set_up m) (ending_up m (came piece)) (ending_by (error_in (setup_result m)) (ending_unready m (came piece))) f) ∙ alive))) in
+    right_false (is_spoiled l.rest) l.strange unready
+  where
+    right_false : (p q : Bool) → (p || q) ≡ false → q ≡ false
+    right_false true q e = cc
+    right_false false q e = e
+
+-- so no such value came where nothing must end
+pub is_tame : (b : Book) (t : Inner) → Tied b t → ending (b.link t.link) ≡ None → IsTame (b.link t.link)
+is_tame b t h none lives = by_news (b.link t.link).heard refl
+  where
+    l : Ledger
+    l = b.link t.link
+
+    other : (n : News) → l.heard ≡ n → brings_bytes n ≡ false → l.strange ≡ false
+    other n e q = h.notices.tame lives (ap (λ x. brings_bytes x && l.up) e ∙ ap (λ x. x && l.up) q)
+
+    by_news : (n : News) → l.heard ≡ n → l.strange ≡ false
+    by_news (came piece) e = by_test l.up _
+        (λ up. no_ending l piece up (ap (λ (x : News). ending (record l { heard = x })) (sym e) ∙ none))
+        (λ down. h.notices.tame lives (ap (λ x. brings_bytes x && l.up) e ∙ down))
+    by_news silence e = other silence e refl
+    by_news connected e = other connected e refl
+    by_news (refused f) e = other (refused f) e refl
+    by_news overdue e = other overdue e refl
+    by_news (took count) e = other (took count) e refl
+    by_news (failed f) e = other (failed f) e refl
+    by_news (authorized c) e = other (authorized c) e refl
+    by_news (denied text) e = other (denied text) e refl
+    by_news deserted e = other deserted e refl
+    by_news (renewed c) e = other (renewed c) e refl
+    by_news unrenewed e = other unrenewed e refl
+    by_news (late k) e = other (late k) e refl
+    by_news dropped e = other dropped e refl
+    by_news shut e = other shut e refl
 
 -- what ends a link
 --
 -- whose setup has come to nothing yet
-ending_undecided : (l : Ledger) → l.up ≡ true → IsUndecided (setup_result l) → ending l ≡ ending_unready l l.heard
-ending_undecided l up r =
-    taken_if l.up (ending_alive l) _ up ∙ left_if (is_set_up l) (ending_up l l.heard) _ r.unwell ∙ ap (λ x. ending_by x (ending_unready l l.heard)) r.no_error
+ending_unset : (l : Ledger) → l.up ≡ true → IsUnset l → ending l ≡ ending_unready l l.heard
+ending_unset l up r =
+    taken_if l.up (ending_alive l) _ up ∙ left_if (is_set_up l) (ending_up l l.heard) _ r.unset ∙ ap (λ x. ending_by x (ending_unready l l.heard)) r.no_error
 
 -- that is set up still
-pub ending_setting : (l : Ledger) (link : LinkState) (with_user : Bool) → l.up ≡ true → IsSettingUp l link with_user → ending l ≡ ending_unready l l.heard
-ending_setting l link with_user up h = ending_undecided l up (not_set_up l link with_user h)
+pub ending_setting : (l : Ledger) (link : LinkState) (greeting : Greeting) → l.up ≡ true → IsGreeting l link greeting → ending l ≡ ending_unready l l.heard
+ending_setting l link greeting up h = ending_unset l up (not_set_up l link greeting h)
 
 -- or waits for credentials
 pub ending_wanting : (l : Ledger) → l.up ≡ true → lacks_credentials l ≡ true → ending l ≡ ending_unready l l.heard
-ending_wanting l up lacks = ending_undecided l up (lacking_undecided l lacks)
+ending_wanting l up lacks = ending_unset l up (lacking_unset l lacks)
 
 -- once it has heard something
 pub ready_heard : (l : Ledger) (n : News) → l.up ≡ true → is_set_up l ≡ true → ending (record l { heard = n }) ≡ ending_up (record l { heard = n }) n
 ready_heard l n up well = ends_where_set (record l { heard = n }) up (well_on l l.asked l.up l.end l.taken l.offer l.rest n ∙ well)
 
 -- it is set up still once it has heard something
-pub setting_told : (l : Ledger) (n : News) (link : LinkState) (with_user : Bool) → IsSettingUp l link with_user → IsSettingUp (record l { heard = n }) link with_user
-setting_told l n link with_user s = let k = said_on l l.asked l.up l.end l.taken l.offer l.rest n [] (SettingUp link with_user) (refl, s) in k.1
+pub setting_told : (l : Ledger) (n : News) (link : LinkState) (greeting : Greeting) → IsGreeting l link greeting → IsGreeting (record l { heard = n }) link greeting
+setting_told l n link greeting s = let k = said_on l l.asked l.up l.end l.taken l.offer l.rest n [] (SettingUp link greeting) (refl, s) in k.1
 
 -- and is ended by what it has heard
-pub setting_heard : (l : Ledger) (n : News) (link : LinkState) (with_user : Bool) → l.up ≡ true → IsSettingUp l link with_user → ending (record l { heard = n }) ≡ ending_unready (record l { heard = n }) n
-setting_heard l n link with_user up s = ending_setting (record l { heard = n }) link with_user up (setting_told l n link with_user s)
+pub setting_heard : (l : Ledger) (n : News) (link : LinkState) (greeting : Greeting) → l.up ≡ true → IsGreeting l link greeting → ending (record l { heard = n }) ≡ ending_unready (record l { heard = n }) n
+setting_heard l n link greeting up s = ending_setting (record l { heard = n }) link greeting up (setting_told l n link greeting s)
 
 -- whose setup failed
 pub ending_failed : (l : Ledger) (e : RedisError) → l.up ≡ true → setup_result l ≡ Some (Failed e) → ending l ≡ Some (by_opening e)
 ending_failed l e up r =
-    taken_if l.up (ending_alive l) _ up ∙ left_if (is_set_up l) (ending_up l l.heard) _ (ap is_well r) ∙ ap (λ x. ending_by (error_in x) (ending_unready l l.heard)) r
+    taken_if l.up (ending_alive l) _ up ∙ left_if (is_set_up l) (ending_up l l.heard) _ (ungreeted_is_unset l (ap is_well r)) ∙ ap (λ x. ending_by (error_in x) (ending_unready l l.heard)) r
 
 -- news that end nothing
 --
@@ -303,10 +340,10 @@ mild_up l taken offer n mild none up =
     ∙ ap (λ x. ending_by x (ending_unready m n)) (none_failed l none up f) ∙ mild.1)
 
 -- nor does one that isn't
-mild_down : (l : Ledger) (taken offer : List ℕ) (n : News) → ending_asked n ≡ None → l.up ≡ false → ending (record l { taken = taken; offer = offer; heard = n }) ≡ None
+mild_down : (l : Ledger) (taken offer : List ℕ) (n : News) → ending_asked (record l { taken = taken; offer = offer; heard = n }) n ≡ None → l.up ≡ false → ending (record l { taken = taken; offer = offer; heard = n }) ≡ None
 mild_down l taken offer n mild down =
     left_if l.up (ending_alive (record l { taken = taken; offer = offer; heard = n })) _ down
-    ∙ chosen (λ (x : Option Ending). x ≡ None) (l.asked && not (is_over l)) (ending_asked n) None (λ t. mild) (λ f. refl)
+    ∙ chosen (λ (x : Option Ending). x ≡ None) (l.asked && not (is_over l)) (ending_asked (record l { taken = taken; offer = offer; heard = n }) n) None (λ t. mild) (λ f. refl)
 
 -- whether it is up or not
 pub mild_end : (l : Ledger) (taken offer : List ℕ) (n : News) → IsMild n → ending l ≡ None → ending (record l { taken = taken; offer = offer; heard = n }) ≡ None
@@ -315,13 +352,19 @@ mild_end l taken offer (took count) k none = by_test l.up _ (mild_up l taken off
 mild_end l taken offer (late m) k none = by_test l.up _ (mild_up l taken offer (late m) (refl, refl) none) (mild_down l taken offer (late m) refl)
 mild_end l taken offer _ k none = absurd k
 
+-- nor does a stream of messages that is dropped, on a link of no messages
+pub dropped_end : (l : Ledger) → hears_messages l.hearing ≡ false → ending l ≡ None → ending (record l { heard = dropped }) ≡ None
+dropped_end l deaf none = by_test l.up _
+    (mild_up l l.taken l.offer dropped (left_if (hears_messages l.hearing) (Some (by_fault fault.Ended)) None deaf, left_if (hears_messages l.hearing) (Some (by_opening error.Closed)) None deaf) none)
+    (mild_down l l.taken l.offer dropped (left_if (hears_messages l.hearing) (Some (by_opening error.Closed)) None deaf))
+
 -- where a link is ready
 --
 -- by how far it has come
 ready_by : (l : Ledger) (created : ℕ) (info : RedisConnectionInfo) (started : List ℕ) (life : Life) → TiedLife l created life → AreSought l.creds life → TiedSetup l info started life → is_ready l ≡ true → created ≢ 0
 ready_by l created info started Dialing h c s r = absurd (not_both l.up h.1 (both_left l.up (is_set_up l) r))
-ready_by l created info started (Wanting link) h c s r = absurd (not_both (is_set_up l) (lacking_undecided l (wanting_lacks l.creds link c)).unwell (both_right l.up (is_set_up l) r))
-ready_by l created info started (SettingUp link with_user) h c s r = absurd (not_both (is_set_up l) (not_set_up l link with_user s.said.1).unwell (both_right l.up (is_set_up l) r))
+ready_by l created info started (Wanting link) h c s r = absurd (not_both (is_set_up l) (lacking_unset l (wanting_lacks l.creds link c)).unset (both_right l.up (is_set_up l) r))
+ready_by l created info started (SettingUp link greeting) h c s r = absurd (not_both (is_set_up l) (not_set_up l link greeting s.said.1).unset (both_right l.up (is_set_up l) r))
 ready_by l created info started (Ready link) h c s r = h.3
 ready_by l created info started (Ended e) h c s r = absurd (not_both l.up h.0 (both_left l.up (is_set_up l) r))
 
@@ -336,8 +379,8 @@ ready_shown b t h m ready = by_test (m == t.link) _
 -- by how far a link has come
 pub life_sourced : (l : Ledger) (created : ℕ) (started : List ℕ) (life : Life) → TiedLife l created life → AreSought l.creds life → HasSaid l started life → source_due l ≡ false
 life_sourced l created started Dialing h s said = down_sourced l h.1
-life_sourced l created started (Wanting link) h s said = asked_sourced l s.1 (inl (lacking_undecided l (wanting_lacks l.creds link s)).unwell)
-life_sourced l created started (SettingUp link with_user) h s said = has_sourced l s.0 (not_set_up l link with_user said.1).unwell
+life_sourced l created started (Wanting link) h s said = asked_sourced l s.1 (inl (lacking_unset l (wanting_lacks l.creds link s)).unset)
+life_sourced l created started (SettingUp link greeting) h s said = has_sourced l s.0 (not_set_up l link greeting said.1).unset
 life_sourced l created started (Ready link) h s said = ready_sourced l s.0 (λ w. s.1 ∙ w)
 life_sourced l created started (Ended e) h s said = down_sourced l h.0
 

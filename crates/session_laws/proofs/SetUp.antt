@@ -1,20 +1,24 @@
 -- How far the setup of a link has come, by its ledger.
 use Rattle.std.proofs.Common.{List, None, Option, Some, [], ap, arith, false, inl, inr, length, refl, slice_get, subst, suc, sym, take, true, zero, ℕ, ◌+◌, ◌++◌, ◌<◌, ◌≤◌, ◌∙◌, ◌∷◌, ◌≡◌, ◌||◌}
 use Rattle.std.proofs.lemmas.List.{length_push, take_all}
-use Rattle.std.specs.Prelude.{Bool, nat_le}
+use Rattle.std.specs.Prelude.{nat_le}
 use Rattle.containers.proofs.Choices.{by_test, left_if, not_le_test, taken_if}
 use Rattle.connection_setup.specs.declared.judgement.SetupResult.{SetupResult}
 use Rattle.connection_setup.specs.declared.judgement.SetupResult.TheVariants as result
 use Rattle.driver_model.specs.declared.action.Owner.TheVariants as owner
 use Rattle.driver_model.specs.Setup.{says_nothing}
-use Rattle.driver_model.specs.News.{News, silence, connected, refused, overdue, took, came, failed, authorized, denied, deserted, shut, renewed, unrenewed, late}
-use Rattle.legal_trace.specs.Ledger.{Ledger, Start, begins, ending_up, is_full, is_of_setup, is_well, lacks_credentials, last_result, noted, reach, repeats, result_of, setup_after, setup_count, setup_due, setup_result, setup_steps}
+use Rattle.driver_model.specs.News.{News, silence, connected, refused, overdue, took, came, failed, authorized, denied, deserted, shut, renewed, unrenewed, late, dropped}
+use Rattle.legal_trace.specs.Ledger.{Ledger, Start, begins, ending_up, is_full, is_of_setup, is_well, lacks_credentials, last_result, noted, reach, repeats, result_of, setup_after, setup_count, setup_due, setup_result, setup_steps, error_in, is_set_up, is_of_monitor, monitor_among}
 use Rattle.legal_trace.proofs.Ledgers.{reach_more, takes_one}
-use Rattle.legal_trace.proofs.Setups.{IsUndecided, count_more, count_within, repeats_open, second_holds, set_begins, set_came, set_is_said, setup_said}
+use Rattle.legal_trace.proofs.Setups.{IsUndecided, count_more, count_within, repeats_open, second_holds, set_begins, set_came, set_is_said, setup_said, ungreeted_is_unset}
 use Rattle.link_core.specs.Link.{LinkState}
 use Rattle.link_laws.proofs.TiedLink.{has_heard}
 use Rattle.session_laws.proofs.Creds.{lacking_undecided}
-use Rattle.session_laws.proofs.Tied.{AreSetups, IsSetUp, IsSettingUp, IsSetupSent, owners_of, setup_owners}
+use Rattle.mux_conn.specs.declared.life.Greeting.{Greeting}
+use Rattle.session_laws.proofs.Tied.{AreSetups, IsSetUp, IsSettingUp, IsSetupSent, owners_of, setup_owners, IsGreeting, IsWatching}
+use Rattle.legal_trace.proofs.Came.{holds_bytes}
+use Rattle.legal_trace.proofs.Watching.{unanswered_is_unset}
+use Rattle.mux_conn.specs.declared.life.Greeting.TheVariants as greet
 
 -- what a setup has come to
 --
@@ -40,19 +44,57 @@ pub none_yet : (l : Ledger) (k : ℕ) → is_full l k ≡ false → result_of l 
 none_yet l k f = left_if (is_full l k) _ None f
 
 -- so while a setup is to start, or isn't answered, the link isn't set up
-pub not_set_up : (l : Ledger) (link : LinkState) (with_user : Bool) → IsSettingUp l link with_user → IsUndecided (setup_result l)
-not_set_up l link with_user h =
+pub setting_undecided : (l : Ledger) (link : LinkState) (greeting : Greeting) → IsSettingUp l link greeting → IsUndecided (setup_result l)
+setting_undecided l link greeting h =
     by_test (lacks_credentials l) _ (lacking_undecided l)
     (λ given. subst IsUndecided (sym (setup_said l given ∙ left_if (says_nothing (setup_steps l 0)) (Some result.Ready) (last_result l (setup_count l.starts)) h.says)) (elim h.stage [
       | inl due ↦ due_open l (setup_count l.starts) due.due
       | inr sent ↦ subst IsUndecided (sym (ap (last_result l) sent.count ∙ none_yet l sent.k sent.open_is)) (record { unwell = refl; no_error = refl })
     ]))
 
+-- it isn't set up, and nothing has failed
+pub record IsUnset (l : Ledger) : Type 0 where
+  pub unset : is_set_up l ≡ false
+  pub no_error : error_in (setup_result l) ≡ None
+
+-- where its setup is undecided
+undecided_unset : (l : Ledger) → IsUndecided (setup_result l) → IsUnset l
+undecided_unset l h = record { unset = ungreeted_is_unset l h.unwell; no_error = h.no_error }
+
+-- as where it lacks credentials
+pub lacking_unset : (l : Ledger) → lacks_credentials l ≡ true → IsUnset l
+lacking_unset l lacks = undecided_unset l (lacking_undecided l lacks)
+
+-- among setups alone none is MONITOR
+pub alone_unwatched : (ss : List Start) (n k : ℕ) → owners_of ss ≡ setup_owners n [] → monitor_among ss k ≡ None
+alone_unwatched [] n k e = refl
+alone_unwatched (x ∷ ss) zero k e = cc
+alone_unwatched (x ∷ ss) (suc n) k e =
+    let first : x.owner ≡ owner.Setup = cc in
+    let rest : owners_of ss ≡ setup_owners n [] = cc in
+    left_if (is_of_monitor x.owner) (Some k) (monitor_among ss (suc k)) (ap is_of_monitor first) ∙ alone_unwatched ss n (suc k) rest
+
+-- nor is it set up where MONITOR isn't answered
+pub watching_unset : (l : Ledger) (link : LinkState) → IsWatching l link → IsUnset l
+watching_unset l link h = record {
+  unset = elim h.stage [
+    | inl due ↦ unanswered_is_unset l None h.watches (alone_unwatched l.starts (setup_count l.starts) 0 due.alone) refl
+    | inr sent ↦ unanswered_is_unset l (Some sent.k) h.watches sent.sent sent.open_is
+  ];
+  no_error = ap error_in (well_is (setup_result l) h.greeted);
+}
+
+-- nor while any greeting isn't answered
+pub not_set_up : (l : Ledger) (link : LinkState) (greeting : Greeting) → IsGreeting l link greeting → IsUnset l
+not_set_up l link greet.WithUser h = undecided_unset l (setting_undecided l link greet.WithUser h)
+not_set_up l link greet.WithoutUser h = undecided_unset l (setting_undecided l link greet.WithoutUser h)
+not_set_up l link greet.Monitor h = watching_unset l link h
+
 -- what is due next
 --
 -- nothing while a setup isn't answered
-pub sent_undue : (l : Ledger) (link : LinkState) (with_user : Bool) → IsSetupSent l link with_user → setup_after l (setup_count l.starts) ≡ None
-sent_undue l link with_user h = ap (setup_after l) h.count ∙ after h.k (none_yet l h.k h.open_is)
+pub sent_undue : (l : Ledger) (link : LinkState) (greeting : Greeting) → IsSetupSent l link greeting → setup_after l (setup_count l.starts) ≡ None
+sent_undue l link greeting h = ap (setup_after l) h.count ∙ after h.k (none_yet l h.k h.open_is)
   where
     after : (k : ℕ) → result_of l k ≡ None → setup_after l (suc k) ≡ None
     after zero e = left_if (repeats (result_of l 0)) (Some 1) None (ap repeats e)
@@ -109,7 +151,7 @@ set_up_begins l s other h = record { well = set_begins l s other h.well; none = 
 
 -- and when bytes come
 pub set_up_hears : (l : Ledger) (piece : List ℕ) → AreSetups l → IsSetUp l → IsSetUp (has_heard l piece)
-set_up_hears l piece sent h = record { well = set_came l piece (λ k s i e. (sent k s i e).1) h.well; none = h.none }
+set_up_hears l piece sent h = record { well = set_came l piece (λ k s i e. (sent k s i e).1) h.well; none = holds_bytes (λ (x : Ledger). says_nothing (setup_steps x 0) ≡ true → setup_count x.starts ≡ 0) l piece (λ rest strange told more. h.none) }
 
 -- the starts of a setup are the first still
 pub setups_begins : (l : Ledger) (s : Start) → is_of_setup s.owner ≡ false → AreSetups l → AreSetups (noted l (begins s))
@@ -135,4 +177,5 @@ ending_up_same l ss unrenewed = refl
 ending_up_same l ss (late k) = refl
 ending_up_same l ss (denied text) = refl
 ending_up_same l ss deserted = refl
+ending_up_same l ss dropped = refl
 ending_up_same l ss shut = refl

@@ -26,7 +26,7 @@ use Rattle.mux_conn.specs.Renewals.{is_done, renewal_id, renewing, replied}
 use Rattle.mux_conn.specs.Effects.{settled_each, settled_one, failed_each}
 use Rattle.shared_session.specs.declared.core_state.Core.{Core}
 use Rattle.shared_session.specs.Turn.{shown, shown_each, source_of, sources_of, timer_of, timers_of}
-use Rattle.legal_trace.specs.Ledger.{Ledger, is_over, Heard, next_push, renewal_count}
+use Rattle.legal_trace.specs.Ledger.{Ledger, is_over, Heard, next_notice, renewal_count}
 use Rattle.legal_trace.specs.Book.{Book, blank_book, book, entered}
 use Rattle.legal_trace.specs.Owed.{owed}
 use Rattle.legal_trace.specs.Legal.{AllStand, MayStand, MayAnswer, IsBefore, is_heard}
@@ -53,6 +53,7 @@ seen f acts conn pending started = record {
   bound = conn.boundary;
   limit = conn.limit;
   free = conn.free;
+  kind = f.kind;
   hears = conn.hears;
   untold = [];
   parting = false;
@@ -81,7 +82,7 @@ trace_of_acts before f acts = before ++ shown_each f.single.link (length f.timer
 abbrev pub Holds : List Action → Core → Work → List ℕ → List ℕ → Type 0
 Holds before f w pending started = Sound (trace_of_acts before f w.acts) (seen f w.acts w.conn pending started)
 
--- so it is in the middle of a turn, where these pushes are still to be told
+-- so it is in the middle of a turn, where these notices are still to be told
 abbrev pub Tells : List Action → Core → Work → List Heard → List ℕ → List ℕ → Type 0
 Tells before f w untold pending started = Sound (trace_of_acts before f w.acts) (record (seen f w.acts w.conn pending started) { untold = untold })
 
@@ -128,7 +129,7 @@ quiet_asks f t acts a timers sources =
     let ss = quiet_sources f.single.link (length f.sources) acts a sources in
     sym (λ i. record t { timers = f.timers ++ ts i; sources = f.sources ++ ss i })
 
--- also where these pushes are still to be told, and the end of the link is
+-- also where these notices are still to be told, and the end of the link is
 pub sound_told : (before : List Action) (f : Core) (acts : List LinkAct) (a : LinkAct) (conn : MultiplexedConnection) (untold : List Heard) (parting : Bool) (pending started : List ℕ) → AllStand blank_book (trace_of_acts before f acts) → MayStand (book (trace_of_acts before f acts)) (shown_now f acts a)
     → Tied (entered (book (trace_of_acts before f acts)) (shown_now f acts a)) (record (seen_more f acts a conn pending started) { untold = untold; parting = parting }) → Sound (trace_of_acts before f (acts ++ a ∷ [])) (record (seen f (acts ++ a ∷ []) conn pending started) { untold = untold; parting = parting })
 sound_told before f acts a conn untold parting pending started stands may tied =
@@ -172,13 +173,13 @@ answering before f w pending started h line = record { holds = h; line = line; l
 over_life : (l : Ledger) (created : ℕ) (life : Life) → TiedLife l created life → is_over l ≡ true → has_ended life ≡ true
 over_life l created Dialing h over = absurd (not_both (is_over l) (ap is_some h.2) over)
 over_life l created (Wanting link) h over = absurd (not_both (is_over l) (ap is_some h.2) over)
-over_life l created (SettingUp link with_user) h over = absurd (not_both (is_over l) (ap is_some h.2) over)
+over_life l created (SettingUp link greeting) h over = absurd (not_both (is_over l) (ap is_some h.2) over)
 over_life l created (Ready link) h over = absurd (not_both (is_over l) (ap is_some h.2) over)
 over_life l created (Ended e) h over = refl
 
 -- the first of those that are to be answered may be
 pub first_may : (b : Book) (t : Inner) (p : ℕ) (pending : List ℕ) (o : Outcome) → Tied b (record t { pending = p ∷ pending }) → IsInLine t.requests (link_in t.life) t.admitted t.waiting (p ∷ pending) → is_open_at t.requests p ≡ true
-    → owed b (name_at t.requests p) ≡ Some o → (is_heard b ≡ true → (push : Heard) → next_push (b.link t.link) ≡ Some push → IsBefore b (name_at t.requests p) push) → t.parting ≡ false → MayAnswer b (name_at t.requests p) o
+    → owed b (name_at t.requests p) ≡ Some o → (is_heard b ≡ true → (push : Heard) → next_notice (b.link t.link) ≡ Some push → IsBefore b (name_at t.requests p) push) → t.parting ≡ false → MayAnswer b (name_at t.requests p) o
 first_may b t p pending o h line e owes pushed done =
     let now = record t { pending = p ∷ pending } in
     may_answer b now p o h e owes
@@ -245,18 +246,19 @@ abbrev pub replied_each : Renewal → List Settled → Renewal
 replied_each r [] = r
 replied_each r (s ∷ ss) = replied_each (if s.id == renewal_id then replied r (is_done s.verdict) else r) ss
 
--- neither the time, nor whether they come of sources, nor how many were to be told
-pub replied_keeps : (r : Renewal) (ss : List Settled) → ((replied_each r ss).within ≡ r.within) × ((replied_each r ss).wanted ≡ r.wanted) × ((replied_each r ss).asked ≡ r.asked)
-replied_keeps r [] = (refl, refl, refl)
+-- neither the time, nor whether they come of sources, nor those that wait, nor how many were to be told
+pub replied_keeps : (r : Renewal) (ss : List Settled) → ((replied_each r ss).within ≡ r.within) × ((replied_each r ss).wanted ≡ r.wanted) × ((replied_each r ss).waiting ≡ r.waiting) × ((replied_each r ss).asked ≡ r.asked)
+replied_keeps r [] = (refl, refl, refl, refl)
 replied_keeps r (s ∷ ss) =
     let next = if s.id == renewal_id then replied r (is_done s.verdict) else r in
     let rest = replied_keeps next ss in
-    let one : (next.within ≡ r.within) × (next.wanted ≡ r.wanted) × (next.asked ≡ r.asked) = chosen (λ (x : Renewal). (x.within ≡ r.within) × (x.wanted ≡ r.wanted) × (x.asked ≡ r.asked)) (s.id == renewal_id) (replied r (is_done s.verdict)) r (λ t. (refl, refl, refl)) (λ f. (refl, refl, refl)) in
-    (rest.0 ∙ one.0, rest.1 ∙ one.1, rest.2 ∙ one.2)
+    let one : (next.within ≡ r.within) × (next.wanted ≡ r.wanted) × (next.waiting ≡ r.waiting) × (next.asked ≡ r.asked) =
+    chosen (λ (x : Renewal). (x.within ≡ r.within) × (x.wanted ≡ r.wanted) × (x.waiting ≡ r.waiting) × (x.asked ≡ r.asked)) (s.id == renewal_id) (replied r (is_done s.verdict)) r (λ t. (refl, refl, refl, refl)) (λ f. (refl, refl, refl, refl)) in
+    (rest.0 ∙ one.0, rest.1 ∙ one.1, rest.2 ∙ one.2, rest.3 ∙ one.3)
 
 -- a session is tied with other new credentials where its link is
-pub renewal_tied : (b : Book) (t : Inner) (r : Renewal) → r.within ≡ t.renewal.within → r.wanted ≡ t.renewal.wanted → TiedRenewal (b.link t.link) r t.life → Tied b t → Tied b (record t { renewal = r })
-renewal_tied b t r within wanted tied h = record {
+pub renewal_tied : (b : Book) (t : Inner) (r : Renewal) → r.within ≡ t.renewal.within → r.wanted ≡ t.renewal.wanted → r.waiting ≡ t.renewal.waiting → TiedRenewal (b.link t.link) r t.life → Tied b t → Tied b (record t { renewal = r })
+renewal_tied b t r within wanted waiting tied h = record {
   numbers = record {
     turns = h.numbers.turns;
     links = h.numbers.links;
@@ -271,11 +273,13 @@ renewal_tied b t r within wanted tied h = record {
     within = h.numbers.within ∙ sym within;
     few = h.numbers.few;
     settings = record { size_is = h.numbers.settings.size_is; bound_is = h.numbers.settings.bound_is; limit_is = h.numbers.settings.limit_is; some = h.numbers.settings.some; limited = h.numbers.settings.limited };
+    kind_is = h.numbers.kind_is;
+    quiet = λ w. let q = h.numbers.quiet w in record { none = q.none; unwanted = wanted ∙ q.unwanted; unrenewed = waiting ∙ q.unrenewed };
     one = h.numbers.one;
     only = h.numbers.only;
   };
   others = h.others;
-  pushes = h.pushes;
+  notices = h.notices;
   life = h.life;
   creds = record { wanted_is = h.creds.wanted_is ∙ sym wanted; sought = h.creds.sought };
   count = h.count;
@@ -293,12 +297,12 @@ renewal_tied b t r within wanted tied h = record {
 }
 
 -- on a link that has ended it is so with any
-pub renewal_over : (b : Book) (t : Inner) (r : Renewal) (e : RedisError) → r.within ≡ t.renewal.within → r.wanted ≡ t.renewal.wanted → r.asked ≡ t.renewal.asked → t.life ≡ Ended e → Tied b t → Tied b (record t { renewal = r })
-renewal_over b t r e within wanted asked over h =
+pub renewal_over : (b : Book) (t : Inner) (r : Renewal) (e : RedisError) → r.within ≡ t.renewal.within → r.wanted ≡ t.renewal.wanted → r.waiting ≡ t.renewal.waiting → r.asked ≡ t.renewal.asked → t.life ≡ Ended e → Tied b t → Tied b (record t { renewal = r })
+renewal_over b t r e within wanted waiting asked over h =
     let l = b.link t.link in
     let was = subst (TiedRenewal l t.renewal) over h.renewal in
     let few = was.1 in
-    renewal_tied b t r within wanted (subst (TiedRenewal l r) (sym over) (subst (λ o. (o ≢ None) → renewal_count l.starts ≤ l.creds.timed) (sym within) was.0, omega (arith, few, asked))) h
+    renewal_tied b t r within wanted waiting (subst (TiedRenewal l r) (sym over) (subst (λ o. (o ≢ None) → renewal_count l.starts ≤ l.creds.timed) (sym within) was.0, omega (arith, few, asked))) h
 
 -- an answer to a request leaves them
 pub answered_renewal : (w : Work) (p : ℕ) (o : Outcome) → (answered w p o).conn.renewal ≡ w.conn.renewal

@@ -217,8 +217,8 @@ none_from Dialing p true f = refl
 none_from Dialing p false f = refl
 none_from (Wanting link) p true f = refl
 none_from (Wanting link) p false f = refl
-none_from (SettingUp link with_user) p true f = refl
-none_from (SettingUp link with_user) p false f = refl
+none_from (SettingUp link greeting) p true f = refl
+none_from (SettingUp link greeting) p false f = refl
 none_from (Ready link) p placed f = cc
 none_from (Ended e) p true f = refl
 none_from (Ended e) p false f = refl
@@ -255,7 +255,7 @@ down_waits b t h down none = record {
     no_queue : (life : Life) (p : ℕ) → is_ready life ≡ false → IsIn p (awaited_ids (link_in life).queue) → ⊥
     no_queue Dialing p f i = i
     no_queue (Wanting link) p f i = i
-    no_queue (SettingUp link with_user) p f i = i
+    no_queue (SettingUp link greeting) p f i = i
     no_queue (Ready link) p f i = cc
     no_queue (Ended e) p f i = i
 
@@ -284,7 +284,7 @@ early_kind t up = record {
     by_life : (x : Life) → has_ended x ≡ false → (early_wait x ≡ wait.Connect) ⊎ ((early_wait x ≡ wait.Creds) ⊎ ((early_wait x ≡ wait.Setup) ⊎ (early_wait x ≡ wait.Permit)))
     by_life Dialing f = inl refl
     by_life (Wanting link) f = inr (inl refl)
-    by_life (SettingUp link with_user) f = inr (inr (inl refl))
+    by_life (SettingUp link greeting) f = inr (inr (inl refl))
     by_life (Ready link) f = inr (inr (inr refl))
     by_life (Ended x) f = cc
 
@@ -305,8 +305,8 @@ early_holds b t p ps h q is up w = by_life t.life refl
         (record { new = h.waits.no_connect p first w e; holds = dialing_step b t p h e (there_within is_waiting t.requests p w) })
     by_life (Wanting link) e = subst (λ (x : Life). EarlyHolds b t p (early_wait x)) (sym e)
         (record { new = h.waits.no_creds p link first w e; holds = creds_step b t p link h e (there_within is_waiting t.requests p w) })
-    by_life (SettingUp link with_user) e = subst (λ (x : Life). EarlyHolds b t p (early_wait x)) (sym e)
-        (record { new = h.waits.no_setup p link with_user first w e; holds = setup_step b t p link with_user h e (there_within is_waiting t.requests p w) })
+    by_life (SettingUp link greeting) e = subst (λ (x : Life). EarlyHolds b t p (early_wait x)) (sym e)
+        (record { new = h.waits.no_setup p link greeting first w e; holds = setup_step b t p link greeting h e (there_within is_waiting t.requests p w) })
     by_life (Ready link) e = subst (λ (x : Life). EarlyHolds b t p (early_wait x)) (sym e)
         (record { new = h.waits.no_permit p link first w e; holds = permit_holds b t p link h q e w (waiting_there b t p h q.settled w) })
     by_life (Ended x) e = absurd (ended_none b t p x h q e (waiting_open t.requests p w))
@@ -318,7 +318,7 @@ waiting_alive b t p h q w = by_life t.life refl
     by_life : (x : Life) → t.life ≡ x → has_ended t.life ≡ false
     by_life Dialing e = ap has_ended e
     by_life (Wanting link) e = ap has_ended e
-    by_life (SettingUp link with_user) e = ap has_ended e
+    by_life (SettingUp link greeting) e = ap has_ended e
     by_life (Ready link) e = ap has_ended e
     by_life (Ended x) e = absurd (ended_none b t p x h q e (waiting_open t.requests p w))
 
@@ -431,7 +431,7 @@ waits_hold before f w h = by_life w.conn.life refl
     by_life : (life : Life) → w.conn.life ≡ life → HasShown before f (waits_shown w)
     by_life Dialing e = down (ap is_ready e) (λ p. down_admits b t p Dialing first.sound.tied quiet refl e)
     by_life (Wanting link) e = down (ap is_ready e) (λ p. down_admits b t p (Wanting link) first.sound.tied quiet refl e)
-    by_life (SettingUp link with_user) e = down (ap is_ready e) (λ p. down_admits b t p (SettingUp link with_user) first.sound.tied quiet refl e)
+    by_life (SettingUp link greeting) e = down (ap is_ready e) (λ p. down_admits b t p (SettingUp link greeting) first.sound.tied quiet refl e)
     by_life (Ended x) e = down (ap is_ready e) (λ p. ended_admits b t p x first.sound.tied quiet e)
     by_life (Ready link) e =
         let v = moved_each_shown (none_moved w) w.conn.moved in
@@ -476,7 +476,7 @@ is_settled b t h q fresh moved written = record {
     by_life : (n : ℕ) (r : IsOpenRequest t n) → IsIn r.number (wanted (link_in t.life).row) → (life : Life) → t.life ≡ life → IsStarted b n ⊎ IsWaiting b n
     by_life n r i Dialing e = absurd (subst (λ (x : Life). IsIn r.number (wanted (link_in x).row)) e i)
     by_life n r i (Wanting link) e = absurd (subst (λ (x : Life). IsIn r.number (wanted (link_in x).row)) e i)
-    by_life n r i (SettingUp link with_user) e = absurd (subst (λ (x : Life). IsIn r.number (wanted (link_in x).row)) e i)
+    by_life n r i (SettingUp link greeting) e = absurd (subst (λ (x : Life). IsIn r.number (wanted (link_in x).row)) e i)
     by_life n r i (Ready link) e = inl (row_goes b t n h written link e r i)
     by_life n r i (Ended x) e = absurd (subst (λ (x : Life). IsIn r.number (wanted (link_in x).row)) e i)
 

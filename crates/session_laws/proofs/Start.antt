@@ -18,6 +18,7 @@ use Rattle.link_laws.proofs.TiedLink.{all_push, begun_tied, queue_tied}
 use Rattle.link_laws.specs.Settles.{awaited_ids, wanted}
 use Rattle.link_laws.specs.Starts.{begun, start_from}
 use Rattle.mux_conn.specs.Requests.{is_admitted_at, is_open_at, is_placed_at, is_waiting_at, name_at}
+use Rattle.mux_conn.specs.declared.life.Greeting.{Greeting}
 use Rattle.mux_conn.specs.declared.life.Life.TheVariants.{Dialing, Ready, Wanting, SettingUp}
 use Rattle.mux_conn.specs.declared.request.Request.{Request}
 use Rattle.mux_conn.specs.declared.request.Waiting.{Waiting}
@@ -28,7 +29,7 @@ use Rattle.session_laws.proofs.Ahead.{queue_within, admitted_open, early_open}
 use Rattle.session_laws.proofs.Behind.{nil_told, open_untold, some_more}
 use Rattle.session_laws.proofs.InLine.{awaited_in, first_is_apart, kept_ids}
 use Rattle.session_laws.proofs.Kept.{SameOutcomes, SameSubmissions, SameTimes, mine_noted, one_changed, others_kept, packed_same, queued_same, tied_by}
-use Rattle.session_laws.proofs.Names.{get_more, get_some, name_of_some, open_within, same_name, owner_below, request_not}
+use Rattle.session_laws.proofs.Names.{get_more, get_some, name_of_some, open_within, same_name, owner_below, request_not, asked_unwatched}
 use Rattle.session_laws.proofs.Numbers.{IsIn, Rising, in_left, in_right, rising_apart, rising_in, rising_right, requests_in, request_in, requests_in-append, requests_first}
 use Rattle.session_laws.proofs.Owes.{get_in, request_story}
 use Rattle.session_laws.proofs.Permits.{IsHolding, holding_same, permits_same}
@@ -37,6 +38,7 @@ use Rattle.session_laws.proofs.SetUp.{set_up_begins, setups_begins}
 use Rattle.mux_conn.specs.Renewals.{renewal_id}
 use Rattle.session_laws.proofs.Renewals.{begins_renewed}
 use Rattle.session_laws.proofs.Tied.{AreQueued, Inner, IsEntry, IsQueued, IsRequest, Tied, TiedLines, TiedTries, TiedWaits, owner_of, owners_each, owners_of, queue_ids, setup_owners, shown_wait, numbers_kept}
+use Rattle.driver_model.specs.Hearing.{is_watching}
 
 -- the action that its start shows
 abbrev pub start_action : Inner → LinkState → Queued → Action
@@ -138,14 +140,15 @@ owners_length (s ∷ ss) requests started (suc n) e = let long = owners_length s
 tries_started : (l : Ledger) (story : ℕ → Story) (requests : List Request) (link k : ℕ) (started : List ℕ) (s : Start) (p : ℕ)
     → p ≢ renewal_id → ((m : ℕ) → m < length requests → IsIn m started → name_at requests m ≡ name_at requests p → ⊥) → ((m : ℕ) (r : Request) → slice_get requests m ≡ Some r → r.name ≡ name_at requests p → m ≡ p)
     → s.owner ≡ owner_of requests p → s.shape ≡ shape (story (name_at requests p)) → k ≡ length l.starts → (story (name_at requests p)).tries ≡ []
-    → TiedTries l story requests link started → TiedTries (noted l (begins s)) (tried_at (name_at requests p) link k story) requests link (started ++ p ∷ [])
-tries_started l story requests link k started s p other new one owned shaped counted none h =
+    → is_watching l.hearing ≡ false → TiedTries l story requests link started → TiedTries (noted l (begins s)) (tried_at (name_at requests p) link k story) requests link (started ++ p ∷ [])
+tries_started l story requests link k started s p other new one owned shaped counted none plain h =
     let n = name_at requests p in
     let c = setup_count l.starts in
     let same : setup_count (l.starts ++ s ∷ []) ≡ c = count_more l.starts s (ap is_of_setup (owned ∙ owner_below requests p other)) in
-    let long : length l.starts ≡ c + length started = owners_length l.starts requests started c h.owners in
+    let long : length l.starts ≡ c + length started = owners_length l.starts requests started c (h.owners plain) in
     record {
-      owners = owners-append l.starts (s ∷ []) ∙ (λ i. h.owners i ++ owned i ∷ []) ∙ setup_owners-append c (owners_each requests started) (owner_of requests p ∷ [])
+      greeted = λ w. absurd (not_both (is_watching l.hearing) plain w);
+      owners = λ same_plain. owners-append l.starts (s ∷ []) ∙ (λ i. h.owners plain i ++ owned i ∷ []) ∙ setup_owners-append c (owners_each requests started) (owner_of requests p ∷ [])
           ∙ (λ i. setup_owners (sym same i) (sym (owners_each-append requests started (p ∷ [])) i));
       shapes = λ j m x inside i e.
           let at : slice_get (l.starts ++ s ∷ []) (c + j) ≡ Some x = ap (λ y. slice_get (l.starts ++ s ∷ []) (y + j)) (sym same) ∙ e in
@@ -215,8 +218,8 @@ pub not_wanting : (link link' : LinkState) → Ready link ≡ Wanting link' → 
 not_wanting link link' e = cc
 
 -- nor is it being set up
-pub not_setting : (link link' : LinkState) (with_user : Bool) → Ready link ≡ SettingUp link' with_user → ⊥
-not_setting link link' with_user e = cc
+pub not_setting : (link link' : LinkState) (greeting : Greeting) → Ready link ≡ SettingUp link' greeting → ⊥
+not_setting link link' greeting e = cc
 
 -- what is shown of a submission's wait is the same, or nothing is shown any more
 abbrev pub LosesWaits : (ℕ → Story) → (ℕ → Story) → Type 0
@@ -323,7 +326,7 @@ start_tied b t link q qs h =
     (record {
       numbers = numbers_kept b _ _ was _ _ _ _ _ _ _ _ _ _ h.numbers;
       others = others_kept b t.link (begins (message_of b t.link (owner.Try n 0))) h.others;
-      pushes = h.pushes;
+      notices = h.notices;
       life = h.life;
       creds = record { wanted_is = h.creds.wanted_is; sought = h.creds.sought };
       count = h.count;
@@ -336,7 +339,7 @@ start_tied b t link q qs h =
           (λ m inside i e. new (subst (λ x. IsIn x t.started) (same_name t.table t.requests m q.id h.names inside within e) i))
           (λ m r i e. same_name t.table t.requests m q.id h.names (get_within t.requests m r i) within (name_of_some t.requests m r i ∙ e))
           refl is.is_of.shape_is up.started
-          (ap (λ x. (b.story x).tries) (name_of_some t.requests q.id g.0 g.1) ∙ h.tries.untried q.id g.0 g.1 new) h.tries;
+          (ap (λ x. (b.story x).tries) (name_of_some t.requests q.id g.0 g.1) ∙ h.tries.untried q.id g.0 g.1 new) (asked_unwatched b was q.id h within) h.tries;
       lines = lines_started b.story t.requests link t.waiting t.admitted t.started q qs t.link link.started other h.lines;
       told = λ e. told_started b t link q qs t.link link.started (h.told refl);
       waits = waits_started b t link q qs t.link link.started h;

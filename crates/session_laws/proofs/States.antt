@@ -1,8 +1,9 @@
 -- The session between two turns, and when the event of a turn has had its own effect.
-use Rattle.std.proofs.Common.{◌≡◌, ◌≢◌, ◌⊎◌, ℕ, ◌≤◌, Bool, true, false, List, [], ◌++◌, length}
+use Rattle.std.proofs.Common.{◌≡◌, ◌≢◌, ◌⊎◌, ℕ, ◌≤◌, true, false, List, [], ◌++◌, length}
 use Rattle.driver_model.specs.declared.action.Action.{Action}
 use Rattle.link_core.specs.Link.{LinkState, is_full_beside, holds_back}
 use Rattle.mux_conn.specs.declared.connection.MultiplexedConnection.{MultiplexedConnection}
+use Rattle.mux_conn.specs.declared.life.Greeting.{Greeting}
 use Rattle.mux_conn.specs.declared.life.Life.TheVariants.{Wanting, SettingUp, Ready}
 use Rattle.shared_session.specs.declared.core_state.Core.{Core}
 use Rattle.shared_session.specs.Turn.{Turning, numbered, shown_each}
@@ -21,7 +22,7 @@ pub record IsFit (size bound : ℕ) (link : LinkState) : Type 0 where
 -- where a link is up, it is so, also before it is set up; and where none is ready, nobody waits for a place
 pub record IsFitIn (c : MultiplexedConnection) : Type 0 where
   pub wanting : (link : LinkState) → c.life ≡ Wanting link → IsFit c.size c.boundary link
-  pub setup : (link : LinkState) (with_user : Bool) → c.life ≡ SettingUp link with_user → IsFit c.size c.boundary link
+  pub setup : (link : LinkState) (greeting : Greeting) → c.life ≡ SettingUp link greeting → IsFit c.size c.boundary link
   pub link : (link : LinkState) → c.life ≡ Ready link → IsFit c.size c.boundary link
   pub none : ((link : LinkState) → c.life ≡ Ready link → ⊥) → c.admitted ≡ []
 
@@ -29,7 +30,7 @@ pub record IsFitIn (c : MultiplexedConnection) : Type 0 where
 -- credentials that are to be told have their timer, and wait for their link, which is held back; once the connect is answered,
 -- those that wait find no permit free, and on a link that has ended none waits
 pub record IsStill (c : MultiplexedConnection) : Type 0 where
-  pub setup : (link : LinkState) (with_user : Bool) → c.life ≡ SettingUp link with_user → (link.queue ≡ []) ⊎ (holds_back link ≡ true)
+  pub setup : (link : LinkState) (greeting : Greeting) → c.life ≡ SettingUp link greeting → (link.queue ≡ []) ⊎ (holds_back link ≡ true)
   pub held : (link : LinkState) → c.life ≡ Ready link → (link.queue ≡ []) ⊎ (holds_back link ≡ true)
   pub full : (link : LinkState) → c.life ≡ Ready link → (c.admitted ≡ []) ⊎ (is_full_beside link (in_front c.renewal) ≡ true)
   pub renewed : (link : LinkState) → c.life ≡ Ready link → is_due c.renewal ≡ true → (c.renewal.pending ≡ true) × (holds_back link ≡ true)

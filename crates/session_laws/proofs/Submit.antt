@@ -11,27 +11,27 @@ use Rattle.driver_model.specs.declared.event.EventKind.TheVariants as event
 use Rattle.driver_model.specs.declared.event.Submission.{Submission}
 use Rattle.driver_model.specs.declared.outcome.Outcome.TheVariants as outcome
 use Rattle.driver_model.specs.News.{silence}
-use Rattle.driver_model.specs.Request.{packed_bytes}
+use Rattle.driver_model.specs.Request.{packed_bytes, has_no_form}
 use Rattle.link_laws.proofs.TiedLink.{told_tied}
 use Rattle.mux_conn.specs.declared.request.Request.{Request}
 use Rattle.mux_conn.specs.Requests.{is_open as is_open_progress, is_waiting, is_admitted, is_placed, if_there}
 use Rattle.mux_conn.specs.declared.request.Progress.{Progress}
 use Rattle.shared_session.specs.declared.core_state.Core.{Core}
-use Rattle.legal_trace.specs.Ledger.{is_over, next_push}
+use Rattle.legal_trace.specs.Ledger.{is_over, next_notice}
 use Rattle.legal_trace.specs.Story.{Story, Try, blank_story, is_open, is_no_error, is_told, is_awaited, bytes_of, handed_in, answered, last_of}
-use Rattle.legal_trace.specs.Book.{Book, entered, if_own, current, is_unspoken}
+use Rattle.legal_trace.specs.Book.{Book, entered, if_own, current, is_unspoken, kind_in}
 use Rattle.legal_trace.specs.Owed.{owed, owed_to_try}
 use Rattle.legal_trace.specs.Legal.{IsOpen, link_of, NoneIsOwed, NoneEnds, MayAnswer, FailuresAreShown}
 use Rattle.session_laws.proofs.Renewals.{renewal_alike}
 use Rattle.session_laws.proofs.Numbers.{IsIn, in_left, in_right, Rising, rising_in, requests_in, request_in}
 use Rattle.session_laws.proofs.Tied.{carried, inner, link_in, queue_ids, waiting_ids, whole_link, IsRefused, TiedStory, Tied, no_opening}
-use Rattle.session_laws.proofs.Names.{there_within, names_refused}
-use Rattle.session_laws.proofs.Owes.{started_within, ends_told, pushes_told}
+use Rattle.session_laws.proofs.Names.{there_within, names_refused, submits_unwatched}
+use Rattle.session_laws.proofs.Owes.{started_within, ends_told, notices_told}
 use Rattle.session_laws.proofs.Answer.{owed_in, no_push}
 use Rattle.session_laws.proofs.Settle.{seen}
-use Rattle.session_laws.proofs.Announce.{aims_longer, aims_on, turn_of, turned, uses_on, counted_on}
+use Rattle.session_laws.proofs.Announce.{aims_longer, aims_on, turn_of, turned, uses_on, counted_on, time_still}
 use Rattle.session_laws.proofs.Heard.{told_life, silent_no_end}
-use Rattle.session_laws.proofs.Said.{setup_on, sources_asked}
+use Rattle.session_laws.proofs.Said.{setup_on, sources_asked, IsTame, renoticed}
 use Rattle.session_laws.proofs.Further.{get_beyond, no_longer, SameBefore, further_story, tries_longer, queue_longer, packs_longer, told_longer, IsNext, waits_longer, permits_longer, late_longer}
 use Rattle.session_laws.proofs.InLine.{kept_ids, awaited_in}
 
@@ -112,7 +112,7 @@ may_refuse b c started word what e h none no_end shown why =
       asked = ap is_open own;
       owes = ap (owed_in now) own ∙ new_owed b now what e why;
       in_order = λ m less asked same. others m (λ x. absurd (omega arith)) asked;
-      after_pushes = λ heard push next. absurd (no_push (next_push (b.link (now.story size).link)) push (pushes_told b (inner c started) h refl (now.story size).link heard) next);
+      after_notices = λ heard push next. absurd (no_push (next_notice (b.link (now.story size).link)) push (notices_told b (inner c started) h refl (now.story size).link heard) next);
       after_closes = λ over. (
         (λ l. silent_no_end (b.link l) c.turns (no_end l)),
         (λ m asked alive. by_test (m == size) _
@@ -148,9 +148,9 @@ abbrev pub core_refused : Core → Submission → Core
 core_refused c what = record (turned c (event.Submit what)) { table = c.table ++ None ∷ [] }
 
 -- the session is tied with it
-pub refused_tied : (b : Book) (c : Core) (started : List ℕ) (word : ℕ) (what : Submission) (e : RedisError) → Tied b (inner c started) → length c.table < 2 ^ 32 → c.single.connection.fresh ≡ []
+pub refused_tied : (b : Book) (c : Core) (started : List ℕ) (word : ℕ) (what : Submission) (e : RedisError) → Tied b (inner c started) → IsTame (b.link c.single.link) → has_no_form c.kind what ≡ false → length c.table < 2 ^ 32 → c.single.connection.fresh ≡ []
     → Tied (entered (entered b (turn_of c word (event.Submit what))) (action.Outcome (length c.table) (outcome.Fault e))) (seen (core_refused c what) [] c.single.connection [] started)
-refused_tied b c started word what e h few no_fresh =
+refused_tied b c started word what e h tame form few no_fresh =
     let conn = c.single.connection in
     let ledger = b.link c.single.link in
     let after = stories_refused b (length c.table) what e in
@@ -180,16 +180,18 @@ refused_tied b c started word what e h few no_fresh =
         aims = aims_on c.timers c.single.link (length (c.table ++ None ∷ [])) (aims_longer c.timers c.single.link (length c.table) (length (c.table ++ None ∷ [])) (omega (arith, length-append c.table (None ∷ []))) h.numbers.aims);
         timed = λ config other opens bounded none. no_opening _ config other opens;
         submissions = (let k = h.numbers.submissions in omega (arith, length-append c.table (None ∷ [])));
-        timeout = h.numbers.timeout;
+        timeout = time_still (kind_in b.config) b.timeout (event.Submit what) tt ∙ h.numbers.timeout;
         shut = ap (λ s. s || false) h.numbers.shut;
         within = h.numbers.within;
         few = omega (arith, few, length-append c.table (None ∷ []));
         settings = record { size_is = h.numbers.settings.size_is; bound_is = h.numbers.settings.bound_is; limit_is = h.numbers.settings.limit_is; some = h.numbers.settings.some; limited = h.numbers.settings.limited };
+        kind_is = h.numbers.kind_is;
+        quiet = λ w. absurd (submits_unwatched b (inner c started) what h form w);
         one = h.numbers.one;
         only = h.numbers.only;
       };
-      others = λ m other. let u = h.others m other in record { asked = u.asked; up = u.up; end = u.end; starts = u.starts; pushes = u.pushes };
-      pushes = h.pushes;
+      others = λ m other. let u = h.others m other in record { asked = u.asked; up = u.up; end = u.end; starts = u.starts; notices = u.notices };
+      notices = renoticed tame h.notices;
       life = told_life ledger b.created conn.life silence h.life;
       creds = h.creds;
       count = counted_on c.sources ledger.creds h.count;
@@ -201,7 +203,7 @@ refused_tied b c started word what e h few no_fresh =
           (subst IsRefused (sym is) (record { what = what; handed_in = refl; untried = refl; error = e; answered = refl }));
       tries = tries_longer c.table (record ledger { heard = silence }) b.story after conn.requests conn.requests c.single.link started h.names same longer
           few_requests (λ p other i. at p (in_left p (requests_in started) (queue ++ last) (request_in p started other i))) (λ k p other i. started_within b (inner c started) k p h other i) (λ p r i past. absurd (let l = get_within conn.requests p r i in omega arith))
-          (record { owners = h.tries.owners; shapes = h.tries.shapes; tried = h.tries.tried; untried = h.tries.untried });
+          (record { owners = h.tries.owners; greeted = h.tries.greeted; shapes = h.tries.shapes; tried = h.tries.tried; untried = h.tries.untried });
       lines = record {
         line = h.lines.line;
         queued = queue_longer c.table b.story after conn.requests conn.requests (link_in conn.life).queue h.names same longer (λ p i. at p (in_right p (requests_in started) (queue ++ last) (in_left p queue last i))) h.lines.queued;

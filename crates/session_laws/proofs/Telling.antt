@@ -1,7 +1,7 @@
--- The pushes that came are told, each behind as many of the messages that were settled as it came behind.
+-- The notices that came are told, each behind as many of the messages that were settled as it came behind.
 use Rattle.std.proofs.Common.{◌≡◌, inl, inr, ℕ, zero, suc, ◌+◌, ◌<◌, ◌≤◌, ◌==◌, nat_le, nat_lt, Bool, true, false, if◌then◌else◌, List, [], ◌∷◌, ◌++◌, length, drop, Option, Some, None, slice_get, refl, sym, ap, ◌∙◌, subst, arith}
 use Rattle.std.specs.List.{AllByRecursion}
-use Rattle.containers.proofs.Choices.{by_test, chosen, le_from, le_test, lt_from, not_both, not_le_from, not_lt_from}
+use Rattle.containers.proofs.Choices.{by_test, chosen, le_from, le_test, lt_from, not_both, not_le_from, not_lt_from, left_if}
 use Rattle.driver_model.specs.declared.action.Action.{Action}
 use Rattle.driver_model.specs.declared.action.Owner.{Owner}
 use Rattle.driver_model.specs.declared.action.Owner.TheVariants as owner
@@ -10,16 +10,16 @@ use Rattle.driver_model.specs.declared.outcome.Shape.{Shape}
 use Rattle.driver_model.specs.declared.push_info.PushInfo.{PushInfo}
 use Rattle.driver_model.specs.Push.{is_disconnection}
 use Rattle.driver_model.specs.Shape.{outcome_of}
-use Rattle.link_core.specs.declared.message.PushAt.{PushAt}
+use Rattle.link_core.specs.declared.message.NoticeAt.{NoticeAt}
 use Rattle.link_core.specs.declared.message.Settled.{Settled}
-use Rattle.link_laws.specs.Pushes.{AreApart, SayTheSame}
+use Rattle.link_laws.specs.Notices.{AreApart, SayTheSame}
 use Rattle.link_laws.specs.Settles.{StandsAs, settled_ids, wanted, awaited_ids}
 use Rattle.link_laws.proofs.Started.{row_open}
 use Rattle.mux_conn.specs.declared.act.LinkAct.TheVariants as act
 use Rattle.mux_conn.specs.declared.request.Progress.TheVariants as progress
 use Rattle.mux_conn.specs.declared.request.Request.{Request}
 use Rattle.mux_conn.specs.Connection.{Work}
-use Rattle.mux_conn.specs.Effects.{pushed, settled_each, told_each, settled_one}
+use Rattle.mux_conn.specs.Effects.{notice_act, noticed, settled_each, told_each, settled_one}
 use Rattle.mux_conn.specs.Requests.{answered, closed, is_open, is_open_at, name_at}
 use Rattle.shared_session.specs.declared.core_state.Core.{Core}
 use Rattle.redis_error.specs.declared.fault_kind.FaultKind.TheVariants as kinds
@@ -28,21 +28,27 @@ use Rattle.driver_model.specs.declared.action.Action.TheVariants as action
 use Rattle.driver_model.specs.declared.outcome.Outcome.TheVariants as outcome
 use Rattle.legal_trace.specs.Ledger.{Ledger, Heard, Line, is_full, is_full_by, noted, noted_each, parts, reached, tells}
 use Rattle.legal_trace.specs.Story.{Story, Try, bytes_of, last_of, shape}
-use Rattle.legal_trace.specs.Book.{Book, book, entered, if_mine}
+use Rattle.legal_trace.specs.Book.{Book, book, entered, if_mine, current, push_line, blank_book}
 use Rattle.legal_trace.specs.Owed.{owed, owed_to_message, owed_to_try, owed_unstarted}
-use Rattle.legal_trace.specs.Legal.{IsBefore, IsOpen, MayPush, MayPushBy}
+use Rattle.legal_trace.specs.Legal.{AllStand, IsBefore, IsOpen, MayNotify, MayPushBy, MayStand}
 use Rattle.session_laws.proofs.Numbers.{IsIn, Rising, in_either, in_left, in_right, requests_in, request_of}
-use Rattle.session_laws.proofs.Tied.{Inner, Tied, has_ended, link_in, owner_of, queue_ids}
+use Rattle.session_laws.proofs.Tied.{Inner, Tied, has_ended, link_in, owner_of, queue_ids, Sound}
 use Rattle.session_laws.proofs.Said.{ready_shown, sources_asked, readied}
 use Rattle.session_laws.proofs.Names.{length_with, name_with, open_within, with_then}
 use Rattle.session_laws.proofs.InLine.{IsInLine, awaited_in, kept_ids, kept_in, line_of, wanted_in}
 use Rattle.session_laws.proofs.Owes.{lives, open_request, row_link, stands_started, wanted_entry}
 use Rattle.session_laws.proofs.Ahead.{later_untried}
 use Rattle.session_laws.proofs.Answer.{answer_tied, owed_still, skip_tied}
-use Rattle.session_laws.proofs.Told.{push_tied, retells}
+use Rattle.session_laws.proofs.Told.{current_is, lined, notice_action, notice_tied, retells}
 use Rattle.session_laws.proofs.Kept.{mine_noted}
-use Rattle.session_laws.proofs.Settle.{IsDue, Tells, book_of_more, first_may, leaves_all, leaves_on, Leaves, rest_in_line, seen, settled_holds, settled_leaves, sound_told, trace_of_acts, answered_renewal, answered_renewing, one_leaves, replied_each}
+use Rattle.session_laws.proofs.Settle.{IsDue, Tells, book_of_more, first_may, leaves_all, leaves_on, Leaves, rest_in_line, seen, settled_holds, settled_leaves, sound_told, trace_of_acts, answered_renewal, answered_renewing, one_leaves, replied_each, shown_now}
 use Rattle.mux_conn.specs.Renewals.{is_done, renewal_id, renewing, replied}
+use Rattle.driver_model.specs.declared.hearing.Notice.{Notice}
+use Rattle.driver_model.specs.declared.hearing.Notice.TheVariants as notice
+use Rattle.link_laws.proofs.Notices.{IsNoEnd}
+use Rattle.driver_model.specs.Hearing.{hears_something}
+use Rattle.mux_conn.specs.declared.act.LinkAct.{LinkAct}
+use Rattle.mux_conn.specs.declared.connection.MultiplexedConnection.{MultiplexedConnection}
 
 -- the first of what is behind so many
 --
@@ -59,7 +65,7 @@ next_of zero (x ∷ xs) h rest e = record { within = omega arith; behind = cc; n
 next_of (suc n) [] h rest e = cc
 next_of (suc n) (x ∷ xs) h rest e = let r = next_of n xs h rest e in record { within = (let w = r.within in omega arith); behind = (let e : suc n + 1 ≡ suc (n + 1) = omega arith in ap (λ m. drop m (x ∷ xs)) e ∙ r.behind); next = r.next }
 
--- whose message was full before a push came
+-- whose message was full before a notice came
 --
 -- the last try of a request whose message started as number k
 last_try : (b : Book) (t : Inner) (p k : ℕ) (of_shape : Shape) → Tied b t → p < length t.requests → StandsAs (b.link t.link).starts (owner_of t.requests p) of_shape k → last_of (b.story (name_at t.requests p)).tries ≡ Some (record { link = t.link; message = k })
@@ -87,7 +93,7 @@ none_started b p push name none before = no_try before.try (sym (ap last_of none
     no_try : (x : Try) → ◌≡◌ {A = Option Try} None (Some x) → ⊥
     no_try x e = cc
 
--- those whose message was not full before a push came
+-- those whose message was not full before a notice came
 --
 -- what started as this number
 pub record IsLate (l : Ledger) (name : ℕ → Owner) (push : Heard) (p : ℕ) : Type 0 where
@@ -141,13 +147,13 @@ pub record IsOnTime (l : Ledger) (name : ℕ → Owner) (push : Heard) (p : ℕ)
   pub stands : StandsAs l.starts (name p) of_shape number
   pub full : is_full_by l push.after number ≡ true
 
--- the same push
+-- the same notice
 same_push : (x y : Heard) → ◌≡◌ {A = Option Heard} (Some x) (Some y) → x ≡ y
 same_push x y e = cc
 
 -- telling
 --
--- some requests are to be answered, in line, and these pushes are still to be told; of the ledger of their link but this has
+-- some requests are to be answered, in line, and these notices are still to be told; of the ledger of their link but this has
 -- changed, and what is owed, and all names, are as they were
 pub record IsTelling (before : List Action) (f : Core) (ledger : Ledger) (owes : ℕ → Option Outcome) (name : ℕ → ℕ) (was : ℕ → Bool) (w : Work) (untold : List Heard) (pending started : List ℕ) : Type 0 where
   pub holds : Tells before f w untold pending started
@@ -172,11 +178,11 @@ late_now l now told name requests push p is named d =
     subst (λ (x : Ledger). IsLate x (owner_of requests) push p) (sym is)
     (record { number = d.number; of_shape = d.of_shape; stands = subst (λ n. StandsAs l.starts (if p == renewal_id then owner.Auth else owner.Try n 0) d.of_shape d.number) (sym named) d.stands; late = d.late })
 
--- a push that came
+-- a notice that came
 --
--- is no end, and came behind no more items than there are
+-- tells no end, and came behind no more items than there are
 pub record IsHeard (l : Ledger) (h : Heard) : Type 0 where
-  pub kind_is : is_disconnection h.info.kind ≡ false
+  pub kind_is : IsNoEnd h.what
   pub within : h.after ≤ length l.dealt
 
 -- also where one source more is known
@@ -184,30 +190,59 @@ pub heard_readied : (more : Bool) (l : Ledger) (hs : List Heard) → AllByRecurs
 heard_readied more l [] all = tt
 heard_readied more l (h ∷ hs) all = (record { kind_is = all.0.kind_is; within = all.0.within }, heard_readied more l hs all.1)
 
--- a line that tells it
-tells_line : (l : Ledger) (kind : Bool) → kind ≡ false → noted l (if kind then parts else tells) ≡ retells l (l.told + 1) l.parted
-tells_line l true e = cc
-tells_line l false e = refl
+-- what shows it is the action that tells it
+shown_notice : (f : Core) (acts : List LinkAct) (n : Notice) → shown_now f acts (notice_act n) ≡ notice_action f.single.link n
+shown_notice f acts (notice.Push info) = refl
+shown_notice f acts (notice.Message m) = refl
+shown_notice f acts (notice.Monitor v) = refl
+
+-- which asks for nothing
+sound_notice : (before : List Action) (f : Core) (acts : List LinkAct) (n : Notice) (conn : MultiplexedConnection) (untold : List Heard) (pending started : List ℕ) → AllStand blank_book (trace_of_acts before f acts) → MayStand (book (trace_of_acts before f acts)) (notice_action f.single.link n)
+    → Tied (entered (book (trace_of_acts before f acts)) (notice_action f.single.link n)) (record (seen f acts conn pending started) { untold = untold }) → Sound (trace_of_acts before f (acts ++ notice_act n ∷ [])) (record (seen f (acts ++ notice_act n ∷ []) conn pending started) { untold = untold })
+sound_notice before f acts (notice.Push info) conn untold pending started stands may tied = sound_told before f acts (act.Push info) conn untold false pending started stands may tied
+sound_notice before f acts (notice.Message m) conn untold pending started stands may tied = sound_told before f acts (act.Message m) conn untold false pending started stands may tied
+sound_notice before f acts (notice.Monitor v) conn untold pending started stands may tied = sound_told before f acts (act.Monitor v) conn untold false pending started stands may tied
+
+-- the book behind it
+notice_book : (before : List Action) (f : Core) (acts : List LinkAct) (n : Notice) → book (trace_of_acts before f (acts ++ notice_act n ∷ [])) ≡ entered (book (trace_of_acts before f acts)) (notice_action f.single.link n)
+notice_book before f acts n = book_of_more before f acts (notice_act n) ∙ ap (entered (book (trace_of_acts before f acts))) (shown_notice f acts n)
+
+-- in which it is told
+notice_link : (b : Book) (l : ℕ) (n : Notice) → IsNoEnd n → current b ≡ l → (entered b (notice_action l n)).link l ≡ retells (b.link l) ((b.link l).told + 1) (b.link l).parted
+notice_link b l (notice.Push info) come here = mine_noted (b.link l) l (push_line info.kind) ∙ ap (noted (b.link l)) (left_if (is_disconnection info.kind) parts tells come)
+notice_link b l (notice.Message m) come here = ap (λ k. noted_each (b.link l) (if_mine (k == l) tells)) here ∙ mine_noted (b.link l) l tells
+notice_link b l (notice.Monitor v) come here = ap (λ k. noted_each (b.link l) (if_mine (k == l) tells)) here ∙ mine_noted (b.link l) l tells
 
 -- it may be told
-push_may : (b : Book) (t : Inner) (info : PushInfo) (h : Heard) (rest : List Heard) → Tied b t → t.untold ≡ h ∷ rest → t.hears ≡ true → has_ended t.life ≡ false → info ≡ h.info → is_disconnection h.info.kind ≡ false → h.after ≤ length (b.link t.link).dealt
-    → ((p : ℕ) → IsIn p t.pending → p < length t.requests → IsLate (b.link t.link) (owner_of t.requests) h p) → MayPush b t.link info
-push_may b t info h rest tied untold hears alive says kind_is within pending =
-    let n = next_of (b.link t.link).told (b.link t.link).pushes h rest (tied.pushes.untold_is hears ∙ untold) in
-    subst (λ (x : Bool). MayPushBy x b t.link info) (sym (ap (λ (x : PushInfo). is_disconnection x.kind) says ∙ kind_is)) (record {
-      heard = tied.pushes.heard_is ∙ hears;
-      push = h;
-      next = n.next;
+notify_may : (b : Book) (t : Inner) (n : Notice) (h : Heard) (rest : List Heard) → Tied b t → t.untold ≡ h ∷ rest → hears_something t.hears ≡ true → has_ended t.life ≡ false → n ≡ h.what → h.after ≤ length (b.link t.link).dealt
+    → ((p : ℕ) → IsIn p t.pending → p < length t.requests → IsLate (b.link t.link) (owner_of t.requests) h p) → MayNotify b t.link n
+notify_may b t n h rest tied untold hears alive says within pending =
+    let following = next_of (b.link t.link).told (b.link t.link).notices h rest (tied.notices.untold_is hears ∙ untold) in
+    record {
+      is_heard = ap hears_something tied.notices.heard_is ∙ hears;
+      heard = h;
+      next = following.next;
       says = says;
-      in_order = λ m less. ap (λ (hs : List Heard). slice_get hs (b.link m).told) (tied.others m (λ same. absurd (omega arith))).pushes;
+      in_order = λ m less. ap (λ (hs : List Heard). slice_get hs (b.link m).told) (tied.others m (λ same. absurd (omega arith))).notices;
       created = ready_shown b t tied;
       sourced = sources_asked b t tied;
       answered = λ m asked on before. none_was b t h tied alive within pending m asked before;
-    })
+    }
+
+-- so its action may stand
+notice_may : (b : Book) (t : Inner) (n : Notice) → IsNoEnd n → current b ≡ t.link → MayNotify b t.link n → MayStand b (notice_action t.link n)
+notice_may b t (notice.Push info) come here may = subst (λ (x : Bool). MayPushBy x b t.link info) (sym come) may
+notice_may b t (notice.Message m) come here may = subst (λ k. MayNotify b k (notice.Message m)) (sym here) may
+notice_may b t (notice.Monitor v) come here may = subst (λ k. MayNotify b k (notice.Monitor v)) (sym here) may
+
+-- a line that leaves what messages are owed
+pub record LeavesOwed (line : Line) : Type 0 where
+  pub message : (x : Ledger) (n : ℕ) (of_shape : Shape) → owed_to_message (noted x line) n of_shape ≡ owed_to_message x n of_shape
+  pub unstarted : (x : Ledger) → owed_unstarted (noted x line).end ≡ owed_unstarted x.end
 
 -- what is owed stays
-push_owed : (b : Book) (l : ℕ) (info : PushInfo) (m : ℕ) → owed (entered b (action.Push l info)) m ≡ owed b m
-push_owed b l info m = λ i.
+lined_owed : (b : Book) (l : ℕ) (line : Line) (m : ℕ) → LeavesOwed line → owed (lined b l line) m ≡ owed b m
+lined_owed b l line m leaves = λ i.
     if s.late then Some (outcome.Fault error.Closed)
     else if s.unspoken then Some (outcome.Fault error.Resp3Required)
     else if length (bytes_of s) == 0 then Some (outcome.Fault error.EmptyCommand)
@@ -217,61 +252,67 @@ push_owed b l info m = λ i.
     s : Story
     s = b.story m
 
-    line_of_push : Line
-    line_of_push = if is_disconnection info.kind then parts else tells
+    message_same : (x : Ledger) (n k : ℕ) (of_shape : Shape) → owed_to_message (noted_each x (if_mine (l == k) line)) n of_shape ≡ owed_to_message x n of_shape
+    message_same x n k of_shape = chosen (λ (ls : List Line). owed_to_message (noted_each x ls) n of_shape ≡ owed_to_message x n of_shape) (l == k) (line ∷ []) [] (λ t. leaves.message x n of_shape) (λ f. refl)
 
-    message_same : (x : Ledger) (n k : ℕ) (of_shape : Shape) → owed_to_message (noted_each x (if_mine (l == k) line_of_push)) n of_shape ≡ owed_to_message x n of_shape
-    message_same x n k of_shape =
-        chosen (λ (ls : List Line). owed_to_message (noted_each x ls) n of_shape ≡ owed_to_message x n of_shape) (l == k) (line_of_push ∷ []) []
-        (λ t. chosen (λ (y : Line). owed_to_message (noted x y) n of_shape ≡ owed_to_message x n of_shape) (is_disconnection info.kind) parts tells (λ p. refl) (λ q. refl))
-        (λ f. refl)
+    end_same : (x : Ledger) (k : ℕ) → owed_unstarted (noted_each x (if_mine (l == k) line)).end ≡ owed_unstarted x.end
+    end_same x k = chosen (λ (ls : List Line). owed_unstarted (noted_each x ls).end ≡ owed_unstarted x.end) (l == k) (line ∷ []) [] (λ t. leaves.unstarted x) (λ f. refl)
 
-    end_same : (x : Ledger) (k : ℕ) → owed_unstarted (noted_each x (if_mine (l == k) line_of_push)).end ≡ owed_unstarted x.end
-    end_same x k =
-        chosen (λ (ls : List Line). owed_unstarted (noted_each x ls).end ≡ owed_unstarted x.end) (l == k) (line_of_push ∷ []) []
-        (λ t. chosen (λ (y : Line). owed_unstarted (noted x y).end ≡ owed_unstarted x.end) (is_disconnection info.kind) parts tells (λ p. refl) (λ q. refl))
-        (λ f. refl)
-
-    by_try : (x : Option Try) → owed_to_try (entered b (action.Push l info)) s x ≡ owed_to_try b s x
+    by_try : (x : Option Try) → owed_to_try (lined b l line) s x ≡ owed_to_try b s x
     by_try None = end_same (b.link s.link) s.link
     by_try (Some t) = message_same (b.link t.link) t.message t.link (shape s)
 
+-- as a notice does
+push_leaves_owed : (is : Bool) → LeavesOwed (if is then parts else tells)
+push_leaves_owed true = record { message = λ x n of_shape. refl; unstarted = λ x. refl }
+push_leaves_owed false = record { message = λ x n of_shape. refl; unstarted = λ x. refl }
+
+pub push_owed : (b : Book) (l : ℕ) (info : PushInfo) (m : ℕ) → owed (entered b (action.Push l info)) m ≡ owed b m
+push_owed b l info m = lined_owed b l (push_line info.kind) m (push_leaves_owed (is_disconnection info.kind))
+
+-- and anything that is told
+notice_owed : (b : Book) (l : ℕ) (n : Notice) (m : ℕ) → owed (entered b (notice_action l n)) m ≡ owed b m
+notice_owed b l (notice.Push info) m = push_owed b l info m
+notice_owed b l (notice.Message x) m = lined_owed b (current b) tells m (push_leaves_owed false)
+notice_owed b l (notice.Monitor v) m = lined_owed b (current b) tells m (push_leaves_owed false)
+
 -- and is
-one_told : (before : List Action) (f : Core) (ledger : Ledger) (owes : ℕ → Option Outcome) (name : ℕ → ℕ) (was : ℕ → Bool) (w : Work) (info : PushInfo) (h : Heard) (rest : List Heard) (pending started : List ℕ) → w.conn.hears ≡ true → has_ended w.conn.life ≡ false → info ≡ h.info → IsHeard ledger h
-    → ((p : ℕ) → IsIn p pending → IsLate ledger (try_of name) h p) → IsTelling before f ledger owes name was w (h ∷ rest) pending started → IsTelling before f ledger owes name was (pushed w info) rest pending started
-one_told before f ledger owes name was w info h rest pending started hears alive says heard late k =
+one_told : (before : List Action) (f : Core) (ledger : Ledger) (owes : ℕ → Option Outcome) (name : ℕ → ℕ) (was : ℕ → Bool) (w : Work) (n : Notice) (h : Heard) (rest : List Heard) (pending started : List ℕ) → hears_something w.conn.hears ≡ true → has_ended w.conn.life ≡ false → n ≡ h.what → IsHeard ledger h
+    → ((p : ℕ) → IsIn p pending → IsLate ledger (try_of name) h p) → IsTelling before f ledger owes name was w (h ∷ rest) pending started → IsTelling before f ledger owes name was (noticed w n) rest pending started
+one_told before f ledger owes name was w n h rest pending started hears alive says heard late k =
     let b = book (trace_of_acts before f w.acts) in
     let t = record (seen f w.acts w.conn pending started) { untold = h ∷ rest } in
     let l = b.link f.single.link in
-    let a = act.Push info in
-    let kind_is = ap (λ (x : PushInfo). is_disconnection x.kind) says ∙ heard.kind_is in
-    let n = next_of l.told l.pushes h rest (k.holds.tied.pushes.untold_is hears) in
-    let line_is = tells_line l (is_disconnection info.kind) kind_is in
-    let next_is : (book (trace_of_acts before f (pushed w info).acts)).link f.single.link ≡ retells l (l.told + 1) l.parted = ap (λ (x : Book). x.link f.single.link) (book_of_more before f w.acts a) ∙ mine_noted l f.single.link (if is_disconnection info.kind then parts else tells) ∙ line_is in
+    let come : IsNoEnd n = subst IsNoEnd (sym says) heard.kind_is in
+    let here = current_is b t k.holds.tied in
+    let following = next_of l.told l.notices h rest (k.holds.tied.notices.untold_is hears) in
+    let next_is : (book (trace_of_acts before f (noticed w n).acts)).link f.single.link ≡ retells l (l.told + 1) l.parted = ap (λ (x : Book). x.link f.single.link) (notice_book before f w.acts n) ∙ notice_link b f.single.link n come here in
     record {
-      holds = sound_told before f w.acts a w.conn rest false pending started k.holds.stands
-          (push_may b t info h rest k.holds.tied refl hears alive says heard.kind_is (subst (λ (x : Ledger). h.after ≤ length x.dealt) (sym k.ledger_is) heard.within)
-          (λ p i less. late_now ledger l k.told name w.conn.requests h p k.ledger_is (k.named p) (late p i)))
-          (push_tied b t info (l.told + 1) l.parted rest false line_is (record {
-            heard_is = k.holds.tied.pushes.heard_is;
-            within = λ y. n.within;
-            untold_is = λ y. n.behind;
-            parts = k.holds.tied.pushes.parts;
-            alive = k.holds.tied.pushes.alive;
-            due = k.holds.tied.pushes.due;
+      holds = sound_notice before f w.acts n w.conn rest pending started k.holds.stands
+          (notice_may b t n come here (notify_may b t n h rest k.holds.tied refl hears alive says (subst (λ (x : Ledger). h.after ≤ length x.dealt) (sym k.ledger_is) heard.within)
+          (λ p i less. late_now ledger l k.told name w.conn.requests h p k.ledger_is (k.named p) (late p i))))
+          (notice_tied b t n rest come (record {
+            heard_is = k.holds.tied.notices.heard_is;
+            hearing_is = k.holds.tied.notices.hearing_is;
+            within = λ y. following.within;
+            untold_is = λ y. following.behind;
+            parts = k.holds.tied.notices.parts;
+            alive = k.holds.tied.notices.alive;
+            due = k.holds.tied.notices.due;
+            tame = k.holds.tied.notices.tame;
           }) k.holds.tied);
       line = k.line;
       told = l.told + 1;
       ledger_is = next_is ∙ ap (λ (x : Ledger). retells x (l.told + 1) x.parted) k.ledger_is;
-      owed_is = λ m. ap (λ (x : Book). owed x m) (book_of_more before f w.acts a) ∙ push_owed b f.single.link info m ∙ k.owed_is m;
+      owed_is = λ m. ap (λ (x : Book). owed x m) (notice_book before f w.acts n) ∙ notice_owed b f.single.link n m ∙ k.owed_is m;
       named = k.named;
       opens = k.opens;
     }
 
 -- an answer between
 --
--- the first of those that are to be answered is, where it is open: its message was full before the next push
-answered_between : (before : List Action) (f : Core) (ledger : Ledger) (owes : ℕ → Option Outcome) (name : ℕ → ℕ) (was : ℕ → Bool) (w : Work) (h : Heard) (rest : List Heard) (p : ℕ) (o : Outcome) (pending started : List ℕ) → w.conn.hears ≡ true → (was p ≡ true → owes (name p) ≡ Some o)
+-- the first of those that are to be answered is, where it is open: its message was full before the next notice
+answered_between : (before : List Action) (f : Core) (ledger : Ledger) (owes : ℕ → Option Outcome) (name : ℕ → ℕ) (was : ℕ → Bool) (w : Work) (h : Heard) (rest : List Heard) (p : ℕ) (o : Outcome) (pending started : List ℕ) → hears_something w.conn.hears ≡ true → (was p ≡ true → owes (name p) ≡ Some o)
     → IsOnTime ledger (try_of name) h p → IsTelling before f ledger owes name was w (h ∷ rest) (p ∷ pending) started → IsTelling before f ledger owes name was (answered w p o) (h ∷ rest) pending started
 answered_between before f ledger owes name was w h rest p o pending started hears due early k =
     chosen (λ (x : Work). IsTelling before f ledger owes name was x (h ∷ rest) pending started) (is_open_at w.conn.requests p) _ w open_one shut_one
@@ -292,7 +333,7 @@ answered_between before f ledger owes name was w h rest p o pending started hear
         let place = subst (λ n. StandsAs ledger.starts (if p == renewal_id then owner.Auth else owner.Try n 0) early.of_shape early.number) (sym (k.named p)) early.stands in
         let here = subst (λ (x : Ledger). StandsAs x.starts (owner_of w.conn.requests p) early.of_shape early.number) (sym k.ledger_is) place in
         let full = subst (λ (x : Ledger). is_full_by x h.after early.number ≡ true) (sym k.ledger_is) early.full in
-        let n = next_of l.told l.pushes h rest (k.holds.tied.pushes.untold_is hears) in
+        let n = next_of l.told l.notices h rest (k.holds.tied.notices.untold_is hears) in
         record {
           holds = sound_told before f w.acts a (closed w.conn p) (h ∷ rest) false pending started k.holds.stands
               (inl (first_may b t p pending o k.holds.tied k.line e owes_now
@@ -317,7 +358,7 @@ answered_between before f ledger owes name was w h rest p o pending started hear
       opens = k.opens;
     }
 
--- where no push is left the others are answered
+-- where no notice is left the others are answered
 answered_last : (before : List Action) (f : Core) (ledger : Ledger) (owes : ℕ → Option Outcome) (name : ℕ → ℕ) (was : ℕ → Bool) (w : Work) (ss : List Settled) (started : List ℕ) → AllByRecursion (IsDue owes name was) ss
     → IsTelling before f ledger owes name was (renewing w (replied_each w.conn.renewal ss)) [] (requests_in (settled_ids ss) ++ []) started → IsTelling before f ledger owes name was (settled_each w ss) [] [] started
 answered_last before f ledger owes name was w ss started due k =
@@ -326,7 +367,7 @@ answered_last before f ledger owes name was w ss started due k =
     record { holds = a.holds; line = a.line; told = k.told; ledger_is = a.ledger_is ∙ k.ledger_is; owed_is = a.owed_is; named = a.named; opens = a.opens }
 
 -- one that was settled is answered between, where it is a request's
-settled_between : (before : List Action) (f : Core) (ledger : Ledger) (owes : ℕ → Option Outcome) (name : ℕ → ℕ) (was : ℕ → Bool) (w : Work) (h : Heard) (rest : List Heard) (s : Settled) (ss : List Settled) (started : List ℕ) (auth : Bool) → w.conn.hears ≡ true → IsDue owes name was s → IsOnTime ledger (try_of name) h s.id
+settled_between : (before : List Action) (f : Core) (ledger : Ledger) (owes : ℕ → Option Outcome) (name : ℕ → ℕ) (was : ℕ → Bool) (w : Work) (h : Heard) (rest : List Heard) (s : Settled) (ss : List Settled) (started : List ℕ) (auth : Bool) → hears_something w.conn.hears ≡ true → IsDue owes name was s → IsOnTime ledger (try_of name) h s.id
     → (let r = w.conn.renewal in let ids = requests_in (settled_ids ss) in IsTelling before f ledger owes name was (renewing w (replied_each (if auth then replied r (is_done s.verdict) else r) ss)) (h ∷ rest) ((if auth then ids else s.id ∷ ids) ++ []) started)
     → (let v = if auth then renewing w (replied w.conn.renewal (is_done s.verdict)) else answered w s.id (outcome_of s.verdict) in IsTelling before f ledger owes name was (renewing v (replied_each v.conn.renewal ss)) (h ∷ rest) (requests_in (settled_ids ss) ++ []) started)
 settled_between before f ledger owes name was w h rest s ss started true hears due early k = k
@@ -344,13 +385,13 @@ of_requests q ids i = elim (in_either q (requests_in ids) [] i) [ inl j ↦ in_l
 
 -- all of them
 --
--- where no push came they are answered
+-- where no notice came they are answered
 none_told : (w : Work) (n : ℕ) (ss : List Settled) → told_each w n [] ss ≡ settled_each w ss
 none_told w n [] = refl
 none_told w n (s ∷ ss) = refl
 
--- each that stands from this place on was not full before a push that came at or before it
-behind_in : (name : ℕ → ℕ) (l : Ledger) (p : PushAt) (ps : List PushAt) (h : Heard) (hs : List Heard) (n j : ℕ) (ss : List Settled) → p.settled ≤ n → n ≤ j → AreApart (try_of name) l (p ∷ ps) (h ∷ hs) j ss → (q : ℕ) → IsIn q (settled_ids ss ++ []) → IsLate l (try_of name) h q
+-- each that stands from this place on was not full before a notice that came at or before it
+behind_in : (name : ℕ → ℕ) (l : Ledger) (p : NoticeAt) (ps : List NoticeAt) (h : Heard) (hs : List Heard) (n j : ℕ) (ss : List Settled) → p.settled ≤ n → n ≤ j → AreApart (try_of name) l (p ∷ ps) (h ∷ hs) j ss → (q : ℕ) → IsIn q (settled_ids ss ++ []) → IsLate l (try_of name) h q
 behind_in name l p ps h hs n j [] early behind all q i = absurd i
 behind_in name l p ps h hs n j (s ∷ ss) early behind all q (inl same) = record {
   number = all.0.number;
@@ -363,51 +404,51 @@ behind_in name l p ps h hs n j (s ∷ ss) early behind all q (inl same) = record
     not_below a b within = by_test (nat_lt a b) _ (λ t. absurd (let less = lt_from a b t in omega arith)) (λ f. f)
 behind_in name l p ps h hs n j (s ∷ ss) early behind all q (inr i) = behind_in name l p ps h hs n (suc j) ss early (omega arith) all.1 q i
 
--- behind the first push they stand as they did
-apart_rest : (name : ℕ → Owner) (l : Ledger) (p : PushAt) (ps : List PushAt) (h : Heard) (hs : List Heard) (j : ℕ) (ss : List Settled) → AreApart name l (p ∷ ps) (h ∷ hs) j ss → AreApart name l ps hs j ss
+-- behind the first notice they stand as they did
+apart_rest : (name : ℕ → Owner) (l : Ledger) (p : NoticeAt) (ps : List NoticeAt) (h : Heard) (hs : List Heard) (j : ℕ) (ss : List Settled) → AreApart name l (p ∷ ps) (h ∷ hs) j ss → AreApart name l ps hs j ss
 apart_rest name l p ps h hs j [] all = tt
 apart_rest name l p ps h hs j (s ∷ ss) all = (
   record { number = all.0.number; of_shape = all.0.of_shape; stands = all.0.stands; owes = all.0.owes; apart = λ i x y at there. all.0.apart (suc i) x y at there },
   apart_rest name l p ps h hs (suc j) ss all.1,
 )
 
--- a push leaves the connection
-push_leaves : (w : Work) (info : PushInfo) → Leaves w (pushed w info)
-push_leaves w info = record { size = refl; boundary = refl; life = refl; waiting = refl; admitted = refl; fresh = refl; moved = refl; hears = refl }
+-- a notice leaves the connection
+notice_leaves : (w : Work) (n : Notice) → Leaves w (noticed w n)
+notice_leaves w n = record { size = refl; boundary = refl; life = refl; waiting = refl; admitted = refl; fresh = refl; moved = refl; hears = refl }
 
 -- what telling leaves
-pub told_leaves : (w : Work) (n : ℕ) (ps : List PushAt) (ss : List Settled) → Leaves w (told_each w n ps ss)
+pub told_leaves : (w : Work) (n : ℕ) (ps : List NoticeAt) (ss : List Settled) → Leaves w (told_each w n ps ss)
 told_leaves w n [] [] = leaves_all w
 told_leaves w n [] (s ∷ ss) = settled_leaves w (s ∷ ss)
-told_leaves w n (p ∷ ps) [] = leaves_on w (pushed w p.info) (told_each (pushed w p.info) n ps []) (push_leaves w p.info) (told_leaves (pushed w p.info) n ps [])
+told_leaves w n (p ∷ ps) [] = leaves_on w (noticed w p.notice) (told_each (noticed w p.notice) n ps []) (notice_leaves w p.notice) (told_leaves (noticed w p.notice) n ps [])
 told_leaves w n (p ∷ ps) (s ∷ ss) =
     let v = settled_one w s in
-    chosen (Leaves w) (nat_le p.settled n) (told_each (pushed w p.info) n ps (s ∷ ss)) (told_each v (n + 1) (p ∷ ps) ss)
-    (λ t. leaves_on w (pushed w p.info) (told_each (pushed w p.info) n ps (s ∷ ss)) (push_leaves w p.info) (told_leaves (pushed w p.info) n ps (s ∷ ss)))
+    chosen (Leaves w) (nat_le p.settled n) (told_each (noticed w p.notice) n ps (s ∷ ss)) (told_each v (n + 1) (p ∷ ps) ss)
+    (λ t. leaves_on w (noticed w p.notice) (told_each (noticed w p.notice) n ps (s ∷ ss)) (notice_leaves w p.notice) (told_leaves (noticed w p.notice) n ps (s ∷ ss)))
     (λ f. leaves_on w v (told_each v (n + 1) (p ∷ ps) ss) (one_leaves w s) (told_leaves v (n + 1) (p ∷ ps) ss))
 
--- each push is told in its place, and all else is answered
-pub told_holds : (before : List Action) (f : Core) (ledger : Ledger) (owes : ℕ → Option Outcome) (name : ℕ → ℕ) (was : ℕ → Bool) (w : Work) (n : ℕ) (ps : List PushAt) (hs : List Heard) (ss : List Settled) (started : List ℕ) → w.conn.hears ≡ true → has_ended w.conn.life ≡ false → SayTheSame ps hs
+-- each notice is told in its place, and all else is answered
+pub told_holds : (before : List Action) (f : Core) (ledger : Ledger) (owes : ℕ → Option Outcome) (name : ℕ → ℕ) (was : ℕ → Bool) (w : Work) (n : ℕ) (ps : List NoticeAt) (hs : List Heard) (ss : List Settled) (started : List ℕ) → hears_something w.conn.hears ≡ true → has_ended w.conn.life ≡ false → SayTheSame ps hs
     → AreApart (try_of name) ledger ps hs n ss → AllByRecursion (IsHeard ledger) hs → AllByRecursion (IsDue owes name was) ss → IsTelling before f ledger owes name was (renewing w (replied_each w.conn.renewal ss)) hs (requests_in (settled_ids ss) ++ []) started → IsTelling before f ledger owes name was (told_each w n ps ss) [] [] started
 told_holds before f ledger owes name was w n [] [] ss started hears alive same apart heard due k =
     subst (λ (x : Work). IsTelling before f ledger owes name was x [] [] started) (sym (none_told w n ss)) (answered_last before f ledger owes name was w ss started due k)
 told_holds before f ledger owes name was w n [] (h ∷ hs) ss started hears alive same apart heard due k = absurd same
 told_holds before f ledger owes name was w n (p ∷ ps) [] ss started hears alive same apart heard due k = absurd same
 told_holds before f ledger owes name was w n (p ∷ ps) (h ∷ hs) [] started hears alive same apart heard due k =
-    told_holds before f ledger owes name was (pushed w p.info) n ps hs [] started hears alive same.1 tt heard.1 tt (one_told before f ledger owes name was w p.info h hs [] started hears alive same.0 heard.0 (λ q i. absurd i) k)
+    told_holds before f ledger owes name was (noticed w p.notice) n ps hs [] started hears alive same.1 tt heard.1 tt (one_told before f ledger owes name was w p.notice h hs [] started hears alive same.0 heard.0 (λ q i. absurd i) k)
 told_holds before f ledger owes name was w n (p ∷ ps) (h ∷ hs) (s ∷ ss) started hears alive same apart heard due k =
     let v = settled_one w s in
     let still = one_leaves w s in
     let come = replied_each w.conn.renewal (s ∷ ss) in
     let ids = settled_ids (s ∷ ss) in
-    chosen (λ (x : Work). IsTelling before f ledger owes name was x [] [] started) (nat_le p.settled n) (told_each (pushed w p.info) n ps (s ∷ ss)) (told_each v (n + 1) (p ∷ ps) ss)
+    chosen (λ (x : Work). IsTelling before f ledger owes name was x [] [] started) (nat_le p.settled n) (told_each (noticed w p.notice) n ps (s ∷ ss)) (told_each v (n + 1) (p ∷ ps) ss)
     (λ t.
-    told_holds before f ledger owes name was (pushed w p.info) n ps hs (s ∷ ss) started hears alive same.1 (apart_rest (try_of name) ledger p ps h hs n (s ∷ ss) apart) heard.1 due
-    (one_told before f ledger owes name was (renewing w come) p.info h hs (requests_in ids ++ []) started hears alive same.0 heard.0 (λ q i. behind_in name ledger p ps h hs n n (s ∷ ss) (le_from p.settled n t) (omega arith) apart q (of_requests q ids i)) k))
+    told_holds before f ledger owes name was (noticed w p.notice) n ps hs (s ∷ ss) started hears alive same.1 (apart_rest (try_of name) ledger p ps h hs n (s ∷ ss) apart) heard.1 due
+    (one_told before f ledger owes name was (renewing w come) p.notice h hs (requests_in ids ++ []) started hears alive same.0 heard.0 (λ q i. behind_in name ledger p ps h hs n n (s ∷ ss) (le_from p.settled n t) (omega arith) apart q (of_requests q ids i)) k))
     (λ t.
     let late = not_le_from p.settled n t in
     let next : n + 1 ≡ suc n = omega arith in
-    told_holds before f ledger owes name was v (n + 1) (p ∷ ps) (h ∷ hs) ss started (still.hears ∙ hears) (ap has_ended still.life ∙ alive) same (subst (λ m. AreApart (try_of name) ledger (p ∷ ps) (h ∷ hs) m ss) (sym next) apart.1) heard due.1
+    told_holds before f ledger owes name was v (n + 1) (p ∷ ps) (h ∷ hs) ss started (ap hears_something still.hears ∙ hears) (ap has_ended still.life ∙ alive) same (subst (λ m. AreApart (try_of name) ledger (p ∷ ps) (h ∷ hs) m ss) (sym next) apart.1) heard due.1
     (settled_between before f ledger owes name was w h hs s ss started (s.id == renewal_id) hears due.0
     (record { number = apart.0.number; of_shape = apart.0.of_shape; stands = apart.0.stands; full = sym (apart.0.apart 0 p h refl refl) ∙ lt_test n p.settled late }) k))
 

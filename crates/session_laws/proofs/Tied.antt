@@ -1,5 +1,5 @@
 -- What ties a session to the book of its trace.
-use Rattle.std.proofs.Common.{◌≡◌, ◌≢◌, ◌⊎◌, ℕ, zero, suc, ◌+◌, ◌^◌, ◌<◌, ◌≤◌, ◌==◌, if◌then◌else◌, Bool, true, false, List, [], ◌∷◌, ◌++◌, length, drop, Option, Some, None, slice_get}
+use Rattle.std.proofs.Common.{◌≡◌, ◌≢◌, ◌⊎◌, ℕ, zero, suc, ◌+◌, ◌^◌, ◌<◌, ◌≤◌, ◌==◌, if◌then◌else◌, Bool, true, false, List, [], ◌∷◌, ◌++◌, length, drop, Option, Some, None, slice_get, codes, ◌&&◌}
 use Rattle.std.specs.List.{AllByRecursion}
 use Rattle.redis_error.specs.declared.redis_error.RedisError.{RedisError}
 use Rattle.resp_value.specs.declared.value.Value.TheVariants.{Nil}
@@ -21,13 +21,19 @@ use Rattle.driver_model.specs.declared.outcome.Shape.{Shape}
 use Rattle.driver_model.specs.declared.action.Cause.TheVariants as cause
 use Rattle.driver_model.specs.declared.action.Purpose.TheVariants as purpose
 use Rattle.driver_model.specs.declared.config.Config.{Config}
+use Rattle.resp_write.specs.Pack.{pack}
+use Rattle.driver_model.specs.declared.kind.SessionKind.{SessionKind}
+use Rattle.driver_model.specs.declared.hearing.Hearing.{Hearing}
+use Rattle.driver_model.specs.Hearing.{hears_something, hears_pushes, is_watching}
 use Rattle.link_core.specs.declared.message.Entry.{Entry}
 use Rattle.link_core.specs.declared.message.Queued.{Queued}
 use Rattle.link_core.specs.Link.{LinkState, fresh as fresh_link}
 use Rattle.link_laws.specs.Settles.{wanted, awaited_ids}
 use Rattle.link_laws.proofs.TiedLink.{TiedLink}
-use Rattle.driver_model.specs.declared.outcome.Shape.TheVariants.{Confirmation}
+use Rattle.driver_model.specs.declared.outcome.Shape.TheVariants.{Confirmation, Single}
 use Rattle.driver_model.specs.Shape.{verdict_of}
+use Rattle.mux_conn.specs.declared.life.Greeting.{Greeting}
+use Rattle.mux_conn.specs.declared.life.Greeting.TheVariants as greet
 use Rattle.mux_conn.specs.declared.life.Life.{Life}
 use Rattle.mux_conn.specs.declared.life.Life.TheVariants.{Dialing, Wanting, SettingUp, Ready, Ended}
 use Rattle.mux_conn.specs.declared.renewal.Renewal.{Renewal}
@@ -36,24 +42,25 @@ use Rattle.mux_conn.specs.Renewals.{renewal_id}
 use Rattle.mux_conn.specs.declared.request.Pending.{Pending}
 use Rattle.mux_conn.specs.declared.request.Request.{Request}
 use Rattle.mux_conn.specs.declared.request.Waiting.{Waiting}
-use Rattle.mux_conn.specs.Effects.{setup_queued}
+use Rattle.mux_conn.specs.Effects.{setup_queued, setup_id}
 use Rattle.mux_conn.specs.Requests.{name_at, permits_at, is_open_at, is_waiting_at, is_admitted_at, is_placed_at}
 use Rattle.shared_session.specs.declared.core_state.Core.{Core}
 use Rattle.shared_session.specs.Turn.{use_after}
-use Rattle.legal_trace.specs.Ledger.{Ledger, Heard, Sourced, Start, End, cut, failure_in, is_cut, is_done, is_full, is_of_renewal, is_set_up, is_taken, last_renewal, renewal_count, setup_count, setup_steps, setup_after}
+use Rattle.legal_trace.specs.Ledger.{Ledger, Heard, Sourced, Start, End, cut, failure_in, is_cut, is_done, is_full, is_greeted, is_of_renewal, is_set_up, is_taken, last_renewal, monitor_of, renewal_count, setup_count, setup_steps, setup_after}
 use Rattle.legal_trace.specs.Story.{Story, blank_story, is_open, is_told, bytes_of, shape, is_awaited}
-use Rattle.legal_trace.specs.Book.{Book, blank_book, book}
+use Rattle.legal_trace.specs.Book.{Book, blank_book, book, hearing_in, kind_in}
 use Rattle.legal_trace.specs.Steps.{configured, queue_size, permits_in, permits_held, is_let_in}
-use Rattle.legal_trace.specs.Legal.{AllStand, IsTimed, answer_time, is_heard}
+use Rattle.legal_trace.specs.Legal.{AllStand, IsTimed, answer_time}
 use Rattle.legal_trace.specs.Owed.{owed_unstarted}
 use Rattle.session_laws.proofs.Numbers.{IsIn, Rising, requests_in}
+use Rattle.driver_model.specs.News.{News, came}
 
 -- what counts of a session in the middle of a turn: how many turns it has begun, how many links it has asked for and
 -- which of them is its connection's, what each timer, and each source of credentials, was asked for, whether everything was
 -- shut down, the request of each submission, and within how many milliseconds one that comes now is to be answered; how many
 -- messages the queue of its connection's link holds, at how many unwritten bytes none starts, how many permits there are, if
--- they are counted, and how many are free; whether somebody hears pushes, which pushes of those that came are still to be
--- told, and whether the end of the link is; what is said to the server before the first request, and its credentials
+-- they are counted, and how many are free; what is heard beside replies, what of that which came is still to be told, and whether
+-- the end of the link is; what the session is; what is said to the server before the first request, and its credentials
 -- that come of sources; its connection's life and requests, those that wait for the connection, those that wait for a place, those
 -- that came in this turn and those that were moved in it, whose waits aren't shown yet; the one that is being let in; the
 -- requests that are settled and not answered yet; and the numbers of the messages that started behind the setups, in order: a
@@ -71,7 +78,8 @@ pub record Inner : Type 0 where
   pub bound : ℕ
   pub limit : Option ℕ
   pub free : ℕ
-  pub hears : Bool
+  pub kind : SessionKind
+  pub hears : Hearing
   pub untold : List Heard
   pub parting : Bool
   pub info : RedisConnectionInfo
@@ -94,7 +102,7 @@ no_link = fresh_link 0 0
 abbrev pub link_in : Life → LinkState
 link_in Dialing = no_link
 link_in (Wanting link) = no_link
-link_in (SettingUp link with_user) = no_link
+link_in (SettingUp link greeting) = no_link
 link_in (Ready link) = link
 link_in (Ended e) = no_link
 
@@ -102,7 +110,7 @@ link_in (Ended e) = no_link
 abbrev pub has_ended : Life → Bool
 has_ended Dialing = false
 has_ended (Wanting link) = false
-has_ended (SettingUp link with_user) = false
+has_ended (SettingUp link greeting) = false
 has_ended (Ready link) = false
 has_ended (Ended e) = true
 
@@ -114,15 +122,21 @@ owner_of requests p = if p == renewal_id then owner.Auth else owner.Try (name_at
 abbrev pub whole_link : Life → LinkState
 whole_link Dialing = no_link
 whole_link (Wanting link) = link
-whole_link (SettingUp link with_user) = link
+whole_link (SettingUp link greeting) = link
 whole_link (Ready link) = link
 whole_link (Ended e) = no_link
 
--- whose messages its link carries: the setup's alone, until it is set up
+-- whose message a greeting is
+abbrev pub greeter : Greeting → Owner
+greeter greet.WithUser = owner.Setup
+greeter greet.WithoutUser = owner.Setup
+greeter greet.Monitor = owner.Monitor
+
+-- whose messages its link carries: those of its greetings alone, until it is set up
 abbrev pub carried : Life → List Request → ℕ → Owner
 carried Dialing requests = owner_of requests
 carried (Wanting link) requests = λ p. owner.Setup
-carried (SettingUp link with_user) requests = λ p. owner.Setup
+carried (SettingUp link greeting) requests = λ p. greeter greeting
 carried (Ready link) requests = owner_of requests
 carried (Ended e) requests = owner_of requests
 
@@ -153,6 +167,7 @@ abbrev pub IsAim : Purpose → ℕ → ℕ → Type 0
 IsAim (purpose.Connect l) link count = l ≡ link
 IsAim (purpose.Response owner.Setup) link count = ⊥
 IsAim (purpose.Response owner.Auth) link count = ⊥
+IsAim (purpose.Response owner.Monitor) link count = ⊥
 IsAim (purpose.Renewal l k) link count = l ≡ link
 IsAim (purpose.Response (owner.Try n round)) link count = (n < count) × (round ≡ 0)
 
@@ -173,7 +188,13 @@ pub record IsConfigured (b : Book) (size bound : ℕ) (limit : Option ℕ) : Typ
   pub some : 0 < size
   pub limited : limit ≢ Some 0
 
--- the numbers that the session gives are those of the book; its connection's link is the only one; all timers are for it or
+-- where the server is put into monitor mode nothing is submitted, and no credentials come of sources
+pub record IsBare (table : List (Option Pending)) (r : Renewal) : Type 0 where
+  pub none : table ≡ []
+  pub unwanted : r.wanted ≡ false
+  pub unrenewed : r.waiting ≡ []
+
+-- the numbers that the session gives are those of the book, and so is what it is; its connection's link is the only one; all timers are for it or
 -- for a submission, all sources of credentials are for it, and the opening has asked for its timer; what is told to its server is
 -- to be answered within the configured time; and no more numbers were given to submissions than there are
 pub record TiedNumbers (b : Book) (t : Inner) : Type 0 where
@@ -190,6 +211,8 @@ pub record TiedNumbers (b : Book) (t : Inner) : Type 0 where
   pub within : answer_time b.config ≡ t.renewal.within
   pub few : length t.table ≤ 2 ^ 32
   pub settings : IsConfigured b t.size t.bound t.limit
+  pub kind_is : kind_in b.config ≡ t.kind
+  pub quiet : is_watching t.hears ≡ true → IsBare t.table t.renewal
   pub one : t.links ≡ t.link + 1
   pub only : (m : ℕ) → m < t.links → m ≡ t.link
 
@@ -199,17 +222,29 @@ pub record IsUnknown (l : Ledger) : Type 0 where
   pub up : l.up ≡ false
   pub end : l.end ≡ None
   pub starts : l.starts ≡ []
-  pub pushes : l.pushes ≡ []
+  pub notices : l.notices ≡ []
 
--- where somebody hears the pushes of a link: those are still to be told that weren't, and its end, by a fault once it was set
--- up, was told but where it is still to be
-pub record TiedPushes (heard hears : Bool) (pushes : List Heard) (told : ℕ) (end : Option End) (parted : Bool) (untold : List Heard) (parting : Bool) : Type 0 where
+-- these are bytes that came
+abbrev pub brings_bytes : News → Bool
+brings_bytes (came piece) = true
+brings_bytes _ = false
+
+-- the turn that runs brings bytes for a link that is up
+abbrev pub is_reading : Ledger → Bool
+is_reading l = brings_bytes l.heard && l.up
+
+-- what is heard is what the configuration says, also for the link; where something is, that is still to be told which wasn't; where
+-- pushes are, its end, by a fault once it was set up, was told but where it is still to be; and until it ends, no value came that
+-- ends it, but in a turn that brings bytes
+pub record TiedNotices (heard hears hearing : Hearing) (notices : List Heard) (told : ℕ) (end : Option End) (parted strange reading : Bool) (untold : List Heard) (parting : Bool) : Type 0 where
   pub heard_is : heard ≡ hears
-  pub within : hears ≡ true → told ≤ length pushes
-  pub untold_is : hears ≡ true → drop told pushes ≡ untold
-  pub parts : hears ≡ true → parting ≡ false → is_cut end ≡ true → parted ≡ true
+  pub hearing_is : hearing ≡ hears
+  pub within : hears_something hears ≡ true → told ≤ length notices
+  pub untold_is : hears_something hears ≡ true → drop told notices ≡ untold
+  pub parts : hears_pushes hears ≡ true → parting ≡ false → is_cut end ≡ true → parted ≡ true
   pub alive : end ≡ None → parted ≡ false
   pub due : parting ≡ true → parted ≡ false
+  pub tame : end ≡ None → reading ≡ false → strange ≡ false
 
 -- where the opening failed, this was shown
 abbrev pub FailureIsShown : Option End → ℕ → Type 0
@@ -219,7 +254,7 @@ FailureIsShown end created = (e : RedisError) → failure_in end ≡ Some e → 
 abbrev pub TiedLife : Ledger → ℕ → Life → Type 0
 TiedLife l created Dialing = (l.asked ≡ true) × (l.up ≡ false) × (l.end ≡ None) × (created ≡ 0)
 TiedLife l created (Wanting link) = (l.asked ≡ true) × (l.up ≡ true) × (l.end ≡ None) × (created ≡ 0)
-TiedLife l created (SettingUp link with_user) = (l.asked ≡ true) × (l.up ≡ true) × (l.end ≡ None) × (created ≡ 0)
+TiedLife l created (SettingUp link greeting) = (l.asked ≡ true) × (l.up ≡ true) × (l.end ≡ None) × (created ≡ 0)
 TiedLife l created (Ready link) = (l.asked ≡ true) × (l.up ≡ true) × (l.end ≡ None) × (created ≢ 0)
 TiedLife l created (Ended e) = (l.up ≡ false) × (owed_unstarted l.end ≡ Some (outcome.Fault e)) × FailureIsShown l.end created
 
@@ -231,7 +266,7 @@ HasCredentials c = (c.wanted ≡ false) ⊎ ((c.asked ≡ true) × (c.given ≡ 
 abbrev pub AreSought : Sourced → Life → Type 0
 AreSought c Dialing = (c.asked ≡ false) × (c.given ≡ false) × (c.renews ≡ false)
 AreSought c (Wanting link) = (c.wanted ≡ true) × (c.asked ≡ true) × (c.given ≡ false) × (c.renews ≡ false)
-AreSought c (SettingUp link with_user) = HasCredentials c × (c.renews ≡ false)
+AreSought c (SettingUp link greeting) = HasCredentials c × (c.renews ≡ false)
 AreSought c (Ready link) = HasCredentials c × (c.renews ≡ c.wanted)
 AreSought c (Ended e) = Unit {0}
 
@@ -297,32 +332,78 @@ pub record AreRenewed (l : Ledger) (r : Renewal) : Type 0 where
 abbrev pub TiedRenewal : Ledger → Renewal → Life → Type 0
 TiedRenewal l r Dialing = NoneRenewed l r
 TiedRenewal l r (Wanting link) = NoneRenewed l r
-TiedRenewal l r (SettingUp link with_user) = NoneRenewed l r
+TiedRenewal l r (SettingUp link greeting) = NoneRenewed l r
 TiedRenewal l r (Ready link) = AreRenewed l r
 TiedRenewal l r (Ended e) = ((r.within ≢ None) → renewal_count l.starts ≤ l.creds.timed) × (renewal_count l.starts ≤ r.asked)
 
+-- the greeting that the setup of that number is
+abbrev pub greeting_at : ℕ → Greeting
+greeting_at zero = greet.WithUser
+greeting_at (suc k) = greet.WithoutUser
+
+-- nothing but setups has started
+abbrev pub AreSetupsAlone : Ledger → Type 0
+AreSetupsAlone l = owners_of l.starts ≡ setup_owners (setup_count l.starts) []
+
 -- the setup that is to start next on a link is in its queue: the first with the user name, and a second one without it
-pub record IsSetupDue (l : Ledger) (link : LinkState) (with_user : Bool) : Type 0 where
+pub record IsSetupDue (l : Ledger) (link : LinkState) (greeting : Greeting) : Type 0 where
   pub due : setup_after l (setup_count l.starts) ≡ Some (setup_count l.starts)
-  pub user : with_user ≡ (setup_count l.starts == 0)
-  pub queue : link.queue ≡ setup_queued (setup_steps l (setup_count l.starts)) with_user ∷ []
+  pub user : greeting ≡ greeting_at (setup_count l.starts)
+  pub queue : link.queue ≡ setup_queued (setup_steps l (setup_count l.starts)) (setup_id greeting) ∷ []
   pub row : link.row ≡ []
 
 -- the last setup that started is not answered, and the one before it is
-pub record IsSetupSent (l : Ledger) (link : LinkState) (with_user : Bool) : Type 0 where
+pub record IsSetupSent (l : Ledger) (link : LinkState) (greeting : Greeting) : Type 0 where
   pub k : ℕ
   pub few : k < 2
   pub count : setup_count l.starts ≡ suc k
-  pub user : with_user ≡ (k == 0)
+  pub user : greeting ≡ greeting_at k
   pub queue : link.queue ≡ []
   pub earlier : (j : ℕ) → j < k → is_full l j ≡ true
   pub open_is : is_full l k ≡ false
 
 -- something is said to the server, and a setup is to start or isn't answered; its verdict is wanted
-pub record IsSettingUp (l : Ledger) (link : LinkState) (with_user : Bool) : Type 0 where
+pub record IsSettingUp (l : Ledger) (link : LinkState) (greeting : Greeting) : Type 0 where
   pub says : says_nothing (setup_steps l 0) ≡ false
-  pub stage : IsSetupDue l link with_user ⊎ IsSetupSent l link with_user
+  pub alone : AreSetupsAlone l
+  pub stage : IsSetupDue l link greeting ⊎ IsSetupSent l link greeting
   pub awaited : AllByRecursion (λ (e : Entry). e.awaited ≡ true) link.row
+
+-- the message that MONITOR is
+abbrev pub watch_queued : Queued
+watch_queued = record { id = setup_id greet.Monitor; packed = pack (codes "MONITOR" ∷ []); shape = Single; awaited = true }
+
+-- MONITOR is to start, and in the queue
+pub record IsWatchDue (l : Ledger) (link : LinkState) : Type 0 where
+  pub alone : AreSetupsAlone l
+  pub answered : (j : ℕ) → j < setup_count l.starts → is_full l j ≡ true
+  pub queue : link.queue ≡ watch_queued ∷ []
+  pub row : link.row ≡ []
+
+-- it is the last that started, and isn't answered
+pub record IsWatchSent (l : Ledger) (link : LinkState) : Type 0 where
+  pub k : ℕ
+  pub sent : monitor_of l ≡ Some k
+  pub long : length l.starts ≡ suc k
+  pub shaped : (s : Start) → slice_get l.starts k ≡ Some s → s.shape ≡ Single
+  pub queue : link.queue ≡ []
+  pub earlier : (j : ℕ) → j < k → is_full l j ≡ true
+  pub open_is : is_full l k ≡ false
+
+-- the server is to be put into monitor mode, what is said before is answered well, and MONITOR is to start or isn't answered; its
+-- verdict is wanted
+pub record IsWatching (l : Ledger) (link : LinkState) : Type 0 where
+  pub watches : is_watching l.hearing ≡ true
+  pub greeted : is_greeted l ≡ true
+  pub none : says_nothing (setup_steps l 0) ≡ true → setup_count l.starts ≡ 0
+  pub stage : IsWatchDue l link ⊎ IsWatchSent l link
+  pub awaited : AllByRecursion (λ (e : Entry). e.awaited ≡ true) link.row
+
+-- how far a greeting has come
+abbrev pub IsGreeting : Ledger → LinkState → Greeting → Type 0
+IsGreeting l link greet.WithUser = IsSettingUp l link greet.WithUser
+IsGreeting l link greet.WithoutUser = IsSettingUp l link greet.WithoutUser
+IsGreeting l link greet.Monitor = IsWatching l link
 
 -- it is set up; where nothing is to be said no setup has started
 pub record IsSetUp (l : Ledger) : Type 0 where
@@ -333,7 +414,7 @@ pub record IsSetUp (l : Ledger) : Type 0 where
 abbrev pub HasSaid : Ledger → List ℕ → Life → Type 0
 HasSaid l started Dialing = (l.starts ≡ []) × (started ≡ [])
 HasSaid l started (Wanting link) = (l.starts ≡ []) × (started ≡ []) × (link.queue ≡ []) × (link.row ≡ [])
-HasSaid l started (SettingUp link with_user) = (started ≡ []) × IsSettingUp l link with_user
+HasSaid l started (SettingUp link greeting) = (started ≡ []) × IsGreeting l link greeting
 HasSaid l started (Ready link) = IsSetUp l
 HasSaid l started (Ended e) = Unit {0}
 
@@ -380,10 +461,23 @@ TiedStory s requests link None = s ≡ blank_story
 TiedStory s requests link (Some None) = IsRefused s
 TiedStory s requests link (Some (Some p)) = IsRequest s requests link p.number
 
--- the messages that started, by the tries of their submissions, behind those of the setup; each request's has its submission's
--- shape
+-- a message of a greeting
+abbrev pub is_of_greeting : Owner → Bool
+is_of_greeting owner.Setup = true
+is_of_greeting owner.Monitor = true
+is_of_greeting owner.Auth = false
+is_of_greeting (owner.Try n round) = false
+
+-- nothing but greetings has started
+pub record HasGreetedAlone (starts : List Start) (started : List ℕ) : Type 0 where
+  pub none : started ≡ []
+  pub greets : (k : ℕ) (s : Start) → slice_get starts k ≡ Some s → is_of_greeting s.owner ≡ true
+
+-- the messages that started, by the tries of their submissions, behind those of the setup, where the server isn't put into monitor
+-- mode; each request's has its submission's shape
 pub record TiedTries (l : Ledger) (story : ℕ → Story) (requests : List Request) (link : ℕ) (started : List ℕ) : Type 0 where
-  pub owners : owners_of l.starts ≡ setup_owners (setup_count l.starts) (owners_each requests started)
+  pub owners : is_watching l.hearing ≡ false → owners_of l.starts ≡ setup_owners (setup_count l.starts) (owners_each requests started)
+  pub greeted : is_watching l.hearing ≡ true → HasGreetedAlone l.starts started
   pub shapes : (k : ℕ) (p : ℕ) (s : Start) → p < length requests → slice_get started k ≡ Some p → slice_get l.starts (setup_count l.starts + k) ≡ Some s → s.shape ≡ shape (story (name_at requests p))
   pub tried : (k p : ℕ) → p < length requests → slice_get started k ≡ Some p → (story (name_at requests p)).tries ≡ record { link = link; message = setup_count l.starts + k } ∷ []
   pub untried : (p : ℕ) (r : Request) → slice_get requests p ≡ Some r → (IsIn p started → ⊥) → (story r.name).tries ≡ []
@@ -450,7 +544,7 @@ pub record TiedWaits (story : ℕ → Story) (requests : List Request) (life : L
   pub early : (p : ℕ) → is_waiting_at requests p ≡ true → (shown_wait story requests p ≡ None) ⊎ ((shown_wait story requests p ≡ Some wait.Connect) ⊎ ((shown_wait story requests p ≡ Some wait.Creds) ⊎ ((shown_wait story requests p ≡ Some wait.Setup) ⊎ (shown_wait story requests p ≡ Some wait.Permit))))
   pub connect : (p : ℕ) → is_waiting_at requests p ≡ true → life ≡ Dialing → IsIn p fresh ⊎ (shown_wait story requests p ≡ Some wait.Connect)
   pub creds : (p : ℕ) (link : LinkState) → is_waiting_at requests p ≡ true → life ≡ Wanting link → IsIn p fresh ⊎ (shown_wait story requests p ≡ Some wait.Creds)
-  pub setup : (p : ℕ) (link : LinkState) (with_user : Bool) → is_waiting_at requests p ≡ true → life ≡ SettingUp link with_user → IsIn p fresh ⊎ (shown_wait story requests p ≡ Some wait.Setup)
+  pub setup : (p : ℕ) (link : LinkState) (greeting : Greeting) → is_waiting_at requests p ≡ true → life ≡ SettingUp link greeting → IsIn p fresh ⊎ (shown_wait story requests p ≡ Some wait.Setup)
   pub permit : (p : ℕ) (link : LinkState) → is_waiting_at requests p ≡ true → life ≡ Ready link → IsIn p fresh ⊎ (shown_wait story requests p ≡ Some wait.Permit)
   pub place : (p : ℕ) → is_admitted_at requests p ≡ true → IsIn p moved ⊎ (shown_wait story requests p ≡ Some wait.Place)
   pub room : (p : ℕ) → IsIn p (awaited_ids (link_in life).queue) → IsIn p moved ⊎ (shown_wait story requests p ≡ Some wait.Room)
@@ -458,7 +552,7 @@ pub record TiedWaits (story : ℕ → Story) (requests : List Request) (life : L
   pub rising : Rising 0 moved (length requests)
   pub no_connect : (p : ℕ) → IsIn p fresh → is_waiting_at requests p ≡ true → life ≡ Dialing → shown_wait story requests p ≢ Some wait.Connect
   pub no_creds : (p : ℕ) (link : LinkState) → IsIn p fresh → is_waiting_at requests p ≡ true → life ≡ Wanting link → shown_wait story requests p ≢ Some wait.Creds
-  pub no_setup : (p : ℕ) (link : LinkState) (with_user : Bool) → IsIn p fresh → is_waiting_at requests p ≡ true → life ≡ SettingUp link with_user → shown_wait story requests p ≢ Some wait.Setup
+  pub no_setup : (p : ℕ) (link : LinkState) (greeting : Greeting) → IsIn p fresh → is_waiting_at requests p ≡ true → life ≡ SettingUp link greeting → shown_wait story requests p ≢ Some wait.Setup
   pub no_permit : (p : ℕ) (link : LinkState) → IsIn p fresh → is_waiting_at requests p ≡ true → life ≡ Ready link → shown_wait story requests p ≢ Some wait.Permit
   pub no_place : (p : ℕ) → IsIn p moved → is_admitted_at requests p ≡ true → shown_wait story requests p ≢ Some wait.Place
   pub seatless : (p : ℕ) → is_admitted_at requests p ≡ true → shown_wait story requests p ≢ Some wait.Room
@@ -479,7 +573,7 @@ AreLate story requests pending = (p : ℕ) → is_open_at requests p ≡ true �
 pub record Tied (b : Book) (t : Inner) : Type 0 where
   pub numbers : TiedNumbers b t
   pub others : (m : ℕ) → m ≢ t.link → IsUnknown (b.link m)
-  pub pushes : TiedPushes (is_heard b) t.hears (b.link t.link).pushes (b.link t.link).told (b.link t.link).end (b.link t.link).parted t.untold t.parting
+  pub notices : TiedNotices (hearing_in b.config) t.hears (b.link t.link).hearing (b.link t.link).notices (b.link t.link).told (b.link t.link).end (b.link t.link).parted (b.link t.link).strange (is_reading (b.link t.link)) t.untold t.parting
   pub life : TiedLife (b.link t.link) b.created t.life
   pub creds : TiedCreds (b.link t.link).creds t.renewal.wanted t.life
   pub count : length t.sources ≡ sources_asked_in (b.link t.link).creds
@@ -495,7 +589,7 @@ pub record Tied (b : Book) (t : Inner) : Type 0 where
   pub permits : TiedPermits b.story b.submissions t.requests t.link t.limit t.free t.letting
   pub late : AreLate b.story t.requests t.pending
 
--- all pushes of the link are told, and so is its end
+-- all that came is told, and so is the end of the link
 abbrev pub IsToldIn : Inner → Type 0
 IsToldIn t = (t.untold ≡ []) × (t.parting ≡ false)
 
@@ -519,6 +613,7 @@ inner c started = record {
   bound = c.single.connection.boundary;
   limit = c.single.connection.limit;
   free = c.single.connection.free;
+  kind = c.kind;
   hears = c.single.connection.hears;
   untold = [];
   parting = false;
@@ -556,6 +651,8 @@ numbers_kept b link story t life free requests waiting admitted fresh moved lett
   within = h.within;
   few = h.few;
   settings = record { size_is = h.settings.size_is; bound_is = h.settings.bound_is; limit_is = h.settings.limit_is; some = h.settings.some; limited = h.settings.limited };
+  kind_is = h.kind_is;
+  quiet = h.quiet;
   one = h.one;
   only = h.only;
 }
@@ -569,7 +666,7 @@ pub relined : (b : Book) (t : Inner) (waiting admitted : List Waiting) (fresh mo
 relined b t waiting admitted fresh moved pending h lines waits late = record {
   numbers = numbers_kept b b.link b.story t t.life t.free t.requests waiting admitted fresh moved t.letting pending t.started h.numbers;
   others = h.others;
-  pushes = h.pushes;
+  notices = h.notices;
   life = h.life;
   creds = h.creds;
   count = h.count;

@@ -8,6 +8,7 @@ use Rattle.driver_model.specs.News.{took, news_of}
 use Rattle.link_core.specs.Link.{LinkState, wrote_of}
 use Rattle.link_laws.proofs.TiedLink.{TiedLink, wrote_tied}
 use Rattle.link_laws.specs.Settles.{awaited_ids}
+use Rattle.mux_conn.specs.declared.life.Greeting.{Greeting}
 use Rattle.mux_conn.specs.declared.life.Life.{Life}
 use Rattle.mux_conn.specs.declared.life.Life.TheVariants.{Dialing, Wanting, SettingUp, Ready, Ended}
 use Rattle.mux_conn.specs.declared.request.Request.{Request}
@@ -21,7 +22,7 @@ use Rattle.legal_trace.specs.Book.{book}
 use Rattle.mux_conn.specs.declared.renewal.Renewal.{Renewal}
 use Rattle.session_laws.proofs.Renewals.{renewal_alike}
 use Rattle.session_laws.proofs.Numbers.{IsIn}
-use Rattle.session_laws.proofs.Tied.{carried, link_in, owner_of, whole_link, TiedLife, TiedLines, TiedSetup, AreQueued, TiedCreds, TiedWaits, has_ended, TiedRenewal}
+use Rattle.session_laws.proofs.Tied.{carried, link_in, owner_of, whole_link, TiedLife, TiedLines, TiedSetup, AreQueued, TiedCreds, TiedWaits, has_ended, TiedRenewal, greeter}
 use Rattle.session_laws.proofs.States.{IsFit, Between, HasApplied}
 use Rattle.session_laws.proofs.Announce.{turn_of, turned, IsNewsKind}
 use Rattle.session_laws.proofs.Heard.{quiet_applied, ended_quiet, dialing_quiet, setting_waits, still_none, pushes_still, wanting_waits}
@@ -43,8 +44,8 @@ took_wanting : (l : Ledger) (created turn count : ℕ) (link after : LinkState) 
 took_wanting l created turn count link after h = chosen (λ (x : Ledger). TiedLife (record x { heard = took count }) created (Wanting after)) l.up _ l (λ t. h) (λ f. h)
 
 -- and while it is set up
-took_setting : (l : Ledger) (created turn count : ℕ) (link after : LinkState) (with_user : Bool) → TiedLife l created (SettingUp link with_user) → TiedLife (noted l (hears turn (took count))) created (SettingUp after with_user)
-took_setting l created turn count link after with_user h = chosen (λ (x : Ledger). TiedLife (record x { heard = took count }) created (SettingUp after with_user)) l.up _ l (λ t. h) (λ f. h)
+took_setting : (l : Ledger) (created turn count : ℕ) (link after : LinkState) (greeting : Greeting) → TiedLife l created (SettingUp link greeting) → TiedLife (noted l (hears turn (took count))) created (SettingUp after greeting)
+took_setting l created turn count link after greeting h = chosen (λ (x : Ledger). TiedLife (record x { heard = took count }) created (SettingUp after greeting)) l.up _ l (λ t. h) (λ f. h)
 
 -- its credentials have come as far
 took_creds : (l : Ledger) (wants : Bool) (turn count : ℕ) (life : Life) → TiedCreds l.creds wants life → TiedCreds (noted l (hears turn (took count))).creds wants life
@@ -95,8 +96,8 @@ wrote_fit_want : (size bound : ℕ) (link : LinkState) (count : ℕ) → IsFit s
 wrote_fit_want size bound link count h x e = let same : wrote_of link count ≡ x = cc in subst (IsFit size bound) same (record { sound = h.sound; size_is = h.size_is; bound_is = h.bound_is; within = h.within })
 
 -- and while it is set up
-wrote_fit_set : (size bound : ℕ) (link : LinkState) (count : ℕ) (with_user : Bool) → IsFit size bound link → (x : LinkState) (u : Bool) → SettingUp (wrote_of link count) with_user ≡ SettingUp x u → IsFit size bound x
-wrote_fit_set size bound link count with_user h x u e = let same : wrote_of link count ≡ x = cc in subst (IsFit size bound) same (record { sound = h.sound; size_is = h.size_is; bound_is = h.bound_is; within = h.within })
+wrote_fit_set : (size bound : ℕ) (link : LinkState) (count : ℕ) (greeting : Greeting) → IsFit size bound link → (x : LinkState) (u : Greeting) → SettingUp (wrote_of link count) greeting ≡ SettingUp x u → IsFit size bound x
+wrote_fit_set size bound link count greeting h x u e = let same : wrote_of link count ≡ x = cc in subst (IsFit size bound) same (record { sound = h.sound; size_is = h.size_is; bound_is = h.bound_is; within = h.within })
 
 -- so much was taken of what was offered
 pub took_applied : (before : List Action) (c : Core) (started : List ℕ) (word count : ℕ) (kind : EventKind) → Between before c started → is_bad c kind ≡ false → IsNewsKind c.timers kind → news_of c.timers c.sources c.single.link kind ≡ took count → CanTake c.single.connection.life count
@@ -125,7 +126,7 @@ took_applied before c started word count kind h good k is can = by_life c.single
           lines = subst (λ (x : Life). TiedLines b.story conn.requests (link_in x) conn.waiting conn.admitted [] started) e h.sound.tied.lines;
           told = λ n. subst (λ (x : Life). AreQueued b.story conn.requests (link_in x)) e (h.sound.tied.told (ap has_ended e));
           waits = wanting_waits b.story conn.requests link (wrote_of link count) conn.fresh conn.moved (subst (λ (x : Life). TiedWaits b.story conn.requests x conn.fresh conn.moved) e h.sound.tied.waits);
-          pushes = pushes_still before c started (took count) h (inl tt);
+          notices = pushes_still before c started (took count) h (inl tt);
         })
         (took_no_end l c.turns count (still_none before c started h c.single.link)) (record {
           wanting = wrote_fit_want conn.size conn.boundary link count (h.fit.wanting link e);
@@ -133,32 +134,32 @@ took_applied before c started word count kind h good k is can = by_life c.single
           link = λ x r. cc;
           none = λ none. h.fit.none (λ x r. (let no : Wanting link ≡ Ready x = sym e ∙ r in cc));
         })
-    by_life (SettingUp link with_user) e =
+    by_life (SettingUp link greeting) e =
         let b = book before in
         let l = b.link c.single.link in
         let conn = c.single.connection in
         let life = subst (TiedLife l b.created) e h.sound.tied.life in
         let creds = subst (TiedCreds l.creds conn.renewal.wanted) e h.sound.tied.creds in
-        let tied : TiedLink (λ (p : ℕ). owner.Setup) l link = subst (λ (x : Life). TiedLink (carried x conn.requests) l (whole_link x)) e (h.sound.tied.link (ap has_ended e)) in
+        let tied : TiedLink (λ (p : ℕ). greeter greeting) l link = subst (λ (x : Life). TiedLink (carried x conn.requests) l (whole_link x)) e (h.sound.tied.link (ap has_ended e)) in
         let few : count ≤ link.outbox.offered = subst (λ (x : Life). CanTake x count) e can in
-        let said = setup_hears l c.turns (took count) conn.info started (SettingUp link with_user) tt (subst (TiedSetup l conn.info started) e h.sound.tied.setup) in
-        quiet_applied before c started word kind (took count) (SettingUp (wrote_of link count) with_user) h good k is
+        let said = setup_hears l c.turns (took count) conn.info started (SettingUp link greeting) tt (subst (TiedSetup l conn.info started) e h.sound.tied.setup) in
+        quiet_applied before c started word kind (took count) (SettingUp (wrote_of link count) greeting) h good k is
         (record {
-          lived = took_setting l b.created c.turns count link (wrote_of link count) with_user life;
-          creds = took_creds l conn.renewal.wanted c.turns count (SettingUp (wrote_of link count) with_user) (record { wanted_is = creds.wanted_is; sought = creds.sought });
-          renewal_is = took_renewal l conn.renewal c.turns count (SettingUp (wrote_of link count) with_user) (subst (TiedRenewal l conn.renewal) e h.sound.tied.renewal);
-          said = setup_link (noted l (hears c.turns (took count))) conn.info started link (wrote_of link count) with_user refl refl said;
-          linked = λ n. wrote_tied (λ (p : ℕ). owner.Setup) l link c.turns count life.1 few tied;
+          lived = took_setting l b.created c.turns count link (wrote_of link count) greeting life;
+          creds = took_creds l conn.renewal.wanted c.turns count (SettingUp (wrote_of link count) greeting) (record { wanted_is = creds.wanted_is; sought = creds.sought });
+          renewal_is = took_renewal l conn.renewal c.turns count (SettingUp (wrote_of link count) greeting) (subst (TiedRenewal l conn.renewal) e h.sound.tied.renewal);
+          said = setup_link (noted l (hears c.turns (took count))) conn.info started link (wrote_of link count) greeting refl refl said;
+          linked = λ n. wrote_tied (λ (p : ℕ). greeter greeting) l link c.turns count life.1 few tied;
           lines = subst (λ (x : Life). TiedLines b.story conn.requests (link_in x) conn.waiting conn.admitted [] started) e h.sound.tied.lines;
           told = λ n. subst (λ (x : Life). AreQueued b.story conn.requests (link_in x)) e (h.sound.tied.told (ap has_ended e));
-          waits = setting_waits b.story conn.requests link (wrote_of link count) with_user with_user conn.fresh conn.moved (subst (λ (x : Life). TiedWaits b.story conn.requests x conn.fresh conn.moved) e h.sound.tied.waits);
-          pushes = pushes_still before c started (took count) h (inl tt);
+          waits = setting_waits b.story conn.requests link (wrote_of link count) greeting greeting conn.fresh conn.moved (subst (λ (x : Life). TiedWaits b.story conn.requests x conn.fresh conn.moved) e h.sound.tied.waits);
+          notices = pushes_still before c started (took count) h (inl tt);
         })
         (took_no_end l c.turns count (still_none before c started h c.single.link)) (record {
           wanting = λ x r. cc;
-          setup = wrote_fit_set conn.size conn.boundary link count with_user (h.fit.setup link with_user e);
+          setup = wrote_fit_set conn.size conn.boundary link count greeting (h.fit.setup link greeting e);
           link = λ x r. cc;
-          none = λ none. h.fit.none (λ x r. (let no : SettingUp link with_user ≡ Ready x = sym e ∙ r in cc));
+          none = λ none. h.fit.none (λ x r. (let no : SettingUp link greeting ≡ Ready x = sym e ∙ r in cc));
         })
     by_life (Ready link) e =
         let b = book before in
@@ -179,7 +180,7 @@ took_applied before c started word count kind h good k is can = by_life c.single
           lines = wrote_lines b.story conn.requests link count conn.waiting conn.admitted [] started (subst (λ (x : Life). TiedLines b.story conn.requests (link_in x) conn.waiting conn.admitted [] started) e h.sound.tied.lines);
           told = λ n. subst (λ (x : Life). AreQueued b.story conn.requests (link_in x)) e (h.sound.tied.told (ap has_ended e));
           waits = queue_waits b.story conn.requests link (wrote_of link count) conn.fresh conn.moved (λ p i. i) (subst (λ (x : Life). TiedWaits b.story conn.requests x conn.fresh conn.moved) e h.sound.tied.waits);
-          pushes = pushes_still before c started (took count) h (inl tt);
+          notices = pushes_still before c started (took count) h (inl tt);
         })
         (took_no_end l c.turns count (still_none before c started h c.single.link)) (record {
           wanting = λ x r. cc;

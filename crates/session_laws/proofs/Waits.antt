@@ -16,6 +16,7 @@ use Rattle.mux_conn.specs.Connection.{has_no_permit, is_ready, in_front}
 use Rattle.mux_conn.specs.Renewals.{renewal_id}
 use Rattle.mux_conn.specs.Requests.{if_there, is_admitted, is_admitted_at, is_open_at, is_placed, is_placed_at, is_waiting, is_waiting_at, name_at}
 use Rattle.mux_conn.specs.Turn.{is_from}
+use Rattle.mux_conn.specs.declared.life.Greeting.{Greeting}
 use Rattle.mux_conn.specs.declared.life.Life.{Life}
 use Rattle.mux_conn.specs.declared.life.Life.TheVariants.{Dialing, Ended, Ready, Wanting, SettingUp}
 use Rattle.mux_conn.specs.declared.request.Progress.{Progress}
@@ -152,7 +153,7 @@ wait_tied b t p kind moved fresh within h waits =
     record {
       numbers = numbers_kept b b.link after t t.life t.free t.requests t.waiting t.admitted fresh moved t.letting t.pending t.started h.numbers;
       others = h.others;
-      pushes = h.pushes;
+      notices = h.notices;
       life = h.life;
       creds = h.creds;
       count = h.count;
@@ -181,9 +182,9 @@ pub record IsQuiet (t : Inner) : Type 0 where
   pub settled : t.pending ≡ []
   pub alone : t.letting ≡ []
   pub fit : (link : LinkState) → t.life ≡ Ready link → IsFit t.size t.bound link
-  pub setup_fit : (link : LinkState) (with_user : Bool) → t.life ≡ SettingUp link with_user → IsFit t.size t.bound link
+  pub setup_fit : (link : LinkState) (greeting : Greeting) → t.life ≡ SettingUp link greeting → IsFit t.size t.bound link
   pub none : ((link : LinkState) → t.life ≡ Ready link → ⊥) → t.admitted ≡ []
-  pub setup_held : (link : LinkState) (with_user : Bool) → t.life ≡ SettingUp link with_user → (link.queue ≡ []) ⊎ (holds_back link ≡ true)
+  pub setup_held : (link : LinkState) (greeting : Greeting) → t.life ≡ SettingUp link greeting → (link.queue ≡ []) ⊎ (holds_back link ≡ true)
   pub held : (link : LinkState) → t.life ≡ Ready link → (link.queue ≡ []) ⊎ (holds_back link ≡ true)
   pub full : (link : LinkState) → t.life ≡ Ready link → (t.admitted ≡ []) ⊎ (is_full_beside link (in_front t.renewal) ≡ true)
   pub seats : HasSeats t.moved (in_front t.renewal) (link_in t.life) t.size
@@ -350,11 +351,11 @@ waiting_is b t p h q o at unmoved old = by_life t.life refl
         | inr w ↦ as_shown wait.Creds (elim (h.waits.creds p link w.0 e) [ inl new ↦ absurd (old w.0 new) | inr s ↦ s ]) (creds_step b t p link h e within)
       ]
     ]
-    by_life (SettingUp link with_user) e = elim at [
+    by_life (SettingUp link greeting) e = elim at [
       | inl i ↦ absurd (subst (λ (x : Life). IsIn p (awaited_ids (link_in x).queue)) e i)
       | inr k ↦ elim k [
-        | inl a ↦ absurd (subst (λ ws. IsIn p (waiting_ids ws)) (q.none (λ other r. not_ready t.life (SettingUp link with_user) other refl e r)) a.1)
-        | inr w ↦ as_shown wait.Setup (elim (h.waits.setup p link with_user w.0 e) [ inl new ↦ absurd (old w.0 new) | inr s ↦ s ]) (setup_step b t p link with_user h e within)
+        | inl a ↦ absurd (subst (λ ws. IsIn p (waiting_ids ws)) (q.none (λ other r. not_ready t.life (SettingUp link greeting) other refl e r)) a.1)
+        | inr w ↦ as_shown wait.Setup (elim (h.waits.setup p link greeting w.0 e) [ inl new ↦ absurd (old w.0 new) | inr s ↦ s ]) (setup_step b t p link greeting h e within)
       ]
     ]
     by_life (Ready link) e = elim at [
@@ -534,7 +535,7 @@ pub record IsEarly (t : Inner) (kind : WaitKind) : Type 0 where
   pub either : (kind ≡ wait.Connect) ⊎ ((kind ≡ wait.Creds) ⊎ ((kind ≡ wait.Setup) ⊎ (kind ≡ wait.Permit)))
   pub connect : t.life ≡ Dialing → kind ≡ wait.Connect
   pub creds : (link : LinkState) → t.life ≡ Wanting link → kind ≡ wait.Creds
-  pub setup : (link : LinkState) (with_user : Bool) → t.life ≡ SettingUp link with_user → kind ≡ wait.Setup
+  pub setup : (link : LinkState) (greeting : Greeting) → t.life ≡ SettingUp link greeting → kind ≡ wait.Setup
   pub permit : (link : LinkState) → t.life ≡ Ready link → kind ≡ wait.Permit
 
 -- with that of the first of them

@@ -13,6 +13,7 @@ use Rattle.link_laws.proofs.TiedLink.{TiedLink, is_offered, offer_stands, offere
 use Rattle.mux_conn.specs.Connection.{Work, acted, with_link, with_setup, in_front}
 use Rattle.mux_conn.specs.Turn.{written, written_at}
 use Rattle.mux_conn.specs.declared.act.LinkAct.TheVariants as act
+use Rattle.mux_conn.specs.declared.life.Greeting.{Greeting}
 use Rattle.mux_conn.specs.declared.life.Life.{Life}
 use Rattle.mux_conn.specs.declared.life.Life.TheVariants.{Dialing, Ended, Ready, Wanting, SettingUp}
 use Rattle.shared_session.specs.declared.core_state.Core.{Core}
@@ -31,7 +32,7 @@ use Rattle.session_laws.proofs.Settle.{book_of_more, holds_more, seen, trace_of_
 use Rattle.session_laws.proofs.Start.{on_link}
 use Rattle.session_laws.proofs.Took.{queue_waits}
 use Rattle.session_laws.proofs.States.{IsFit}
-use Rattle.session_laws.proofs.Tied.{HasSaid, Inner, IsUnknown, Tied, TiedLife, carried, has_ended, numbers_kept, owner_of, whole_link, link_in}
+use Rattle.session_laws.proofs.Tied.{HasSaid, Inner, IsUnknown, Tied, TiedLife, carried, has_ended, numbers_kept, owner_of, whole_link, link_in, greeter}
 
 -- an offer
 --
@@ -42,7 +43,7 @@ write_tied b t link h =
     tied_by (entered b (action.Write t.link link.outbox.unwritten)) (on_link t (offered_of link)) (noted l line) (mine_noted l t.link line) (record {
       numbers = numbers_kept b _ _ (on_link t link) _ _ _ _ _ _ _ _ _ _ h.numbers;
       others = others_kept b t.link line h.others;
-      pushes = h.pushes;
+      notices = h.notices;
       life = h.life;
       creds = record { wanted_is = h.creds.wanted_is; sought = h.creds.sought };
       count = h.count;
@@ -51,7 +52,7 @@ write_tied b t link h =
       link = λ e. offered_tied (owner_of t.requests) l link (h.link refl);
       names = h.names;
       story = h.story;
-      tries = record { owners = h.tries.owners; shapes = h.tries.shapes; tried = h.tries.tried; untried = h.tries.untried };
+      tries = record { owners = h.tries.owners; greeted = h.tries.greeted; shapes = h.tries.shapes; tried = h.tries.tried; untried = h.tries.untried };
       lines = record { line = h.lines.line; queued = h.lines.queued; entries = h.lines.entries; packs = h.lines.packs; packed_in = h.lines.packed_in; there = h.lines.there };
       told = λ e. h.told refl;
       waits = queue_waits b.story t.requests link (offered_of link) t.fresh t.moved (λ p i. i) h.waits;
@@ -60,27 +61,27 @@ write_tied b t link h =
     })
 
 -- so it is while the link is set up
-write_set_tied : (b : Book) (t : Inner) (link : LinkState) (with_user : Bool) → Tied b (setting_on t link with_user) → Tied (entered b (action.Write t.link link.outbox.unwritten)) (setting_on t (offered_of link) with_user)
-write_set_tied b t link with_user h =
+write_set_tied : (b : Book) (t : Inner) (link : LinkState) (greeting : Greeting) → Tied b (setting_on t link greeting) → Tied (entered b (action.Write t.link link.outbox.unwritten)) (setting_on t (offered_of link) greeting)
+write_set_tied b t link greeting h =
     let l = b.link t.link in
     let line = offers link.outbox.unwritten in
-    tied_by (entered b (action.Write t.link link.outbox.unwritten)) (setting_on t (offered_of link) with_user) (noted l line) (mine_noted l t.link line) (record {
-      numbers = numbers_kept b _ _ (setting_on t link with_user) _ _ _ _ _ _ _ _ _ _ h.numbers;
+    tied_by (entered b (action.Write t.link link.outbox.unwritten)) (setting_on t (offered_of link) greeting) (noted l line) (mine_noted l t.link line) (record {
+      numbers = numbers_kept b _ _ (setting_on t link greeting) _ _ _ _ _ _ _ _ _ _ h.numbers;
       others = others_kept b t.link line h.others;
-      pushes = h.pushes;
+      notices = h.notices;
       life = h.life;
       creds = record { wanted_is = h.creds.wanted_is; sought = h.creds.sought };
       count = h.count;
-      renewal = renewal_alike l (noted l line) t.renewal (SettingUp link with_user) refl refl refl h.renewal;
-      setup = setup_link (noted l line) t.info t.started link (offered_of link) with_user refl refl
-          (setup_on l l.asked l.up l.end l.taken link.outbox.unwritten l.rest l.heard t.info t.started (SettingUp link with_user) h.setup);
-      link = λ e. offered_tied (λ (p : ℕ). owner.Setup) l link (h.link refl);
+      renewal = renewal_alike l (noted l line) t.renewal (SettingUp link greeting) refl refl refl h.renewal;
+      setup = setup_link (noted l line) t.info t.started link (offered_of link) greeting refl refl
+          (setup_on l l.asked l.up l.end l.taken link.outbox.unwritten l.rest l.heard t.info t.started (SettingUp link greeting) h.setup);
+      link = λ e. offered_tied (λ (p : ℕ). greeter greeting) l link (h.link refl);
       names = h.names;
       story = h.story;
-      tries = record { owners = h.tries.owners; shapes = h.tries.shapes; tried = h.tries.tried; untried = h.tries.untried };
+      tries = record { owners = h.tries.owners; greeted = h.tries.greeted; shapes = h.tries.shapes; tried = h.tries.tried; untried = h.tries.untried };
       lines = record { line = h.lines.line; queued = h.lines.queued; entries = h.lines.entries; packs = h.lines.packs; packed_in = h.lines.packed_in; there = h.lines.there };
       told = λ e. h.told refl;
-      waits = setting_waits b.story t.requests link (offered_of link) with_user with_user t.fresh t.moved h.waits;
+      waits = setting_waits b.story t.requests link (offered_of link) greeting greeting t.fresh t.moved h.waits;
       permits = h.permits;
       late = h.late;
     })
@@ -158,32 +159,32 @@ write_shown before f w link life can h =
     }
 
 -- the link of a life that is set up
-same_set : (link other : LinkState) (u v : Bool) → SettingUp link u ≡ SettingUp other v → link ≡ other
+same_set : (link other : LinkState) (u v : Greeting) → SettingUp link u ≡ SettingUp other v → link ≡ other
 same_set link other u v e = cc
 
 -- while the link is set up
-write_set_shown : (before : List Action) (f : Core) (w : Work) (link : LinkState) (with_user : Bool) → w.conn.life ≡ SettingUp link with_user → can_offer link.outbox ≡ true → HasMoved before f w
-    → HasWritten before f (acted (with_setup w (offered_of link) with_user) (act.Write link.outbox.unwritten))
-write_set_shown before f w link with_user life can h =
+write_set_shown : (before : List Action) (f : Core) (w : Work) (link : LinkState) (greeting : Greeting) → w.conn.life ≡ SettingUp link greeting → can_offer link.outbox ≡ true → HasMoved before f w
+    → HasWritten before f (acted (with_setup w (offered_of link) greeting) (act.Write link.outbox.unwritten))
+write_set_shown before f w link greeting life can h =
     let b = book (trace_of_acts before f w.acts) in
     let t = seen f w.acts w.conn [] h.started in
     let a = act.Write link.outbox.unwritten in
-    let fit = h.fit.setup link with_user life in
+    let fit = h.fit.setup link greeting life in
     let after = offered_of link in
     let tied = subst (λ (x : Life). Tied b (record t { life = x })) life h.holds.tied in
     record {
       moved = record {
         started = h.started;
-        holds = holds_more before f w a (with_setup w (offered_of link) with_user).conn [] [] h.started h.holds (write_may b t (λ (p : ℕ). owner.Setup) link tied.others tied.life.1 (tied.link refl) (moved_book before f w h) can) (write_set_tied b t link with_user tied);
+        holds = holds_more before f w a (with_setup w (offered_of link) greeting).conn [] [] h.started h.holds (write_may b t (λ (p : ℕ). greeter greeting) link tied.others tied.life.1 (tied.link refl) (moved_book before f w h) can) (write_set_tied b t link greeting tied);
         ended = subst NoneEnds (sym (book_of_more before f w.acts a)) (none_ends_kept b f.single.link (offers link.outbox.unwritten) (λ l e. e) h.ended);
         fit = record {
           wanting = λ other e. cc;
-          setup = λ other u e. subst (IsFit w.conn.size w.conn.boundary) (same_set after other with_user u e) (record { sound = fit.sound; size_is = fit.size_is; bound_is = fit.bound_is; within = fit.within });
+          setup = λ other u e. subst (IsFit w.conn.size w.conn.boundary) (same_set after other greeting u e) (record { sound = fit.sound; size_is = fit.size_is; bound_is = fit.bound_is; within = fit.within });
           link = λ other e. cc;
-          none = λ none. h.fit.none (λ other e. absurd (setting_not_ready w.conn.life link other with_user life e));
+          none = λ none. h.fit.none (λ other e. absurd (setting_not_ready w.conn.life link other greeting life e));
         };
         still = record {
-          setup = λ other u e. subst (λ (x : LinkState). (x.queue ≡ []) ⊎ (holds_back x ≡ true)) (same_set after other with_user u e) (h.still.setup link with_user life);
+          setup = λ other u e. subst (λ (x : LinkState). (x.queue ≡ []) ⊎ (holds_back x ≡ true)) (same_set after other greeting u e) (h.still.setup link greeting life);
           held = λ other e. cc;
           full = λ other e. cc;
           renewed = λ other e. cc;
@@ -195,7 +196,7 @@ write_set_shown before f w link with_user life can h =
       offered = all_offered_can link.outbox;
     }
   where
-    setting_not_ready : (life : Life) (link other : LinkState) (u : Bool) → life ≡ SettingUp link u → life ≡ Ready other → ⊥
+    setting_not_ready : (life : Life) (link other : LinkState) (u : Greeting) → life ≡ SettingUp link u → life ≡ Ready other → ⊥
     setting_not_ready life link other u e r = let no : SettingUp link u ≡ Ready other = sym e ∙ r in cc
 
 -- what follows a front of nothing is nothing
@@ -223,11 +224,11 @@ written_holds before f w h = by_life w.conn.life refl
         let tied : TiedLink (λ (p : ℕ). owner.Setup) l link = subst (λ (x : Life). TiedLink (carried x w.conn.requests) l (whole_link x)) e (h.holds.tied.link (ap has_ended e)) in
         let said = subst (HasSaid l h.started) e h.holds.tied.setup.said in
         subst (λ (x : Life). HasWritten before f (written_at w x)) (sym e) (record { moved = h; offered = can_not (Wanting link) e (none_offered l link tied said.0) })
-    by_life (SettingUp link with_user) e =
+    by_life (SettingUp link greeting) e =
         subst (λ (x : Life). HasWritten before f (written_at w x)) (sym e)
-        (chosen (HasWritten before f) (can_offer link.outbox) (acted (with_setup w (offered_of link) with_user) (act.Write link.outbox.unwritten)) w
-        (λ t. write_set_shown before f w link with_user e t h)
-        (λ n. record { moved = h; offered = can_not (SettingUp link with_user) e n }))
+        (chosen (HasWritten before f) (can_offer link.outbox) (acted (with_setup w (offered_of link) greeting) (act.Write link.outbox.unwritten)) w
+        (λ t. write_set_shown before f w link greeting e t h)
+        (λ n. record { moved = h; offered = can_not (SettingUp link greeting) e n }))
     by_life (Ready link) e =
         subst (λ (x : Life). HasWritten before f (written_at w x)) (sym e)
         (chosen (HasWritten before f) (can_offer link.outbox) (acted (with_link w (offered_of link)) (act.Write link.outbox.unwritten)) w
@@ -242,7 +243,7 @@ up_offered b t h offered up = is_offered (carried t.life t.requests) (b.link t.l
     alive : (life : Life) → TiedLife (b.link t.link) b.created life → has_ended life ≡ false
     alive Dialing k = refl
     alive (Wanting link) k = refl
-    alive (SettingUp link with_user) k = refl
+    alive (SettingUp link greeting) k = refl
     alive (Ready link) k = refl
     alive (Ended y) k = absurd (not_both (b.link t.link).up k.0 up)
 

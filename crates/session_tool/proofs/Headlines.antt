@@ -28,10 +28,10 @@ takes_in_order config word events trace h l =
     subst (λ (link : Ledger). IsPrefix (stream link) (joined link.starts)) (sym (ledgers_are_told trace l)) (links_take_in_order config word events trace h l)
 
 -- no other trace has the text of a history's that the types hold, and whose submissions have forms
-own_text : (config : Config) (word : ℕ) (events : List Event) → FitsHistory config word events → HaveForms events → HasOwnText (trace_of config word events)
+own_text : (config : Config) (word : ℕ) (events : List Event) → FitsHistory config word events → HaveForms config events → HasOwnText (trace_of config word events)
 own_text config word events fits forms =
     record {
-      of_good = λ other draws more good small same. same_trace other config draws word more events small (good_forms other draws more good) fits forms same;
+      of_good = λ other draws more line good small same. same_trace other config draws word more events small (good_forms other draws more line good) fits forms same;
       also_of_bad = λ other draws more theirs small same. same_trace other config draws word more events small theirs fits forms same;
     }
 
@@ -40,7 +40,7 @@ pub legal_up_to : (script : Script) (index : ℕ) → AreTaken script.config scr
 legal_up_to script index taken = replay_legal script.config script.word (take index script.events) taken.sound taken.good taken.unspent
 
 -- what holds of the trace of a history
-pub headline_of : (config : Config) (word : ℕ) (events : List Event) → FitsHistory config word events → HaveForms events → IsSound config → AreGood config word events → AreUnspent config word events → HeadlineOf config word events
+pub headline_of : (config : Config) (word : ℕ) (events : List Event) → FitsHistory config word events → HaveForms config events → IsSound config → AreGood config word events → AreUnspent config word events → HeadlineOf config word events
 headline_of config word events fits forms sound good unspent =
     let trace = trace_of config word events in
     let h = replay_legal config word events sound good unspent in

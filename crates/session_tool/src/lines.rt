@@ -18,11 +18,15 @@ The WORDS of live are callers=K, K from 1 to 8, or nothing, and then those behin
 
 A script, each line an example:
 config single url=redis://HOST:PORT
+config pubsub url=redis://HOST:PORT      in its place: a link of publish/subscribe
+config monitor url=redis://HOST:PORT     or one in monitor mode
 submit cmd GET a                         a command
 submit noreply SET k 1                   a command whose reply nobody awaits
 submit pipe GET a ; GET b                a pipeline
 submit multi SET k 1 ; GET k             a transaction
 submit packed 1 2 GET a ; GET b ; GET c  a pipeline, 1 reply skipped and 2 kept
+submit subscribe CHANNEL                 a subscription call
+submit ping                              PING, on a link of publish/subscribe
 cancel 0                                 the caller of submission 0 drops its request
 connected 0                              the connect of link 0 succeeded
 refused 0 timed-out                      the connect of link 0 failed
@@ -37,6 +41,7 @@ creds-err 0 TEXT                         it could not give any, and says why
 creds-end 0                              no more come of it
 timeout 250                              each later submission is to be answered within 250 ms
 timeout none                             or within any time
+drop-stream                              the stream of messages is dropped
 shutdown                                 everything is closed
 end                                      the last line
 

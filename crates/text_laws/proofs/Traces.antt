@@ -1,5 +1,5 @@
 -- The turns of a replay's trace are those of its history, and its text tells them.
-use Rattle.std.proofs.Common.{◌≡◌, ℕ, ◌+◌, false, List, [], ◌∷◌, ◌++◌, length, All, Option, Some, None, map, refl, ap, ◌∙◌, subst}
+use Rattle.std.proofs.Common.{◌≡◌, ℕ, ◌+◌, Bool, true, false, not, if◌then◌else◌, List, [], ◌∷◌, ◌++◌, length, All, Option, Some, None, map, refl, ap, ◌∙◌, subst}
 use Rattle.std.specs.Prelude.{option_and_then}
 use Rattle.std.proofs.lemmas.List.Elements.{All-nil, All-cons, All-head, All-tail, All-same}
 use Rattle.driver_model.specs.declared.action.Action.{Action}
@@ -8,7 +8,10 @@ use Rattle.driver_model.specs.declared.action.Cause.{Cause}
 use Rattle.driver_model.specs.declared.action.Cause.TheVariants as cause
 use Rattle.connection_info.specs.declared.address.ConnectionInfo.{ConnectionInfo}
 use Rattle.driver_model.specs.declared.config.Config.{Config}
-use Rattle.driver_model.specs.Config.{address, connect_timeout}
+use Rattle.driver_model.specs.Config.{address, connect_timeout, hearing_of, permits, buffer_size, fault_in, has_line, first_fault}
+use Rattle.driver_model.specs.Hearing.{hears_pushes}
+use Rattle.redis_error.specs.declared.config_name.ConfigName.{ConfigName}
+use Rattle.redis_error.specs.declared.config_name.ConfigName.TheVariants as name
 use Rattle.driver_model.specs.declared.event.Event.{Event}
 use Rattle.driver_model.specs.declared.event.EventKind.{EventKind}
 use Rattle.driver_model.specs.declared.event.EventKind.TheVariants as event
@@ -129,6 +132,14 @@ good_forms_on : (c : Core) (es : List Event) → AreGoodOn c es → All (WithFor
 good_forms_on c [] good = All-nil (WithForm c.kind)
 good_forms_on c (e ∷ es) good =
     All-cons (WithForm c.kind) e es (good_form c e.kind good.0) (subst (λ session. All (WithForm session) es) (turn_kind c e.kind) (good_forms_on (next_turn c e.kind).core es good.1))
+
+-- a configuration of which nothing is refused has a line
+line_by : (has : Bool) (rest : Option ConfigName) → (if not has then Some name.Kind else rest) ≡ None → has ≡ true
+line_by true rest none = refl
+line_by false rest none = cc none
+
+pub sound_line : (config : Config) → first_fault config ≡ None → HasLine config
+sound_line config none = line_by (has_line config) (fault_in (address config) (hears_pushes (hearing_of config)) (permits config) (buffer_size config)) none
 
 -- nor does a good history
 pub good_forms : (config : Config) (word : ℕ) (events : List Event) → HasLine config → AreGood config word events → HaveForms config events

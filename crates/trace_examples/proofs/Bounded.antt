@@ -18,7 +18,7 @@ use Rattle.driver_model.specs.News.{News, refused, overdue, took, came, failed, 
 use Rattle.legal_trace.specs.Ledger.{Ledger, Line, asks, hears, begins, tells, sources, times, ends, parts, dials, awaits_credentials, may_renew, is_renewal_open, with_news, noted, noted_each}
 use Rattle.legal_trace.specs.Story.{Story, is_open}
 use Rattle.legal_trace.proofs.Ledgers.{unasked_dials_not}
-use Rattle.legal_trace.specs.Book.{Book, blank_book, info_in, wanted_in, if_mine, is_renewal_of, message_of, push_line, lines_of, is_clock_of, after_event, story_after, submitted_by, entered, entered_each}
+use Rattle.legal_trace.specs.Book.{Book, blank_book, info_in, wanted_in, hearing_in, if_mine, is_renewal_of, message_of, push_line, lines_of, current, is_clock_of, after_event, story_after, submitted_by, entered, entered_each}
 
 -- no link but the first is connected
 abbrev pub connects_first : EventKind → Bool
@@ -36,6 +36,7 @@ connects_first (event.WriteFault l kind) = true
 connects_first (event.Creds c auth) = true
 connects_first (event.CredsError c text) = true
 connects_first (event.CredsEnd c) = true
+connects_first event.DropStream = true
 connects_first event.Shutdown = true
 
 -- no link but the first is asked for, connected or closed, and no message starts on another
@@ -46,6 +47,8 @@ is_of_first (action.Connect l host port) = l == 0
 is_of_first (action.Timer t ms what) = true
 is_of_first (action.Took who l count) = true
 is_of_first (action.Push l info) = true
+is_of_first (action.Message m) = true
+is_of_first (action.Monitor v) = true
 is_of_first (action.NeedCreds c l) = true
 is_of_first (action.Close l) = l == 0
 is_of_first (action.Write l bytes) = true
@@ -54,12 +57,12 @@ is_of_first (action.Start l k who count len) = l == 0
 is_of_first (action.Created e) = true
 is_of_first (action.Outcome n o) = true
 
--- a link that wasn't asked for, on which no push came and no message started
+-- a link that wasn't asked for, on which nothing came that is to be told and no message started
 pub record IsIdle (l : Ledger) : Type 0 where
   pub down : l.up ≡ false
   pub unasked : l.asked ≡ false
   pub lives : l.end ≡ None
-  pub mute : l.pushes ≡ []
+  pub mute : l.notices ≡ []
   pub quiet : l.starts ≡ []
 
 -- no submission has a number that wasn't given out, and every link but the first is idle
@@ -112,6 +115,7 @@ event_idle l turn timers given n (event.Creds c auth) some first h = sourced_idl
     (chosen IsIdle (awaits_credentials l) _ l (λ t. record { down = h.down; unasked = h.unasked; lives = h.lives; mute = h.mute; quiet = h.quiet }) (λ t. h)) (chosen IsIdle (may_renew l) _ l (λ t. record { down = h.down; unasked = h.unasked; lives = h.lives; mute = h.mute; quiet = h.quiet }) (λ t. h))
 event_idle l turn timers given n (event.CredsError c text) some first h = sourced_idle l turn n (slice_get given c) (denied text) silence h h h
 event_idle l turn timers given n (event.CredsEnd c) some first h = sourced_idle l turn n (slice_get given c) deserted unrenewed h h (chosen IsIdle l.up _ l (λ t. record { down = h.down; unasked = h.unasked; lives = h.lives; mute = h.mute; quiet = h.quiet }) (λ t. h))
+event_idle l turn timers given n event.DropStream some first h = record { down = h.down; unasked = h.unasked; lives = h.lives; mute = h.mute; quiet = h.quiet }
 event_idle l turn timers given n event.Shutdown some first h = record { down = h.down; unasked = h.unasked; lives = h.lives; mute = h.mute; quiet = h.quiet }
 event_idle l turn timers given n (event.Timeout ms) some first h = record { down = h.down; unasked = h.unasked; lives = h.lives; mute = h.mute; quiet = h.quiet }
 event_idle l turn timers given n (event.Submit what) some first h = record { down = h.down; unasked = h.unasked; lives = h.lives; mute = h.mute; quiet = h.quiet }
@@ -122,14 +126,20 @@ pushed_idle : (l : Ledger) (kind : PushKind) → IsIdle l → IsIdle (noted l (p
 pushed_idle l kind h = chosen (λ x. IsIdle (noted l x)) (is_disconnection kind) parts tells
     (λ d. record { down = h.down; unasked = h.unasked; lives = h.lives; mute = h.mute; quiet = h.quiet }) (λ d. record { down = h.down; unasked = h.unasked; lives = h.lives; mute = h.mute; quiet = h.quiet })
 
+-- and so does what else is told
+told_idle : (l : Ledger) → IsIdle l → IsIdle (noted l tells)
+told_idle l h = record { down = h.down; unasked = h.unasked; lives = h.lives; mute = h.mute; quiet = h.quiet }
+
 -- a link that isn't the first stays idle
 still_idle : (b : Book) (n : ℕ) (a : Action) → 0 < n → is_of_first a ≡ true → IsIdle (b.link n) → IsIdle (noted_each (b.link n) (lines_of b n a))
 still_idle b n (action.Turn k (cause.Opening config word)) some first h = h
 still_idle b n (action.Turn k (cause.Event e)) some first h = event_idle (b.link n) k b.timers b.sources n e.kind some first h
-still_idle b n (action.Connect l host port) some first h = mine_idle b n l (asks (info_in b.config) (wanted_in b.config)) some first h
+still_idle b n (action.Connect l host port) some first h = mine_idle b n l (asks (info_in b.config) (wanted_in b.config) (hearing_in b.config)) some first h
 still_idle b n (action.Timer t ms what) some first h = any_idle (b.link n) (is_renewal_of n what) times h (record { down = h.down; unasked = h.unasked; lives = h.lives; mute = h.mute; quiet = h.quiet })
 still_idle b n (action.Took who l count) some first h = h
 still_idle b n (action.Push l info) some first h = any_idle (b.link n) (l == n) _ h (pushed_idle (b.link n) info.kind h)
+still_idle b n (action.Message m) some first h = any_idle (b.link n) (current b == n) tells h (told_idle (b.link n) h)
+still_idle b n (action.Monitor v) some first h = any_idle (b.link n) (current b == n) tells h (told_idle (b.link n) h)
 still_idle b n (action.NeedCreds c l) some first h = any_idle (b.link n) (l == n) sources h (record { down = h.down; unasked = h.unasked; lives = h.lives; mute = h.mute; quiet = h.quiet })
 still_idle b n (action.Close l) some first h = mine_idle b n l (ends (b.turns - 1)) some first h
 still_idle b n (action.Write l bytes) some first h = any_idle (b.link n) (l == n) _ h (record { down = h.down; unasked = h.unasked; lives = h.lives; mute = h.mute; quiet = h.quiet })
@@ -158,6 +168,7 @@ event_absent b n (event.WriteFault m kind) l h = h
 event_absent b n (event.Creds c auth) l h = h
 event_absent b n (event.CredsError c text) l h = h
 event_absent b n (event.CredsEnd c) l h = h
+event_absent b n event.DropStream l h = h
 event_absent b n event.Shutdown l h = h
 
 -- so an action hands nothing in beyond it
@@ -166,17 +177,22 @@ still_absent b n (action.Turn k (cause.Opening config word)) l h = h n l
 still_absent b n (action.Turn k (cause.Event e)) l h = event_absent b n e.kind l (h n (omega arith))
 still_absent b n (action.Start m k owner.Setup count len) l h = h n l
 still_absent b n (action.Start m k owner.Auth count len) l h = h n l
+still_absent b n (action.Start m k owner.Monitor count len) l h = h n l
 still_absent b n (action.Start m k (owner.Try i round) count len) l h = chosen IsAbsent (i == n) _ _ (λ t. h n l) (λ t. h n l)
 still_absent b n (action.Wait owner.Setup kind) l h = h n l
 still_absent b n (action.Wait owner.Auth kind) l h = h n l
+still_absent b n (action.Wait owner.Monitor kind) l h = h n l
 still_absent b n (action.Wait (owner.Try i round) kind) l h = chosen IsAbsent (i == n) _ _ (λ t. h n l) (λ t. h n l)
 still_absent b n (action.Outcome m o) l h = chosen IsAbsent (m == n) _ _ (λ t. h n l) (λ t. h n l)
 still_absent b n (action.Connect m host port) l h = h n l
 still_absent b n (action.Timer t ms what) l h = chosen IsAbsent (is_clock_of n (Some what)) _ _ (λ e. h n l) (λ e. h n l)
 still_absent b n (action.Took owner.Setup m count) l h = h n l
 still_absent b n (action.Took owner.Auth m count) l h = h n l
+still_absent b n (action.Took owner.Monitor m count) l h = h n l
 still_absent b n (action.Took (owner.Try i round) m count) l h = chosen IsAbsent (i == n) _ _ (λ t. h n l) (λ t. h n l)
 still_absent b n (action.Push m info) l h = h n l
+still_absent b n (action.Message m) l h = h n l
+still_absent b n (action.Monitor v) l h = h n l
 still_absent b n (action.NeedCreds c m) l h = h n l
 still_absent b n (action.Close m) l h = h n l
 still_absent b n (action.Write m bytes) l h = h n l

@@ -17,22 +17,24 @@ use Rattle.driver_model.specs.declared.action.Purpose.{Purpose}
 use Rattle.driver_model.specs.declared.action.Purpose.TheVariants as purpose
 use Rattle.driver_model.specs.Push.{is_disconnection}
 use Rattle.driver_model.specs.declared.push_info.PushInfo.{PushInfo}
+use Rattle.driver_model.specs.declared.hearing.Notice.{Notice}
+use Rattle.driver_model.specs.declared.hearing.Notice.TheVariants as notice
 use Rattle.driver_model.specs.Config.{address, connect_timeout, first_fault}
 use Rattle.connection_info.specs.declared.address.ConnectionInfo.{ConnectionInfo}
 use Rattle.redis_error.specs.declared.redis_error.RedisError.{RedisError}
 use Rattle.driver_model.specs.Shape.{need_of}
 use Rattle.credentials.specs.Credentials.{Credentials}
-use Rattle.legal_trace.specs.Ledger.{Heard, Ending, is_cut, is_full_by, is_ready, next_push, setup_count, setup_due, setup_message, source_due, renewal_due, renewals_asked, is_over, ending, failure_in, unwritten}
+use Rattle.legal_trace.specs.Ledger.{Heard, Ending, is_cut, is_full_by, is_ready, monitor_due, monitor_message, next_notice, setup_count, setup_due, setup_message, source_due, renewal_due, renewals_asked, is_over, ending, failure_in, unwritten}
 use Rattle.legal_trace.specs.Story.{Try, last_of, is_open, is_unstarted, bytes_of, shape}
 use Rattle.legal_trace.specs.Book.{Book, blank_book, book, current, renewal_in, entered, entered_each}
 use Rattle.legal_trace.specs.Steps.{is_held_back, takes, asks, tells, starts, next_step}
 use Rattle.legal_trace.specs.Owed.{owed}
 use Rattle.legal_trace.specs.Events.{is_bad_event}
-use Rattle.legal_trace.specs.Legal.{IsOpen, IsWaiting, IsBefore, is_heard, link_of, MayTellPush, MayPart, MayPushBy, MayTurn, MayConnect, MayTimeConnect, MayTime, MayTimeRenewal, MayNeed, MayRenew, MayTake, MayTimer, answer_time, MayClose, MaySetUp, MayBeCreated, MayFail, MayAnswer, MayTell, MayStart, MayWrite, MayWait, MayStand, AllStand, causes, event_causes, Legal}
+use Rattle.legal_trace.specs.Legal.{IsOpen, IsWaiting, IsBefore, is_heard, are_pushes_heard, link_of, MayNotify, MayPart, MayPushBy, MayTurn, MayConnect, MayTimeConnect, MayTime, MayTimeRenewal, MayNeed, MayRenew, MayTake, MayWatch, MayTimer, answer_time, MayClose, MaySetUp, MayBeCreated, MayFail, MayAnswer, MayTell, MayStart, MayWrite, MayWait, MayStand, AllStand, causes, event_causes, Legal}
 use Rattle.legal_trace.proofs.Setups.{due_count}
 use Rattle.trace_examples.proofs.Bounded.{IsBounded, is_of_first, still_bounded, blank_bounded}
 use Rattle.trace_examples.proofs.Checks.{holds_if, held, is_empty, empty_from, filled_from, each_below, below, same_step, step_from, is_other_wait, other_wait}
-use Rattle.trace_examples.proofs.Settled.{is_quiet, quiet, all_shown, verdicts_are_shown, none_ends, no_end, failure_shown, failures_are_shown, pushes_told, pushes_are_told, end_told, ends_are_told, of_open, is_applied, applied, ready_shown, ready_is_shown, sources_asked, sources_are_asked, is_to_set_up, are_set_up, setups_have_started, renewals_timed, renewals_are_timed, can_renew, is_begun, has_begun, all_stay, none_before, is_moved, moved, is_written, written, wait_holds, holds, is_waiting, waiting, is_settled, settled}
+use Rattle.trace_examples.proofs.Settled.{is_quiet, quiet, all_shown, verdicts_are_shown, none_ends, no_end, failure_shown, failures_are_shown, notices_told, notices_are_told, end_told, ends_are_told, of_open, is_applied, applied, ready_shown, ready_is_shown, sources_asked, sources_are_asked, is_to_set_up, are_set_up, setups_have_started, is_to_watch, are_watched, monitors_have_started, renewals_timed, renewals_are_timed, can_renew, is_begun, has_begun, all_stay, none_before, is_moved, moved, is_written, written, wait_holds, holds, is_waiting, waiting, is_settled, settled}
 
 -- a turn
 abbrev pub turn_due : Book → ℕ → Cause → Bool
@@ -48,16 +50,16 @@ turn_stands b k (cause.Event e) bounded t = record {
 
 -- a close of the first link
 abbrev pub close_due : Book → ℕ → Bool
-close_due b l = (l == 0) && is_some (ending (b.link l)) && all_shown b && ready_shown b && sources_asked b && pushes_told b
+close_due b l = (l == 0) && is_some (ending (b.link l)) && all_shown b && ready_shown b && sources_asked b && notices_told b
 
 close_stands : (b : Book) (l : ℕ) → IsBounded b → close_due b l ≡ true → MayClose b l
 close_stands b l bounded e = of_ending (ending (b.link l)) refl (search (both_left, both_right))
   where
     of_ending : (x : Option Ending) → ending (b.link l) ≡ x → is_some x ≡ true → MayClose b l
     of_ending None same t = cc t
-    of_ending (Some why) same t = record { why = why; ends = same; in_order = λ m below. let first = eq_from l 0 (search (both_left, both_right)) in absurd (omega arith); answered = verdicts_are_shown b bounded (search (both_left, both_right)); created = ready_is_shown b bounded (search (both_left, both_right)); sourced = sources_are_asked b bounded (search (both_left, both_right)); pushed = pushes_are_told b bounded (search (both_left, both_right)) }
+    of_ending (Some why) same t = record { why = why; ends = same; in_order = λ m below. let first = eq_from l 0 (search (both_left, both_right)) in absurd (omega arith); answered = verdicts_are_shown b bounded (search (both_left, both_right)); created = ready_is_shown b bounded (search (both_left, both_right)); sourced = sources_are_asked b bounded (search (both_left, both_right)); pushed = notices_are_told b bounded (search (both_left, both_right)) }
 
--- its last message was full before this push came
+-- its last message was full before this came
 abbrev pub try_before : Book → Heard → Option Try → Bool
 try_before b p None = false
 try_before b p (Some t) = is_full_by (b.link t.link) p.after t.message
@@ -77,45 +79,45 @@ before_from b n p e = of_try (last_of (b.story n).tries) refl e
 not_before : (b : Book) (n : ℕ) (p : Heard) → is_before b n p ≡ false → IsBefore b n p → ⊥
 not_before b n p e before = not_both (is_before b n p) e (ap (try_before b p) before.last ∙ before.full)
 
--- it is open, and its message was full before this push came
+-- it is open, and its message was full before this came
 abbrev pub answers_first : Book → Heard → ℕ → Bool
 answers_first b p n = is_open (b.story n) && is_before b n p
 
--- the next push of the first link; what it says is left to be said
+-- what came next on the first link; what it says is left to be said
 abbrev pub tell_due : Book → ℕ → Option Heard → Bool
 tell_due b l None = false
 tell_due b l (Some p) = is_heard b && (l == 0) && ready_shown b && sources_asked b && each_below (λ n. not (answers_first b p n)) b.submissions
 
--- the push says what came
-abbrev pub IsPushOf : PushInfo → Option Heard → Type 0
-IsPushOf info None = ⊥
-IsPushOf info (Some p) = info ≡ p.info
+-- the notice says what came
+abbrev pub IsNoticeOf : Notice → Option Heard → Type 0
+IsNoticeOf n None = ⊥
+IsNoticeOf n (Some p) = n ≡ p.what
 
 -- so it may stand
-tell_stands : (b : Book) (l : ℕ) (info : PushInfo) → IsBounded b → tell_due b l (next_push (b.link l)) ≡ true → IsPushOf info (next_push (b.link l)) → MayTellPush b l info
-tell_stands b l info bounded e said = of_push (next_push (b.link l)) refl e said
+tell_stands : (b : Book) (l : ℕ) (n : Notice) → IsBounded b → tell_due b l (next_notice (b.link l)) ≡ true → IsNoticeOf n (next_notice (b.link l)) → MayNotify b l n
+tell_stands b l n bounded e said = of_notice (next_notice (b.link l)) refl e said
   where
     second_of : (p q : Bool) → (p && q) ≡ false → p ≡ true → q ≡ false
     second_of true q e t = e
     second_of false q e t = cc t
 
-    of_push : (x : Option Heard) → next_push (b.link l) ≡ x → tell_due b l x ≡ true → IsPushOf info x → MayTellPush b l info
-    of_push None same t s = absurd s
-    of_push (Some p) same t s = record {
-      heard = search (both_left, both_right);
-      push = p;
+    of_notice : (x : Option Heard) → next_notice (b.link l) ≡ x → tell_due b l x ≡ true → IsNoticeOf n x → MayNotify b l n
+    of_notice None same t s = absurd s
+    of_notice (Some p) same t s = record {
+      is_heard = search (both_left, both_right);
+      heard = p;
       next = same;
       says = s;
       in_order = λ m below. let first = eq_from l 0 (search (both_left, both_right)) in absurd (omega arith);
       created = ready_is_shown b bounded (search (both_left, both_right));
       sourced = sources_are_asked b bounded (search (both_left, both_right));
-      answered = λ n o on before. of_open b ⊥ n bounded
-          (λ i. not_before b n p (second_of (is_open (b.story n)) (is_before b n p) (not-true (answers_first b p n) (below (λ m. not (answers_first b p m)) b.submissions n (search (both_left, both_right)) i)) o) before) o;
+      answered = λ k o on before. of_open b ⊥ k bounded
+          (λ i. not_before b k p (second_of (is_open (b.story k)) (is_before b k p) (not-true (answers_first b p k) (below (λ m. not (answers_first b p m)) b.submissions k (search (both_left, both_right)) i)) o) before) o;
     }
 
 -- that a fault ended the first link; that it says no more is left to be said
 abbrev pub part_due : Book → ℕ → Bool
-part_due b l = is_heard b && (l == 0) && is_cut (b.link l).end && not (b.link l).parted && none_ends b && all_shown b && sources_asked b
+part_due b l = are_pushes_heard b && (l == 0) && is_cut (b.link l).end && not (b.link l).parted && none_ends b && all_shown b && sources_asked b
 
 -- what this says
 part_stands : (b : Book) (l : ℕ) (info : PushInfo) → IsBounded b → part_due b l ≡ true → info.parts ≡ [] → MayPart b l info
@@ -133,16 +135,16 @@ part_stands b l info bounded e bare = record {
 -- any push
 abbrev pub push_due : Bool → Book → ℕ → Bool
 push_due true b l = part_due b l
-push_due false b l = tell_due b l (next_push (b.link l))
+push_due false b l = tell_due b l (next_notice (b.link l))
 
 -- what is left to be said of it
 abbrev pub IsPushSaid : Bool → Book → ℕ → PushInfo → Type 0
 IsPushSaid true b l info = info.parts ≡ []
-IsPushSaid false b l info = IsPushOf info (next_push (b.link l))
+IsPushSaid false b l info = IsNoticeOf (notice.Push info) (next_notice (b.link l))
 
 push_stands : (disconnects : Bool) (b : Book) (l : ℕ) (info : PushInfo) → IsBounded b → push_due disconnects b l ≡ true → IsPushSaid disconnects b l info → MayPushBy disconnects b l info
 push_stands true b l info bounded e said = part_stands b l info bounded e said
-push_stands false b l info bounded e said = tell_stands b l info bounded e said
+push_stands false b l info bounded e said = tell_stands b l (notice.Push info) bounded e said
 
 -- the bytes of the first link; which bytes they are is left to be said
 abbrev pub write_due : Book → ℕ → List ℕ → Bool
@@ -231,15 +233,18 @@ ask_stands b t ms n bounded e = record {
 
 -- the timer of new credentials on the first link; for how long is left to be said
 abbrev pub renewal_time_due : Book → ℕ → ℕ → ℕ → Bool
-renewal_time_due b t l k = are_set_up b && (l == 0) && (k == (b.link 0).creds.timed) && nat_lt (b.link 0).creds.timed (renewals_asked (b.link 0)) && (t == length b.timers)
+renewal_time_due b t l k = are_watched b && (l == 0) && (k == (b.link 0).creds.timed) && nat_lt (b.link 0).creds.timed (renewals_asked (b.link 0)) && (t == length b.timers)
 
 -- what this says
 renewal_time_stands : (b : Book) (t ms l k : ℕ) → IsBounded b → renewal_time_due b t l k ≡ true → answer_time b.config ≡ Some ms → MayTimeRenewal b t ms (purpose.Renewal l k)
 renewal_time_stands b t ms l k bounded e within =
+    let watched : are_watched b ≡ true = search (both_left, both_right) in
+    let set : are_set_up b ≡ true = both_left (are_set_up b) (not (is_to_watch b)) watched in
     let first : l ≡ 0 = eq_from l 0 (search (both_left, both_right)) in
     record {
-      applied = applied b bounded (both_left (is_applied b) (not (is_to_set_up b)) (search (both_left, both_right)));
-      setups = setups_have_started b bounded (search (both_left, both_right));
+      applied = applied b bounded (both_left (is_applied b) (not (is_to_set_up b)) set);
+      setups = setups_have_started b bounded set;
+      monitors = monitors_have_started b bounded watched;
       l = l;
       within = within;
       asked = subst (λ j. (b.link j).creds.timed < renewals_asked (b.link j)) (sym first) (lt_from (b.link 0).creds.timed (renewals_asked (b.link 0)) (search (both_left, both_right)));
@@ -253,6 +258,7 @@ abbrev pub timer_due : Book → ℕ → ℕ → Purpose → Bool
 timer_due b t ms (purpose.Connect l) = not (b.links == 0) && is_empty b.timers && (t == length b.timers)
 timer_due b t ms (purpose.Response owner.Setup) = false
 timer_due b t ms (purpose.Response owner.Auth) = false
+timer_due b t ms (purpose.Response owner.Monitor) = false
 timer_due b t ms (purpose.Renewal l k) = renewal_time_due b t l k
 timer_due b t ms (purpose.Response (owner.Try n round)) = (round == 0) && ask_due b t ms n
 
@@ -291,6 +297,7 @@ timer_stands : (b : Book) (t ms : ℕ) (what : Purpose) → IsBounded b → time
 timer_stands b t ms (purpose.Connect l) bounded e said = inl (connect_timer_stands b t ms l e said)
 timer_stands b t ms (purpose.Response owner.Setup) bounded e said = cc e
 timer_stands b t ms (purpose.Response owner.Auth) bounded e said = cc e
+timer_stands b t ms (purpose.Response owner.Monitor) bounded e said = cc e
 timer_stands b t ms (purpose.Renewal l k) bounded e said = inr (inr (renewal_time_stands b t ms l k bounded e said))
 timer_stands b t ms (purpose.Response (owner.Try n round)) bounded e said =
     inr (inl (subst (λ r. MayTime b t ms (purpose.Response (owner.Try n r))) (sym (eq_from round 0 (both_left (round == 0) (ask_due b t ms n) e))) (ask_stands b t ms n bounded (both_right (round == 0) (ask_due b t ms n) e))))
@@ -364,10 +371,32 @@ set_up_stands b l message count len bounded e =
           long_as_its_bytes = eq_from len (length (setup_message (b.link l) (setup_count (b.link l).starts)).bytes) (search (both_left, both_right)) ∙ ap (λ n. length (setup_message (b.link l) n).bytes) number;
         }
 
+-- MONITOR on the first link
+abbrev pub watch_due : Book → ℕ → ℕ → ℕ → ℕ → Bool
+watch_due b l message count len =
+    are_set_up b && (l == 0) && is_to_watch b && (message == length (b.link l).starts) && ((count == need_of monitor_message.shape) && (len == length monitor_message.bytes))
+
+-- what this says
+watch_stands : (b : Book) (l message count len : ℕ) → IsBounded b → watch_due b l message count len ≡ true → MayWatch b l message count len
+watch_stands b l message count len bounded e =
+    let set : are_set_up b ≡ true = search (both_left, both_right) in
+    let first : l ≡ 0 = eq_from l 0 (search (both_left, both_right)) in
+    let watches : is_to_watch b ≡ true = search (both_left, both_right) in
+    record {
+      applied = applied b bounded (both_left (is_applied b) (not (is_to_set_up b)) set);
+      setups = setups_have_started b bounded set;
+      due = ap (λ j. monitor_due (b.link j)) first ∙ both_left (monitor_due (b.link 0)) (not (is_held_back b (b.link 0))) watches;
+      free = ap (λ j. is_held_back b (b.link j)) first ∙ not-true (is_held_back b (b.link 0)) (both_right (monitor_due (b.link 0)) (not (is_held_back b (b.link 0))) watches);
+      in_order = λ m below. absurd (omega (arith, first, below));
+      next = eq_from message (length (b.link l).starts) (search (both_left, both_right));
+      needs_its_items = eq_from count (need_of monitor_message.shape) (search (both_left, both_right));
+      long_as_its_bytes = eq_from len (length monitor_message.bytes) (search (both_left, both_right));
+    }
+
 -- new credentials on the first link
 abbrev pub renew_due : Book → ℕ → ℕ → ℕ → ℕ → Bool
 renew_due b l message count len =
-    are_set_up b && renewals_timed b && (l == 0) && can_renew b && (message == length (b.link l).starts) &&
+    are_watched b && renewals_timed b && (l == 0) && can_renew b && (message == length (b.link l).starts) &&
     ((count == need_of (renewal_in (renewal_due (b.link l))).shape) && (len == length (renewal_in (renewal_due (b.link l))).bytes))
 
 -- what this says
@@ -378,11 +407,14 @@ renew_stands b l message count len bounded e =
     of_due : (o : Option Credentials) → renewal_due (b.link 0) ≡ o → is_some o ≡ true → MayRenew b l message count len
     of_due None same t = cc t
     of_due (Some c) same t =
+        let watched : are_watched b ≡ true = search (both_left, both_right) in
+        let set : are_set_up b ≡ true = both_left (are_set_up b) (not (is_to_watch b)) watched in
         let first : l ≡ 0 = eq_from l 0 (search (both_left, both_right)) in
         let due : renewal_due (b.link l) ≡ Some c = ap (λ j. renewal_due (b.link j)) first ∙ same in
         record {
-          applied = applied b bounded (both_left (is_applied b) (not (is_to_set_up b)) (search (both_left, both_right)));
-          setups = setups_have_started b bounded (search (both_left, both_right));
+          applied = applied b bounded (both_left (is_applied b) (not (is_to_set_up b)) set);
+          setups = setups_have_started b bounded set;
+          monitors = monitors_have_started b bounded watched;
           timed = renewals_are_timed b bounded (search (both_left, both_right));
           credentials = c;
           due = due;
@@ -393,7 +425,7 @@ renew_stands b l message count len bounded e =
           long_as_its_bytes = eq_from len (length (renewal_in (renewal_due (b.link l))).bytes) (search (both_left, both_right)) ∙ ap (λ o. length (renewal_in o).bytes) due;
         }
 
--- its message was full before the next push of its link came, if one waits
+-- its message was full before what is to be told next of its link came, if something is
 abbrev pub is_before_next : Book → ℕ → Option Heard → Bool
 is_before_next b n None = true
 is_before_next b n (Some p) = is_before b n p
@@ -405,7 +437,7 @@ before_next b n (Some q) p e same = before_from b n p (ap (λ o. is_before_next 
 
 -- an outcome: what is owed, or where nothing is, the Nil of a command whose reply nobody awaits; which it is is left to be said
 abbrev pub outcome_due : Book → ℕ → Option Outcome → Bool
-outcome_due b n (Some o) = each_below (λ m. is_quiet b m) n && holds_if (is_heard b) (is_before_next b n (next_push (link_of b n))) && holds_if (is_over (link_of b n)) (none_ends b && all_shown b && failure_shown b && end_told b && sources_asked b)
+outcome_due b n (Some o) = each_below (λ m. is_quiet b m) n && holds_if (is_heard b) (is_before_next b n (next_notice (link_of b n))) && holds_if (is_over (link_of b n)) (none_ends b && all_shown b && failure_shown b && end_told b && sources_asked b)
 outcome_due b n None = is_begun b && is_unstarted (b.story n) && same_step (next_step b n) tells && all_stay b n
 
 -- what is said is what is owed, or Nil
@@ -424,8 +456,8 @@ outcome_stands b n o bounded e said = of_owed (owed b n) refl (both_right (is_op
       asked = open_still;
       owes = same ∙ ap Some (sym s);
       in_order = λ m l open_too alike. quiet b m (below (λ m. is_quiet b m) n m (search both_left) l) open_too;
-      after_pushes = λ heard p waits.
-          before_next b n (next_push (link_of b n)) p (held (is_heard b) (is_before_next b n (next_push (link_of b n))) (search (both_left, both_right)) heard) waits;
+      after_notices = λ heard p waits.
+          before_next b n (next_notice (link_of b n)) p (held (is_heard b) (is_before_next b n (next_notice (link_of b n))) (search (both_left, both_right)) heard) waits;
       after_closes = λ over.
           let done = held (is_over (link_of b n)) (none_ends b && all_shown b && failure_shown b && end_told b && sources_asked b) (search (both_left, both_right)) over in (
             no_end b bounded (search (both_left, both_right)),
@@ -453,16 +485,21 @@ due b (action.Connect l host port) = (b.links == 0) && (l == 0)
 due b (action.Timer t ms what) = timer_due b t ms what
 due b (action.Took owner.Setup l count) = false
 due b (action.Took owner.Auth l count) = false
+due b (action.Took owner.Monitor l count) = false
 due b (action.Took (owner.Try n round) l count) = (round == 0) && take_due b n l count
 due b (action.Push l info) = push_due (is_disconnection info.kind) b l
+due b (action.Message m) = tell_due b (current b) (next_notice (b.link (current b)))
+due b (action.Monitor v) = tell_due b (current b) (next_notice (b.link (current b)))
 due b (action.NeedCreds c l) = need_due b c l
 due b (action.Close l) = close_due b l
 due b (action.Write l bytes) = write_due b l bytes
 due b (action.Wait owner.Setup kind) = false
 due b (action.Wait owner.Auth kind) = false
+due b (action.Wait owner.Monitor kind) = false
 due b (action.Wait (owner.Try n round) kind) = (round == 0) && wait_due b n kind
 due b (action.Start l k owner.Setup count len) = set_up_due b l k count len
 due b (action.Start l k owner.Auth count len) = renew_due b l k count len
+due b (action.Start l k owner.Monitor count len) = watch_due b l k count len
 due b (action.Start l k (owner.Try n round) count len) = (round == 0) && start_due b l k n count len
 due b (action.Created None) = created_due b
 due b (action.Created (Some e)) = failure_due b
@@ -518,6 +555,8 @@ AllSaid b (action.Turn k c ∷ more) = AllSaid (entered b (action.Turn k c)) mor
 AllSaid b (action.Timer t ms what ∷ more) = IsTimeOf b ms what × AllSaid (entered b (action.Timer t ms what)) more
 AllSaid b (action.Took who l count ∷ more) = AllSaid (entered b (action.Took who l count)) more
 AllSaid b (action.Push l info ∷ more) = IsPushSaid (is_disconnection info.kind) b l info × AllSaid (entered b (action.Push l info)) more
+AllSaid b (action.Message m ∷ more) = IsNoticeOf (notice.Message m) (next_notice (b.link (current b))) × AllSaid (entered b (action.Message m)) more
+AllSaid b (action.Monitor v ∷ more) = IsNoticeOf (notice.Monitor v) (next_notice (b.link (current b))) × AllSaid (entered b (action.Monitor v)) more
 AllSaid b (action.NeedCreds c l ∷ more) = AllSaid (entered b (action.NeedCreds c l)) more
 AllSaid b (action.Close l ∷ more) = AllSaid (entered b (action.Close l)) more
 AllSaid b (action.Wait who kind ∷ more) = AllSaid (entered b (action.Wait who kind)) more
@@ -532,17 +571,22 @@ first_stands b (action.Connect l host port) more bounded e said = (connect_stand
 first_stands b (action.Timer t ms what) more bounded e said = (timer_stands b t ms what bounded e said.0, said.1)
 first_stands b (action.Took owner.Setup l count) more bounded e said = absurd (cc e)
 first_stands b (action.Took owner.Auth l count) more bounded e said = absurd (cc e)
+first_stands b (action.Took owner.Monitor l count) more bounded e said = absurd (cc e)
 first_stands b (action.Took (owner.Try n round) l count) more bounded e said =
     ((eq_from round 0 (both_left (round == 0) (take_due b n l count) e), take_stands b n l count bounded (both_right (round == 0) (take_due b n l count) e)), said)
 first_stands b (action.Push l info) more bounded e said = (push_stands (is_disconnection info.kind) b l info bounded e said.0, said.1)
+first_stands b (action.Message m) more bounded e said = (tell_stands b (current b) (notice.Message m) bounded e said.0, said.1)
+first_stands b (action.Monitor v) more bounded e said = (tell_stands b (current b) (notice.Monitor v) bounded e said.0, said.1)
 first_stands b (action.NeedCreds c l) more bounded e said = (need_stands b c l bounded e, said)
 first_stands b (action.Close l) more bounded e said = (close_stands b l bounded e, said)
 first_stands b (action.Write l bytes) more bounded e said = (write_stands b l bytes bounded e said.0, said.1)
 first_stands b (action.Wait owner.Setup kind) more bounded e said = absurd (cc e)
 first_stands b (action.Wait owner.Auth kind) more bounded e said = absurd (cc e)
+first_stands b (action.Wait owner.Monitor kind) more bounded e said = absurd (cc e)
 first_stands b (action.Wait (owner.Try n round) kind) more bounded e said =
     ((eq_from round 0 (both_left (round == 0) (wait_due b n kind) e), wait_stands b n kind bounded (both_right (round == 0) (wait_due b n kind) e)), said)
 first_stands b (action.Start l k owner.Setup count len) more bounded e said = (set_up_stands b l k count len bounded e, said)
+first_stands b (action.Start l k owner.Monitor count len) more bounded e said = (watch_stands b l k count len bounded e, said)
 first_stands b (action.Start l k owner.Auth count len) more bounded e said = (renew_stands b l k count len bounded e, said)
 first_stands b (action.Start l k (owner.Try n round) count len) more bounded e said =
     ((eq_from round 0 (both_left (round == 0) (start_due b l k n count len) e), start_stands b l k n count len bounded (both_right (round == 0) (start_due b l k n count len) e)), said)

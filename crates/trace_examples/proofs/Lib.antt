@@ -6,6 +6,7 @@ pub mod Server
 pub mod Allowed
 pub mod Opened
 pub mod Stood
+pub mod Single
 pub mod Refused
 pub mod Misplaced
 pub mod Unopened
@@ -19,3 +20,5 @@ pub mod Called
 pub mod Pushes
 pub mod Creds
 pub mod Renewals
+pub mod Listeners
+pub mod Takings

@@ -17,19 +17,21 @@ use Rattle.driver_model.specs.declared.config.Config.{Config}
 use Rattle.driver_model.specs.declared.event.Event.{Event}
 use Rattle.driver_model.specs.declared.event.EventKind.TheVariants as event
 use Rattle.driver_model.specs.declared.outcome.Outcome.TheVariants as outcome
-use Rattle.driver_model.specs.Config.{buffer_size, boundary}
+use Rattle.driver_model.specs.Config.{buffer_size, boundary, permits}
 use Rattle.driver_model.specs.Request.{packed_bytes}
 use Rattle.legal_trace.specs.Events.{is_bad_event}
 use Rattle.legal_trace.specs.Ledger.{dials, is_ready}
 use Rattle.legal_trace.specs.Story.{is_told, is_awaited}
 use Rattle.legal_trace.specs.Book.{Book}
 use Rattle.legal_trace.specs.Steps.{tells, starts, permits_in, line_before, is_outside, is_held_back, renewals_in_line, is_due, next_step}
-use Rattle.legal_trace.specs.Legal.{link_of, MayTurn, Legal}
+use Rattle.legal_trace.specs.Owed.{owed}
+use Rattle.legal_trace.specs.Legal.{link_of, MayTurn, Legal, VerdictsAreShown}
 use Rattle.legal_trace.proofs.Moves.{is_timed, starts_mean, tells_mean, placed_is_awaited, free_is_due}
-use Rattle.trace_examples.specs.Parts.{turn, command, unawaited, one_nameless, nameless_atomic, nameless_skipped}
-use Rattle.trace_examples.specs.Traces.{taken_in_part, came_up, arrived, started_one, started_unoffered, held_back, spoiled, cut_off, left_untold, left_out, both_left_out, up_in_wait, both_in_wait, first_of_both, ended}
+use Rattle.trace_examples.specs.Parts.{turn, command, unawaited, reply, one_nameless, nameless_atomic, nameless_skipped}
+use Rattle.trace_examples.specs.Traces.{opening, taken_in_part, came_up, arrived, started_one, started_unoffered, held_back, spoiled, cut_off, left_untold, left_out, both_left_out, up_in_wait, both_in_wait, first_of_both, ended}
 use Rattle.legal_trace.proofs.Setups.{silent_is_set}
 use Rattle.trace_examples.proofs.Stood.{book_of, may_stand, both_up_silent, both_up_given}
+use Rattle.trace_examples.proofs.Single.{none_is_some, some_is_none, no_session_has, single_behind, unwatched, of_single, of_arrived}
 
 -- whoever starts and wasn't told starts at its place, where its reply is awaited
 untold_starts : (b : Book) (n : ℕ) → is_told (b.story n) ≡ false → is_awaited (b.story n) ≡ false → next_step b n ≡ starts → ⊥
@@ -76,10 +78,10 @@ unfolding digits
 told_out_of_order config word events after h =
     let b = book_of (both_in_wait config word (unawaited 72)) in
     elim (may_stand config word events (both_in_wait config word (unawaited 72)) after (action.Outcome 1 (outcome.One Nil)) h) [
-      | inl answer ↦ cc answer.owes
+      | inl answer ↦ of_single config word (both_in_wait config word (unawaited 72)) (λ b. owed b 1 ≡ Some (outcome.One Nil) → ⊥) (single_behind config word events (opening config word) _ 1 (command 71) refl refl h) (none_is_some (outcome.One Nil)) (none_is_some (outcome.One Nil)) answer.owes
       | inr tell ↦
           let t = tells_uncounted b 1 refl tell.tells in
-          tell.in_order 0 (omega arith) (record { unstarted = refl; due = first_is_due b refl (tells_mean b 1 tell.tells).1 refl refl t.0 (room_for_one (buffer_size config) (renewals_in_line (b.link 0) + line_before config.limit b.story 0 1) t.1) })
+          tell.in_order 0 (omega arith) (record { unstarted = refl; due = first_is_due b refl (tells_mean b 1 tell.tells).1 refl refl t.0 (room_for_one (buffer_size config) (renewals_in_line (b.link 0) + line_before (permits config) b.story 0 1) t.1) })
     ]
 
 -- and before the creation
@@ -88,7 +90,7 @@ pub told_before_the_creation : (config : Config) (word : ℕ) (events : List Eve
 unfolding digits
 told_before_the_creation config word events after h =
     elim (may_stand config word events (up_in_wait config word (unawaited 71)) after (action.Outcome 0 (outcome.One Nil)) h) [
-      | inl answer ↦ cc answer.owes
+      | inl answer ↦ of_single config word (up_in_wait config word (unawaited 71)) (λ b. owed b 0 ≡ Some (outcome.One Nil) → ⊥) (single_behind config word events (opening config word) _ 1 (unawaited 71) refl refl h) (none_is_some (outcome.One Nil)) (none_is_some (outcome.One Nil)) answer.owes
       | inr tell ↦ tell.begun.applied.created.shown 0 (tells_mean (book_of (up_in_wait config word (unawaited 71))) 0 tell.tells).1 refl
     ]
 
@@ -98,7 +100,7 @@ pub closed_before_the_reply : (config : Config) (word : ℕ) (events : List Even
 unfolding digits items values left_over max_depth
 closed_before_the_reply config word events after h =
     let m = may_stand config word events (spoiled config word) after (action.Close 0) h in
-    cc (m.answered 0 refl refl)
+    of_arrived config word events (spoiled config word) _ (command 71) (λ b. VerdictsAreShown b → ⊥) refl h (λ name v. some_is_none (reply 120) (v 0 refl refl)) (λ name v. some_is_none (reply 120) (v 0 refl refl)) m.answered
 
 -- a link that is closed twice
 pub closed_twice : (config : Config) (word : ℕ) (events : List Event) (after : List Action)
@@ -129,9 +131,10 @@ offered_before_a_start config word events after bytes free h =
     let first = may_stand config word events (both_in_wait config word (command 72)) (action.Write 0 bytes ∷ after) (action.Start 0 0 (owner.Try 0 0) 1 11) h in
     let s = starts_uncounted (book_of (both_in_wait config word (command 72))) 0 refl refl first.1.starts in
     let b = book_of (first_of_both config word) in
+    let single = single_behind config word events (opening config word) _ 1 (command 71) refl refl h in
     let silent = both_up_silent config word events (command 72) (action.Start 0 0 (owner.Try 0 0) 1 11 ∷ action.Write 0 bytes ∷ after) h in
     let given = both_up_given config word events (command 72) (action.Start 0 0 (owner.Try 0 0) 1 11 ∷ action.Write 0 bytes ∷ after) h in
-    m.moved.moved 1 (record { unstarted = refl; due = free_is_due b 1 refl (silent_is_set (link_of b 1) given silent) (not_le_test (boundary config) 11 free) refl (ap (λ x. is_none x || false) s.0) s.1 })
+    m.moved.moved 1 (record { unstarted = refl; due = free_is_due b 1 refl (silent_is_set (link_of b 1) (unwatched config single) given silent) (not_le_test (boundary config) 11 free) refl (ap (λ x. is_none x || false) s.0) s.1 })
 
 -- bytes that are offered twice
 pub offered_twice : (config : Config) (word : ℕ) (events : List Event) (after : List Action)
@@ -197,21 +200,21 @@ pub nameless : (config : Config) (word : ℕ) (events : List Event) (after : Lis
 unfolding is_bad_event
 nameless config word events after h =
     let m = may_stand config word events (came_up config word) after (turn 2 (event.Submit one_nameless)) h in
-    cc m.is_for.2
+    no_session_has config.kind one_nameless refl refl m.is_for.2
 
 pub nameless_transaction : (config : Config) (word : ℕ) (events : List Event) (after : List Action)
     → Legal config word events (came_up config word ++ turn 2 (event.Submit nameless_atomic) ∷ after) → ⊥
 unfolding is_bad_event
 nameless_transaction config word events after h =
     let m = may_stand config word events (came_up config word) after (turn 2 (event.Submit nameless_atomic)) h in
-    cc m.is_for.2
+    no_session_has config.kind nameless_atomic refl refl m.is_for.2
 
 pub nameless_packed : (config : Config) (word : ℕ) (events : List Event) (after : List Action) (offset count : ℕ)
     → Legal config word events (came_up config word ++ turn 2 (event.Submit (nameless_skipped offset count)) ∷ after) → ⊥
 unfolding is_bad_event
 nameless_packed config word events after offset count h =
     let m = may_stand config word events (came_up config word) after (turn 2 (event.Submit (nameless_skipped offset count))) h in
-    cc m.is_for.2
+    no_session_has config.kind (nameless_skipped offset count) refl refl m.is_for.2
 
 -- the turn of more bytes taken than were offered
 pub took_too_much : (config : Config) (word : ℕ) (events : List Event) (after : List Action)

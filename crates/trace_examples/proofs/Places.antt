@@ -14,7 +14,7 @@ use Rattle.driver_model.specs.declared.action.WaitKind.{WaitKind}
 use Rattle.driver_model.specs.declared.action.WaitKind.TheVariants as wait
 use Rattle.driver_model.specs.declared.event.EventKind.TheVariants as event
 use Rattle.driver_model.specs.declared.outcome.Outcome.TheVariants as outcome
-use Rattle.driver_model.specs.Config.{buffer_size}
+use Rattle.driver_model.specs.Config.{buffer_size, permits}
 use Rattle.driver_model.specs.Request.{packed_bytes}
 use Rattle.legal_trace.specs.Events.{is_bad_event}
 use Rattle.legal_trace.specs.Steps.{waits, line_before, renewals_in_line}
@@ -153,4 +153,4 @@ second_before_the_first config word events after h =
     let b = book_of (both_in_wait config word (command 72)) in
     let m = may_stand config word events (both_in_wait config word (command 72)) after (action.Start 0 0 (owner.Try 1 0) 1 11) h in
     let s = starts_uncounted b 1 refl refl m.1.starts in
-    m.1.in_order 0 (omega arith) (record { unstarted = refl; due = first_is_due b refl (starts_mean b 1 m.1.starts).1 refl refl s.0 (room_for_one (buffer_size config) (renewals_in_line (b.link 0) + line_before config.limit b.story 0 1) s.1) })
+    m.1.in_order 0 (omega arith) (record { unstarted = refl; due = first_is_due b refl (starts_mean b 1 m.1.starts).1 refl refl s.0 (room_for_one (buffer_size config) (renewals_in_line (b.link 0) + line_before (permits config) b.story 0 1) s.1) })

@@ -11,6 +11,9 @@ use Rattle.resp_read.specs.Values.{values, left_over, is_spoiled}
 use Rattle.resp_read.specs.Items.{items}
 use Rattle.driver_model.specs.Config.{address, fault_in}
 use Rattle.driver_model.specs.Push.{is_disconnection}
+use Rattle.driver_model.specs.Hearing.{hears_pushes, hears_something}
+use Rattle.driver_model.specs.declared.hearing.Hearing.{Hearing}
+use Rattle.driver_model.specs.declared.hearing.Hearing.TheVariants as hearing
 use Rattle.driver_model.specs.declared.action.Action.TheVariants as action
 use Rattle.driver_model.specs.declared.action.Cause.{Cause}
 use Rattle.driver_model.specs.declared.action.Cause.TheVariants as cause
@@ -18,10 +21,11 @@ use Rattle.driver_model.specs.declared.event.EventKind.TheVariants as event
 use Rattle.driver_model.specs.declared.outcome.Outcome.{Outcome}
 use Rattle.driver_model.specs.declared.outcome.Outcome.TheVariants as outcome
 use Rattle.driver_model.specs.declared.push_info.PushInfo.{PushInfo}
+use Rattle.driver_model.specs.declared.hearing.Notice.TheVariants as notice
 use Rattle.legal_trace.specs.Events.{is_bad_event}
 use Rattle.legal_trace.specs.Ledger.{Heard, is_full_by}
 use Rattle.legal_trace.specs.Story.{Try}
-use Rattle.legal_trace.specs.Book.{Book}
+use Rattle.legal_trace.specs.Book.{Book, hearing_in}
 use Rattle.legal_trace.specs.Legal.{MayTurn, MayPushBy, is_heard}
 use Rattle.legal_trace.proofs.Plain.{same_some}
 use Rattle.trace_examples.specs.Parts.{reply}
@@ -38,7 +42,7 @@ is_heard_server : address heard ≡ Some third_server
 unfolding url_on_literals utf8_lossy utf8_valid_len
 is_heard_server = refl
 
-at_heard : IsPlace heard (codes "h") 6379
+pub at_heard : IsPlace heard (codes "h") 6379
 at_heard = record { sound = ap (λ a. fault_in a true None 50) is_heard_server; info = third_server; configured = is_heard_server; is = (refl, refl) }
 
 -- and so it does where they aren't
@@ -100,10 +104,10 @@ told_twice word events after h = let m = may_stand heard word events (invalid_to
 
 -- the push that came between the replies, and the one that confirms
 abbrev invalid_heard : Heard
-invalid_heard = record { after = 2; info = invalidation }
+invalid_heard = record { after = 2; what = notice.Push invalidation }
 
 abbrev confirmation_heard : Heard
-confirmation_heard = record { after = 1; info = subscription }
+confirmation_heard = record { after = 1; what = notice.Push subscription }
 
 -- the first message behind the setup
 abbrev first_try : Try
@@ -115,7 +119,7 @@ unfolding digits items values left_over max_depth kind_of url_on_literals utf8_l
 told_too_soon word events after h =
     let b = book_of (invalid_while_asked heard word) in
     let m = may_stand heard word events (invalid_while_asked heard word) after (action.Push 0 invalidation) h in
-    m.answered 0 refl refl (record { try = first_try; last = refl; full = subst (λ (p : Heard). is_full_by (b.link 0) p.after 1 ≡ true) (same_some invalid_heard m.push m.next) refl })
+    m.answered 0 refl refl (record { try = first_try; last = refl; full = subst (λ (p : Heard). is_full_by (b.link 0) p.after 1 ≡ true) (same_some invalid_heard m.heard m.next) refl })
 
 -- an outcome that stands before the push that gives it
 pub answered_before_the_push : (o : Outcome) → NoneBeginsIn heard confirmed (action.Outcome 0 o)
@@ -123,7 +127,7 @@ unfolding digits items values left_over max_depth kind_of url_on_literals utf8_l
 answered_before_the_push o word events after h =
     let b = book_of (confirmed heard word) in
     let m = answer heard word events (confirmed heard word) after 0 o refl h in
-    let before = m.after_pushes refl confirmation_heard refl in
+    let before = m.after_notices refl confirmation_heard refl in
     let full : is_full_by (b.link 0) 1 1 ≡ true = subst (λ (t : Try). is_full_by (b.link t.link) 1 t.message ≡ true) (sym (same_some first_try before.try before.last)) before.full in cc full
 
 -- or before one that came before its reply
@@ -132,14 +136,21 @@ unfolding digits items values left_over max_depth kind_of url_on_literals utf8_l
 answered_before_another o word events after h =
     let b = book_of (first_told heard word) in
     let m = answer heard word events (first_told heard word) after 1 o refl h in
-    let before = m.after_pushes refl invalid_heard refl in
+    let before = m.after_notices refl invalid_heard refl in
     let second : Try = record { link = 0; message = 2 } in
     let full : is_full_by (b.link 0) 2 2 ≡ true = subst (λ (t : Try). is_full_by (b.link t.link) 2 t.message ≡ true) (sym (same_some second before.try before.last)) before.full in cc full
 
+-- pushes are something
+pushes_something : (h : Hearing) → hears_pushes h ≡ true → hears_something h ≡ true
+pushes_something hearing.Pushes e = refl
+pushes_something hearing.Nothing e = cc e
+pushes_something hearing.Messages e = cc e
+pushes_something hearing.Monitor e = cc e
+
 -- whoever tells a push is heard
 push_heard : (b : Book) (l : ℕ) (info : PushInfo) (disconnects : Bool) → MayPushBy disconnects b l info → is_heard b ≡ true
-push_heard b l info true may = may.heard
-push_heard b l info false may = may.heard
+push_heard b l info true may = pushes_something (hearing_in b.config) may.heard
+push_heard b l info false may = may.is_heard
 
 -- a push that is told with nobody to hear it
 pub told_unheard : (l : ℕ) (info : PushInfo) → NoneBeginsIn unheard confirmed (action.Push l info)

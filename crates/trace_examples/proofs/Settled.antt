@@ -10,14 +10,15 @@ use Rattle.driver_model.specs.declared.action.Cause.{Cause}
 use Rattle.driver_model.specs.declared.action.Cause.TheVariants as cause
 use Rattle.driver_model.specs.declared.action.WaitKind.{WaitKind}
 use Rattle.driver_model.specs.declared.event.Submission.{Submission}
-use Rattle.legal_trace.specs.Ledger.{Ledger, Start, Heard, IsOffered, is_over, is_cut, ending, next_push, failure_in, unwritten, is_full, is_ready, is_set_up, is_taken, last_renewal, renewal_count, renewal_due, renewals_asked, setup_due, source_due}
+use Rattle.legal_trace.specs.Ledger.{Ledger, Start, Heard, IsOffered, is_over, is_cut, ending, next_notice, failure_in, unwritten, is_full, is_ready, is_set_up, is_taken, last_renewal, monitor_due, renewal_count, renewal_due, renewals_asked, setup_due, source_due}
 use Rattle.legal_trace.specs.Story.{Try, last_of, is_open, is_told, is_unstarted, is_awaited, is_no_error, awaited_in}
 use Rattle.legal_trace.specs.Book.{Book}
 use Rattle.legal_trace.specs.Steps.{waits, is_due, next_step, is_held_back}
 use Rattle.legal_trace.proofs.Setups.{due_is_up}
+use Rattle.legal_trace.proofs.Watching.{watch_is_up}
 use Rattle.legal_trace.proofs.Plain.{not_none}
 use Rattle.legal_trace.specs.Owed.{owed}
-use Rattle.legal_trace.specs.Legal.{IsOpen, link_of, NoneIsOwed, VerdictsAreShown, NoneEnds, FailuresAreShown, IsTimed, IsApplied, CanMove, IsMoved, IsWritten, WaitHolds, IsStarted, IsWaiting, IsSettled, ReadyIsShown, SourcesAreAsked, PushesAreTold, EndsAreTold, IsBegun, SetupsAreStarted, RenewalsAreTimed, RenewalsAreStarted, answer_time, is_heard}
+use Rattle.legal_trace.specs.Legal.{IsOpen, link_of, NoneIsOwed, VerdictsAreShown, NoneEnds, FailuresAreShown, IsTimed, IsApplied, CanMove, IsMoved, IsWritten, WaitHolds, IsStarted, IsWaiting, IsSettled, ReadyIsShown, SourcesAreAsked, NoticesAreTold, EndsAreTold, IsBegun, SetupsAreStarted, MonitorsAreStarted, RenewalsAreTimed, RenewalsAreStarted, answer_time, are_pushes_heard, is_heard}
 use Rattle.trace_examples.proofs.Bounded.{IsBounded, IsIdle}
 use Rattle.trace_examples.proofs.Checks.{holds_if, held, none_from, is_empty, empty_from, filled_from, each_below, below, same_step, step_from}
 
@@ -130,21 +131,21 @@ ready_is_shown b bounded t l = first_and_idle b (λ m. is_ready (b.link m) ≡ t
     (λ ready. other_than_zero b.created (held (is_ready (b.link 0)) (not (b.created == 0)) t ready))
     (λ idle ready. absurd (not_both (b.link l).up idle.down (both_left (b.link l).up (is_set_up (b.link l)) ready)))
 
--- the pushes of the link were told, where somebody hears them
-abbrev pub pushes_told : Book → Bool
-pushes_told b = holds_if (is_heard b) (is_none (next_push (b.link 0)))
+-- all that came on the link was told, where somebody hears it
+abbrev pub notices_told : Book → Bool
+notices_told b = holds_if (is_heard b) (is_none (next_notice (b.link 0)))
 
--- on an idle link none waits
-idle_waits_not : (l : Ledger) → IsIdle l → next_push l ≡ None
+-- on an idle link nothing waits
+idle_waits_not : (l : Ledger) → IsIdle l → next_notice l ≡ None
 idle_waits_not l idle = ap (λ (hs : List Heard). slice_get hs l.told) idle.mute
 
-pub pushes_are_told : (b : Book) → IsBounded b → pushes_told b ≡ true → PushesAreTold b
-pushes_are_told b bounded t l heard = first_and_idle b (λ m. next_push (b.link m) ≡ None) l bounded
-    (none_from (next_push (b.link 0)) (held (is_heard b) (is_none (next_push (b.link 0))) t heard)) (idle_waits_not (b.link l))
+pub notices_are_told : (b : Book) → IsBounded b → notices_told b ≡ true → NoticesAreTold b
+notices_are_told b bounded t l heard = first_and_idle b (λ m. next_notice (b.link m) ≡ None) l bounded
+    (none_from (next_notice (b.link 0)) (held (is_heard b) (is_none (next_notice (b.link 0))) t heard)) (idle_waits_not (b.link l))
 
 -- where a fault ended the link this was told, where somebody hears pushes
 abbrev pub end_told : Book → Bool
-end_told b = holds_if (is_heard b) (holds_if (is_cut (b.link 0).end) (b.link 0).parted)
+end_told b = holds_if (are_pushes_heard b) (holds_if (is_cut (b.link 0).end) (b.link 0).parted)
 
 -- no fault ended an idle link
 idle_uncut : (l : Ledger) → IsIdle l → is_cut l.end ≡ true → ⊥
@@ -152,7 +153,7 @@ idle_uncut l idle cut = let x : false ≡ true = sym (ap is_cut idle.lives) ∙ 
 
 pub ends_are_told : (b : Book) → IsBounded b → end_told b ≡ true → EndsAreTold b
 ends_are_told b bounded t l heard = first_and_idle b (λ m. is_cut (b.link m).end ≡ true → (b.link m).parted ≡ true) l bounded
-    (λ cut. held (is_cut (b.link 0).end) (b.link 0).parted (held (is_heard b) (holds_if (is_cut (b.link 0).end) (b.link 0).parted) t heard) cut)
+    (λ cut. held (is_cut (b.link 0).end) (b.link 0).parted (held (are_pushes_heard b) (holds_if (is_cut (b.link 0).end) (b.link 0).parted) t heard) cut)
     (λ idle cut. absurd (idle_uncut (b.link l) idle cut))
 
 -- the sources of credentials of the link were asked for that are to be
@@ -168,7 +169,7 @@ sources_are_asked b bounded t l = first_and_idle b (λ m. source_due (b.link m) 
 
 -- the event has had its own effect
 abbrev pub is_applied : Book → Bool
-is_applied b = (all_quiet b && none_ends b && not (b.links == 0) && is_timed b) && (ready_shown b && failure_shown b && pushes_told b && end_told b && sources_asked b)
+is_applied b = (all_quiet b && none_ends b && not (b.links == 0) && is_timed b) && (ready_shown b && failure_shown b && notices_told b && end_told b && sources_asked b)
 
 pub applied : (b : Book) → IsBounded b → is_applied b ≡ true → IsApplied b
 applied b bounded e = record {
@@ -179,7 +180,7 @@ applied b bounded e = record {
     shown = ready_is_shown b bounded (search (both_left, both_right));
     failed = failures_are_shown b bounded (search (both_left, both_right));
   };
-  pushed = pushes_are_told b bounded (search (both_left, both_right));
+  pushed = notices_are_told b bounded (search (both_left, both_right));
   parted = ends_are_told b bounded (search (both_left, both_right));
   sourced = sources_are_asked b bounded (search (both_left, both_right));
   timed = timed b (search (both_left, both_right));
@@ -197,6 +198,14 @@ idle_undue l k idle due = not_both l.up idle.down (due_is_up l k due)
 abbrev pub are_set_up : Book → Bool
 are_set_up b = is_applied b && not (is_to_set_up b)
 
+-- MONITOR is to start on the link, which isn't held back
+abbrev pub is_to_watch : Book → Bool
+is_to_watch b = monitor_due (b.link 0) && not (is_held_back b (b.link 0))
+
+-- the event has had its effect, and setups have started, and so has MONITOR
+abbrev pub are_watched : Book → Bool
+are_watched b = are_set_up b && not (is_to_watch b)
+
 -- the new credentials of the link have their timers, where they are to have some
 abbrev pub renewals_timed : Book → Bool
 renewals_timed b = holds_if (is_some (answer_time b.config)) (nat_le (renewals_asked (b.link 0)) (b.link 0).creds.timed)
@@ -205,9 +214,9 @@ renewals_timed b = holds_if (is_some (answer_time b.config)) (nat_le (renewals_a
 abbrev pub can_renew : Book → Bool
 can_renew b = is_some (renewal_due (b.link 0)) && not (is_held_back b (b.link 0))
 
--- setups have started, and so have new credentials, which have their timers
+-- setups and MONITOR have started, and so have new credentials, which have their timers
 abbrev pub is_begun : Book → Bool
-is_begun b = are_set_up b && renewals_timed b && not (can_renew b)
+is_begun b = are_watched b && renewals_timed b && not (can_renew b)
 
 -- no new credentials are to be told on an idle link
 idle_unrenewed : (l : Ledger) → IsIdle l → renewal_due l ≡ None
@@ -243,6 +252,12 @@ setups_have_started b bounded e l k = first_and_idle b (λ m. setup_due (b.link 
     (λ due. second_fails (is_some (setup_due (b.link 0))) (is_held_back b (b.link 0)) (not-true (is_to_set_up b) (both_right (is_applied b) (not (is_to_set_up b)) e)) (ap is_some due))
     (λ idle due. absurd (idle_undue (b.link l) k idle due))
 
+-- and so has MONITOR
+pub monitors_have_started : (b : Book) → IsBounded b → are_watched b ≡ true → MonitorsAreStarted b
+monitors_have_started b bounded e l = first_and_idle b (λ m. monitor_due (b.link m) ≡ true → is_held_back b (b.link m) ≡ true) l bounded
+    (λ due. second_fails (monitor_due (b.link 0)) (is_held_back b (b.link 0)) (not-true (is_to_watch b) (both_right (are_set_up b) (not (is_to_watch b)) e)) due)
+    (λ idle due. absurd (not_both (b.link l).up idle.down (watch_is_up (b.link l) due)))
+
 -- and so have new credentials
 renewals_have_started : (b : Book) → IsBounded b → can_renew b ≡ false → RenewalsAreStarted b
 renewals_have_started b bounded e l c = first_and_idle b (λ m. renewal_due (b.link m) ≡ Some c → is_held_back b (b.link m) ≡ true) l bounded
@@ -251,12 +266,14 @@ renewals_have_started b bounded e l c = first_and_idle b (λ m. renewal_due (b.l
 
 pub has_begun : (b : Book) → IsBounded b → is_begun b ≡ true → IsBegun b
 has_begun b bounded e =
-    let set : are_set_up b ≡ true = both_left (are_set_up b) (renewals_timed b) (both_left (are_set_up b && renewals_timed b) (not (can_renew b)) e) in
+    let watched : are_watched b ≡ true = both_left (are_watched b) (renewals_timed b) (both_left (are_watched b && renewals_timed b) (not (can_renew b)) e) in
+    let set : are_set_up b ≡ true = both_left (are_set_up b) (not (is_to_watch b)) watched in
     record {
       applied = applied b bounded (both_left (is_applied b) (not (is_to_set_up b)) set);
       setups = setups_have_started b bounded set;
-      timed = renewals_are_timed b bounded (both_right (are_set_up b) (renewals_timed b) (both_left (are_set_up b && renewals_timed b) (not (can_renew b)) e));
-      renewed = renewals_have_started b bounded (not-true (can_renew b) (both_right (are_set_up b && renewals_timed b) (not (can_renew b)) e));
+      monitors = monitors_have_started b bounded watched;
+      timed = renewals_are_timed b bounded (both_right (are_watched b) (renewals_timed b) (both_left (are_watched b && renewals_timed b) (not (can_renew b)) e));
+      renewed = renewals_have_started b bounded (not-true (can_renew b) (both_right (are_watched b && renewals_timed b) (not (can_renew b)) e));
     }
 
 -- its message has not started, and it makes a step

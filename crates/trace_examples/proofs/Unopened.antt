@@ -2,7 +2,7 @@
 -- is legal.
 use Rattle.std.proofs.Common.{◌≡◌, ◌≢◌, ℕ, ◌<◌, Option, Some, None, refl, inl, inr, sym, ◌∙◌, ap, arith}
 use Rattle.std.specs.Fmt.{digits}
-use Rattle.redis_error.specs.declared.fault_kind.FaultKind.TheVariants.{Reset}
+use Rattle.redis_error.specs.declared.fault_kind.FaultKind.TheVariants.{Reset, TimedOut}
 use Rattle.redis_error.specs.declared.redis_error.RedisError.{RedisError}
 use Rattle.redis_error.specs.declared.redis_error.RedisError.TheVariants as error
 use Rattle.driver_model.specs.Config.{connect_timeout}
@@ -15,19 +15,25 @@ use Rattle.driver_model.specs.declared.outcome.Outcome.{Outcome}
 use Rattle.driver_model.specs.declared.outcome.Outcome.TheVariants as outcome
 use Rattle.legal_trace.specs.Book.{Book, blank_book}
 use Rattle.legal_trace.specs.Ledger.{failure_in, renewals_asked}
+use Rattle.legal_trace.specs.Owed.{owed}
 use Rattle.legal_trace.specs.Legal.{MayTurn, MayShowCreation}
+use Rattle.trace_examples.specs.Parts.{command}
 use Rattle.trace_examples.specs.Traces.{opening}
-use Rattle.trace_examples.specs.Openings.{connect_refused, refusal_shown, overdue, timed_out}
+use Rattle.trace_examples.specs.Openings.{timed_opening, connect_refused, refusal_shown, overdue, timed_out}
 use Rattle.trace_examples.specs.Claims.{NoneBegins, NoneBeginsIn}
 use Rattle.trace_examples.proofs.Bounded.{IsBounded, blank_bounded, bounded_behind}
 use Rattle.trace_examples.proofs.Misplaced.{same_config}
 use Rattle.trace_examples.proofs.Settled.{first_and_idle, failed_idle, idle_unasked}
 use Rattle.trace_examples.proofs.Stood.{book_of, may_stand, answer, none_is_ready}
+use Rattle.trace_examples.proofs.Single.{some_is_none, other_fault, single_behind, of_single}
 
 -- a command that waited, answered with the closed connection
 pub closed_in_place : NoneBegins timed_out (action.Outcome 0 (outcome.Fault error.Closed))
 unfolding digits
-closed_in_place config word events after h = cc (answer config word events (timed_out config word) after 0 (outcome.Fault error.Closed) refl h).owes
+closed_in_place config word events after h =
+    let single = single_behind config word events (timed_opening config word) _ 1 (command 71) refl refl h in
+    of_single config word (timed_out config word) (λ b. owed b 0 ≡ Some (outcome.Fault error.Closed) → ⊥) single (other_fault (error.Io TimedOut) error.Closed (λ e. cc e)) (other_fault (error.Io TimedOut) error.Closed (λ e. cc e))
+    (answer config word events (timed_out config word) after 0 (outcome.Fault error.Closed) refl h).owes
 
 -- an outcome before it was shown that the connect failed
 pub answered_before_the_failure : (o : Outcome) → NoneBegins connect_refused (action.Outcome 0 o)
@@ -41,7 +47,9 @@ pub second_before_the_first : (o : Outcome) → NoneBegins refusal_shown (action
 unfolding digits
 second_before_the_first o config word events after h =
     let m = answer config word events (refusal_shown config word) after 1 o refl h in
-    cc (m.in_order 0 (omega arith) refl refl)
+    let single = single_behind config word events (opening config word) _ 1 (command 71) refl refl h in
+    let hit : Outcome = outcome.Fault (error.Io Reset) in
+    of_single config word (refusal_shown config word) (λ b. owed b 0 ≡ None → ⊥) single (some_is_none hit) (some_is_none hit) (m.in_order 0 (omega arith) refl refl)
 
 -- a failed creation, and a second one of any sort
 pub shown_again : (e : Option RedisError) → NoneBegins refusal_shown (action.Created e)

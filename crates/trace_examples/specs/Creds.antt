@@ -1,5 +1,5 @@
 -- Traces of links whose credentials come of a source.
-use Rattle.std.specs.Prelude.{ℕ, false, true, List, [], ◌∷◌, ◌++◌, Some, None, codes}
+use Rattle.std.specs.Prelude.{ℕ, true, List, [], ◌∷◌, ◌++◌, Some, None, codes}
 use Rattle.credentials.specs.Credentials.{Credentials}
 use Rattle.redis_error.specs.declared.redis_error.RedisError.{RedisError}
 use Rattle.redis_error.specs.declared.redis_error.RedisError.TheVariants as error
@@ -10,13 +10,13 @@ use Rattle.driver_model.specs.declared.action.WaitKind.TheVariants as wait
 use Rattle.driver_model.specs.declared.config.Config.{Config}
 use Rattle.driver_model.specs.declared.event.EventKind.TheVariants as event
 use Rattle.driver_model.specs.Request.{packed_bytes}
-use Rattle.trace_examples.specs.Parts.{turn, command, okay_line, spoiled_behind}
+use Rattle.trace_examples.specs.Parts.{unhurried, turn, command, okay_line, spoiled_behind}
 use Rattle.trace_examples.specs.Setups.{unsaid}
 use Rattle.trace_examples.specs.Traces.{opening}
 
 -- credentials come of a source, a request may take any time, and the library isn't named
 abbrev pub sourced : Config
-sourced = record { url = codes "redis://h:6379"; connect = Some None; response = Some None; limit = None; buffer = None; boundary = None; push = None; creds = Some true; lib = Some false }
+sourced = record unhurried { creds = Some true }
 
 -- the user u and the password p, and the same said to a server, in 28 bytes
 abbrev pub user_and_password : Credentials

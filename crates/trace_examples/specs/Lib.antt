@@ -10,3 +10,5 @@ pub mod Calls
 pub mod Pushes
 pub mod Creds
 pub mod Renewals
+pub mod Listeners
+pub mod Takings

@@ -7,6 +7,8 @@ use Rattle.driver_model.specs.declared.action.Action.{Action}
 use Rattle.driver_model.specs.declared.action.Action.TheVariants as action
 use Rattle.driver_model.specs.declared.action.Cause.TheVariants as cause
 use Rattle.driver_model.specs.declared.config.Config.{Config}
+use Rattle.driver_model.specs.declared.kind.SessionKind.TheVariants as kind
+use Rattle.driver_model.specs.Config.{config_of}
 use Rattle.driver_model.specs.declared.event.Event.{Event}
 use Rattle.driver_model.specs.declared.event.EventKind.{EventKind}
 use Rattle.driver_model.specs.declared.event.Submission.{Submission}
@@ -14,10 +16,18 @@ use Rattle.driver_model.specs.declared.event.Submission.TheVariants as submissio
 use Rattle.driver_model.specs.declared.outcome.Outcome.{Outcome}
 use Rattle.driver_model.specs.declared.outcome.Outcome.TheVariants as outcome
 
+-- a multiplexed connection to the server of this URL, of which nothing else is said
+abbrev pub single_to : List ℕ → Config
+single_to url = config_of kind.Single url
+
+-- one to the server at h:6379, to which nothing is to be said: a connect and a request may take any time
+abbrev pub unhurried : Config
+unhurried = record (single_to (codes "redis://h:6379")) { connect = Some None; response = Some None; lib = Some false }
+
 -- the server at h:6379, to which nothing is to be said, and what is said of the time of a connect; a request may take any time,
 -- and permits aren't counted
 abbrev pub at_server : Option (Option ℕ) → Config
-at_server connect = record { url = codes "redis://h:6379"; connect = connect; response = Some None; limit = None; buffer = None; boundary = None; push = None; creds = None; lib = Some false }
+at_server connect = record unhurried { connect = connect }
 
 -- a connect that may take any time, and one that may take what it may where nothing is said: 1,000 milliseconds
 abbrev pub unbounded : Config
@@ -29,21 +39,21 @@ bounded = at_server None
 -- a connect that may take any time, and a link whose queue holds that many messages, and on which none starts while bytes are
 -- unwritten and as many as that bound
 abbrev pub held_at : ℕ → ℕ → Config
-held_at bound size = record { url = codes "redis://h:6379"; connect = Some None; response = Some None; limit = None; buffer = Some size; boundary = Some bound; push = None; creds = None; lib = Some false }
+held_at bound size = record unhurried { buffer = Some size; boundary = Some bound }
 
 -- a connect that may take any time, so many permits, and so many milliseconds within which a request is to be answered, if
 -- within any
 abbrev pub limited_to : ℕ → Option ℕ → Config
-limited_to limit ms = record { url = codes "redis://h:6379"; connect = Some None; response = Some ms; limit = Some limit; buffer = None; boundary = None; push = None; creds = None; lib = Some false }
+limited_to limit ms = record unhurried { response = Some ms; limit = Some limit }
 
 -- nothing said but the address, and that the library isn't named: a connect may take 1,000 milliseconds, and a request 500
 abbrev pub plain : Config
-plain = record { url = codes "redis://h:6379"; connect = None; response = None; limit = None; buffer = None; boundary = None; push = None; creds = None; lib = Some false }
+plain = record (single_to (codes "redis://h:6379")) { lib = Some false }
 
 -- a link whose queue holds one message, and on which none starts while bytes are unwritten, and so many milliseconds for a
 -- request
 abbrev pub held_for : ℕ → Config
-held_for ms = record { url = codes "redis://h:6379"; connect = Some None; response = Some (Some ms); limit = None; buffer = Some 1; boundary = Some 0; push = None; creds = None; lib = Some false }
+held_for ms = record unhurried { response = Some (Some ms); buffer = Some 1; boundary = Some 0 }
 
 -- these events, one after another
 abbrev pub history : List EventKind → List Event

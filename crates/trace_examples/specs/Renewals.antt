@@ -1,5 +1,5 @@
 -- Traces of links to whose servers new credentials are told.
-use Rattle.std.specs.Prelude.{ℕ, false, true, List, [], ◌∷◌, ◌++◌, Some, None, codes}
+use Rattle.std.specs.Prelude.{ℕ, List, [], ◌∷◌, ◌++◌, Some, None, codes}
 use Rattle.credentials.specs.Credentials.{Credentials}
 use Rattle.driver_model.specs.declared.action.Action.{Action}
 use Rattle.driver_model.specs.declared.action.Action.TheVariants as action
@@ -16,11 +16,11 @@ use Rattle.trace_examples.specs.Creds.{sourced, user_and_password, credentials_l
 
 -- credentials come of sources, and what the driver says itself, as a request, is to be answered within 100 milliseconds
 abbrev pub sourced_in_time : Config
-sourced_in_time = record { url = codes "redis://h:6379"; connect = Some None; response = Some (Some 100); limit = None; buffer = None; boundary = None; push = None; creds = Some true; lib = Some false }
+sourced_in_time = record sourced { response = Some (Some 100) }
 
 -- they come on a link that any unwritten byte holds back, and whose queue holds one message
 abbrev pub sourced_at_a_time : Config
-sourced_at_a_time = record { url = codes "redis://h:6379"; connect = Some None; response = Some None; limit = None; buffer = Some 1; boundary = Some 0; push = None; creds = Some true; lib = Some false }
+sourced_at_a_time = record sourced { buffer = Some 1; boundary = Some 0 }
 
 -- the user u with a password of one letter, q or r, and the same told to a server, in 28 bytes
 abbrev pub of_letter : ℕ → Credentials

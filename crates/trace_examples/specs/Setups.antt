@@ -10,12 +10,12 @@ use Rattle.driver_model.specs.declared.action.Purpose.TheVariants as purpose
 use Rattle.driver_model.specs.declared.action.WaitKind.TheVariants as wait
 use Rattle.driver_model.specs.declared.config.Config.{Config}
 use Rattle.driver_model.specs.declared.event.EventKind.TheVariants as event
-use Rattle.trace_examples.specs.Parts.{turn, command, okay_line}
+use Rattle.trace_examples.specs.Parts.{single_to, turn, command, okay_line}
 use Rattle.trace_examples.specs.Traces.{opening, in_wait}
 
 -- a server of this URL, how long a connect may take, and whether the library is named to it, if that is said
 abbrev pub told_at : List ℕ → Option (Option ℕ) → Option Bool → Config
-told_at url connect lib = record { url = url; connect = connect; response = Some None; limit = None; buffer = None; boundary = None; push = None; creds = None; lib = lib }
+told_at url connect lib = record (single_to url) { connect = connect; response = Some None; lib = lib }
 
 -- the password pw, and nothing else; and the same where a connect may take 1,000 milliseconds
 abbrev pub secured : Config
@@ -34,11 +34,11 @@ of_a_library = told_at (codes "redis://h:6379") (Some None) None
 
 -- the same, and nothing is said of times either: a connect may take 1,000 milliseconds, and a request 500
 abbrev pub by_default : Config
-by_default = record { url = codes "redis://h:6379"; connect = None; response = None; limit = None; buffer = None; boundary = None; push = None; creds = None; lib = None }
+by_default = single_to (codes "redis://h:6379")
 
 -- the user u and the password pw, on a link on which nothing starts while bytes are unwritten
 abbrev pub of_a_held_user : Config
-of_a_held_user = record { url = codes "redis://u:pw@h:6379"; connect = Some None; response = Some None; limit = None; buffer = None; boundary = Some 0; push = None; creds = None; lib = Some false }
+of_a_held_user = record of_a_user { boundary = Some 0 }
 
 -- a password, a database, the third protocol, and the library's name
 abbrev pub of_all : Config

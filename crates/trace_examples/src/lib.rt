@@ -1,6 +1,8 @@
 //! Traces that can be relied on, and traces that cannot, each with the proof.
 #![tactic(auto)]
 
+mod dealing;
+mod listening;
 mod renewing;
 
 ghost use Rattle.std.specs.Prelude.{◌≡◌, ◌≢◌, ◌<◌, ℕ, List, [], ◌∷◌, ◌++◌, Option, Some, None};
@@ -84,6 +86,8 @@ ghost use Rattle.trace_examples.specs.Calls.{denied_line, denial, called};
 ghost use Rattle.trace_examples.specs.Claims.{IsTraceOf, IsTraceIn};
 ghost use Rattle.trace_examples.specs.Claims.{NoneBegins, NoneBeginsIn, NoneIs};
 
+pub use dealing::these_become_of_values;
+pub use listening::{nor_do_these_listen, these_listen};
 pub use renewing::{nor_are_these_renewals, these_renew_credentials};
 
 /// Does nothing. Its contract: these traces are legal. A transaction is aborted by the error of its

@@ -1,4 +1,4 @@
-use Rattle.std.proofs.Common.{◌≡◌, ℕ, ◌-◌, false, true, List, map, drop, refl, sym, ap, ◌∙◌}
+use Rattle.std.proofs.Common.{ℕ, ◌-◌, false, true, List, map, drop, refl, sym, ap, ◌∙◌}
 use Rattle.resp_value.specs.View.{data_of}
 use Rattle.resp_value.specs.declared.value.Value.{Value}
 use Rattle.link_core.specs.Dealing.{Dealing, dealing_on, taken_each}
