@@ -67,13 +67,14 @@ fn sort_message(
     ensures err { OnErr result (out.new.items ≡ out.old.items) }
 {
     match act {
-        ConnectionAct::Message { msg } => stream.put(msg),
+        ConnectionAct::Message { msg } => stream.put(msg)?,
         ConnectionAct::Close => {
             stream.finish();
-            out.push(ConnectionAct::Close)
+            out.push(ConnectionAct::Close)?;
         }
-        other => out.push(other),
+        other => out.push(other)?,
     }
+    Ok(())
 }
 
 /// What a server in monitor mode tells by these acts is held, and that the link has ended where they close it; the others go to
@@ -128,11 +129,12 @@ fn sort_one_told(
     ensures err { OnErr result (out.new.items ≡ out.old.items) }
 {
     match act {
-        ConnectionAct::Monitor { value } => held.put(value),
+        ConnectionAct::Monitor { value } => held.put(value)?,
         ConnectionAct::Close => {
             held.finish();
-            out.push(ConnectionAct::Close)
+            out.push(ConnectionAct::Close)?;
         }
-        other => out.push(other),
+        other => out.push(other)?,
     }
+    Ok(())
 }
