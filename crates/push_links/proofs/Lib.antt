@@ -1,2 +1,3 @@
 pub mod Threads
 mod Polls
+mod Gains

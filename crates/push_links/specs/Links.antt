@@ -1,6 +1,7 @@
 -- What a turn of a link's connection makes of the stream beside it.
 use Rattle.std.specs.Prelude.{◌≡◌, ℕ, Bool, true, false, ◌||◌, List, [], ◌∷◌, ◌++◌, Option, Some, None, codes}
 use Rattle.std.specs.Prelude.{IfOk, Result}
+use Rattle.std.specs.declared.alloc.AllocError.{AllocError}
 use Rattle.resp_value.specs.Data.{Data}
 use Rattle.resp_value.specs.View.{data_of}
 use Rattle.resp_convert.specs.Convert.{IsRead}
@@ -82,7 +83,7 @@ pinged c message = sent c (ping_bytes message) Single true
 
 -- an item of a monitor's stream, where `reads` says which values are what of the type: what the value is of it, or that it is
 -- nothing of it; no more is said where memory was wanting
-abbrev pub IsItemOf : {S E : Type 0} → (Data → S → Type 0) → Value → Result (Option S) E → Type 0
+abbrev pub IsItemOf : {S : Type 0} → (Data → S → Type 0) → Value → Result (Option S) AllocError → Type 0
 IsItemOf reads v item = IfOk item (IsRead reads (data_of v))
 
 -- one value

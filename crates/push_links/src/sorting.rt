@@ -1,4 +1,6 @@
-ghost use Rattle.std.specs.Prelude.{◌≡◌, ◌++◌, length, take, OnOk, OnErr};
+ghost use Rattle.std.specs.Prelude.{◌≡◌, ◌∷◌, ◌++◌, List, length, take, OnOk, OnErr};
+ghost use Rattle.mux_client.specs.declared.act.ConnectionAct.{ConnectionAct as Act};
+ghost use Rattle.push_links.specs.Links.{other_than_message, other_than_told};
 ghost use Rattle.push_links.specs.Links.{others_of_messages, others_of_told, with_messages, with_told};
 
 use crate::held::Held;
@@ -32,6 +34,7 @@ pub fn sort_messages(
 }
 
 /// The same, but for an error, after which `out` may have gained some acts.
+#[tactic(auto, using(crate::proofs::Gains::no_message_more))]
 fn sort_each(
     acts: Vec<ConnectionAct>,
     stream: &mut PubSubStream,
@@ -45,14 +48,31 @@ fn sort_each(
 {
     let mut rest = Queue::from_vec(acts);
     while let Some(act) = rest.pop_front() {
-        match act {
-            ConnectionAct::Message { msg } => stream.put(msg)?,
-            ConnectionAct::Close => {
-                stream.finish();
-                out.push(ConnectionAct::Close)?;
-            }
-            other => out.push(other)?,
+        sort_message(act, stream, out)?;
+    }
+    Ok(())
+}
+
+/// The stream takes one act where it is a message, and ends where it closes the link; `out` takes what isn't a message. An error
+/// leaves `out` as it was.
+#[tactic(auto, using(crate::proofs::Gains::message_more, crate::proofs::Gains::messages_closed))]
+fn sort_message(
+    act: ConnectionAct,
+    stream: &mut PubSubStream,
+    out: &mut Vec<ConnectionAct>,
+) -> Result<(), AllocError>
+    ensures stream { OnOk result ((more : List Act) →
+        with_messages stream.new.held more ≡ with_messages stream.old.held (act ∷ more)) }
+    ensures out { OnOk result (out.new.items ≡ out.old.items ++ other_than_message act) }
+    ensures err { OnErr result (out.new.items ≡ out.old.items) }
+{
+    match act {
+        ConnectionAct::Message { msg } => stream.put(msg)?,
+        ConnectionAct::Close => {
+            stream.finish();
+            out.push(ConnectionAct::Close)?;
         }
+        other => out.push(other)?,
     }
     Ok(())
 }
@@ -79,6 +99,7 @@ pub fn sort_told(
 }
 
 /// The same, but for an error, after which `out` may have gained some acts.
+#[tactic(auto, using(crate::proofs::Gains::nothing_told_more))]
 fn sort_told_each(
     acts: Vec<ConnectionAct>,
     held: &mut Held<Value>,
@@ -90,14 +111,30 @@ fn sort_told_each(
 {
     let mut rest = Queue::from_vec(acts);
     while let Some(act) = rest.pop_front() {
-        match act {
-            ConnectionAct::Monitor { value } => held.put(value)?,
-            ConnectionAct::Close => {
-                held.finish();
-                out.push(ConnectionAct::Close)?;
-            }
-            other => out.push(other)?,
+        sort_one_told(act, held, out)?;
+    }
+    Ok(())
+}
+
+/// The same of one act, whose value is held where it tells one.
+#[tactic(auto, using(crate::proofs::Gains::told_more, crate::proofs::Gains::told_closed))]
+fn sort_one_told(
+    act: ConnectionAct,
+    held: &mut Held<Value>,
+    out: &mut Vec<ConnectionAct>,
+) -> Result<(), AllocError>
+    ensures held { OnOk result ((more : List Act) →
+        with_told held.new more ≡ with_told held.old (act ∷ more)) }
+    ensures out { OnOk result (out.new.items ≡ out.old.items ++ other_than_told act) }
+    ensures err { OnErr result (out.new.items ≡ out.old.items) }
+{
+    match act {
+        ConnectionAct::Monitor { value } => held.put(value)?,
+        ConnectionAct::Close => {
+            held.finish();
+            out.push(ConnectionAct::Close)?;
         }
+        other => out.push(other)?,
     }
     Ok(())
 }

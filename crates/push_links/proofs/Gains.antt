@@ -1,0 +1,40 @@
+-- What a stream gains by acts, one by one.
+use Rattle.std.proofs.Common.{◌≡◌, List, [], ◌∷◌, ◌++◌, Bool, true, false, ◌||◌, refl, sym, ap, ◌∙◌, append_assoc, append-nil}
+use Rattle.driver_model.specs.declared.msg.Msg.{Msg}
+use Rattle.resp_value.specs.declared.value.Value.{Value}
+use Rattle.mux_client.specs.declared.act.ConnectionAct.{ConnectionAct}
+use Rattle.mux_client.specs.declared.act.ConnectionAct.TheVariants as act
+use Rattle.push_links.specs.Held.{Holding, put, finished}
+use Rattle.push_links.specs.Links.{messages_among, told_among, are_closing, with_messages, with_told}
+
+or_none : (b : Bool) → (b || false) ≡ b
+or_none true = refl
+or_none false = refl
+
+or_all : (b : Bool) → (b || true) ≡ true
+or_all true = refl
+or_all false = refl
+
+holding : {A : Type 0} → List A → Bool → Holding A
+holding items ended = record { items = items; ended = ended }
+
+same : {A : Type 0} (xs ys : List A) (b c : Bool) → xs ≡ ys → b ≡ c → holding xs b ≡ holding ys c
+same xs ys b c items ended = ap (λ x. holding x b) items ∙ ap (holding ys) ended
+
+pub no_message_more : (h : Holding Msg) → with_messages h [] ≡ h
+no_message_more h = same (h.items ++ []) h.items (h.ended || false) h.ended (append-nil h.items) (or_none h.ended)
+
+pub message_more : (h : Holding Msg) (m : Msg) (more : List ConnectionAct) → with_messages (put h m) more ≡ with_messages h (act.Message m ∷ more)
+message_more h m more = ap (λ x. holding x (h.ended || are_closing more)) (append_assoc h.items (m ∷ []) (messages_among more))
+
+pub messages_closed : (h : Holding Msg) (more : List ConnectionAct) → with_messages (finished h) more ≡ with_messages h (act.Close ∷ more)
+messages_closed h more = ap (holding (h.items ++ messages_among more)) (sym (or_all h.ended))
+
+pub nothing_told_more : (h : Holding Value) → with_told h [] ≡ h
+nothing_told_more h = same (h.items ++ []) h.items (h.ended || false) h.ended (append-nil h.items) (or_none h.ended)
+
+pub told_more : (h : Holding Value) (v : Value) (more : List ConnectionAct) → with_told (put h v) more ≡ with_told h (act.Monitor v ∷ more)
+told_more h v more = ap (λ x. holding x (h.ended || are_closing more)) (append_assoc h.items (v ∷ []) (told_among more))
+
+pub told_closed : (h : Holding Value) (more : List ConnectionAct) → with_told (finished h) more ≡ with_told h (act.Close ∷ more)
+told_closed h more = ap (holding (h.items ++ told_among more)) (sym (or_all h.ended))
