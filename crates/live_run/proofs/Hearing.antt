@@ -13,10 +13,11 @@ use Rattle.driver_model.specs.declared.event.EventKind.TheVariants as event
 use Rattle.driver_model.specs.declared.news.LinkFault.TheVariants as fault
 use Rattle.resp_value.specs.declared.push_kind.PushKind.{PushKind}
 use Rattle.driver_model.specs.Push.{is_disconnection}
-use Rattle.driver_model.specs.News.{News, silence, connected, refused, overdue, took, came, failed, authorized, denied, deserted, renewed, unrenewed, late, shut, for_link, of_timer, of_source, is_source_of, renews, news_of}
+use Rattle.driver_model.specs.News.{News, silence, connected, refused, overdue, took, came, failed, authorized, denied, deserted, renewed, unrenewed, late, dropped, shut, for_link, of_timer, of_source, is_source_of, renews, news_of}
 use Rattle.legal_trace.specs.Ledger.{Ledger, Line, hears, offers, tells, times, parts, noted, is_over, dials, refused_in, bytes_came, awaits_credentials, authorized_by, may_renew, renewed_by, unrenewed_by, is_renewal_open, lost_by}
 use Rattle.legal_trace.specs.Book.{Book, current, push_line, is_renewal_of, entered}
 use Rattle.legal_trace.specs.Legal.{MayStand}
+use Rattle.legal_trace.proofs.Came.{holds_bytes}
 use Rattle.legal_trace.proofs.Ledgers.{mine_keeps}
 
 -- a link that has not ended had not before, and offers no less
@@ -34,7 +35,9 @@ hears_keeps l turn (refused f) quiet =
     chosen (λ (m : Ledger). Keeps l (record m { heard = refused f })) (dials l) (refused_in l turn (error.Io f)) l (λ t going. absurd (not_both true going refl)) (λ f going. (going, omega arith))
 hears_keeps l turn overdue quiet = λ going. (going, omega arith)
 hears_keeps l turn (took count) quiet = absurd quiet
-hears_keeps l turn (came piece) quiet = chosen (λ (m : Ledger). Keeps l (record m { heard = came piece })) l.up (bytes_came l piece) l (λ t going. (going, omega arith)) (λ f going. (going, omega arith))
+hears_keeps l turn (came piece) quiet =
+    chosen (λ (m : Ledger). Keeps l (record m { heard = came piece })) l.up (bytes_came l piece) l
+    (λ t. holds_bytes (λ (m : Ledger). Keeps l (record m { heard = came piece })) l piece (λ rest strange told more going. (going, omega arith))) (λ f going. (going, omega arith))
 hears_keeps l turn (failed f) quiet = λ going. (going, omega arith)
 hears_keeps l turn (authorized c) quiet =
     chosen (λ (m : Ledger). Keeps l (record m { heard = authorized c })) (awaits_credentials l) (authorized_by l c) l (λ t going. (going, omega arith)) (λ f going. (going, omega arith))
@@ -44,6 +47,7 @@ hears_keeps l turn (renewed c) quiet = chosen (λ (m : Ledger). Keeps l (record 
 hears_keeps l turn unrenewed quiet = chosen (λ (m : Ledger). Keeps l (record m { heard = unrenewed })) l.up (unrenewed_by l) l (λ t going. (going, omega arith)) (λ f going. (going, omega arith))
 hears_keeps l turn (late k) quiet =
     chosen (λ (m : Ledger). Keeps l (record m { heard = late k })) (l.up && is_renewal_open l k) (lost_by l) l (λ t going. (going, omega arith)) (λ f going. (going, omega arith))
+hears_keeps l turn dropped quiet = λ going. (going, omega arith)
 hears_keeps l turn shut quiet = λ going. (going, omega arith)
 
 -- an offer of another link is taken

@@ -2,9 +2,11 @@
 use Rattle.std.proofs.Common.{◌≡◌, ◌+◌, ◌==◌, ◌&&◌, ℕ, Bool, true, false, List, [], ◌∷◌, ◌++◌, Option, Some, None, ◌∙◌, sym, ap, subst, if◌then◌else◌}
 use Rattle.std.specs.Prelude.{slice_get}
 use Rattle.containers.proofs.Choices.{chosen}
-use Rattle.driver_model.specs.News.{News, news_of, of_timer, of_source, overdue, silence, authorized, denied, deserted, renewed, unrenewed, late}
+use Rattle.driver_model.specs.News.{News, news_of, of_timer, of_source, overdue, silence, authorized, denied, deserted, renewed, unrenewed, late, came}
 use Rattle.resp_value.specs.declared.push_kind.PushKind.{PushKind}
+use Rattle.resp_value.specs.declared.value.Value.{Value}
 use Rattle.driver_model.specs.declared.push_info.PushInfo.{PushInfo}
+use Rattle.driver_model.specs.declared.msg.Msg.{Msg}
 use Rattle.driver_model.specs.Push.{is_disconnection}
 use Rattle.driver_model.specs.declared.action.Action.{Action}
 use Rattle.driver_model.specs.declared.action.Action.TheVariants as action
@@ -15,10 +17,11 @@ use Rattle.driver_model.specs.declared.action.SourceUse.TheVariants as source
 use Rattle.driver_model.specs.declared.event.EventKind.{EventKind}
 use Rattle.driver_model.specs.declared.event.EventKind.TheVariants as event
 use Rattle.connection_info.specs.declared.address.RedisConnectionInfo.{RedisConnectionInfo}
-use Rattle.legal_trace.specs.Ledger.{Ledger, Sourced, Line, tells, parts, sources, times, noted, noted_each, with_news, awaits_credentials, may_renew, is_renewal_open}
+use Rattle.legal_trace.specs.Ledger.{Ledger, Sourced, Line, tells, parts, sources, times, noted, noted_each, bytes_came, with_news, awaits_credentials, may_renew, is_renewal_open}
 use Rattle.driver_model.specs.declared.config.Config.{Config}
 use Rattle.driver_model.specs.declared.event.Event.{Event}
-use Rattle.legal_trace.specs.Book.{Book, book, entered, entered_each, if_mine, is_renewal_of, push_line}
+use Rattle.legal_trace.specs.Book.{Book, book, entered, entered_each, current, if_mine, is_renewal_of, push_line}
+use Rattle.legal_trace.proofs.Came.{holds_bytes}
 use Rattle.legal_trace.proofs.Ledgers.{mine_keeps}
 use Rattle.legal_trace.proofs.Books.{book_append}
 use Rattle.shared_session.specs.declared.session.Failure.TheVariants.{Sound}
@@ -30,7 +33,16 @@ use Rattle.session_tool.specs.declared.offer.Offer.{Offer}
 use Rattle.session_tool.specs.Offers.{IsOfferIn, IsOfferOf}
 use Rattle.session_tool.proofs.Traces.{kept_next}
 
--- what concerns credentials alone changes nothing of an offer
+-- what comes changes nothing of an offer
+came_in : (o : Offer) (l : Ledger) (turn : ℕ) (piece : List ℕ) → IsOfferIn o l → IsOfferIn o (with_news l turn (came piece))
+came_in o l turn piece h =
+    chosen (IsOfferIn o) l.up (bytes_came l piece) l
+    (λ t. holds_bytes (IsOfferIn o) l piece (λ rest strange told more. record { asked = h.asked; up = h.up; over = h.over; count = h.count })) (λ f. h)
+
+pub came_offer : (o : Offer) (l : Ledger) (turn : ℕ) (news : News) (piece : List ℕ) → news ≡ came piece → IsOfferIn o l → IsOfferIn o (with_news l turn news)
+came_offer o l turn news piece is h = subst (λ (n : News). IsOfferIn o (with_news l turn n)) (sym is) (came_in o l turn piece h)
+
+-- nor does what concerns credentials alone
 creds_in : (o : Offer) (l : Ledger) (info : RedisConnectionInfo) (s : Sourced) → IsOfferIn o l → IsOfferIn o (record l { info = info; creds = s })
 creds_in o l info s h = record { asked = h.asked; up = h.up; over = h.over; count = h.count }
 
@@ -101,6 +113,16 @@ sourced_offer o b x c k is h =
     let l = b.link 0 in
     subst (λ (a : Action). IsOfferOf o (entered b a)) (sym is)
     (record { links = h.links; first = line_in o l (k == 0) sources (creds_in o l l.info (record l.creds { asked = true; renews = l.creds.asked }) h.first) h.first })
+
+-- nor does what is told of what was heard
+told_in : (o : Offer) (b : Book) → IsOfferOf o b → IsOfferIn o (noted_each (b.link 0) (if_mine (current b == 0) tells))
+told_in o b h = line_in o (b.link 0) (current b == 0) tells (record { asked = h.first.asked; up = h.first.up; over = h.first.over; count = h.first.count }) h.first
+
+pub message_offer : (o : Offer) (b : Book) (x : Action) (m : Msg) → x ≡ action.Message m → IsOfferOf o b → IsOfferOf o (entered b x)
+message_offer o b x m is h = subst (λ (a : Action). IsOfferOf o (entered b a)) (sym is) (record { links = h.links; first = told_in o b h })
+
+pub monitor_offer : (o : Offer) (b : Book) (x : Action) (v : Value) → x ≡ action.Monitor v → IsOfferOf o b → IsOfferOf o (entered b x)
+monitor_offer o b x v is h = subst (λ (a : Action). IsOfferOf o (entered b a)) (sym is) (record { links = h.links; first = told_in o b h })
 
 -- the session has taken these events, and the offer is that of their trace
 pub record Follows (config : Config) (word : ℕ) (taken : List Event) (s : History) (o : Offer) : Type 0 where

@@ -2,6 +2,7 @@ ghost use Rattle.std.specs.Prelude.{◌≡◌, ◌==◌, ◌+◌, ℕ, Bool, Lis
 ghost use Rattle.connection_info.specs.declared.address.RedisConnectionInfo.{RedisConnectionInfo};
 ghost use Rattle.driver_model.specs.declared.action.Purpose.{Purpose};
 ghost use Rattle.driver_model.specs.declared.action.SourceUse.{SourceUse};
+ghost use Rattle.driver_model.specs.declared.hearing.Hearing.{Hearing};
 ghost use Rattle.driver_model.specs.News.{news_of, told};
 ghost use Rattle.legal_trace.specs.Book.{Book, blank_book, book, entered, entered_each, if_mine};
 ghost use Rattle.legal_trace.specs.Ledger.{Ledger, asks, dials, noted_each, with_news};
@@ -47,6 +48,7 @@ impl Offer {
     }
 
     /// After news of the first link.
+    #[tactic(auto, using(crate::proofs::Offers::came_offer))]
     fn after_news(self, news: LinkNews<'_>) -> Offer
         ensures links { result.links ≡ self.links }
         ensures first { (l : Ledger) (turn : ℕ) → IsOfferIn self l
@@ -84,6 +86,7 @@ impl Offer {
             LinkNews::Renewed { auth: _ } => self,
             LinkNews::Unrenewed => self,
             LinkNews::Late { number: _ } => self,
+            LinkNews::Dropped => self,
             LinkNews::Shut => self,
         }
     }
@@ -106,8 +109,9 @@ impl Offer {
     /// After the connect of this link was asked for, whatever is said to its server then.
     fn asking(self, link: u32) -> Offer
         ensures links { result.links ≡ self.links }
-        ensures first { (l : Ledger) (info : RedisConnectionInfo) (wanted : Bool) → IsOfferIn self l
-            → IsOfferIn result (noted_each l (if_mine (link == 0) (asks info wanted))) }
+        ensures first { (l : Ledger) (info : RedisConnectionInfo) (wanted : Bool) (hearing : Hearing)
+            → IsOfferIn self l
+            → IsOfferIn result (noted_each l (if_mine (link == 0) (asks info wanted hearing))) }
     {
         if link == FIRST_LINK {
             Offer {
@@ -130,7 +134,7 @@ impl Offer {
     }
 
     /// After one more action.
-    #[tactic(auto, using(crate::proofs::Offers::push_offer, crate::proofs::Offers::timed_offer, crate::proofs::Offers::sourced_offer))]
+    #[tactic(auto, using(crate::proofs::Offers::push_offer, crate::proofs::Offers::timed_offer, crate::proofs::Offers::sourced_offer, crate::proofs::Offers::message_offer, crate::proofs::Offers::monitor_offer))]
     fn after(self, action: &Action) -> Offer
         ensures { (b : Book) → IsOfferOf self b → IsOfferOf result (entered b action.now) }
     {
