@@ -52,7 +52,6 @@ fn converted<T: FromRedisValue>(alloc: Global, value: Value) -> Result<Option<T>
 }
 
 /// One poll of a stream of what is held, each item converted.
-#[tactic(auto, using(crate::proofs::Polls::polled_value, crate::proofs::Polls::polled_rest, crate::proofs::Polls::polled_same))]
 fn poll_item<T: FromRedisValue>(
     held: &mut Held<Value>,
     alloc: Global,
