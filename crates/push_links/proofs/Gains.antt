@@ -15,7 +15,7 @@ or_all : (b : Bool) → (b || true) ≡ true
 or_all true = refl
 or_all false = refl
 
-holding : {A : Type 0} → List A → Bool → Holding A
+abbrev holding : {A : Type 0} → List A → Bool → Holding A
 holding items ended = record { items = items; ended = ended }
 
 same : {A : Type 0} (xs ys : List A) (b c : Bool) → xs ≡ ys → b ≡ c → holding xs b ≡ holding ys c
