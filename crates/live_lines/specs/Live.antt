@@ -1,5 +1,5 @@
 -- What is written of a live run, and why there is none.
-use Rattle.std.specs.Prelude.{◌≡◌, ⊤, ⊥, ◌⊎◌, ℕ, ◌+◌, List, [], Option, Some, None, Ok, Err, codes}
+use Rattle.std.specs.Prelude.{◌≡◌, ⊤, ◌⊎◌, ℕ, ◌+◌, List, [], Option, Some, None, Ok, Err, codes}
 use Rattle.caller_threads.specs.Submits.{Line}
 use Rattle.driver_model.specs.declared.kind.SessionKind.{SessionKind}
 use Rattle.redis_error.specs.declared.config_name.ConfigName.{ConfigName}

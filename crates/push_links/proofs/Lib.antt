@@ -1,3 +1,2 @@
 pub mod Threads
-mod Polls
 mod Gains

@@ -1,10 +1,11 @@
-ghost use Rattle.std.specs.Prelude.{◌≡◌, ◌++◌, [], Some, OnOk, OnErr, IfSome, IsErrOf};
+ghost use Rattle.std.specs.Prelude.{◌≡◌, ◌⊎◌, ◌++◌, [], Some, true, OnOk, OnErr, IfSome, IsErrOf};
 ghost use Rattle.futures.specs.Poll.{IfReady, OnPending};
 ghost use Rattle.futures.specs.Runs.{After, Within};
 ghost use Rattle.futures.specs.Task.{Covers, Keeps};
 ghost use Rattle.driver_model.specs.News.{told};
+ghost use Rattle.mux_conn.specs.Connection.{uses_up};
 ghost use Rattle.mux_conn.specs.Effects.{IsWithin};
-ghost use Rattle.mux_client.specs.Calls.{acts_of, stepped};
+ghost use Rattle.mux_client.specs.Calls.{acts_of, stepped, turn_of};
 ghost use Rattle.push_links.specs.Held.{Gives, IsItself, IsPolled};
 ghost use Rattle.push_links.specs.Links.{others_of_messages, with_messages};
 
@@ -45,6 +46,9 @@ impl PubSubMessages {
             (acts_of self.old.pubsub.sink.connection (told event.entry.news))
             ) }
         ensures err { OnErr result (out.new.items ≡ out.old.items) }
+        ensures spent { IsErrOf result ConnectionError.Spent
+            → (self.old.pubsub.sink.connection.core.failure ≡ Some ConnectionError.Spent)
+            ⊎ (uses_up (turn_of self.old.pubsub.sink.connection (told event.entry.news)) ≡ true) }
         ensures fails { (e : ConnectionError) → IsErrOf result e
             → self.new.pubsub.sink.connection.core.failure ≡ Some e }
     {

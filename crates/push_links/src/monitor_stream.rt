@@ -1,12 +1,13 @@
-ghost use Rattle.std.specs.Prelude.{◌≡◌, ◌++◌, [], OnOk, OnErr, Some, IfOk, IfSome, IsErrOf};
+ghost use Rattle.std.specs.Prelude.{◌≡◌, ◌⊎◌, ◌++◌, [], true, OnOk, OnErr, Some, IfOk, IfSome, IsErrOf};
 ghost use Rattle.futures.specs.Poll.{IfReady, OnPending};
 ghost use Rattle.futures.specs.Runs.{After, Within};
 ghost use Rattle.futures.specs.Task.{Covers, Keeps};
 ghost use Rattle.resp_convert.specs.Convert.{IsRead};
 ghost use Rattle.resp_value.specs.View.{data_of};
 ghost use Rattle.driver_model.specs.News.{told};
+ghost use Rattle.mux_conn.specs.Connection.{uses_up};
 ghost use Rattle.mux_conn.specs.Effects.{IsWithin};
-ghost use Rattle.mux_client.specs.Calls.{acts_of, stepped};
+ghost use Rattle.mux_client.specs.Calls.{acts_of, stepped, turn_of};
 ghost use Rattle.push_links.specs.Held.{Gives, IsPolled};
 ghost use Rattle.push_links.specs.Links.{IsItemOf, others_of_told, with_told};
 
@@ -51,7 +52,6 @@ fn converted<T: FromRedisValue>(alloc: Global, value: Value) -> Result<Option<T>
 }
 
 /// One poll of a stream of what is held, each item converted.
-#[tactic(auto, using(crate::proofs::Polls::polled_value, crate::proofs::Polls::polled_rest, crate::proofs::Polls::polled_same))]
 fn poll_item<T: FromRedisValue>(
     held: &mut Held<Value>,
     alloc: Global,
@@ -138,6 +138,9 @@ impl<T> MonitorMessages<T> {
             (acts_of self.old.monitor.connection (told event.entry.news))
             ) }
         ensures err { OnErr result (out.new.items ≡ out.old.items) }
+        ensures spent { IsErrOf result ConnectionError.Spent
+            → (self.old.monitor.connection.core.failure ≡ Some ConnectionError.Spent)
+            ⊎ (uses_up (turn_of self.old.monitor.connection (told event.entry.news)) ≡ true) }
         ensures fails { (e : ConnectionError) → IsErrOf result e
             → self.new.monitor.connection.core.failure ≡ Some e }
     {

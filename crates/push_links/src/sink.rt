@@ -95,11 +95,11 @@ impl PubSubSink {
     /// Sends PING, with this message or without one.
     fn send_ping(&mut self, alloc: Global, message: Option<&[u8]>) -> Result<Pending, SendError>
         ensures sent { OnOk result (
-            self.new.connection ≡ pinged self.old.connection (option_copied message.now)
+            self.new.connection ≡ pinged self.old.connection (option_copied message.entry)
             ) }
         ensures number { IfOk result (λ p. p.number ≡ next_number self.old.connection) }
         ensures err { IfErr result
-            (RefusesSend self.old.connection (ping_bytes (option_copied message.now))) }
+            (RefusesSend self.old.connection (ping_bytes (option_copied message.entry))) }
     {
         let mut command = cmd(alloc, b"PING")?;
         if let Some(message) = message {

@@ -51,7 +51,6 @@ impl Stream for PubSubStream {
 
     ghost yields = { λ s given last. Gives IsItself s.held given last };
 
-    #[tactic(auto, using(crate::proofs::Polls::polled_value, crate::proofs::Polls::polled_rest, crate::proofs::Polls::polled_same))]
     fn poll_next(&mut self, cx: &mut Context<'_>) -> Poll<Option<Msg>>
         ensures polled { IsPolled IsItself self.old.held result self.new.held }
         ensures value { IfReady result (Gives IsItself self.old.held []) }

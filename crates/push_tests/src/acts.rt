@@ -12,7 +12,7 @@ pub(crate) fn said() -> RedisConnectionInfo {
     }
 }
 
-fn name(act: &ConnectionAct) -> &'static [u8] {
+fn name(act: &ConnectionAct) -> &[u8] {
     match act {
         ConnectionAct::Created { error: None } => b"created",
         ConnectionAct::Message { msg: _ } => b"message",
