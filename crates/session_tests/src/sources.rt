@@ -69,6 +69,7 @@ fn started(owner: &Owner) -> &'static str {
     match owner {
         Owner::Setup => "start setup",
         Owner::Auth => "start auth",
+        Owner::Monitor => "start monitor",
         Owner::Try { .. } => "start try",
     }
 }
