@@ -60,6 +60,7 @@ fn seen(event: &Event) -> (&'static str, u32) {
         EventKind::CredsEnd { source } => ("creds-end", *source),
         EventKind::Timeout { ms: Some(_) } => ("timeout", 1),
         EventKind::Timeout { ms: None } => ("timeout none", 0),
+        EventKind::DropStream => ("drop-stream", 0),
         EventKind::Shutdown => ("shutdown", 0),
     }
 }
@@ -80,6 +81,7 @@ enum Call {
     CredsError(u32, &'static [u8]),
     CredsEnd(u32),
     Timeout(Option<u64>),
+    DropStream,
     Shutdown,
 }
 
@@ -117,12 +119,13 @@ fn event(alloc: Global, call: Call) -> Result<Event, AllocError> {
         Call::CredsError(source, text) => creds_error(alloc, source, text),
         Call::CredsEnd(source) => Ok(Event::creds_end(source)),
         Call::Timeout(ms) => Ok(Event::timeout(ms)),
+        Call::DropStream => Ok(Event::drop_stream()),
         Call::Shutdown => Ok(Event::shutdown()),
     }
 }
 
 /// Calls, each with the kind of the event and with its link, submission, timer or source of credentials.
-const EVENTS: [(Call, &str, u32); 15] = [
+const EVENTS: [(Call, &str, u32); 16] = [
     (Call::Cancel(4), "cancel", 4),
     (Call::Connected(1), "connected", 1),
     (Call::Refused(6, FaultKind::Refused), "refused", 6),
@@ -137,6 +140,7 @@ const EVENTS: [(Call, &str, u32); 15] = [
     (Call::CredsEnd(11), "creds-end", 11),
     (Call::Timeout(Some(9)), "timeout", 1),
     (Call::Timeout(None), "timeout none", 0),
+    (Call::DropStream, "drop-stream", 0),
     (Call::Shutdown, "shutdown", 0),
 ];
 

@@ -48,7 +48,6 @@ impl Offer {
     }
 
     /// After news of the first link.
-    #[tactic(auto, using(crate::proofs::Offers::came_offer))]
     fn after_news(self, news: LinkNews<'_>) -> Offer
         ensures links { result.links ≡ self.links }
         ensures first { (l : Ledger) (turn : ℕ) → IsOfferIn self l
