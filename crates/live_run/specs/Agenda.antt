@@ -81,6 +81,23 @@ to_close a l = if stands l a.unclosed then record a { unclosed = removed l a.unc
 abbrev pub due_after : ℕ → ℕ → ℕ
 due_after moment ms = min (moment + ms) (2 ^ 64 - 1)
 
+-- an action asks something of the agenda
+abbrev pub asks : Action → Bool
+asks (action.Connect l host port) = true
+asks (action.Timer t ms what) = true
+asks (action.Close l) = true
+asks (action.Write l bytes) = true
+asks (action.Turn number c) = false
+asks (action.Took who l count) = false
+asks (action.Push l info) = false
+asks (action.Message m) = false
+asks (action.Monitor v) = false
+asks (action.NeedCreds c l) = false
+asks (action.Start l message who count len) = false
+asks (action.Wait who kind) = false
+asks (action.Created e) = false
+asks (action.Outcome n o) = false
+
 -- what an action asks: a connect is to be dialled; a timer is due so many milliseconds after the moment of the pass; a link
 -- that ended is no longer read and written, and is to be closed; all unwritten bytes of a link are offered
 abbrev pub noted : Agenda → Action → Agenda

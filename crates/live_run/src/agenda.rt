@@ -1,5 +1,5 @@
-ghost use Rattle.std.specs.Prelude.{◌≡◌, ℕ, List, IfSome, OnOk, None};
-ghost use Rattle.live_run.specs.Agenda.{agenda_of, answered, begun, behind, first_due, noted, noted_each, undialled};
+ghost use Rattle.std.specs.Prelude.{◌≡◌, ℕ, List, IfSome, OnOk, None, true};
+ghost use Rattle.live_run.specs.Agenda.{agenda_of, answered, asks, begun, behind, first_due, noted, noted_each, undialled};
 ghost use Rattle.live_run.specs.Places.{AreOthers, IsFirstAt, target_link};
 ghost use Rattle.live_run.specs.Steps.{to_dial};
 
@@ -60,6 +60,27 @@ fn remove_dial(dials: &mut Queue<Target>, link: u32)
     }
 }
 
+/// Whether an action asks something of the agenda.
+fn asks(action: &Action) -> bool
+    ensures { result ≡ asks action.now }
+{
+    match action {
+        Action::Connect {
+            link: _,
+            host: _,
+            port: _,
+        } => true,
+        Action::Timer {
+            timer: _,
+            ms: _,
+            purpose: _,
+        } => true,
+        Action::Close { link: _ } => true,
+        Action::Write { link: _, bytes: _ } => true,
+        _ => false,
+    }
+}
+
 impl Agenda {
     /// Before the first pass: nothing is noted of these actions.
     pub(crate) fn new(alloc: Global, early: Vec<Action>) -> Agenda
@@ -88,8 +109,9 @@ impl Agenda {
         Ok(())
     }
 
-    /// Notes what an action asks.
-    fn note(&mut self, action: Action) -> Result<(), AllocError>
+    /// Notes what an action asks, that asks something.
+    fn note_asked(&mut self, action: Action) -> Result<(), AllocError>
+        requires { asks action ≡ true }
         ensures { OnOk result (self.new ≡ noted self.old action) }
     {
         match action {
@@ -109,8 +131,20 @@ impl Agenda {
                 put_offer(&mut self.links, link, bytes);
                 Ok(())
             }
-            _ => Ok(()),
+            _ => unreachable!(),
         }
+    }
+
+    /// Notes what an action asks, if it asks something.
+    #[tactic(auto, using(crate::proofs::Asked::unasked))]
+    fn note(&mut self, action: Action) -> Result<(), AllocError>
+        ensures { OnOk result (self.new ≡ noted self.old action) }
+    {
+        if asks(&action) {
+            return self.note_asked(action);
+        }
+        drop(action);
+        Ok(())
     }
 
     /// Notes what actions ask, in order.
