@@ -131,36 +131,7 @@ impl Agenda {
                 put_offer(&mut self.links, link, bytes);
                 Ok(())
             }
-<<<<<<< HEAD
             _ => unreachable!(),
-=======
-            Action::Turn {
-                number: _,
-                cause: _,
-            } => Ok(()),
-            Action::Took {
-                owner: _,
-                link: _,
-                count: _,
-            } => Ok(()),
-            Action::Push { link: _, info: _ } => Ok(()),
-            Action::Message { msg: _ } => Ok(()),
-            Action::Monitor { value: _ } => Ok(()),
-            Action::NeedCreds { source: _, link: _ } => Ok(()),
-            Action::Wait { owner: _, wait: _ } => Ok(()),
-            Action::Start {
-                link: _,
-                message: _,
-                owner: _,
-                need: _,
-                len: _,
-            } => Ok(()),
-            Action::Created { error: _ } => Ok(()),
-            Action::Outcome {
-                submission: _,
-                outcome: _,
-            } => Ok(()),
->>>>>>> 3de53109f8f5322613b2dd2a1ff55c629ef7257d
         }
     }
 
