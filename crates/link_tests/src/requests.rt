@@ -46,14 +46,16 @@ fn is_get_turn(action: &Action) -> bool {
 }
 
 fn copied(alloc: Global, action: &Action) -> Result<bool, AllocError> {
-    let copy = action.clone(alloc)?;
-    Ok(is_get_turn(&copy))
+    let mut copies = Vec::new(alloc);
+    copies.push(action.clone(alloc)?)?;
+    Ok(is_get_turn(&copies[0]))
 }
 
 /// Whether a copy of that turn is the same turn.
 fn turn_is_copied(alloc: Global) -> Result<bool, AllocError> {
-    let turn = get_turn(alloc)?;
-    copied(alloc, &turn)
+    let mut turns = Vec::new(alloc);
+    turns.push(get_turn(alloc)?)?;
+    copied(alloc, &turns[0])
 }
 
 #[test]
