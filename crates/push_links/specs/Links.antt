@@ -1,5 +1,5 @@
 -- What a turn of a link's connection makes of the stream beside it.
-use Rattle.std.specs.Prelude.{◌≡◌, ℕ, Bool, true, false, ◌||◌, List, [], ◌∷◌, ◌++◌, Option, Some, None, codes}
+use Rattle.std.specs.Prelude.{ℕ, Bool, true, false, ◌||◌, List, [], ◌∷◌, ◌++◌, Option, codes}
 use Rattle.std.specs.Prelude.{IfOk, Result}
 use Rattle.std.specs.declared.alloc.AllocError.{AllocError}
 use Rattle.resp_value.specs.Data.{Data}

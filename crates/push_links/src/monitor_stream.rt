@@ -1,4 +1,4 @@
-ghost use Rattle.std.specs.Prelude.{◌≡◌, ◌⊎◌, ◌++◌, [], true, OnOk, OnErr, Some, IfOk, IfSome, IsErrOf};
+ghost use Rattle.std.specs.Prelude.{◌≡◌, ◌⊎◌, ◌++◌, ⊤, [], true, OnOk, OnErr, OnSome, Some, IfOk, IfSome, IsErrOf};
 ghost use Rattle.futures.specs.Poll.{IfReady, OnPending};
 ghost use Rattle.futures.specs.Runs.{After, Within};
 ghost use Rattle.futures.specs.Task.{Covers, Keeps};
@@ -62,6 +62,8 @@ fn poll_item<T: FromRedisValue>(
     ensures rest { IfReady result
         (λ o. IfSome o (λ x. After (Gives (IsItemOf T.reads) held.old) x
         (Gives (IsItemOf T.reads) held.new))) }
+    ensures goes { IfReady result (λ o. OnSome o ⊤) }
+    ensures again { OnPending result ⊤ }
     ensures same { OnPending result
         (Within (Gives (IsItemOf T.reads) held.old) (Gives (IsItemOf T.reads) held.new)) }
     ensures registered { OnPending result (Covers cx.new (λ _. ⊥)) }
@@ -85,6 +87,8 @@ impl<T: FromRedisValue> Stream for MonitorStream<'_, T> {
         ensures rest { IfReady result
             (λ o. IfSome o (λ x. After (Gives (IsItemOf T.reads) self.old.held.now) x
             (Gives (IsItemOf T.reads) self.new.held.now))) }
+        ensures goes { IfReady result (λ o. OnSome o ⊤) }
+        ensures again { OnPending result ⊤ }
         ensures same { OnPending result
             (Within (Gives (IsItemOf T.reads) self.old.held.now) (Gives (IsItemOf T.reads) self.new.held.now)) }
         ensures registered { OnPending result (Covers cx.new (λ _. ⊥)) }
