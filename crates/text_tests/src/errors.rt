@@ -180,8 +180,9 @@ fn outcome(alloc: Global, fault: Fault) -> Result<Action, AllocError> {
 
 /// The line of an outcome with that error.
 fn error_line(alloc: Global, fault: Fault) -> Result<Bytes, AllocError> {
-    let action = outcome(alloc, fault)?;
-    line(alloc, &action)
+    let mut actions = Vec::new(alloc);
+    actions.push(outcome(alloc, fault)?)?;
+    line(alloc, &actions[0])
 }
 
 /// Whether that line ends in these words.

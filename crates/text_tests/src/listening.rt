@@ -124,8 +124,9 @@ fn has_line(alloc: Global, action: &Action, wanted: &[u8]) -> Result<bool, Alloc
 
 /// Whether this is the line of a deed.
 fn is_line(alloc: Global, deed: Deed, wanted: &str) -> Result<bool, AllocError> {
-    let action = action(alloc, deed)?;
-    has_line(alloc, &action, wanted.as_bytes())
+    let mut actions = Vec::new(alloc);
+    actions.push(action(alloc, deed)?)?;
+    has_line(alloc, &actions[0], wanted.as_bytes())
 }
 
 #[test]

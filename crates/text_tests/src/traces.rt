@@ -625,8 +625,9 @@ fn has_line(alloc: Global, action: &Action, wanted: &[u8]) -> Result<bool, Alloc
 
 /// Whether this is the line of a deed.
 fn is_line(alloc: Global, deed: Deed, wanted: &str) -> Result<bool, AllocError> {
-    let action = action(alloc, deed)?;
-    has_line(alloc, &action, wanted.as_bytes())
+    let mut actions = Vec::new(alloc);
+    actions.push(action(alloc, deed)?)?;
+    has_line(alloc, &actions[0], wanted.as_bytes())
 }
 
 #[test]
@@ -691,8 +692,9 @@ fn traces_have_text(rt: HostRuntime) -> Result<(), AllocError> {
 /// The line in which this byte is written.
 fn written(alloc: Global, byte: u8) -> Result<Bytes, AllocError> {
     let bytes = bytes(alloc, &[byte])?;
-    let action = Action::Write { link: 9, bytes };
-    line(alloc, &action)
+    let mut actions = Vec::new(alloc);
+    actions.push(Action::Write { link: 9, bytes })?;
+    line(alloc, &actions[0])
 }
 
 /// Whether a byte that is written is shown as itself if it is visible, and else by its code.
