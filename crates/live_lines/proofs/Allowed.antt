@@ -1,6 +1,5 @@
 -- The submissions that lines are have forms in their session.
-use Rattle.std.proofs.Common.{◌≡◌, ℕ, ◌+◌, ◌-◌, Bool, true, false, cond, List, [], ◌∷◌, All, length, Option, Some, None, IfSome, IfOk, Result, Ok, Err, option_and_then}
-use Rattle.driver_model.specs.declared.event.Event.{Event}
+use Rattle.std.proofs.Common.{◌≡◌, ℕ, ◌+◌, ◌-◌, Bool, true, false, cond, List, [], ◌∷◌, All, length, Option, Some, None, IfSome, IfOk, Result, Ok, Err}
 use Rattle.driver_model.specs.declared.kind.SessionKind.{SessionKind}
 use Rattle.driver_model.specs.declared.event.EventKind.{EventKind}
 use Rattle.driver_model.specs.declared.event.EventKind.TheVariants as event

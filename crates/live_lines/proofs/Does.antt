@@ -1,23 +1,22 @@
 -- What a live run does, by what it comes to and what is written.
 use Rattle.std.proofs.Math.Seq.{take-length}
 use Rattle.std.proofs.lemmas.Bool.Decides.{nat_tests}
-use Rattle.std.specs.Prelude.{take, ◌==◌}
+use Rattle.std.specs.Prelude.{◌==◌}
 use Rattle.std.proofs.Math.Nat.{le_refl}
 use Rattle.program_ends.specs.Status.{number}
-use Rattle.std.proofs.Common.{arith, length, ◌≤◌, ◌≡◌, ◌⊎◌, inl, inr, ℕ, ◌+◌, Bool, true, false, true≢false, List, [], Option, Some, None, Ok, Err, codes, refl, sym, ap, ◌∙◌, subst}
+use Rattle.std.proofs.Common.{arith, length, ◌≡◌, ◌⊎◌, inl, inr, ℕ, Bool, true, false, true≢false, List, Option, Some, None, Ok, Err, refl, sym, ap, ◌∙◌, subst}
 use Rattle.outside.specs.Ends.{Gained, GainedPart}
 use Rattle.outside.specs.declared.world.Call.{Call}
 use Rattle.caller_threads.specs.Submits.{Line}
 use Rattle.std.specs.Prelude.{Result}
 use Rattle.redis_error.specs.declared.config_name.ConfigName.{ConfigName}
-use Rattle.driver_model.specs.declared.config.Config.{Config}
-use Rattle.program_ends.specs.Lines.{numbered_line, config_line, read_fault_line}
+use Rattle.program_ends.specs.Lines.{read_fault_line}
 use Rattle.program_ends.specs.Sides.{Side, Fails, IfTold}
 use Rattle.program_ends.specs.declared.status.Status.{Status}
 use Rattle.program_ends.specs.declared.status.Status.TheVariants as status
 use Rattle.script_text.specs.Lines.{lines_of}
-use Rattle.live_lines.specs.Does.{IsLiveRun, IsLineRun, IsConfigRun, IsSpentRun, IsOutput, IsCutRun, EndsWell, DoesLive}
-use Rattle.live_lines.specs.Live.{IsAsked, IsLive, IsPlan, IsRefused, IsRefusedConfig, Writes, flight_text, refusal_line, refusal_status}
+use Rattle.live_lines.specs.Does.{IsLineRun, IsConfigRun, IsSpentRun, DoesLive}
+use Rattle.live_lines.specs.Live.{IsAsked, IsLive, IsPlan, IsRefused, Writes, flight_text, refusal_line, refusal_status}
 use Rattle.live_lines.specs.Plans.{plan_of, refused_of}
 use Rattle.live_lines.specs.declared.flying.Flight.{Flight}
 use Rattle.live_lines.specs.declared.planning.Plan.{Plan}

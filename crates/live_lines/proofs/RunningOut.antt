@@ -1,5 +1,5 @@
 -- Behind which events numbers ran out.
-use Rattle.std.proofs.Common.{◌≡◌, ◌⊎◌, ℕ, ◌+◌, List, [], ◌∷◌, ◌++◌, length, Option, refl, sym, ap, inl, inr, ◌∙◌, subst}
+use Rattle.std.proofs.Common.{◌≡◌, ℕ, ◌+◌, List, [], ◌∷◌, ◌++◌, length, Option, sym, ap, inl, inr, ◌∙◌, subst}
 use Rattle.std.proofs.lemmas.List.{append-nil}
 use Rattle.caller_threads.specs.Each.{EachAt, AnyAt}
 use Rattle.caller_threads.specs.Lines.{share}
@@ -12,7 +12,7 @@ use Rattle.session_callers.specs.Calls.{Known}
 use Rattle.session_callers.specs.Rule.{Each, SpendsNext}
 use Rattle.shared_session.specs.History.{History}
 use Rattle.shared_session.specs.declared.errors.StepError.{StepError}
-use Rattle.shared_session.specs.declared.errors.StepError.TheVariants.{BadEvent, Spent, NoMemory}
+use Rattle.shared_session.specs.declared.errors.StepError.TheVariants.{Spent}
 use Rattle.shared_session.specs.declared.session.Failure.TheVariants as failure
 use Rattle.live_run.specs.Agenda.{agenda_of}
 use Rattle.live_run.specs.Deeds.{Broke, events_in}

@@ -17,7 +17,7 @@ use Rattle.caller_threads.proofs.Places.{each_with}
 use Rattle.caller_threads.proofs.Submitting.{ascends_within, ascends_anyhow}
 use Rattle.session_callers.specs.Closes.{IsShared}
 use Rattle.shared_session.specs.History.{History}
-use Rattle.shared_session.specs.Replay.{opening_actions, trace_of, AreGood}
+use Rattle.shared_session.specs.Replay.{opening_actions}
 use Rattle.live_lines.specs.Flights.{IsBare, AreSubmitted, callers_of}
 use Rattle.live_lines.specs.declared.planning.Plan.{Plan}
 use Rattle.live_lines.proofs.Orders.{IsWell, told_well}

@@ -1,8 +1,7 @@
 -- Outcomes that are written while their text grows.
-use Rattle.std.proofs.Common.{arith, ◌≡◌, ◌+◌, ◌≤◌, ℕ, List, [], ◌∷◌, ◌++◌, length, Option, append_assoc, ◌∙◌, refl, sym, ap, subst, length-append}
+use Rattle.std.proofs.Common.{arith, ◌≡◌, ℕ, List, [], ◌∷◌, ◌++◌, Option, append_assoc, ◌∙◌, sym, ap, subst, length-append}
 use Rattle.std.proofs.lemmas.List.{append-nil, take-append-le}
 use Rattle.std.proofs.lemmas.Grind.{flat_map-append}
-use Rattle.std.specs.Prelude.{take}
 use Rattle.driver_model.specs.declared.outcome.Outcome.{Outcome}
 use Rattle.outside.specs.Ends.{Gained, GainedPart}
 use Rattle.program_ends.specs.Streaming.{Sent}

@@ -1,5 +1,5 @@
 -- What a live run does, and the status that it ends with.
-use Rattle.std.specs.Prelude.{◌≡◌, ◌⊎◌, ℕ, ◌+◌, List, Option, Some, None, Err, codes}
+use Rattle.std.specs.Prelude.{◌≡◌, ◌⊎◌, ℕ, ◌+◌, List, Option, None, codes}
 use Rattle.outside.specs.Ends.{Gained, GainedPart}
 use Rattle.outside.specs.declared.world.Call.{Call}
 use Rattle.program_ends.specs.Lines.{numbered_line, config_line, read_fault_line}

@@ -1,4 +1,4 @@
-use Rattle.std.proofs.Common.{◌≡◌, ◌+◌, ◌-◌, [], max, length}
+use Rattle.std.proofs.Common.{◌≡◌, ◌+◌, ◌-◌, max, length}
 use Rattle.session_callers.specs.Rule.{Each}
 use Rattle.live_lines.specs.Flights.{IsBare}
 use Rattle.live_lines.proofs.flying.join_all.Given as goal

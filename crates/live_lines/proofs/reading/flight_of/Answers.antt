@@ -1,7 +1,4 @@
-use Rattle.std.proofs.Common.{◌≡◌, ◌∙◌, sym, ap}
-use Rattle.std.specs.Prelude.{Some, Option}
-use Rattle.live_lines.specs.declared.planning.Plan.{Plan}
-use Rattle.live_lines.proofs.Allowed.{refused_lines}
+use Rattle.std.proofs.Common.{◌∙◌, sym}
 use Rattle.live_lines.proofs.reading.flight_of.Goals as goal
 
 pub returns-in-Ok-fly-clause-flight : goal.returns-in-Ok-fly-clause-flight
@@ -10,9 +7,6 @@ returns-in-Ok-fly-clause-flight g c = λ bytes told. record {
   ended = c.in-Ok.ensures.lines.ended bytes told;
   flight = c.in-Ok-fly.ensures.flight;
 }
-
-pub returns-in-Err-clause-refused : goal.returns-in-Err-clause-refused
-returns-in-Err-clause-refused g c = refused_lines c.in-Err.refusal _ c.in-Ok-Some.plan _ _ (sym c.in-Ok-Some.ensures ∙ c.in-Ok-Some.field-0-is) c.in-Err.ensures.refused
 
 pub returns-in-Err-Config-clause-refused : goal.returns-in-Err-Config-clause-refused
 returns-in-Err-Config-clause-refused g c =

@@ -1,4 +1,4 @@
-use Rattle.std.proofs.Common.{◌≡◌, ℕ, List, IfOk, Result, ◌∙◌, sym, subst}
+use Rattle.std.proofs.Common.{ℕ, List, IfOk, Result, ◌∙◌, sym, subst}
 use Rattle.caller_threads.specs.Submits.{Line, IsAllowed}
 use Rattle.session_callers.specs.Rule.{Each}
 use Rattle.text_laws.specs.Fits.{AreBytes}
