@@ -1,11 +1,11 @@
-ghost use Rattle.std.specs.Prelude.{◌≡◌, ◌<◌, IfOk, vec_len, false};
+ghost use Rattle.std.specs.Prelude.{◌≡◌, ◌<◌, List, IfOk, vec_len, false};
 ghost use Rattle.driver_model.specs.Request.{has_no_form};
 ghost use Rattle.session_callers.specs.Rule.{Each};
-ghost use Rattle.caller_threads.specs.Submits.{IsAllowed};
+ghost use Rattle.caller_threads.specs.Submits.{Line, IsAllowed, AreAllowed};
 
 use caller_threads::{Gate, OpenGate, submit_lines};
 use containers::{Bytes, Names};
-use driver_model::{Action, Config, Submission};
+use driver_model::{Action, Config, SessionKind, Submission};
 use session_callers::{Caller, SharedSession};
 use std::alloc::{AllocError, Global};
 use std::sync::Wait;
@@ -55,7 +55,7 @@ fn callers_cross_threads() {
 }
 
 fn get(alloc: Global) -> Result<Submission, AllocError>
-    ensures { IfOk result (λ what. has_no_form what ≡ false) }
+    ensures { IfOk result (λ what. has_no_form SessionKind.Single what ≡ false) }
 {
     let mut args = Names::new(alloc);
     args.push(Bytes::from_slice(alloc, b"GET")?)?;
@@ -64,7 +64,7 @@ fn get(alloc: Global) -> Result<Submission, AllocError>
 }
 
 fn gets(alloc: Global, count: u8) -> Result<Vec<(Submission, u64)>, AllocError>
-    ensures { IfOk result (λ lines. Each IsAllowed lines.items) }
+    ensures { IfOk result (λ lines. Each (IsAllowed SessionKind.Single) lines.items) }
 {
     let mut lines = Vec::new(alloc);
     for i in 0..count {
@@ -76,7 +76,8 @@ fn gets(alloc: Global, count: u8) -> Result<Vec<(Submission, u64)>, AllocError>
 }
 
 fn start(alloc: Global, out: &mut Vec<Action>) -> Result<(SharedSession, Caller), AllocError>
-    ensures { IfOk result (λ made. made.1.table ≡ made.0.table.shared.table_id) }
+    ensures table { IfOk result (λ made. made.1.table ≡ made.0.table.shared.table_id) }
+    ensures single { IfOk result (λ made. made.1.view.config.kind ≡ SessionKind.Single) }
 {
     let mut config = Config::new(Bytes::from_slice(alloc, b"redis://h")?);
     config.lib = Some(false);
@@ -95,6 +96,10 @@ fn two_callers<R: Wait>(
     ensures some { IfOk result (λ made. 0 < vec_len made.1) }
     ensures of { IfOk result (λ made.
         Each (λ caller. caller.table ≡ made.0.table.shared.table_id) made.1.items
+        ) }
+    ensures allowed { IfOk result (λ made.
+        (lines : List Line) → Each (IsAllowed SessionKind.Single) lines
+        → Each (AreAllowed lines) made.1.items
         ) }
 {
     let (shared, mut a) = start(alloc, out)?;
