@@ -7,8 +7,8 @@ crosses-requires-send-T c κs = search crossing depth 60 fits 20000
 pub crosses-requires-sync-T : goal.crosses-requires-sync-T
 crosses-requires-sync-T c κs = search crossing depth 60 fits 20000
 
-pub crosses-2-requires-send-T : goal.crosses-2-requires-send-T
-crosses-2-requires-send-T c κs = search crossing depth 60 fits 20000
+pub crosses-requires-2-send-T : goal.crosses-requires-2-send-T
+crosses-requires-2-send-T c κs = search crossing depth 60 fits 20000
 
-pub crosses-2-requires-sync-T : goal.crosses-2-requires-sync-T
-crosses-2-requires-sync-T c κs = search crossing depth 60 fits 20000
+pub crosses-requires-2-sync-T : goal.crosses-requires-2-sync-T
+crosses-requires-2-sync-T c κs = search crossing depth 60 fits 20000
