@@ -70,10 +70,10 @@ taken protocol c h =
 pub passes : (protocol : ProtocolVersion) (c : ConnectionManagerConfig) → IsTaken protocol c → first_fault protocol c ≡ None
 passes protocol c h =
     all_hold (c.automatic_resubscription && not c.connection.push_sender) (c.exponent_base.1 == 0) (c.connection.push_sender && not (is_resp3 protocol)) (lacks_permits c.connection.concurrency_limit) (c.connection.pipeline_buffer_size == 0)
-        (record {
-          resub = not_without _ _ h.resubscribes_to_someone;
-          base = not_zero _ h.grows_by_a_fraction;
-          push = not_without _ _ h.hears_pushes_that_come;
-          limit = lacks_none _ h.has_permits;
-          buffer = not_zero _ h.has_places;
-        })
+    (record {
+      resub = not_without _ _ h.resubscribes_to_someone;
+      base = not_zero _ h.grows_by_a_fraction;
+      push = not_without _ _ h.hears_pushes_that_come;
+      limit = lacks_none _ h.has_permits;
+      buffer = not_zero _ h.has_places;
+    })

@@ -40,19 +40,22 @@ impl Noted {
 
 /// Answers calls by a list, the first by its first item, and notes them. Behind the list's end all are closed.
 #[derive(Drop)]
-pub struct Scripted<'a> {
-    replies: &'a [Reply],
+pub struct Scripted {
+    replies: Vec<Reply>,
+    next: usize,
     noted: Vec<Noted>,
     unlisted: u64,
 }
 
-impl<'a> Scripted<'a> {
-    pub fn new(alloc: Global, replies: &'a [Reply]) -> Scripted<'a> {
-        Scripted {
+impl Scripted {
+    pub fn new(alloc: Global, replies: &[Reply]) -> Result<Scripted, AllocError> {
+        let replies = Vec::from_slice(alloc, replies)?;
+        Ok(Scripted {
             replies,
+            next: 0,
             noted: Vec::new(alloc),
             unlisted: 0,
-        }
+        })
     }
 
     /// The calls so far.
@@ -61,17 +64,13 @@ impl<'a> Scripted<'a> {
     }
 
     /// What the next call is answered with.
-    fn next(&mut self) -> Reply
+    fn next_reply(&mut self) -> Reply
         ensures noted { self.new.noted ≡ self.old.noted }
         ensures unlisted { self.new.unlisted ≡ self.old.unlisted }
     {
-        match self.replies.split_first() {
-            Some((first, rest)) => {
-                self.replies = rest;
-                *first
-            }
-            None => Reply::Closed,
-        }
+        let reply = self.replies.get(self.next).copied();
+        self.next = self.next.saturating_add(1);
+        reply.unwrap_or(Reply::Closed)
     }
 }
 
@@ -129,11 +128,11 @@ fn note_all(
     Ok(())
 }
 
-impl<'a> Calls for Scripted<'a> {
+impl Calls for Scripted {
     ghost told = { λ it. record { made = map made_of it.noted.items; unlisted = it.unlisted } };
 
     fn call(&mut self, alloc: Global, cmd: &Cmd) -> Result<Value, CallError> {
-        let reply = self.next();
+        let reply = self.next_reply();
         match note(alloc, &mut self.noted, cmd, reply) {
             Ok(()) => value(alloc, reply),
             Err(AllocError) => {
@@ -144,7 +143,7 @@ impl<'a> Calls for Scripted<'a> {
     }
 
     fn call_pipeline(&mut self, alloc: Global, pipeline: &Pipeline) -> Result<Values, CallError> {
-        let reply = self.next();
+        let reply = self.next_reply();
         match note_all(alloc, &mut self.noted, pipeline, reply) {
             Ok(()) => values(alloc, reply),
             Err(AllocError) => {

@@ -55,7 +55,7 @@ fn end_of_error(error: &RedisError) -> End {
 /// What the closure answers in its turn of this number, from 0.
 fn answer(
     alloc: Global,
-    conn: &mut Scripted<'_>,
+    conn: &mut Scripted,
     mut pipeline: Pipeline,
     step: Step,
 ) -> Result<Option<u8>, CallError> {
@@ -94,25 +94,36 @@ fn are_calls(noted: &[Noted], words: &[&[u8]]) -> bool {
 /// Whether a transaction of this row ends so.
 fn holds(alloc: Global, keys: &[&[u8]], row: &Row) -> Result<bool, AllocError> {
     let keys = Names::from_slices(alloc, keys)?;
-    let mut conn = Scripted::new(alloc, row.0);
+    let mut conn = Scripted::new(alloc, row.0)?;
     let mut steps = row.1;
-    let closure = |conn: &mut Scripted<'_>, pipeline: Pipeline| {
-        match steps.split_first() {
-            Some((step, rest)) => {
-                steps = rest;
-                answer(alloc, conn, pipeline, *step)
-            }
-            None => Ok(None),
+    let closure = |conn: &mut Scripted, pipeline: Pipeline| match steps.split_first() {
+        Some((step, rest)) => {
+            steps = rest;
+            answer(alloc, conn, pipeline, *step)
         }
+        None => Ok(None),
     };
     let result = transaction(alloc, &mut conn, &keys, closure, row.2);
     Ok(end_of(&result) == row.3 && are_calls(conn.noted(), row.4))
 }
 
-const ALL_WELL: &[Reply] = &[Reply::Okay, Reply::Okay, Reply::Okay, Reply::Okay, Reply::Okay, Reply::Okay];
+const ALL_WELL: &[Reply] = &[
+    Reply::Okay,
+    Reply::Okay,
+    Reply::Okay,
+    Reply::Okay,
+    Reply::Okay,
+    Reply::Okay,
+];
 
 const ROWS: [Row; 9] = [
-    (ALL_WELL, &[Step::Answers(7)], 1, End::Value(7), &[b"WATCH", b"UNWATCH"]),
+    (
+        ALL_WELL,
+        &[Step::Answers(7)],
+        1,
+        End::Value(7),
+        &[b"WATCH", b"UNWATCH"],
+    ),
     (
         ALL_WELL,
         &[Step::CallsAndAnswers(7)],
@@ -125,7 +136,9 @@ const ROWS: [Row; 9] = [
         &[Step::Nothing, Step::Nothing, Step::Answers(9)],
         3,
         End::Value(9),
-        &[b"WATCH", b"UNWATCH", b"WATCH", b"UNWATCH", b"WATCH", b"UNWATCH"],
+        &[
+            b"WATCH", b"UNWATCH", b"WATCH", b"UNWATCH", b"WATCH", b"UNWATCH",
+        ],
     ),
     (
         ALL_WELL,
@@ -134,12 +147,42 @@ const ROWS: [Row; 9] = [
         End::TurnsSpent(2),
         &[b"WATCH", b"UNWATCH", b"WATCH", b"UNWATCH"],
     ),
-    (&[Reply::Closed], &[Step::Answers(7)], 2, End::Closed, &[b"WATCH"]),
-    (&[Reply::Refused], &[Step::Answers(7)], 2, End::Refused, &[b"WATCH"]),
-    (&[Reply::Spent], &[Step::Answers(7)], 2, End::Spent(7), &[b"WATCH"]),
-    (ALL_WELL, &[Step::Fails], 2, End::Closed, &[b"WATCH", b"UNWATCH"]),
+    (
+        &[Reply::Closed],
+        &[Step::Answers(7)],
+        2,
+        End::Closed,
+        &[b"WATCH"],
+    ),
+    (
+        &[Reply::Refused],
+        &[Step::Answers(7)],
+        2,
+        End::Refused,
+        &[b"WATCH"],
+    ),
+    (
+        &[Reply::Spent],
+        &[Step::Answers(7)],
+        2,
+        End::Spent(7),
+        &[b"WATCH"],
+    ),
+    (
+        ALL_WELL,
+        &[Step::Fails],
+        2,
+        End::Closed,
+        &[b"WATCH", b"UNWATCH"],
+    ),
     // an answer of UNWATCH doesn't matter
-    (&[Reply::Okay, Reply::Refused], &[Step::Answers(7)], 2, End::Value(7), &[b"WATCH", b"UNWATCH"]),
+    (
+        &[Reply::Okay, Reply::Refused],
+        &[Step::Answers(7)],
+        2,
+        End::Value(7),
+        &[b"WATCH", b"UNWATCH"],
+    ),
 ];
 
 #[test]
