@@ -1,12 +1,12 @@
 -- What turns leave in the list of calls.
-use Rattle.std.proofs.Common.{◌≡◌, ℕ, zero, suc, ◌+◌, ◌-◌, ◌^◌, ◌<◌, ◌≤◌, min, List, [], ◌∷◌, ◌++◌, map, Option, Some, None, Result, Ok, Err, ◌⊎◌, inl, inr, refl, sym, ap, subst, ◌∙◌, arith, append_assoc, append-nil}
+use Rattle.std.proofs.Common.{◌≡◌, ℕ, zero, suc, ◌-◌, ◌^◌, ◌<◌, ◌≤◌, min, List, [], ◌∷◌, ◌++◌, map, Option, Some, None, Result, Ok, inl, inr, refl, sym, ap, ◌∙◌, arith, append_assoc, append-nil}
 use Rattle.std.specs.Borrow.{MutBor}
 use Rattle.std.specs.Fn.{Mut}
 use Rattle.resp_write.specs.Command.{Command, CommandList}
 use Rattle.transactions.specs.declared.call_error.CallError.{CallError}
 use Rattle.transactions.specs.Calls.{Told, Made, Tells, Lists}
 use Rattle.transactions.specs.Turns.{Turn, Turns, Ends, Unwatches, unwatch_all}
-use Rattle.transactions.specs.Silent.{MakesNoCalls, ListsAll, command_in, commands_in, watch_and_unwatch}
+use Rattle.transactions.specs.Silent.{MakesNoCalls, command_in, commands_in, watch_and_unwatch}
 
 -- a call lowers no count of calls that aren't listed
 rises : (old new : Told) (call : Made) → Tells old new call → min old.unlisted (2 ^ 64 - 1) ≤ new.unlisted

@@ -1,5 +1,5 @@
 -- What whoever makes calls tells of them.
-use Rattle.std.specs.Prelude.{◌≡◌, ℕ, ◌+◌, ◌-◌, ◌^◌, ◌==◌, min, length, Bool, true, false, List, [], ◌∷◌, ◌++◌, Result, Err, ◌⊎◌}
+use Rattle.std.specs.Prelude.{◌≡◌, ℕ, ◌+◌, ◌-◌, ◌^◌, ◌==◌, min, length, Bool, false, List, [], ◌∷◌, ◌++◌, Result, Err, ◌⊎◌}
 use Rattle.resp_value.specs.Data.{Data}
 use Rattle.resp_value.specs.declared.value.Value.{Value}
 use Rattle.resp_write.specs.Command.{Command, CommandList}

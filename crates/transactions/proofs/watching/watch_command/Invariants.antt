@@ -1,5 +1,4 @@
-use Rattle.std.proofs.Common.{◌≡◌, ◌∷◌, take}
-use Rattle.resp_write.specs.Command.{Command}
+use Rattle.std.proofs.Common.{◌≡◌, take}
 use Rattle.transactions.specs.Turns.{watch_of}
 use Rattle.transactions.proofs.watching.watch_command.Given as goal
 
