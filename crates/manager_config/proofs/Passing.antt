@@ -1,11 +1,11 @@
 -- Which checks a configuration passes.
-use Rattle.std.proofs.Common.{◌≡◌, ◌≢◌, ◌↔◌, ℕ, ◌==◌, ◌<◌, Bool, true, false, ◌&&◌, not, Option, Some, None, List, [], ◌∷◌, refl, sym, ◌∙◌, ap, arith, eqb-true, ne_eqb, zero, suc, zero-lt-suc}
+use Rattle.std.proofs.Common.{◌≡◌, ◌≢◌, ℕ, ◌==◌, ◌<◌, Bool, true, false, ◌&&◌, not, Option, Some, None, [], ◌∷◌, refl, sym, ap, arith, ne_eqb, zero, suc, zero-lt-suc}
 use Rattle.redis_error.specs.declared.config_name.ConfigName.{ConfigName}
 use Rattle.redis_error.specs.declared.config_name.ConfigName.TheVariants as name
 use Rattle.connection_info.specs.declared.protocol.ProtocolVersion.{ProtocolVersion}
 use Rattle.connection_info.specs.Protocol.{is_resp3}
 use Rattle.manager_config.specs.declared.config.ConnectionManagerConfig.{ConnectionManagerConfig}
-use Rattle.manager_config.specs.Refused.{first_failed, first_fault, checks, lacks_permits, IsTaken}
+use Rattle.manager_config.specs.Refused.{first_failed, first_fault, lacks_permits, IsTaken}
 
 -- none of five checks fails
 record NoneFails (a b c d e : Bool) : Type 0 where

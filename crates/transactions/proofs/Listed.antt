@@ -29,39 +29,39 @@ commands_then old new call h = ap (map command_in) h.0 ∙ one_more old.made
 module _ {C F T : Type 0} (told : C → Told) (closure : Mut F (MutBor C × (CommandList × Unit {0})) ((Result (Option T) CallError) × (MutBor C × Unit {0}))) (silent : MakesNoCalls told closure) (watch : Command) where
   turn_rises : (c : C) (f : F) (r : Result (Option T) CallError) (d : C) (g : F) → Turn told closure watch c f r d g → min (told c).unlisted (2 ^ 64 - 1) ≤ (told d).unlisted
   turn_rises c f r d g turn =
-    let first = rises (told c) (told turn.after_watch) _ turn.watched.called in
-    let between = ap (λ (t : Told). t.unlisted) (silent _ _ _ _ _ _ turn.called) in
-    let last = rises (told turn.after_closure) (told d) _ turn.unwatched.called in
-    omega arith
+      let first = rises (told c) (told turn.after_watch) _ turn.watched.called in
+      let between = ap (λ (t : Told). t.unlisted) (silent _ _ _ _ _ _ turn.called) in
+      let last = rises (told turn.after_closure) (told d) _ turn.unwatched.called in
+      omega arith
 
   turn_listed : (c : C) (f : F) (r : Result (Option T) CallError) (d : C) (g : F) → Turn told closure watch c f r d g → (told c).unlisted < 2 ^ 64 - 1 → (told d).unlisted ≤ (told c).unlisted → commands_in (told d) ≡ commands_in (told c) ++ Some watch ∷ Some unwatch_all ∷ []
   turn_listed c f r d g turn small le =
-    let first = rises (told c) (told turn.after_watch) _ turn.watched.called in
-    let same = silent _ _ _ _ _ _ turn.called in
-    let between = ap (λ (t : Told). t.unlisted) same in
-    let last = rises (told turn.after_closure) (told d) _ turn.unwatched.called in
-    let watched = listed (told c) (told turn.after_watch) _ turn.watched.called small (omega arith) in
-    let unwatched = listed (told turn.after_closure) (told d) _ turn.unwatched.called (let kept = watched.1 in omega arith) (let kept = watched.1 in omega arith) in
-    commands_then (told turn.after_closure) (told d) _ unwatched
-    ∙ ap (λ t. commands_in t ++ Some unwatch_all ∷ []) same
-    ∙ ap (λ commands. commands ++ Some unwatch_all ∷ []) (commands_then (told c) (told turn.after_watch) _ watched)
-    ∙ append_assoc (commands_in (told c)) (Some watch ∷ []) (Some unwatch_all ∷ [])
+      let first = rises (told c) (told turn.after_watch) _ turn.watched.called in
+      let same = silent _ _ _ _ _ _ turn.called in
+      let between = ap (λ (t : Told). t.unlisted) same in
+      let last = rises (told turn.after_closure) (told d) _ turn.unwatched.called in
+      let watched = listed (told c) (told turn.after_watch) _ turn.watched.called small (omega arith) in
+      let unwatched = listed (told turn.after_closure) (told d) _ turn.unwatched.called (let kept = watched.1 in omega arith) (let kept = watched.1 in omega arith) in
+      commands_then (told turn.after_closure) (told d) _ unwatched
+      ∙ ap (λ t. commands_in t ++ Some unwatch_all ∷ []) same
+      ∙ ap (λ commands. commands ++ Some unwatch_all ∷ []) (commands_then (told c) (told turn.after_watch) _ watched)
+      ∙ append_assoc (commands_in (told c)) (Some watch ∷ []) (Some unwatch_all ∷ [])
 
   turns_rise : (n : ℕ) (c : C) (f : F) (d : C) (g : F) → Turns told closure watch n c f d g → min (told c).unlisted (2 ^ 64 - 1) ≤ (told d).unlisted
   turns_rise zero c f d g h = let same = ap (λ x. (told x).unlisted) h.0 in omega arith
   turns_rise (suc n) c f d g h =
-    let before = turns_rise n c f h.0 h.1 h.2 in
-    let turn = turn_rises h.0 h.1 (Ok None) d g h.3 in
-    omega arith
+      let before = turns_rise n c f h.0 h.1 h.2 in
+      let turn = turn_rises h.0 h.1 (Ok None) d g h.3 in
+      omega arith
 
   pub turns_listed : (n : ℕ) (c : C) (f : F) (d : C) (g : F) → Turns told closure watch n c f d g → (told c).unlisted < 2 ^ 64 - 1 → (told d).unlisted ≤ (told c).unlisted → commands_in (told d) ≡ commands_in (told c) ++ watch_and_unwatch watch n
   turns_listed zero c f d g h small le = ap (λ x. commands_in (told x)) h.0 ∙ sym (append-nil (commands_in (told c)))
   turns_listed (suc n) c f d g h small le =
-    let before = turns_rise n c f h.0 h.1 h.2 in
-    let turn = turn_rises h.0 h.1 (Ok None) d g h.3 in
-    turn_listed h.0 h.1 (Ok None) d g h.3 (omega arith) (omega arith)
-    ∙ ap (λ commands. commands ++ Some watch ∷ Some unwatch_all ∷ []) (turns_listed n c f h.0 h.1 h.2 small (omega arith))
-    ∙ append_assoc (commands_in (told c)) (watch_and_unwatch watch n) (Some watch ∷ Some unwatch_all ∷ [])
+      let before = turns_rise n c f h.0 h.1 h.2 in
+      let turn = turn_rises h.0 h.1 (Ok None) d g h.3 in
+      turn_listed h.0 h.1 (Ok None) d g h.3 (omega arith) (omega arith)
+      ∙ ap (λ commands. commands ++ Some watch ∷ Some unwatch_all ∷ []) (turns_listed n c f h.0 h.1 h.2 small (omega arith))
+      ∙ append_assoc (commands_in (told c)) (watch_and_unwatch watch n) (Some watch ∷ Some unwatch_all ∷ [])
 
 module _ {C F T : Type 0} (told : C → Told) (closure : Mut F (MutBor C × (CommandList × Unit {0})) ((Result (Option T) CallError) × (MutBor C × Unit {0}))) (watch : Command) where
   pub unwatched_last : (turns : ℕ) (c : C) (f : F) (v : T) (d : C) → Ends told closure watch turns c f (Ok v) d → (b : C) × Unwatches told b d

@@ -16,4 +16,4 @@ module _ {C F T : Type 0} (told : C → Told) (closure : Mut F (MutBor C × (Com
   -- the three steps of a turn, with a pipeline that is a fresh one
   pub a_turn : (c w x d : C) (f g : F) (p : CommandList) (r : Result (Option T) CallError) → Watches told watch c w → CalledWithState closure f w p r g x → p ≡ fresh → Unwatches told x d → MatchResult r (λ answer. Turn told closure watch c f (Ok answer) d g) (λ e. TurnFails told closure watch c f e d g)
   a_turn c w x d f g p r watched called is unwatched =
-    by_answer r c f d g (record { after_watch = w; watched = watched; after_closure = x; called = subst (λ q. CalledWithState closure f w q r g x) is called; unwatched = unwatched })
+      by_answer r c f d g (record { after_watch = w; watched = watched; after_closure = x; called = subst (λ q. CalledWithState closure f w q r g x) is called; unwatched = unwatched })
