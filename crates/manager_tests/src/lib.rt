@@ -8,4 +8,4 @@ mod scripted;
 #[cfg(test)]
 mod settings;
 #[cfg(test)]
-mod transactions;
+mod turns;

@@ -4,7 +4,7 @@ use redis_error::{ConfigName, RedisError};
 use resp_value::Value;
 use resp_write::Pipeline;
 use std::alloc::{AllocError, Global};
-use transactions::{CallError, transaction};
+use transactions::{CallError, Calls, transaction};
 
 /// What the closure of a case does in each of its turns: it answers nothing, or it answers with a value, it fails, or it makes
 /// the call of its pipeline first and then answers so.
@@ -29,8 +29,8 @@ enum End {
     Other,
 }
 
-fn end_of(result: &Result<u8, CallError>) -> End {
-    match result {
+fn end_of(answer: &Result<u8, CallError>) -> End {
+    match answer {
         Ok(value) => End::Value(*value),
         Err(CallError::Redis(error)) => end_of_error(error),
         Err(CallError::Spent { events }) => End::Spent(*events),
