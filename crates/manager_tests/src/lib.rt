@@ -1,0 +1,11 @@
+//! Tests of what a connection manager is made of, by public calls alone.
+#![tactic(auto)]
+
+#[cfg(test)]
+mod delays;
+#[cfg(test)]
+mod scripted;
+#[cfg(test)]
+mod settings;
+#[cfg(test)]
+mod turns;
