@@ -178,7 +178,7 @@ joined_actions =
     ∷ ((done.Reconnect (at (codes "a") 1 ∷ []), done.Reconnect (at (codes "a") 1 ∷ [])), done.Reconnect (at (codes "a") 1 ∷ []))
     ∷ (
       (done.Reconnect (at (codes "a") 9 ∷ at (codes "b") 1 ∷ []), done.Reconnect (at (codes "a") 10 ∷ at (codes "aa") 1 ∷ at (codes "b") 1 ∷ [])),
-      done.Reconnect (at (codes "a") 9 ∷ at (codes "a") 10 ∷ at (codes "aa") 1 ∷ at (codes "b") 1 ∷ [])
+      done.Reconnect (at (codes "a") 9 ∷ at (codes "a") 10 ∷ at (codes "aa") 1 ∷ at (codes "b") 1 ∷ []),
     )
     ∷ ((done.Reconnect (at (codes "a") 1 ∷ at (codes "b") 1 ∷ []), done.RebuildSlots), done.RebuildSlots)
     ∷ ((done.RebuildSlots, done.Reconnect (at (codes "a") 1 ∷ [])), done.RebuildSlots)

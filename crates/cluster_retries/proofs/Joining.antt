@@ -3,7 +3,7 @@ use Rattle.std.proofs.Common.{◌≡◌, List, refl, sym, ap, ◌∙◌}
 use Rattle.slot_hash.specs.declared.address.NodeAddress.{NodeAddress}
 use Rattle.cluster_retries.specs.declared.poll_flush_action.PollFlushAction.{PollFlushAction}
 use Rattle.cluster_retries.specs.declared.poll_flush_action.PollFlushAction.TheVariants.{None, RebuildSlots, Reconnect, ReconnectFromInitialConnections}
-use Rattle.cluster_retries.specs.Actions.{joined, union}
+use Rattle.cluster_retries.specs.Actions.{joined}
 use Rattle.cluster_retries.specs.ActionLaws.{Associates, Commutes, InitialTakesAll, NoNodeIsLost, NothingAddsNothing, SlotsTakeAddresses}
 use Rattle.cluster_retries.proofs.Unions.{among_union, union_associates, union_commutes, union_ordered}
 

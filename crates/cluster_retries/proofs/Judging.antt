@@ -1,6 +1,6 @@
 -- What follows the end of a round, in the words of a cluster's user.
 use Rattle.std.proofs.Common.{◌≡◌, ◌≢◌, ℕ, Bool, true, false, List, [], ◌∷◌, Option, Some, None, if◌then◌else◌, refl, sym, ap, subst, ◌∙◌}
-use Rattle.std.specs.Prelude.{codes}
+use Rattle.std.specs.Prelude.{bytes_eq, codes, drop}
 use Rattle.std.specs.List.{All}
 use Rattle.std.specs.Option.{option_map, option_or}
 use Rattle.std.proofs.lemmas.List.Elements.{All-head, All-tail}
@@ -10,7 +10,8 @@ use Rattle.resp_value.specs.declared.retry_method.RetryMethod.TheVariants.{Recon
 use Rattle.resp_value.specs.declared.server_error.ServerError.{ServerError}
 use Rattle.resp_value.specs.declared.value.Value.{Value}
 use Rattle.resp_value.specs.Data.{Data, error}
-use Rattle.resp_value.specs.ErrorTable.{method_of}
+use Rattle.resp_value.specs.ErrorTable.{by_code, method_of, methods}
+use Rattle.resp_value.specs.Redirect.{is_for_one_command}
 use Rattle.resp_value.specs.View.{data_of}
 use Rattle.redis_error.specs.declared.redis_error.RedisError.{RedisError}
 use Rattle.redis_error.specs.declared.redis_error.RedisError.TheVariants as fault
@@ -19,13 +20,12 @@ use Rattle.cluster_retries.specs.declared.round_end.OperationTarget.{OperationTa
 use Rattle.cluster_retries.specs.declared.round_end.OperationTarget.TheVariants.{Node, NotFound, FanOut}
 use Rattle.cluster_retries.specs.declared.round_end.RoundEnd.{RoundEnd}
 use Rattle.cluster_retries.specs.declared.round_end.RoundEnd.TheVariants as ended
-use Rattle.cluster_retries.specs.declared.choosing.Next.{Next}
-use Rattle.cluster_retries.specs.declared.choosing.Next.TheVariants.{Answered, Pending, AtOnce, Sleep}
+use Rattle.cluster_retries.specs.declared.choosing.Next.TheVariants.{Pending, AtOnce, Sleep}
 use Rattle.cluster_retries.specs.declared.choosing.RecoveryAction.{RecoveryAction}
 use Rattle.cluster_retries.specs.declared.choosing.RecoveryAction.TheVariants as action
 use Rattle.cluster_retries.specs.Ends.{error_in, error_of, first_error_in, is_retried}
-use Rattle.cluster_retries.specs.Table.{answered, following, judged, row_of}
-use Rattle.cluster_retries.specs.TableLaws.{ActionStays, AskIsFollowed, EachRowIsSound, EndsBy, FanOutAnswers, IsGood, IsSound, MovedIsFollowed, ReadOnlyIsRouted, ValuesAreAnswered}
+use Rattle.cluster_retries.specs.Table.{IsFollowed, answered, following, judged, row_of}
+use Rattle.cluster_retries.specs.TableLaws.{ActionStays, AskIsFollowed, EachRowIsSound, EndsBy, FanOutAnswers, IsGood, IsSound, MovedIsFollowed, ReadOnlyIsRouted, RedirectsLead, ValuesAreAnswered}
 
 -- a good value counts as no error
 good_counts_as_none : (d : Data) → IsGood d → error_in d ≡ None
@@ -69,6 +69,28 @@ by_method address end e method is m retried =
 
 method_of_code : (e : ServerError) (code : List ℕ) (method : RetryMethod) → e.code ≡ code → method_of code ≡ method → method_of e.code ≡ method
 method_of_code e code method is m = ap method_of is ∙ m
+
+-- what is read as a redirect is tried again by following it
+abbrev IsFollowedBy : RetryMethod → Type 0
+IsFollowedBy method = ((address : NodeAddress) → (row_of (Node address) method).redirected ≡ true) × (is_retried method ≡ true)
+
+by_tests : (moved asked ask : Bool) (other : RetryMethod) → (if moved then Some false else (if asked then Some true else None)) ≡ Some ask → IsFollowedBy (if moved then MovedRedirect else (if asked then AskRedirect else other))
+by_tests true asked ask other e = ((λ address. refl), refl)
+by_tests false true ask other e = ((λ address. refl), refl)
+by_tests false false ask other e = absurd (cc e)
+
+redirecting : (code : List ℕ) (ask : Bool) → is_for_one_command code ≡ Some ask → IsFollowedBy (method_of code)
+unfolding is_for_one_command method_of
+redirecting code ask e = by_tests (bytes_eq code (codes "MOVED")) (bytes_eq code (codes "ASK")) ask (by_code (drop 2 methods) NoRetry code) e
+
+pub redirects_lead : RedirectsLead
+unfolding following
+redirects_lead address end e slot text ask is redirect =
+    let followed = redirecting e.code ask redirect.0 in
+    let seen : error_of end ≡ Some (fault.Server e) = counts end e is followed.1 in
+    let follows : (judged (Node address) true (error_of end)).redirected ≡ true = ap (λ o. (judged (Node address) true o).redirected) seen ∙ followed.0 address in
+    subst (λ o. IsFollowed (judged (Node address) true (error_of end)).redirected o slot text ask) (sym seen)
+    (subst (λ b. IsFollowed b (Some (fault.Server e)) slot text ask) (sym follows) redirect)
 
 moved_method : method_of (codes "MOVED") ≡ MovedRedirect
 unfolding method_of

@@ -1,8 +1,6 @@
 -- What is left of a redirect and of a link.
-use Rattle.std.proofs.Common.{◌≡◌, ℕ, Bool, List, Option, Some, None, refl, ap, ◌∙◌}
+use Rattle.std.proofs.Common.{◌≡◌, Option, Some, None, refl, ap, ◌∙◌}
 use Rattle.std.specs.Option.{option_map}
-use Rattle.slot_hash.specs.declared.address.NodeAddress.{NodeAddress}
-use Rattle.slot_hash.specs.Address.{address_of}
 use Rattle.cluster_retries.specs.declared.request_routing.Redirect.{Redirect}
 use Rattle.cluster_retries.specs.declared.request_routing.SingleNodeRoute.{SingleNodeRoute}
 use Rattle.cluster_retries.specs.declared.request_routing.SingleNodeRoute.TheVariants.{Random, SpecificNode, ByAddress, Connection}
@@ -10,7 +8,7 @@ use Rattle.cluster_retries.specs.declared.request_routing.InternalSingleNodeRout
 use Rattle.cluster_retries.specs.declared.request_routing.InternalRoutingInfo.TheVariants.{SingleNode, MultiNode}
 use Rattle.cluster_retries.specs.declared.cmd_arg.CmdArg.{CmdArg}
 use Rattle.cluster_retries.specs.declared.cmd_arg.CmdArg.TheVariants as request
-use Rattle.cluster_retries.specs.Routing.{after_redirect, after_reset, redirect_of, redirect_to, redirected, routing_reset, without_link}
+use Rattle.cluster_retries.specs.Routing.{after_redirect, after_reset, redirect_to, redirected, routing_reset, without_link}
 use Rattle.cluster_retries.specs.RoutingLaws.{AddressIsFollowed, NeitherIsLeft, NoAddressLeavesAll, OnceIsEnough, RedirectIsForgotten, RequestStays, link_of, redirect_in, sent, single_routing}
 
 no_link : (route : SingleNodeRoute) → link_of (without_link route) ≡ None

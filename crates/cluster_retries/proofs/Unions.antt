@@ -1,6 +1,6 @@
 -- Addresses that are put in their places: in any order, each once.
 use Rattle.std.proofs.Common.{◌≡◌, ◌&&◌, ◌||◌, Bool, true, false, if◌then◌else◌, List, [], ◌∷◌, ◌++◌, refl, sym, ap, subst, ◌∙◌, append_assoc, append-nil}
-use Rattle.std.specs.List.{list_all, list_any}
+use Rattle.std.specs.List.{list_all}
 use Rattle.std.proofs.lemmas.List.Folds.{list_any-append}
 use Rattle.containers.proofs.Choices.{both_left, both_right, left_if, taken_if}
 use Rattle.slot_hash.specs.declared.address.NodeAddress.{NodeAddress}
@@ -113,6 +113,7 @@ ordered_inserted a (x ∷ xs) o = by (side a x) (ordered_inserted a xs (both_rig
   where
     above : list_all (address_less x) xs ≡ true
     above = both_left (list_all (address_less x) xs) (in_order xs) o
+
     by : Side a x → in_order (inserted a xs) ≡ true → in_order (inserted a (x ∷ xs)) ≡ true
     by (before h) rest =
         ap in_order (here a x xs h)

@@ -4,7 +4,6 @@ use Rattle.resp_write.specs.Command.{Command, CommandList}
 use Rattle.slot_hash.specs.declared.address.NodeAddress.{NodeAddress}
 use Rattle.slot_hash.specs.Address.{address_of}
 use Rattle.cluster_retries.specs.declared.request_routing.Redirect.{Redirect}
-use Rattle.cluster_retries.specs.declared.request_routing.Redirect.TheVariants.{Ask, Moved}
 use Rattle.cluster_retries.specs.declared.request_routing.SingleNodeRoute.{SingleNodeRoute}
 use Rattle.cluster_retries.specs.declared.request_routing.SingleNodeRoute.TheVariants.{Random, SpecificNode, ByAddress, Connection}
 use Rattle.cluster_retries.specs.declared.request_routing.InternalSingleNodeRouting.{InternalSingleNodeRouting}

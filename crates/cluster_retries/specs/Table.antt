@@ -1,5 +1,5 @@
 -- What follows the end of a round in a cluster.
-use Rattle.std.specs.Prelude.{◌≡◌, ℕ, nat_lt, Bool, true, false, List, Option, Some, None}
+use Rattle.std.specs.Prelude.{ℕ, nat_lt, Bool, true, false, List, Option, Some, None}
 use Rattle.resp_value.specs.declared.retry_method.RetryMethod.{RetryMethod}
 use Rattle.resp_value.specs.declared.retry_method.RetryMethod.TheVariants.{Reconnect, NoRetry, RetryImmediately, WaitAndRetry, AskRedirect, MovedRedirect, ReconnectFromInitialConnections, RefreshSlotsAndRetry}
 use Rattle.redis_error.specs.declared.redis_error.RedisError.{RedisError}
@@ -9,7 +9,6 @@ use Rattle.cluster_retries.specs.declared.retry_params.RetryParams.{RetryParams}
 use Rattle.cluster_retries.specs.declared.round_end.OperationTarget.{OperationTarget}
 use Rattle.cluster_retries.specs.declared.round_end.OperationTarget.TheVariants.{Node, NotFound, FanOut}
 use Rattle.cluster_retries.specs.declared.round_end.RoundEnd.{RoundEnd}
-use Rattle.cluster_retries.specs.declared.choosing.Next.{Next}
 use Rattle.cluster_retries.specs.declared.choosing.Next.TheVariants.{Answered, Pending, AtOnce, Sleep}
 use Rattle.cluster_retries.specs.declared.choosing.RecoveryAction.{RecoveryAction}
 use Rattle.cluster_retries.specs.declared.choosing.RecoveryAction.TheVariants as action

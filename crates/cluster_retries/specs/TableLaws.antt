@@ -1,11 +1,12 @@
 -- What follows the end of a round, in the words of a cluster's user.
-use Rattle.std.specs.Prelude.{◌≡◌, ◌≢◌, ℕ, Bool, true, false, List, Some, None, codes}
+use Rattle.std.specs.Prelude.{◌≡◌, ◌≢◌, ℕ, Bool, true, false, List, codes}
 use Rattle.std.specs.List.{All}
 use Rattle.resp_value.specs.declared.retry_method.RetryMethod.TheVariants.{NoRetry, ReconnectFromInitialConnections}
 use Rattle.resp_value.specs.declared.server_error.ServerError.{ServerError}
 use Rattle.resp_value.specs.declared.value.Value.{Value}
 use Rattle.resp_value.specs.Data.{Data, error}
 use Rattle.resp_value.specs.ErrorTable.{method_of}
+use Rattle.resp_value.specs.Redirect.{IsRedirect}
 use Rattle.resp_value.specs.View.{data_of}
 use Rattle.redis_error.specs.declared.redis_error.RedisError.{RedisError}
 use Rattle.redis_error.specs.declared.redis_error.RedisError.TheVariants as fault
@@ -18,7 +19,7 @@ use Rattle.cluster_retries.specs.declared.round_end.RoundEnd.TheVariants as ende
 use Rattle.cluster_retries.specs.declared.choosing.Next.TheVariants.{Answered, Pending, AtOnce}
 use Rattle.cluster_retries.specs.declared.choosing.RecoveryAction.TheVariants as action
 use Rattle.cluster_retries.specs.declared.choosing.Row.{Row}
-use Rattle.cluster_retries.specs.Table.{answered, following}
+use Rattle.cluster_retries.specs.Table.{IsLed, answered, following}
 
 -- a value that no command is tried again for: it is no server error, or one that no method retries
 abbrev pub IsGood : Data → Type 0
@@ -30,11 +31,17 @@ ValuesAreAnswered =
     ((target : OperationTarget) (v : Value) (left : Bool) → IsGood (data_of v) → following target (ended.Value v) left ≡ answered action.None)
     × ((target : OperationTarget) (values : List Data) (left : Bool) → All IsGood values → following target (ended.Many values) left ≡ answered action.None)
 
--- these two ends of a round are that server's error: a value that is it, and the error itself
+-- the end of a round is that error of a server: a value that is it, or the error itself
 abbrev pub EndsBy : RoundEnd → ServerError → Type 0
 EndsBy (ended.Value v) e = data_of v ≡ error e
 EndsBy (ended.Error r) e = r ≡ fault.Server e
 EndsBy (ended.Many values) e = ⊥
+
+-- a redirect of a node leads where it says: to its slot and its address, for the one command alone or for all
+abbrev pub RedirectsLead : Type 0
+RedirectsLead =
+    (address : NodeAddress) (end : RoundEnd) (e : ServerError) (slot : ℕ) (text : List ℕ) (ask : Bool)
+    → EndsBy end e → IsRedirect e slot text ask → IsLed (Node address) end true slot text ask
 
 -- MOVED of a node: at once to where it leads, and the slots are rebuilt
 abbrev pub MovedIsFollowed : Type 0

@@ -126,7 +126,7 @@ impl AddressSet {
         Ok(())
     }
 
-    /// Puts all of these in their places, unless they are there. An error leaves some of them in.
+    /// Puts all of these in their places, unless they are there. After an error any of them may be missing.
     #[tactic(auto, using(crate::proofs::Unions::union_is))]
     pub fn join(&mut self, more: AddressSet) -> Result<(), AllocError>
         ensures { OnOk result (self.new ≡ union self.old more) }

@@ -139,11 +139,7 @@ fn judge(target: &OperationTarget, error: Option<EndError<'_>>, left: bool) -> R
         return Row::answered(RecoveryAction::None);
     };
     let row = Row::of(target, error.retry_method());
-    if left {
-        row
-    } else {
-        Row::answered(row.action)
-    }
+    if left { row } else { Row::answered(row.action) }
 }
 
 /// Where an error leads, where its row follows that.
@@ -151,7 +147,7 @@ fn redirection<'a>(row: Row, error: Option<EndError<'a>>) -> Option<Redirection<
     ensures { MatchOption result
         (IsNotFollowed row.redirected (option_map error_seen error.entry))
         (λ r. IsFollowed row.redirected (option_map error_seen error.entry)
-            r.slot r.address.now r.ask) }
+        r.slot r.address.now r.ask) }
 {
     if !row.redirected {
         return None;

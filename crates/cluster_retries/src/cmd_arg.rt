@@ -33,7 +33,7 @@ impl CmdArg {
     ) -> Result<(), AllocError>
         ensures ok { OnOk result
             (self.new ≡ after_redirect
-                (option_and_then (λ r. redirect_of r.address.now r.ask) to.entry) self.old) }
+            (option_and_then (λ r. redirect_of r.address.now r.ask) to.entry) self.old) }
         ensures err { OnErr result (self.new ≡ self.old) }
     {
         let Some(to) = to else {

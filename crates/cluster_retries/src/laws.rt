@@ -1,5 +1,5 @@
 ghost use Rattle.cluster_retries.specs.WaitLaws.{EachIsDrawn, EachStaysBelow, NoneIsTooLong, NoneIsTooShort};
-ghost use Rattle.cluster_retries.specs.TableLaws.{ActionStays, AskIsFollowed, EachRowIsSound, FanOutAnswers, MovedIsFollowed, ReadOnlyIsRouted, ValuesAreAnswered};
+ghost use Rattle.cluster_retries.specs.TableLaws.{ActionStays, AskIsFollowed, EachRowIsSound, FanOutAnswers, MovedIsFollowed, ReadOnlyIsRouted, RedirectsLead, ValuesAreAnswered};
 ghost use Rattle.cluster_retries.specs.ActionLaws.{Associates, Commutes, InitialTakesAll, NoNodeIsLost, NothingAddsNothing, SlotsTakeAddresses};
 ghost use Rattle.cluster_retries.specs.RoutingLaws.{AddressIsFollowed, NeitherIsLeft, NoAddressLeavesAll, OnceIsEnough, RedirectIsForgotten, RequestStays};
 
@@ -19,8 +19,9 @@ pub fn a_value_is_followed_by_no_round()
 {}
 
 /// Does nothing. Its contract: while retries are left, MOVED of a node leads at once to where it says, and the slots are rebuilt; ASK
-/// leads there and nothing is rebuilt; and READONLY leads back to the slot's own node, after the slots are rebuilt.
+/// leads there and nothing is rebuilt; and READONLY resets the routing, and the slots are rebuilt before the next round.
 pub fn redirects_of_a_node_are_followed()
+    ensures leads { RedirectsLead }
     ensures moved { MovedIsFollowed }
     ensures ask { AskIsFollowed }
     ensures read_only { ReadOnlyIsRouted }

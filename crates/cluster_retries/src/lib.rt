@@ -27,4 +27,4 @@ pub use request_routing::{
 };
 pub use resp_value::Redirection;
 pub use retry_params::{RetryParams, cluster_retry_wait_upper_ms};
-pub use round_end::{OperationTarget, RoundEnd};
+pub use round_end::{EndError, OperationTarget, RoundEnd};

@@ -19,7 +19,7 @@ pub enum PollFlushAction {
 
 impl PollFlushAction {
     /// This action and the next one as one: a reconnect to the initial nodes if one of them is that, else a rebuild of the slots if
-    /// one is that, else the repair of each node of both. Only want of memory is refused, and only where both have addresses.
+    /// one is that, else the repair of each node of both. Only want of memory is refused.
     #[tactic(auto, unfolding(crate::specs::Actions::joined))]
     pub fn change_state(self, next: PollFlushAction) -> Result<PollFlushAction, AllocError>
         ensures { IfOk result (λ action. action ≡ joined self next) }

@@ -1,4 +1,4 @@
-ghost use Rattle.std.specs.Prelude.{◌≡◌, MatchOption, None, Some};
+ghost use Rattle.std.specs.Prelude.{◌≡◌, IfOk, MatchOption, None, Some};
 ghost use Rattle.std.specs.Option.{option_map};
 ghost use Rattle.resp_value.specs.View.{data_of, list_view};
 ghost use Rattle.redis_error.specs.Errors.{error_method};
@@ -8,6 +8,7 @@ ghost use Rattle.cluster_retries.specs.Ends.{error_in, error_of, error_seen, fir
 use redis_error::RedisError;
 use resp_value::{Redirection, RetryMethod, ServerError, Value, Values};
 use slot_hash::NodeAddress;
+use std::alloc::{AllocError, Global};
 
 /// Where a round of a request went.
 #[derive(Drop)]
@@ -91,6 +92,16 @@ impl RoundEnd {
 }
 
 impl<'a> EndError<'a> {
+    /// The error that is answered, as a value of its own. Only want of memory is refused.
+    pub fn to_error(self, alloc: Global) -> Result<RedisError, AllocError>
+        ensures { IfOk result (λ e. e ≡ error_seen self.entry) }
+    {
+        match self {
+            EndError::Server(error) => Ok(RedisError::Server(error.clone(alloc)?)),
+            EndError::Other(error) => error.clone(alloc),
+        }
+    }
+
     /// How its request is tried again.
     pub fn retry_method(self) -> RetryMethod
         ensures { result ≡ error_method (error_seen self.entry) }

@@ -43,6 +43,17 @@ fn waits_are_drawn_between_their_bounds(rt: HostRuntime) {
     assert_eq!(rt; endless.wait_time_for_retry(1, 5_000), u64::MAX);
 }
 
+#[test]
+fn a_clone_of_parameters_is_equal(rt: HostRuntime) -> Result<(), AllocError> {
+    let params = RetryParams {
+        number_of_retries: 3,
+        ..RetryParams::default()
+    };
+    let same = params.clone()? == params && params != RetryParams::default();
+    assert!(rt; same);
+    Ok(())
+}
+
 /// Where a round went.
 #[derive(Clone, Copy)]
 enum Went {
@@ -376,6 +387,29 @@ fn ends_are_followed_by_the_table(rt: HostRuntime) -> Result<(), AllocError> {
     for case in &FOLLOWED {
         assert!(rt; follows(rt.alloc(), case)?);
     }
+    Ok(())
+}
+
+/// Whether an end counts as a server's error of this code.
+fn counts_as(alloc: Global, end: &RoundEnd, code: &[u8]) -> Result<bool, AllocError> {
+    let Some(error) = end.error() else {
+        return Ok(false);
+    };
+    let copy = error.to_error(alloc)?;
+    Ok(has_code(&copy, code))
+}
+
+fn has_code(error: &RedisError, code: &[u8]) -> bool {
+    match error.code() {
+        Some(other) => other == code,
+        None => false,
+    }
+}
+
+#[test]
+fn a_pipeline_counts_as_its_first_error(rt: HostRuntime) -> Result<(), AllocError> {
+    let end = end(rt.alloc(), Ended::RefusedInPart(b"MOVED", b"1 a:2"))?;
+    assert!(rt; counts_as(rt.alloc(), &end, b"MOVED")?);
     Ok(())
 }
 
