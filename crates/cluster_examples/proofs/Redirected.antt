@@ -1,8 +1,7 @@
 -- Ends of a round that lead to `foo:1234`, for the slot 123.
-use Rattle.std.proofs.Common.{◌≡◌, ℕ, Bool, true, false, List, ◌∷◌, ◌++◌, Some, refl, lit<}
+use Rattle.std.proofs.Common.{◌≡◌, ℕ, Bool, true, false, List, Some, refl, lit<}
 use Rattle.std.specs.Prelude.{codes}
 use Rattle.std.specs.Str.Parse.{IsNumeral}
-use Rattle.resp_value.specs.declared.server_error.ServerError.{ServerError}
 use Rattle.resp_value.specs.ErrorTable.{method_of}
 use Rattle.resp_value.specs.Redirect.{IsPlace, IsRedirect, is_for_one_command}
 use Rattle.cluster_retries.specs.Table.{IsLed, IsNotLed, following}

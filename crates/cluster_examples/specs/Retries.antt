@@ -1,15 +1,11 @@
 -- How requests are tried again: waits, what follows the ends of rounds, and what is repaired.
-use Rattle.std.specs.Prelude.{ℕ, ◌-◌, ◌^◌, pos, Bool, true, false, List, [], ◌∷◌, Option, Some, None, codes}
+use Rattle.std.specs.Prelude.{ℕ, ◌-◌, ◌^◌, pos, Bool, true, false, List, [], ◌∷◌, Some, codes}
 use Rattle.slot_hash.specs.declared.address.NodeAddress.{NodeAddress}
 use Rattle.resp_value.specs.declared.server_error.ServerError.{ServerError}
-use Rattle.resp_value.specs.declared.value.Value.{Value}
 use Rattle.resp_value.specs.declared.value.Value.TheVariants as value
-use Rattle.resp_value.specs.Data.{Data, nil, int, okay, error}
-use Rattle.redis_error.specs.declared.fault_kind.FaultKind.{FaultKind}
+use Rattle.resp_value.specs.Data.{Data, int, error}
 use Rattle.redis_error.specs.declared.fault_kind.FaultKind.TheVariants as link
-use Rattle.redis_error.specs.declared.redis_error.RedisError.{RedisError}
 use Rattle.redis_error.specs.declared.redis_error.RedisError.TheVariants as fault
-use Rattle.cluster_retries.specs.declared.retry_params.RetryParams.{RetryParams}
 use Rattle.cluster_retries.specs.declared.round_end.OperationTarget.{OperationTarget}
 use Rattle.cluster_retries.specs.declared.round_end.OperationTarget.TheVariants.{Node, NotFound, FanOut}
 use Rattle.cluster_retries.specs.declared.round_end.RoundEnd.{RoundEnd}

@@ -1,5 +1,5 @@
 -- Where requests go after a redirect, and after a reset.
-use Rattle.std.specs.Prelude.{ℕ, false, List, [], ◌∷◌, Option, Some, None, codes}
+use Rattle.std.specs.Prelude.{false, List, [], ◌∷◌, Option, Some, None, codes}
 use Rattle.resp_write.specs.Command.{Command, CommandList}
 use Rattle.slot_hash.specs.declared.address.NodeAddress.{NodeAddress}
 use Rattle.command_table.specs.declared.routing.SlotAddr.TheVariants.{Master}
