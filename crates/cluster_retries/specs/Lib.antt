@@ -1,0 +1,9 @@
+pub mod Waits
+pub mod Ends
+pub mod Table
+pub mod Actions
+pub mod Routing
+pub mod WaitLaws
+pub mod TableLaws
+pub mod ActionLaws
+pub mod RoutingLaws

@@ -1,0 +1,7 @@
+//! Tests of a cluster's client, by public calls alone.
+#![tactic(auto)]
+
+#[cfg(test)]
+mod retries;
+#[cfg(test)]
+mod routes;
