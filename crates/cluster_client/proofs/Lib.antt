@@ -1,0 +1,4 @@
+mod Agreeing
+mod Keeping
+mod Refusing
+mod Telling
