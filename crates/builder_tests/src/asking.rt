@@ -1,6 +1,6 @@
 use crate::building::builder;
 use cluster_client::{
-    ClusterClient, ClusterConfig, ClusterKind, ClusterSettings, OverallResponseTimeout, Reads,
+    ClusterClient, ClusterConfig, ClusterKind, ClusterSettings, OverallResponseTimeout,
 };
 use connection_info::{ConnectionInfo, OpenError, ProtocolVersion, RedisConnectionInfo};
 use containers::{Bytes, Names};

@@ -44,15 +44,15 @@ protocol_same RESP2 RESP3 = (λ e. cc, λ e. cc)
 protocol_same RESP3 RESP2 = (λ e. cc, λ e. cc)
 protocol_same RESP3 RESP3 = (λ e. refl, λ e. refl)
 
-text_shared : (set first node : Option (List ℕ)) → is_other_text set first node ≡ false → SharesText set first node
-text_shared (Some s) first node e = λ n h. cc
-text_shared None None node e = λ n h. absurd (h refl)
-text_shared None (Some f) node e = λ n h. (text_same node (Some f)).0 (not_false (is_same_text node (Some f)) e)
+text_shared : (set first said : Option (List ℕ)) → is_other_text set first said ≡ false → SharesText set first said
+text_shared (Some s) first said e = λ n h. cc
+text_shared None None said e = λ n h. absurd (h refl)
+text_shared None (Some f) said e = λ n h. (text_same said (Some f)).0 (not_false (is_same_text said (Some f)) e)
 
-no_other_text : (set first node : Option (List ℕ)) → SharesText set first node → is_other_text set first node ≡ false
-no_other_text (Some s) first node h = refl
-no_other_text None None node h = refl
-no_other_text None (Some f) node h = not_true (is_same_text node (Some f)) ((text_same node (Some f)).1 (h refl (λ e. cc)))
+no_other_text : (set first said : Option (List ℕ)) → SharesText set first said → is_other_text set first said ≡ false
+no_other_text (Some s) first said h = refl
+no_other_text None None said h = refl
+no_other_text None (Some f) said h = not_true (is_same_text said (Some f)) ((text_same said (Some f)).1 (h refl (λ e. cc)))
 
 protocol_shared : (set : Option ProtocolVersion) (first node : ProtocolVersion) → is_other_protocol set first node ≡ false → set ≡ None → node ≡ first
 protocol_shared (Some s) first node e = λ n. cc
@@ -106,7 +106,7 @@ none_of_four true b c d h = let e = h.password in cc
 node_agrees : (params : ClusterParams) (first node : RedisConnectionInfo) → node_fault params first node ≡ None → NodeAgrees params first node
 node_agrees params first node e =
     let passed = all_passed (is_other_text params.password first.password node.password) (is_other_text params.username first.username node.username)
-        (is_other_protocol params.protocol first.protocol node.protocol) (is_other_database (told_by params first).db node.db) e in
+    (is_other_protocol params.protocol first.protocol node.protocol) (is_other_database (told_by params first).db node.db) e in
     record {
       password = text_shared params.password first.password node.password passed.password;
       user = text_shared params.username first.username node.username passed.user;

@@ -80,6 +80,7 @@ node_kept node (is, reads) =
     ap (λ (b : Bool). if b then address_of (url_of node) else None) (is_utf8-from_IsUtf8 (url_of node) is) ∙ reads
 
 nodes_kept : (nodes : List ConnectionInfo) → ReadBack nodes → all_there (map node_said (map url_of nodes)) ≡ Some (map with_library nodes)
+unfolding ReadBack
 nodes_kept [] back = refl
 nodes_kept (node ∷ nodes) back =
     joined_there (node_said (url_of node)) (with_library node) (map node_said (map url_of nodes)) (map with_library nodes)
@@ -150,7 +151,7 @@ middle_alone (Some x) b c e f = cc
 refused_so : (kind : ClusterKind) (client : Cluster) (config : ClusterConfig) (nodes : List ConnectionInfo) (told : RedisConnectionInfo)
     → first_cluster_fault (Some nodes) client.params ≡ None → told_in client.params nodes ≡ Some told
     → first_cluster_fault (Some (map with_library nodes)) (params_said (settings_of kind client (configured client.params config)))
-      ≡ push_fault (params_said (settings_of kind client (configured client.params config))).push_sender told.protocol
+    ≡ push_fault (params_said (settings_of kind client (configured client.params config))).push_sender told.protocol
 refused_so kind client config [] told none e = let found : ◌≡◌ {A = Option RedisConnectionInfo} None (Some told) = e in cc
 refused_so kind client config (first ∷ nodes) told none e =
     let said = params_said (settings_of kind client (configured client.params config)) in
@@ -185,9 +186,6 @@ pub made_keep : {E : Type 0} (kind : ClusterKind) (client : Cluster) (config : C
 made_keep kind client config (Ok words) sound back e = subst (λ (found : ClusterSettings). Keeps client (configured client.params config) found) (sym e) (words_keep kind client config sound back)
 made_keep kind client config (Err x) sound back e = tt
 
--- what changes nothing of a client makes the words of the client itself
-pub own_made : {E : Type 0} (kind : ClusterKind) (client : Cluster) (config : ClusterConfig) (r : Result ClusterSettings E) → config ≡ own_config client.params → IfOk r (λ words. words ≡ settings_of kind client (configured client.params config)) → IfOk r (λ words. words ≡ settings_of kind client client.params)
-own_made kind client config r e made = subst (λ (own : ClusterConfig). IfOk r (λ (words : ClusterSettings). words ≡ settings_of kind client (configured client.params own))) e made
-
+-- and so does what is made under a configuration that changes nothing
 pub own_keep : {E : Type 0} (kind : ClusterKind) (client : Cluster) (config : ClusterConfig) (r : Result ClusterSettings E) → config ≡ own_config client.params → IfOk r (Keeps client (configured client.params config)) → IfOk r (Keeps client client.params)
 own_keep kind client config r e keeps = subst (λ (own : ClusterConfig). IfOk r (Keeps client (configured client.params own))) e keeps

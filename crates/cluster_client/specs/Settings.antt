@@ -156,7 +156,7 @@ pub record Keeps (client : Cluster) (params : ClusterParams) (s : ClusterSetting
   pub refused : first_cluster_fault (nodes_said s) (params_said s) ≡ push_fault params.push_sender client.told.protocol
 
 -- each of these addresses can be read from the URL that is written for it
-abbrev pub ReadBack : List ConnectionInfo → Type 0
+unfoldable pub ReadBack : List ConnectionInfo → Type 0
 ReadBack nodes = All ReadsBack nodes
 
 -- either memory was wanted, or one of these addresses can't be read from the URL that is written for it

@@ -30,6 +30,20 @@ impl Model for ClusterClientBuilder {
     ghost view = { λ b. record { nodes = b.initial_nodes; params = b.params; overall = b.overall } };
 }
 
+/// The address that this names, if it names one.
+fn address<T: IntoConnectionInfo>(
+    alloc: Global,
+    named: T,
+) -> Result<Option<ConnectionInfo>, AllocError>
+    ensures { IfOk result (λ found. found ≡ T.address named) }
+{
+    match named.into_connection_info(alloc) {
+        Ok(info) => Ok(Some(info)),
+        Err(OpenError::NoMemory) => Err(AllocError),
+        Err(_) => Ok(None),
+    }
+}
+
 /// The addresses that these name, none where one of them names none.
 fn addresses<T: IntoConnectionInfo + Drop>(
     alloc: Global,
@@ -40,11 +54,10 @@ fn addresses<T: IntoConnectionInfo + Drop>(
     let mut left = Queue::from_vec(named);
     let mut found = Seq::new(alloc);
     while let Some(one) = left.pop_front() {
-        match one.into_connection_info(alloc) {
-            Ok(info) => found.push(info)?,
-            Err(OpenError::NoMemory) => return Err(AllocError),
-            Err(_) => return Ok(None),
-        }
+        let Some(info) = address(alloc, one)? else {
+            return Ok(None);
+        };
+        found.push(info)?;
     }
     Ok(Some(found))
 }
@@ -133,8 +146,8 @@ impl ClusterClientBuilder {
     /// milliseconds. 10 and 2 without it.
     pub fn retry_wait_formula(mut self, factor: u64, exponent_base: u64) -> Self
         ensures { result ≡ record self {
-            params = record self.params { retry_factor = factor; retry_exponent_base = exponent_base }
-            } }
+          params = record self.params { retry_factor = factor; retry_exponent_base = exponent_base };
+        } }
     {
         self.params.retry_factor = factor;
         self.params.retry_exponent_base = exponent_base;
@@ -161,8 +174,8 @@ impl ClusterClientBuilder {
     /// otherwise. Without it there is no limit.
     pub fn response_timeout(mut self, timeout: u64) -> Self
         ensures { result ≡ record self {
-            params = record self.params { response_timeout = Some timeout }
-            } }
+          params = record self.params { response_timeout = Some timeout };
+        } }
     {
         self.params.response_timeout = Some(timeout);
         self
@@ -206,8 +219,8 @@ impl ClusterClientBuilder {
     /// which the last of an address counts. Everything else goes by the node's own address.
     pub fn node_address_map(mut self, map: Vec<(NodeAddress, NodeAddress)>) -> Self
         ensures { result ≡ record self {
-            params = record self.params { node_address_map = map.items }
-            } }
+          params = record self.params { node_address_map = map.items };
+        } }
     {
         self.params.node_address_map = AddressMap::from_vec(map);
         self
@@ -216,8 +229,8 @@ impl ClusterClientBuilder {
     /// How many permits each connection has, at least one. Without it there is no limit.
     pub fn connection_concurrency_limit(mut self, limit: u32) -> Self
         ensures { result ≡ record self {
-            params = record self.params { connection_concurrency_limit = Some limit }
-            } }
+          params = record self.params { connection_concurrency_limit = Some limit };
+        } }
     {
         self.params.connection_concurrency_limit = Some(limit);
         self
@@ -226,8 +239,8 @@ impl ClusterClientBuilder {
     /// From how many unwritten bytes on no message of a connection starts; 8,192 without it.
     pub fn write_backpressure_boundary(mut self, bytes: u64) -> Self
         ensures { result ≡ record self {
-            params = record self.params { write_backpressure_boundary = bytes }
-            } }
+          params = record self.params { write_backpressure_boundary = bytes };
+        } }
     {
         self.params.write_backpressure_boundary = bytes;
         self
@@ -245,8 +258,8 @@ impl ClusterClientBuilder {
     pub fn max_connection_attempts(mut self, attempts: u32) -> Self
         requires { 0 < attempts }
         ensures { result ≡ record self {
-            params = record self.params { max_connection_attempts = Some attempts }
-            } }
+          params = record self.params { max_connection_attempts = Some attempts };
+        } }
     {
         self.params.max_connection_attempts = Some(attempts);
         self

@@ -113,10 +113,7 @@ fn limit_fault(limit: Option<u32>) -> Option<ConfigName>
 }
 
 /// What of these nodes and settings is refused first, if anything is.
-pub(crate) fn cluster_fault(
-    nodes: &[ConnectionInfo],
-    params: &ClusterParams,
-) -> Option<ConfigName>
+pub(crate) fn cluster_fault(nodes: &[ConnectionInfo], params: &ClusterParams) -> Option<ConfigName>
     ensures { result ≡ first_cluster_fault (Some nodes.now) params.now }
 {
     let Some(first) = nodes.first() else {

@@ -36,10 +36,7 @@ pub(crate) fn library(skips: bool) -> Option<bool>
 }
 
 /// How long a request may take as a whole is given where that isn't how long a node may take to answer.
-pub(crate) fn overall(
-    response: Option<u64>,
-    overall: Option<u64>,
-) -> Option<OverallResponseTimeout>
+pub(crate) fn overall(response: Option<u64>, overall: Option<u64>) -> Option<OverallResponseTimeout>
     ensures { result ≡ overall_given response overall }
 {
     if overall == response {

@@ -1,6 +1,6 @@
 use Rattle.cluster_client.specs.declared.settings.ClusterKind.TheVariants.{Cluster}
 use Rattle.cluster_client.proofs.Keeping.{made_keep}
-use Rattle.cluster_client.proofs.makers.ClusterClient.get_async_connection_with_config.Goals as goal
+use Rattle.cluster_client.proofs.client.ClusterClient.get_async_connection_with_config.Goals as goal
 
 pub returns-clause-keeps : goal.returns-clause-keeps
 returns-clause-keeps c =

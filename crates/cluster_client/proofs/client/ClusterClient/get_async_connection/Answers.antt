@@ -1,15 +1,8 @@
 use Rattle.std.proofs.Common.{◌≡◌, ap, ◌∙◌}
 use Rattle.cluster_client.specs.Config.{own_config}
 use Rattle.cluster_client.specs.declared.settings.ClusterKind.TheVariants.{Cluster}
-use Rattle.cluster_client.proofs.Keeping.{made_keep, own_made, own_keep}
-use Rattle.cluster_client.proofs.makers.ClusterClient.get_async_connection.Goals as goal
-
-pub returns-clause-value : goal.returns-clause-value
-returns-clause-value c =
-    let client = c.args.self.now in
-    let config = c.own_config-config.result in
-    let own : config ≡ own_config client.params = c.own_config-config.ensures ∙ ap own_config c.params.ensures in
-    own_made Cluster client config c.settings.result own c.settings.ensures.value
+use Rattle.cluster_client.proofs.Keeping.{made_keep, own_keep}
+use Rattle.cluster_client.proofs.client.ClusterClient.get_async_connection.Goals as goal
 
 pub returns-clause-keeps : goal.returns-clause-keeps
 returns-clause-keeps c =
