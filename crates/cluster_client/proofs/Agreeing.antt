@@ -1,5 +1,5 @@
 -- Nothing is refused exactly where the nodes agree.
-use Rattle.std.proofs.Common.{◌≡◌, ◌≢◌, ◌↔◌, ℕ, zero, ℤ, pos, ◌==◌, Bool, true, false, ◌&&◌, not, List, [], ◌∷◌, bytes_eq, Option, Some, None, is_none, is_some, Decides, refl, sym, ap, subst, ◌∙◌, if◌then◌else◌}
+use Rattle.std.proofs.Common.{◌≡◌, ◌≢◌, ◌↔◌, ℕ, ℤ, pos, ◌==◌, Bool, true, false, ◌&&◌, not, List, [], ◌∷◌, Option, Some, None, Decides, refl, sym, ap, ◌∙◌, if◌then◌else◌}
 use Rattle.std.specs.Prelude.{slice_get}
 use Rattle.std.specs.Option.{option_or}
 use Rattle.std.specs.Ordering.{int_eq}
@@ -13,7 +13,6 @@ use Rattle.connection_info.specs.declared.address.ConnectionInfo.{ConnectionInfo
 use Rattle.connection_info.specs.declared.address.RedisConnectionInfo.{RedisConnectionInfo}
 use Rattle.connection_info.specs.declared.protocol.ProtocolVersion.{ProtocolVersion}
 use Rattle.connection_info.specs.declared.protocol.ProtocolVersion.TheVariants.{RESP2, RESP3}
-use Rattle.connection_info.specs.Protocol.{is_resp3}
 use Rattle.cluster_client.specs.declared.params.ClusterParams.{ClusterParams}
 use Rattle.cluster_client.specs.Chosen.{told_by}
 use Rattle.cluster_client.specs.Checks.{is_same_text, is_same_protocol, is_other_text, is_other_protocol, is_other_database, node_fault, nodes_fault, push_fault, limit_fault, fault_from, first_cluster_fault}

@@ -1,6 +1,6 @@
 -- The words that a client makes keep what it is.
 use Rattle.std.proofs.Common.{◌≡◌, ℕ, Bool, true, false, not, List, [], ◌∷◌, map, Option, Some, None, Result, Ok, Err, IfOk, OnOk, nat_eq, refl, sym, ap, subst, ◌∙◌, if◌then◌else◌}
-use Rattle.std.specs.Prelude.{unwrap_or, option_map, option_and_then, slice_get}
+use Rattle.std.specs.Prelude.{unwrap_or, option_map, option_and_then}
 use Rattle.std.specs.Option.{option_or}
 use Rattle.std.proofs.lemmas.Str.{is_utf8-from_IsUtf8}
 use Rattle.std.proofs.lemmas.Bool.{eqb-true}
@@ -13,7 +13,6 @@ use Rattle.connection_info.specs.declared.address.RedisConnectionInfo.{RedisConn
 use Rattle.connection_info.specs.Address.{address_of}
 use Rattle.connection_info.specs.Written.{url_of, with_library, ReadsBack}
 use Rattle.cluster_client.specs.declared.params.ClusterParams.{ClusterParams}
-use Rattle.cluster_client.specs.declared.params.OverallResponseTimeout.{OverallResponseTimeout}
 use Rattle.cluster_client.specs.declared.params.OverallResponseTimeout.TheVariants.{MatchResponseTimeout, Explicit}
 use Rattle.cluster_client.specs.declared.config.ClusterConfig.{ClusterConfig}
 use Rattle.cluster_client.specs.declared.settings.ClusterKind.{ClusterKind}
@@ -25,7 +24,7 @@ use Rattle.cluster_client.specs.Client.{Cluster, IsSound, all_there, overall_of}
 use Rattle.redis_error.specs.declared.config_name.ConfigName.{ConfigName}
 use Rattle.cluster_client.specs.Checks.{node_fault, nodes_fault, push_fault, limit_fault, first_cluster_fault}
 use Rattle.cluster_client.proofs.Agreeing.{or_left, or_right}
-use Rattle.cluster_client.specs.Settings.{number_given, switch_given, library_given, time_given, overall_given, reads_given, map_given, settings_of, node_said, nodes_said, strategy_said, params_said, overall_said, with_word, told_said, unused, Keeps, ReadBack}
+use Rattle.cluster_client.specs.Settings.{number_given, switch_given, library_given, time_given, overall_given, reads_given, map_given, settings_of, node_said, strategy_said, params_said, with_word, told_said, unused, Keeps, ReadBack}
 
 number_if : (default value : ℕ) (b : Bool) → nat_eq value default ≡ b → unwrap_or (if b then None else Some value) default ≡ value
 number_if default value true e = sym (eqb-true value default e)

@@ -1,5 +1,5 @@
 -- What of a cluster's client is refused.
-use Rattle.std.specs.Prelude.{◌≡◌, ⊤, ℕ, ℤ, pos, ◌==◌, Bool, true, false, ◌&&◌, not, List, [], ◌∷◌, bytes_eq, Option, Some, None, is_none, is_some, unwrap_or, slice_get, if◌then◌else◌}
+use Rattle.std.specs.Prelude.{◌≡◌, ⊤, ℕ, ℤ, pos, ◌==◌, Bool, true, false, ◌&&◌, not, List, [], ◌∷◌, bytes_eq, Option, Some, None, is_none, is_some, slice_get, if◌then◌else◌}
 use Rattle.std.specs.Option.{option_or}
 use Rattle.std.specs.Ordering.{int_eq}
 use Rattle.redis_error.specs.declared.config_name.ConfigName.{ConfigName}

@@ -1,5 +1,5 @@
 -- What is said to every node of a cluster.
-use Rattle.std.specs.Prelude.{ℕ, List, Option, Some, None, option_map, unwrap_or, slice_get}
+use Rattle.std.specs.Prelude.{List, Option, option_map, unwrap_or, slice_get}
 use Rattle.std.specs.Option.{option_or}
 use Rattle.connection_info.specs.declared.address.ConnectionInfo.{ConnectionInfo}
 use Rattle.connection_info.specs.declared.address.RedisConnectionInfo.{RedisConnectionInfo}

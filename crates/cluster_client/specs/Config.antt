@@ -1,5 +1,5 @@
 -- What of a client is changed for one connection.
-use Rattle.std.specs.Prelude.{Bool, false, ◌||◌, Some, None, unwrap_or}
+use Rattle.std.specs.Prelude.{false, ◌||◌, None, unwrap_or}
 use Rattle.cluster_client.specs.declared.params.ClusterParams.{ClusterParams}
 use Rattle.cluster_client.specs.declared.config.ClusterConfig.{ClusterConfig}
 

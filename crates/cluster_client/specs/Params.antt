@@ -1,5 +1,5 @@
 -- What is set of a cluster's client where nothing is said.
-use Rattle.std.specs.Prelude.{false, [], Some, None}
+use Rattle.std.specs.Prelude.{false, [], None}
 use Rattle.cluster_client.specs.declared.params.ClusterParams.{ClusterParams}
 
 -- as the Rust crate has it
