@@ -1,0 +1,5 @@
+mod Agreeing
+mod Gathering
+mod Keeping
+mod Refusing
+mod Telling

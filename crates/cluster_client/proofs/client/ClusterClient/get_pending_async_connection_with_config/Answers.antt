@@ -1,0 +1,7 @@
+use Rattle.cluster_client.specs.declared.settings.ClusterKind.TheVariants.{Pending}
+use Rattle.cluster_client.proofs.Keeping.{made_keep}
+use Rattle.cluster_client.proofs.client.ClusterClient.get_pending_async_connection_with_config.Goals as goal
+
+pub returns-clause-keeps : goal.returns-clause-keeps
+returns-clause-keeps c =
+    made_keep Pending c.args.self.now c.args.config.now c.settings.result c.settings.ensures.sound c.settings.ensures.read c.settings.ensures.value
