@@ -1,0 +1,7 @@
+mod Choosing
+mod Awaited
+mod Given
+mod Creating
+mod Told
+mod Ended
+mod Failing
