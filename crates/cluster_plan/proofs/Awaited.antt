@@ -143,11 +143,11 @@ refresh_open answers entries rows =
     after_first_open answers entries rows (until_good NotFound (first_replies entries answers))
     (until_open answers NotFound (first_replies entries answers) (first_open answers entries))
 
-begun_open : (answers : List Answered) (entries new : List NodeEntry) (rows : List SlotRow) → GoesOnFrom answers (begun_anew entries rows answers new).next
+begun_open : (answers : List Answered) (entries new : List NodeEntry) (rows : List SlotRow) → GoesOnFrom answers (begun_anew NotFound entries rows answers new).next
 begun_open answers entries [] rows = tt
 begun_open answers entries (e ∷ es) rows = refresh_open answers (in_address_order (e ∷ es)) []
 
-after_tries_open : (answers : List Answered) (entries : List NodeEntry) (rows : List SlotRow) (nodes : List (NodeAddress × Reached)) (xs : List Ask) → AreUnanswered answers xs → GoesOnFrom answers (after_tries entries rows answers nodes xs).next
+after_tries_open : (answers : List Answered) (entries : List NodeEntry) (rows : List SlotRow) (nodes : List (NodeAddress × Reached)) (xs : List Ask) → AreUnanswered answers xs → GoesOnFrom answers (after_tries NotFound entries rows answers nodes xs).next
 after_tries_open answers entries rows nodes [] h = begun_open answers entries (arrived nodes) rows
 after_tries_open answers entries rows nodes (x ∷ xs) h = (omega arith, all_open answers (x ∷ xs) h)
 

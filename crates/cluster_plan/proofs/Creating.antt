@@ -18,7 +18,7 @@ use Rattle.cluster_plan.specs.declared.recovery_kind.Failure.TheVariants.{Create
 use Rattle.cluster_plan.specs.Asks.{Answered, answer_to, link_told, error_told, part_number}
 use Rattle.cluster_plan.specs.Reached.{Reached, connect, brought, connected, asked_for, arrived}
 use Rattle.cluster_plan.specs.Refresh.{Next, asks, failed, Reply, awaited, good, bad, until_good, first_replies, second_replies, visited, arrivals, all_asked, after_second, after_first}
-use Rattle.cluster_plan.specs.Initial.{tries, last_failure, in_address_order, begun_anew, after_tries}
+use Rattle.cluster_plan.specs.Initial.{tries, last_failure, later_failure, in_address_order, begun_anew, after_tries}
 use Rattle.cluster_plan.specs.Plan.{plan}
 use Rattle.cluster_plan.specs.Laws.{ConnectsEach, HasFailed, FailsWhereNone, LastCounts, ReconnectsWhereNone}
 
@@ -90,22 +90,22 @@ same_error x y e = cc
 abbrev pub FailsBy : List Answered → RedisError → List (NodeAddress × Reached) → Type 0
 FailsBy answers error nodes = OthersCameToNothing nodes × (error ≡ last_failure NotFound answers)
 
-begun_fails : (entries new : List NodeEntry) (rows : List SlotRow) (answers : List Answered) (error : RedisError) → (begun_anew entries rows answers new).next ≡ failed (Create error) → (new ≡ []) × (error ≡ last_failure NotFound answers)
+begun_fails : (entries new : List NodeEntry) (rows : List SlotRow) (answers : List Answered) (error : RedisError) → (begun_anew NotFound entries rows answers new).next ≡ failed (Create error) → (new ≡ []) × (error ≡ last_failure NotFound answers)
 begun_fails entries [] rows answers error e = (refl, same_error (last_failure NotFound answers) error e)
 begun_fails entries (n ∷ ns) rows answers error e =
     absurd (first_no_creation (in_address_order (n ∷ ns)) [] answers (until_good NotFound (first_replies (in_address_order (n ∷ ns)) answers)) error e)
 
-tries_fail : (entries : List NodeEntry) (rows : List SlotRow) (answers : List Answered) (error : RedisError) (nodes : List (NodeAddress × Reached)) (xs : List Ask) → (after_tries entries rows answers nodes xs).next ≡ failed (Create error) → (xs ≡ []) × (arrived nodes ≡ []) × (error ≡ last_failure NotFound answers)
+tries_fail : (entries : List NodeEntry) (rows : List SlotRow) (answers : List Answered) (error : RedisError) (nodes : List (NodeAddress × Reached)) (xs : List Ask) → (after_tries NotFound entries rows answers nodes xs).next ≡ failed (Create error) → (xs ≡ []) × (arrived nodes ≡ []) × (error ≡ last_failure NotFound answers)
 tries_fail entries rows answers error nodes [] e =
     let parts : (arrived nodes ≡ []) × (error ≡ last_failure NotFound answers) = begun_fails entries (arrived nodes) rows answers error e in
     (refl, parts.0, parts.1)
 tries_fail entries rows answers error nodes (x ∷ xs) e = absurd (cc)
 
-so_it_fails : (entries : List NodeEntry) (rows : List SlotRow) (answers : List Answered) (error : RedisError) (nodes : List (NodeAddress × Reached)) (xs : List Ask) (new : List NodeEntry) → xs ≡ [] → new ≡ [] → arrived nodes ≡ new → error ≡ last_failure NotFound answers → (after_tries entries rows answers nodes xs).next ≡ failed (Create error)
+so_it_fails : (entries : List NodeEntry) (rows : List SlotRow) (answers : List Answered) (error : RedisError) (nodes : List (NodeAddress × Reached)) (xs : List Ask) (new : List NodeEntry) → xs ≡ [] → new ≡ [] → arrived nodes ≡ new → error ≡ last_failure NotFound answers → (after_tries NotFound entries rows answers nodes xs).next ≡ failed (Create error)
 so_it_fails entries rows answers error nodes (x ∷ xs) new e f g h = absurd (cc)
 so_it_fails entries rows answers error nodes [] (n ∷ ns) e f g h = absurd (cc)
 so_it_fails entries rows answers error nodes [] [] e f g h =
-    ap (λ new. (begun_anew entries rows answers new).next) g ∙ ap (λ last. failed (Create last)) (sym h)
+    ap (λ new. (begun_anew NotFound entries rows answers new).next) g ∙ ap (λ last. failed (Create last)) (sym h)
 
 pub fails_where_none : FailsWhereNone
 unfolding plan
@@ -130,12 +130,12 @@ not_initial (Attempt n) h = grind (arith, nat_tests)
 pub left_last : (last : RedisError) (after : List Answered) → All (λ x. x.0.part ≢ Initial) after → last_failure last after ≡ last
 left_last last [] h = refl
 left_last last (x ∷ after) h =
-    ap (λ b. last_failure (if b then error_told x.1 else last) after) (not_initial x.0.part (All-head (λ y. y.0.part ≢ Initial) x after h))
+    ap (λ b. last_failure (if b then later_failure (link_told x.1) (error_told x.1) last else last) after) (not_initial x.0.part (All-head (λ y. y.0.part ≢ Initial) x after h))
     ∙ left_last last after (All-tail (λ y. y.0.part ≢ Initial) x after h)
 
 last_from : (last : RedisError) (before after : List Answered) (a : NodeAddress) (error : RedisError) → All (λ x. x.0.part ≢ Initial) after → last_failure last (before ++ (connect Initial a, answer.Failed error) ∷ after) ≡ error
 last_from last [] after a error h = left_last error after h
-last_from last (x ∷ before) after a error h = last_from (if part_number x.0.part == part_number Initial then error_told x.1 else last) before after a error h
+last_from last (x ∷ before) after a error h = last_from (if part_number x.0.part == part_number Initial then later_failure (link_told x.1) (error_told x.1) last else last) before after a error h
 
 pub last_counts : LastCounts
 last_counts before after a error h = last_from NotFound before after a error h

@@ -13,11 +13,11 @@ use Rattle.cluster_plan.specs.declared.asks.Answer.{Answer}
 use Rattle.cluster_plan.specs.declared.connections.NodeEntry.{NodeEntry}
 use Rattle.cluster_plan.specs.declared.recovery_kind.Failure.TheVariants.{Create}
 use Rattle.cluster_plan.specs.declared.recovery_kind.RecoveryKind.TheVariants as kind
-use Rattle.cluster_plan.specs.Asks.{Answered, answer_to, is_ask, passes, error_told, part_number}
+use Rattle.cluster_plan.specs.Asks.{Answered, answer_to, is_ask, link_told, passes, error_told, part_number}
 use Rattle.cluster_plan.specs.Connections.{connected_link, link_of, link_to, entry}
 use Rattle.cluster_plan.specs.Reached.{Reached, asked, by_link, by_none, connect, check, connected, connecting, checked, reached, asked_for, arrived}
 use Rattle.cluster_plan.specs.Refresh.{failed, Plan, Reply, awaited, good, bad, query, replied, queried, until_good, by_connected, first_replies, state_after, reached_again, reply_where, second_replies, behind, visited, arrivals, all_asked, renewed_by, renewed, after_second, second_pass, after_first, refresh}
-use Rattle.cluster_plan.specs.Initial.{tries, last_failure, in_address_order, begun_anew, after_tries, initial}
+use Rattle.cluster_plan.specs.Initial.{tries, last_failure, later_failure, in_address_order, begun_anew, after_tries, initial}
 use Rattle.cluster_plan.specs.Plan.{plan}
 use Rattle.cluster_plan.specs.Laws.{HasEnded, StaysEnded}
 use Rattle.cluster_plan.proofs.Creating.{left_last}
@@ -31,7 +31,7 @@ same_kept : (o later : Option Answer) → later ≡ o → KeepsAnswer o later
 same_kept None later e = tt
 same_kept (Some found) later e = e
 
-answer_kept : (x : Ask) (answers more : List Answered) → KeepsAnswer (answer_to x answers) (answer_to x (answers ++ more))
+pub answer_kept : (x : Ask) (answers more : List Answered) → KeepsAnswer (answer_to x answers) (answer_to x (answers ++ more))
 answer_kept x [] more = tt
 answer_kept x (a ∷ answers) more =
     elim (is_ask x a.0) as (λ b. KeepsAnswer (if b then Some a.1 else answer_to x answers) (if b then Some a.1 else answer_to x (answers ++ more)))
@@ -77,7 +77,7 @@ one_kept a (asked x) later rest others h e g = absurd (cc)
 one_kept a (by_link link) later rest others h e g = let f : others ≡ rest = g e in λ i. (a, h i) ∷ f i
 one_kept a (by_none error) later rest others h e g = let f : others ≡ rest = g e in λ i. (a, h i) ∷ f i
 
-tries_kept : (nodes : List NodeAddress) (answers more : List Answered) → asked_for (tries nodes answers) ≡ [] → tries nodes (answers ++ more) ≡ tries nodes answers
+pub tries_kept : (nodes : List NodeAddress) (answers more : List Answered) → asked_for (tries nodes answers) ≡ [] → tries nodes (answers ++ more) ≡ tries nodes answers
 tries_kept [] answers more e = refl
 tries_kept (a ∷ rest) answers more e =
     one_kept a (connecting Initial a answers) (connecting Initial a (answers ++ more)) (tries rest answers) (tries rest (answers ++ more))
@@ -126,7 +126,7 @@ one_first_kept last answers more a None rs others g = g last
 one_first_kept last answers more a (Some link) rs others g =
     until_kept last (queried First a link answers) (queried First a link (answers ++ more)) rs others (queried_kept answers more First a link) g
 
-first_kept : (last : RedisError) (entries : List NodeEntry) (answers more : List Answered) → KeepsReply (until_good last (first_replies entries answers)) (until_good last (first_replies entries (answers ++ more)))
+pub first_kept : (last : RedisError) (entries : List NodeEntry) (answers more : List Answered) → KeepsReply (until_good last (first_replies entries answers)) (until_good last (first_replies entries (answers ++ more)))
 first_kept last [] answers more = refl
 first_kept last (e ∷ es) answers more =
     one_first_kept last answers more e.address (connected_link e.state) (first_replies es answers) (first_replies es (answers ++ more))
@@ -136,7 +136,7 @@ second_one_kept : (e : NodeEntry) (answers more : List Answered) → KeepsReply 
 second_one_kept e answers more =
     where_kept answers more e.address (reached_again e answers) (reached_again e (answers ++ more)) (reached_kept answers more Second e.address (link_of e.state))
 
-second_kept : (last : RedisError) (entries : List NodeEntry) (answers more : List Answered) → KeepsReply (until_good last (second_replies entries answers)) (until_good last (second_replies entries (answers ++ more)))
+pub second_kept : (last : RedisError) (entries : List NodeEntry) (answers more : List Answered) → KeepsReply (until_good last (second_replies entries answers)) (until_good last (second_replies entries (answers ++ more)))
 second_kept last [] answers more = refl
 second_kept last (e ∷ es) answers more =
     until_kept last (reply_where e.address (reached_again e answers) answers) (reply_where e.address (reached_again e (answers ++ more)) (answers ++ more))
@@ -148,7 +148,7 @@ IsThere (awaited x) = ⊥
 IsThere (good rows) = Unit {0}
 IsThere (bad error) = Unit {0}
 
-kept_reply : (r later : Reply) → KeepsReply r later → IsThere r → later ≡ r
+pub kept_reply : (r later : Reply) → KeepsReply r later → IsThere r → later ≡ r
 kept_reply (awaited x) later h is = absurd is
 kept_reply (good rows) later h is = h
 kept_reply (bad error) later h is = h
@@ -180,7 +180,7 @@ reached_there a (asked x) later answers h is = absurd is
 reached_there a (by_link link) later answers h is = h
 reached_there a (by_none error) later answers h is = h
 
-visited_kept : (last : RedisError) (entries : List NodeEntry) (answers more : List Answered) → IsThere (until_good last (second_replies entries answers)) → visited entries (answers ++ more) ≡ visited entries answers
+pub visited_kept : (last : RedisError) (entries : List NodeEntry) (answers more : List Answered) → IsThere (until_good last (second_replies entries answers)) → visited entries (answers ++ more) ≡ visited entries answers
 visited_kept last [] answers more is = refl
 visited_kept last (e ∷ es) answers more is =
     let r : Reply = reply_where e.address (reached_again e answers) answers in
@@ -198,7 +198,7 @@ visited_kept last (e ∷ es) answers more is =
 abbrev pub Stays : (List Answered → Plan) → List Answered → List Answered → Type 0
 Stays p answers more = HasEnded (p answers).next → p (answers ++ more) ≡ p answers
 
-none_asked : (xs : List Ask) → HasEnded (all_asked xs) → xs ≡ []
+pub none_asked : (xs : List Ask) → HasEnded (all_asked xs) → xs ≡ []
 none_asked [] h = refl
 none_asked (x ∷ xs) h = absurd h
 
@@ -245,25 +245,25 @@ refresh_stays entries rows answers more h =
 
 last_kept : (last : RedisError) (answers more : List Answered) → All (λ x. x.0.part ≢ Initial) more → last_failure last (answers ++ more) ≡ last_failure last answers
 last_kept last [] more h = left_last last more h
-last_kept last (x ∷ answers) more h = last_kept (if part_number x.0.part == part_number Initial then error_told x.1 else last) answers more h
+last_kept last (x ∷ answers) more h = last_kept (if part_number x.0.part == part_number Initial then later_failure (link_told x.1) (error_told x.1) last else last) answers more h
 
-begun_stays : (entries new : List NodeEntry) (rows : List SlotRow) (answers more : List Answered) → All (λ x. x.0.part ≢ Initial) more → HasEnded (begun_anew entries rows answers new).next → begun_anew entries rows (answers ++ more) new ≡ begun_anew entries rows answers new
+begun_stays : (entries new : List NodeEntry) (rows : List SlotRow) (answers more : List Answered) → All (λ x. x.0.part ≢ Initial) more → HasEnded (begun_anew NotFound entries rows answers new).next → begun_anew NotFound entries rows (answers ++ more) new ≡ begun_anew NotFound entries rows answers new
 begun_stays entries [] rows answers more g h =
     let same : last_failure NotFound (answers ++ more) ≡ last_failure NotFound answers = last_kept NotFound answers more g in
     λ i. record { entries = entries; rows = rows; held = []; next = failed (Create (same i)) }
 begun_stays entries (n ∷ ns) rows answers more g h = refresh_stays (in_address_order (n ∷ ns)) [] answers more h
 
-tries_stay : (entries : List NodeEntry) (rows : List SlotRow) (answers more : List Answered) (nodes : List (NodeAddress × Reached)) (xs : List Ask) → All (λ x. x.0.part ≢ Initial) more → HasEnded (after_tries entries rows answers nodes xs).next → (xs ≡ []) × (after_tries entries rows (answers ++ more) nodes [] ≡ after_tries entries rows answers nodes xs)
+tries_stay : (entries : List NodeEntry) (rows : List SlotRow) (answers more : List Answered) (nodes : List (NodeAddress × Reached)) (xs : List Ask) → All (λ x. x.0.part ≢ Initial) more → HasEnded (after_tries NotFound entries rows answers nodes xs).next → (xs ≡ []) × (after_tries NotFound entries rows (answers ++ more) nodes [] ≡ after_tries NotFound entries rows answers nodes xs)
 tries_stay entries rows answers more nodes [] g h = (refl, begun_stays entries (arrived nodes) rows answers more g h)
 tries_stay entries rows answers more nodes (x ∷ xs) g h = absurd h
 
 initial_stays : (nodes : List NodeAddress) (entries : List NodeEntry) (rows : List SlotRow) (answers more : List Answered) → All (λ x. x.0.part ≢ Initial) more → Stays (initial nodes entries rows) answers more
 initial_stays nodes entries rows answers more g h =
-    let parts : (asked_for (tries nodes answers) ≡ []) × (after_tries entries rows (answers ++ more) (tries nodes answers) [] ≡ after_tries entries rows answers (tries nodes answers) (asked_for (tries nodes answers))) =
+    let parts : (asked_for (tries nodes answers) ≡ []) × (after_tries NotFound entries rows (answers ++ more) (tries nodes answers) [] ≡ after_tries NotFound entries rows answers (tries nodes answers) (asked_for (tries nodes answers))) =
     tries_stay entries rows answers more (tries nodes answers) (asked_for (tries nodes answers)) g h in
     let same : tries nodes (answers ++ more) ≡ tries nodes answers = tries_kept nodes answers more parts.0 in
-    ap (λ ts. after_tries entries rows (answers ++ more) ts (asked_for ts)) same
-    ∙ ap (after_tries entries rows (answers ++ more) (tries nodes answers)) parts.0
+    ap (λ ts. after_tries NotFound entries rows (answers ++ more) ts (asked_for ts)) same
+    ∙ ap (after_tries NotFound entries rows (answers ++ more) (tries nodes answers)) parts.0
     ∙ parts.1
 
 pub stays_ended : StaysEnded

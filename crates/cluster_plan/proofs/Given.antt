@@ -78,7 +78,7 @@ attempt_waits a entries rows attempts n answers =
     (attempted_waits a entries rows n r (reached_no_wait (Attempt n) a (link_in (state_at a entries)) answers)) tt)
     tt
 
-by_state : (P : Plan → Type 0) (state : Option ConnState) (entries : List NodeEntry) (rows : List SlotRow) (p : Plan) → P (repaired entries rows) → P p → P (while_not_connected state entries rows p)
+pub by_state : (P : Plan → Type 0) (state : Option ConnState) (entries : List NodeEntry) (rows : List SlotRow) (p : Plan) → P (repaired entries rows) → P p → P (while_not_connected state entries rows p)
 by_state P None entries rows p h g = g
 by_state P (Some (Connected link)) entries rows p h g = h
 by_state P (Some (Reconnecting link)) entries rows p h g = g

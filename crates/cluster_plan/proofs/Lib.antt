@@ -5,3 +5,8 @@ mod Creating
 mod Told
 mod Ended
 mod Failing
+mod Staying
+mod Repairing
+mod Skipping
+mod Settling
+mod Beginning

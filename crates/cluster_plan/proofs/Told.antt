@@ -117,11 +117,11 @@ refresh_well entries rows answers e =
     first_well entries rows answers (until_good NotFound (first_replies entries answers))
     (until_by answers NotFound (first_replies entries answers) (first_by answers entries)) e
 
-begun_well : (entries new : List NodeEntry) (rows : List SlotRow) (answers : List Answered) → EndsWell answers (begun_anew entries rows answers new)
+begun_well : (entries new : List NodeEntry) (rows : List SlotRow) (answers : List Answered) → EndsWell answers (begun_anew NotFound entries rows answers new)
 begun_well entries [] rows answers e = absurd (cc)
 begun_well entries (n ∷ ns) rows answers e = refresh_well (in_address_order (n ∷ ns)) [] answers e
 
-tries_well : (entries : List NodeEntry) (rows : List SlotRow) (answers : List Answered) (nodes : List (NodeAddress × Reached)) (xs : List Ask) → EndsWell answers (after_tries entries rows answers nodes xs)
+tries_well : (entries : List NodeEntry) (rows : List SlotRow) (answers : List Answered) (nodes : List (NodeAddress × Reached)) (xs : List Ask) → EndsWell answers (after_tries NotFound entries rows answers nodes xs)
 tries_well entries rows answers nodes [] e = begun_well entries (arrived nodes) rows answers e
 tries_well entries rows answers nodes (x ∷ xs) e = absurd (cc)
 

@@ -1,5 +1,5 @@
 -- What is true of every plan.
-use Rattle.std.specs.Prelude.{◌≡◌, ◌≢◌, ◌<◌, ◌↔◌, ℕ, ◌++◌, List, [], ◌∷◌, map, length, Option, Some, None}
+use Rattle.std.specs.Prelude.{◌≡◌, ◌≢◌, ◌<◌, ◌↔◌, ◌⊎◌, ℕ, ◌+◌, ◌++◌, false, List, [], ◌∷◌, map, length, Option, Some, None}
 use Rattle.std.specs.List.{All, Contains}
 use Rattle.redis_error.specs.declared.redis_error.RedisError.{RedisError}
 use Rattle.redis_error.specs.declared.redis_error.RedisError.TheVariants.{NotFound}
@@ -10,7 +10,7 @@ use Rattle.mux_routing.specs.declared.rows.SlotRow.{SlotRow}
 use Rattle.mux_routing.specs.Reply.{rows_of}
 use Rattle.mux_routing.specs.Shards.{addresses}
 use Rattle.cluster_plan.specs.declared.asks.Part.{Part}
-use Rattle.cluster_plan.specs.declared.asks.Part.TheVariants.{Initial}
+use Rattle.cluster_plan.specs.declared.asks.Part.TheVariants.{Initial, Attempt}
 use Rattle.cluster_plan.specs.declared.asks.Request.{Request}
 use Rattle.cluster_plan.specs.declared.asks.Request.TheVariants as request
 use Rattle.cluster_plan.specs.declared.asks.Ask.{Ask}
@@ -22,11 +22,13 @@ use Rattle.cluster_plan.specs.declared.connections.NodeEntry.{NodeEntry}
 use Rattle.cluster_plan.specs.declared.recovery_kind.Failure.TheVariants.{Create}
 use Rattle.cluster_plan.specs.declared.recovery_kind.RecoveryKind.{RecoveryKind}
 use Rattle.cluster_plan.specs.declared.recovery_kind.RecoveryKind.TheVariants as kind
-use Rattle.cluster_plan.specs.Asks.{Answered, answer_to, link_told}
+use Rattle.cluster_plan.specs.Asks.{Answered, answer_to, is_ask, link_told}
+use Rattle.cluster_plan.specs.Connections.{put, without}
 use Rattle.cluster_plan.specs.Reached.{connect}
 use Rattle.cluster_plan.specs.Refresh.{Next, asks, ok, failed, query}
 use Rattle.cluster_plan.specs.Initial.{last_failure}
 use Rattle.cluster_plan.specs.Plan.{plan}
+use Rattle.cluster_plan.specs.Repair.{waits_over}
 
 -- the end, or at least one ask, and asks alone that have no answer
 abbrev pub GoesOnFrom : List Answered → Next → Type 0
@@ -97,6 +99,13 @@ IsTold answers rows =
 abbrev pub IsConnected : ConnState → Type 0
 IsConnected state = (link : ℕ) × (state ≡ Connected link)
 
+-- what a recovery asks for, it goes on to ask for while other asks are answered
+abbrev pub StaysAsked : Type 0
+StaysAsked =
+    (kind : RecoveryKind) (nodes : List NodeAddress) (entries : List NodeEntry) (rows : List SlotRow) (attempts : Option ℕ) (answers : List Answered) (x y : Ask) (found : Answer)
+    → IsRecovery kind → IsGiven x (plan kind nodes entries rows attempts answers).next → IsGiven y (plan kind nodes entries rows attempts answers).next
+    → is_ask x y ≡ false → IsGiven x (plan kind nodes entries rows attempts (answers ++ (y, found) ∷ [])).next
+
 -- a recovery that ends well has the rows that some node told, and its map has nodes of these rows alone, all connected
 abbrev pub EndsWithRows : Type 0
 EndsWithRows =
@@ -141,3 +150,26 @@ abbrev pub ReconnectsWhereNone : Type 0
 ReconnectsWhereNone =
     (nodes : List NodeAddress) (rows : List SlotRow) (attempts : Option ℕ) (answers : List Answered)
     → plan kind.Slots nodes [] rows attempts answers ≡ plan kind.Initial nodes [] rows attempts answers
+
+abbrev pub ChangesOne : NodeAddress → List NodeEntry → List SlotRow → Plan → Type 0
+ChangesOne a entries rows p =
+    (p.rows ≡ rows) × ((p.entries ≡ entries) ⊎ ((p.entries ≡ without a entries) ⊎ ((link : ℕ) × (p.entries ≡ put a (Connected link) entries))))
+
+-- a repair that hasn't ended asks one thing of its own attempt: that behind the waits that have fired
+abbrev pub RepairAsksOne : Type 0
+RepairAsksOne =
+    (a : NodeAddress) (nodes : List NodeAddress) (entries : List NodeEntry) (rows : List SlotRow) (attempts : Option ℕ) (answers : List Answered)
+    → ((plan (kind.Repair a) nodes entries rows attempts answers).next ≡ ok)
+    ⊎ ((x : Ask) × ((plan (kind.Repair a) nodes entries rows attempts answers).next ≡ asks (x ∷ [])) × (x.part ≡ Attempt (waits_over answers + 1)) × (x.address ≡ a))
+
+-- it makes no more attempts than are set
+abbrev pub RepairKeepsToAttempts : Type 0
+RepairKeepsToAttempts =
+    (a : NodeAddress) (nodes : List NodeAddress) (entries : List NodeEntry) (rows : List SlotRow) (most : ℕ) (answers : List Answered)
+    → ((plan (kind.Repair a) nodes entries rows (Some most) answers).next ≡ ok) ⊎ (waits_over answers < most)
+
+-- of the map it changes its own entry alone, and of the rows nothing
+abbrev pub RepairChangesOne : Type 0
+RepairChangesOne =
+    (a : NodeAddress) (nodes : List NodeAddress) (entries : List NodeEntry) (rows : List SlotRow) (attempts : Option ℕ) (answers : List Answered)
+    → ChangesOne a entries rows (plan (kind.Repair a) nodes entries rows attempts answers)

@@ -6,3 +6,5 @@ pub mod Initial
 pub mod Repair
 pub mod Plan
 pub mod Laws
+pub mod Progress
+pub mod Connects

@@ -74,3 +74,22 @@ comes_of_leaving =
 
 abbrev pub other_stands : Plan
 other_stands = record { entries = entry (node 7_000) (state.Connected 1) ∷ []; rows = both_halves 7_000 7_001; held = []; next = ok }
+
+-- the order of the failures counts
+abbrev pub refused_last : List Answered
+refused_last = (connect Initial (node 7_001), reset) ∷ (connect Initial (node 7_000), refused) ∷ []
+
+-- and that of other answers doesn't
+abbrev pub leaves_otherwise : List Answered
+leaves_otherwise =
+    (connect Initial (node 7_000), Connected 1)
+    ∷ (connect Initial (node 7_001), Connected 0)
+    ∷ (query First (node 7_000) 1, slots_at_both 7_000 7_001)
+    ∷ (check Last (node 7_000) 1, okay)
+    ∷ (check Last (node 7_001) 0, reset)
+    ∷ (connect Last (node 7_001), refused)
+    ∷ []
+
+-- what wasn't asked is no answer
+abbrev pub not_asked : List Answered
+not_asked = (connect Initial (node 7_001), Connected 9) ∷ (connect Last (node 7_000), Connected 8) ∷ (query First (node 7_000) 0, slots_at 7_000) ∷ []

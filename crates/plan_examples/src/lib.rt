@@ -3,7 +3,13 @@
 
 ghost use Rattle.std.specs.Prelude.{◌≡◌, [], ◌∷◌, map};
 ghost use Rattle.cluster_plan.specs.declared.connections.ConnState.TheVariants as state;
+ghost use Rattle.redis_error.specs.declared.fault_kind.FaultKind.TheVariants.{Refused, Reset};
+ghost use Rattle.redis_error.specs.declared.redis_error.RedisError.TheVariants.{Io};
+ghost use Rattle.cluster_plan.specs.declared.asks.Part.TheVariants.{Initial};
+ghost use Rattle.cluster_plan.specs.declared.recovery_kind.Failure.TheVariants.{Create};
 ghost use Rattle.cluster_plan.specs.Connections.{mark_reconnecting};
+ghost use Rattle.cluster_plan.specs.Reached.{connect};
+ghost use Rattle.cluster_plan.specs.Refresh.{asks, failed};
 ghost use Rattle.cluster_plan.specs.Repair.{wait_ms};
 ghost use Rattle.plan_examples.specs.Reconnects as reconnect;
 ghost use Rattle.plan_examples.specs.Refreshes as refresh;
@@ -19,6 +25,16 @@ pub fn reconnects_go_so()
         ≡ reconnect.comes_of_one_of_two }
     ensures leaves { story reconnect.of_two reconnect.one_leaves ≡ reconnect.comes_of_leaving }
     ensures leaves_ends { reconnect.of_two reconnect.one_leaves ≡ reconnect.other_stands }
+{}
+
+/// Does nothing. Its contract: the order of failures counts, and that of other answers doesn't; and what wasn't asked is
+/// no answer.
+pub fn failures_are_in_order()
+    ensures refused { (reconnect.of_two reconnect.refused_last).next ≡ failed (Create (Io Refused)) }
+    ensures reset { (reconnect.of_two reconnect.both_refused).next ≡ failed (Create (Io Reset)) }
+    ensures others { reconnect.of_two reconnect.leaves_otherwise ≡ reconnect.other_stands }
+    ensures not_asked { (reconnect.of_one reconnect.not_asked).next
+        ≡ asks (connect Initial (node 7_000) ∷ []) }
 {}
 
 /// Does nothing. Its contract: what a refresh asks after each answer, and how it ends.
