@@ -61,7 +61,7 @@ of_attempt P a entries rows attempts n answers h g =
     (if is_set n attempts then attempted a entries rows n (reached (Attempt n) a (link_in (state_at a entries)) answers) else repaired (without a entries) rows)
     (repaired (without a entries) rows)
     (elim (is_set n attempts) as (λ b. (is_set n attempts ≡ b → P (if b then attempted a entries rows n (reached (Attempt n) a (link_in (state_at a entries)) answers) else repaired (without a entries) rows)))
-        [ true ↦ h | false ↦ λ e. g ] refl)
+    [ true ↦ h | false ↦ λ e. g ] refl)
     g
 
 of_repair : (P : Plan → Type 0) (a : NodeAddress) (entries : List NodeEntry) (rows : List SlotRow) (attempts : Option ℕ) (answers : List Answered)
@@ -77,7 +77,7 @@ unfolding plan
 asks_one a nodes entries rows attempts answers =
     of_repair (AsksOne a (waits_over answers + 1)) a entries rows attempts answers (inl refl) (inl refl)
     (λ is. attempted_asks a entries rows (waits_over answers + 1) (reached (Attempt (waits_over answers + 1)) a (link_in (state_at a entries)) answers)
-        (reached_of (Attempt (waits_over answers + 1)) a (link_in (state_at a entries)) answers))
+    (reached_of (Attempt (waits_over answers + 1)) a (link_in (state_at a entries)) answers))
 
 set_below : (k most : ℕ) → (if nat_lt most (k + 1) then false else true) ≡ true → k < most
 set_below k most e = grind (arith, nat_tests)

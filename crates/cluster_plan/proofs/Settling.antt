@@ -1,5 +1,6 @@
 -- What an answer to an initial connect makes of the connects goes on as they did with that answer.
-use Rattle.std.proofs.Common.{◌≡◌, ℕ, ◌==◌, ◌&&◌, Bool, true, false, List, [], ◌∷◌, ◌++◌, map, Option, Some, None, Result, Ok, Err, refl, sym, ◌∙◌, ap, subst, arith, if◌then◌else◌}
+use Rattle.std.proofs.Common.{◌≡◌, ℕ, ◌≤◌, ◌==◌, ◌&&◌, Bool, true, false, List, [], ◌∷◌, ◌++◌, map, length, take, drop, Option, Some, None, refl, sym, ◌∙◌, ap, subst, arith, if◌then◌else◌}
+use Rattle.std.proofs.lemmas.List.{take-append-le, take_all}
 use Rattle.redis_error.specs.declared.redis_error.RedisError.{RedisError}
 use Rattle.redis_error.specs.declared.redis_error.RedisError.TheVariants.{NotFound}
 use Rattle.slot_hash.specs.declared.address.NodeAddress.{NodeAddress}
@@ -40,9 +41,10 @@ brought_alike (Some link) a error more = refl
 -- a node that is being connected, with or without an answer to it in front
 connecting_alike : (a b : NodeAddress) (found : Answer) (more : List Answered) → Alike (connecting Initial b (behind_connect a found more)) (goes_by Initial b (if same_address b a then progress_by (link_told found) else Connecting) more)
 connecting_alike a b found more =
-    elim (same_address b a) as (λ same. Alike (connected (connect Initial b) (if same then Some found else answer_to (connect Initial b) more)) (goes_by Initial b (if same then progress_by (link_told found) else Connecting) more))
-    [ true ↦ brought_alike (link_told found) b (error_told found) more
-    | false ↦ same_alike (connecting Initial b more) (connecting Initial b more) refl ]
+    elim (same_address b a) as (λ same. Alike (connected (connect Initial b) (if same then Some found else answer_to (connect Initial b) more)) (goes_by Initial b (if same then progress_by (link_told found) else Connecting) more)) [
+      | true ↦ brought_alike (link_told found) b (error_told found) more
+      | false ↦ same_alike (connecting Initial b more) (connecting Initial b more) refl
+    ]
 
 goes_alike : (a b : NodeAddress) (found : Answer) (p : Progress) (more : List Answered) → Alike (goes_by Initial b p (behind_connect a found more)) (goes_by Initial b (settled_by (same_address b a) (link_told found) p) more)
 goes_alike a b found Connecting more = connecting_alike a b found more
@@ -55,12 +57,13 @@ AllAlike (x ∷ xs) later = (r : Reached) × (rest : List (NodeAddress × Reache
 
 all_alike : (a : NodeAddress) (found : Answer) (ts : List Tried) (more : List Answered) → AllAlike (go_on Initial ts (behind_connect a found more)) (go_on Initial (map (settled a (link_told found)) ts) more)
 all_alike a found [] more = refl
-all_alike a found (t ∷ ts) more =
-    (goes_by Initial t.address (settled_by (same_address t.address a) (link_told found) t.progress) more,
-    go_on Initial (map (settled a (link_told found)) ts) more,
-    refl,
-    goes_alike a t.address found t.progress more,
-    all_alike a found ts more)
+all_alike a found (t ∷ ts) more = (
+  goes_by Initial t.address (settled_by (same_address t.address a) (link_told found) t.progress) more,
+  go_on Initial (map (settled a (link_told found)) ts) more,
+  refl,
+  goes_alike a t.address found t.progress more,
+  all_alike a found ts more,
+)
 
 -- so what is asked for, what arrived and what is held are the same
 asked_one : (a : NodeAddress) (r later : Reached) (more others : List (NodeAddress × Reached)) → Alike r later → asked_for others ≡ asked_for more → asked_for ((a, later) ∷ others) ≡ asked_for ((a, r) ∷ more)
@@ -110,3 +113,22 @@ answered_same a found last ts entries rows more =
     let alike : AllAlike xs later = all_alike a found ts more in
     ap (after_tries (later_failure (link_told found) (error_told found) last) entries rows more later) (asked_same xs later alike)
     ∙ tries_same a found last entries rows more xs later (asked_for xs) (arrived_same xs later alike) (links_same xs later alike)
+
+pub answered_link : (last : RedisError) (ts later : List Tried) (a : NodeAddress) (link : ℕ) (entries : List NodeEntry) (rows : List SlotRow) (more : List Answered) → later ≡ map (settled a (Some link)) ts
+    → after_tries last entries rows more (go_on Initial later more) (asked_for (go_on Initial later more))
+    ≡ after_tries last entries rows ((connect Initial a, answer.Connected link) ∷ more) (go_on Initial ts ((connect Initial a, answer.Connected link) ∷ more)) (asked_for (go_on Initial ts ((connect Initial a, answer.Connected link) ∷ more)))
+answered_link last ts later a link entries rows more e =
+    ap (λ l. after_tries last entries rows more (go_on Initial l more) (asked_for (go_on Initial l more))) e ∙ answered_same a (answer.Connected link) last ts entries rows more
+
+pub answered_failure : (last error : RedisError) (ts later : List Tried) (a : NodeAddress) (entries : List NodeEntry) (rows : List SlotRow) (more : List Answered) → later ≡ map (settled a None) ts
+    → after_tries error entries rows more (go_on Initial later more) (asked_for (go_on Initial later more))
+    ≡ after_tries last entries rows ((connect Initial a, answer.Failed error) ∷ more) (go_on Initial ts ((connect Initial a, answer.Failed error) ∷ more)) (asked_for (go_on Initial ts ((connect Initial a, answer.Failed error) ∷ more)))
+answered_failure last error ts later a entries rows more e =
+    ap (λ l. after_tries error entries rows more (go_on Initial l more) (asked_for (go_on Initial l more))) e ∙ answered_same a (answer.Failed error) last ts entries rows more
+
+-- what is written back to a vector through a slice as long as it
+pub whole_items : {A : Type 0} (n : ℕ) (ws xs : List A) → length ws ≡ n → take n (ws ++ drop (length ws) xs) ≡ ws
+whole_items n ws xs e =
+    let enough : n ≤ length ws = omega arith in
+    let all : length ws ≤ n = omega arith in
+    take-append-le n ws (drop (length ws) xs) enough ∙ take_all n ws all

@@ -153,7 +153,7 @@ first_on x y found answers entries rows (bad error) later k h g e =
     let more : List Answered = (y, found) ∷ [] in
     subst (λ r. IsGiven x (after_first entries rows (answers ++ more) r).next) (sym k)
     (second_on x y found answers (visited entries answers) (visited entries (answers ++ more)) rows (until_good NotFound (second_replies entries answers)) (until_good NotFound (second_replies entries (answers ++ more)))
-        (λ there. visited_kept NotFound entries answers more there) (second_kept NotFound entries answers more) h g e)
+    (λ there. visited_kept NotFound entries answers more there) (second_kept NotFound entries answers more) h g e)
 
 refresh_on : (x y : Ask) (found : Answer) (answers : List Answered) (entries : List NodeEntry) (rows : List SlotRow) → Goes x y (refresh entries rows answers) (refresh entries rows (answers ++ (y, found) ∷ []))
 refresh_on x y found answers entries rows h g e =

@@ -25,7 +25,7 @@ use Rattle.cluster_plan.specs.declared.recovery_kind.RecoveryKind.TheVariants as
 use Rattle.cluster_plan.specs.Asks.{Answered, answer_to, is_ask, link_told}
 use Rattle.cluster_plan.specs.Connections.{put, without}
 use Rattle.cluster_plan.specs.Reached.{connect}
-use Rattle.cluster_plan.specs.Refresh.{Next, asks, ok, failed, query}
+use Rattle.cluster_plan.specs.Refresh.{Next, asks, ok, failed, Plan, query}
 use Rattle.cluster_plan.specs.Initial.{last_failure}
 use Rattle.cluster_plan.specs.Plan.{plan}
 use Rattle.cluster_plan.specs.Repair.{waits_over}

@@ -11,7 +11,7 @@ ghost use Rattle.cluster_plan.specs.Reached.{arrived, asked_for, connect};
 
 use crate::asks::{Ask, Part, Request};
 use crate::connections::{ConnState, ConnectionMap, NodeEntry};
-use crate::progress::{Progress, Tried, begun, settle_all};
+use crate::progress::{Progress, Tried, begun, settle_nodes};
 use containers::{Queue, Seq};
 use redis_error::RedisError;
 use slot_hash::NodeAddress;
@@ -103,9 +103,9 @@ impl InitialConnects {
             ((connect part.Initial address.now, answer_by told) ∷ more) }
     {
         match told {
-            Ok(link) => settle_all(self.nodes.as_mut_slice(), address, Some(link)),
+            Ok(link) => settle_nodes(&mut self.nodes, address, Some(link)),
             Err(error) => {
-                settle_all(self.nodes.as_mut_slice(), address, None);
+                settle_nodes(&mut self.nodes, address, None);
                 self.last = error;
             }
         }

@@ -14,8 +14,9 @@ pub use connections::{ConnState, ConnectionMap, NodeEntry};
 pub use connects::{InitialConnects, InitialEnd};
 pub use laws::{
     a_plan_ends_or_asks, a_reconnect_asks_each_initial_address,
-    a_recovery_ends_with_rows_that_were_told, a_repair_makes_one_attempt_after_another, each_ask_is_given_once,
-    links_that_failed_end_no_refresh, what_has_ended_stays_ended, what_is_asked_for_stays_so,
+    a_recovery_ends_with_rows_that_were_told, a_repair_makes_one_attempt_after_another,
+    each_ask_is_given_once, links_that_failed_end_no_refresh, what_has_ended_stays_ended,
+    what_is_asked_for_stays_so,
 };
 pub use progress::{Progress, Tried};
 pub use recovery_kind::{Failure, RecoveryKind};

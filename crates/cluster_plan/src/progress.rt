@@ -60,13 +60,20 @@ impl Tried {
 }
 
 /// The connect of an address was answered, with a link or without one.
-pub fn settle_all(nodes: &mut [Tried], address: &NodeAddress, link: Option<u32>)
+fn settle_all(nodes: &mut [Tried], address: &NodeAddress, link: Option<u32>)
     ensures { nodes.new ≡ map (settled address.now link) nodes.old }
 {
     if let Some((first, others)) = nodes.split_first_mut() {
         first.settle(address, link);
         settle_all(others, address, link);
     }
+}
+
+/// The same of all nodes of a vector.
+pub fn settle_nodes(nodes: &mut Vec<Tried>, address: &NodeAddress, link: Option<u32>)
+    ensures { nodes.new.items ≡ map (settled address.now link) nodes.old.items }
+{
+    settle_all(nodes.as_mut_slice(), address, link);
 }
 
 /// These nodes, none of which has an answer.

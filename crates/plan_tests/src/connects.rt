@@ -146,11 +146,7 @@ fn are_connects(asks: &[Ask], ports: &[u16]) -> bool {
     true
 }
 
-fn are_open(
-    alloc: Global,
-    connects: &InitialConnects,
-    ports: &[u16],
-) -> Result<bool, AllocError> {
+fn are_open(alloc: Global, connects: &InitialConnects, ports: &[u16]) -> Result<bool, AllocError> {
     let asks = connects.asks(alloc)?;
     Ok(!connects.is_over() && are_connects(asks.as_slice(), ports))
 }
