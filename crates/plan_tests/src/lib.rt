@@ -1,5 +1,0 @@
-//! Tests of plans, by public calls alone.
-#![tactic(auto)]
-
-#[cfg(test)]
-mod connects;
