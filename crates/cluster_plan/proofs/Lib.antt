@@ -1,0 +1,12 @@
+mod Choosing
+mod Awaited
+mod Given
+mod Creating
+mod Told
+mod Ended
+mod Failing
+mod Staying
+mod Repairing
+mod Skipping
+mod Settling
+mod Beginning

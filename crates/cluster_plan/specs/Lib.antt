@@ -1,0 +1,10 @@
+pub mod Asks
+pub mod Connections
+pub mod Reached
+pub mod Refresh
+pub mod Initial
+pub mod Repair
+pub mod Plan
+pub mod Laws
+pub mod Progress
+pub mod Connects

@@ -1,0 +1,4 @@
+pub mod Stories
+pub mod Reconnects
+pub mod Refreshes
+pub mod Repairs
