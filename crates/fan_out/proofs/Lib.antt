@@ -1,0 +1,4 @@
+pub mod Coming
+pub mod Order
+pub mod Tallying
+pub mod Placing
