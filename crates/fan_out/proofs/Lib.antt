@@ -1,4 +1,7 @@
 pub mod Coming
+pub mod Deciding
 pub mod Order
-pub mod Tallying
 pub mod Placing
+pub mod Summing
+pub mod Tallying
+pub mod Telling

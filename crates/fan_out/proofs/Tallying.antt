@@ -1,5 +1,5 @@
 -- One more count in a tally.
-use Rattle.std.proofs.Common.{◌≡◌, ℕ, ◌+◌, ◌*◌, ◌^◌, ◌<◌, ◌≤◌, ℤ, pos, ◌+ℤ◌, neg_ℤ, ◌≤ℤ◌, Bor, Ordering, Less, Equal, Greater, Bool, true, false, cond, ◌||◌, List, [], ◌∷◌, ◌++◌, length, take, get_or, map, fold, bytes_eq, unwrap_or, Some, refl, sym, ap, ap₂, ◌∙◌, subst, arith, if◌then◌else◌}
+use Rattle.std.proofs.Common.{◌≡◌, ℕ, ◌+◌, ◌^◌, ◌<◌, ℤ, pos, ◌+ℤ◌, Bor, Ordering, Less, Equal, Greater, Bool, true, false, cond, ◌||◌, List, [], ◌∷◌, ◌++◌, length, take, get_or, map, fold, bytes_eq, unwrap_or, Some, refl, sym, ap, ap₂, ◌∙◌, subst, arith, lit<, if◌then◌else◌}
 use Rattle.std.specs.Ordering.{is_eq, match_ordering}
 use Rattle.std.specs.BTreeMap.{insert_entry, is_at}
 use Rattle.std.specs.BTreeSet.{insert_key}
@@ -10,7 +10,10 @@ use Rattle.std.proofs.lemmas.Int.{ints}
 use Rattle.std.proofs.lemmas.List.{map_more}
 use Rattle.std.specs.Int.{w64, w128}
 use Rattle.std.specs.Prelude.{FitsSigned}
+use Rattle.std.specs.List.Sorted.{IsStrictlySortedBy}
+use Rattle.fan_out.specs.Laws.{NamesAscend, SumsStandUnderNames}
 use Rattle.fan_out.specs.Tallies.{Count, byte_order, count_now, names_with, number_for, number_of, sum_for, tally}
+use Rattle.fan_out.proofs.Summing.{IsWithin, wide, within_more}
 use Rattle.fan_out.proofs.Order.{Ascending, Below, ascending_inserted, below_rest, has, has_inserted}
 
 -- names that the order finds equal are equal
@@ -92,6 +95,22 @@ found_number f name (x ∷ xs) zero_if_absent = by (byte_order name x) refl
 pub number_in_tally : (name : List ℕ) (cs : List Count) → number_of name (tally cs) ≡ sum_for name cs
 number_in_tally name cs = found_number (λ n. sum_for n cs) name (names_with [] cs) (λ h. absent name [] (pos 0) cs h)
 
+-- the names of a tally
+only_names : (f : List ℕ → ℤ) (names : List (List ℕ)) → map (λ c. c.0) (each_with f names) ≡ names
+only_names f [] = refl
+only_names f (n ∷ names) = ap (λ ns. n ∷ ns) (only_names f names)
+
+sorted : (names : List (List ℕ)) → Ascending nat_list_cmp_total names → IsStrictlySortedBy byte_order names
+unfolding IsStrictlySortedBy
+sorted [] s = tt
+sorted (n ∷ names) s = (s.0, sorted names s.1)
+
+pub names_stand_in_order : NamesAscend
+names_stand_in_order cs = subst (IsStrictlySortedBy byte_order) (sym (only_names (λ n. sum_for n cs) (names_with [] cs))) (sorted (names_with [] cs) (names_ascend [] cs tt))
+
+pub sums_stand_under_names : SumsStandUnderNames
+sums_stand_under_names cs name = number_in_tally name cs
+
 -- numbers that differ for one name alone are the same behind it
 same_behind : (f g : List ℕ → ℤ) (name : List ℕ) (names : List (List ℕ)) → ((q : List ℕ) → is_eq (byte_order name q) ≡ false → f q ≡ g q) → Below nat_list_cmp_total name names → each_with f names ≡ each_with g names
 same_behind f g name [] others b = refl
@@ -122,11 +141,6 @@ tally_with_one_more cs c =
     ∙ inserted (λ n. sum_for n cs) g c.0 (names_with [] cs) others (names_ascend [] cs tt)
     ∙ ap (each_with g) (sym (names_with_one_more [] cs c))
 
--- a number lies between so many times the least and the greatest of 64 bits
-pub record IsWithin (n : ℕ) (z : ℤ) : Type 0 where
-  pub low : neg_ℤ (pos (2 ^ 63 * n)) ≤ℤ z
-  pub high : z ≤ℤ pos (2 ^ 63 * n)
-
 one_taken : (cs : List (Bor (List ℕ) × ℤ)) (i : ℕ) (x : Bor (List ℕ) × ℤ) → i < length cs → x ≡ get_or cs i x → map count_now (take (i + 1) cs) ≡ map count_now (take i cs) ++ count_now x ∷ []
 one_taken cs i x h is = map_more count_now cs i x h ∙ ap (λ y. map count_now (take i cs) ++ count_now y ∷ []) (sym is)
 
@@ -141,8 +155,8 @@ number_within : (name : List ℕ) (c : Count) (n : ℕ) (z : ℤ) → FitsSigned
 number_within name c n z fits w = by (bytes_eq c.0 name)
   where
     by : (b : Bool) → IsWithin (n + 1) (z +ℤ (if b then c.1 else pos 0))
-    by true = record { low = omega (arith, ints, w.low, w.high, fits); high = omega (arith, ints, w.low, w.high, fits) }
-    by false = record { low = omega (arith, ints, w.low, w.high); high = omega (arith, ints, w.low, w.high) }
+    by true = within_more z c.1 n w fits
+    by false = within_more z (pos 0) n w (record { sfits = lit< tt })
 
 pub still_within : (name : List ℕ) (cs : List (Bor (List ℕ) × ℤ)) (i : ℕ) (x : Bor (List ℕ) × ℤ) → i < length cs → x ≡ get_or cs i x → FitsSigned w64 x.1 → IsWithin i (sum_for name (map count_now (take i cs))) → IsWithin (i + 1) (sum_for name (map count_now (take (i + 1) cs)))
 still_within name cs i x h is fits w =
@@ -154,5 +168,4 @@ still_within name cs i x h is fits w =
 pub fits_once_more : (t cs : List Count) (name : List ℕ) (n : ℤ) (i : ℕ) → i < 2 ^ 64 → t ≡ tally cs → IsWithin i (sum_for name cs) → FitsSigned w64 n → FitsSigned w128 (number_of name t +ℤ n)
 fits_once_more t cs name n i small so_far w fits =
     let e : sum_for name cs ≡ number_of name t = sym (ap (number_of name) so_far ∙ number_in_tally name cs) in
-    let v : IsWithin i (number_of name t) = subst (IsWithin i) e w in
-    grind (arith, ints)
+    wide (number_of name t) n i small (subst (IsWithin i) e w) fits

@@ -1,6 +1,6 @@
 -- Elements of several arrays, each at the place of its key.
 use Rattle.std.specs.Borrow.{Bor}
-use Rattle.std.specs.Prelude.{ℕ, ◌==◌, ◌&&◌, Bool, not, List, [], ◌∷◌, length, map, Option, replicate, slice_set}
+use Rattle.std.specs.Prelude.{ℕ, ◌==◌, ◌&&◌, Bool, not, List, [], ◌∷◌, length, Option, replicate, slice_set}
 use Rattle.std.specs.Option.{option_map}
 use Rattle.std.specs.List.{find, flat_map, zip}
 use Rattle.command_table.specs.declared.routing.Route.{Route}

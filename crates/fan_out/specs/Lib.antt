@@ -6,3 +6,4 @@ pub mod Numbers
 pub mod Arrays
 pub mod Tallies
 pub mod Fold
+pub mod Laws

@@ -1,5 +1,5 @@
 -- Sums, least numbers, and rows of answers.
-use Rattle.std.specs.Prelude.{ℕ, ℤ, pos, ◌+ℤ◌, int_lt, Bool, false, List, [], ◌∷◌, length, map, Option, Some, None, fold, slice_get, if◌then◌else◌}
+use Rattle.std.specs.Prelude.{ℕ, ℤ, pos, ◌+ℤ◌, int_lt, Bool, false, List, [], ◌∷◌, length, map, Option, Some, fold, slice_get, if◌then◌else◌}
 use Rattle.std.specs.Int.{int_min}
 use Rattle.std.specs.List.{list_all, range_with_len, reduce}
 use Rattle.resp_value.specs.Data.{Data, int}

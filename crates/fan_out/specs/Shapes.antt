@@ -1,6 +1,6 @@
 -- The shapes of the values that a policy takes, and what such values hold.
-use Rattle.std.specs.Prelude.{ℕ, ◌==◌, ◌&&◌, ℤ, pos, Bool, true, false, not, List, [], ◌∷◌, length, Option, Some, None}
-use Rattle.std.specs.List.{cons_option, filter_map, find, list_all}
+use Rattle.std.specs.Prelude.{ℕ, ◌==◌, ◌&&◌, Bool, true, false, not, List, [], ◌∷◌, length, Option}
+use Rattle.std.specs.List.{find, list_all}
 use Rattle.resp_value.specs.Data.{Data, int, bulk}
 use Rattle.resp_value.specs.View.{data_of}
 use Rattle.resp_value.specs.declared.value.Value.{Value}

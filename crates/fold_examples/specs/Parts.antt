@@ -1,15 +1,14 @@
 -- Parts of commands to several nodes, as examples have them.
-use Rattle.std.specs.Prelude.{ℕ, ◌+◌, List, [], ◌∷◌, Option, Some, None, codes}
+use Rattle.std.specs.Prelude.{ℕ, List, Option, Some, None, codes}
 use Rattle.command_table.specs.declared.routing.MultipleNodeRoutingInfo.{MultipleNodeRoutingInfo}
 use Rattle.command_table.specs.declared.routing.ResponsePolicy.{ResponsePolicy}
 use Rattle.slot_hash.specs.declared.address.NodeAddress.{NodeAddress}
 use Rattle.resp_value.specs.declared.server_error.ServerError.{ServerError}
 use Rattle.resp_value.specs.declared.value.Value.{Value}
-use Rattle.resp_value.specs.declared.value.Value.TheVariants as value
 use Rattle.redis_error.specs.declared.redis_error.RedisError.{RedisError}
 use Rattle.redis_error.specs.declared.redis_error.RedisError.TheVariants as redis
 use Rattle.fan_out.specs.declared.parts.RoundEnd.{RoundEnd}
-use Rattle.fan_out.specs.declared.parts.RoundEnd.TheVariants as ended
+use Rattle.fan_out.specs.declared.parts.RoundEnd.TheVariants as ends
 use Rattle.fan_out.specs.declared.parts.PartResult.{PartResult}
 use Rattle.fan_out.specs.declared.parts.FoldResult.{FoldResult}
 use Rattle.fan_out.specs.declared.parts.FoldResult.TheVariants as result
@@ -36,11 +35,11 @@ came port number end = record { address = node port; ended = Some (record { arri
 
 -- one that ended with this value
 abbrev pub gave : ℕ → Value → PartResult
-gave number v = came 7000 number (ended.Value v)
+gave number v = came 7000 number (ends.Value v)
 
 -- one that ended with this error
 abbrev pub failed : ℕ → RedisError → PartResult
-failed number e = came 7000 number (ended.Error e)
+failed number e = came 7000 number (ends.Error e)
 
 -- one that hasn't ended
 abbrev pub waits : PartResult

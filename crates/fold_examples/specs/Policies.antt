@@ -1,15 +1,15 @@
 -- Policies by which one part's end is the result, and the map from addresses to replies.
-use Rattle.std.specs.Prelude.{ℕ, ℤ, pos, List, [], ◌∷◌, Option, Some, None, codes}
+use Rattle.std.specs.Prelude.{pos, List, [], ◌∷◌, Option, Some, None, codes}
 use Rattle.command_table.specs.declared.routing.MultipleNodeRoutingInfo.TheVariants.{AllMasters, AllNodes}
 use Rattle.command_table.specs.declared.routing.ResponsePolicy.TheVariants.{AllSucceeded, OneSucceeded, FirstSucceededNonEmptyOrAllEmpty, Special}
 use Rattle.resp_value.specs.Data.{bulk, error}
 use Rattle.resp_value.specs.declared.value.Value.{Value}
 use Rattle.resp_value.specs.declared.value.Value.TheVariants as value
 use Rattle.redis_error.specs.declared.redis_error.RedisError.TheVariants as redis
-use Rattle.fan_out.specs.declared.parts.RoundEnd.TheVariants as ended
+use Rattle.fan_out.specs.declared.parts.RoundEnd.TheVariants as ends
 use Rattle.fan_out.specs.declared.parts.PartResult.{PartResult}
 use Rattle.fan_out.specs.declared.parts.FoldResult.{FoldResult}
-use Rattle.fold_examples.specs.Parts.{Example, Question, came, failed, gave, no_such, not_busy, refused, waits, with_error, with_value}
+use Rattle.fold_examples.specs.Parts.{Example, came, failed, gave, not_busy, refused, waits, with_error, with_value}
 
 abbrev one : Value
 one = value.Int (pos 1)
@@ -34,7 +34,7 @@ under_all =
     ∷ all (failed 4 redis.Closed ∷ failed 4 redis.NotFound ∷ []) (with_error redis.Closed)
     ∷ all (gave 1 value.Okay ∷ gave 2 (value.ServerError refused) ∷ []) (with_value (value.ServerError refused))
     ∷ all (gave 1 (value.ServerError refused) ∷ gave 2 value.Okay ∷ []) (with_value value.Okay)
-    ∷ all (came 7000 1 (ended.Many []) ∷ []) None
+    ∷ all (came 7000 1 (ends.Many []) ∷ []) None
     ∷ []
 
 -- one has to succeed: the value that came first, or else the error that came last
@@ -75,10 +75,10 @@ special parts r = ((Some Special, AllNodes, parts), r)
 abbrev pub under_special : List Example
 under_special =
     special (gave 1 text ∷ waits ∷ []) None
-    ∷ special (came 7000 2 (ended.Value text) ∷ came 7001 1 (ended.Value (value.ServerError refused)) ∷ [])
+    ∷ special (came 7000 2 (ends.Value text) ∷ came 7001 1 (ends.Value (value.ServerError refused)) ∷ [])
         (with_value (value.Map ((bulk (codes "h:7000"), bulk (codes "k")) ∷ (bulk (codes "h:7001"), error refused) ∷ [])))
-    ∷ special (came 7000 1 (ended.Error (redis.Server not_busy)) ∷ []) (with_value (value.Map ((bulk (codes "h:7000"), error not_busy) ∷ [])))
+    ∷ special (came 7000 1 (ends.Error (redis.Server not_busy)) ∷ []) (with_value (value.Map ((bulk (codes "h:7000"), error not_busy) ∷ [])))
     ∷ special (gave 1 text ∷ failed 5 redis.NotFound ∷ failed 2 redis.Closed ∷ []) (with_error redis.NotFound)
-    ∷ ((None, AllNodes, came 6379 1 (ended.Value text) ∷ []), with_value (value.Map ((bulk (codes "h:6379"), bulk (codes "k")) ∷ [])))
+    ∷ ((None, AllNodes, came 6379 1 (ends.Value text) ∷ []), with_value (value.Map ((bulk (codes "h:6379"), bulk (codes "k")) ∷ [])))
     ∷ ((None, AllNodes, failed 1 redis.Closed ∷ waits ∷ []), None)
     ∷ []

@@ -1,5 +1,5 @@
 -- Policies by which the values of all parts become one.
-use Rattle.std.specs.Prelude.{ℕ, ℤ, pos, negsuc, true, List, [], ◌∷◌, Option, Some, None, codes}
+use Rattle.std.specs.Prelude.{ℕ, pos, negsuc, List, [], ◌∷◌, Option, Some, None, codes}
 use Rattle.command_table.specs.declared.routing.MultipleNodeRoutingInfo.{MultipleNodeRoutingInfo}
 use Rattle.command_table.specs.declared.routing.MultipleNodeRoutingInfo.TheVariants.{AllMasters, AllNodes, MultiSlot}
 use Rattle.command_table.specs.declared.routing.ResponsePolicy.TheVariants.{Sum, Min, And, CombineArrays, CombineMaps}

@@ -1,24 +1,22 @@
 -- One key after another is placed: each step keeps that the keys so far are split.
-use Rattle.std.proofs.Common.{◌≡◌, ℕ, zero, suc, ◌+◌, ◌*◌, ◌/◌, ◌%◌, ◌<◌, ◌≤◌, ◌==◌, nat_lt, Bool, true, false, List, [], ◌∷◌, ◌++◌, map, length, length-append, append_assoc, slice_get, Option, Some, None, refl, sym, ap, ◌∙◌, subst, arith, if◌then◌else◌}
-use Rattle.std.specs.List.{flat_map}
+use Rattle.std.proofs.Common.{◌≡◌, ℕ, zero, suc, ◌+◌, ◌/◌, ◌%◌, ◌==◌, nat_lt, Bool, true, false, List, [], ◌∷◌, ◌++◌, map, length, length-append, append_assoc, slice_get, Option, Some, None, refl, sym, ap, ◌∙◌, subst, arith, if◌then◌else◌}
 use Rattle.std.specs.Str.Parse.{digits_value}
 use Rattle.std.proofs.lemmas.Bool.Decides.{nat_tests}
 use Rattle.std.proofs.lemmas.List.{append-nil}
-use Rattle.containers.proofs.Choices.{by_test, eq_from, ne_from}
+use Rattle.containers.proofs.Choices.{eq_from, ne_from}
 use Rattle.slot_hash.specs.Tag.{slot_of}
-use Rattle.command_table.specs.declared.routing.Route.{Route}
 use Rattle.command_table.specs.declared.routing.SlotAddr.{SlotAddr}
 use Rattle.command_table.specs.declared.routing.ResponsePolicy.{ResponsePolicy}
-use Rattle.command_table.specs.declared.routing.MultipleNodeRoutingInfo.TheVariants.{AllNodes, AllMasters, MultiSlot}
+use Rattle.command_table.specs.declared.routing.MultipleNodeRoutingInfo.TheVariants.{MultiSlot}
 use Rattle.command_table.specs.declared.routing.SingleNodeRoutingInfo.TheVariants as single
 use Rattle.command_table.specs.declared.routing.RoutingInfo.{RoutingInfo}
 use Rattle.command_table.specs.declared.routing.RoutingInfo.TheVariants.{SingleNode, MultiNode}
 use Rattle.command_table.specs.declared.commands.Form.{Form}
-use Rattle.command_table.specs.declared.commands.Form.TheVariants.{AllPrimaries, AllNodes as EveryNode, EachKey, EachPair, Random, CountedKey, AfterStreams, SecondKey, FirstKey}
+use Rattle.command_table.specs.declared.commands.Form.TheVariants.{AllPrimaries, AllNodes, EachKey, EachPair, Random, CountedKey, AfterStreams, SecondKey, FirstKey}
 use Rattle.command_table.specs.Lookup.{form_of}
-use Rattle.command_table.specs.Routing.{after_streams, all_are, by_count, by_key, by_slots, is_number, keys_of_pairs, parts_of, placed, placed_all, random, routing_by, routing_of, to_slot}
-use Rattle.command_table.specs.Selection.{is_several, key_count, may_be_several, width}
-use Rattle.route_laws.specs.Split.{AreApart, AreFilled, AreInTheirSlots, EachKeyIsCounted, HaveSlot, NoneIsOf, Parts, RoutesSplitTheKeys, Splits, keys, keys_by, occurrences, places_of}
+use Rattle.command_table.specs.Routing.{after_streams, all_are, by_count, by_key, by_slots, is_number, keys_of_pairs, parts_of, placed, placed_all, random, routing_by, to_slot}
+use Rattle.command_table.specs.Selection.{is_several, width}
+use Rattle.route_laws.specs.Split.{AreApart, AreFilled, AreInTheirSlots, EachKeyIsCounted, HaveSlot, NoneIsOf, Parts, RoutesSplitTheKeys, Splits, keys_by, occurrences, places_of}
 
 -- how often a place stands among two lists
 occurrences-append : (k : ℕ) (is js : List ℕ) → occurrences k (is ++ js) ≡ occurrences k is + occurrences k js
@@ -144,7 +142,7 @@ not_by_count addr (Some count) key parts policy e = by (is_number count) (digits
 
 by_form : (form : Form) (args : List (List ℕ)) (parts : Parts) (policy : Option ResponsePolicy) → routing_by form args ≡ several parts policy → Splits (map slot_of (keys_by form args)) parts
 by_form (AllPrimaries rule) args parts policy e = cc
-by_form (EveryNode rule) args parts policy e = cc
+by_form (AllNodes rule) args parts policy e = cc
 by_form (EachKey addr rule) args parts policy e = subst (Splits (map slot_of args)) (sym (by_its_slots addr rule (map slot_of args) parts policy e)) (parts_split addr (map slot_of args))
 by_form (EachPair addr rule) args parts policy e = by (length args % 2 == 1) e
   where
@@ -174,7 +172,7 @@ counted : (form : Form) (args : List (List ℕ)) → is_several form ≡ true �
 counted (EachKey addr rule) args h = omega arith
 counted (EachPair addr rule) args h = pairs args
 counted (AllPrimaries rule) args h = cc
-counted (EveryNode rule) args h = cc
+counted (AllNodes rule) args h = cc
 counted Random args h = cc
 counted (CountedKey addr) args h = cc
 counted (AfterStreams addr) args h = cc

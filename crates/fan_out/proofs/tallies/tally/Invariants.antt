@@ -1,6 +1,6 @@
 use Rattle.std.proofs.Common.{◌≡◌, ℕ, List, take, map}
 use Rattle.fan_out.specs.Tallies.{count_now, sum_for, tally}
-use Rattle.fan_out.proofs.Tallying.{IsWithin}
+use Rattle.fan_out.proofs.Summing.{IsWithin}
 use Rattle.fan_out.proofs.tallies.tally.Given as goal
 
 -- the sums of the counts so far, and that each lies within as many numbers of 64 bits
