@@ -75,7 +75,7 @@ same_grows : {A : Type 0} (what : RoundEnd → Option A) (last : ℕ) (o : Optio
 same_grows what last None h = tt
 same_grows what last (Some e) h = stays_told last e.arrival (what e.end) h
 
-behind_told : {A : Type 0} (last number : ℕ) (w : Option A) → last < number → IfSome (option_map (λ x. (number, x)) w) (λ y. last < y.0)
+behind_told : {A : Type 0} (last number : ℕ) (w : Option A) → last < number → IfSome {T = ℕ × A} (option_map (λ x. (number, x)) w) (λ y. last < y.0)
 behind_told last number None h = tt
 behind_told last number (Some x) h = h
 

@@ -1,5 +1,6 @@
 pub mod Coming
 pub mod Deciding
+pub mod Keeping
 pub mod Order
 pub mod Placing
 pub mod Summing

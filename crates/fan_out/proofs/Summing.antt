@@ -16,7 +16,7 @@ pub wide : (z n : ℤ) (i : ℕ) → i < 2 ^ 64 → IsWithin i z → FitsSigned 
 wide z n i small w fits =
     let l = w.low in
     let h = w.high in
-    first_of (search rules, omega (arith, ints), grind (arith, ints), record { sfits = omega (arith, ints) })
+    first_of (search rules, grind (arith, ints), omega (arith, ints))
 
 also_wide : (n : ℤ) → FitsSigned w64 n → FitsSigned w128 n
 also_wide n fits = let l = fits.sfits in record { sfits = omega arith }

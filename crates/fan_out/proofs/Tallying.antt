@@ -85,12 +85,12 @@ absent name names a (c ∷ cs) h =
 -- what is found under a name, where each name has its number, and one that isn't there has 0
 found_number : (f : List ℕ → ℤ) (name : List ℕ) (names : List (List ℕ)) → (has nat_list_cmp_total name names ≡ false → f name ≡ pos 0) → number_of name (each_with f names) ≡ f name
 found_number f name [] zero_if_absent = sym (zero_if_absent refl)
-found_number f name (x ∷ xs) zero_if_absent = by (byte_order name x) refl
+found_number f name (x ∷ xs) zero_if_absent = by (byte_order name x) refl (found_number f name xs)
   where
-    by : (r : Ordering) → byte_order name x ≡ r → unwrap_or (cond (is_eq r) (Some (f x)) (lookup (is_at (byte_order name)) (each_with f xs))) (pos 0) ≡ f name
-    by Equal e = ap f (sym (equal_names name x e))
-    by Less e = found_number f name xs (λ h. zero_if_absent (ap (λ r. is_eq r || has nat_list_cmp_total name xs) e ∙ h))
-    by Greater e = found_number f name xs (λ h. zero_if_absent (ap (λ r. is_eq r || has nat_list_cmp_total name xs) e ∙ h))
+    by : (r : Ordering) → byte_order name x ≡ r → ((has nat_list_cmp_total name xs ≡ false → f name ≡ pos 0) → number_of name (each_with f xs) ≡ f name) → unwrap_or (cond (is_eq r) (Some (f x)) (lookup (is_at (byte_order name)) (each_with f xs))) (pos 0) ≡ f name
+    by Equal e rest = ap f (sym (equal_names name x e))
+    by Less e rest = rest (λ h. zero_if_absent (ap (λ r. is_eq r || has nat_list_cmp_total name xs) e ∙ h))
+    by Greater e rest = rest (λ h. zero_if_absent (ap (λ r. is_eq r || has nat_list_cmp_total name xs) e ∙ h))
 
 pub number_in_tally : (name : List ℕ) (cs : List Count) → number_of name (tally cs) ≡ sum_for name cs
 number_in_tally name cs = found_number (λ n. sum_for n cs) name (names_with [] cs) (λ h. absent name [] (pos 0) cs h)
@@ -119,15 +119,15 @@ same_behind f g name (x ∷ xs) others b =
 
 inserted : (f g : List ℕ → ℤ) (name : List ℕ) (names : List (List ℕ)) → ((q : List ℕ) → is_eq (byte_order name q) ≡ false → f q ≡ g q) → Ascending nat_list_cmp_total names → insert_entry byte_order (each_with f names) name (g name) ≡ each_with g (insert_key byte_order names name)
 inserted f g name [] others s = refl
-inserted f g name (x ∷ xs) others s = by (byte_order name x) refl
+inserted f g name (x ∷ xs) others s = by (byte_order name x) refl (inserted f g name xs others s.1)
   where
-    by : (r : Ordering) → byte_order name x ≡ r → match_ordering r ((name, g name) ∷ (x, f x) ∷ each_with f xs) ((x, g name) ∷ each_with f xs) ((x, f x) ∷ insert_entry byte_order (each_with f xs) name (g name)) ≡ each_with g (match_ordering r (name ∷ x ∷ xs) (x ∷ xs) (x ∷ insert_key byte_order xs name))
-    by Less e = ap (λ ns. (name, g name) ∷ ns) (same_behind f g name (x ∷ xs) others (e, below_rest nat_list_cmp_total name x xs e s.0))
-    by Equal e =
+    by : (r : Ordering) → byte_order name x ≡ r → insert_entry byte_order (each_with f xs) name (g name) ≡ each_with g (insert_key byte_order xs name) → match_ordering r ((name, g name) ∷ (x, f x) ∷ each_with f xs) ((x, g name) ∷ each_with f xs) ((x, f x) ∷ insert_entry byte_order (each_with f xs) name (g name)) ≡ each_with g (match_ordering r (name ∷ x ∷ xs) (x ∷ xs) (x ∷ insert_key byte_order xs name))
+    by Less e rest = ap (λ ns. (name, g name) ∷ ns) (same_behind f g name (x ∷ xs) others (e, below_rest nat_list_cmp_total name x xs e s.0))
+    by Equal e rest =
         let same = equal_names name x e in
         let P : List ℕ → Type 0 = λ n. Below nat_list_cmp_total n xs in
         ap₂ (λ n ns. (x, n) ∷ ns) (ap g same) (same_behind f g name xs others (subst P (sym same) s.0))
-    by Greater e = ap₂ (λ n ns. (x, n) ∷ ns) (others x (ap is_eq e)) (inserted f g name xs others s.1)
+    by Greater e rest = ap₂ (λ n ns. (x, n) ∷ ns) (others x (ap is_eq e)) rest
 
 -- one more count
 pub tally_with_one_more : (cs : List Count) (c : Count) → insert_entry byte_order (tally cs) c.0 (number_of c.0 (tally cs) +ℤ c.1) ≡ tally (cs ++ c ∷ [])
