@@ -25,11 +25,11 @@ occurrences-append k (i ∷ is) js = omega (arith, occurrences-append k is js)
 
 placed_once_more : (addr : SlotAddr) (slot i k : ℕ) (ps : Parts) → occurrences k (places_of (placed addr slot i ps)) ≡ (if i == k then 1 else 0) + occurrences k (places_of ps)
 placed_once_more addr slot i k [] = refl
-placed_once_more addr slot i k (p ∷ ps) = by (p.0.slot == slot)
+placed_once_more addr slot i k (p ∷ ps) = by (p.0.slot == slot) (placed_once_more addr slot i k ps)
   where
-    by : (b : Bool) → occurrences k (places_of (if b then (p.0, p.1 ++ i ∷ []) ∷ ps else (p ∷ placed addr slot i ps))) ≡ (if i == k then 1 else 0) + occurrences k (places_of (p ∷ ps))
-    by true = omega (arith, occurrences-append k (p.1 ++ i ∷ []) (places_of ps), occurrences-append k p.1 (i ∷ []), occurrences-append k p.1 (places_of ps))
-    by false = omega (arith, occurrences-append k p.1 (places_of (placed addr slot i ps)), occurrences-append k p.1 (places_of ps), placed_once_more addr slot i k ps)
+    by : (b : Bool) → occurrences k (places_of (placed addr slot i ps)) ≡ (if i == k then 1 else 0) + occurrences k (places_of ps) → occurrences k (places_of (if b then (p.0, p.1 ++ i ∷ []) ∷ ps else (p ∷ placed addr slot i ps))) ≡ (if i == k then 1 else 0) + occurrences k (places_of (p ∷ ps))
+    by true rest = omega (arith, occurrences-append k (p.1 ++ i ∷ []) (places_of ps), occurrences-append k p.1 (i ∷ []), occurrences-append k p.1 (places_of ps))
+    by false rest = omega (arith, occurrences-append k p.1 (places_of (placed addr slot i ps)), occurrences-append k p.1 (places_of ps), rest)
 
 below_more : (i k : ℕ) → (if i == k then 1 else 0) + (if nat_lt k i then 1 else 0) ≡ (if nat_lt k (i + 1) then 1 else 0)
 below_more i k = grind (arith, nat_tests)
@@ -37,28 +37,28 @@ below_more i k = grind (arith, nat_tests)
 -- no part is empty
 filled_more : (addr : SlotAddr) (slot i : ℕ) (ps : Parts) → AreFilled ps → AreFilled (placed addr slot i ps)
 filled_more addr slot i [] h = (omega arith, tt)
-filled_more addr slot i (p ∷ ps) h = by (p.0.slot == slot)
+filled_more addr slot i (p ∷ ps) h = by (p.0.slot == slot) (filled_more addr slot i ps h.1)
   where
-    by : (b : Bool) → AreFilled (if b then (p.0, p.1 ++ i ∷ []) ∷ ps else (p ∷ placed addr slot i ps))
-    by true = (omega (arith, length-append p.1 (i ∷ []), h.0), h.1)
-    by false = (h.0, filled_more addr slot i ps h.1)
+    by : (b : Bool) → AreFilled (placed addr slot i ps) → AreFilled (if b then (p.0, p.1 ++ i ∷ []) ∷ ps else (p ∷ placed addr slot i ps))
+    by true rest = (omega (arith, length-append p.1 (i ∷ []), h.0), h.1)
+    by false rest = (h.0, rest)
 
 -- no two parts are of one slot
 none_more : (addr : SlotAddr) (other slot i : ℕ) (ps : Parts) → (slot ≡ other → ⊥) → NoneIsOf other ps → NoneIsOf other (placed addr slot i ps)
 none_more addr other slot i [] ne h = (ne, tt)
-none_more addr other slot i (p ∷ ps) ne h = by (p.0.slot == slot)
+none_more addr other slot i (p ∷ ps) ne h = by (p.0.slot == slot) (none_more addr other slot i ps ne h.1)
   where
-    by : (b : Bool) → NoneIsOf other (if b then (p.0, p.1 ++ i ∷ []) ∷ ps else (p ∷ placed addr slot i ps))
-    by true = h
-    by false = (h.0, none_more addr other slot i ps ne h.1)
+    by : (b : Bool) → NoneIsOf other (placed addr slot i ps) → NoneIsOf other (if b then (p.0, p.1 ++ i ∷ []) ∷ ps else (p ∷ placed addr slot i ps))
+    by true rest = h
+    by false rest = (h.0, rest)
 
 apart_more : (addr : SlotAddr) (slot i : ℕ) (ps : Parts) → AreApart ps → AreApart (placed addr slot i ps)
 apart_more addr slot i [] h = (tt, tt)
-apart_more addr slot i (p ∷ ps) h = by (p.0.slot == slot) refl
+apart_more addr slot i (p ∷ ps) h = by (p.0.slot == slot) refl (apart_more addr slot i ps h.1)
   where
-    by : (b : Bool) → (p.0.slot == slot) ≡ b → AreApart (if b then (p.0, p.1 ++ i ∷ []) ∷ ps else (p ∷ placed addr slot i ps))
-    by true e = h
-    by false e = (none_more addr p.0.slot slot i ps (λ same. ne_from p.0.slot slot e (sym same)) h.0, apart_more addr slot i ps h.1)
+    by : (b : Bool) → (p.0.slot == slot) ≡ b → AreApart (placed addr slot i ps) → AreApart (if b then (p.0, p.1 ++ i ∷ []) ∷ ps else (p ∷ placed addr slot i ps))
+    by true e rest = h
+    by false e rest = (none_more addr p.0.slot slot i ps (λ same. ne_from p.0.slot slot e (sym same)) h.0, rest)
 
 -- the slots of the keys, with one more
 get_left : (slots : List ℕ) (slot i : ℕ) (more : List ℕ) → slice_get slots i ≡ Some slot → slice_get (slots ++ more) i ≡ Some slot
@@ -84,11 +84,11 @@ still_in_slots slots more (p ∷ ps) h = (have_still slots p.0.slot p.1 more h.0
 
 in_slots_more : (addr : SlotAddr) (slots : List ℕ) (slot i : ℕ) (ps : Parts) → AreInTheirSlots slots ps → slice_get slots i ≡ Some slot → AreInTheirSlots slots (placed addr slot i ps)
 in_slots_more addr slots slot i [] h e = ((e, tt), tt)
-in_slots_more addr slots slot i (p ∷ ps) h e = by (p.0.slot == slot) refl
+in_slots_more addr slots slot i (p ∷ ps) h e = by (p.0.slot == slot) refl (in_slots_more addr slots slot i ps h.1 e)
   where
-    by : (b : Bool) → (p.0.slot == slot) ≡ b → AreInTheirSlots slots (if b then (p.0, p.1 ++ i ∷ []) ∷ ps else (p ∷ placed addr slot i ps))
-    by true t = (have_more slots p.0.slot i p.1 h.0 (e ∙ ap Some (sym (eq_from p.0.slot slot t))), h.1)
-    by false t = (h.0, in_slots_more addr slots slot i ps h.1 e)
+    by : (b : Bool) → (p.0.slot == slot) ≡ b → AreInTheirSlots slots (placed addr slot i ps) → AreInTheirSlots slots (if b then (p.0, p.1 ++ i ∷ []) ∷ ps else (p ∷ placed addr slot i ps))
+    by true t rest = (have_more slots p.0.slot i p.1 h.0 (e ∙ ap Some (sym (eq_from p.0.slot slot t))), h.1)
+    by false t rest = (h.0, rest)
 
 one_more : (addr : SlotAddr) (slots : List ℕ) (slot : ℕ) (ps : Parts) → Splits slots ps → Splits (slots ++ slot ∷ []) (placed addr slot (length slots) ps)
 one_more addr slots slot ps s = record {
