@@ -91,16 +91,48 @@ const BUILT: [Row; 10] = [
 
 /// One check that fails.
 const REFUSED: [Row; 14] = [
-    ("redis://h rediss://i", Setting::Nothing, Some(ConfigName::Url)),
+    (
+        "redis://h rediss://i",
+        Setting::Nothing,
+        Some(ConfigName::Url),
+    ),
     ("redis+unix:///h", Setting::Nothing, Some(ConfigName::Url)),
     ("", Setting::Nothing, Some(ConfigName::Nodes)),
-    ("redis://:p@h redis://:q@i", Setting::Nothing, Some(ConfigName::Password)),
-    ("redis://:p@h redis://i", Setting::Nothing, Some(ConfigName::Password)),
-    ("redis://u:p@h redis://v:p@i", Setting::Nothing, Some(ConfigName::User)),
-    ("redis://u:p@h redis://v:q@i", Setting::Password, Some(ConfigName::User)),
-    ("redis://h redis://i?protocol=3", Setting::Nothing, Some(ConfigName::Protocol)),
-    ("redis://h redis://i redis://j/4", Setting::Nothing, Some(ConfigName::Database)),
-    ("redis://h/4 redis://i/5", Setting::Nothing, Some(ConfigName::Database)),
+    (
+        "redis://:p@h redis://:q@i",
+        Setting::Nothing,
+        Some(ConfigName::Password),
+    ),
+    (
+        "redis://:p@h redis://i",
+        Setting::Nothing,
+        Some(ConfigName::Password),
+    ),
+    (
+        "redis://u:p@h redis://v:p@i",
+        Setting::Nothing,
+        Some(ConfigName::User),
+    ),
+    (
+        "redis://u:p@h redis://v:q@i",
+        Setting::Password,
+        Some(ConfigName::User),
+    ),
+    (
+        "redis://h redis://i?protocol=3",
+        Setting::Nothing,
+        Some(ConfigName::Protocol),
+    ),
+    (
+        "redis://h redis://i redis://j/4",
+        Setting::Nothing,
+        Some(ConfigName::Database),
+    ),
+    (
+        "redis://h/4 redis://i/5",
+        Setting::Nothing,
+        Some(ConfigName::Database),
+    ),
     (THREE, Setting::Database(0), Some(ConfigName::Database)),
     (THREE, Setting::Database(5), Some(ConfigName::Database)),
     ("redis://h", Setting::Push, Some(ConfigName::Push)),
@@ -109,14 +141,42 @@ const REFUSED: [Row; 14] = [
 
 /// Two checks that fail, with the first.
 const REFUSED_TWICE: [Row; 9] = [
-    ("redis://:p@h rediss://i redis://:q@j", Setting::Nothing, Some(ConfigName::Url)),
+    (
+        "redis://:p@h rediss://i redis://:q@j",
+        Setting::Nothing,
+        Some(ConfigName::Url),
+    ),
     ("", Setting::Limit(0), Some(ConfigName::Nodes)),
-    ("redis://u:p@h redis://v:q@i", Setting::Nothing, Some(ConfigName::Password)),
-    ("redis://u:p@h redis://v:p@i redis://u:q@j", Setting::Nothing, Some(ConfigName::User)),
-    ("redis://u:p@h redis://v:p@i?protocol=3", Setting::Nothing, Some(ConfigName::User)),
-    ("redis://h redis://i/4?protocol=3", Setting::Nothing, Some(ConfigName::Protocol)),
-    ("redis://h redis://i/4 redis://j?protocol=3", Setting::Nothing, Some(ConfigName::Database)),
-    ("redis://h redis://i/4", Setting::Push, Some(ConfigName::Database)),
+    (
+        "redis://u:p@h redis://v:q@i",
+        Setting::Nothing,
+        Some(ConfigName::Password),
+    ),
+    (
+        "redis://u:p@h redis://v:p@i redis://u:q@j",
+        Setting::Nothing,
+        Some(ConfigName::User),
+    ),
+    (
+        "redis://u:p@h redis://v:p@i?protocol=3",
+        Setting::Nothing,
+        Some(ConfigName::User),
+    ),
+    (
+        "redis://h redis://i/4?protocol=3",
+        Setting::Nothing,
+        Some(ConfigName::Protocol),
+    ),
+    (
+        "redis://h redis://i/4 redis://j?protocol=3",
+        Setting::Nothing,
+        Some(ConfigName::Database),
+    ),
+    (
+        "redis://h redis://i/4",
+        Setting::Push,
+        Some(ConfigName::Database),
+    ),
     ("redis://h", Setting::PushAndLimit, Some(ConfigName::Push)),
 ];
 
@@ -176,7 +236,13 @@ fn is_text(text: &Option<Bytes>, wanted: &[u8]) -> bool {
 }
 
 /// Whether the client of these nodes with this setting has that user and that password.
-fn authenticates(alloc: Global, urls: &str, setting: Setting, user: &[u8], password: &[u8]) -> bool {
+fn authenticates(
+    alloc: Global,
+    urls: &str,
+    setting: Setting,
+    user: &[u8],
+    password: &[u8],
+) -> bool {
     match client(alloc, urls, setting) {
         Ok(client) => {
             let told = client.redis_connection_info();
@@ -196,7 +262,11 @@ fn who_authenticates_is_chosen(rt: HostRuntime) -> Result<(), AllocError> {
 }
 
 /// Whether a client of one node of this name has one node of that host.
-fn has_node<T: IntoConnectionInfo + Drop>(alloc: Global, name: T, host: &[u8]) -> Result<bool, AllocError> {
+fn has_node<T: IntoConnectionInfo + Drop>(
+    alloc: Global,
+    name: T,
+    host: &[u8],
+) -> Result<bool, AllocError> {
     let mut nodes = Vec::new(alloc);
     nodes.push(name)?;
     match ClusterClient::new(alloc, nodes) {

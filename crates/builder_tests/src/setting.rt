@@ -28,22 +28,26 @@ fn said(alloc: Global) -> Result<ClusterClientBuilder, AllocError> {
     let password = Bytes::from_slice(alloc, b"p")?;
     let user = Bytes::from_slice(alloc, b"u")?;
     let builder = builder(alloc, "redis://h:7000")?;
-    Ok(builder
-        .password(password)
-        .username(user)
-        .use_protocol(ProtocolVersion::RESP3)
-        .database_id(4))
+    Ok(
+        builder
+            .password(password)
+            .username(user)
+            .use_protocol(ProtocolVersion::RESP3)
+            .database_id(4),
+    )
 }
 
 /// A builder of which retries, waits and reads are set too.
 fn retried(alloc: Global) -> Result<ClusterClientBuilder, AllocError> {
     let builder = said(alloc)?;
-    Ok(builder
-        .retries(3)
-        .min_retry_wait(1)
-        .max_retry_wait(2)
-        .retry_wait_formula(4, 5)
-        .read_routing_strategy(ReadStrategy::RoundRobin { next: 6 }))
+    Ok(
+        builder
+            .retries(3)
+            .min_retry_wait(1)
+            .max_retry_wait(2)
+            .retry_wait_formula(4, 5)
+            .read_routing_strategy(ReadStrategy::RoundRobin { next: 6 }),
+    )
 }
 
 /// A client of which everything is set.
@@ -75,7 +79,7 @@ fn is_text(text: &Option<Bytes>, wanted: &[u8]) -> bool {
 fn is_paired(map: &Option<AddressMap>) -> bool {
     match map {
         Some(map) => match map.as_slice() {
-            [(from, to)] => from.host.as_slice() == b"a" && to.port == 2,
+            [(from, to)] => from.host.as_slice() == b"a".as_slice() && to.port == 2,
             _ => false,
         },
         None => false,
