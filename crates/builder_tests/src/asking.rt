@@ -79,7 +79,7 @@ fn quick(alloc: Global) -> Result<ClusterClient, OpenError> {
 }
 
 /// So many milliseconds for one node, and these for a request as a whole.
-fn times(response: Option<u64>, overall: Option<OverallResponseTimeout>) -> Times {
+fn within(response: Option<u64>, overall: Option<OverallResponseTimeout>) -> Times {
     Times {
         response: response.map(Some),
         overall,
@@ -88,7 +88,7 @@ fn times(response: Option<u64>, overall: Option<OverallResponseTimeout>) -> Time
 
 /// Seven milliseconds for a request as a whole, and so many for one node.
 fn seven(response: Option<u64>) -> Times {
-    times(response, Some(OverallResponseTimeout::Explicit(Some(7))))
+    within(response, Some(OverallResponseTimeout::Explicit(Some(7))))
 }
 
 #[test]
@@ -110,9 +110,9 @@ fn an_unset_response_timeout_replaces_too(rt: HostRuntime) -> Result<(), OpenErr
     let words = client.get_async_connection_with_config(alloc, &ClusterConfig::new());
     assert!(rt; is_timed(&words, ClusterKind::Cluster, seven(None)));
     let words = client.get_async_connection(alloc);
-    assert!(rt; is_timed(&words, ClusterKind::Cluster, times(Some(7), None)));
+    assert!(rt; is_timed(&words, ClusterKind::Cluster, within(Some(7), None)));
     let words = client.get_async_generic_connection(alloc);
-    assert!(rt; is_timed(&words, ClusterKind::Cluster, times(Some(7), None)));
+    assert!(rt; is_timed(&words, ClusterKind::Cluster, within(Some(7), None)));
     Ok(())
 }
 
@@ -131,9 +131,9 @@ fn the_whole_timeout_is_given_where_it_differs(rt: HostRuntime) -> Result<(), Op
     let alloc = rt.alloc();
     let none = Some(OverallResponseTimeout::Explicit(None));
     let eight = Some(OverallResponseTimeout::Explicit(Some(8)));
-    assert!(rt; is_asked(alloc, Some(7), times(Some(7), None))?);
-    assert!(rt; is_asked(alloc, None, times(Some(7), none))?);
-    assert!(rt; is_asked(alloc, Some(8), times(Some(7), eight))?);
+    assert!(rt; is_asked(alloc, Some(7), within(Some(7), None))?);
+    assert!(rt; is_asked(alloc, None, within(Some(7), none))?);
+    assert!(rt; is_asked(alloc, Some(8), within(Some(7), eight))?);
     Ok(())
 }
 

@@ -79,7 +79,7 @@ fn is_text(text: &Option<Bytes>, wanted: &[u8]) -> bool {
 fn is_paired(map: &Option<AddressMap>) -> bool {
     match map {
         Some(map) => match map.as_slice() {
-            [(from, to)] => from.host.as_slice() == b"a" && to.port == 2,
+            [(from, to)] => from.host.as_slice() == b"a".as_slice() && to.port == 2,
             _ => false,
         },
         None => false,
