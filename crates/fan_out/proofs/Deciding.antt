@@ -251,6 +251,7 @@ told_together together p ps some h = by (either_came p h)
     with_value : (o : Option (ℕ × Value)) → value_came p ≡ o → IsSome o → IsSome (together (values (p ∷ ps)))
     with_value None e k = cc
     with_value (Some x) e k = subst (λ vs. IsSome (together vs)) (sym (value_first p ps x e)) (some x.1 (values ps))
+
     by : IsSome (value_came p) ⊎ IsSome (error_came p) → IsSome (option_or (option_map folded.Error (first_error (p ∷ ps))) (together (values (p ∷ ps))))
     by (inl v) = some_or (option_map folded.Error (first_error (p ∷ ps))) (together (values (p ∷ ps))) (with_value (value_came p) refl v)
     by (inr e) =

@@ -134,9 +134,9 @@ pub tally_with_one_more : (cs : List Count) (c : Count) → insert_entry byte_or
 tally_with_one_more cs c =
     let g : List ℕ → ℤ = λ n. sum_for n (cs ++ c ∷ []) in
     let others : (q : List ℕ) → is_eq (byte_order c.0 q) ≡ false → sum_for q cs ≡ g q =
-        λ q e. sym (sum_with_one_more q cs c ∙ with_zero (sum_for q cs) (number_for q c) (number_of_other q c (other_names c.0 q e))) in
+    λ q e. sym (sum_with_one_more q cs c ∙ with_zero (sum_for q cs) (number_for q c) (number_of_other q c (other_names c.0 q e))) in
     let value : number_of c.0 (tally cs) +ℤ c.1 ≡ g c.0 =
-        ap₂ ◌+ℤ◌ (number_in_tally c.0 cs) (sym (number_of_same c)) ∙ sym (sum_with_one_more c.0 cs c) in
+    ap₂ ◌+ℤ◌ (number_in_tally c.0 cs) (sym (number_of_same c)) ∙ sym (sum_with_one_more c.0 cs c) in
     ap (insert_entry byte_order (tally cs) c.0) value
     ∙ inserted (λ n. sum_for n cs) g c.0 (names_with [] cs) others (names_ascend [] cs tt)
     ∙ ap (each_with g) (sym (names_with_one_more [] cs c))
@@ -161,7 +161,7 @@ number_within name c n z fits w = by (bytes_eq c.0 name)
 pub still_within : (name : List ℕ) (cs : List (Bor (List ℕ) × ℤ)) (i : ℕ) (x : Bor (List ℕ) × ℤ) → i < length cs → x ≡ get_or cs i x → FitsSigned w64 x.1 → IsWithin i (sum_for name (map count_now (take i cs))) → IsWithin (i + 1) (sum_for name (map count_now (take (i + 1) cs)))
 still_within name cs i x h is fits w =
     let e : sum_for name (map count_now (take i cs)) +ℤ number_for name (count_now x) ≡ sum_for name (map count_now (take (i + 1) cs)) =
-        sym (ap (sum_for name) (one_taken cs i x h is) ∙ sum_with_one_more name (map count_now (take i cs)) (count_now x)) in
+    sym (ap (sum_for name) (one_taken cs i x h is) ∙ sum_with_one_more name (map count_now (take i cs)) (count_now x)) in
     subst (IsWithin (i + 1)) e (number_within name (count_now x) i (sum_for name (map count_now (take i cs))) fits w)
 
 -- one more number fits twice as many bits

@@ -129,11 +129,7 @@ fn put(row: &mut Seq<Value>, place: usize, value: Value)
 }
 
 /// Puts a copy of each element in the place of its key.
-fn put_each(
-    alloc: Global,
-    row: &mut Seq<Value>,
-    keyed: &[(u32, &Value)],
-) -> Result<(), AllocError>
+fn put_each(alloc: Global, row: &mut Seq<Value>, keyed: &[(u32, &Value)]) -> Result<(), AllocError>
     ensures { OnOk result
         (list_view row.new ≡ each_put (list_view row.old) (map element_now keyed.entry.now)) }
 {

@@ -184,10 +184,7 @@ fn when_all_succeed(
 }
 
 /// The first value to come, and else the last error.
-fn one_succeeded(
-    alloc: Global,
-    parts: &[PartResult],
-) -> Result<Option<FoldResult>, AllocError>
+fn one_succeeded(alloc: Global, parts: &[PartResult]) -> Result<Option<FoldResult>, AllocError>
     ensures { IfOk result (λ r. r ≡ one_succeeded parts.now) }
 {
     if let Some(value) = first_value(parts) {
@@ -203,10 +200,7 @@ fn one_succeeded(
 }
 
 /// The first part's value that says something, and else the last part's error, and else Nil.
-fn first_succeeded(
-    alloc: Global,
-    parts: &[PartResult],
-) -> Result<Option<FoldResult>, AllocError>
+fn first_succeeded(alloc: Global, parts: &[PartResult]) -> Result<Option<FoldResult>, AllocError>
     ensures { IfOk result (λ r. r ≡ first_succeeded parts.now) }
 {
     if !all_came(parts) {

@@ -65,10 +65,7 @@ fn push_turns<'a>(
 }
 
 /// The counts of a value at the end of others.
-fn push_counts<'a>(
-    counts: &mut Vec<(&'a Bytes, i64)>,
-    value: &'a Value,
-) -> Result<(), AllocError>
+fn push_counts<'a>(counts: &mut Vec<(&'a Bytes, i64)>, value: &'a Value) -> Result<(), AllocError>
     ensures { OnOk result
         (map count_now counts.new.items
         ≡ map count_now counts.old.items ++ counts_in value.now) }
@@ -81,10 +78,7 @@ fn push_counts<'a>(
 }
 
 /// The counts of these values, one value after another.
-fn counts<'a>(
-    alloc: Global,
-    values: &[&'a Value],
-) -> Result<Vec<(&'a Bytes, i64)>, AllocError>
+fn counts<'a>(alloc: Global, values: &[&'a Value]) -> Result<Vec<(&'a Bytes, i64)>, AllocError>
     ensures { IfOk result
         (λ counts. map count_now counts.items
         ≡ flat_map counts_in (map (λ v. v.now) values.entry.now)) }

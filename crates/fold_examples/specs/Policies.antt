@@ -76,7 +76,7 @@ abbrev pub under_special : List Example
 under_special =
     special (gave 1 text ∷ waits ∷ []) None
     ∷ special (came 7000 2 (ends.Value text) ∷ came 7001 1 (ends.Value (value.ServerError refused)) ∷ [])
-        (with_value (value.Map ((bulk (codes "h:7000"), bulk (codes "k")) ∷ (bulk (codes "h:7001"), error refused) ∷ [])))
+    (with_value (value.Map ((bulk (codes "h:7000"), bulk (codes "k")) ∷ (bulk (codes "h:7001"), error refused) ∷ [])))
     ∷ special (came 7000 1 (ends.Error (redis.Server not_busy)) ∷ []) (with_value (value.Map ((bulk (codes "h:7000"), error not_busy) ∷ [])))
     ∷ special (gave 1 text ∷ failed 5 redis.NotFound ∷ failed 2 redis.Closed ∷ []) (with_error redis.NotFound)
     ∷ ((None, AllNodes, came 6379 1 (ends.Value text) ∷ []), with_value (value.Map ((bulk (codes "h:6379"), bulk (codes "k")) ∷ [])))

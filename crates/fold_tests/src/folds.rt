@@ -74,7 +74,10 @@ fn routing(alloc: Global, places: &[&[u32]]) -> Result<MultipleNodeRoutingInfo, 
             slot,
             addr: SlotAddr::ReplicaOptional,
         };
-        slots.push(route, KeyIndices::from_vec(Vec::from_slice(alloc, indices)?))?;
+        slots.push(
+            route,
+            KeyIndices::from_vec(Vec::from_slice(alloc, indices)?),
+        )?;
         slot = slot.wrapping_add(1);
     }
     Ok(MultipleNodeRoutingInfo::MultiSlot(slots))

@@ -14,6 +14,6 @@ loop-name-preserved c =
     let fits : FitsSigned w128 c.in-Some.total.now = search rules in
     let small : FitsSigned w64 c.saturated.result = record { sfits = c.saturated.type_inv } in
     shown_next c.loop-name.pairs c.push.new.self c.loop-name.name-iterator c.next.new.self c.in-Some.name.now c.in-Some.total.now c.in_ok-name.name _ (map shown c.args.self.now)
-        c.in-Some.ensures.steps c.in_ok-push.ensures.ok (c.in_ok-name.ensures ∙ c.as_slice.ensures.value)
-        (to_z-of_z w64 c.saturated.result small ∙ c.saturated.ensures ∙ ap (saturate_signed w64) (to_z-of_z w128 c.in-Some.total.now fits))
-        c.loop-name.invariant
+    c.in-Some.ensures.steps c.in_ok-push.ensures.ok (c.in_ok-name.ensures ∙ c.as_slice.ensures.value)
+    (to_z-of_z w64 c.saturated.result small ∙ c.saturated.ensures ∙ ap (saturate_signed w64) (to_z-of_z w128 c.in-Some.total.now fits))
+    c.loop-name.invariant
