@@ -109,8 +109,11 @@ all_more addr i slots (slot ∷ more) ps e s =
     subst (λ xs. Splits xs (placed_all addr (suc i) more (placed addr slot i ps))) (append_assoc slots (slot ∷ []) more)
     (all_more addr (suc i) (slots ++ slot ∷ []) more (placed addr slot i ps) (length-append slots (slot ∷ []) ∙ omega (arith, e)) next)
 
+none_below : (k : ℕ) → occurrences k [] ≡ (if nat_lt k 0 then 1 else 0)
+none_below k = grind (arith, nat_tests)
+
 nothing_split : Splits [] []
-nothing_split = record { once = λ k. refl; filled = tt; apart = tt; in_slots = tt }
+nothing_split = record { once = none_below; filled = tt; apart = tt; in_slots = tt }
 
 parts_split : (addr : SlotAddr) (slots : List ℕ) → Splits slots (parts_of addr slots)
 parts_split addr slots = all_more addr 0 [] slots [] refl nothing_split
