@@ -3,8 +3,7 @@
 
 #[cfg(test)]
 mod delays;
-#[cfg(test)]
-mod scripted;
+pub mod scripted;
 #[cfg(test)]
 mod settings;
 #[cfg(test)]
