@@ -103,8 +103,8 @@ fn error_text(alloc: Global, error: &RedisError) -> Result<Bytes, AllocError> {
 }
 
 /// A result as a text.
-fn result_text(alloc: Global, result: &Option<FoldResult>) -> Result<Bytes, AllocError> {
-    match result {
+fn result_text(alloc: Global, told: &Option<FoldResult>) -> Result<Bytes, AllocError> {
+    match told {
         None => Bytes::from_slice(alloc, b"none"),
         Some(FoldResult::Value(value)) => canonical_text(alloc, value),
         Some(FoldResult::Error(error)) => error_text(alloc, error),
