@@ -93,6 +93,10 @@ fn are_calls(noted: &[Noted], words: &[&[u8]]) -> bool {
 
 /// Whether a transaction of this row ends so.
 fn holds(alloc: Global, keys: &[&[u8]], row: &Row) -> Result<bool, AllocError> {
+    let turns = row.2;
+    if turns == 0 {
+        return Ok(false);
+    }
     let keys = Names::from_slices(alloc, keys)?;
     let mut conn = Scripted::new(alloc, row.0)?;
     let mut steps = row.1;
@@ -103,7 +107,7 @@ fn holds(alloc: Global, keys: &[&[u8]], row: &Row) -> Result<bool, AllocError> {
         }
         None => Ok(None),
     };
-    let result = transaction(alloc, &mut conn, &keys, closure, row.2);
+    let result = transaction(alloc, &mut conn, &keys, closure, turns);
     Ok(end_of(&result) == row.3 && are_calls(conn.noted(), row.4))
 }
 
