@@ -1,5 +1,5 @@
 -- What stands whole in the tape behind a first byte.
-use Rattle.std.proofs.Common.{◌≡◌, ℕ, ◌≤◌, ◌<◌, ◌+◌, ◌-◌, ◌*◌, List, [], ◌∷◌, ◌++◌, length, get_or, take, drop, length-drop, length-take-le, append_assoc, Ok, Err, Option, Some, None, Result, Bool, true, false, cond, refl, sym, ap, ◌∙◌, subst, arith}
+use Rattle.std.proofs.Common.{◌≡◌, ℕ, ◌≤◌, ◌<◌, ◌+◌, ◌-◌, ◌*◌, List, [], ◌∷◌, ◌++◌, length, get_or, take, drop, length-drop, length-take-le, append_assoc, Ok, Err, Option, Some, None, Result, Bool, true, false, cond, refl, sym, ap, ◌∙◌, arith}
 use Rattle.std.proofs.lemmas.List.{take_more, drop_more, get_or-drop, drop-drop, append-nil}
 use Rattle.std.proofs.lemmas.Bool.Decides.{nat_tests}
 use Rattle.std.specs.Prelude.{◌==◌, ◌&&◌, option_map, bytes_eq}
@@ -7,14 +7,14 @@ use Rattle.resp_value.specs.Data.{Data}
 use Rattle.resp_value.specs.View.{data_of}
 use Rattle.resp_value.specs.declared.value.Value.{Value as RespValue}
 use Rattle.resp_read.specs.Grammar.{natural, size}
-use Rattle.resp_read.specs.Parser.{bad, Found, ended, unended, broken, Line, line, size_line, bulk_of, array_of}
+use Rattle.resp_read.specs.Parser.{bad, Found, ended, broken, line, size_line, bulk_of, array_of}
 use Rattle.resp_read.specs.Limits.{bounds, reading}
 use Rattle.resp_read.specs.declared.limits.Limits.{Limits}
 use Rattle.resp_read.specs.Parts.{line_form}
 use Rattle.resp_read.specs.Digits.{digits_step, digits_run}
 use Rattle.resp_read.specs.declared.digits.Digits.{Digits}
 use Rattle.resp_read.specs.declared.digits.Digits.TheVariants.{Empty}
-use Rattle.resp_read.specs.Waiting.{IsClear, IsReturn}
+use Rattle.resp_read.specs.Waiting.{IsClear}
 use Rattle.resp_read.specs.Frames.{begun_as, with_values}
 use Rattle.resp_read.specs.declared.forms.OneLine.{OneLine}
 use Rattle.resp_read.specs.declared.forms.Refusal.{Refusal}
@@ -26,7 +26,6 @@ use Rattle.resp_read.specs.declared.stages.Head.{Head}
 use Rattle.resp_read.specs.declared.stages.Head.TheVariants as head
 use Rattle.resp_read.specs.declared.stages.Part.TheVariants as part
 use Rattle.resp_read.specs.declared.stages.Want.TheVariants as want
-use Rattle.resp_read.specs.declared.stages.Stage.{Stage}
 use Rattle.resp_read.specs.declared.stages.Stage.TheVariants as stage
 use Rattle.resp_read.specs.declared.place.Place.{Place}
 use Rattle.resp_read.specs.Stages.{head_on, stage_as, IsHeadOf}

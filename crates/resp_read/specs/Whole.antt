@@ -4,14 +4,13 @@ use Rattle.resp_value.specs.Data.{Data}
 use Rattle.resp_read.specs.Grammar.{natural}
 use Rattle.resp_read.specs.Parser.{bad, Found, ended, line}
 use Rattle.resp_read.specs.Limits.{bounds}
-use Rattle.resp_read.specs.Stages.{head_on, stage_as}
+use Rattle.resp_read.specs.Stages.{head_on}
 use Rattle.resp_read.specs.Places.{reached_as, IsPlace}
 use Rattle.resp_read.specs.declared.limits.Limits.{Limits}
 use Rattle.resp_read.specs.declared.forms.Refusal.{Refusal}
 use Rattle.resp_read.specs.declared.forms.Refusal.TheVariants.{Short, Bad, NoMemory}
 use Rattle.resp_read.specs.declared.frames.Begun.{Begun}
 use Rattle.resp_read.specs.declared.stages.Head.{Head}
-use Rattle.resp_read.specs.declared.stages.Stage.{Stage}
 use Rattle.resp_read.specs.declared.stages.Stage.TheVariants as stage
 use Rattle.resp_read.specs.declared.place.Place.{Place}
 
@@ -41,7 +40,7 @@ EndCosts before (Err e) after = after ≤ before + 1
 abbrev pub IsKept : List ℕ → Head → Place → Place → Type 0
 IsKept tape h old new = IsPlace tape new × (new.next ≡ old.next) × (new.stage ≡ stage.Line h)
 
--- a number of at most that stands there, and the place is behind its line; or the line is kept, or it is none
+-- a number within that limit stands there, and the place is behind its line; or the line is kept, or it is none
 abbrev pub IsSize : Limits → ℕ → Head → List ℕ → Place → Result (Option ℕ) Refusal → Place → Type 0
 IsSize limits most h tape old (Ok (Some n)) new = (new ≡ record old { next = new.next }) × (old.next ≤ new.next) × (new.next ≤ length tape) × (n ≤ most) × (l : List ℕ) × (natural (Some most) l ≡ Some n) × IsWholeLine limits (drop old.next tape) l (drop new.next tape)
 IsSize limits most h tape old (Ok None) new = IsKept tape h old new
