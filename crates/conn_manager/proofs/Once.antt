@@ -13,7 +13,8 @@ use Rattle.driver_model.specs.declared.outcome.Outcome.TheVariants as outcome
 use Rattle.driver_model.specs.declared.outcome.Shape.{Shape}
 use Rattle.mux_conn.specs.declared.act.LinkAct.{LinkAct}
 use Rattle.mux_conn.specs.declared.act.LinkAct.TheVariants as link_act
-use Rattle.mux_conn.specs.Connection.{Work}
+use Rattle.mux_conn.specs.Connection.{Work, work_with}
+use Rattle.mux_conn.specs.Turn as conn_turn
 use Rattle.conn_manager.specs.declared.act.ManagerAct.TheVariants as act
 use Rattle.conn_manager.specs.declared.act.ManagerWait.{ManagerWait}
 use Rattle.conn_manager.specs.declared.generations.Generations.{Generations}
@@ -262,8 +263,9 @@ held_shown_keeps m (Some kind) = onward m (with_wait m (Some kind)) _ (alike m (
 
 flushed_keeps : (m : ConnectionManager) (draw : ℕ) → Keeps m (flushed m draw)
 flushed_keeps m draw =
-    let next = moved_on m draw _ in
-    onward m next (flushed m draw) (moved_keeps m draw _) (held_shown_keeps next (held_wait next.generations.phase next.conn.life))
+    let w = conn_turn.flushed (work_with m.conn []) in
+    let next = moved_on m draw w in
+    onward m next (flushed m draw) (moved_keeps m draw w) (held_shown_keeps next (held_wait next.generations.phase next.conn.life))
 
 stepped_keeps : (m : ConnectionManager) (draw : ℕ) (what : Happening) → Keeps m (stepped m draw what)
 stepped_keeps m draw what =

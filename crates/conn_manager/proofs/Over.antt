@@ -8,6 +8,7 @@ use Rattle.conn_manager.specs.declared.phase.Phase.TheVariants.{Idle, Opening, R
 use Rattle.conn_manager.specs.Phases.{is_failed, is_resting}
 use Rattle.conn_manager.specs.Generations.{shown, bounded, connect_within, begun, rests, has_attempts, set_up_at, resubscribed_at, attempt_failed_at, rested, rests_behind, tried_again, lost_at}
 use Rattle.conn_manager.specs.Moves.{Move, link_set_up, subscribed_again, opening_fails, wait_over, link_ends, answer, closes, moved, moved_each, turn, IsOver, IsUnmoved, StaysOver, OverBehindAShutdown, OverBehindAFailedCreation, WaitsByItsAttempt, AttemptsAscend}
+use Rattle.containers.proofs.Choices.{by_test, lt_from, not_lt_from, eq_from, both_left}
 use Rattle.conn_manager.proofs.Causes.{halted_stands}
 
 -- it is over, and nothing has moved
@@ -109,10 +110,10 @@ then_of P true is h = h
 then_of P false is h = absurd (let no : false ≡ true = is in cc)
 
 not_below : (m n : ℕ) → n ≤ m → nat_lt m n ≡ false
-not_below m n h = grind arith
+not_below m n h = by_test (nat_lt m n) (nat_lt m n ≡ false) (λ t. absurd (let l = lt_from m n t in omega arith)) (λ f. f)
 
 below : (m n : ℕ) → m < n → nat_lt m n ≡ true
-below m n h = grind arith
+below m n h = by_test (nat_lt m n) (nat_lt m n ≡ true) (λ t. t) (λ f. absurd (let l = not_lt_from m n f in omega arith))
 
 -- the last attempt of a manager that isn't made yet
 pub over_failed : OverBehindAFailedCreation
@@ -134,7 +135,7 @@ dialed_attempt : (g : Generations) → (bounded (shown (record g { links = g.lin
 dialed_attempt g = bounded_attempt (shown (record g { links = g.links + 1; phase = Opening }) (act.Connect g.links)) g.links (connect_within g)
 
 same_attempt : (x y z : Bool) (a b : ℕ) → (x && y && (a == b) && z) ≡ true → a ≡ b
-same_attempt true true z a b is = grind arith
+same_attempt true true z a b is = eq_from a b (both_left (a == b) z is)
 same_attempt true false z a b is = absurd (let no : false ≡ true = is in cc)
 same_attempt false y z a b is = absurd (let no : false ≡ true = is in cc)
 

@@ -1,6 +1,7 @@
 -- Runs of managers, and what each of their turns shows.
 use Rattle.std.specs.Prelude.{ℕ, pos, true, false, List, [], ◌∷◌, ◌++◌, None, Some, codes}
 use Rattle.std.proofs.Common.{lit<}
+use Rattle.resp_value.specs.Data.{bulk, int}
 use Rattle.resp_value.specs.declared.push_kind.PushKind.TheVariants.{Subscribe, Disconnection}
 use Rattle.resp_write.specs.Pack.{pack}
 use Rattle.resp_write.specs.declared.subscription.SubscriptionAction.TheVariants as action

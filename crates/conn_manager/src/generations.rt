@@ -200,7 +200,7 @@ impl Generations {
     ghost use Rattle.conn_manager.specs.Generations.{rests, creation_failed, retries, has_attempts};
     ghost use Rattle.conn_manager.specs.Generations.{attempt_failed, rested, rests_behind, tried_again};
     ghost use Rattle.conn_manager.specs.Generations.{lost, is_cause_at, answered_with, begins_next};
-    ghost use Rattle.conn_manager.specs.Generations.{outcomes_done, shut_down};
+    ghost use Rattle.conn_manager.specs.Generations.{outcomes_done, shut_down, at_phase, made_ready, runs_out};
 
     /// Whether another attempt is left.
     fn has_attempts(&self) -> bool

@@ -39,10 +39,7 @@ impl ConnectionManager {
         };
         self.send(alloc, packed, Shape::Confirmation, true, Some(call))
     }
-}
 
-/// The four subscription calls.
-impl ConnectionManager {
     /// Subscribes to these channels. The outcome is `Done`, and the manager then knows it, or the
     /// server error that came instead. `Refused` comes exactly where the manager doesn't speak RESP3, before anything else. The
     /// next step shows what comes of it.

@@ -1,7 +1,7 @@
 use Rattle.std.proofs.Common.{◌≡◌, length}
 use Rattle.conn_manager.specs.Spending.{SpendsRounds}
 use Rattle.conn_manager.specs.Turn.{round_each}
-use Rattle.conn_manager.proofs.rounds.ConnectionManager.round_each.Given as goal
+use Rattle.conn_manager.proofs.manager.ConnectionManager.round_each.Given as goal
 
 abbrev pub invariant-loop-request : goal.invariant-loop-request
 invariant-loop-request l = record {
