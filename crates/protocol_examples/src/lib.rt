@@ -20,7 +20,7 @@ ghost use Rattle.protocol_examples.specs.Tables.{Gives};
 ghost use Rattle.protocol_examples.specs.Grammar.{IsValue, lines, scalars, sized_texts, lists, tagged, malformed_lines, malformed_lengths, short_lines, short_lengths, BeginsNone};
 ghost use Rattle.protocol_examples.specs.Limits.{wrappings, MayNest, MayHoldNil, MayNotNest, MayNotHoldEmpty, IsReadToItsEnd, IsTooLong, greatest_lengths, lengths_too_great};
 ghost use Rattle.protocol_examples.specs.Pushes.{kinds_of_texts, IsOther, other_kinds, replies_of_kinds};
-ghost use Rattle.protocol_examples.specs.Errors.{told_by_code, codes_of_errors, TellsNothing, other_codes, told_by_error, errors_of_the_driver, faults, told_of_links, ends_of_links, unrecoverable_methods, IsLead, leads, strays};
+ghost use Rattle.protocol_examples.specs.Errors.{told_by_code, codes_of_errors, TellsNothing, other_codes, told_by_error, errors_of_the_driver, faults, told_of_links, ends_of_links, unrecoverable_methods, line_of_error, errors_in_words, IsLead, leads, strays};
 ghost use Rattle.protocol_examples.specs.Slots.{checksums, hash_tags, slots_of_keys, addresses};
 ghost use Rattle.protocol_examples.specs.Packing.{packed_commands, packed_pipelines};
 ghost use Rattle.protocol_examples.specs.Canonical.{texts_of_scalars, texts_of_aggregates, texts_of_kinds};
@@ -89,6 +89,11 @@ pub fn errors_tell_how_to_go_on()
     ensures faults { Gives told_by_error faults }
     ensures ends { Gives told_of_links ends_of_links }
     ensures unrecoverable { Gives needs_new_link unrecoverable_methods }
+{}
+
+/// Does nothing. Its contract: the lines in which a trace tells these errors.
+pub fn errors_have_these_words()
+    ensures { Gives line_of_error errors_in_words }
 {}
 
 /// Does nothing. Its contract: where these errors lead, and that others lead nowhere.
