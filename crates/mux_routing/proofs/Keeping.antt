@@ -1,6 +1,5 @@
 -- What a map keeps gives its rows again.
-use Rattle.std.proofs.Common.{◌≡◌, ℕ, suc, ◌+◌, ◌<◌, ◌≤◌, nat_lt, Bool, true, false, ◌&&◌, List, [], ◌∷◌, map, length, Option, refl, ap, sym, subst, ◌∙◌, arith, if◌then◌else◌}
-use Rattle.std.proofs.lemmas.Bool.Decides.{nat_tests}
+use Rattle.std.proofs.Common.{◌≡◌, ℕ, suc, ◌+◌, ◌<◌, ◌≤◌, nat_lt, Bool, true, false, List, [], ◌∷◌, map, length, Option, refl, ap, sym, subst, ◌∙◌, arith, if◌then◌else◌}
 use Rattle.std.proofs.lemmas.Option.{get_or_from_slice_get}
 use Rattle.containers.proofs.Choices.{both_true, lt_from}
 use Rattle.slot_hash.specs.declared.address.NodeAddress.{NodeAddress}
@@ -48,6 +47,7 @@ one_longer a (x ∷ xs) = by (address_less x a) (one_longer a xs)
     here : (t : Bool) → length (if t then a ∷ x ∷ xs else (x ∷ xs)) ≤ suc (length (x ∷ xs))
     here true = omega arith
     here false = omega arith
+
     by : (t : Bool) → length (inserted a xs) ≤ suc (length xs) → length (if t then x ∷ inserted a xs else (if address_less a x then a ∷ x ∷ xs else (x ∷ xs))) ≤ suc (length (x ∷ xs))
     by true h = omega (arith, h)
     by false h = here (address_less a x)

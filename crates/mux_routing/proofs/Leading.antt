@@ -1,7 +1,6 @@
 -- The primaries of a map are the places that lead a row.
-use Rattle.std.proofs.Common.{◌≡◌, ◌⊎◌, inl, inr, ℕ, zero, suc, ◌+◌, ◌<◌, ◌≤◌, nat_lt, ◌==◌, Bool, true, false, ◌||◌, List, [], ◌∷◌, ◌++◌, map, length, get_or, drop, Some, refl, ap, sym, subst, ◌∙◌, arith, if◌then◌else◌}
+use Rattle.std.proofs.Common.{◌≡◌, ◌⊎◌, inl, inr, ℕ, zero, suc, ◌<◌, nat_lt, ◌==◌, Bool, true, false, ◌||◌, List, [], ◌∷◌, map, length, Some, refl, ap, sym, subst, ◌∙◌, arith, if◌then◌else◌}
 use Rattle.std.specs.Prelude.{slice_get}
-use Rattle.std.specs.List.{Contains}
 use Rattle.std.proofs.lemmas.Bool.Decides.{nat_tests}
 use Rattle.std.proofs.lemmas.Option.{get_or_from_slice_get, slice_get_within}
 use Rattle.containers.proofs.Choices.{by_test, eq_from, eq_test, ne_from}
@@ -9,7 +8,7 @@ use Rattle.slot_hash.specs.declared.address.NodeAddress.{NodeAddress}
 use Rattle.mux_routing.specs.declared.rows.SlotRow.{SlotRow}
 use Rattle.mux_routing.specs.Members.{AreLeaders, LeadsARow}
 use Rattle.mux_routing.specs.Shards.{Shard, addresses, leading_below, leads, place_of, primaries, shard_of, shards}
-use Rattle.mux_routing.proofs.Finding.{IsAt, IsPlaced, are_in_order}
+use Rattle.mux_routing.proofs.Finding.{IsPlaced, are_in_order}
 use Rattle.mux_routing.proofs.Keeping.{ArePlaced, each_placed}
 use Rattle.mux_routing.proofs.Members.{In, contains_from, in_append, in_from, in_left, in_right}
 use Rattle.mux_routing.proofs.Ordered.{at_its_place}
@@ -83,9 +82,9 @@ led_one rows i (row, m, e) =
 pub are_leaders : (rows : List SlotRow) → AreLeaders rows (primaries rows)
 unfolding primaries
 are_leaders rows = λ i. (
-      λ c. leads_one rows i (leads_row i (addresses rows) rows (in_leading i (length (addresses rows)) (shards rows) (in_from i (leading_below (length (addresses rows)) (shards rows)) c)).1),
-      λ l. contains_from i (leading_below (length (addresses rows)) (shards rows)) (led_one rows i l)
-    )
+  λ c. leads_one rows i (leads_row i (addresses rows) rows (in_leading i (length (addresses rows)) (shards rows) (in_from i (leading_below (length (addresses rows)) (shards rows)) c)).1),
+  λ l. contains_from i (leading_below (length (addresses rows)) (shards rows)) (led_one rows i l),
+)
 
 pub leaders_by : (rows : List SlotRow) (places : List ℕ) → places ≡ primaries rows → AreLeaders rows places
 leaders_by rows places e = subst (AreLeaders rows) (sym e) (are_leaders rows)

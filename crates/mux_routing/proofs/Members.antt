@@ -1,12 +1,12 @@
 -- The addresses of a map are those that its rows name; two lists in order with the same addresses are one.
-use Rattle.std.proofs.Common.{◌≡◌, ◌↔◌, ◌⊎◌, inl, inr, ℕ, zero, suc, ◌+◌, ◌<◌, ◌≤◌, Bool, true, false, ◌&&◌, List, [], ◌∷◌, ◌++◌, length, get_or, Some, refl, ap, sym, subst, ◌∙◌, arith, if◌then◌else◌}
+use Rattle.std.proofs.Common.{◌≡◌, ◌⊎◌, inl, inr, zero, suc, Bool, true, false, List, [], ◌∷◌, ◌++◌, get_or, Some, refl, ap, sym, subst, ◌∙◌, arith, if◌then◌else◌}
 use Rattle.std.specs.Prelude.{slice_get}
 use Rattle.std.specs.List.{Contains, dedup, list_all}
 use Rattle.std.specs.List.Sorted.{IsPermutation, IsSorted}
 use Rattle.std.proofs.lemmas.List.Kept.{Contains-dedup, Contains-from_dedup, IsStrictlySortedBy-dedup}
 use Rattle.std.proofs.lemmas.List.Sorted.{Contains-permutation, IsPermutation-sym}
 use Rattle.std.proofs.lemmas.Option.{get_or_from_slice_get, slice_get-get_or, slice_get_within}
-use Rattle.containers.proofs.Choices.{both_true, by_test, chosen, not_both}
+use Rattle.containers.proofs.Choices.{both_true, not_both}
 use Rattle.slot_hash.specs.declared.address.NodeAddress.{NodeAddress}
 use Rattle.slot_hash.specs.Order.{address_cmp, address_eq}
 use Rattle.slot_hash.specs.OrderLaws.{cmp_total, eq_equiv, eq_ties}
@@ -94,6 +94,7 @@ of_row a xs r rest (inr m) = row (of_all_inserted a (inserted r.primary xs) r.re
     primary : (r.primary ≡ a) ⊎ In a xs → In a (r.primary ∷ (r.replicas ++ rest)) ⊎ In a xs
     primary (inl e) = inl (inl e)
     primary (inr n) = inr n
+
     row : In a r.replicas ⊎ In a (inserted r.primary xs) → In a (r.primary ∷ (r.replicas ++ rest)) ⊎ In a xs
     row (inl n) = inl (inr (in_left a r.replicas rest n))
     row (inr n) = primary (of_inserted a r.primary xs n)
@@ -135,9 +136,9 @@ only_named a rows h = by (of_rows a [] rows h)
 
 pub are_named : (rows : List SlotRow) → AreNamed rows (addresses rows)
 are_named rows = λ a. (
-      λ c. contains_from a (named rows) (only_named a rows (in_from a (addresses rows) c)),
-      λ c. contains_from a (addresses rows) (at_in a (addresses rows) (each_comes a [] rows (in_from a (named rows) c)))
-    )
+  λ c. contains_from a (named rows) (only_named a rows (in_from a (addresses rows) c)),
+  λ c. contains_from a (addresses rows) (at_in a (addresses rows) (each_comes a [] rows (in_from a (named rows) c))),
+)
 
 -- what is among addresses in order stands at its place
 pub stands_at : (a : NodeAddress) (xs : List NodeAddress) → in_order xs ≡ true → Contains xs a → slice_get xs (place_of xs a) ≡ Some a

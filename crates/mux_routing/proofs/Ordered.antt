@@ -1,6 +1,5 @@
 -- The order of addresses by a test and by a comparison is one; and a binary search finds places.
-use Rattle.std.proofs.Common.{◌≡◌, ℕ, zero, suc, ◌+◌, ◌<◌, ◌≤◌, nat_lt, Bool, true, false, ◌&&◌, ◌||◌, List, [], ◌∷◌, length, get_or, Result, Ok, Err, MatchResult, refl, ap, sym, ◌∙◌, arith, if◌then◌else◌}
-use Rattle.std.specs.Bool.{◌==◌}
+use Rattle.std.proofs.Common.{◌≡◌, ℕ, zero, suc, ◌+◌, ◌<◌, ◌≤◌, nat_lt, true, false, ◌&&◌, ◌||◌, List, [], ◌∷◌, length, get_or, Result, Ok, Err, MatchResult, refl, ap, sym, ◌∙◌, arith, if◌then◌else◌}
 use Rattle.std.specs.List.{AllByRecursion, list_all}
 use Rattle.std.specs.List.Sorted.{IsBinarySearchResult, IsSearchInRange, IsSortedBy, IsStrictlySortedBy}
 use Rattle.std.specs.declared.cmp.Ordering.{Ordering}
@@ -14,7 +13,7 @@ use Rattle.std.proofs.lemmas.List.Sorted.{searchable_from_sorted}
 use Rattle.std.proofs.lemmas.Map.Keys.{Less-from_sorted}
 use Rattle.containers.proofs.Choices.{both_true}
 use Rattle.slot_hash.specs.declared.address.NodeAddress.{NodeAddress}
-use Rattle.slot_hash.specs.Order.{address_cmp, address_eq}
+use Rattle.slot_hash.specs.Order.{address_cmp}
 use Rattle.slot_hash.specs.OrderLaws.{cmp_total, eq_ties}
 use Rattle.slot_hash.proofs.Order.{same_exactly}
 use Rattle.mux_routing.specs.Shards.{address_less, in_order, place_of, text_less}
@@ -117,5 +116,6 @@ at_its_place a xs i h within here = found_at a xs i h within (λ d. ap (λ b. ad
     is_equal Less e = absurd (cc)
     is_equal Equal e = refl
     is_equal Greater e = absurd (cc)
+
     tied : address_cmp a a ≡ Equal
     tied = is_equal (address_cmp a a) (sym (eq_ties a a) ∙ (same_exactly a a).1 refl)

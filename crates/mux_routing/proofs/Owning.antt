@@ -5,7 +5,7 @@ use Rattle.std.proofs.lemmas.Bool.Decides.{nat_tests}
 use Rattle.std.proofs.lemmas.Option.{slice_get-map}
 use Rattle.slot_hash.specs.declared.address.NodeAddress.{NodeAddress}
 use Rattle.mux_routing.specs.declared.rows.SlotRow.{SlotRow}
-use Rattle.mux_routing.specs.Entries.{AreEntries, AreKept, entry_count, entry_of, numbered, owner, owner_from}
+use Rattle.mux_routing.specs.Entries.{AreEntries, AreKept, entry_count, numbered, owner, owner_from}
 use Rattle.mux_routing.specs.Shards.{Shard, addresses, holds, last_row, or_else, shard_at, shard_of}
 
 here : (i : ℕ) (all : List SlotRow) (r : SlotRow) (rs : List SlotRow) → drop i all ≡ r ∷ rs → slice_get all i ≡ Some r

@@ -32,9 +32,7 @@ impl Model for SlotMap {
 
     ghost view = { λ m. rows_kept m.nodes.items m.shards };
 
-    ghost invariant = {
-        λ m. AreKept m.nodes.items m.shards m.entries.items m.primaries.items (rows_kept m.nodes.items m.shards)
-    };
+    ghost invariant = { λ m. AreKept m.nodes.items m.shards m.entries.items m.primaries.items (rows_kept m.nodes.items m.shards) };
 }
 
 impl SlotMap {
