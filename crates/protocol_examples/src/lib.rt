@@ -25,6 +25,7 @@ ghost use Rattle.protocol_examples.specs.Slots.{checksums, hash_tags, slots_of_k
 ghost use Rattle.protocol_examples.specs.Packing.{packed_commands, packed_pipelines};
 ghost use Rattle.protocol_examples.specs.Canonical.{texts_of_scalars, texts_of_aggregates, texts_of_kinds};
 ghost use Rattle.protocol_examples.specs.Tracking.{tracked_commands, subscribed_after, is_subscribed, subscribed_names, resubscribing, bytes_that_resubscribe, tracked_again};
+ghost use Rattle.protocol_examples.specs.SlotRows.{hosts_told, no_rows, primaries_of_slots, primary_of, rows_told};
 ghost use Rattle.protocol_examples.specs.Routes.{part_of_places, routes_to_all, routes_to_any, routes_by_key, routes_by_keys, commands_of_parts};
 
 /// Does nothing. Its contract: each of these texts is the value beside it, whatever follows it.
@@ -149,4 +150,12 @@ pub fn commands_have_these_routes()
     ensures key { Gives routing_of routes_by_key }
     ensures keys { Gives routing_of routes_by_keys }
     ensures parts { Gives part_of_places commands_of_parts }
+{}
+
+/// Does nothing. Its contract: the rows of slots that these replies tell, that others tell none, and that of two rows
+/// with a slot the last one has it.
+pub fn replies_tell_these_rows()
+    ensures hosts { Gives rows_told hosts_told }
+    ensures none { Gives rows_told no_rows }
+    ensures slots { Gives primary_of primaries_of_slots }
 {}
