@@ -1,0 +1,4 @@
+mod Order
+mod Finding
+mod Counting
+mod Standing
