@@ -56,7 +56,7 @@ other_than_less a b l =
     (λ t. let no : address_less a a ≡ true = subst (λ c. address_less c a ≡ true) (sym (one a b t)) l in cc (no, itself a))
     (λ f. f)
 
-other_than_more : (a b : NodeAddress) → address_less a b ≡ true → same_address a b ≡ false
+pub other_than_more : (a b : NodeAddress) → address_less a b ≡ true → same_address a b ≡ false
 other_than_more a b l =
     by_test (same_address a b) (same_address a b ≡ false)
     (λ t. let no : address_less a a ≡ true = subst (λ c. address_less a c ≡ true) (sym (one a b t)) l in cc (no, itself a))

@@ -1,4 +1,4 @@
-ghost use Rattle.std.specs.Prelude.{◌≡◌, ◌<◌, ◌^◌};
+ghost use Rattle.std.specs.Prelude.{◌≡◌, ◌<◌, ◌≤◌, ◌^◌};
 ghost use Rattle.mux_routing.specs.Shards.{asks, shard_at};
 ghost use Rattle.route_choice.specs.Resolver.{pick_count, picks_for};
 
@@ -38,9 +38,10 @@ fn asks(slots: &SlotMap, route: Route) -> bool
 }
 
 /// How many picks a strategy makes for a route, if there is a strategy.
-pub fn picks_for<R>(slots: &SlotMap, route: Route, reads: &Option<R>) -> u32
+pub fn picks_for<R>(slots: &SlotMap, route: Route, reads: &Option<R>) -> usize
     requires { route.slot < 2 ^ 14 }
-    ensures { result ≡ picks_for reads.now route slots.now }
+    ensures is { result ≡ picks_for reads.now route slots.now }
+    ensures few { result ≤ 1 }
 {
     let asked = asks(slots, route);
     match reads {

@@ -15,7 +15,7 @@ use std::alloc::{AllocError, Global};
 
 impl Draws {
     /// The draw behind those that were used.
-    fn behind(self, used: u32) -> u64
+    fn behind(self, used: usize) -> u64
         ensures { result ≡ draw_behind used self }
     {
         if used == 0 { self.first } else { self.second }
@@ -36,7 +36,7 @@ impl RouteTarget {
 
 impl Resolution {
     /// There, with so many draws used.
-    fn goes(draws: u32, target: RouteTarget) -> Resolution
+    fn goes(draws: usize, target: RouteTarget) -> Resolution
         ensures { result ≡ goes draws target }
     {
         Resolution { target, draws }
@@ -47,7 +47,7 @@ impl Resolution {
 fn any_node(
     alloc: Global,
     entries: &[NodeEntry],
-    used: u32,
+    used: usize,
     draws: Draws,
 ) -> Result<Resolution, AllocError>
     requires { used < 2 }

@@ -1,3 +1,5 @@
+use containers::Seq;
+use redis_error::RouteNumbers;
 use slot_hash::NodeAddress;
 
 /// The next two draws. A try uses none of them, the first, or both.
@@ -29,5 +31,23 @@ pub enum RouteTarget {
 #[derive(Drop)]
 pub struct Resolution {
     pub target: RouteTarget,
-    pub draws: u32,
+    pub draws: usize,
+}
+
+/// Where the parts of a request go that goes to several nodes.
+#[derive(Drop)]
+pub enum PartTargets {
+    /// Each part to one node, in order.
+    Parts(Seq<NodeLink>),
+    /// Nowhere: there is no part, or none has a link.
+    NotFound,
+    /// Nowhere: the routes of these numbers, counted from 0, have no link, and others have.
+    RouteWithoutLink(RouteNumbers),
+}
+
+/// Where the parts of a request go, and how many draws that took.
+#[derive(Drop)]
+pub struct PartResolution {
+    pub targets: PartTargets,
+    pub draws: usize,
 }
