@@ -95,7 +95,7 @@ later : (a : NodeAddress) (state : ConnState) (es : List NodeEntry) (node : Node
 later a state es node h e =
     by_test (same_address node.address a) ((if same_address node.address a then Some state else state_at node.address es) ≡ Some (Connected node.link))
     (λ t. let gone : state_at node.address es ≡ None = subst (λ b. state_at b es ≡ None) (sym (one node.address a t)) (not_among a es h) in
-        let no : ◌≡◌ {A = Option ConnState} None (Some (Connected node.link)) = sym gone ∙ e in cc no)
+    let no : ◌≡◌ {A = Option ConnState} None (Some (Connected node.link)) = sym gone ∙ e in cc no)
     (λ f. left_if (same_address node.address a) (Some state) (state_at node.address es) f ∙ e)
 
 listed_by : (a : NodeAddress) (state : ConnState) (es : List NodeEntry) (k : ℕ) (node : NodeLink) → list_all (address_less a) (addresses_of es) ≡ true → ((j : ℕ) → slice_get (connected_nodes es) j ≡ Some node → IsConnected es node.address node.link) → slice_get (before_others (option_map (over a) (connected_link state)) (connected_nodes es)) k ≡ Some node → (if same_address node.address a then Some state else state_at node.address es) ≡ Some (Connected node.link)

@@ -86,8 +86,8 @@ seen_first a e es l h =
     by_test (same_address a e.address) (SeenAt a e es 0)
     (λ t. taken_if (same_address a e.address) (Some e.state) (state_at a es) t ∙ sym (taken_if (same_address a e.address) (Some e.state) None t))
     (λ f. left_if (same_address a e.address) (Some e.state) (state_at a es) f
-        ∙ beyond a e.address es (comes_first f) h
-        ∙ sym (left_if (same_address a e.address) (Some e.state) None f))
+    ∙ beyond a e.address es (comes_first f) h
+    ∙ sym (left_if (same_address a e.address) (Some e.state) None f))
   where
     comes_first : same_address a e.address ≡ false → address_less a e.address ≡ true
     comes_first f =
@@ -99,9 +99,9 @@ finds a [] h = refl
 finds a (e ∷ es) h =
     by_test (address_less e.address a) (SeenAt a e es (place_of (addresses_of (e ∷ es)) a))
     (λ t. subst (SeenAt a e es) (sym (taken_if (address_less e.address a) (suc (place_of (addresses_of es) a)) 0 t))
-        (seen_later a e es t (finds a es (both_right (list_all (address_less e.address) (addresses_of es)) (are_ordered es) h))))
+    (seen_later a e es t (finds a es (both_right (list_all (address_less e.address) (addresses_of es)) (are_ordered es) h))))
     (λ f. subst (SeenAt a e es) (sym (left_if (address_less e.address a) (suc (place_of (addresses_of es) a)) 0 f))
-        (seen_first a e es f (both_left (list_all (address_less e.address) (addresses_of es)) (are_ordered es) h)))
+    (seen_first a e es f (both_left (list_all (address_less e.address) (addresses_of es)) (are_ordered es) h)))
 
 -- as entries are read
 pub reads_before : (es : List NodeEntry) (a : NodeAddress) (m : ℕ) (d : NodeEntry) (r : Bool) → are_ordered es ≡ true → m < length es → r ≡ address_less (get_or es m d).address a → r ≡ nat_lt m (place_of (addresses_of es) a)

@@ -34,8 +34,8 @@ before_put b a state (e ∷ es) l h =
     chosen (λ xs. ComesBefore b xs ≡ true) (address_less e.address a) (e ∷ put a state es) (if address_less a e.address then entry a state ∷ e ∷ es else entry a state ∷ es)
     (λ t. both (address_less b e.address) (ComesBefore b (put a state es)) first (before_put b a state es l others))
     (λ f. chosen (λ xs. ComesBefore b xs ≡ true) (address_less a e.address) (entry a state ∷ e ∷ es) (entry a state ∷ es)
-        (λ t. both (address_less b a) (ComesBefore b (e ∷ es)) l h)
-        (λ g. both (address_less b a) (ComesBefore b es) l others))
+    (λ t. both (address_less b a) (ComesBefore b (e ∷ es)) l h)
+    (λ g. both (address_less b a) (ComesBefore b es) l others))
 
 pub stays_with : StaysInOrderWith
 stays_with a state [] h = refl
@@ -45,8 +45,8 @@ stays_with a state (e ∷ es) h =
     chosen (λ xs. are_ordered xs ≡ true) (address_less e.address a) (e ∷ put a state es) (if address_less a e.address then entry a state ∷ e ∷ es else entry a state ∷ es)
     (λ t. both (ComesBefore e.address (put a state es)) (are_ordered (put a state es)) (before_put e.address a state es t behind) (stays_with a state es rest))
     (λ f. chosen (λ xs. are_ordered xs ≡ true) (address_less a e.address) (entry a state ∷ e ∷ es) (entry a state ∷ es)
-        (λ t. both (ComesBefore a (e ∷ es)) (are_ordered (e ∷ es)) (both (address_less a e.address) (ComesBefore a es) t (before_all a e.address es t behind)) h)
-        (λ g. both (ComesBefore a es) (are_ordered es) (subst (λ b. ComesBefore b es ≡ true) (tied e.address a f g) behind) rest))
+    (λ t. both (ComesBefore a (e ∷ es)) (are_ordered (e ∷ es)) (both (address_less a e.address) (ComesBefore a es) t (before_all a e.address es t behind)) h)
+    (λ g. both (ComesBefore a es) (are_ordered es) (subst (λ b. ComesBefore b es ≡ true) (tied e.address a f g) behind) rest))
 
 before_without : (b a : NodeAddress) (es : List NodeEntry) → ComesBefore b es ≡ true → ComesBefore b (without a es) ≡ true
 before_without b a [] h = refl

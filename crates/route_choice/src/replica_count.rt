@@ -45,13 +45,7 @@ pub fn picks_for<R>(slots: &SlotMap, route: Route, reads: &Option<R>) -> usize
 {
     let asked = asks(slots, route);
     match reads {
-        Some(_) => {
-            if asked {
-                1
-            } else {
-                0
-            }
-        }
+        Some(_) => { if asked { 1 } else { 0 } }
         None => 0,
     }
 }

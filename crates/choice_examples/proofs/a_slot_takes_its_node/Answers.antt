@@ -5,4 +5,4 @@ use Rattle.choice_examples.proofs.a_slot_takes_its_node.Goals as goal
 
 pub returns : goal.returns
 unfolding address_less shard_at resolution
-returns c = record { primary = refl; optional = refl; required = refl; random = refl; in_turn = refl; }
+returns c = record { primary = refl; optional = refl; required = refl; random = refl; in_turn = refl }

@@ -5,4 +5,4 @@ use Rattle.choice_examples.proofs.other_routes_go_so.Goals as goal
 
 pub returns : goal.returns
 unfolding address_less shard_at resolution
-returns c = record { any = refl; only = refl; none = refl; address = refl; repaired = refl; moved = refl; ask = refl; ask_repaired = refl; link = refl; }
+returns c = record { any = refl; only = refl; none = refl; address = refl; repaired = refl; moved = refl; ask = refl; ask_repaired = refl; link = refl }

@@ -5,4 +5,4 @@ use Rattle.choice_examples.proofs.parts_go_so.Goals as goal
 
 pub returns : goal.returns
 unfolding address_less primaries shard_at part_resolution
-returns c = record { all = refl; primaries = refl; none = refl; routes = refl; picks = refl; draws = refl; no_stand_in = refl; no_link = refl; }
+returns c = record { all = refl; primaries = refl; none = refl; routes = refl; picks = refl; draws = refl; no_stand_in = refl; no_link = refl }
