@@ -12,7 +12,7 @@ use Rattle.route_choice.specs.Entries.{addresses_of, are_ordered}
 use Rattle.route_choice.specs.OrderLaws.{RepairKeepsOrder, StaysInOrderWith, StaysInOrderWithout}
 use Rattle.route_choice.proofs.Order.{onwards, tied}
 
-both : (p q : Bool) → p ≡ true → q ≡ true → (p && q) ≡ true
+pub both : (p q : Bool) → p ≡ true → q ≡ true → (p && q) ≡ true
 both true q h g = g
 both false q h g = cc
 

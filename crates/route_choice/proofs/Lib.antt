@@ -2,8 +2,8 @@ mod Order
 mod Finding
 mod Counting
 mod Standing
-mod Routing
 mod Allowed
 mod Choosing
 mod PartsLinked
 mod Keeping
+mod Once

@@ -61,7 +61,7 @@ all_led pick_of picked reads draws used entries rows (part ∷ more) =
 parts_same : (x y : List NodeLink) → targets.Parts x ≡ targets.Parts y → x ≡ y
 parts_same x y e = cc e
 
-nodes_are : (nodes found : List NodeLink) → for_nodes nodes ≡ targets.Parts found → nodes ≡ found
+pub nodes_are : (nodes found : List NodeLink) → for_nodes nodes ≡ targets.Parts found → nodes ≡ found
 nodes_are nodes found = by (length nodes == 0)
   where
     by : (b : Bool) → (if b then targets.NotFound else targets.Parts nodes) ≡ targets.Parts found → nodes ≡ found
@@ -95,7 +95,7 @@ of_over : (a : NodeAddress) (link : Option ℕ) (node : NodeLink) → option_map
 of_over a None node e = cc
 of_over a (Some l) node e = let is : over a l ≡ node = cc e in sym (ap (λ n. Some n.address) is)
 
-led_part : (entries : List NodeEntry) (to : Option NodeAddress) (node : NodeLink) → option_and_then (part_at entries) to ≡ Some node → Some node.address ≡ to
+pub led_part : (entries : List NodeEntry) (to : Option NodeAddress) (node : NodeLink) → option_and_then (part_at entries) to ≡ Some node → Some node.address ≡ to
 led_part entries None node e = cc
 led_part entries (Some a) node e = of_over a (link_in (state_at a entries)) node e
 

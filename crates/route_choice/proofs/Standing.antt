@@ -24,7 +24,3 @@ first_is entries nodes (place ∷ places) (a ∷ more) e =
 
 pub stand_in_is : (entries : List NodeEntry) (route : Route) (rows : List SlotRow) (places : List ℕ) → map (slice_get (addresses rows)) places ≡ map Some (fallback_addresses route.addr (last_row route.slot rows)) → first_of entries (addresses rows) places ≡ stand_in route entries rows
 stand_in_is entries route rows places e = first_is entries (addresses rows) places (fallback_addresses route.addr (last_row route.slot rows)) e
-
-pub preferred_is : (entries : List NodeEntry) (pick : Option (ℕ → ℕ)) (route : Route) (rows : List SlotRow) (place : Option ℕ) → option_and_then (slice_get (addresses rows)) place ≡ address_led_to route pick rows → option_and_then (λ i. option_and_then (connected_at entries) (slice_get (addresses rows) i)) place ≡ preferred pick route entries rows
-preferred_is entries pick route rows None e = ap (option_and_then (connected_at entries)) e
-preferred_is entries pick route rows (Some i) e = ap (option_and_then (connected_at entries)) e

@@ -1,12 +1,12 @@
 -- What is true of the parts of a request that goes to several nodes.
-use Rattle.std.specs.Prelude.{◌≡◌, ◌≤◌, ◌⊎◌, ℕ, ◌+◌, get_or, List, [], ◌∷◌, map, length, Option, Some}
+use Rattle.std.specs.Prelude.{◌≡◌, ◌≤◌, ◌⊎◌, ℕ, ◌+◌, true, get_or, List, [], ◌∷◌, map, length, Option, Some}
 use Rattle.std.specs.List.{All}
 use Rattle.slot_hash.specs.declared.address.NodeAddress.{NodeAddress}
 use Rattle.command_table.specs.declared.routing.Route.{Route}
 use Rattle.command_table.specs.declared.routing.MultipleNodeRoutingInfo.{MultipleNodeRoutingInfo}
-use Rattle.command_table.specs.declared.routing.MultipleNodeRoutingInfo.TheVariants.{MultiSlot}
+use Rattle.command_table.specs.declared.routing.MultipleNodeRoutingInfo.TheVariants.{AllNodes, AllMasters, MultiSlot}
 use Rattle.mux_routing.specs.declared.rows.SlotRow.{SlotRow}
-use Rattle.mux_routing.specs.Shards.{address_led_to, picking, reads_after, shard_at}
+use Rattle.mux_routing.specs.Shards.{address_led_to, addresses, in_order, picking, reads_after, shard_at}
 use Rattle.cluster_plan.specs.declared.connections.ConnState.TheVariants.{Connected, Reconnecting}
 use Rattle.cluster_plan.specs.declared.connections.NodeEntry.{NodeEntry}
 use Rattle.cluster_plan.specs.Connections.{state_at}
@@ -25,6 +25,20 @@ abbrev pub EachPartIsLinked : {R : Type 0} → (R → ℕ → ℕ → ℕ) → (
 EachPartIsLinked {R} pick_of picked =
     (reads : Option R) (nodes : MultipleNodeRoutingInfo) (draws : List ℕ) (entries : List NodeEntry) (rows : List SlotRow) (found : List NodeLink)
     → (part_resolution pick_of picked reads nodes draws entries rows).targets ≡ Parts found → All (IsLinked entries) found
+
+abbrev pub IsOfNodes : MultipleNodeRoutingInfo → Type 0
+IsOfNodes AllNodes = Unit {0}
+IsOfNodes AllMasters = Unit {0}
+IsOfNodes (MultiSlot routes) = ⊥
+
+-- to all nodes, or to all primaries, the parts go in the order of addresses, to each once; the addresses of a map's rows stand in
+-- order, each once
+abbrev pub EachNodeOnce : {R : Type 0} → (R → ℕ → ℕ → ℕ) → (R → ℕ → ℕ → R) → Type 0
+EachNodeOnce {R} pick_of picked =
+    (reads : Option R) (nodes : MultipleNodeRoutingInfo) (draws : List ℕ) (entries : List NodeEntry) (rows : List SlotRow) (found : List NodeLink)
+    → IsOfNodes nodes → in_order (addresses rows) ≡ true
+    → (part_resolution pick_of picked reads nodes draws entries rows).targets ≡ Parts found
+    → in_order (map (λ node. node.address) found) ≡ true
 
 -- the addresses to which routes lead, in order; each pick of a strategy takes the next draw
 abbrev pub led_addresses : {R : Type 0} → (R → ℕ → ℕ → ℕ) → (R → ℕ → ℕ → R) → Option R → List ℕ → ℕ → List SlotRow → List (Route × List ℕ) → List (Option NodeAddress)

@@ -1,6 +1,6 @@
 ghost use Rattle.route_choice.specs.MayUse.{ConnectsWhereNamed, GoesWhereItMay, IsFoundWhereOneServes};
 ghost use Rattle.route_choice.specs.OrderLaws.{RepairKeepsOrder, StaysInOrderWith, StaysInOrderWithout};
-ghost use Rattle.route_choice.specs.PartLaws.{DrawsAreFew, EachPartIsLinked, EachRouteHasItsNode};
+ghost use Rattle.route_choice.specs.PartLaws.{DrawsAreFew, EachNodeOnce, EachPartIsLinked, EachRouteHasItsNode};
 
 use mux_routing::ReadRoutingStrategy;
 
@@ -14,10 +14,11 @@ pub fn a_try_goes_where_it_may<R: ReadRoutingStrategy>()
 {}
 
 /// Does nothing. Its contract, for any strategy: each part of a request goes over a link that there is, connected or being repaired;
-/// with keys in several slots each route has one part, in order, to the node to which it leads, and no other stands in; and no more
-/// draws are used than there are routes.
+/// of all nodes, or all primaries, each has one at most; with keys in several slots each route has one part, in order, to the node to
+/// which it leads, and no other stands in; and no more draws are used than there are routes.
 pub fn parts_go_to_their_own_nodes<R: ReadRoutingStrategy>()
     ensures linked { EachPartIsLinked R.pick_of R.picked }
+    ensures once { EachNodeOnce R.pick_of R.picked }
     ensures own { EachRouteHasItsNode R.pick_of R.picked }
     ensures draws { DrawsAreFew R.pick_of R.picked }
 {}

@@ -6,6 +6,7 @@ ghost use Rattle.route_choice.specs.Parts.{are_slots, of_places, of_routes, part
 use crate::entries::state_at;
 use crate::gathering::Gathered;
 use crate::replica_count::picks_for;
+use crate::stand_ins::led_address;
 use crate::targets::{NodeLink, PartResolution};
 use cluster_plan::{ConnState, ConnectionMap, NodeEntry};
 use mux_routing::{
@@ -90,7 +91,6 @@ fn of_places(
 }
 
 /// The node that a route prefers, over its link, if it has one.
-#[tactic(auto, using(crate::proofs::Routing::route_node_is))]
 fn route_node<R: ReadRoutingStrategy>(
     alloc: Global,
     entries: &[NodeEntry],
@@ -106,10 +106,10 @@ fn route_node<R: ReadRoutingStrategy>(
     ensures reads { reads.new
         ≡ reads_after R.picked route.addr (shard_at route.slot slots.now) draw reads.old }
 {
-    let Some(place) = slots.slot_addr_for_route(route, reads, draw) else {
-        return Ok(None);
-    };
-    part_node(alloc, entries, slots, place)
+    match led_address(slots, route, reads, draw) {
+        Some(address) => part_at(alloc, entries, address),
+        None => Ok(None),
+    }
 }
 
 /// The nodes of these routes, and how many picks a strategy made for them.

@@ -1,5 +1,5 @@
-ghost use Rattle.std.specs.Prelude.{◌≡◌, ◌<◌, ◌^◌, true, IfOk, option_and_then, slice_get};
-ghost use Rattle.mux_routing.specs.Shards.{addresses, picking, reads_after, shard_at};
+ghost use Rattle.std.specs.Prelude.{◌≡◌, ◌<◌, ◌^◌, true, IfOk, option_and_then, option_copied, slice_get};
+ghost use Rattle.mux_routing.specs.Shards.{address_led_to, addresses, picking, reads_after, shard_at};
 ghost use Rattle.route_choice.specs.Entries.{are_ordered, connected_at};
 ghost use Rattle.route_choice.specs.Resolver.{preferred, stand_in};
 ghost use Rattle.route_choice.specs.Places.{first_of};
@@ -8,6 +8,7 @@ use crate::entries::connected_at;
 use crate::targets::NodeLink;
 use cluster_plan::NodeEntry;
 use mux_routing::{NodeIndex, ReadRoutingStrategy, Route, SlotMap};
+use slot_hash::NodeAddress;
 use std::alloc::{AllocError, Global};
 
 /// The node of a place among those of the slots, if it is connected.
@@ -46,8 +47,24 @@ fn first_connected(
     Ok(None)
 }
 
+/// The address of the node that a route prefers, if a row of the slots says one.
+pub fn led_address<'a, R: ReadRoutingStrategy>(
+    slots: &'a SlotMap,
+    route: Route,
+    reads: &mut Option<R>,
+    draw: u64,
+) -> Option<&'a NodeAddress>
+    requires { route.slot < 2 ^ 14 }
+    ensures address { option_copied result
+        ≡ address_led_to route (picking R.pick_of reads.old draw) slots.now }
+    ensures reads { reads.new
+        ≡ reads_after R.picked route.addr (shard_at route.slot slots.now) draw reads.old }
+{
+    let place = slots.slot_addr_for_route(route, reads, draw)?;
+    Some(slots.address(place))
+}
+
 /// The node that a slot's route prefers, if it is connected.
-#[tactic(auto, using(crate::proofs::Standing::preferred_is))]
 pub fn preferred<R: ReadRoutingStrategy>(
     alloc: Global,
     entries: &[NodeEntry],
@@ -63,10 +80,10 @@ pub fn preferred<R: ReadRoutingStrategy>(
     ensures reads { reads.new
         ≡ reads_after R.picked route.addr (shard_at route.slot slots.now) draw reads.old }
 {
-    let Some(place) = slots.slot_addr_for_route(route, reads, draw) else {
-        return Ok(None);
-    };
-    connected_node(alloc, entries, slots, place)
+    match led_address(slots, route, reads, draw) {
+        Some(address) => connected_at(alloc, entries, address),
+        None => Ok(None),
+    }
 }
 
 /// The first node of a route's shard that may stand in and is connected.
