@@ -1,5 +1,5 @@
 -- A resolution gives a node that its try may use.
-use Rattle.std.proofs.Common.{◌≡◌, ◌⊎◌, inl, inr, ℕ, zero, suc, ◌+◌, ◌%◌, ◌<◌, ◌==◌, Bool, true, false, List, [], ◌∷◌, ◌++◌, length, Option, Some, None, refl, sym, ap, subst, ◌∙◌, arith, if◌then◌else◌}
+use Rattle.std.proofs.Common.{◌≡◌, ℕ, zero, suc, ◌+◌, ◌%◌, ◌<◌, ◌==◌, Bool, true, false, List, [], ◌∷◌, length, Option, Some, None, refl, sym, ap, subst, ◌∙◌, arith, if◌then◌else◌}
 use Rattle.std.specs.Prelude.{option_and_then, option_map, slice_get}
 use Rattle.std.specs.List.{All, list_all}
 use Rattle.std.specs.Option.{option_or}
@@ -12,13 +12,12 @@ use Rattle.cluster_plan.specs.Connections.{connected_link, state_at}
 use Rattle.cluster_plan.specs.declared.connections.ConnState.{ConnState}
 use Rattle.cluster_plan.specs.declared.connections.ConnState.TheVariants.{Connected, Reconnecting, Connecting}
 use Rattle.cluster_plan.specs.declared.connections.NodeEntry.{NodeEntry}
-use Rattle.route_choice.specs.declared.targets.Draws.{Draws}
 use Rattle.route_choice.specs.declared.targets.NodeLink.{NodeLink}
 use Rattle.route_choice.specs.declared.targets.RouteTarget.{RouteTarget}
 use Rattle.route_choice.specs.declared.targets.RouteTarget.TheVariants.{Node, Connect, NotFound}
 use Rattle.route_choice.specs.declared.targets.Resolution.{Resolution}
 use Rattle.route_choice.specs.Entries.{addresses_of, are_ordered, before_others, connected_at, connected_nodes, first_connected, over, serving}
-use Rattle.route_choice.specs.Resolver.{any_of, goes, node_or, served}
+use Rattle.route_choice.specs.Resolver.{any_of, goes, node_or}
 use Rattle.route_choice.specs.MayUse.{AllAreAway, IsAway, IsConnected, IsFirst, LedIsAway}
 use Rattle.route_choice.proofs.Finding.{other_than_more}
 use Rattle.route_choice.proofs.Order.{one, same}

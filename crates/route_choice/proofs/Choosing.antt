@@ -1,6 +1,6 @@
 -- Where each route goes is where it may.
-use Rattle.std.proofs.Common.{◌≡◌, ◌⊎◌, inl, inr, ℕ, ◌+◌, ◌%◌, true, List, [], ◌∷◌, length, Option, Some, None, refl, sym, ap, subst, ◌∙◌}
-use Rattle.std.specs.Prelude.{option_and_then, slice_get}
+use Rattle.std.proofs.Common.{◌≡◌, inl, inr, ℕ, true, List, Option, Some, None, refl, sym, ap, subst, ◌∙◌}
+use Rattle.std.specs.Prelude.{option_and_then}
 use Rattle.slot_hash.specs.declared.address.NodeAddress.{NodeAddress}
 use Rattle.mux_routing.specs.declared.rows.SlotRow.{SlotRow}
 use Rattle.mux_routing.specs.Shards.{address_led_to, fallback_addresses, last_row, picking}
@@ -13,7 +13,7 @@ use Rattle.route_choice.specs.declared.targets.NodeLink.{NodeLink}
 use Rattle.route_choice.specs.declared.targets.RouteTarget.TheVariants.{Node, Connect, NotFound}
 use Rattle.route_choice.specs.declared.targets.Resolution.{Resolution}
 use Rattle.route_choice.specs.Entries.{are_ordered, connected_at, connected_nodes, first_connected, over}
-use Rattle.route_choice.specs.Resolver.{any_node, by_address, by_redirect, by_route, draw_behind, goes, named_by, node_or, picks_for, redirected_or, resolution, served}
+use Rattle.route_choice.specs.Resolver.{any_node, by_route, draw_behind, named_by, node_or, picks_for, redirected_or, resolution, served}
 use Rattle.route_choice.specs.MayUse.{AllAreAway, ConnectsWhereNamed, GoesWhereItMay, IsAway, IsConnected, IsFoundWhereOneServes, IsNamedBy, MayServe, MayUseBy, NobodyServesBy}
 use Rattle.route_choice.proofs.Allowed.{all_away, any_here, first_here, is_away, is_connected, led_away, led_here, listed, never_connects, none_here, none_listed}
 

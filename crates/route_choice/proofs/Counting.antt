@@ -1,9 +1,8 @@
 -- A strategy that counts replicas has seen some exactly where a strategy is asked.
-use Rattle.std.proofs.Common.{◌≡◌, ℕ, zero, suc, nat_lt, ◌&&◌, Bool, true, false, List, [], ◌∷◌, length, Option, Some, None, refl, arith, if◌then◌else◌}
+use Rattle.std.proofs.Common.{◌≡◌, ℕ, zero, suc, nat_lt, ◌&&◌, Bool, true, false, length, Option, Some, None, arith, if◌then◌else◌}
 use Rattle.std.proofs.lemmas.Bool.Decides.{nat_tests}
 use Rattle.command_table.specs.declared.routing.SlotAddr.{SlotAddr}
-use Rattle.command_table.specs.declared.routing.SlotAddr.TheVariants.{Master, ReplicaOptional, ReplicaRequired}
-use Rattle.mux_routing.specs.Shards.{Shard, asks, may_pick, reads_after, replica_count}
+use Rattle.mux_routing.specs.Shards.{Shard, asks, may_pick, reads_after}
 use Rattle.route_choice.specs.declared.replica_count.ReplicaCount.{ReplicaCount}
 use Rattle.route_choice.specs.ReplicaCounts.{counted}
 

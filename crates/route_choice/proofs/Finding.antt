@@ -1,12 +1,12 @@
 -- Entries in order are found by halving.
-use Rattle.std.proofs.Common.{◌≡◌, ℕ, zero, suc, ◌<◌, ◌≤◌, nat_lt, ◌&&◌, Bool, true, false, List, [], ◌∷◌, length, Option, Some, None, refl, sym, ap, subst, ◌∙◌, arith, if◌then◌else◌}
+use Rattle.std.proofs.Common.{◌≡◌, ℕ, zero, suc, ◌<◌, ◌≤◌, nat_lt, Bool, true, false, List, [], ◌∷◌, length, Option, Some, None, refl, sym, ap, subst, ◌∙◌, arith, if◌then◌else◌}
 use Rattle.std.specs.Prelude.{get_or, slice_get}
 use Rattle.std.specs.List.{list_all}
 use Rattle.std.proofs.lemmas.Bool.Decides.{nat_tests}
 use Rattle.std.proofs.lemmas.Option.{slice_get-get_or, slice_get_past, slice_get_read}
 use Rattle.containers.proofs.Choices.{both_left, both_right, by_test, left_if, taken_if}
 use Rattle.slot_hash.specs.declared.address.NodeAddress.{NodeAddress}
-use Rattle.mux_routing.specs.Shards.{address_less, in_order, place_of}
+use Rattle.mux_routing.specs.Shards.{address_less, place_of}
 use Rattle.cluster_plan.specs.Asks.{same_address}
 use Rattle.cluster_plan.specs.Connections.{state_at}
 use Rattle.cluster_plan.specs.declared.connections.ConnState.{ConnState}

@@ -1,5 +1,5 @@
 -- Addresses are in a total order.
-use Rattle.std.proofs.Common.{◌≡◌, ℕ, ◌==◌, nat_lt, ◌&&◌, ◌||◌, Bool, true, false, List, [], ◌∷◌, Some, refl, sym, ◌∙◌, arith}
+use Rattle.std.proofs.Common.{◌≡◌, ℕ, ◌==◌, nat_lt, ◌&&◌, ◌||◌, Bool, true, false, List, [], ◌∷◌, Some, refl, sym, arith}
 use Rattle.std.specs.Ordering.{is_lt, is_some_and, nat_cmp}
 use Rattle.std.specs.Cmp.Lexicographic.{slice_partial_cmp}
 use Rattle.std.specs.Str.{bytes_eq}

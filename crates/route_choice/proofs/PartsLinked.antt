@@ -1,5 +1,5 @@
 -- Parts go over links that there are, to the nodes to which their routes lead.
-use Rattle.std.proofs.Common.{◌≡◌, ◌≤◌, ◌⊎◌, inl, inr, ℕ, suc, ◌+◌, ◌==◌, Bool, true, false, List, [], ◌∷◌, map, length, Option, Some, None, IfSome, refl, sym, ap, subst, ◌∙◌, arith, get_or, if◌then◌else◌}
+use Rattle.std.proofs.Common.{◌≡◌, ◌≤◌, inl, inr, ℕ, suc, ◌+◌, ◌==◌, Bool, true, false, List, [], ◌∷◌, map, length, Option, Some, None, IfSome, refl, sym, ap, subst, ◌∙◌, arith, get_or, if◌then◌else◌}
 use Rattle.std.specs.Prelude.{option_and_then, option_map, slice_get}
 use Rattle.std.specs.List.{All}
 use Rattle.std.proofs.lemmas.List.Elements.{All-nil, All-cons, All-head, All-tail}
@@ -14,7 +14,6 @@ use Rattle.cluster_plan.specs.declared.connections.ConnState.TheVariants.{Connec
 use Rattle.cluster_plan.specs.declared.connections.NodeEntry.{NodeEntry}
 use Rattle.cluster_plan.specs.Connections.{link_in, state_at}
 use Rattle.route_choice.specs.declared.targets.NodeLink.{NodeLink}
-use Rattle.route_choice.specs.declared.targets.PartTargets.{PartTargets}
 use Rattle.route_choice.specs.declared.targets.PartTargets.TheVariants as targets
 use Rattle.route_choice.specs.Entries.{over}
 use Rattle.route_choice.specs.Parts.{for_nodes, for_routes, missing_from, part_at, part_resolution, parts_at, route_nodes, route_picks, those_there}

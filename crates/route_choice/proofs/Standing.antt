@@ -1,16 +1,15 @@
 -- Nodes that stand in, by their places.
-use Rattle.std.proofs.Common.{◌≡◌, ℕ, List, [], ◌∷◌, map, Option, Some, None, refl, ap, ◌∙◌}
+use Rattle.std.proofs.Common.{◌≡◌, ℕ, List, [], ◌∷◌, map, Some, refl, ap, ◌∙◌}
 use Rattle.std.specs.Prelude.{option_and_then, slice_get}
 use Rattle.std.specs.Option.{option_or}
 use Rattle.slot_hash.specs.declared.address.NodeAddress.{NodeAddress}
 use Rattle.command_table.specs.declared.routing.Route.{Route}
 use Rattle.mux_routing.specs.declared.rows.SlotRow.{SlotRow}
-use Rattle.mux_routing.specs.Shards.{addresses, address_led_to, fallback_addresses, last_row}
+use Rattle.mux_routing.specs.Shards.{addresses, fallback_addresses, last_row}
 use Rattle.cluster_plan.specs.declared.connections.NodeEntry.{NodeEntry}
-use Rattle.route_choice.specs.declared.targets.NodeLink.{NodeLink}
 use Rattle.route_choice.specs.Entries.{connected_at, first_connected}
 use Rattle.route_choice.specs.Places.{first_of}
-use Rattle.route_choice.specs.Resolver.{preferred, stand_in}
+use Rattle.route_choice.specs.Resolver.{stand_in}
 
 first_is : (entries : List NodeEntry) (nodes : List NodeAddress) (places : List ℕ) (listed : List NodeAddress) → map (slice_get nodes) places ≡ map Some listed → first_of entries nodes places ≡ first_connected entries listed
 first_is entries nodes [] [] e = refl

@@ -2,7 +2,6 @@
 use Rattle.std.specs.Prelude.{◌≡◌, ◌⊎◌, ℕ, ◌+◌, ◌%◌, true, List, ◌∷◌, ◌++◌, length, Option, Some, None, slice_get}
 use Rattle.std.specs.List.{All}
 use Rattle.slot_hash.specs.declared.address.NodeAddress.{NodeAddress}
-use Rattle.command_table.specs.declared.routing.Route.{Route}
 use Rattle.mux_routing.specs.declared.rows.SlotRow.{SlotRow}
 use Rattle.mux_routing.specs.Shards.{address_led_to, fallback_addresses, last_row, picking}
 use Rattle.cluster_retries.specs.declared.request_routing.Redirect.{Redirect}
