@@ -1,5 +1,5 @@
 -- Tries in a cluster of three nodes at the host h, and where they go.
-use Rattle.std.specs.Prelude.{ℕ, List, [], ◌∷◌, Option, Some, None, codes}
+use Rattle.std.specs.Prelude.{ℕ, List, [], ◌∷◌, Option, codes}
 use Rattle.slot_hash.specs.declared.address.NodeAddress.{NodeAddress}
 use Rattle.command_table.specs.declared.routing.SlotAddr.{SlotAddr}
 use Rattle.mux_routing.specs.declared.rows.SlotRow.{SlotRow}
