@@ -1,4 +1,4 @@
-mod AddressOrder
+pub mod AddressOrder
 mod Inserting
 mod Unions
 mod Joining

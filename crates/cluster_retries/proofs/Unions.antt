@@ -148,6 +148,23 @@ kept (x ∷ xs) o =
 pub union_is : (xs ys zs : List NodeAddress) → in_order xs ≡ true → zs ≡ all_inserted xs ys → zs ≡ union xs ys
 union_is xs ys zs o e = e ∙ ap (λ ns. all_inserted ns ys) (sym (kept xs o)) ∙ sym (in_turn [] xs ys)
 
+-- so far some of the next addresses were put in, and these are left
+abbrev pub IsPutIn : List NodeAddress → List NodeAddress → List NodeAddress → List NodeAddress → Type 0
+IsPutIn first next left now = (put : List NodeAddress) × (next ≡ put ++ left) × (now ≡ union first put)
+
+pub none_put_in : (first next : List NodeAddress) → in_order first ≡ true → IsPutIn first next next first
+none_put_in first next o = ([], refl, union_is first [] first o refl)
+
+pub one_put_in : (first next rest left now new : List NodeAddress) (a : NodeAddress) → IsPutIn first next rest now → rest ≡ a ∷ left → new ≡ inserted a now → IsPutIn first next left new
+one_put_in first next rest left now new a so_far e f = (
+  so_far.0 ++ a ∷ [],
+  so_far.1 ∙ ap (λ more. so_far.0 ++ more) e ∙ sym (append_assoc so_far.0 (a ∷ []) left),
+  f ∙ ap (inserted a) so_far.2 ∙ sym (in_turn [] (first ++ so_far.0) (a ∷ [])) ∙ ap (all_inserted []) (append_assoc first so_far.0 (a ∷ [])),
+)
+
+pub one_less : (rest left now new : List NodeAddress) (a : NodeAddress) → rest ≡ a ∷ left → new ≡ inserted a now → all_inserted new left ≡ all_inserted now rest
+one_less rest left now new a e f = ap (λ ns. all_inserted ns left) f ∙ ap (all_inserted now) (sym e)
+
 first_of_three : (xs ys zs : List NodeAddress) → union (union xs ys) zs ≡ all_inserted [] ((xs ++ ys) ++ zs)
 first_of_three xs ys zs = sym (union_is (union xs ys) zs (all_inserted [] ((xs ++ ys) ++ zs)) (union_ordered xs ys) (in_turn [] (xs ++ ys) zs))
 

@@ -1,5 +1,5 @@
 -- How the actions of a pass become one.
-use Rattle.std.specs.Prelude.{◌==◌, ◌&&◌, Bool, List, [], ◌++◌}
+use Rattle.std.specs.Prelude.{◌≡◌, ◌==◌, ◌&&◌, Bool, List, [], ◌++◌}
 use Rattle.std.specs.List.{list_any}
 use Rattle.std.specs.Str.{bytes_eq}
 use Rattle.slot_hash.specs.declared.address.NodeAddress.{NodeAddress}
@@ -18,6 +18,10 @@ is_among address addresses = list_any (same_address address) addresses
 -- the addresses of both, each once and in order
 abbrev pub union : List NodeAddress → List NodeAddress → List NodeAddress
 union first next = all_inserted [] (first ++ next)
+
+-- those addresses, and of the next ones the first so many
+abbrev pub IsJoinedInPart : List NodeAddress → List NodeAddress → List NodeAddress → Type 0
+IsJoinedInPart first next joined = (put left : List NodeAddress) × (next ≡ put ++ left) × (joined ≡ union first put)
 
 -- an action and the next one as one: nothing to do adds nothing; beside a reconnect to the initial nodes nothing else is done; then
 -- beside a rebuild of the slots; else each node of both is reconnected

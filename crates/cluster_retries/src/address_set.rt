@@ -1,6 +1,6 @@
 ghost use Rattle.std.specs.Prelude.{◌≡◌, ◌==◌, ◌≤◌, [], ◌∷◌, insert, length, true, IfOk, IfSome, MatchOption, OnOk, OnErr};
 ghost use Rattle.mux_routing.specs.Shards.{address_less, in_order, inserted, place_of, text_less};
-ghost use Rattle.cluster_retries.specs.Actions.{union};
+ghost use Rattle.cluster_retries.specs.Actions.{IsJoinedInPart, union};
 
 use containers::Queue;
 use slot_hash::NodeAddress;
@@ -126,10 +126,12 @@ impl AddressSet {
         Ok(())
     }
 
-    /// Puts all of these in their places, unless they are there. After an error any of them may be missing.
-    #[tactic(auto, using(crate::proofs::Unions::union_is))]
+    /// Puts all of these in their places, unless they are there. An error leaves those that were put in before it, beside the
+    /// addresses that there were.
+    #[tactic(auto, using(crate::proofs::Unions::union_is, crate::proofs::Unions::none_put_in))]
     pub fn join(&mut self, more: AddressSet) -> Result<(), AllocError>
-        ensures { OnOk result (self.new ≡ union self.old more) }
+        ensures ok { OnOk result (self.new ≡ union self.old more) }
+        ensures err { OnErr result (IsJoinedInPart self.old more self.new) }
     {
         self.items.reserve(more.items.len())?;
         let mut rest = Queue::from_vec(more.items);

@@ -11,7 +11,7 @@ use Rattle.command_table.specs.declared.routing.MultipleNodeRoutingInfo.{Multipl
 use Rattle.command_table.specs.declared.routing.MultipleNodeRoutingInfo.TheVariants.{AllNodes, AllMasters, MultiSlot}
 use Rattle.resp_value.specs.declared.value.Value.{Value}
 use Rattle.resp_value.specs.declared.value.Value.TheVariants as value
-use Rattle.fan_out.specs.declared.parts.RoundEnd.{RoundEnd}
+use Rattle.cluster_retries.specs.declared.round_end.RoundEnd.{RoundEnd}
 use Rattle.fan_out.specs.declared.parts.PartEnd.{PartEnd}
 use Rattle.fan_out.specs.declared.parts.PartResult.{PartResult}
 use Rattle.fan_out.specs.declared.parts.FoldResult.{FoldResult}

@@ -10,8 +10,8 @@ use Rattle.resp_value.specs.declared.value.Value.{Value}
 use Rattle.resp_value.specs.declared.value.Value.TheVariants as value
 use Rattle.redis_error.specs.declared.redis_error.RedisError.{RedisError}
 use Rattle.redis_error.specs.declared.redis_error.RedisError.TheVariants as redis
-use Rattle.fan_out.specs.declared.parts.RoundEnd.{RoundEnd}
-use Rattle.fan_out.specs.declared.parts.RoundEnd.TheVariants as ended
+use Rattle.cluster_retries.specs.declared.round_end.RoundEnd.{RoundEnd}
+use Rattle.cluster_retries.specs.declared.round_end.RoundEnd.TheVariants as ended
 use Rattle.fan_out.specs.declared.parts.PartResult.{PartResult}
 use Rattle.fan_out.specs.Came.{told}
 

@@ -5,8 +5,8 @@ use Rattle.std.specs.Option.{option_map}
 use Rattle.std.specs.List.{flat_map, list_all}
 use Rattle.resp_value.specs.declared.value.Value.{Value}
 use Rattle.redis_error.specs.declared.redis_error.RedisError.{RedisError}
-use Rattle.fan_out.specs.declared.parts.RoundEnd.{RoundEnd}
-use Rattle.fan_out.specs.declared.parts.RoundEnd.TheVariants as ended
+use Rattle.cluster_retries.specs.declared.round_end.RoundEnd.{RoundEnd}
+use Rattle.cluster_retries.specs.declared.round_end.RoundEnd.TheVariants as ended
 use Rattle.fan_out.specs.declared.parts.PartEnd.{PartEnd}
 use Rattle.fan_out.specs.declared.parts.PartResult.{PartResult}
 

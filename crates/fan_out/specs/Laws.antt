@@ -9,7 +9,7 @@ use Rattle.command_table.specs.declared.routing.MultipleNodeRoutingInfo.{Multipl
 use Rattle.resp_value.specs.Data.{Data}
 use Rattle.resp_value.specs.declared.value.Value.TheVariants as value
 use Rattle.redis_error.specs.declared.redis_error.RedisError.{RedisError}
-use Rattle.fan_out.specs.declared.parts.RoundEnd.TheVariants as ends
+use Rattle.cluster_retries.specs.declared.round_end.RoundEnd.TheVariants as ends
 use Rattle.fan_out.specs.declared.parts.PartResult.{PartResult}
 use Rattle.fan_out.specs.declared.parts.FoldResult.{FoldResult}
 use Rattle.fan_out.specs.declared.parts.FoldResult.TheVariants as folded

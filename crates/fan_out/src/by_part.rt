@@ -4,7 +4,8 @@ ghost use Rattle.resp_value.specs.View.{data_of};
 ghost use Rattle.fan_out.specs.ByPart.{address_text, addressed, failure_in, fault_in, first_in, found_in, last_in, replies, reply_in, told_of};
 ghost use Rattle.fan_out.specs.Failures.{failure_now};
 
-use crate::parts::{PartResult, RoundEnd};
+use crate::parts::PartResult;
+use cluster_retries::RoundEnd;
 use containers::Bytes;
 use itoa::Buffer;
 use redis_error::RedisError;

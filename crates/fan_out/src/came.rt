@@ -2,7 +2,8 @@ ghost use Rattle.std.specs.Prelude.{◌≡◌, ◌++◌, map, IfOk, OnOk};
 ghost use Rattle.std.specs.Option.{option_copied, option_map};
 ghost use Rattle.fan_out.specs.Came.{all_came, came_now, earlier, error_came, first_error, first_value, has_come, last_error, later, value_came, value_list, values};
 
-use crate::parts::{PartResult, RoundEnd};
+use crate::parts::PartResult;
+use cluster_retries::RoundEnd;
 use redis_error::RedisError;
 use resp_value::Value;
 use std::alloc::{AllocError, Global};

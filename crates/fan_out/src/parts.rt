@@ -1,20 +1,10 @@
+use cluster_retries::RoundEnd;
 use containers::Seq;
 use redis_error::RedisError;
-use resp_value::{Value, Values};
+use resp_value::Value;
 use slot_hash::NodeAddress;
 
-/// How a round of a request ended.
-#[derive(Drop)]
-pub enum RoundEnd {
-    /// The reply of a command.
-    Value(Value),
-    /// The replies of a pipeline. No part ends so, since a part is one command: such an end counts as none.
-    Many(Values),
-    /// Why there is no reply.
-    Error(RedisError),
-}
-
-/// The end of a part.
+/// The end of a part. A part is one command, so none ends by the values of a pipeline: such an end counts as none.
 #[derive(Drop)]
 pub struct PartEnd {
     /// The number of its arrival: an end that came later has a greater one, and ends that came together have the same.

@@ -6,7 +6,7 @@ use Rattle.resp_value.specs.Data.{bulk, error}
 use Rattle.resp_value.specs.declared.value.Value.{Value}
 use Rattle.resp_value.specs.declared.value.Value.TheVariants as value
 use Rattle.redis_error.specs.declared.redis_error.RedisError.TheVariants as redis
-use Rattle.fan_out.specs.declared.parts.RoundEnd.TheVariants as ends
+use Rattle.cluster_retries.specs.declared.round_end.RoundEnd.TheVariants as ends
 use Rattle.fan_out.specs.declared.parts.PartResult.{PartResult}
 use Rattle.fan_out.specs.declared.parts.FoldResult.{FoldResult}
 use Rattle.fold_examples.specs.Parts.{Example, came, failed, gave, not_busy, refused, waits, with_error, with_value}
