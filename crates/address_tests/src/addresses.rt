@@ -70,7 +70,10 @@ const WRITTEN: [(Place, Option<&[u8]>); 21] = [
         (b"h", Some(b"u-1"), Some(b"@:/?#[]%"), 0),
         Some(b"redis://u%2D1:%40%3A%2F%3F%23%5B%5D%25@h:6379"),
     ),
-    ((b"h", Some(b"\xC3\xA9"), None, 0), Some(b"redis://%C3%A9:@h:6379")),
+    (
+        (b"h", Some(b"\xC3\xA9"), None, 0),
+        Some(b"redis://%C3%A9:@h:6379"),
+    ),
     (
         (b"h", None, None, i64::MAX),
         Some(b"redis://h:6379/9223372036854775807?protocol=3"),
@@ -130,9 +133,18 @@ fn lent_names(alloc: Global) -> bool {
 fn has_user(alloc: Global, client: &Client, user: &[u8]) -> Result<bool, OpenError> {
     let copy = client.clone(alloc)?;
     let info = copy.get_connection_info();
-    Ok(info.redis.username.as_ref().is_some_and(|name| name.as_slice() == user)
-        && info.redis.password.is_none()
-        && has_url(alloc, client.get_connection_info(), Some(b"redis://user:@h:6379")))
+    Ok(
+        info.redis
+            .username
+            .as_ref()
+            .is_some_and(|name| name.as_slice() == user)
+            && info.redis.password.is_none()
+            && has_url(
+                alloc,
+                client.get_connection_info(),
+                Some(b"redis://user:@h:6379"),
+            ),
+    )
 }
 
 /// Whether a user without a password is kept.

@@ -53,8 +53,7 @@ fn is_selected(alloc: Global) -> Result<bool, AllocError> {
     let info = redis(alloc, &(b"h", Some(b"u"), None, -1))?;
     let said = setup_messages(alloc, &info, true)?;
     let packed = said.get_packed_pipeline(alloc)?;
-    let wanted: &[u8] =
-        b"*2\r\n$5\r\nHELLO\r\n$1\r\n3\r\n*2\r\n$6\r\nSELECT\r\n$2\r\n-1\r\n";
+    let wanted: &[u8] = b"*2\r\n$5\r\nHELLO\r\n$1\r\n3\r\n*2\r\n$6\r\nSELECT\r\n$2\r\n-1\r\n";
     Ok(packed.as_slice() == wanted && said.len() == 2)
 }
 
@@ -108,7 +107,9 @@ const LIMITS: [(Option<u32>, Option<u32>); 4] = [
 fn setups_and_permits_are_made(rt: HostRuntime) -> Result<(), AllocError> {
     assert!(rt; is_selected(rt.alloc())?);
     assert!(rt; is_ready(rt.alloc())?);
-    assert!(rt; ProtocolVersion::RESP3.supports_resp3() && !ProtocolVersion::RESP2.supports_resp3());
+    assert!(rt;
+        ProtocolVersion::RESP3.supports_resp3() && !ProtocolVersion::RESP2.supports_resp3()
+    );
     for (count, limit, permits) in PERMITS {
         assert_eq!(rt; permit_vec_capacity(count, limit), permits);
     }
