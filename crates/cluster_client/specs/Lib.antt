@@ -5,3 +5,4 @@ pub mod Checks
 pub mod Client
 pub mod Settings
 pub mod Agreement
+pub mod Dialled

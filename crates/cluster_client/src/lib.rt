@@ -6,6 +6,7 @@ mod checks;
 mod client;
 mod config;
 mod copies;
+mod dialled;
 mod given;
 mod laws;
 mod makers;

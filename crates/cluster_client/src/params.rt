@@ -77,7 +77,7 @@ pub struct ClusterParams {
     pub connection_concurrency_limit: Option<u32>,
     /// From how many unwritten bytes on no message of a connection starts.
     pub write_backpressure_boundary: u64,
-    /// Which address is dialled in the place of another.
+    /// Which address is dialled in the place of another, as `dialled_address` says.
     pub node_address_map: AddressMap,
     /// How often a lost node is connected again, at least once, before it is given up; none is without end.
     pub max_connection_attempts: Option<u32>,

@@ -1,4 +1,4 @@
-use cluster_retries::{
+use cluster_config::{
     AddressSet, Chosen, Next, OperationTarget, PollFlushAction, RecoveryAction, RetryParams,
     RoundEnd, choose_response, cluster_retry_wait_upper_ms,
 };

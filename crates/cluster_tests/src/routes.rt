@@ -1,4 +1,4 @@
-use cluster_retries::{
+use cluster_config::{
     CmdArg, InternalRoutingInfo, InternalSingleNodeRouting, Redirect, Redirection, SingleNodeRoute,
 };
 use command_table::{MultipleNodeRoutingInfo, Route, SlotAddr};
