@@ -1,114 +1,11 @@
-use connection_info::OpenError;
 use containers::Bytes;
 use driver_model::Config;
-use redis_error::ConfigName;
 use std::alloc::{AllocError, Global};
-
-/// An address with whether somebody hears pushes, its number of permits and the size of its queue, and with what is refused
-/// first, if anything is.
-type Row = (
-    &'static [u8],
-    Option<bool>,
-    Option<u32>,
-    Option<u32>,
-    Option<ConfigName>,
-);
-
-const REFUSED: [Row; 18] = [
-    (b"redis://h", None, None, None, None),
-    (b"redis://h", None, None, Some(1), None),
-    (b"redis://h", None, None, Some(u32::MAX), None),
-    (b"redis://h", None, Some(1), None, None),
-    (b"redis://h", None, Some(u32::MAX), Some(1), None),
-    (b"redis://h", None, None, Some(0), Some(ConfigName::Buffer)),
-    (
-        b"redis://h",
-        None,
-        Some(1),
-        Some(0),
-        Some(ConfigName::Buffer),
-    ),
-    (b"redis://h", None, Some(0), None, Some(ConfigName::Limit)),
-    (
-        b"redis://h",
-        None,
-        Some(0),
-        Some(0),
-        Some(ConfigName::Limit),
-    ),
-    (b"http://h", None, Some(0), Some(0), Some(ConfigName::Url)),
-    (b"http://h", None, None, None, Some(ConfigName::Url)),
-    (
-        b"redis://h/1",
-        None,
-        Some(0),
-        Some(0),
-        Some(ConfigName::Limit),
-    ),
-    (b"redis://u:p@h/1?protocol=resp3", None, None, Some(1), None),
-    (b"redis://h?protocol=3", Some(true), None, None, None),
-    (b"redis://h", Some(false), None, None, None),
-    (b"redis://h", Some(true), None, None, Some(ConfigName::Push)),
-    (
-        b"redis://h",
-        Some(true),
-        Some(0),
-        Some(0),
-        Some(ConfigName::Push),
-    ),
-    (
-        b"http://h",
-        Some(true),
-        Some(0),
-        None,
-        Some(ConfigName::Url),
-    ),
-];
 
 /// A configuration with that address alone.
 fn plain(alloc: Global, url: &[u8]) -> Result<Config, AllocError> {
     let url = Bytes::from_slice(alloc, url)?;
     Ok(Config::new(url))
-}
-
-/// A configuration with the address, the pushes, the permits and the queue of a row.
-fn configured(alloc: Global, row: &Row) -> Result<Config, AllocError> {
-    let mut config = plain(alloc, row.0)?;
-    config.push = row.1;
-    config.limit = row.2;
-    config.buffer = row.3;
-    Ok(config)
-}
-
-/// Whether this is what is refused first.
-fn is_refusal(error: OpenError, wanted: Option<ConfigName>) -> bool {
-    match error {
-        OpenError::Config(name) => wanted == Some(name),
-        OpenError::Client => false,
-        OpenError::NoMemory => false,
-    }
-}
-
-/// Whether this of a configuration is refused first, or whether it is taken where nothing is to be refused.
-fn is_refused(alloc: Global, config: &Config, wanted: Option<ConfigName>) -> bool {
-    match config.info(alloc) {
-        Ok(_) => wanted.is_none(),
-        Err(error) => is_refusal(error, wanted),
-    }
-}
-
-/// Whether the configuration of a row is refused as the row tells.
-fn is_so(alloc: Global, row: &Row) -> Result<bool, AllocError> {
-    let config = configured(alloc, row)?;
-    Ok(is_refused(alloc, &config, row.4))
-}
-
-#[test]
-fn one_name_is_refused_first(rt: HostRuntime) -> Result<(), AllocError> {
-    for row in &REFUSED {
-        assert!(rt; is_so(rt.alloc(), row)?);
-    }
-    Ok(())
 }
 
 /// How long a connect and a reply may take, how many permits there are, the size of the queue, the boundary, whether somebody
@@ -150,12 +47,6 @@ fn plain_has(alloc: Global, wanted: Settings) -> Result<bool, AllocError> {
     Ok(has(&config, b"redis://h", wanted))
 }
 
-#[test]
-fn what_is_not_given_has_a_value(rt: HostRuntime) -> Result<(), AllocError> {
-    assert!(rt; plain_has(rt.alloc(), NOTHING_GIVEN)?);
-    Ok(())
-}
-
 const ALL_GIVEN: Settings = (Some(5), None, Some(3), 7, 0, true, true, Some(false));
 
 /// A configuration of which all is given.
@@ -190,7 +81,8 @@ fn full_copy_has(alloc: Global, wanted: Settings) -> Result<bool, AllocError> {
 }
 
 #[test]
-fn what_is_given_stands_also_in_a_copy(rt: HostRuntime) -> Result<(), AllocError> {
+fn settings_stand_also_in_a_copy(rt: HostRuntime) -> Result<(), AllocError> {
+    assert!(rt; plain_has(rt.alloc(), NOTHING_GIVEN)?);
     assert!(rt; full_copy_has(rt.alloc(), ALL_GIVEN)?);
     Ok(())
 }

@@ -34,14 +34,6 @@ fn is_made(alloc: Global, awaited: bool) -> Result<bool, AllocError> {
     is_submitted(alloc, &command, awaited)
 }
 
-#[test]
-fn commands_are_submitted(rt: HostRuntime) -> Result<(), AllocError> {
-    let alloc = rt.alloc();
-    assert!(rt; is_made(alloc, true)?);
-    assert!(rt; is_made(alloc, false)?);
-    Ok(())
-}
-
 /// Which kind of event it is, and of which link, submission, timer or source of credentials.
 fn seen(event: &Event) -> (&'static str, u32) {
     match &event.kind {
@@ -150,14 +142,6 @@ fn makes(alloc: Global, call: Call, kind: &'static str, place: u32) -> Result<bo
     Ok(seen(&event) == (kind, place))
 }
 
-#[test]
-fn events_are_made(rt: HostRuntime) -> Result<(), AllocError> {
-    for row in &EVENTS {
-        assert!(rt; makes(rt.alloc(), row.0, row.1, row.2)?, "{}", row.1);
-    }
-    Ok(())
-}
-
 /// The word of an event that has been given one.
 fn word_of_event(word: u64) -> u64 {
     let event = Event::shutdown().with_word(word);
@@ -165,6 +149,12 @@ fn word_of_event(word: u64) -> u64 {
 }
 
 #[test]
-fn an_event_has_a_word(rt: HostRuntime) {
-    assert_eq!(rt; word_of_event(9), 9);
+fn events_are_made(rt: HostRuntime) -> Result<(), AllocError> {
+    for row in &EVENTS {
+        assert!(rt; makes(rt.alloc(), row.0, row.1, row.2)?, "{}", row.1);
+    }
+    assert!(rt; is_made(rt.alloc(), true)?);
+    assert!(rt; is_made(rt.alloc(), false)?);
+    assert!(rt; word_of_event(9) == 9);
+    Ok(())
 }
