@@ -3,6 +3,8 @@
 
 #[cfg(test)]
 mod delays;
+#[cfg(test)]
+mod manager;
 pub mod scripted;
 #[cfg(test)]
 mod settings;

@@ -1,0 +1,7 @@
+mod Causes
+mod Over
+mod Entries
+mod Calls
+mod Resubscribing
+mod Once
+mod Spent

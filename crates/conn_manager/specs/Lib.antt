@@ -1,0 +1,15 @@
+pub mod Phases
+pub mod Waits
+pub mod Events
+pub mod Generations
+pub mod Moves
+pub mod Manager
+pub mod Hearing
+pub mod Turn
+pub mod Fitting
+pub mod Spending
+pub mod Calls
+pub mod Runs
+pub mod Rows
+pub mod Links
+pub mod Once
