@@ -14,6 +14,8 @@ use Rattle.driver_model.specs.declared.outcome.Shape.{Shape}
 use Rattle.mux_conn.specs.declared.act.LinkAct.{LinkAct}
 use Rattle.mux_conn.specs.declared.act.LinkAct.TheVariants as link_act
 use Rattle.mux_conn.specs.Connection.{Work, work_with}
+use Rattle.mux_conn.specs.Effects as effects
+use Rattle.mux_conn.specs.Passes as passes
 use Rattle.mux_conn.specs.Turn as conn_turn
 use Rattle.conn_manager.specs.declared.act.ManagerAct.TheVariants as act
 use Rattle.conn_manager.specs.declared.act.ManagerWait.{ManagerWait}
@@ -65,11 +67,11 @@ closed_or_held stage.Closed c h = cc
 
 -- nor can a request that is there
 apart : (s : Option Stage) (test : Stage → Bool) → ((t : Stage) → is_closed t ≡ true → test t ≡ true → ⊥) → if_there is_closed s ≡ true → if_there test s ≡ true → ⊥
-apart None test no c t = cc
-apart (Some s) test no c t = no s c t
+apart None test never c t = cc
+apart (Some s) test never c t = never s c t
 
 not_same : (stages : List Stage) (p q : ℕ) (test : Stage → Bool) → ((t : Stage) → is_closed t ≡ true → test t ≡ true → ⊥) → is_closed_at stages q ≡ true → if_there test (slice_get stages p) ≡ true → p ≢ q
-not_same stages p q test no c t e = apart (slice_get stages q) test no c (ap (λ (n : ℕ). if_there test (slice_get stages n)) (sym e) ∙ t)
+not_same stages p q test never c t e = apart (slice_get stages q) test never c (ap (λ (n : ℕ). if_there test (slice_get stages n)) (sym e) ∙ t)
 
 -- a change at the place of a request that isn't closed keeps those that are
 set_closed : (stages : List Stage) (p q : ℕ) (s : Stage) → p ≢ q → is_closed_at stages q ≡ true → is_closed_at (slice_set stages p s) q ≡ true
@@ -178,7 +180,7 @@ moved_keeps m draw w =
     onward m next (noted_each next draw w.acts) (alike m next refl refl) (noted_each_keeps next draw w.acts)
 
 link_shut_keeps : (m : ConnectionManager) (draw : ℕ) → Keeps m (link_shut m draw)
-link_shut_keeps m draw = chosen (Keeps m) (m.generations.links == 0) _ _ (λ _. itself m) (λ _. moved_keeps m draw _)
+link_shut_keeps m draw = chosen (Keeps m) (m.generations.links == 0) _ _ (λ _. itself m) (λ _. moved_keeps m draw (effects.applied (work_with m.conn []) shut))
 
 all_shut_keeps : (m : ConnectionManager) (draw : ℕ) → Keeps m (all_shut m draw)
 all_shut_keeps m draw =
@@ -189,19 +191,19 @@ all_shut_keeps m draw =
 
 heard_keeps : (m : ConnectionManager) (draw link : ℕ) (news : News) → Keeps m (heard m draw link news)
 heard_keeps m draw link news =
-    chosen (Keeps m) (is_current m.generations link) _ _ (λ _. chosen (Keeps m) (is_shutting news) _ _ (λ _. all_shut_keeps m draw) (λ _. moved_keeps m draw _)) (λ _. itself m)
+    chosen (Keeps m) (is_current m.generations link) _ _ (λ _. chosen (Keeps m) (is_shutting news) _ _ (λ _. all_shut_keeps m draw) (λ _. moved_keeps m draw (effects.applied (work_with m.conn []) news))) (λ _. itself m)
 
 late_keeps : (m : ConnectionManager) (draw : ℕ) (s : Option Stage) → Keeps m (late_at m draw s)
 late_keeps m draw None = itself m
 late_keeps m draw (Some stage.Held) = itself m
-late_keeps m draw (Some (stage.Sent link number)) = chosen (Keeps m) (is_current m.generations link) _ _ (λ _. moved_keeps m draw _) (λ _. itself m)
+late_keeps m draw (Some (stage.Sent link number)) = chosen (Keeps m) (is_current m.generations link) _ _ (λ _. moved_keeps m draw (effects.timed_out (work_with m.conn []) number)) (λ _. itself m)
 late_keeps m draw (Some stage.Closed) = itself m
 
 applied_keeps : (m : ConnectionManager) (draw : ℕ) (what : Happening) → Keeps m (applied m draw what)
 applied_keeps m draw nothing = itself m
 applied_keeps m draw (on_link link news) = heard_keeps m draw link news
 applied_keeps m draw (late_request p) = late_keeps m draw (slice_get m.stages p)
-applied_keeps m draw (late_resubscription link) = chosen (Keeps m) (is_current m.generations link && is_resubscribing m.generations.phase) _ _ (λ _. moved_keeps m draw _) (λ _. itself m)
+applied_keeps m draw (late_resubscription link) = chosen (Keeps m) (is_current m.generations link && is_resubscribing m.generations.phase) _ _ (λ _. moved_keeps m draw (effects.timed_out (work_with m.conn []) 0)) (λ _. itself m)
 applied_keeps m draw (rest_over number attempt) = chosen (Keeps m) (rests_behind m.generations number attempt) _ _ (λ _. alike m _ refl refl) (λ _. itself m)
 applied_keeps m draw closing = all_shut_keeps m draw
 
@@ -234,7 +236,7 @@ handed_keeps m q there = record {
 round_keeps : (m : ConnectionManager) (draw : ℕ) (q : HeldRequest) → Keeps m (round m draw q)
 round_keeps m draw q =
     chosen (Keeps m) (is_held_at m.stages q.number) _ _
-    (λ there. onward m (handed m q) (advanced (handed m q) draw (length m.conn.requests)) (handed_keeps m q there) (moved_keeps (handed m q) draw _)) (λ _. itself m)
+    (λ there. onward m (handed m q) (advanced (handed m q) draw (length m.conn.requests)) (handed_keeps m q there) (moved_keeps (handed m q) draw (passes.advanced (work_with (handed m q).conn []) (length m.conn.requests)))) (λ _. itself m)
 
 round_each_keeps : (m : ConnectionManager) (draw : ℕ) (qs : List HeldRequest) → Keeps m (round_each m draw qs)
 round_each_keeps m draw [] = itself m
@@ -248,7 +250,7 @@ rounds_keep m draw =
     (λ _. onward m (nobody_held m) (round_each (nobody_held m) draw m.held) (alike m (nobody_held m) refl refl) (round_each_keeps (nobody_held m) draw m.held)) (λ _. itself m)
 
 passed_keeps : (m : ConnectionManager) (draw : ℕ) → Keeps m (passed m draw)
-passed_keeps m draw = onward m (connection_passed m draw) (passed m draw) (moved_keeps m draw _) (rounds_keep (connection_passed m draw) draw)
+passed_keeps m draw = onward m (connection_passed m draw) (passed m draw) (moved_keeps m draw (passes.passed (work_with m.conn []))) (rounds_keep (connection_passed m draw) draw)
 
 shown_keeps : (m : ConnectionManager) (kind : ManagerWait) (ps : List ℕ) → Keeps m (wait_shown_each m kind ps)
 shown_keeps m kind [] = itself m

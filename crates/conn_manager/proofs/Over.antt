@@ -101,13 +101,13 @@ pub over_shut : OverBehindAShutdown
 over_shut g = record { halted = refl; failed = refl }
 
 -- what is true of one is true of what is chosen
-else_of : (P : Generations → Type 0) (b : Bool) {x y : Generations} → b ≡ false → P y → P (if b then x else y)
-else_of P true is h = absurd (let no : true ≡ false = is in cc)
-else_of P false is h = h
+else_of : (P : Generations → Type 0) (b : Bool) (x y : Generations) → b ≡ false → P y → P (if b then x else y)
+else_of P true x y is h = absurd (let no : true ≡ false = is in cc)
+else_of P false x y is h = h
 
-then_of : (P : Generations → Type 0) (b : Bool) {x y : Generations} → b ≡ true → P x → P (if b then x else y)
-then_of P true is h = h
-then_of P false is h = absurd (let no : false ≡ true = is in cc)
+then_of : (P : Generations → Type 0) (b : Bool) (x y : Generations) → b ≡ true → P x → P (if b then x else y)
+then_of P true x y is h = h
+then_of P false x y is h = absurd (let no : false ≡ true = is in cc)
 
 not_below : (m n : ℕ) → n ≤ m → nat_lt m n ≡ false
 not_below m n h = by_test (nat_lt m n) (nat_lt m n ≡ false) (λ t. absurd (let l = lt_from m n t in omega arith)) (λ f. f)
@@ -119,13 +119,13 @@ below m n h = by_test (nat_lt m n) (nat_lt m n ≡ true) (λ t. t) (λ f. absurd
 pub over_failed : OverBehindAFailedCreation
 over_failed g e draw is unmade last =
     subst (λ (p : Phase). IsOver (attempt_failed_at g e draw p)) (sym is)
-    (else_of IsOver (has_attempts g) (not_below g.attempt g.settings.config.number_of_retries last)
-    (else_of IsOver g.created unmade (record { halted = refl; failed = refl })))
+    (else_of IsOver (has_attempts g) _ _ (not_below g.attempt g.settings.config.number_of_retries last)
+    (else_of IsOver g.created _ _ unmade (record { halted = refl; failed = refl })))
 
 pub waits : WaitsByItsAttempt
 waits g e draw is left =
     subst (λ (p : Phase). (attempt_failed_at g e draw p).acts ≡ (rests g draw).acts) (sym is)
-    (then_of (λ (x : Generations). x.acts ≡ (rests g draw).acts) (has_attempts g) (below g.attempt g.settings.config.number_of_retries left) refl)
+    (then_of (λ (x : Generations). x.acts ≡ (rests g draw).acts) (has_attempts g) _ _ (below g.attempt g.settings.config.number_of_retries left) refl)
 
 bounded_attempt : (g : Generations) (link : ℕ) (ms : Option ℕ) → (bounded g link ms).attempt ≡ g.attempt
 bounded_attempt g link None = refl
@@ -141,7 +141,7 @@ same_attempt false y z a b is = absurd (let no : false ≡ true = is in cc)
 
 next_attempt : (g : Generations) (number attempt : ℕ) → rests_behind g number attempt ≡ true → (rested g number attempt).attempt ≡ g.attempt + 1
 next_attempt g number attempt is =
-    then_of (λ (x : Generations). x.attempt ≡ g.attempt + 1) (rests_behind g number attempt) is
+    then_of (λ (x : Generations). x.attempt ≡ g.attempt + 1) (rests_behind g number attempt) _ _ is
     (dialed_attempt (record g { attempt = g.attempt + 1 }))
 
 pub ascend : AttemptsAscend

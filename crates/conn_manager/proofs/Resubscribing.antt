@@ -51,7 +51,7 @@ pub again : SubscribesWhatIsSubscribed
 again m history is subscribing none =
     let p = resubscription m.tracker.held in
     ( p
-    , ( held_resubscribes history m.tracker.held is
-      , if_true (with_message m p) (is_resubscribing m.generations.phase && (length m.conn.requests == 0)) (resubscribes m) m
-        (both_hold (is_resubscribing m.generations.phase) (length m.conn.requests == 0) subscribing (none_asked m none))
-        (timed_conn _ m.generations.settings.config.connection.response_timeout) ) )
+    , held_resubscribes history m.tracker.held is
+    , if_true (with_message m p) (is_resubscribing m.generations.phase && (length m.conn.requests == 0)) (resubscribes m) m
+      (both_hold (is_resubscribing m.generations.phase) (length m.conn.requests == 0) subscribing (none_asked m none))
+      (timed_conn _ m.generations.settings.config.connection.response_timeout) )
