@@ -1,5 +1,3 @@
-mod Causes
-mod Over
 mod Entries
 mod Calls
 mod Resubscribing

@@ -17,23 +17,23 @@ use Rattle.mux_conn.specs.Connection.{Work, work_with}
 use Rattle.mux_conn.specs.Effects as effects
 use Rattle.mux_conn.specs.Passes as passes
 use Rattle.mux_conn.specs.Turn as conn_turn
-use Rattle.conn_manager.specs.declared.act.ManagerAct.TheVariants as act
-use Rattle.conn_manager.specs.declared.act.ManagerWait.{ManagerWait}
-use Rattle.conn_manager.specs.declared.generations.Generations.{Generations}
+use Rattle.manager_generations.specs.declared.act.ManagerAct.TheVariants as act
+use Rattle.manager_generations.specs.declared.act.ManagerWait.{ManagerWait}
+use Rattle.manager_generations.specs.declared.generations.Generations.{Generations}
 use Rattle.conn_manager.specs.declared.manager.ConnectionManager.{ConnectionManager}
-use Rattle.conn_manager.specs.declared.phase.Phase.{Phase}
-use Rattle.conn_manager.specs.declared.phase.Phase.TheVariants.{Idle, Opening, Resting, Resubscribing, Ready, Lost, Failed}
+use Rattle.manager_generations.specs.declared.phase.Phase.{Phase}
+use Rattle.manager_generations.specs.declared.phase.Phase.TheVariants.{Idle, Opening, Resting, Resubscribing, Ready, Lost, Failed}
 use Rattle.conn_manager.specs.declared.request.Call.{Call}
 use Rattle.conn_manager.specs.declared.request.HeldRequest.{HeldRequest}
 use Rattle.conn_manager.specs.declared.request.Stage.{Stage}
 use Rattle.conn_manager.specs.declared.request.Stage.TheVariants as stage
 use Rattle.conn_manager.specs.Calls.{if_placed, outcome_of, entered, answered_at_once, placed_at, request_of, sent, cancelled, left_on, left_at}
 use Rattle.conn_manager.specs.Events.{Happening, nothing, on_link, late_request, late_resubscription, rest_over, closing, is_shutting}
-use Rattle.conn_manager.specs.Generations.{begins_next, rests_behind, shut_down}
+use Rattle.manager_generations.specs.Generations.{begins_next, rests_behind, shut_down}
 use Rattle.conn_manager.specs.Hearing.{opened, came_to, waits, starts, noted, noted_each, moved_on, opening_failed, resubscription_name}
 use Rattle.conn_manager.specs.Manager.{with_generations, said, is_current, is_open, is_held, is_open_at, is_held_at, if_there, weighed, kept, closed_by, answered, failed_each, nobody_held, held_failed, failure_answered_at, loss_answered_at, loss_answered}
 use Rattle.conn_manager.specs.Once.{is_closed, is_closed_at, Keeps, after_each, AnsweredOnce}
-use Rattle.conn_manager.specs.Phases.{is_ready, is_resubscribing}
+use Rattle.manager_generations.specs.Phases.{is_ready, is_resubscribing}
 use Rattle.conn_manager.specs.Runs.{Step, sends, calls, leaves, turns, after}
 use Rattle.conn_manager.specs.Turn.{link_shut, all_shut, heard, late_at, resubscription_late, rest_ended, applied, succeeded, resubscription_timed, resubscribes, resubscription_begun, settled, handed, advanced, round, round_each, rounds, connection_passed, passed, with_wait, wait_shown, wait_shown_each, held_shown_as, held_shown, flushed, turned, stepped, held_wait, to_show}
 

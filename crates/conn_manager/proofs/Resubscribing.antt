@@ -10,7 +10,7 @@ use Rattle.driver_model.specs.News.{News}
 use Rattle.conn_manager.specs.declared.manager.ConnectionManager.{ConnectionManager}
 use Rattle.conn_manager.specs.Events.{Happening, nothing, on_link}
 use Rattle.conn_manager.specs.Manager.{is_current}
-use Rattle.conn_manager.specs.Phases.{is_resubscribing}
+use Rattle.manager_generations.specs.Phases.{is_resubscribing}
 use Rattle.conn_manager.specs.Turn.{applied, settled, passed, flushed, heard, resubscription_timed, resubscribes, resubscription_begun}
 use Rattle.conn_manager.specs.Links.{OldLinksAreSilent, SubscribesWhatIsSubscribed, with_message}
 use Rattle.containers.proofs.Choices.{left_if, if_true}

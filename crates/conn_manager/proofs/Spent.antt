@@ -2,7 +2,7 @@
 use Rattle.std.proofs.Common.{◌≡◌, ◌⊎◌, inl, inr, ℕ, true, List, refl, subst, sym, ap, ◌∙◌}
 use Rattle.conn_manager.specs.declared.manager.ConnectionManager.{ConnectionManager}
 use Rattle.conn_manager.specs.Events.{Happening}
-use Rattle.conn_manager.specs.Generations.{runs_out}
+use Rattle.manager_generations.specs.Generations.{runs_out}
 use Rattle.conn_manager.specs.Manager.{nobody_held, loss_answered}
 use Rattle.conn_manager.specs.Spending.{IsSpent, SpendsPass, SpendsRounds, Spends, before, in_effect, in_next, in_pass, in_rounds, behind}
 use Rattle.conn_manager.specs.Turn.{applied, succeeded, settled, connection_passed, passed}

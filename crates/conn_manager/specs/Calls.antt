@@ -21,16 +21,16 @@ use Rattle.mux_conn.specs.Effects as effects
 use Rattle.mux_client.specs.declared.errors.SendError.{SendError}
 use Rattle.mux_client.specs.declared.errors.SendError.TheVariants as error
 use Rattle.sub_tracker.specs.Held.{holding, held_after}
-use Rattle.conn_manager.specs.declared.act.ManagerAct.TheVariants as act
-use Rattle.conn_manager.specs.declared.settings.Settings.{Settings}
+use Rattle.manager_generations.specs.declared.act.ManagerAct.TheVariants as act
+use Rattle.manager_generations.specs.declared.settings.Settings.{Settings}
 use Rattle.conn_manager.specs.declared.manager.ConnectionManager.{ConnectionManager}
-use Rattle.conn_manager.specs.declared.phase.Phase.{Phase}
-use Rattle.conn_manager.specs.declared.phase.Phase.TheVariants.{Idle, Opening, Resting, Resubscribing, Ready, Lost, Failed}
+use Rattle.manager_generations.specs.declared.phase.Phase.{Phase}
+use Rattle.manager_generations.specs.declared.phase.Phase.TheVariants.{Idle, Opening, Resting, Resubscribing, Ready, Lost, Failed}
 use Rattle.conn_manager.specs.declared.request.Call.{Call}
 use Rattle.conn_manager.specs.declared.request.HeldRequest.{HeldRequest}
 use Rattle.conn_manager.specs.declared.request.Stage.{Stage}
 use Rattle.conn_manager.specs.declared.request.Stage.TheVariants as stage
-use Rattle.conn_manager.specs.Generations.{unbegun, begun, runs_out}
+use Rattle.manager_generations.specs.Generations.{unbegun, begun, runs_out}
 use Rattle.conn_manager.specs.Manager.{with_generations, said, is_current, is_open_at, answered, connection_of}
 use Rattle.conn_manager.specs.Turn.{reconnected, succeeded, handed}
 

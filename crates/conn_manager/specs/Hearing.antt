@@ -10,12 +10,12 @@ use Rattle.mux_conn.specs.Connection.{Work, work_with}
 use Rattle.mux_conn.specs.Effects as effects
 use Rattle.sub_tracker.specs.Held.{Held}
 use Rattle.sub_tracker.specs.Pipeline.{resubscription}
-use Rattle.conn_manager.specs.declared.act.ManagerAct.TheVariants as act
-use Rattle.conn_manager.specs.declared.act.ManagerTimer.TheVariants as timer
+use Rattle.manager_generations.specs.declared.act.ManagerAct.TheVariants as act
+use Rattle.manager_generations.specs.declared.act.ManagerTimer.TheVariants as timer
 use Rattle.conn_manager.specs.declared.manager.ConnectionManager.{ConnectionManager}
-use Rattle.conn_manager.specs.Generations as generations
+use Rattle.manager_generations.specs.Generations as generations
 use Rattle.conn_manager.specs.Manager.{pending, with_generations, said, link_of, answered, failure_answered}
-use Rattle.conn_manager.specs.Waits.{wait_of}
+use Rattle.manager_generations.specs.Waits.{wait_of}
 
 -- the name of the request that subscribes again: no other has it
 abbrev pub resubscription_name : ℕ

@@ -1,8 +1,4 @@
-pub mod Phases
-pub mod Waits
 pub mod Events
-pub mod Generations
-pub mod Moves
 pub mod Manager
 pub mod Hearing
 pub mod Turn

@@ -12,7 +12,7 @@ use Rattle.conn_manager.specs.declared.manager.ConnectionManager.{ConnectionMana
 use Rattle.conn_manager.specs.Events.{nothing, on_link}
 use Rattle.conn_manager.specs.Hearing.{resubscription_name}
 use Rattle.conn_manager.specs.Manager.{is_current}
-use Rattle.conn_manager.specs.Phases.{is_resubscribing}
+use Rattle.manager_generations.specs.Phases.{is_resubscribing}
 use Rattle.conn_manager.specs.Turn.{turned, resubscription_begun}
 
 -- A turn in which something happened to a link that was asked for before the last one is one in which nothing happened.

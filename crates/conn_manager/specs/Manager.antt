@@ -12,17 +12,17 @@ use Rattle.mux_conn.specs.Renewals.{no_renewal}
 use Rattle.mux_conn.specs.Turn.{dialing}
 use Rattle.mux_client.specs.Connection.{heard_by}
 use Rattle.sub_tracker.specs.Held.{TrackerState, holding, held_with}
-use Rattle.conn_manager.specs.declared.act.ManagerAct.{ManagerAct}
-use Rattle.conn_manager.specs.declared.act.ManagerAct.TheVariants as act
-use Rattle.conn_manager.specs.declared.generations.Generations.{Generations}
+use Rattle.manager_generations.specs.declared.act.ManagerAct.{ManagerAct}
+use Rattle.manager_generations.specs.declared.act.ManagerAct.TheVariants as act
+use Rattle.manager_generations.specs.declared.generations.Generations.{Generations}
 use Rattle.conn_manager.specs.declared.manager.ConnectionManager.{ConnectionManager}
-use Rattle.conn_manager.specs.declared.phase.Phase.{Phase}
-use Rattle.conn_manager.specs.declared.phase.Phase.TheVariants.{Idle, Opening, Resting, Resubscribing, Ready, Lost, Failed}
+use Rattle.manager_generations.specs.declared.phase.Phase.{Phase}
+use Rattle.manager_generations.specs.declared.phase.Phase.TheVariants.{Idle, Opening, Resting, Resubscribing, Ready, Lost, Failed}
 use Rattle.conn_manager.specs.declared.request.Call.{Call}
 use Rattle.conn_manager.specs.declared.request.HeldRequest.{HeldRequest}
 use Rattle.conn_manager.specs.declared.request.Stage.{Stage}
 use Rattle.conn_manager.specs.declared.request.Stage.TheVariants as stage
-use Rattle.conn_manager.specs.Generations.{shown, answered_with}
+use Rattle.manager_generations.specs.Generations.{shown, answered_with}
 
 abbrev pub pending : ℕ → Pending
 pending p = record { number = p }

@@ -14,11 +14,11 @@ use Rattle.connection_info.specs.declared.protocol.ProtocolVersion.TheVariants.{
 use Rattle.driver_model.specs.declared.news.LinkFault.TheVariants as fault
 use Rattle.driver_model.specs.News.{refused, connected, took, came, failed}
 use Rattle.manager_config.specs.Config.{default_manager}
-use Rattle.conn_manager.specs.declared.act.ManagerAct.{ManagerAct}
-use Rattle.conn_manager.specs.declared.act.ManagerAct.TheVariants as act
-use Rattle.conn_manager.specs.declared.act.ManagerTimer.TheVariants as timer
-use Rattle.conn_manager.specs.declared.act.ManagerWait.TheVariants as wait
-use Rattle.conn_manager.specs.declared.settings.Settings.{Settings}
+use Rattle.manager_generations.specs.declared.act.ManagerAct.{ManagerAct}
+use Rattle.manager_generations.specs.declared.act.ManagerAct.TheVariants as act
+use Rattle.manager_generations.specs.declared.act.ManagerTimer.TheVariants as timer
+use Rattle.manager_generations.specs.declared.act.ManagerWait.TheVariants as wait
+use Rattle.manager_generations.specs.declared.settings.Settings.{Settings}
 use Rattle.conn_manager.specs.Events.{nothing, on_link, rest_over}
 use Rattle.conn_manager.specs.Manager.{pending}
 use Rattle.conn_manager.specs.Runs.{Step, sends, calls, turns}

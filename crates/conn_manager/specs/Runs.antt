@@ -3,7 +3,7 @@ use Rattle.std.specs.Prelude.{ℕ, Bool, true, List, [], ◌∷◌, ◌++◌, No
 use Rattle.resp_write.specs.Pack.{pack}
 use Rattle.resp_write.specs.declared.subscription.SubscriptionAction.{SubscriptionAction}
 use Rattle.driver_model.specs.declared.outcome.Shape.TheVariants.{Single}
-use Rattle.conn_manager.specs.declared.act.ManagerAct.{ManagerAct}
+use Rattle.manager_generations.specs.declared.act.ManagerAct.{ManagerAct}
 use Rattle.conn_manager.specs.declared.manager.ConnectionManager.{ConnectionManager}
 use Rattle.conn_manager.specs.Calls.{sent, called, cancelled}
 use Rattle.conn_manager.specs.Events.{Happening}

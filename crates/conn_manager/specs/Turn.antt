@@ -10,22 +10,22 @@ use Rattle.mux_conn.specs.Requests.{asked}
 use Rattle.mux_conn.specs.Turn as conn_turn
 use Rattle.mux_client.specs.Calls.{shape_inside}
 use Rattle.sub_tracker.specs.Pipeline.{resubscription}
-use Rattle.conn_manager.specs.declared.act.ManagerAct.TheVariants as act
-use Rattle.conn_manager.specs.declared.act.ManagerTimer.TheVariants as timer
-use Rattle.conn_manager.specs.declared.act.ManagerWait.{ManagerWait}
-use Rattle.conn_manager.specs.declared.act.ManagerWait.TheVariants as wait
+use Rattle.manager_generations.specs.declared.act.ManagerAct.TheVariants as act
+use Rattle.manager_generations.specs.declared.act.ManagerTimer.TheVariants as timer
+use Rattle.manager_generations.specs.declared.act.ManagerWait.{ManagerWait}
+use Rattle.manager_generations.specs.declared.act.ManagerWait.TheVariants as wait
 use Rattle.conn_manager.specs.declared.manager.ConnectionManager.{ConnectionManager}
-use Rattle.conn_manager.specs.declared.phase.Phase.{Phase}
-use Rattle.conn_manager.specs.declared.phase.Phase.TheVariants.{Idle, Opening, Resting, Resubscribing, Ready, Lost, Failed}
+use Rattle.manager_generations.specs.declared.phase.Phase.{Phase}
+use Rattle.manager_generations.specs.declared.phase.Phase.TheVariants.{Idle, Opening, Resting, Resubscribing, Ready, Lost, Failed}
 use Rattle.conn_manager.specs.declared.request.HeldRequest.{HeldRequest}
 use Rattle.conn_manager.specs.declared.request.Stage.{Stage}
 use Rattle.conn_manager.specs.declared.request.Stage.TheVariants as stage
 use Rattle.conn_manager.specs.Events.{Happening, nothing, on_link, late_request, late_resubscription, rest_over, closing, is_shutting}
-use Rattle.conn_manager.specs.Generations.{begun, begins_next, rested, rests_behind, shut_down}
+use Rattle.manager_generations.specs.Generations.{begun, begins_next, rested, rests_behind, shut_down}
 use Rattle.conn_manager.specs.Hearing.{affected, timed_out, moved_on, resubscription_name}
 use Rattle.conn_manager.specs.Manager.{pending, with_generations, said, link_of, is_current, new_conn, is_held_at, nobody_held, failure_answered, loss_answered}
-use Rattle.conn_manager.specs.Phases.{is_ready, is_resubscribing}
-use Rattle.conn_manager.specs.Waits.{wait_of, wait_code}
+use Rattle.manager_generations.specs.Phases.{is_ready, is_resubscribing}
+use Rattle.manager_generations.specs.Waits.{wait_of, wait_code}
 
 -- over the link that is asked for, where one is, there is a connection of its own
 abbrev pub reconnected : ConnectionManager → ConnectionManager

@@ -1,10 +1,10 @@
 ghost use Rattle.std.specs.Prelude.{◌≡◌, OnOk};
 
 use crate::manager::ConnectionManager;
-use crate::phase::Phase;
 use crate::request::HeldRequest;
 use containers::Queue;
 use driver_model::Outcome;
+use manager_generations::Phase;
 use redis_error::RedisError;
 use std::alloc::{AllocError, Global};
 

@@ -5,9 +5,9 @@ ghost use Rattle.conn_manager.specs.Events.{happened};
 use crate::event::{ManagerNews, is_shutting};
 use crate::hearing::RESUBSCRIPTION;
 use crate::manager::ConnectionManager;
-use crate::act::{ManagerAct, ManagerTimer};
 use crate::request::Stage;
 use driver_model::{LinkNews, Shape};
+use manager_generations::{ManagerAct, ManagerTimer};
 use mux_conn::ConnectionError;
 use std::alloc::{AllocError, Global};
 
@@ -30,7 +30,7 @@ fn shape_inside(count: usize) -> Shape
 impl ConnectionManager {
     ghost use Rattle.driver_model.specs.News.{told};
     ghost use Rattle.conn_manager.specs.Fitting.{IsFitting, IsFittingOn};
-    ghost use Rattle.conn_manager.specs.Generations.{runs_out};
+    ghost use Rattle.manager_generations.specs.Generations.{runs_out};
     ghost use Rattle.conn_manager.specs.Manager.{loss_answered};
     ghost use Rattle.conn_manager.specs.Turn.{link_shut, all_shut, heard, late_at, resubscription_late};
     ghost use Rattle.conn_manager.specs.Turn.{rest_ended, applied, succeeded, resubscription_timed};

@@ -1,10 +1,10 @@
 ghost use Rattle.std.specs.Prelude.{◌≡◌, Some, IfOk, OnOk, IsErrOf};
 ghost use Rattle.conn_manager.specs.Manager.{pending};
 
-use crate::act::{ManagerAct, ManagerTimer, ManagerWait};
 use crate::manager::ConnectionManager;
 use containers::Queue;
 use driver_model::{LinkNews, Outcome, WaitKind};
+use manager_generations::{ManagerAct, ManagerTimer, ManagerWait};
 use mux_conn::{ConnectionError, LinkAct, Pending};
 use redis_error::RedisError;
 use std::alloc::{AllocError, Global};

@@ -5,15 +5,13 @@ ghost use Rattle.mux_client.specs.Connection.{heard_by};
 ghost use Rattle.conn_manager.specs.Manager.{connection_of};
 ghost use Rattle.conn_manager.specs.Calls.{blank, eager, lazy, left_on, RefusesMaking};
 
-use crate::act::ManagerAct;
-use crate::generations::Generations;
 use crate::manager::ConnectionManager;
 use crate::request::Stage;
-use crate::settings::Settings;
 use connection_info::{AsyncConnectionConfig, Client, OpenError, ProtocolVersion, RedisConnectionInfo};
 use containers::{Queue, Seq};
 use driver_model::{Hearing, Outcome};
 use manager_config::{ConnectionManagerConfig, a_config_is_taken_where_no_check_fails};
+use manager_generations::{Generations, ManagerAct, Settings};
 use mux_conn::{Life, MultiplexedConnection as Core, Pending, Renewal};
 use std::alloc::{AllocError, Global};
 use sub_tracker::SubscriptionTracker;

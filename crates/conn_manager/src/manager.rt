@@ -1,12 +1,11 @@
 ghost use Rattle.std.specs.Prelude.{◌≡◌, ◌<◌, true, length, slice_get, OnOk};
 
-use crate::act::{ManagerAct, ManagerWait};
-use crate::generations::Generations;
 use crate::makers::connection;
 use crate::request::{Call, HeldRequest, Stage};
 use connection_info::RedisConnectionInfo;
 use containers::{Queue, Seq};
 use driver_model::Outcome;
+use manager_generations::{Generations, ManagerAct, ManagerWait};
 use mux_conn::{ConnectionError, MultiplexedConnection as Core, Pending};
 use std::alloc::{AllocError, Global};
 use sub_tracker::SubscriptionTracker;

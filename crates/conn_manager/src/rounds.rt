@@ -1,12 +1,11 @@
 ghost use Rattle.std.specs.Prelude.{◌≡◌, ◌<◌, ◌^◌, ◌⊎◌, length, Some, OnOk, IfOk, IsErrOf};
 ghost use Rattle.conn_manager.specs.Turn.{numbers_of};
 
-use crate::act::{ManagerAct, ManagerWait};
 use crate::hearing::RESUBSCRIPTION;
 use crate::manager::ConnectionManager;
-use crate::phase::Phase;
 use crate::request::{HeldRequest, Stage};
 use containers::Queue;
+use manager_generations::{ManagerAct, ManagerWait, Phase};
 use mux_conn::{ConnectionError, Pending};
 use std::alloc::{AllocError, Global};
 

@@ -3,10 +3,10 @@ ghost use Rattle.resp_write.specs.Pack.{pack, pack_pipeline};
 
 use crate::hearing::RESUBSCRIPTION;
 use crate::manager::ConnectionManager;
-use crate::phase::Phase;
 use crate::request::{Call, HeldRequest, Stage};
 use containers::Bytes;
 use driver_model::{Outcome, Shape};
+use manager_generations::Phase;
 use mux_client::SendError;
 use mux_conn::{ConnectionError, Pending};
 use redis_error::RedisError;
@@ -14,7 +14,7 @@ use resp_write::{Cmd, Pipeline};
 use std::alloc::{AllocError, Global};
 
 impl ConnectionManager {
-    ghost use Rattle.conn_manager.specs.Generations.{runs_out};
+    ghost use Rattle.manager_generations.specs.Generations.{runs_out};
     ghost use Rattle.conn_manager.specs.Calls.{begins, entered, waiting, answered_at_once, placed_at};
     ghost use Rattle.conn_manager.specs.Calls.{next_number, sent, RefusesSend};
     ghost use Rattle.conn_manager.specs.declared.manager.ConnectionManager.{ConnectionManager};

@@ -2,9 +2,9 @@ ghost use Rattle.std.specs.Prelude.{◌≡◌, ◌⊎◌, ◌++◌, [], None, So
 ghost use Rattle.conn_manager.specs.Events.{happened};
 ghost use Rattle.conn_manager.specs.Fitting.{IsFitting};
 
-use crate::act::ManagerAct;
 use crate::event::{ManagerEvent, ManagerNews};
 use crate::manager::ConnectionManager;
+use manager_generations::ManagerAct;
 use mux_conn::ConnectionError;
 use std::alloc::Global;
 

@@ -2,14 +2,14 @@
 use Rattle.std.proofs.Common.{◌≡◌, ℕ, ◌+◌, Bool, true, false, ◌&&◌, ◌||◌, not, List, [], ◌∷◌, ◌++◌, Option, None, Some, refl, sym, ap, ◌∙◌, append_assoc, if◌then◌else◌}
 use Rattle.std.proofs.lemmas.List.{append-nil}
 use Rattle.redis_error.specs.declared.redis_error.RedisError.{RedisError}
-use Rattle.conn_manager.specs.declared.act.ManagerAct.{ManagerAct}
-use Rattle.conn_manager.specs.declared.act.ManagerAct.TheVariants as act
-use Rattle.conn_manager.specs.declared.generations.Generations.{Generations}
-use Rattle.conn_manager.specs.declared.phase.Phase.{Phase}
-use Rattle.conn_manager.specs.declared.phase.Phase.TheVariants.{Idle, Opening, Resting, Resubscribing, Ready, Lost, Failed}
-use Rattle.conn_manager.specs.Phases.{is_ready}
-use Rattle.conn_manager.specs.Generations.{shown, bounded, connect_within, dialed, begun, made_ready, goes_on, set_up_at, resubscribed_at, rests, creation_failed, has_attempts, retries, attempt_failed_at, at_phase, rested, rests_behind, tried_again, lost_at, outcomes_done}
-use Rattle.conn_manager.specs.Moves.{Move, link_set_up, subscribed_again, opening_fails, wait_over, link_ends, answer, closes, moved, moved_each, turn, is_cause, has_cause, connect_timer, beginning, ReplacedByACause, StandsWithoutACause, StandsWhenHalted}
+use Rattle.manager_generations.specs.declared.act.ManagerAct.{ManagerAct}
+use Rattle.manager_generations.specs.declared.act.ManagerAct.TheVariants as act
+use Rattle.manager_generations.specs.declared.generations.Generations.{Generations}
+use Rattle.manager_generations.specs.declared.phase.Phase.{Phase}
+use Rattle.manager_generations.specs.declared.phase.Phase.TheVariants.{Idle, Opening, Resting, Resubscribing, Ready, Lost, Failed}
+use Rattle.manager_generations.specs.Phases.{is_ready}
+use Rattle.manager_generations.specs.Generations.{shown, bounded, connect_within, dialed, begun, made_ready, goes_on, set_up_at, resubscribed_at, rests, creation_failed, has_attempts, retries, attempt_failed_at, at_phase, rested, rests_behind, tried_again, lost_at, outcomes_done}
+use Rattle.manager_generations.specs.Moves.{Move, link_set_up, subscribed_again, opening_fails, wait_over, link_ends, answer, closes, moved, moved_each, turn, is_cause, has_cause, connect_timer, beginning, ReplacedByACause, StandsWithoutACause, StandsWhenHalted}
 
 -- what is true of both is true of what is chosen
 pub both : (P : Generations → Type 0) (b : Bool) {x y : Generations} → P x → P y → P (if b then x else y)

@@ -2,8 +2,8 @@
 use Rattle.std.specs.Prelude.{ℕ}
 use Rattle.driver_model.specs.declared.action.WaitKind.{WaitKind}
 use Rattle.driver_model.specs.declared.action.WaitKind.TheVariants as link
-use Rattle.conn_manager.specs.declared.act.ManagerWait.{ManagerWait}
-use Rattle.conn_manager.specs.declared.act.ManagerWait.TheVariants as wait
+use Rattle.manager_generations.specs.declared.act.ManagerWait.{ManagerWait}
+use Rattle.manager_generations.specs.declared.act.ManagerWait.TheVariants as wait
 
 -- what a request of a connection waits for
 abbrev pub wait_of : WaitKind → ManagerWait

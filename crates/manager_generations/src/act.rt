@@ -42,7 +42,7 @@ pub enum ManagerWait {
 
 impl ManagerWait {
     ghost use Rattle.std.specs.Prelude.{◌≡◌};
-    ghost use Rattle.conn_manager.specs.Waits.{wait_of, wait_code};
+    ghost use Rattle.manager_generations.specs.Waits.{wait_of, wait_code};
 
     /// What a request of a connection waits for.
     pub fn of_link(wait: WaitKind) -> ManagerWait
@@ -59,7 +59,7 @@ impl ManagerWait {
     }
 
     /// Its place in the list of waits.
-    pub(crate) fn code(self) -> u8
+    pub fn code(self) -> u8
         ensures { result ≡ wait_code self }
     {
         match self {

@@ -52,9 +52,9 @@ impl Drop for Generations {
 }
 
 impl Generations {
-    ghost use Rattle.conn_manager.specs.Generations.{shown, at_phase, unbegun, bounded, connect_within};
-    ghost use Rattle.conn_manager.specs.Generations.{dialed, begun, creation_shown, made_ready, goes_on};
-    ghost use Rattle.conn_manager.specs.Generations.{set_up, resubscribed, runs_out};
+    ghost use Rattle.manager_generations.specs.Generations.{shown, at_phase, unbegun, bounded, connect_within};
+    ghost use Rattle.manager_generations.specs.Generations.{dialed, begun, creation_shown, made_ready, goes_on};
+    ghost use Rattle.manager_generations.specs.Generations.{set_up, resubscribed, runs_out};
 
     /// None has begun. `created` says whether it was shown that the manager is made.
     pub fn new(alloc: Global, settings: Settings, resp3: bool, created: bool) -> Generations
@@ -75,7 +75,7 @@ impl Generations {
     }
 
     /// One more act.
-    pub(crate) fn show(&mut self, act: ManagerAct) -> Result<(), AllocError>
+    pub fn show(&mut self, act: ManagerAct) -> Result<(), AllocError>
         ensures { OnOk result (self.new ≡ shown self.old act) }
     {
         self.acts.push(act)
@@ -197,10 +197,10 @@ impl Generations {
 }
 
 impl Generations {
-    ghost use Rattle.conn_manager.specs.Generations.{rests, creation_failed, retries, has_attempts};
-    ghost use Rattle.conn_manager.specs.Generations.{attempt_failed, rested, rests_behind, tried_again};
-    ghost use Rattle.conn_manager.specs.Generations.{lost, is_cause_at, answered_with, begins_next};
-    ghost use Rattle.conn_manager.specs.Generations.{outcomes_done, shut_down, at_phase, made_ready, runs_out};
+    ghost use Rattle.manager_generations.specs.Generations.{rests, creation_failed, retries, has_attempts};
+    ghost use Rattle.manager_generations.specs.Generations.{attempt_failed, rested, rests_behind, tried_again};
+    ghost use Rattle.manager_generations.specs.Generations.{lost, is_cause_at, answered_with, begins_next};
+    ghost use Rattle.manager_generations.specs.Generations.{outcomes_done, shut_down, at_phase, made_ready, runs_out};
 
     /// Whether another attempt is left.
     fn has_attempts(&self) -> bool
@@ -285,6 +285,7 @@ impl Generations {
         ensures done { OnOk result (self.new ≡ tried_again self.old) }
         ensures spent { IsErrOf result ConnectionError.Spent → runs_out (tried_again self.old) ≡ true }
     {
+        let _retries = self.settings.config.number_of_retries();
         self.attempt += 1;
         self.dial()
     }

@@ -1,15 +1,15 @@
 -- Where nothing begins any more, and how long attempts are waited behind.
 use Rattle.std.proofs.Common.{◌≡◌, ℕ, ◌+◌, ◌==◌, ◌<◌, ◌≤◌, Bool, true, false, ◌&&◌, List, [], ◌∷◌, Option, None, Some, nat_lt, refl, sym, ap, subst, ◌∙◌, if◌then◌else◌, arith}
 use Rattle.redis_error.specs.declared.redis_error.RedisError.{RedisError}
-use Rattle.conn_manager.specs.declared.act.ManagerAct.TheVariants as act
-use Rattle.conn_manager.specs.declared.generations.Generations.{Generations}
-use Rattle.conn_manager.specs.declared.phase.Phase.{Phase}
-use Rattle.conn_manager.specs.declared.phase.Phase.TheVariants.{Idle, Opening, Resting, Resubscribing, Ready, Lost, Failed}
-use Rattle.conn_manager.specs.Phases.{is_failed, is_resting}
-use Rattle.conn_manager.specs.Generations.{shown, bounded, connect_within, begun, rests, has_attempts, set_up_at, resubscribed_at, attempt_failed_at, rested, rests_behind, tried_again, lost_at}
-use Rattle.conn_manager.specs.Moves.{Move, link_set_up, subscribed_again, opening_fails, wait_over, link_ends, answer, closes, moved, moved_each, turn, IsOver, IsUnmoved, StaysOver, OverBehindAShutdown, OverBehindAFailedCreation, WaitsByItsAttempt, AttemptsAscend}
+use Rattle.manager_generations.specs.declared.act.ManagerAct.TheVariants as act
+use Rattle.manager_generations.specs.declared.generations.Generations.{Generations}
+use Rattle.manager_generations.specs.declared.phase.Phase.{Phase}
+use Rattle.manager_generations.specs.declared.phase.Phase.TheVariants.{Idle, Opening, Resting, Resubscribing, Ready, Lost, Failed}
+use Rattle.manager_generations.specs.Phases.{is_failed, is_resting}
+use Rattle.manager_generations.specs.Generations.{shown, bounded, connect_within, begun, rests, has_attempts, set_up_at, resubscribed_at, attempt_failed_at, rested, rests_behind, tried_again, lost_at}
+use Rattle.manager_generations.specs.Moves.{Move, link_set_up, subscribed_again, opening_fails, wait_over, link_ends, answer, closes, moved, moved_each, turn, IsOver, IsUnmoved, StaysOver, OverBehindAShutdown, OverBehindAFailedCreation, WaitsByItsAttempt, AttemptsAscend}
 use Rattle.containers.proofs.Choices.{by_test, lt_from, not_lt_from, eq_from, both_left}
-use Rattle.conn_manager.proofs.Causes.{halted_stands}
+use Rattle.manager_generations.proofs.Causes.{halted_stands}
 
 -- it is over, and nothing has moved
 record Stays (g h : Generations) : Type 0 where

@@ -21,8 +21,8 @@ pub enum Phase {
 
 impl Phase {
     ghost use Rattle.std.specs.Prelude.{◌≡◌};
-    ghost use Rattle.conn_manager.specs.Phases.{is_idle, is_opening, is_resting, is_resubscribing};
-    ghost use Rattle.conn_manager.specs.Phases.{is_ready, is_lost, is_failed};
+    ghost use Rattle.manager_generations.specs.Phases.{is_idle, is_opening, is_resting, is_resubscribing};
+    ghost use Rattle.manager_generations.specs.Phases.{is_ready, is_lost, is_failed};
 
     /// Whether no generation has begun.
     pub fn is_idle(&self) -> bool

@@ -6,14 +6,14 @@ use Rattle.redis_error.specs.Errors.{error_method, is_io}
 use Rattle.redis_error.specs.declared.redis_error.RedisError.{RedisError}
 use Rattle.redis_error.specs.declared.redis_error.RedisError.TheVariants as error
 use Rattle.manager_config.specs.Backoff.{backoff}
-use Rattle.conn_manager.specs.declared.act.ManagerAct.{ManagerAct}
-use Rattle.conn_manager.specs.declared.act.ManagerAct.TheVariants as act
-use Rattle.conn_manager.specs.declared.act.ManagerTimer.TheVariants as timer
-use Rattle.conn_manager.specs.declared.generations.Generations.{Generations}
-use Rattle.conn_manager.specs.declared.phase.Phase.{Phase}
-use Rattle.conn_manager.specs.declared.phase.Phase.TheVariants.{Idle, Opening, Resting, Resubscribing, Ready, Lost, Failed}
-use Rattle.conn_manager.specs.declared.settings.Settings.{Settings}
-use Rattle.conn_manager.specs.Phases.{is_resting}
+use Rattle.manager_generations.specs.declared.act.ManagerAct.{ManagerAct}
+use Rattle.manager_generations.specs.declared.act.ManagerAct.TheVariants as act
+use Rattle.manager_generations.specs.declared.act.ManagerTimer.TheVariants as timer
+use Rattle.manager_generations.specs.declared.generations.Generations.{Generations}
+use Rattle.manager_generations.specs.declared.phase.Phase.{Phase}
+use Rattle.manager_generations.specs.declared.phase.Phase.TheVariants.{Idle, Opening, Resting, Resubscribing, Ready, Lost, Failed}
+use Rattle.manager_generations.specs.declared.settings.Settings.{Settings}
+use Rattle.manager_generations.specs.Phases.{is_resting}
 
 -- one more act
 abbrev pub shown : Generations → ManagerAct → Generations

@@ -1,7 +1,7 @@
 -- How far a generation has come, as tests.
 use Rattle.std.specs.Prelude.{Bool, true, false}
-use Rattle.conn_manager.specs.declared.phase.Phase.{Phase}
-use Rattle.conn_manager.specs.declared.phase.Phase.TheVariants.{Idle, Opening, Resting, Resubscribing, Ready, Lost, Failed}
+use Rattle.manager_generations.specs.declared.phase.Phase.{Phase}
+use Rattle.manager_generations.specs.declared.phase.Phase.TheVariants.{Idle, Opening, Resting, Resubscribing, Ready, Lost, Failed}
 
 -- no generation has begun
 abbrev pub is_idle : Phase → Bool

@@ -2,13 +2,13 @@
 use Rattle.std.specs.Prelude.{◌≡◌, ◌<◌, ◌≤◌, ℕ, ◌+◌, Bool, true, false, ◌&&◌, ◌||◌, List, [], ◌∷◌, ◌++◌, Option, None, Some}
 use Rattle.redis_error.specs.declared.redis_error.RedisError.{RedisError}
 use Rattle.manager_config.specs.Backoff.{backoff}
-use Rattle.conn_manager.specs.declared.act.ManagerAct.{ManagerAct}
-use Rattle.conn_manager.specs.declared.act.ManagerAct.TheVariants as act
-use Rattle.conn_manager.specs.declared.act.ManagerTimer.TheVariants as timer
-use Rattle.conn_manager.specs.declared.generations.Generations.{Generations}
-use Rattle.conn_manager.specs.declared.phase.Phase.TheVariants.{Opening}
-use Rattle.conn_manager.specs.Phases.{is_ready, is_failed}
-use Rattle.conn_manager.specs.Generations.{begun, set_up, resubscribed, attempt_failed, rested, rests_behind, lost, is_cause_at, answered_with, outcomes_done, shut_down}
+use Rattle.manager_generations.specs.declared.act.ManagerAct.{ManagerAct}
+use Rattle.manager_generations.specs.declared.act.ManagerAct.TheVariants as act
+use Rattle.manager_generations.specs.declared.act.ManagerTimer.TheVariants as timer
+use Rattle.manager_generations.specs.declared.generations.Generations.{Generations}
+use Rattle.manager_generations.specs.declared.phase.Phase.TheVariants.{Opening}
+use Rattle.manager_generations.specs.Phases.{is_ready, is_failed}
+use Rattle.manager_generations.specs.Generations.{begun, set_up, resubscribed, attempt_failed, rested, rests_behind, lost, is_cause_at, answered_with, outcomes_done, shut_down}
 
 -- a link is set up, where names are subscribed or aren't; it is subscribed again; its opening fails with this error, where this word
 -- is drawn; the wait behind an attempt of a generation is over; a link ends; a request is answered with this error; everything is

@@ -1,5 +1,0 @@
-use Rattle.conn_manager.proofs.Causes.{replaced, stands, stands_halted}
-use Rattle.conn_manager.proofs.laws.a_generation_is_replaced_by_its_causes_alone.Goals as goal
-
-pub returns : goal.returns
-returns c = record { replaced = replaced; stands = stands; halted = stands_halted }

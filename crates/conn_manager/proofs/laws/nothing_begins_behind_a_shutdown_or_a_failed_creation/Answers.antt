@@ -1,5 +1,0 @@
-use Rattle.conn_manager.proofs.Over.{stays_over, over_shut, over_failed}
-use Rattle.conn_manager.proofs.laws.nothing_begins_behind_a_shutdown_or_a_failed_creation.Goals as goal
-
-pub returns : goal.returns
-returns c = record { stays = stays_over; shutdown = over_shut; creation = over_failed }
