@@ -2,14 +2,13 @@
 use Rattle.std.proofs.Common.{◌≡◌, ℕ, ◌+◌, Bool, true, false, ◌&&◌, ◌||◌, not, List, [], ◌∷◌, ◌++◌, Option, None, Some, refl, sym, ap, ◌∙◌, append_assoc, if◌then◌else◌}
 use Rattle.std.proofs.lemmas.List.{append-nil}
 use Rattle.redis_error.specs.declared.redis_error.RedisError.{RedisError}
-use Rattle.manager_generations.specs.declared.act.ManagerAct.{ManagerAct}
 use Rattle.manager_generations.specs.declared.act.ManagerAct.TheVariants as act
 use Rattle.manager_generations.specs.declared.generations.Generations.{Generations}
 use Rattle.manager_generations.specs.declared.phase.Phase.{Phase}
 use Rattle.manager_generations.specs.declared.phase.Phase.TheVariants.{Idle, Opening, Resting, Resubscribing, Ready, Lost, Failed}
 use Rattle.manager_generations.specs.Phases.{is_ready}
-use Rattle.manager_generations.specs.Generations.{shown, bounded, connect_within, dialed, begun, made_ready, goes_on, set_up_at, resubscribed_at, rests, creation_failed, has_attempts, retries, attempt_failed_at, at_phase, rested, rests_behind, tried_again, lost_at, outcomes_done}
-use Rattle.manager_generations.specs.Moves.{Move, link_set_up, subscribed_again, opening_fails, wait_over, link_ends, answer, closes, moved, moved_each, turn, is_cause, has_cause, connect_timer, beginning, ReplacedByACause, StandsWithoutACause, StandsWhenHalted}
+use Rattle.manager_generations.specs.Generations.{shown, bounded, connect_within, dialed, begun, made_ready, goes_on, set_up_at, resubscribed_at, has_attempts, retries, attempt_failed_at, rested, rests_behind, lost_at, outcomes_done}
+use Rattle.manager_generations.specs.Moves.{Move, link_set_up, subscribed_again, opening_fails, wait_over, link_ends, answer, closes, moved, moved_each, is_cause, has_cause, connect_timer, beginning, ReplacedByACause, StandsWithoutACause, StandsWhenHalted}
 
 -- what is true of both is true of what is chosen
 pub both : (P : Generations → Type 0) (b : Bool) {x y : Generations} → P x → P y → P (if b then x else y)
@@ -169,9 +168,10 @@ due_now g ms b none cause = due_each g ms ∙ ap (λ (x : Bool). x || has_cause 
 pub replaced : ReplacedByACause
 replaced g ms none cause on =
     let m = moved_each g ms in
-    let is = next m (due_now g ms true none cause) on in
-    ( ap (λ (x : Generations). x.number) is ∙ begun_number m ∙ ap (λ (n : ℕ). n + 1) (number_each g ms)
-    , ap (λ (x : Generations). x.acts) is ∙ begun_acts m )
+    let is = next m (due_now g ms true none cause) on in (
+      ap (λ (x : Generations). x.number) is ∙ begun_number m ∙ ap (λ (n : ℕ). n + 1) (number_each g ms),
+      ap (λ (x : Generations). x.acts) is ∙ begun_acts m,
+    )
 
 pub stands : StandsWithoutACause
 stands g ms none cause = ap (λ (x : Generations). x.number) (undue (moved_each g ms) (due_now g ms false none cause)) ∙ number_each g ms

@@ -6,8 +6,8 @@ use Rattle.manager_generations.specs.declared.generations.Generations.{Generatio
 use Rattle.manager_generations.specs.declared.phase.Phase.{Phase}
 use Rattle.manager_generations.specs.declared.phase.Phase.TheVariants.{Idle, Opening, Resting, Resubscribing, Ready, Lost, Failed}
 use Rattle.manager_generations.specs.Phases.{is_failed, is_resting}
-use Rattle.manager_generations.specs.Generations.{shown, bounded, connect_within, begun, rests, has_attempts, set_up_at, resubscribed_at, attempt_failed_at, rested, rests_behind, tried_again, lost_at}
-use Rattle.manager_generations.specs.Moves.{Move, link_set_up, subscribed_again, opening_fails, wait_over, link_ends, answer, closes, moved, moved_each, turn, IsOver, IsUnmoved, StaysOver, OverBehindAShutdown, OverBehindAFailedCreation, WaitsByItsAttempt, AttemptsAscend}
+use Rattle.manager_generations.specs.Generations.{shown, bounded, connect_within, rests, has_attempts, set_up_at, resubscribed_at, attempt_failed_at, rested, rests_behind, tried_again, lost_at}
+use Rattle.manager_generations.specs.Moves.{Move, link_set_up, subscribed_again, opening_fails, wait_over, link_ends, answer, closes, moved, moved_each, IsOver, IsUnmoved, StaysOver, OverBehindAShutdown, OverBehindAFailedCreation, WaitsByItsAttempt, AttemptsAscend}
 use Rattle.containers.proofs.Choices.{by_test, lt_from, not_lt_from, eq_from, both_left}
 use Rattle.manager_generations.proofs.Causes.{halted_stands}
 
@@ -145,7 +145,8 @@ next_attempt g number attempt is =
     (dialed_attempt (record g { attempt = g.attempt + 1 }))
 
 pub ascend : AttemptsAscend
-ascend g number attempt =
-    ( dialed_attempt (shown (record g { number = g.number + 1; attempt = 0; due = false }) (act.Generation (g.number + 1)))
-    , (λ is. next_attempt g number attempt is ∙ ap (λ (n : ℕ). n + 1) (same_attempt (is_resting g.phase) (g.number == number) (has_attempts g) g.attempt attempt is))
-    , (λ none. unrested g number attempt none) )
+ascend g number attempt = (
+  dialed_attempt (shown (record g { number = g.number + 1; attempt = 0; due = false }) (act.Generation (g.number + 1))),
+  (λ is. next_attempt g number attempt is ∙ ap (λ (n : ℕ). n + 1) (same_attempt (is_resting g.phase) (g.number == number) (has_attempts g) g.attempt attempt is)),
+  (λ none. unrested g number attempt none),
+)

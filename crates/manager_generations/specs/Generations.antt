@@ -1,6 +1,6 @@
 -- What the generations of a manager do. Each is some attempts to connect, one after another, until a link is set up or all have
 -- failed; and one follows another where a cause for that came.
-use Rattle.std.specs.Prelude.{ℕ, ◌+◌, ◌^◌, ◌==◌, nat_lt, nat_le, Bool, true, false, ◌&&◌, ◌||◌, not, List, [], ◌∷◌, ◌++◌, Option, None, Some, if◌then◌else◌}
+use Rattle.std.specs.Prelude.{ℕ, ◌+◌, ◌^◌, ◌==◌, nat_lt, nat_le, Bool, true, false, ◌&&◌, ◌||◌, not, [], ◌∷◌, ◌++◌, Option, None, Some, if◌then◌else◌}
 use Rattle.resp_value.specs.ErrorTable.{needs_new_link}
 use Rattle.redis_error.specs.Errors.{error_method, is_io}
 use Rattle.redis_error.specs.declared.redis_error.RedisError.{RedisError}
