@@ -2,4 +2,5 @@ mod Entries
 mod Calls
 mod Resubscribing
 mod Once
+mod Turns
 mod Spent

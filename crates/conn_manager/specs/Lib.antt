@@ -9,3 +9,4 @@ pub mod Runs
 pub mod Rows
 pub mod Links
 pub mod Once
+pub mod Turns

@@ -1,4 +1,4 @@
-ghost use Rattle.std.specs.Prelude.{◌≡◌, ◌<◌, ◌^◌, ◌⊎◌, length, true, Some, slice_get, OnOk, IsErrOf};
+ghost use Rattle.std.specs.Prelude.{◌≡◌, ◌<◌, ◌^◌, ◌⊎◌, length, true, Some, slice_get, OnOk, IfOk, IsErrOf};
 ghost use Rattle.mux_client.specs.Calls.{shape_inside};
 ghost use Rattle.conn_manager.specs.Events.{happened};
 
@@ -9,6 +9,7 @@ use crate::request::Stage;
 use driver_model::{LinkNews, Shape};
 use manager_generations::{ManagerAct, ManagerTimer};
 use mux_conn::ConnectionError;
+use resp_write::Pipeline;
 use std::alloc::{AllocError, Global};
 
 /// How a list of commands that subscribe again takes its items: one as a single command, any other number as a pipeline that
@@ -29,6 +30,7 @@ fn shape_inside(count: usize) -> Shape
 
 impl ConnectionManager {
     ghost use Rattle.driver_model.specs.News.{told};
+    ghost use Rattle.sub_tracker.specs.Pipeline.{resubscription};
     ghost use Rattle.conn_manager.specs.Fitting.{IsFitting, IsFittingOn};
     ghost use Rattle.manager_generations.specs.Generations.{runs_out};
     ghost use Rattle.conn_manager.specs.Manager.{loss_answered};
@@ -202,12 +204,21 @@ impl ConnectionManager {
         }
     }
 
+    /// The commands that subscribe again all names that are subscribed now.
+    #[tactic(auto, using(crate::proofs::Resubscribing::few_commands))]
+    fn resubscription(&self, alloc: Global) -> Result<Pipeline, AllocError>
+        ensures value { IfOk result (λ p. p ≡ resubscription self.now.tracker.held) }
+        ensures few { IfOk result (λ p. length p.commands < 2 ^ 32) }
+    {
+        self.tracker.get_subscription_pipeline(alloc)
+    }
+
     /// All names that are subscribed now are subscribed again, by one message.
     fn resubscribe(&mut self, alloc: Global) -> Result<(), AllocError>
         requires { length self.old.conn.requests < 2 ^ 32 }
         ensures { OnOk result (self.new ≡ resubscribes self.old) }
     {
-        let pipeline = self.tracker.get_subscription_pipeline(alloc)?;
+        let pipeline = self.resubscription(alloc)?;
         let packed = pipeline.get_packed_pipeline(alloc)?;
         let shape = shape_inside(pipeline.len());
         self.conn.ask_inside(RESUBSCRIPTION, packed, shape)?;

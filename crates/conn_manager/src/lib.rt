@@ -21,7 +21,7 @@ pub use event::{ManagerEvent, ManagerNews};
 pub use examples::these_runs_show_this;
 pub use laws::{
     a_request_is_answered_once, an_event_of_an_older_link_changes_nothing,
-    what_is_subscribed_again_is_what_is_subscribed,
+    turns_move_generations_by_their_causes, what_is_subscribed_again_is_what_is_subscribed,
 };
 pub use manager::ConnectionManager;
 pub use manager_config::{ConnectionManagerConfig, backoff_ms};

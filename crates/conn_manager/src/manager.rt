@@ -189,8 +189,8 @@ impl ConnectionManager {
         if !self.is_open(number) {
             return Ok(());
         }
-        let tracked = self.track(alloc, number, &outcome);
         self.stages.set(number as usize, Stage::Closed);
+        let tracked = self.track(alloc, number, &outcome);
         self.weigh(&outcome);
         self.keep(number, outcome);
         match tracked {

@@ -8,7 +8,7 @@ use Rattle.manager_generations.specs.declared.phase.Phase.{Phase}
 use Rattle.manager_generations.specs.declared.phase.Phase.TheVariants.{Idle, Opening, Resting, Resubscribing, Ready, Lost, Failed}
 use Rattle.manager_generations.specs.Phases.{is_ready}
 use Rattle.manager_generations.specs.Generations.{shown, bounded, connect_within, dialed, begun, made_ready, goes_on, set_up_at, resubscribed_at, has_attempts, retries, attempt_failed_at, rested, rests_behind, lost_at, outcomes_done}
-use Rattle.manager_generations.specs.Moves.{Move, link_set_up, subscribed_again, opening_fails, wait_over, link_ends, answer, closes, moved, moved_each, is_cause, has_cause, connect_timer, beginning, ReplacedByACause, StandsWithoutACause, StandsWhenHalted}
+use Rattle.manager_generations.specs.Moves.{Move, link_set_up, subscribed_again, opening_fails, wait_over, link_ends, answer, closes, shows, moved, moved_each, is_cause, has_cause, connect_timer, beginning, ReplacedByACause, StandsWithoutACause, StandsWhenHalted}
 
 -- what is true of both is true of what is chosen
 pub both : (P : Generations → Type 0) (b : Bool) {x y : Generations} → P x → P y → P (if b then x else y)
@@ -113,6 +113,7 @@ moves g (wait_over number attempt) = let s = rested_same g number attempt in rec
 moves g link_ends = record { due = lost_due g g.phase; number = lost_number g g.phase }
 moves g (answer e) = record { due = refl; number = refl }
 moves g closes = record { due = sym (or_none g.due); number = refl }
+moves g (shows a) = record { due = sym (or_none g.due); number = refl }
 
 -- the same of several moves
 due_each : (g : Generations) (ms : List Move) → (moved_each g ms).due ≡ (g.due || has_cause g ms)

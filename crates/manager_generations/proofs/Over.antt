@@ -1,20 +1,28 @@
 -- Where nothing begins any more, and how long attempts are waited behind.
-use Rattle.std.proofs.Common.{◌≡◌, ℕ, ◌+◌, ◌==◌, ◌<◌, ◌≤◌, Bool, true, false, ◌&&◌, List, [], ◌∷◌, Option, None, Some, nat_lt, refl, sym, ap, subst, ◌∙◌, if◌then◌else◌, arith}
+use Rattle.std.proofs.Common.{◌≡◌, ℕ, ◌+◌, ◌==◌, ◌<◌, ◌≤◌, Bool, true, false, ◌&&◌, List, [], ◌∷◌, ◌++◌, append_assoc, Option, None, Some, nat_lt, refl, sym, ap, subst, ◌∙◌, if◌then◌else◌, arith}
+use Rattle.std.proofs.lemmas.List.{append-nil}
 use Rattle.redis_error.specs.declared.redis_error.RedisError.{RedisError}
+use Rattle.manager_generations.specs.declared.act.ManagerAct.{ManagerAct}
 use Rattle.manager_generations.specs.declared.act.ManagerAct.TheVariants as act
 use Rattle.manager_generations.specs.declared.generations.Generations.{Generations}
 use Rattle.manager_generations.specs.declared.phase.Phase.{Phase}
 use Rattle.manager_generations.specs.declared.phase.Phase.TheVariants.{Idle, Opening, Resting, Resubscribing, Ready, Lost, Failed}
 use Rattle.manager_generations.specs.Phases.{is_failed, is_resting}
-use Rattle.manager_generations.specs.Generations.{shown, bounded, connect_within, rests, has_attempts, set_up_at, resubscribed_at, attempt_failed_at, rested, rests_behind, tried_again, lost_at}
-use Rattle.manager_generations.specs.Moves.{Move, link_set_up, subscribed_again, opening_fails, wait_over, link_ends, answer, closes, moved, moved_each, IsOver, IsUnmoved, StaysOver, OverBehindAShutdown, OverBehindAFailedCreation, WaitsByItsAttempt, AttemptsAscend}
-use Rattle.containers.proofs.Choices.{by_test, lt_from, not_lt_from, eq_from, both_left}
+use Rattle.manager_generations.specs.Generations.{shown, bounded, connect_within, rests, has_attempts, set_up_at, resubscribed_at, attempt_failed_at, rested, rests_behind, tried_again, lost_at, answered_with, shut_down}
+use Rattle.manager_generations.specs.Moves.{Move, link_set_up, subscribed_again, opening_fails, wait_over, link_ends, answer, closes, shows, moved, moved_each, said_by, said_by_each, IsOver, IsUnmoved, StaysOver, OverBehindAShutdown, OverBehindAFailedCreation, WaitsByItsAttempt, AttemptsAscend}
+use Rattle.containers.proofs.Choices.{by_test, if_true, if_false, lt_from, not_lt_from, eq_from, both_left}
 use Rattle.manager_generations.proofs.Causes.{halted_stands}
+
+-- the same generation, links and acts
+record Unchanged (g h : Generations) : Type 0 where
+  number : h.number ≡ g.number
+  links : h.links ≡ g.links
+  acts : h.acts ≡ g.acts
 
 -- it is over, and nothing has moved
 record Stays (g h : Generations) : Type 0 where
   over : IsOver h
-  still : IsUnmoved g h
+  still : Unchanged g h
 
 stays : (g : Generations) → IsOver g → Stays g g
 stays g over = record { over = over; still = record { number = refl; links = refl; acts = refl } }
@@ -72,42 +80,52 @@ rested_stays : (g : Generations) (number attempt : ℕ) → IsOver g → Stays g
 rested_stays g number attempt over =
     subst (Stays g) (sym (unrested g number attempt (no_rest g.phase (g.number == number) (g.attempt == attempt) (has_attempts g) over.failed))) (stays g over)
 
-move_stays : (g : Generations) (m : Move) → IsOver g → Stays g (moved g m)
-move_stays g (link_set_up subscribed) over = set_up_stays g subscribed g.phase over.failed over
-move_stays g subscribed_again over = resubscribed_stays g g.phase over.failed over
-move_stays g (opening_fails e draw) over = failed_stays g e draw g.phase over.failed over
-move_stays g (wait_over number attempt) over = rested_stays g number attempt over
-move_stays g link_ends over = lost_stays g g.phase over.failed over
-move_stays g (answer e) over = record { over = record { halted = over.halted; failed = over.failed }; still = record { number = refl; links = refl; acts = refl } }
-move_stays g closes over = record { over = record { halted = refl; failed = refl }; still = record { number = refl; links = refl; acts = refl } }
+-- it is over, and nothing was shown but these
+record Still (g h : Generations) (acts : List ManagerAct) : Type 0 where
+  over : IsOver h
+  still : IsUnmoved g h acts
 
-onward : (g h i : Generations) → IsUnmoved g h → IsUnmoved h i → IsUnmoved g i
-onward g h i first second = record { number = second.number ∙ first.number; links = second.links ∙ first.links; acts = second.acts ∙ first.acts }
+quiet : (g h : Generations) → Stays g h → Still g h []
+quiet g h s = record { over = s.over; still = record { number = s.still.number; links = s.still.links; said = s.still.acts ∙ sym (append-nil g.acts) } }
 
-each_stays : (g : Generations) (ms : List Move) → IsOver g → Stays g (moved_each g ms)
-each_stays g [] over = stays g over
+answer_stays : (g : Generations) (e : RedisError) → IsOver g → Stays g (answered_with g e)
+answer_stays g e over = record { over = record { halted = over.halted; failed = over.failed }; still = record { number = refl; links = refl; acts = refl } }
+
+shut_stays : (g : Generations) → Stays g (shut_down g)
+shut_stays g = record { over = record { halted = refl; failed = refl }; still = record { number = refl; links = refl; acts = refl } }
+
+move_stays : (g : Generations) (m : Move) → IsOver g → Still g (moved g m) (said_by m)
+move_stays g (link_set_up subscribed) over = quiet g (set_up_at g subscribed g.phase) (set_up_stays g subscribed g.phase over.failed over)
+move_stays g subscribed_again over = quiet g (resubscribed_at g g.phase) (resubscribed_stays g g.phase over.failed over)
+move_stays g (opening_fails e draw) over = quiet g (attempt_failed_at g e draw g.phase) (failed_stays g e draw g.phase over.failed over)
+move_stays g (wait_over number attempt) over = quiet g (rested g number attempt) (rested_stays g number attempt over)
+move_stays g link_ends over = quiet g (lost_at g g.phase) (lost_stays g g.phase over.failed over)
+move_stays g (answer e) over = quiet g (answered_with g e) (answer_stays g e over)
+move_stays g closes over = quiet g (shut_down g) (shut_stays g)
+move_stays g (shows a) over = record { over = record { halted = over.halted; failed = over.failed }; still = record { number = refl; links = refl; said = refl } }
+
+onward : (g h i : Generations) (some more : List ManagerAct) → IsUnmoved g h some → IsUnmoved h i more → IsUnmoved g i (some ++ more)
+onward g h i some more first second = record {
+  number = second.number ∙ first.number;
+  links = second.links ∙ first.links;
+  said = second.said ∙ ap (λ (acts : List ManagerAct). acts ++ more) first.said ∙ append_assoc g.acts some more;
+}
+
+each_stays : (g : Generations) (ms : List Move) → IsOver g → Still g (moved_each g ms) (said_by_each ms)
+each_stays g [] over = quiet g g (stays g over)
 each_stays g (m ∷ more) over =
     let first = move_stays g m over in
     let others = each_stays (moved g m) more first.over in
-    record { over = others.over; still = onward g (moved g m) (moved_each (moved g m) more) first.still others.still }
+    record { over = others.over; still = onward g (moved g m) (moved_each (moved g m) more) (said_by m) (said_by_each more) first.still others.still }
 
 pub stays_over : StaysOver
 stays_over g ms over =
     let all = each_stays g ms over in
-    let whole = subst (Stays g) (sym (halted_stands (moved_each g ms) all.over.halted)) all in
+    let whole = subst (λ (h : Generations). Still g h (said_by_each ms)) (sym (halted_stands (moved_each g ms) all.over.halted)) all in
     (whole.over, whole.still)
 
 pub over_shut : OverBehindAShutdown
 over_shut g = record { halted = refl; failed = refl }
-
--- what is true of one is true of what is chosen
-else_of : (P : Generations → Type 0) (b : Bool) (x y : Generations) → b ≡ false → P y → P (if b then x else y)
-else_of P true x y is h = absurd (let no : true ≡ false = is in cc)
-else_of P false x y is h = h
-
-then_of : (P : Generations → Type 0) (b : Bool) (x y : Generations) → b ≡ true → P x → P (if b then x else y)
-then_of P true x y is h = h
-then_of P false x y is h = absurd (let no : false ≡ true = is in cc)
 
 not_below : (m n : ℕ) → n ≤ m → nat_lt m n ≡ false
 not_below m n h = by_test (nat_lt m n) (nat_lt m n ≡ false) (λ t. absurd (let l = lt_from m n t in omega arith)) (λ f. f)
@@ -119,13 +137,13 @@ below m n h = by_test (nat_lt m n) (nat_lt m n ≡ true) (λ t. t) (λ f. absurd
 pub over_failed : OverBehindAFailedCreation
 over_failed g e draw is unmade last =
     subst (λ (p : Phase). IsOver (attempt_failed_at g e draw p)) (sym is)
-    (else_of IsOver (has_attempts g) _ _ (not_below g.attempt g.settings.config.number_of_retries last)
-    (else_of IsOver g.created _ _ unmade (record { halted = refl; failed = refl })))
+    (if_false IsOver (has_attempts g) _ _ (not_below g.attempt g.settings.config.number_of_retries last)
+    (if_false IsOver g.created _ _ unmade (record { halted = refl; failed = refl })))
 
 pub waits : WaitsByItsAttempt
 waits g e draw is left =
     subst (λ (p : Phase). (attempt_failed_at g e draw p).acts ≡ (rests g draw).acts) (sym is)
-    (then_of (λ (x : Generations). x.acts ≡ (rests g draw).acts) (has_attempts g) _ _ (below g.attempt g.settings.config.number_of_retries left) refl)
+    (if_true (λ (x : Generations). x.acts ≡ (rests g draw).acts) (has_attempts g) _ _ (below g.attempt g.settings.config.number_of_retries left) refl)
 
 bounded_attempt : (g : Generations) (link : ℕ) (ms : Option ℕ) → (bounded g link ms).attempt ≡ g.attempt
 bounded_attempt g link None = refl
@@ -141,7 +159,7 @@ same_attempt false y z a b is = absurd (let no : false ≡ true = is in cc)
 
 next_attempt : (g : Generations) (number attempt : ℕ) → rests_behind g number attempt ≡ true → (rested g number attempt).attempt ≡ g.attempt + 1
 next_attempt g number attempt is =
-    then_of (λ (x : Generations). x.attempt ≡ g.attempt + 1) (rests_behind g number attempt) _ _ is
+    if_true (λ (x : Generations). x.attempt ≡ g.attempt + 1) (rests_behind g number attempt) _ _ is
     (dialed_attempt (record g { attempt = g.attempt + 1 }))
 
 pub ascend : AttemptsAscend

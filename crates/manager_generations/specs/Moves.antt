@@ -8,11 +8,11 @@ use Rattle.manager_generations.specs.declared.act.ManagerTimer.TheVariants as ti
 use Rattle.manager_generations.specs.declared.generations.Generations.{Generations}
 use Rattle.manager_generations.specs.declared.phase.Phase.TheVariants.{Opening}
 use Rattle.manager_generations.specs.Phases.{is_ready, is_failed}
-use Rattle.manager_generations.specs.Generations.{begun, set_up, resubscribed, attempt_failed, rested, rests_behind, lost, is_cause_at, answered_with, outcomes_done, shut_down}
+use Rattle.manager_generations.specs.Generations.{shown, begun, set_up, resubscribed, attempt_failed, rested, rests_behind, lost, is_cause_at, answered_with, outcomes_done, shut_down}
 
 -- a link is set up, where names are subscribed or aren't; it is subscribed again; its opening fails with this error, where this word
 -- is drawn; the wait behind an attempt of a generation is over; a link ends; a request is answered with this error; everything is
--- shut down
+-- shut down; or the manager shows this act, which is none of its generations
 pub data Move : Type 0 where
   link_set_up : Bool → Move
   subscribed_again : Move
@@ -21,6 +21,7 @@ pub data Move : Type 0 where
   link_ends : Move
   answer : RedisError → Move
   closes : Move
+  shows : ManagerAct → Move
 
 abbrev pub moved : Generations → Move → Generations
 moved g (link_set_up subscribed) = set_up g subscribed
@@ -30,6 +31,7 @@ moved g (wait_over number attempt) = rested g number attempt
 moved g link_ends = lost g
 moved g (answer e) = answered_with g e
 moved g closes = shut_down g
+moved g (shows a) = shown g a
 
 abbrev pub moved_each : Generations → List Move → Generations
 moved_each g [] = g
@@ -49,6 +51,7 @@ is_cause g subscribed_again = false
 is_cause g (opening_fails e draw) = false
 is_cause g (wait_over number attempt) = false
 is_cause g closes = false
+is_cause g (shows a) = false
 
 -- one of these is a cause where it comes
 abbrev pub has_cause : Generations → List Move → Bool
@@ -69,11 +72,26 @@ pub record IsOver (g : Generations) : Type 0 where
   pub halted : g.halted ≡ true
   pub failed : is_failed g.phase ≡ true
 
--- the same generation, and no more acts nor links
-pub record IsUnmoved (old new : Generations) : Type 0 where
+-- the acts that the manager shows itself
+abbrev pub said_by : Move → List ManagerAct
+said_by (shows a) = a ∷ []
+said_by (link_set_up subscribed) = []
+said_by subscribed_again = []
+said_by (opening_fails e draw) = []
+said_by (wait_over number attempt) = []
+said_by link_ends = []
+said_by (answer e) = []
+said_by closes = []
+
+abbrev pub said_by_each : List Move → List ManagerAct
+said_by_each [] = []
+said_by_each (m ∷ more) = said_by m ++ said_by_each more
+
+-- the same generation, and no more links, nor acts but these
+pub record IsUnmoved (old new : Generations) (acts : List ManagerAct) : Type 0 where
   pub number : new.number ≡ old.number
   pub links : new.links ≡ old.links
-  pub acts : new.acts ≡ old.acts
+  pub said : new.acts ≡ old.acts ++ acts
 
 -- A turn in which a cause comes replaces the current generation by the next one, once, and asks for its first link.
 abbrev pub ReplacedByACause : Type 0
@@ -94,9 +112,9 @@ StandsWhenHalted =
     (g : Generations) (moves : List Move) → (moved_each g moves).halted ≡ true
     → (turn g moves).number ≡ g.number
 
--- Once nothing begins any more it stays so, whatever happens: no link is asked for, nothing is shown.
+-- Once nothing begins any more it stays so, whatever happens: no link is asked for, and nothing is shown of generations.
 abbrev pub StaysOver : Type 0
-StaysOver = (g : Generations) (moves : List Move) → IsOver g → IsOver (turn g moves) × IsUnmoved g (turn g moves)
+StaysOver = (g : Generations) (moves : List Move) → IsOver g → IsOver (turn g moves) × IsUnmoved g (turn g moves) (said_by_each moves)
 
 -- So it is behind a shutdown.
 abbrev pub OverBehindAShutdown : Type 0
