@@ -93,11 +93,11 @@ weighed_outcomes m outcome.Done = refl
 answered_open : (m : ConnectionManager) (p : ℕ) (o : Outcome) → is_open_at m.stages p ≡ true → Keeps m (said (kept (weighed (closed_by m p o) o) p o) (act.Answered (record { number = p })))
 answered_open m p o there = record {
   closed = λ q h.
-    ap (λ (ss : List Stage). is_closed_at ss q) (weighed_stages (closed_by m p o) o)
-    ∙ set_closed m.stages p q stage.Closed (not_same m.stages p q is_open closed_or_open h there) h;
+      ap (λ (ss : List Stage). is_closed_at ss q) (weighed_stages (closed_by m p o) o)
+      ∙ set_closed m.stages p q stage.Closed (not_same m.stages p q is_open closed_or_open h there) h;
   outcome = λ q h.
-    ap (λ (os : List (Option Outcome)). if_placed (slice_get (slice_set os p (Some o)) q)) (weighed_outcomes (closed_by m p o) o)
-    ∙ ap if_placed (get_set_other m.outcomes p q (Some o) (not_same m.stages p q is_open closed_or_open h there));
+      ap (λ (os : List (Option Outcome)). if_placed (slice_get (slice_set os p (Some o)) q)) (weighed_outcomes (closed_by m p o) o)
+      ∙ ap if_placed (get_set_other m.outcomes p q (Some o) (not_same m.stages p q is_open closed_or_open h there));
 }
 
 answered_keeps : (m : ConnectionManager) (p : ℕ) (o : Outcome) → Keeps m (answered m p o)

@@ -49,10 +49,11 @@ as_effect : (m n : ConnectionManager) (draw : ℕ) → m ≡ n → flushed (pass
 as_effect m n draw is = ap (λ (x : ConnectionManager). flushed (passed (settled x) draw) draw) is
 
 pub timers_silent : OldTimersAreSilent
-timers_silent m draw =
-    ( (λ p link number is old. as_effect (late_at m draw (slice_get m.stages p)) m draw (ap (late_at m draw) is ∙ left_if (is_current m.generations link) _ m old))
-    , (λ link old. as_effect (resubscription_late m draw link) m draw (left_if (is_current m.generations link && is_resubscribing m.generations.phase) _ m (ap (λ (b : Bool). b && is_resubscribing m.generations.phase) old)))
-    , (λ number attempt over. as_effect (rest_ended m number attempt) m draw (left_if (rests_behind m.generations number attempt) _ m over)) )
+timers_silent m draw = (
+  (λ p link number is old. as_effect (late_at m draw (slice_get m.stages p)) m draw (ap (late_at m draw) is ∙ left_if (is_current m.generations link) _ m old)),
+  (λ link old. as_effect (resubscription_late m draw link) m draw (left_if (is_current m.generations link && is_resubscribing m.generations.phase) _ m (ap (λ (b : Bool). b && is_resubscribing m.generations.phase) old))),
+  (λ number attempt over. as_effect (rest_ended m number attempt) m draw (left_if (rests_behind m.generations number attempt) _ m over)),
+)
 
 pub confirmed_tracked : ConfirmedCallsAreTracked
 confirmed_tracked m p call history is open_at does =
@@ -77,9 +78,10 @@ both_hold false b x y = cc
 
 pub again : SubscribesWhatIsSubscribed
 again m history is subscribing none =
-    let p = resubscription m.tracker.held in
-    ( p
-    , held_resubscribes history m.tracker.held is
-    , if_true (with_message m p) (is_resubscribing m.generations.phase && (length m.conn.requests == 0)) (resubscribes m) m
-      (both_hold (is_resubscribing m.generations.phase) (length m.conn.requests == 0) subscribing (none_asked m none))
-      (timed_conn _ m.generations.settings.config.connection.response_timeout) )
+    let p = resubscription m.tracker.held in (
+      p,
+      held_resubscribes history m.tracker.held is,
+      if_true (with_message m p) (is_resubscribing m.generations.phase && (length m.conn.requests == 0)) (resubscribes m) m
+          (both_hold (is_resubscribing m.generations.phase) (length m.conn.requests == 0) subscribing (none_asked m none))
+          (timed_conn _ m.generations.settings.config.connection.response_timeout),
+    )

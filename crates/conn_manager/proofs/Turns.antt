@@ -54,9 +54,10 @@ by_move m n move is = (move ∷ [], is)
 
 -- one after the other
 onward : (m n o : ConnectionManager) → Goes m n → Goes n o → Goes m o
-onward m n o first second =
-    ( first.0 ++ second.0
-    , second.1 ∙ ap (λ (g : Generations). moved_each g second.0) first.1 ∙ sym (joined m.generations first.0 second.0) )
+onward m n o first second = (
+  first.0 ++ second.0,
+  second.1 ∙ ap (λ (g : Generations). moved_each g second.0) first.1 ∙ sym (joined m.generations first.0 second.0),
+)
 
 says : (m : ConnectionManager) (a : ManagerAct) → Goes m (said m a)
 says m a = by_move m (said m a) (shows a) refl

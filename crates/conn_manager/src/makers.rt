@@ -7,7 +7,9 @@ ghost use Rattle.conn_manager.specs.Calls.{blank, eager, lazy, left_on, RefusesM
 
 use crate::manager::ConnectionManager;
 use crate::request::Stage;
-use connection_info::{AsyncConnectionConfig, Client, OpenError, ProtocolVersion, RedisConnectionInfo};
+use connection_info::{
+    AsyncConnectionConfig, Client, OpenError, ProtocolVersion, RedisConnectionInfo,
+};
 use containers::{Queue, Seq};
 use driver_model::{Hearing, Outcome};
 use manager_config::{ConnectionManagerConfig, a_config_is_taken_where_no_check_fails};

@@ -154,7 +154,8 @@ impl ConnectionManager {
         ensures { OnOk result (
             self.new
             ≡ record self.old {
-                tracker = tracked self.old.tracker (slice_get self.old.calls number) outcome.now }
+              tracker = tracked self.old.tracker (slice_get self.old.calls number) outcome.now;
+            }
             ) }
     {
         match outcome {

@@ -205,7 +205,13 @@ impl ConnectionManager {
             (pack command.now.args)) }
     {
         let packed = command.get_packed_command(alloc)?;
-        self.send(alloc, packed, Shape::Single, !command.is_no_response(), None)
+        self.send(
+            alloc,
+            packed,
+            Shape::Single,
+            !command.is_no_response(),
+            None,
+        )
     }
 
     /// Sends a pipeline as one message: the replies behind the first `offset` are kept, `count` of them, and at least one is

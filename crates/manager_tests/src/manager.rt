@@ -132,13 +132,7 @@ fn timer_name(timer: ManagerTimer, ms: u64) -> &'static str {
         ManagerTimer::Backoff {
             generation: 1,
             attempt: 0,
-        } => {
-            if ms == 50 {
-                "backoff"
-            } else {
-                "other"
-            }
-        }
+        } => { if ms == 50 { "backoff" } else { "other" } }
         ManagerTimer::Resubscription { link: _ } => "timer of resub",
         ManagerTimer::Response { request: _ } => "timer",
         _ => "other",
@@ -272,7 +266,12 @@ fn turn(
             shows(alloc, manager, ManagerNews::Late { request }, names)
         }
         What::LateAgain(link) => {
-            shows(alloc, manager, ManagerNews::ResubscriptionLate { link }, names)
+            shows(
+                alloc,
+                manager,
+                ManagerNews::ResubscriptionLate { link },
+                names,
+            )
         }
         What::Rested(generation, attempt) => {
             let news = ManagerNews::Rested {
@@ -318,11 +317,7 @@ fn call(
 }
 
 /// Whether a step goes so.
-fn takes(
-    alloc: Global,
-    manager: &mut ConnectionManager,
-    step: Step,
-) -> Result<bool, AllocError> {
+fn takes(alloc: Global, manager: &mut ConnectionManager, step: Step) -> Result<bool, AllocError> {
     match step {
         Step::Get => get(alloc, manager),
         Step::Pipe => pipeline(alloc, manager),
@@ -373,13 +368,19 @@ fn holds(alloc: Global, case: &Case) -> Result<bool, AllocError> {
 
 /// The answer to HELLO, and the confirmation of SUBSCRIBE c.
 const HELLO: &[u8] = b"%0\r\n";
+
 const CONFIRMATION: &[u8] = b">3\r\n$9\r\nsubscribe\r\n$1\r\nc\r\n:1\r\n";
 
 const BEGINS: Step = Step::Turn(What::Nothing, &["generation", "connect"]);
+
 const SET_UP: Step = Step::Turn(What::Connected(0), &["setup", "write"]);
+
 const MADE: Step = Step::Turn(What::Came(0, HELLO), &["created"]);
+
 const SUBSCRIBES: Step = Step::Call(SubscriptionAction::Subscribe);
+
 const SUBSCRIBED: Step = Step::Turn(What::Came(0, CONFIRMATION), &["push", "outcome"]);
+
 const LOST: Step = Step::Turn(What::Ended(0), &["close", "push", "generation", "connect"]);
 
 /// The first attempt of a lazy manager is refused: its first request is answered with that, and for the next one it connects
@@ -388,7 +389,10 @@ const LAZY: Case = (
     Kind::Lazy,
     &[
         Step::Get,
-        Step::Turn(What::Nothing, &["created", "generation", "connect", "wait connect"]),
+        Step::Turn(
+            What::Nothing,
+            &["created", "generation", "connect", "wait connect"],
+        ),
         Step::Turn(What::Refused(0), &["outcome", "generation", "connect"]),
     ],
     &["refused"],
@@ -426,7 +430,14 @@ const AGAIN: Case = (
         Step::Turn(What::Nothing, &["round", "round", "start", "start"]),
         Step::Turn(
             What::Ended(0),
-            &["close", "push", "outcome", "outcome", "generation", "connect"],
+            &[
+                "close",
+                "push",
+                "outcome",
+                "outcome",
+                "generation",
+                "connect",
+            ],
         ),
         Step::Turn(What::Came(0, b"+x\r\n"), &[]),
         Step::Get,
@@ -456,7 +467,10 @@ const NO_CAUSES: Case = (
         Step::Turn(What::Connected(0), &["created"]),
         Step::Get,
         Step::Get,
-        Step::Turn(What::Nothing, &["round", "round", "start", "start", "write"]),
+        Step::Turn(
+            What::Nothing,
+            &["round", "round", "start", "start", "write"],
+        ),
         Step::Turn(What::Came(0, b"-ERR no\r\n"), &["outcome"]),
         Step::Turn(What::Late(1), &["outcome"]),
         Step::Turn(What::Ended(0), &["close"]),
@@ -490,7 +504,10 @@ const REFUSED: Case = (
     Kind::Lazy,
     &[
         Step::Pipe,
-        Step::Turn(What::Nothing, &["created", "generation", "connect", "wait connect"]),
+        Step::Turn(
+            What::Nothing,
+            &["created", "generation", "connect", "wait connect"],
+        ),
         Step::Turn(What::Connected(0), &["round", "start", "write"]),
         Step::Turn(What::Came(0, b"+PONG\r\n"), &["outcome"]),
     ],
