@@ -1,2 +1,3 @@
 mod Causes
 mod Over
+pub mod Threads

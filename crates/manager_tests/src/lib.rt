@@ -9,4 +9,6 @@ pub mod scripted;
 #[cfg(test)]
 mod settings;
 #[cfg(test)]
+mod threads;
+#[cfg(test)]
 mod turns;

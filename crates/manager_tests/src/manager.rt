@@ -594,11 +594,3 @@ fn what_was_subscribed_is_subscribed_again(rt: HostRuntime) -> Result<(), AllocE
     }
     Ok(())
 }
-
-/// Takes only types that go to other threads, and that threads share.
-fn crosses<T: Send + Sync>() {}
-
-#[test]
-fn managers_cross_threads() {
-    crosses::<ConnectionManager>();
-}
