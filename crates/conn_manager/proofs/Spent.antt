@@ -1,11 +1,11 @@
 -- Which part of a turn gives out the number 2^32 - 1.
-use Rattle.std.proofs.Common.{◌≡◌, ◌⊎◌, inl, inr, ℕ, true, List, refl, subst, sym, ap, ◌∙◌}
+use Rattle.std.proofs.Common.{◌≡◌, ◌⊎◌, inl, inr, ℕ, true, Result, OnOk, subst, ap, ◌∙◌}
 use Rattle.conn_manager.specs.declared.manager.ConnectionManager.{ConnectionManager}
 use Rattle.conn_manager.specs.Events.{Happening}
 use Rattle.manager_generations.specs.Generations.{runs_out}
 use Rattle.conn_manager.specs.Manager.{nobody_held, loss_answered}
 use Rattle.conn_manager.specs.Spending.{IsSpent, SpendsPass, SpendsRounds, Spends, before, in_effect, in_next, in_pass, in_rounds, behind}
-use Rattle.conn_manager.specs.Turn.{applied, succeeded, settled, connection_passed, passed}
+use Rattle.conn_manager.specs.Turn.{applied, succeeded, settled, connection_passed, passed, flushed, turned}
 
 pub spends_effect : (m : ConnectionManager) (draw : ℕ) (what : Happening) → IsSpent m ⊎ (runs_out (applied m draw what).generations ≡ true) → Spends m draw what
 spends_effect m draw what (inl h) = before h
@@ -27,3 +27,8 @@ spends_pass m a s draw what first second h = spends_in m draw what (subst (λ (n
 
 pub spends_behind : (m a s p : ConnectionManager) (draw : ℕ) (what : Happening) → a ≡ applied m draw what → s ≡ settled a → p ≡ passed s draw → IsSpent p → Spends m draw what
 spends_behind m a s p draw what first second third h = behind (subst IsSpent (third ∙ ap (λ (n : ConnectionManager). passed n draw) (second ∙ ap settled first)) h)
+
+-- the parts of a turn, one after the other, are the turn
+pub turned_by : {T E : Type 0} (m a s p n : ConnectionManager) (draw : ℕ) (what : Happening) (r : Result T E) → a ≡ applied m draw what → s ≡ settled a → p ≡ passed s draw → OnOk r (n ≡ flushed p draw) → OnOk r (n ≡ turned m draw what)
+turned_by m a s p n draw what r first second third h =
+    subst (λ (x : ConnectionManager). OnOk r (n ≡ flushed x draw)) (third ∙ ap (λ (x : ConnectionManager). passed x draw) (second ∙ ap settled first)) h

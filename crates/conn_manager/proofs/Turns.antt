@@ -3,6 +3,9 @@ use Rattle.std.proofs.Common.{◌≡◌, ◌≢◌, ℕ, zero, suc, ◌+◌, ◌
 use Rattle.containers.proofs.Choices.{chosen, either}
 use Rattle.redis_error.specs.declared.redis_error.RedisError.{RedisError}
 use Rattle.redis_error.specs.declared.redis_error.RedisError.TheVariants as error
+use Rattle.resp_write.specs.Pack.{pack_pipeline}
+use Rattle.mux_client.specs.Calls.{shape_inside}
+use Rattle.sub_tracker.specs.Pipeline.{resubscription}
 use Rattle.driver_model.specs.News.{News, shut}
 use Rattle.driver_model.specs.declared.action.WaitKind.{WaitKind}
 use Rattle.driver_model.specs.declared.outcome.Outcome.{Outcome}
@@ -11,6 +14,7 @@ use Rattle.mux_conn.specs.declared.act.LinkAct.{LinkAct}
 use Rattle.mux_conn.specs.declared.act.LinkAct.TheVariants as link_act
 use Rattle.mux_conn.specs.Connection.{Work, work_with}
 use Rattle.mux_conn.specs.Effects as effects
+use Rattle.mux_conn.specs.Internal.{asked_inside}
 use Rattle.mux_conn.specs.Passes as passes
 use Rattle.mux_conn.specs.Turn as conn_turn
 use Rattle.manager_generations.specs.declared.act.ManagerAct.{ManagerAct}
@@ -203,8 +207,10 @@ asks_timer m (Some ms) = says m _
 
 subscribes_again : (m : ConnectionManager) → Goes m (resubscription_begun m)
 subscribes_again m =
-    chosen (Goes m) (is_resubscribing m.generations.phase && (length m.conn.requests == 0)) _ _
-    (λ _. onward m _ (resubscribes m) (alike m _ refl) (asks_timer _ m.generations.settings.config.connection.response_timeout)) (λ _. itself m)
+    let p = resubscription m.tracker.held in
+    let asks = record m { conn = asked_inside m.conn resubscription_name (pack_pipeline p) (shape_inside (length p.commands)) } in
+    chosen (Goes m) (is_resubscribing m.generations.phase && (length m.conn.requests == 0)) (resubscribes m) m
+    (λ _. onward m asks (resubscribes m) (alike m asks refl) (asks_timer asks m.generations.settings.config.connection.response_timeout)) (λ _. itself m)
 
 hands : (m : ConnectionManager) (q : HeldRequest) → Goes m (handed m q)
 hands m q = by_move m (handed m q) (shows (act.Round (record { number = q.number }) (link_of m.generations))) refl
@@ -237,7 +243,10 @@ shows_each m kind (p ∷ ps) =
 
 shows_held : (m : ConnectionManager) (kind : Option ManagerWait) → Goes m (held_shown_as m kind)
 shows_held m None = alike m (with_wait m None) refl
-shows_held m (Some kind) = onward m (with_wait m (Some kind)) _ (alike m (with_wait m (Some kind)) refl) (shows_each (with_wait m (Some kind)) kind (to_show m kind))
+shows_held m (Some kind) =
+    let next = with_wait m (Some kind) in
+    let last = wait_shown_each next kind (to_show m kind) in
+    onward m next last (alike m next refl) (shows_each next kind (to_show m kind))
 
 flushes : (m : ConnectionManager) (draw : ℕ) → Goes m (flushed m draw)
 flushes m draw =

@@ -167,7 +167,10 @@ impl ConnectionManager {
         ensures bytes { OnOk result (packed ≢ []) }
         ensures err { IfErr result (RefusesSend self.old (sent self.old packed shape awaited call) packed) }
     {
-        self.check(&packed)?;
+        match self.check(&packed) {
+            Ok(()) => {}
+            Err(error) => return Err(error),
+        }
         let number = self.stages.len() as u32;
         let request = HeldRequest {
             number,

@@ -13,7 +13,7 @@ impl ConnectionManager {
     ghost use Rattle.conn_manager.specs.Turn.{turned, stepped};
 
     /// The parts of a turn, one after the other.
-    #[tactic(auto, using(crate::proofs::Spent::spends_effect, crate::proofs::Spent::spends_next, crate::proofs::Spent::spends_pass, crate::proofs::Spent::spends_behind))]
+    #[tactic(auto, using(crate::proofs::Spent::spends_effect, crate::proofs::Spent::spends_next))]
     fn turn(
         &mut self,
         alloc: Global,
