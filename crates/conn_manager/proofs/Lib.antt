@@ -4,4 +4,3 @@ mod Resubscribing
 mod Once
 mod Turns
 mod Spent
-pub mod Threads
