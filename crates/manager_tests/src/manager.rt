@@ -499,8 +499,8 @@ const SHUT: Case = (
     1,
 );
 
-/// What a server refuses fails a generation by an error that is no fault of a link.
-const REFUSED: Case = (
+/// A pipeline is answered with its values.
+const PIPELINE: Case = (
     Kind::Lazy,
     &[
         Step::Pipe,
@@ -517,7 +517,7 @@ const REFUSED: Case = (
 
 #[test]
 fn generations_stand_without_a_cause(rt: HostRuntime) -> Result<(), AllocError> {
-    for case in &[NO_CAUSES, SHUT, REFUSED] {
+    for case in &[NO_CAUSES, SHUT, PIPELINE] {
         assert!(rt; holds(rt.alloc(), case)?);
     }
     Ok(())
