@@ -3,8 +3,12 @@
 
 #[cfg(test)]
 mod delays;
+#[cfg(test)]
+mod manager;
 pub mod scripted;
 #[cfg(test)]
 mod settings;
+#[cfg(test)]
+mod threads;
 #[cfg(test)]
 mod turns;

@@ -1,0 +1,6 @@
+mod Entries
+mod Calls
+mod Resubscribing
+mod Once
+mod Turns
+mod Spent

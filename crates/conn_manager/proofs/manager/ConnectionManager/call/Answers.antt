@@ -1,0 +1,6 @@
+use Rattle.std.proofs.Common.{rules}
+use Rattle.conn_manager.proofs.Calls.{called_by}
+use Rattle.conn_manager.proofs.manager.ConnectionManager.call.Goals as goal
+
+pub returns-clause-sent : goal.returns-clause-sent
+returns-clause-sent c = called_by c.args.self.now c.send.new.self c.args.action c.args.names.now _ _ c.send.result (search rules) (search rules) c.send.ensures.sent

@@ -1,0 +1,12 @@
+pub mod Events
+pub mod Manager
+pub mod Hearing
+pub mod Turn
+pub mod Fitting
+pub mod Spending
+pub mod Calls
+pub mod Runs
+pub mod Rows
+pub mod Links
+pub mod Once
+pub mod Turns

@@ -1,0 +1,245 @@
+ghost use Rattle.std.specs.Prelude.{◌≡◌, Some, IfOk, OnOk, IsErrOf};
+ghost use Rattle.conn_manager.specs.Manager.{pending};
+
+use crate::manager::ConnectionManager;
+use containers::Queue;
+use driver_model::{LinkNews, Outcome, WaitKind};
+use manager_generations::{ManagerAct, ManagerTimer, ManagerWait};
+use mux_conn::{ConnectionError, LinkAct, Pending};
+use redis_error::RedisError;
+use std::alloc::{AllocError, Global};
+
+/// The name of the request that subscribes again: no other has it.
+pub(crate) const RESUBSCRIPTION: u32 = u32::MAX;
+
+/// A timer of a request is asked for.
+fn response_timer(request: u32, ms: u64) -> ManagerAct
+    ensures { result ≡ ManagerAct.Timer (ManagerTimer.Response (pending request)) ms }
+{
+    ManagerAct::Timer {
+        timer: ManagerTimer::Response {
+            request: Pending { number: request },
+        },
+        ms,
+    }
+}
+
+impl ConnectionManager {
+    ghost use Rattle.driver_model.specs.News.{told};
+    ghost use Rattle.mux_conn.specs.Effects.{IsWithin};
+    ghost use Rattle.conn_manager.specs.Hearing.{has_names, set_up, opening_failed, opened, resubscribed};
+    ghost use Rattle.conn_manager.specs.Hearing.{closed, came_to, waits, starts, noted, noted_each};
+    ghost use Rattle.conn_manager.specs.Hearing.{affected, timed_out};
+
+    /// Whether some name is subscribed.
+    fn has_names(&self, alloc: Global) -> Result<bool, AllocError>
+        ensures { IfOk result (λ some. some ≡ has_names self.now.tracker.held) }
+    {
+        let pipeline = self.tracker.get_subscription_pipeline(alloc)?;
+        let some = pipeline.len() != 0;
+        Ok(some)
+    }
+
+    /// The link is set up.
+    fn set_up(&mut self, alloc: Global) -> Result<(), AllocError>
+        ensures { OnOk result (self.new ≡ set_up self.old) }
+    {
+        let subscribed = self.has_names(alloc)?;
+        self.generations.set_up(subscribed)
+    }
+
+    /// The opening of the link fails; where it was the last attempt, those that wait are answered.
+    fn fail_opening(
+        &mut self,
+        alloc: Global,
+        error: &RedisError,
+        draw: u64,
+    ) -> Result<(), AllocError>
+        ensures { OnOk result (self.new ≡ opening_failed self.old error.now draw) }
+    {
+        self.generations.fail(alloc, error, draw)?;
+        self.answer_failure(alloc)
+    }
+
+    /// The link is set up, or its opening fails.
+    fn open(
+        &mut self,
+        alloc: Global,
+        draw: u64,
+        error: Option<RedisError>,
+    ) -> Result<(), AllocError>
+        ensures { OnOk result (self.new ≡ opened self.old draw error) }
+    {
+        match &error {
+            None => self.set_up(alloc),
+            Some(error) => self.fail_opening(alloc, error, draw),
+        }
+    }
+
+    /// The link is closed.
+    fn close(&mut self) -> Result<(), AllocError>
+        ensures { OnOk result (self.new ≡ closed self.old) }
+    {
+        let link = self.link();
+        self.say(ManagerAct::Close { link })?;
+        self.generations.lose()
+    }
+
+    /// A request of the connection is answered.
+    fn come_to(&mut self, alloc: Global, request: u32, outcome: Outcome) -> Result<(), AllocError>
+        ensures { OnOk result (self.new ≡ came_to self.old request outcome) }
+    {
+        if request == RESUBSCRIPTION {
+            return self.generations.resubscribed();
+        }
+        self.answer(alloc, request, outcome)
+    }
+
+    /// A request of the connection waits.
+    fn show_wait_of(&mut self, request: u32, wait: WaitKind) -> Result<(), AllocError>
+        ensures { OnOk result (self.new ≡ waits self.old request wait) }
+    {
+        if request == RESUBSCRIPTION {
+            return Ok(());
+        }
+        self.say(ManagerAct::Wait {
+            request: Pending { number: request },
+            wait: ManagerWait::of_link(wait),
+        })
+    }
+
+    /// The message of a request of the connection starts.
+    fn show_start(
+        &mut self,
+        message: u32,
+        request: u32,
+        need: u64,
+        len: u64,
+    ) -> Result<(), AllocError>
+        ensures { OnOk result (self.new ≡ starts self.old message request need len) }
+    {
+        let link = self.link();
+        if request == RESUBSCRIPTION {
+            return self.say(ManagerAct::Resubscribe {
+                link,
+                message,
+                need,
+                len,
+            });
+        }
+        self.say(ManagerAct::Start {
+            link,
+            message,
+            request: Pending { number: request },
+            need,
+            len,
+        })
+    }
+
+    /// An act of the connection.
+    fn note(&mut self, alloc: Global, draw: u64, act: LinkAct) -> Result<(), AllocError>
+        ensures { OnOk result (self.new ≡ noted self.old draw act) }
+    {
+        let link = self.link();
+        match act {
+            LinkAct::Created { error } => self.open(alloc, draw, error),
+            LinkAct::Took { request, count } => self.say(ManagerAct::Took {
+                request: Pending { number: request },
+                count,
+            }),
+            LinkAct::Timer { request, ms } => self.say(response_timer(request, ms)),
+            LinkAct::RenewalTimer { number, ms } => self.say(ManagerAct::Timer {
+                timer: ManagerTimer::Renewal { link, number },
+                ms,
+            }),
+            LinkAct::NeedCreds => self.say(ManagerAct::NeedCreds { link }),
+            LinkAct::Push { info } => self.say(ManagerAct::Push { link, info }),
+            LinkAct::Message { msg } => {
+                drop(msg);
+                Ok(())
+            }
+            LinkAct::Monitor { value } => {
+                drop(value);
+                Ok(())
+            }
+            LinkAct::Watch {
+                message: _,
+                need: _,
+                len: _,
+            } => Ok(()),
+            LinkAct::Close => self.close(),
+            LinkAct::Write { bytes } => self.say(ManagerAct::Write { link, bytes }),
+            LinkAct::Wait { request, wait } => self.show_wait_of(request, wait),
+            LinkAct::Start {
+                message,
+                request,
+                need,
+                len,
+            } => self.show_start(message, request, need, len),
+            LinkAct::SetUp { message, need, len } => self.say(ManagerAct::SetUp {
+                link,
+                message,
+                need,
+                len,
+            }),
+            LinkAct::Renewed { message, need, len } => self.say(ManagerAct::Renewed {
+                link,
+                message,
+                need,
+                len,
+            }),
+            LinkAct::Outcome { request, outcome } => self.come_to(alloc, request, outcome),
+        }
+    }
+
+    /// Acts of the connection, in order.
+    pub(crate) fn note_each(
+        &mut self,
+        alloc: Global,
+        draw: u64,
+        acts: Vec<LinkAct>,
+    ) -> Result<(), AllocError>
+        ensures { OnOk result (self.new ≡ noted_each self.old draw acts.items) }
+    {
+        let mut rest = Queue::from_vec(acts);
+        while let Some(act) = rest.pop_front() {
+            self.note(alloc, draw, act)?;
+        }
+        Ok(())
+    }
+
+    /// News of its link has its effect on the connection.
+    pub(crate) fn affect(
+        &mut self,
+        alloc: Global,
+        draw: u64,
+        news: LinkNews<'_>,
+    ) -> Result<(), ConnectionError>
+        requires { IsWithin self.old.conn.life (told news) }
+        ensures done { OnOk result (self.new ≡ affected self.old draw (told news.entry)) }
+        ensures spent { IsErrOf result ConnectionError.Spent
+            → self.old.conn.failure ≡ Some ConnectionError.Spent }
+    {
+        let mut acts = Vec::new(alloc);
+        match self.conn.apply(alloc, news, &mut acts) {
+            Ok(()) => {}
+            Err(error) => return Err(error),
+        }
+        self.note_each(alloc, draw, acts)?;
+        Ok(())
+    }
+
+    /// The time of a request of the connection is over.
+    pub(crate) fn time_out(
+        &mut self,
+        alloc: Global,
+        draw: u64,
+        number: u32,
+    ) -> Result<(), AllocError>
+        ensures { OnOk result (self.new ≡ timed_out self.old draw number) }
+    {
+        let mut acts = Vec::new(alloc);
+        self.conn.time_out(Pending { number }, &mut acts)?;
+        self.note_each(alloc, draw, acts)
+    }
+}

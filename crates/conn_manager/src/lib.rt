@@ -1,0 +1,33 @@
+//! A connection manager: a connection that comes back. Where its link is lost it connects anew, in several attempts if need be,
+//! and subscribes again what was subscribed. It opens nothing itself: whoever owns it hands in what happens, and does what its
+//! steps show.
+#![tactic(auto)]
+
+mod answering;
+mod effects;
+mod event;
+mod examples;
+mod hearing;
+mod laws;
+mod makers;
+mod manager;
+mod request;
+mod rounds;
+mod sending;
+mod stepping;
+mod subscribing;
+
+pub use event::{ManagerEvent, ManagerNews};
+pub use examples::these_runs_show_this;
+pub use laws::{
+    a_request_is_answered_once, an_event_of_an_older_link_changes_nothing,
+    turns_move_generations_by_their_causes, what_is_subscribed_again_is_what_is_subscribed,
+};
+pub use manager::ConnectionManager;
+pub use manager_config::{ConnectionManagerConfig, backoff_ms};
+pub use manager_generations::{
+    Generations, ManagerAct, ManagerTimer, ManagerWait, Phase, Settings,
+};
+pub use mux_client::SendError;
+pub use mux_conn::{ConnectionError, Pending};
+pub use request::{Call, HeldRequest, Stage};

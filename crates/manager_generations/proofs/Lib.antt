@@ -1,0 +1,3 @@
+mod Causes
+mod Over
+pub mod Threads

@@ -1,0 +1,4 @@
+pub mod Phases
+pub mod Waits
+pub mod Generations
+pub mod Moves
