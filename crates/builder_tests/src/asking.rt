@@ -3,165 +3,60 @@ use cluster_client::{
     ClusterClient, ClusterConfig, ClusterKind, ClusterSettings, OverallResponseTimeout,
 };
 use connection_info::{ConnectionInfo, OpenError, ProtocolVersion, RedisConnectionInfo};
-use containers::{Bytes, Names};
+use containers::Bytes;
 use redis_error::ConfigName;
 use std::alloc::{AllocError, Global};
 
-/// Whether there is one text, this one.
-fn is_one(texts: &Names, wanted: &[u8]) -> bool {
-    match texts.as_slice() {
-        [text] => text.as_slice() == wanted,
-        _ => false,
-    }
-}
-
-/// Whether no key of a connection is given.
-fn has_no_connection(words: &ClusterSettings) -> bool {
-    words.connect.is_none()
-        && words.limit.is_none()
-        && words.boundary.is_none()
-        && words.push.is_none()
-        && words.creds.is_none()
-        && words.lib.is_none()
-}
-
-/// Whether nothing is given of what is said to the nodes.
-fn has_no_choice(words: &ClusterSettings) -> bool {
-    words.password.is_none()
-        && words.user.is_none()
-        && words.protocol.is_none()
-        && words.db.is_none()
-}
-
-/// Whether no key of retries, reads and nodes is given.
-fn has_no_retries(words: &ClusterSettings) -> bool {
-    words.retries.is_none()
-        && words.min_wait.is_none()
-        && words.max_wait.is_none()
-        && words.factor.is_none()
-        && words.exp.is_none()
-        && words.reads.is_none()
-        && words.map.is_none()
-        && words.attempts.is_none()
-}
-
-/// Whether nothing is given but the nodes and how long answers may take.
-fn is_plain(words: &ClusterSettings) -> bool {
-    has_no_connection(words) && has_no_choice(words) && has_no_retries(words)
-}
-
-/// How long one node and a whole request may take, as the words have it.
-#[derive(Clone, Copy)]
-struct Times {
-    response: Option<Option<u64>>,
+/// Whether a session of this kind is asked with so many milliseconds for one node, and these for a request as a whole.
+fn has(
+    words: &ClusterSettings,
+    kind: ClusterKind,
+    response: u64,
     overall: Option<OverallResponseTimeout>,
+) -> bool {
+    words.kind == kind && words.response == Some(Some(response)) && words.overall == overall
 }
 
-/// Whether these are the words of a session of this kind over `h:7000` with these times, and nothing else.
-fn is_timed(words: &Result<ClusterSettings, OpenError>, kind: ClusterKind, times: Times) -> bool {
-    match words {
-        Ok(words) => {
-            words.kind == kind
-                && is_one(&words.nodes, b"redis://h:7000")
-                && words.response == times.response
-                && words.overall == times.overall
-                && is_plain(words)
-        }
-        Err(_) => false,
-    }
+fn is_asked(alloc: Global, client: &ClusterClient) -> Result<bool, OpenError> {
+    let words = client.get_async_connection(alloc)?;
+    Ok(has(&words, ClusterKind::Cluster, 7, None))
 }
 
-/// A client of `h:7000` that has seven milliseconds to answer.
-fn quick(alloc: Global) -> Result<ClusterClient, OpenError> {
-    builder(alloc, "redis://h:7000")?
-        .response_timeout(7)
-        .build(alloc)
+fn is_asked_generically(alloc: Global, client: &ClusterClient) -> Result<bool, OpenError> {
+    let words = client.get_async_generic_connection(alloc)?;
+    Ok(has(&words, ClusterKind::Cluster, 7, None))
 }
 
-/// So many milliseconds for one node, and these for a request as a whole.
-fn within(response: Option<u64>, overall: Option<OverallResponseTimeout>) -> Times {
-    Times {
-        response: response.map(Some),
-        overall,
-    }
-}
+/// A whole request's time stays as it was built.
+const SEVEN: Option<OverallResponseTimeout> = Some(OverallResponseTimeout::Explicit(Some(7)));
 
-/// Seven milliseconds for a request as a whole, and so many for one node.
-fn seven(response: Option<u64>) -> Times {
-    within(response, Some(OverallResponseTimeout::Explicit(Some(7))))
-}
-
-#[test]
-fn the_whole_timeout_stays_as_it_was_built(rt: HostRuntime) -> Result<(), OpenError> {
-    let alloc = rt.alloc();
-    let client = quick(alloc)?;
+fn is_asked_with_five(alloc: Global, client: &ClusterClient) -> Result<bool, OpenError> {
     let five = ClusterConfig::new().set_response_timeout(5);
-    let words = client.get_async_connection_with_config(alloc, &five);
-    assert!(rt; is_timed(&words, ClusterKind::Cluster, seven(Some(5))));
-    let words = client.get_pending_async_connection_with_config(alloc, &five);
-    assert!(rt; is_timed(&words, ClusterKind::Pending, seven(Some(5))));
-    Ok(())
+    let words = client.get_async_connection_with_config(alloc, &five)?;
+    Ok(has(&words, ClusterKind::Cluster, 5, SEVEN))
 }
 
-#[test]
-fn an_unset_response_timeout_replaces_too(rt: HostRuntime) -> Result<(), OpenError> {
-    let alloc = rt.alloc();
-    let client = quick(alloc)?;
-    let words = client.get_async_connection_with_config(alloc, &ClusterConfig::new());
-    assert!(rt; is_timed(&words, ClusterKind::Cluster, seven(None)));
-    let words = client.get_async_connection(alloc);
-    assert!(rt; is_timed(&words, ClusterKind::Cluster, within(Some(7), None)));
-    let words = client.get_async_generic_connection(alloc);
-    assert!(rt; is_timed(&words, ClusterKind::Cluster, within(Some(7), None)));
-    Ok(())
+fn is_pending_with_five(alloc: Global, client: &ClusterClient) -> Result<bool, OpenError> {
+    let five = ClusterConfig::new().set_response_timeout(5);
+    let words = client.get_pending_async_connection_with_config(alloc, &five)?;
+    Ok(has(&words, ClusterKind::Pending, 5, SEVEN))
 }
 
-/// Whether a client with seven milliseconds to answer and this for a request as a whole is asked with these times.
-fn is_asked(alloc: Global, overall: Option<u64>, wanted: Times) -> Result<bool, OpenError> {
+/// Whether a client that has seven milliseconds to answer is asked so in each way.
+fn is_asked_in_each_way(alloc: Global, client: &ClusterClient) -> Result<bool, OpenError> {
+    Ok(
+        is_asked(alloc, client)?
+            && is_asked_generically(alloc, client)?
+            && is_asked_with_five(alloc, client)?
+            && is_pending_with_five(alloc, client)?,
+    )
+}
+
+fn is_quick_asked(alloc: Global) -> Result<bool, OpenError> {
     let client = builder(alloc, "redis://h:7000")?
         .response_timeout(7)
-        .overall_response_timeout(overall)
         .build(alloc)?;
-    let words = client.get_async_connection(alloc);
-    Ok(is_timed(&words, ClusterKind::Cluster, wanted))
-}
-
-#[test]
-fn the_whole_timeout_is_given_where_it_differs(rt: HostRuntime) -> Result<(), OpenError> {
-    let alloc = rt.alloc();
-    let none = Some(OverallResponseTimeout::Explicit(None));
-    let eight = Some(OverallResponseTimeout::Explicit(Some(8)));
-    assert!(rt; is_asked(alloc, Some(7), within(Some(7), None))?);
-    assert!(rt; is_asked(alloc, None, within(Some(7), none))?);
-    assert!(rt; is_asked(alloc, Some(8), within(Some(7), eight))?);
-    Ok(())
-}
-
-/// Whether the words have this connect timeout, and pushes that somebody hears.
-fn is_heard_within(words: &Result<ClusterSettings, OpenError>, connect: Option<u64>) -> bool {
-    match words {
-        Ok(words) => words.connect == connect && words.push == Some(true),
-        Err(_) => false,
-    }
-}
-
-#[test]
-fn other_settings_replace_where_they_are_set(rt: HostRuntime) -> Result<(), OpenError> {
-    let alloc = rt.alloc();
-    let client = builder(alloc, "redis://h?protocol=3")?
-        .connection_timeout(30)
-        .push_sender()
-        .build(alloc)?;
-    let words = client.get_async_connection_with_config(alloc, &ClusterConfig::new());
-    assert!(rt; is_heard_within(&words, Some(30)));
-    let config = ClusterConfig::new().set_connection_timeout(1000);
-    let words = client.get_async_connection_with_config(alloc, &config);
-    assert!(rt; is_heard_within(&words, None));
-    let client = quick(alloc)?;
-    let config = ClusterConfig::new().set_push_sender();
-    let words = client.get_async_connection_with_config(alloc, &config);
-    assert!(rt; is_heard_within(&words, None));
-    Ok(())
+    is_asked_in_each_way(alloc, &client)
 }
 
 /// An address of this host that leaves the library's name out.
@@ -188,26 +83,19 @@ fn asked_of(alloc: Global, host: &[u8]) -> Result<ClusterSettings, OpenError> {
     ClusterClient::new(alloc, nodes)?.get_async_connection(alloc)
 }
 
-/// Whether the words leave the library's name out.
-fn leaves_out(words: &Result<ClusterSettings, OpenError>) -> bool {
-    match words {
-        Ok(words) => words.lib == Some(false) && is_one(&words.nodes, b"redis://h:7000"),
-        Err(_) => false,
-    }
-}
-
-/// Whether the URL of a node is refused.
-fn is_refused(words: &Result<ClusterSettings, OpenError>) -> bool {
-    match words {
-        Err(error) => *error == OpenError::Config(ConfigName::Url),
-        Ok(_) => false,
+/// Whether a client of a node of this host is asked so, or refused since no URL is its address.
+fn is_asked_of(alloc: Global, host: &[u8], has_url: bool) -> bool {
+    match asked_of(alloc, host) {
+        Ok(words) => has_url && words.lib == Some(false) && words.nodes.len() == 1,
+        Err(error) => !has_url && error == OpenError::Config(ConfigName::Url),
     }
 }
 
 #[test]
-fn a_node_without_a_url_is_refused(rt: HostRuntime) -> Result<(), AllocError> {
-    assert!(rt; leaves_out(&asked_of(rt.alloc(), b"h")));
-    assert!(rt; is_refused(&asked_of(rt.alloc(), b"a b")));
-    assert!(rt; is_refused(&asked_of(rt.alloc(), b"[::1]")));
+fn sessions_are_asked(rt: HostRuntime) -> Result<(), OpenError> {
+    assert!(rt; is_quick_asked(rt.alloc())?);
+    for (host, has_url) in [(b"h".as_slice(), true), (b"a b", false), (b"[::1]", false)] {
+        assert!(rt; is_asked_of(rt.alloc(), host, has_url));
+    }
     Ok(())
 }

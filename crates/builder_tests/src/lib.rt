@@ -1,4 +1,5 @@
-//! Tests of clients of clusters, by public calls alone.
+//! Tests of clients of clusters, by public calls alone: each call once. What is refused, said and asked is shown by the proved
+//! examples of `builder_examples`.
 #![tactic(auto)]
 
 #[cfg(test)]

@@ -123,26 +123,29 @@ fn is_all(words: &ClusterSettings) -> bool {
     says(words) && retries(words) && connects(words)
 }
 
+/// Whether a copy of the words says everything that is set.
+fn is_all_copied(alloc: Global, words: &ClusterSettings) -> Result<bool, AllocError> {
+    let copy = words.clone(alloc)?;
+    Ok(is_all(&copy))
+}
+
+/// Whether a copy of a client is asked with everything that is set.
+fn is_all_asked(alloc: Global, client: &ClusterClient) -> Result<bool, OpenError> {
+    let copy = client.clone(alloc)?;
+    let words = copy.get_async_connection(alloc)?;
+    Ok(is_all(&words) && is_all_copied(alloc, &words)?)
+}
+
+fn is_full_client_asked(alloc: Global) -> Result<bool, OpenError> {
+    let client = client(alloc)?;
+    is_all_asked(alloc, &client)
+}
+
 #[test]
 fn everything_that_is_set_is_asked(rt: HostRuntime) -> Result<(), OpenError> {
-    let client = client(rt.alloc())?;
-    let words = client.get_async_connection(rt.alloc())?;
-    assert!(rt; is_all(&words));
-    Ok(())
-}
-
-#[test]
-fn clones_are_equal(rt: HostRuntime) -> Result<(), OpenError> {
-    let client = client(rt.alloc())?.clone(rt.alloc())?;
-    let words = client.get_async_connection(rt.alloc())?.clone(rt.alloc())?;
-    assert!(rt; is_all(&words));
-    Ok(())
-}
-
-#[test]
-fn configs_are_copied(rt: HostRuntime) -> Result<(), OpenError> {
+    assert!(rt; is_full_client_asked(rt.alloc())?);
     let config = ClusterConfig::new().set_response_timeout(5);
-    let copy = config.set_connection_timeout(6);
+    let copy = config.set_connection_timeout(6).set_push_sender();
     assert!(rt; config.connection_timeout.is_none());
     assert!(rt; copy.response_timeout == Some(5) && copy.connection_timeout == Some(6));
     assert!(rt; ClusterConfig::default() == ClusterConfig::new());

@@ -1,5 +1,4 @@
-use crate::clients::{hear, must, outcome};
-use crate::connections::said;
+use crate::clients::{hear, must, outcome, said};
 use connection_info::{AsyncConnectionConfig, ProtocolVersion};
 use containers::{Bytes, Names};
 use driver_model::LinkNews;
@@ -19,7 +18,7 @@ const CALLS: [SubscriptionAction; 4] = [
 
 /// A connection whose connect succeeded, to a server that is told to speak this protocol.
 fn speaking(alloc: Global, protocol: ProtocolVersion) -> Result<MultiplexedConnection, AllocError> {
-    let mut info = said(None);
+    let mut info = said();
     info.protocol = protocol;
     let config = AsyncConnectionConfig::new();
     let mut conn = must(MultiplexedConnection::new_with_config(alloc, &info, 3, &config))?;

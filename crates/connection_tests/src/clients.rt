@@ -2,8 +2,10 @@ ghost use Rattle.std.specs.Prelude.{◌≡◌, true};
 ghost use Rattle.driver_model.specs.News.{told};
 ghost use Rattle.mux_conn.specs.Effects.{CanTake, IsWithin};
 
-use crate::connections::{auth, said};
-use connection_info::{AsyncConnectionConfig, Client, OpenError};
+use connection_info::{
+    AsyncConnectionConfig, Client, OpenError, ProtocolVersion, RedisConnectionInfo,
+};
+use containers::Bytes;
 use credentials::BasicAuth;
 use driver_model::{Config, LinkEvent, LinkNews, Outcome};
 use mux_client::{
@@ -15,6 +17,24 @@ use resp_value::Value;
 use resp_write::{Pipeline, cmd};
 use std::alloc::{AllocError, Global};
 use std::process::Abort;
+
+/// What is said to a server to which nothing is to be said.
+pub(crate) fn said() -> RedisConnectionInfo {
+    RedisConnectionInfo {
+        db: 0,
+        username: None,
+        password: None,
+        protocol: ProtocolVersion::RESP2,
+        skip_set_lib_name: true,
+    }
+}
+
+/// These credentials.
+fn auth(alloc: Global, username: &[u8], password: &[u8]) -> Result<BasicAuth, AllocError> {
+    let username = Bytes::from_slice(alloc, username)?;
+    let password = Bytes::from_slice(alloc, password)?;
+    Ok(BasicAuth::new(username, password))
+}
 
 /// What was made. A refusal counts as want of memory.
 pub(crate) fn must(
@@ -31,7 +51,7 @@ fn connected(
     alloc: Global,
     config: &AsyncConnectionConfig,
 ) -> Result<MultiplexedConnection, AllocError> {
-    let info = said(None);
+    let info = said();
     let mut conn = must(MultiplexedConnection::new_with_config(alloc, &info, 3, config))?;
     hear(alloc, &mut conn, LinkNews::Connected)?;
     Ok(conn)
@@ -217,7 +237,7 @@ fn answer(
 
 #[test]
 fn a_connection_of_defaults_answers(rt: HostRuntime) -> Result<(), AllocError> {
-    let mut conn = must(MultiplexedConnection::new(rt.alloc(), &said(None), 0))?;
+    let mut conn = must(MultiplexedConnection::new(rt.alloc(), &said(), 0))?;
     answer(&rt, rt.alloc(), &mut conn)
 }
 
@@ -274,7 +294,7 @@ fn renew(
 #[test]
 fn credentials_come_of_a_provider(rt: HostRuntime) -> Result<(), AllocError> {
     let config = AsyncConnectionConfig::new().set_credentials_provider();
-    let info = said(None);
+    let info = said();
     let mut conn = must(MultiplexedConnection::new_with_config(rt.alloc(), &info, 3, &config))?;
     let auth = auth(rt.alloc(), b"u", b"p")?;
     renew(&rt, rt.alloc(), &mut conn, &auth)
@@ -331,7 +351,7 @@ fn refusal(
     alloc: Global,
     config: &AsyncConnectionConfig,
 ) -> Result<Option<ConfigName>, AllocError> {
-    match MultiplexedConnection::new_with_config(alloc, &said(None), 0, config) {
+    match MultiplexedConnection::new_with_config(alloc, &said(), 0, config) {
         Ok(_) => Ok(None),
         Err(OpenError::Config(name)) => Ok(Some(name)),
         Err(_) => Err(AllocError),

@@ -6,14 +6,4 @@ mod calls;
 #[cfg(test)]
 mod clients;
 #[cfg(test)]
-mod connections;
-#[cfg(test)]
-mod listening;
-#[cfg(test)]
-mod renewals;
-#[cfg(test)]
-mod sources;
-#[cfg(test)]
 mod threads;
-#[cfg(test)]
-mod turns;

@@ -10,6 +10,4 @@ mod pushes;
 #[cfg(test)]
 mod sessions;
 #[cfg(test)]
-mod sources;
-#[cfg(test)]
 mod threads;
