@@ -9,6 +9,4 @@ pub mod scripted;
 #[cfg(test)]
 mod settings;
 #[cfg(test)]
-mod threads;
-#[cfg(test)]
 mod turns;
