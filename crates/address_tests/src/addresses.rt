@@ -1,51 +1,42 @@
-use crate::urls::is_refused;
 use connection_info::{
-    AsyncConnectionConfig, Client, ConnectionInfo, IntoConnectionInfo, OpenError, ProtocolVersion,
-    RedisConnectionInfo,
+    Client, ConnectionInfo, IntoConnectionInfo, OpenError, ProtocolVersion, RedisConnectionInfo,
 };
 use containers::Bytes;
 use redis_error::ConfigName;
 use std::alloc::{AllocError, Global};
 
-/// A URL of so many bytes: 8 of them are no name.
-fn long_url(alloc: Global, length: usize) -> Result<String, AllocError> {
-    let mut url = String::from_str(alloc, "redis://")?;
-    for _ in 8..length {
-        url.push_str("h")?;
+/// A host, a user name, a password and a database.
+type Place = (
+    &'static [u8],
+    Option<&'static [u8]>,
+    Option<&'static [u8]>,
+    i64,
+);
+
+fn text(alloc: Global, bytes: Option<&[u8]>) -> Result<Option<Bytes>, AllocError> {
+    match bytes {
+        Some(bytes) => Ok(Some(Bytes::from_slice(alloc, bytes)?)),
+        None => Ok(None),
     }
-    Ok(url)
 }
 
-/// Whether a URL of so many bytes is refused.
-fn is_long_refused(alloc: Global, length: usize) -> Result<bool, AllocError> {
-    let url = long_url(alloc, length)?;
-    Ok(is_refused(alloc, url.as_str()))
-}
-
-#[test]
-fn a_url_has_a_mebibyte_at_most(rt: HostRuntime) -> Result<(), AllocError> {
-    assert!(rt; !is_long_refused(rt.alloc(), 1_048_576)?);
-    assert!(rt; is_long_refused(rt.alloc(), 1_048_577)?);
-    Ok(())
-}
-
-/// A host, a user name and a password.
-type Place = (&'static [u8], Option<&'static [u8]>, Option<&'static [u8]>);
-
-/// Who asks, without database, in RESP2.
-fn redis(alloc: Global, place: &Place) -> Result<RedisConnectionInfo, AllocError> {
+/// Who asks, in RESP3 where there is a database.
+pub fn redis(alloc: Global, place: &Place) -> Result<RedisConnectionInfo, AllocError> {
     let username = text(alloc, place.1)?;
     let password = text(alloc, place.2)?;
     Ok(RedisConnectionInfo {
-        db: 0,
+        db: place.3,
         username,
         password,
-        protocol: ProtocolVersion::RESP2,
+        protocol: if place.3 == 0 {
+            ProtocolVersion::RESP2
+        } else {
+            ProtocolVersion::RESP3
+        },
         skip_set_lib_name: true,
     })
 }
 
-/// An address without database, in RESP2.
 fn address(alloc: Global, place: &Place) -> Result<ConnectionInfo, AllocError> {
     let host = Bytes::from_slice(alloc, place.0)?;
     let redis = redis(alloc, place)?;
@@ -56,113 +47,58 @@ fn address(alloc: Global, place: &Place) -> Result<ConnectionInfo, AllocError> {
     })
 }
 
-fn text(alloc: Global, bytes: Option<&[u8]>) -> Result<Option<Bytes>, AllocError> {
-    match bytes {
-        Some(bytes) => Ok(Some(Bytes::from_slice(alloc, bytes)?)),
-        None => Ok(None),
+/// Whether an address is written as that URL, or has none.
+fn has_url(alloc: Global, info: &ConnectionInfo, wanted: Option<&[u8]>) -> bool {
+    match info.to_url(alloc) {
+        Ok(url) => wanted == Some(url.as_slice()),
+        Err(error) => wanted.is_none() && error == OpenError::Config(ConfigName::Url),
     }
 }
 
-/// Hosts, user names and passwords with their URLs.
-const WRITTEN: [(Place, &[u8]); 6] = [
-    ((b"h", None, None), b"redis://h:6379"),
-    ((b"::1", None, None), b"redis://[::1]:6379"),
-    ((b"h", Some(b"u"), None), b"redis://u:@h:6379"),
-    ((b"h", None, Some(b"p")), b"redis://:p@h:6379"),
+fn is_written(alloc: Global, place: &Place, wanted: Option<&[u8]>) -> Result<bool, AllocError> {
+    let info = address(alloc, place)?;
+    Ok(has_url(alloc, &info, wanted))
+}
+
+/// Places with their URLs; none where no URL is read as the same address.
+const WRITTEN: [(Place, Option<&[u8]>); 21] = [
+    ((b"h", None, None, 0), Some(b"redis://h:6379")),
+    ((b"::1", None, None, 0), Some(b"redis://[::1]:6379")),
+    ((b"h", Some(b"u"), None, 0), Some(b"redis://u:@h:6379")),
+    ((b"h", None, Some(b"p"), 0), Some(b"redis://:p@h:6379")),
     (
-        (b"h", Some(b"u-1"), Some(b"@:/?#[]%")),
-        b"redis://u%2D1:%40%3A%2F%3F%23%5B%5D%25@h:6379",
+        (b"h", Some(b"u-1"), Some(b"@:/?#[]%"), 0),
+        Some(b"redis://u%2D1:%40%3A%2F%3F%23%5B%5D%25@h:6379"),
     ),
-    ((b"h", Some(b"\xC3\xA9"), None), b"redis://%C3%A9:@h:6379"),
+    (
+        (b"h", Some(b"\xC3\xA9"), None, 0),
+        Some(b"redis://%C3%A9:@h:6379"),
+    ),
+    (
+        (b"h", None, None, i64::MAX),
+        Some(b"redis://h:6379/9223372036854775807?protocol=3"),
+    ),
+    ((b"h", None, None, -1), None),
+    ((b"", None, None, 0), None),
+    ((b"a b", None, None, 0), None),
+    ((b"a/b", None, None, 0), None),
+    ((b"a?b", None, None, 0), None),
+    ((b"a#b", None, None, 0), None),
+    ((b"a@b", None, None, 0), None),
+    ((b"\xC3\xA9", None, None, 0), None),
+    ((b"\xFF", None, None, 0), None),
+    ((b"[::1]", None, None, 0), None),
+    ((b"0:0:0:0:0:0:0:1", None, None, 0), None),
+    ((b"h", Some(b""), None, 0), None),
+    ((b"h", None, Some(b""), 0), None),
+    ((b"h", None, Some(b"\xFF"), 0), None),
 ];
-
-/// Hosts, user names and passwords of which no URL is read as the same address.
-const UNWRITTEN: [Place; 13] = [
-    (b"", None, None),
-    (b"a b", None, None),
-    (b"a/b", None, None),
-    (b"a?b", None, None),
-    (b"a#b", None, None),
-    (b"a@b", None, None),
-    (b"\xC3\xA9", None, None),
-    (b"\xFF", None, None),
-    (b"[::1]", None, None),
-    (b"0:0:0:0:0:0:0:1", None, None),
-    (b"h", Some(b""), None),
-    (b"h", None, Some(b"")),
-    (b"h", None, Some(b"\xFF")),
-];
-
-/// Whether an address is written as that URL.
-fn is_written(alloc: Global, info: &ConnectionInfo, wanted: &[u8]) -> bool {
-    match info.to_url(alloc) {
-        Ok(url) => url.as_slice() == wanted,
-        Err(_) => false,
-    }
-}
-
-/// Whether an address has no URL.
-fn is_unwritten(alloc: Global, info: &ConnectionInfo) -> bool {
-    match info.to_url(alloc) {
-        Ok(_) => false,
-        Err(error) => error == OpenError::Config(ConfigName::Url),
-    }
-}
-
-/// Whether the address of a place is written as that URL.
-fn place_is_written(alloc: Global, place: &Place, wanted: &[u8]) -> Result<bool, AllocError> {
-    let info = address(alloc, place)?;
-    Ok(is_written(alloc, &info, wanted))
-}
-
-/// Whether the address of a place has no URL.
-fn place_is_unwritten(alloc: Global, place: &Place) -> Result<bool, AllocError> {
-    let info = address(alloc, place)?;
-    Ok(is_unwritten(alloc, &info))
-}
 
 #[test]
 fn addresses_are_written(rt: HostRuntime) -> Result<(), AllocError> {
     for row in &WRITTEN {
-        assert!(rt; place_is_written(rt.alloc(), &row.0, row.1)?);
+        assert!(rt; is_written(rt.alloc(), &row.0, row.1)?);
     }
-    Ok(())
-}
-
-#[test]
-fn other_addresses_are_not_written(rt: HostRuntime) -> Result<(), AllocError> {
-    for place in &UNWRITTEN {
-        assert!(rt; place_is_unwritten(rt.alloc(), place)?);
-    }
-    Ok(())
-}
-
-/// An address of a database, in RESP3.
-fn database(alloc: Global, db: i64) -> Result<ConnectionInfo, AllocError> {
-    let mut info = address(alloc, &(b"h", None, None))?;
-    info.port = 0;
-    info.redis.protocol = ProtocolVersion::RESP3;
-    info.redis.db = db;
-    Ok(info)
-}
-
-/// Whether the address of a database is written as that URL.
-fn database_is_written(alloc: Global, db: i64, wanted: &[u8]) -> Result<bool, AllocError> {
-    let info = database(alloc, db)?;
-    Ok(is_written(alloc, &info, wanted))
-}
-
-/// Whether the address of a database has no URL.
-fn database_is_unwritten(alloc: Global, db: i64) -> Result<bool, AllocError> {
-    let info = database(alloc, db)?;
-    Ok(is_unwritten(alloc, &info))
-}
-
-#[test]
-fn databases_are_written(rt: HostRuntime) -> Result<(), AllocError> {
-    let url = b"redis://h:0/9223372036854775807?protocol=3";
-    assert!(rt; database_is_written(rt.alloc(), i64::MAX, url)?);
-    assert!(rt; database_is_unwritten(rt.alloc(), -1)?);
     Ok(())
 }
 
@@ -182,82 +118,64 @@ fn text_names(alloc: Global, url: &str, host: &[u8], port: u16) -> Result<bool, 
 
 /// Whether an address names its own host and its own port.
 fn address_names(alloc: Global, host: &'static [u8]) -> Result<bool, AllocError> {
-    let info = address(alloc, &(host, None, None))?;
+    let info = address(alloc, &(host, None, None, 0))?;
     Ok(names(alloc, info, host, 6379))
 }
 
+/// Whether lent texts and pairs name their hosts and ports.
+fn lent_names(alloc: Global) -> bool {
+    names(alloc, "redis://h:7", b"h", 7)
+        && names(alloc, ("[::1]", 7), b"[::1]", 7)
+        && !names(alloc, ("", 7), b"", 7)
+}
+
+/// Whether a client and its copy have the address of this user at h.
+fn has_user(alloc: Global, client: &Client, user: &[u8]) -> Result<bool, OpenError> {
+    let copy = client.clone(alloc)?;
+    let info = copy.get_connection_info();
+    Ok(
+        info.redis
+            .username
+            .as_ref()
+            .is_some_and(|name| name.as_slice() == user)
+            && info.redis.password.is_none()
+            && has_url(
+                alloc,
+                client.get_connection_info(),
+                Some(b"redis://user:@h:6379"),
+            ),
+    )
+}
+
+/// Whether a user without a password is kept.
+fn keeps_user(alloc: Global) -> Result<bool, OpenError> {
+    let client = Client::open(alloc, "redis://%75ser@h")?;
+    has_user(alloc, &client, b"user")
+}
+
+/// A URL of so many bytes: 8 of them are no name.
+fn long_url(alloc: Global, length: usize) -> Result<String, AllocError> {
+    let mut url = String::from_str(alloc, "redis://")?;
+    for _ in 8..length {
+        url.push_str("h")?;
+    }
+    Ok(url)
+}
+
+/// Whether a URL of so many bytes is opened.
+fn is_long_opened(alloc: Global, length: usize) -> Result<bool, AllocError> {
+    let url = long_url(alloc, length)?;
+    Ok(Client::open(alloc, url.as_str()).is_ok())
+}
+
 #[test]
-fn a_place_is_named_in_four_ways(rt: HostRuntime) -> Result<(), AllocError> {
+fn places_are_named(rt: HostRuntime) -> Result<(), OpenError> {
     let alloc = rt.alloc();
-    assert!(rt; names(alloc, "redis://h:7", b"h", 7));
+    assert!(rt; lent_names(alloc));
     assert!(rt; text_names(alloc, "redis://h:7", b"h", 7)?);
-    assert!(rt; names(alloc, ("[::1]", 7), b"[::1]", 7));
-    assert!(rt; !names(alloc, ("", 7), b"", 7));
     assert!(rt; address_names(alloc, b"[a b]")?);
-    Ok(())
-}
-
-#[test]
-fn one_protocol_is_resp3(rt: HostRuntime) {
-    assert!(rt; ProtocolVersion::RESP3.supports_resp3());
-    assert!(rt; !ProtocolVersion::RESP2.supports_resp3());
-}
-
-/// Whether the opened address of a text is written as that URL.
-fn opened_is_written(alloc: Global, text: &str, wanted: &[u8]) -> Result<bool, OpenError> {
-    let client = Client::open(alloc, text)?;
-    Ok(is_written(alloc, client.get_connection_info(), wanted))
-}
-
-#[test]
-fn an_opened_address_is_written(rt: HostRuntime) -> Result<(), OpenError> {
-    assert!(rt; opened_is_written(rt.alloc(), "redis://h/4", b"redis://h:6379/4")?);
-    Ok(())
-}
-
-/// Connections without and with settings.
-const PLAIN: AsyncConnectionConfig = AsyncConnectionConfig {
-    connection_timeout: Some(1000),
-    response_timeout: Some(500),
-    push_sender: false,
-    credentials_provider: false,
-    pipeline_buffer_size: 50,
-    concurrency_limit: None,
-    write_backpressure_boundary: 8192,
-};
-
-const SET: AsyncConnectionConfig = AsyncConnectionConfig {
-    connection_timeout: None,
-    response_timeout: Some(7),
-    push_sender: true,
-    credentials_provider: true,
-    pipeline_buffer_size: 8,
-    concurrency_limit: Some(16),
-    write_backpressure_boundary: 4096,
-};
-
-/// The settings of `SET`, one after the other.
-fn set() -> AsyncConnectionConfig {
-    AsyncConnectionConfig::new()
-        .set_connection_timeout(None)
-        .set_response_timeout(Some(7))
-        .set_pipeline_buffer_size(8)
-        .set_concurrency_limit(16)
-        .set_push_sender()
-        .set_credentials_provider()
-        .set_write_backpressure_boundary(4096)
-}
-
-#[test]
-fn settings_are_kept(rt: HostRuntime) {
-    assert!(rt; AsyncConnectionConfig::new() == PLAIN);
-    assert!(rt; AsyncConnectionConfig::default() == PLAIN);
-    assert!(rt; set() == SET);
-}
-
-#[test]
-fn settings_are_copied(rt: HostRuntime) -> Result<(), AllocError> {
-    let copy = set().clone()?;
-    assert!(rt; copy == SET);
+    assert!(rt; keeps_user(alloc)?);
+    assert!(rt; is_long_opened(alloc, 1_048_576)?);
+    assert!(rt; !is_long_opened(alloc, 1_048_577)?);
     Ok(())
 }

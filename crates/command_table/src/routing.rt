@@ -67,6 +67,20 @@ impl SlotParts {
         }
     }
 
+    /// The parts of a vector, not copied.
+    pub fn from_vec(items: Vec<(Route, KeyIndices)>) -> SlotParts
+        ensures { result ≡ items.items }
+    {
+        SlotParts { items }
+    }
+
+    /// The vector, not copied.
+    pub fn into_vec(self) -> Vec<(Route, KeyIndices)>
+        ensures { result.items ≡ self }
+    {
+        self.items
+    }
+
     pub fn as_slice(&self) -> &[(Route, KeyIndices)]
         ensures { result.now ≡ self.now }
     {

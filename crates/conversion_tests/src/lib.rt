@@ -1,19 +1,11 @@
-//! Tests of conversions, by public calls alone.
+//! Tests of conversions, by public calls alone: texts of values, and what they become as types.
 #![tactic(auto)]
 
 #[cfg(test)]
 mod aggregates;
 #[cfg(test)]
-mod floats;
+mod numbers;
 #[cfg(test)]
-mod integers;
+mod reading;
 #[cfg(test)]
-mod made;
-#[cfg(test)]
-mod moves;
-#[cfg(test)]
-mod scalars;
-#[cfg(test)]
-mod sets;
-#[cfg(test)]
-mod tuples;
+mod texts;

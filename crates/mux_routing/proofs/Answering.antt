@@ -1,5 +1,5 @@
 -- The places that a map answers are those of the nodes of its rows.
-use Rattle.std.proofs.Common.{◌≡◌, ℕ, zero, suc, ◌<◌, ◌≤◌, nat_lt, Bool, true, false, ◌&&◌, List, [], ◌∷◌, ◌++◌, map, length, Option, Some, None, IfSome, refl, ap, sym, subst, ◌∙◌, arith, if◌then◌else◌}
+use Rattle.std.proofs.Common.{◌≡◌, ℕ, zero, suc, ◌≤◌, nat_lt, Bool, true, false, List, [], ◌∷◌, ◌++◌, map, length, Option, Some, None, IfSome, refl, ap, sym, subst, ◌∙◌, arith, if◌then◌else◌}
 use Rattle.std.specs.Prelude.{option_and_then, option_map, slice_get, unwrap_or}
 use Rattle.std.specs.List.{list_all}
 use Rattle.std.proofs.lemmas.Bool.Decides.{nat_tests}
@@ -10,7 +10,7 @@ use Rattle.slot_hash.specs.declared.address.NodeAddress.{NodeAddress}
 use Rattle.command_table.specs.declared.routing.SlotAddr.{SlotAddr}
 use Rattle.command_table.specs.declared.routing.SlotAddr.TheVariants.{Master, ReplicaOptional, ReplicaRequired}
 use Rattle.mux_routing.specs.declared.rows.SlotRow.{SlotRow}
-use Rattle.mux_routing.specs.Shards.{Shard, address_in, addresses, addresses_from, all_inserted, are_places, chosen, fallback_addresses, fallbacks_in, first_numbers, holds, inserted, is_place, last_row, leading_below, leads, node_in, node_places, or_else, place_of, primaries, shard_at, shard_of, shards, stand_ins}
+use Rattle.mux_routing.specs.Shards.{Shard, address_in, addresses, addresses_from, all_inserted, are_places, fallback_addresses, fallbacks_in, first_numbers, holds, inserted, is_place, last_row, leading_below, leads, node_in, node_places, or_else, place_of, primaries, shard_at, shard_of, shards}
 use Rattle.mux_routing.proofs.Finding.{AreAt, IsAt, IsPlaced, row_comes, stay_with}
 
 picked : (nodes : List NodeAddress) (p : NodeAddress) (rs : List NodeAddress) (k : ℕ) → IsAt nodes p → AreAt nodes rs → slice_get nodes (unwrap_or (slice_get (map (place_of nodes) rs) k) (place_of nodes p)) ≡ Some (unwrap_or (slice_get rs k) p)

@@ -1,5 +1,5 @@
 -- Addresses that were put in order are found at their places.
-use Rattle.std.proofs.Common.{◌≡◌, ℕ, zero, suc, ◌+◌, ◌<◌, ◌≤◌, nat_lt, Bool, true, false, ◌&&◌, ◌||◌, List, [], ◌∷◌, ◌++◌, map, length, Option, Some, None, refl, ap, sym, ◌∙◌, arith, if◌then◌else◌}
+use Rattle.std.proofs.Common.{◌≡◌, ℕ, nat_lt, true, false, ◌&&◌, ◌||◌, List, [], ◌∷◌, Some, refl, sym, arith}
 use Rattle.std.specs.Prelude.{slice_get}
 use Rattle.std.specs.List.{list_all}
 use Rattle.std.specs.Str.{bytes_eq}
@@ -36,7 +36,7 @@ same_host xs ys = (bytes_eq-Decides xs ys).0
 own_host : (xs : List ℕ) → bytes_eq xs xs ≡ true
 own_host xs = (bytes_eq-Decides xs xs).1 refl
 
-same : (a : NodeAddress) → address_less a a ≡ false
+pub same : (a : NodeAddress) → address_less a a ≡ false
 unfolding address_less
 same a = grind (arith, nat_tests, text_same a.host)
 
@@ -44,7 +44,7 @@ same a = grind (arith, nat_tests, text_same a.host)
 through_by : (x y z : List ℕ) (p q r : ℕ) → (text_less x y || (bytes_eq x y && nat_lt p q)) ≡ true → (text_less y z || (bytes_eq y z && nat_lt q r)) ≡ true → (text_less x z || (bytes_eq x z && nat_lt p r)) ≡ true
 through_by x y z p q r h g = grind (arith, nat_tests, same_host x y, same_host y z, own_host x, text_through x y z)
 
-through : (a b c : NodeAddress) → address_less a b ≡ true → address_less b c ≡ true → address_less a c ≡ true
+pub through : (a b c : NodeAddress) → address_less a b ≡ true → address_less b c ≡ true → address_less a c ≡ true
 unfolding address_less
 through a b c h g = through_by a.host b.host c.host a.port b.port c.port h g
 

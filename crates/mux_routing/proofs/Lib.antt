@@ -2,6 +2,9 @@ mod Agreeing
 mod Answering
 mod Elements
 mod Finding
-mod Inserting
+mod Keeping
+mod Leading
+mod Members
+mod Ordered
 mod Owning
 mod Ranges

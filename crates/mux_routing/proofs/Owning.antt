@@ -5,7 +5,7 @@ use Rattle.std.proofs.lemmas.Bool.Decides.{nat_tests}
 use Rattle.std.proofs.lemmas.Option.{slice_get-map}
 use Rattle.slot_hash.specs.declared.address.NodeAddress.{NodeAddress}
 use Rattle.mux_routing.specs.declared.rows.SlotRow.{SlotRow}
-use Rattle.mux_routing.specs.Entries.{AreKept, numbered, owner, owner_from}
+use Rattle.mux_routing.specs.Entries.{AreEntries, AreKept, entry_count, numbered, owner, owner_from}
 use Rattle.mux_routing.specs.Shards.{Shard, addresses, holds, last_row, or_else, shard_at, shard_of}
 
 here : (i : ℕ) (all : List SlotRow) (r : SlotRow) (rs : List SlotRow) → drop i all ≡ r ∷ rs → slice_get all i ≡ Some r
@@ -39,24 +39,22 @@ of_map : (f : SlotRow → Shard) (rows : List SlotRow) (number : Option ℕ) →
 of_map f rows None = refl
 of_map f rows (Some k) = slice_get-map f rows k
 
-kept_shard : (nodes : List NodeAddress) (kept : List Shard) (entries : List (Option ℕ)) (rows : List SlotRow) (slot : ℕ) → AreKept nodes kept entries rows → slot < 16_384 → numbered kept (get_or entries slot None) ≡ shard_at slot rows
+pub no_entries : (rows : List SlotRow) → length rows ≡ 0 → AreEntries [] rows
+no_entries [] e = record { count = refl; each = λ slot h. refl }
+no_entries (r ∷ rs) e = absurd (omega (arith, e))
+
+pub all_entries : (rows : List SlotRow) → (length rows ≡ 0 → ⊥) → entry_count rows ≡ 16_384
+all_entries [] ne = absurd (ne refl)
+all_entries (r ∷ rs) ne = refl
+
+-- of what a map keeps, the nodes of a slot
+pub kept_shard : (nodes : List NodeAddress) (kept : List Shard) (entries : List (Option ℕ)) (leaders : List ℕ) (rows : List SlotRow) (slot : ℕ) → AreKept nodes kept entries leaders rows → slot < 16_384 → numbered kept (get_or entries slot None) ≡ shard_at slot rows
 unfolding shard_at
-kept_shard nodes kept entries rows slot k h =
+kept_shard nodes kept entries leaders rows slot k h =
     ap (numbered kept) (k.entries_are.each slot h)
     ∙ ap (λ ss. numbered ss (owner slot rows)) k.shards_are
     ∙ of_map (shard_of (addresses rows)) rows (owner slot rows)
     ∙ ap (option_map (shard_of (addresses rows))) (owned slot 0 rows rows None refl ∙ last_of (last_row slot rows))
-
-read : (xs : List (Option ℕ)) (i : ℕ) (a b : Option ℕ) → i < length xs → a ≡ get_or xs i a → a ≡ get_or xs i b
-read [] i a b h e = absurd (omega arith)
-read (x ∷ xs) zero a b h e = e
-read (x ∷ xs) (suc i) a b h e = read xs i a b (omega arith) e
-
-pub kept_entry : (nodes : List NodeAddress) (kept : List Shard) (entries : List (Option ℕ)) (rows : List SlotRow) (slot i : ℕ) (x : Option ℕ) → AreKept nodes kept entries rows → i ≡ slot → slot < 16_384 → x ≡ get_or entries i x → numbered kept x ≡ shard_at slot rows
-kept_entry nodes kept entries rows slot i x k at h e =
-    let within : i < length entries = omega (arith, k.entries_are.count) in
-    ap (numbered kept) (read entries i x None within e ∙ ap (λ n. get_or entries n None) at)
-    ∙ kept_shard nodes kept entries rows slot k h
 
 pub given : (start end k s : ℕ) (a b : Option ℕ) → k ≤ end + 1 → end < k → (if nat_le start s && nat_lt s k then a else b) ≡ (if nat_le start s && nat_le s end then a else b)
 given start end k s a b h g = ap (λ t. if nat_le start s && t then a else b) (grind (arith, nat_tests))

@@ -1,9 +1,10 @@
--- What a map keeps: the addresses, the nodes of each row, and for each slot the number of the last row that holds it.
-use Rattle.std.specs.Prelude.{◌≡◌, ◌<◌, ℕ, suc, List, [], ◌∷◌, length, Option, Some, None, if◌then◌else◌}
+-- What a map keeps: the addresses, the rows with their nodes by places, for each slot the number of the last row that holds it,
+-- and the primaries.
+use Rattle.std.specs.Prelude.{◌≡◌, ◌<◌, ℕ, suc, Bool, false, List, [], ◌∷◌, map, length, Option, Some, None, if◌then◌else◌}
 use Rattle.std.specs.Prelude.{slice_get, slice_index_or}
 use Rattle.slot_hash.specs.declared.address.NodeAddress.{NodeAddress}
 use Rattle.mux_routing.specs.declared.rows.SlotRow.{SlotRow}
-use Rattle.mux_routing.specs.Shards.{Shard, addresses, holds, shards}
+use Rattle.mux_routing.specs.Shards.{Shard, addresses, holds, primaries, shards}
 
 -- the number of the last row that holds a slot, where these rows are numbered from i on, and before them it was found
 abbrev pub owner_from : ℕ → ℕ → Option ℕ → List SlotRow → Option ℕ
@@ -18,17 +19,39 @@ abbrev pub numbered : {T : Type 0} → List T → Option ℕ → Option T
 numbered items None = None
 numbered items (Some k) = slice_get items k
 
+-- whether the mark of a place is set
+abbrev pub mark_at : List Bool → ℕ → Bool
+mark_at marks i = slice_index_or marks i false
+
 -- what the entries say of a slot
 abbrev pub entry_of : List (Option ℕ) → ℕ → Option ℕ
 entry_of entries slot = slice_index_or entries slot None
 
--- an entry for each slot
+-- how many entries there are: one for each slot, and none where there are no rows
+abbrev pub entry_count : List SlotRow → ℕ
+entry_count [] = 0
+entry_count (r ∷ rs) = 16_384
+
+-- an entry for each slot, where there are rows
 pub record AreEntries (entries : List (Option ℕ)) (rows : List SlotRow) : Type 0 where
-  pub count : length entries ≡ 16_384
+  pub count : length entries ≡ entry_count rows
   pub each : (slot : ℕ) → slot < 16_384 → entry_of entries slot ≡ owner slot rows
 
--- all that a map keeps beside its rows
-pub record AreKept (nodes : List NodeAddress) (kept : List Shard) (entries : List (Option ℕ)) (rows : List SlotRow) : Type 0 where
+-- the address of a place
+abbrev pub address_at : List NodeAddress → ℕ → NodeAddress
+address_at nodes i = slice_index_or nodes i (record { host = []; port = 0 })
+
+-- a row, by its nodes' places
+abbrev pub row_kept : List NodeAddress → Shard → SlotRow
+row_kept nodes s = record { start = s.start; end = s.end; primary = address_at nodes s.primary; replicas = map (address_at nodes) s.replicas }
+
+abbrev pub rows_kept : List NodeAddress → List Shard → List SlotRow
+rows_kept nodes kept = map (row_kept nodes) kept
+
+-- all that a map keeps of these rows
+pub record AreKept (nodes : List NodeAddress) (kept : List Shard) (entries : List (Option ℕ)) (leaders : List ℕ) (rows : List SlotRow) : Type 0 where
   pub nodes_are : nodes ≡ addresses rows
+  pub few : length nodes < 4_294_967_296
   pub shards_are : kept ≡ shards rows
   pub entries_are : AreEntries entries rows
+  pub leaders_are : leaders ≡ primaries rows

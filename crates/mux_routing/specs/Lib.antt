@@ -1,4 +1,5 @@
 pub mod Entries
+pub mod Members
 pub mod Reply
 pub mod Routes
 pub mod Shards

@@ -1,5 +1,6 @@
 -- The route of a pipeline: that of its commands, if they agree.
-use Rattle.std.specs.Prelude.{◌≡◌, ℕ, Bool, true, false, ◌%◌, ◌==◌, List, [], ◌∷◌, Option, Some, None, if◌then◌else◌}
+use Rattle.std.specs.Prelude.{◌≡◌, ℕ, Bool, true, false, ◌%◌, ◌==◌, List, [], ◌∷◌, ◌++◌, Option, Some, None, option_to_list, if◌then◌else◌}
+use Rattle.std.specs.List.{list_any}
 use Rattle.resp_write.specs.Command.{Command}
 use Rattle.command_table.specs.declared.routing.Route.{Route}
 use Rattle.command_table.specs.declared.routing.SlotAddr.{SlotAddr}
@@ -12,7 +13,7 @@ use Rattle.command_table.specs.Routing.{routing_of}
 use Rattle.mux_routing.specs.declared.pipeline.RouteError.{RouteError}
 use Rattle.mux_routing.specs.declared.pipeline.RouteError.TheVariants.{CrossSlot, NoMemory}
 
--- what the commands so far agree on; or the slots of two that don't
+-- what commands agree on: one route, or none where no command has one; or the slots of two that don't agree
 pub data Agreement : Type 0 where
   agreed : Option Route → Agreement
   crossed : ℕ → ℕ → Agreement
@@ -34,24 +35,45 @@ is_primary Master = true
 is_primary ReplicaOptional = false
 is_primary ReplicaRequired = false
 
--- of two routes to one slot the first, but one to the primary wins
-abbrev pub preferred : Route → Route → Route
-preferred first next = if is_primary next.addr then next else first
+-- the routes of the commands that have one, in order
+abbrev pub routes_in : ℕ → List Command → List Route
+routes_in draw [] = []
+routes_in draw (c ∷ cs) = option_to_list (route_in draw (routing_of c.args)) ++ routes_in draw cs
 
--- with one command more
-abbrev pub agreeing : Agreement → Option Route → Agreement
-agreeing (crossed a b) next = crossed a b
-agreeing (agreed None) next = agreed next
-agreeing (agreed (Some first)) None = agreed (Some first)
-agreeing (agreed (Some first)) (Some next) = if first.slot == next.slot then agreed (Some (preferred first next)) else crossed first.slot next.slot
+-- the slot of the first route that is to another slot, if there is one
+abbrev pub other_slot : ℕ → List Route → Option ℕ
+other_slot slot [] = None
+other_slot slot (r ∷ rs) = if r.slot == slot then other_slot slot rs else Some r.slot
 
-abbrev pub agreement_from : Agreement → ℕ → List Command → Agreement
-agreement_from so_far draw [] = so_far
-agreement_from so_far draw (c ∷ cs) = agreement_from (agreeing so_far (route_in draw (routing_of c.args))) draw cs
+-- of routes to one slot the first, but to the primary where one of them is
+abbrev pub joint : Route → List Route → Route
+joint r rs = if list_any (λ q. is_primary q.addr) (r ∷ rs) then record { slot = r.slot; addr = Master } else r
+
+abbrev pub agreed_by : Route → List Route → Option ℕ → Agreement
+agreed_by r rs None = agreed (Some (joint r rs))
+agreed_by r rs (Some other) = crossed r.slot other
+
+-- routes agree where all are to the slot of the first
+abbrev pub agreement_of : List Route → Agreement
+agreement_of [] = agreed None
+agreement_of (r ∷ rs) = agreed_by r rs (other_slot r.slot rs)
 
 -- of the commands of a pipeline
 abbrev pub agreement : ℕ → List Command → Agreement
-agreement draw commands = agreement_from (agreed None) draw commands
+agreement draw commands = agreement_of (routes_in draw commands)
+
+-- whether the slot of a command's route is drawn: that of one for any primary
+abbrev pub is_drawn : Option RoutingInfo → Bool
+is_drawn None = false
+is_drawn (Some (MultiNode many policy)) = false
+is_drawn (Some (SingleNode Random)) = false
+is_drawn (Some (SingleNode RandomPrimary)) = true
+is_drawn (Some (SingleNode (SpecificNode route))) = false
+is_drawn (Some (SingleNode (ByAddress address))) = false
+
+-- whether a pipeline uses the draw
+abbrev pub uses_draw : List Command → Bool
+uses_draw commands = list_any (λ c. is_drawn (routing_of c.args)) commands
 
 -- a refusal names the slots of the first two routes that differ; want of memory says nothing
 abbrev pub IsCrossed : RouteError → Agreement → Type 0

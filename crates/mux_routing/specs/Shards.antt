@@ -8,8 +8,10 @@ use Rattle.command_table.specs.declared.routing.SlotAddr.{SlotAddr}
 use Rattle.command_table.specs.declared.routing.SlotAddr.TheVariants.{Master, ReplicaOptional, ReplicaRequired}
 use Rattle.mux_routing.specs.declared.rows.SlotRow.{SlotRow}
 
--- the nodes of a row by their places among the addresses
+-- a row with its nodes by their places among the addresses
 pub record Shard : Type 0 where
+  pub start : ℕ
+  pub end : ℕ
   pub primary : ℕ
   pub replicas : List ℕ
 
@@ -52,7 +54,7 @@ place_of [] a = 0
 place_of (b ∷ bs) a = if address_less b a then suc (place_of bs a) else 0
 
 abbrev pub shard_of : List NodeAddress → SlotRow → Shard
-shard_of nodes row = record { primary = place_of nodes row.primary; replicas = map (place_of nodes) row.replicas }
+shard_of nodes row = record { start = row.start; end = row.end; primary = place_of nodes row.primary; replicas = map (place_of nodes) row.replicas }
 
 abbrev pub shards : List SlotRow → List Shard
 shards rows = map (shard_of (addresses rows)) rows

@@ -1,88 +1,71 @@
-ghost use Rattle.std.specs.Prelude.{◌≡◌, ◌≤◌, [], length, IfOk, OnOk};
-ghost use Rattle.mux_routing.specs.Shards.{address_less, addresses, all_inserted, inserted, place_of, text_less};
+ghost use Rattle.std.specs.Prelude.{◌≡◌, ◌++◌, ◌≤◌, true, length, slice_get, IfOk, IfSome, IsNone, OnOk, Some};
+ghost use Rattle.std.specs.List.{Contains};
+ghost use Rattle.mux_routing.specs.Members.{named};
+ghost use Rattle.mux_routing.specs.Shards.{addresses, in_order, place_of};
 
 use crate::rows::SlotRow;
 use slot_hash::NodeAddress;
 use std::alloc::{AllocError, Global};
 
-/// Whether a text comes before another, byte by byte.
-#[tactic(auto, using(crate::proofs::Inserting::ended))]
-fn text_less(a: &[u8], b: &[u8]) -> bool
-    ensures { result ≡ text_less a.now b.now }
-{
-    for i in 0..a.len().min(b.len()) {
-        if a[i] != b[i] {
-            return a[i] < b[i];
-        }
-    }
-    a.len() < b.len()
-}
-
-/// Whether an address comes before another.
-#[tactic(auto, unfolding(crate::specs::Shards::address_less))]
-fn address_less(a: &NodeAddress, b: &NodeAddress) -> bool
-    ensures { result ≡ address_less a.now b.now }
-{
-    let (host, other) = (a.host.as_slice(), b.host.as_slice());
-    text_less(host, other) || (host == other && a.port < b.port)
-}
-
-/// How many addresses stand before one.
-pub fn place_of(nodes: &[NodeAddress], address: &NodeAddress) -> usize
-    ensures is { result ≡ place_of nodes.now address.now }
-    ensures bound { result ≤ length nodes.now }
-{
-    for (i, node) in nodes.iter().enumerate() {
-        if !address_less(node, address) {
-            return i;
-        }
-    }
-    nodes.len()
-}
-
-/// Puts an address in its place, unless it stands there.
-#[tactic(auto, using(crate::proofs::Inserting::stands, crate::proofs::Inserting::comes_in, crate::proofs::Inserting::comes_last))]
-fn insert(
-    alloc: Global,
-    nodes: &mut Vec<NodeAddress>,
-    address: &NodeAddress,
-) -> Result<(), AllocError>
-    ensures { OnOk result (nodes.new.items ≡ inserted address.now nodes.old.items) }
-{
-    let at = place_of(nodes.as_slice(), address);
-    if at < nodes.len() {
-        let is_new = address_less(address, &nodes[at]);
-        if !is_new {
-            return Ok(());
-        }
-    }
-    let copy = address.clone(alloc)?;
-    nodes.insert(at, copy)?;
-    Ok(())
-}
-
-/// Puts addresses in their places, unless they stand there.
-fn insert_all(
+/// Copies of addresses, at the end.
+fn push_copies(
     alloc: Global,
     nodes: &mut Vec<NodeAddress>,
     more: &[NodeAddress],
 ) -> Result<(), AllocError>
-    ensures { OnOk result (nodes.new.items ≡ all_inserted nodes.old.items more.now) }
+    ensures { OnOk result (nodes.new.items ≡ nodes.old.items ++ more.now) }
 {
     for address in more {
-        insert(alloc, nodes, address)?;
+        let copy = address.clone(alloc)?;
+        nodes.push(copy)?;
     }
     Ok(())
 }
 
-/// The distinct addresses of all rows, in order.
-pub fn addresses(alloc: Global, rows: &[SlotRow]) -> Result<Vec<NodeAddress>, AllocError>
-    ensures { IfOk result (λ nodes. nodes.items ≡ addresses rows.now) }
+/// The addresses of all rows, as they stand there.
+fn named(alloc: Global, rows: &[SlotRow]) -> Result<Vec<NodeAddress>, AllocError>
+    ensures { IfOk result (λ nodes. nodes.items ≡ named rows.now) }
 {
     let mut nodes = Vec::new(alloc);
     for row in rows {
-        insert(alloc, &mut nodes, &row.primary)?;
-        insert_all(alloc, &mut nodes, row.replicas.as_slice())?;
+        let primary = row.primary.clone(alloc)?;
+        nodes.push(primary)?;
+        push_copies(alloc, &mut nodes, row.replicas.as_slice())?;
     }
     Ok(nodes)
+}
+
+/// The distinct addresses of all rows, in order. With n addresses it takes n log n comparisons.
+pub fn addresses(alloc: Global, rows: &[SlotRow]) -> Result<Vec<NodeAddress>, AllocError>
+    ensures { IfOk result (λ nodes. nodes.items ≡ addresses rows.now) }
+{
+    let mut nodes = named(alloc, rows)?;
+    nodes.sort_unstable();
+    nodes.dedup();
+    Ok(nodes)
+}
+
+/// How many of these addresses stand before one.
+pub fn place_of(nodes: &[NodeAddress], address: &NodeAddress) -> usize
+    requires { in_order nodes.now ≡ true }
+    ensures is { result ≡ place_of nodes.now address.now }
+    ensures bound { result ≤ length nodes.now }
+{
+    match nodes.binary_search(address) {
+        Ok(place) => place,
+        Err(place) => place,
+    }
+}
+
+/// The place of an address among these, if it is one of them.
+pub fn found(nodes: &[NodeAddress], address: &NodeAddress) -> Option<usize>
+    requires { in_order nodes.now ≡ true }
+    ensures found { IfSome result (λ i. slice_get nodes.now i ≡ Some address.now) }
+    ensures none { IsNone result → ¬ (Contains nodes.now address.now) }
+{
+    let place = place_of(nodes, address);
+    match nodes.get(place) {
+        Some(node) if *node == *address => Some(place),
+        _ => None,
+    }
 }

@@ -9,9 +9,10 @@ use std::alloc::{AllocError, Global};
 /// How many slots there are.
 const SLOT_COUNT: usize = 16_384;
 
-/// Entries of no rows.
+/// An entry for each slot, of which no row holds any.
 fn blank(alloc: Global) -> Result<Vec<Option<u32>>, AllocError>
-    ensures { IfOk result (λ entries. AreEntries entries.items []) }
+    ensures count { IfOk result (λ entries. length entries.items ≡ 16_384) }
+    ensures each { IfOk result (λ entries. (slot : ℕ) → slot < 16_384 → entry_of entries.items slot ≡ None) }
 {
     let mut entries = Vec::new(alloc);
     while entries.len() < SLOT_COUNT {
@@ -37,11 +38,15 @@ fn give(entries: &mut Vec<Option<u32>>, row: &SlotRow, number: u32)
     }
 }
 
-/// For each slot the number of the last row that holds it.
+/// For each slot the number of the last row that holds it. Takes no memory where there are no rows.
+#[tactic(auto, using(crate::proofs::Owning::no_entries, crate::proofs::Owning::all_entries))]
 pub fn entries_of(alloc: Global, rows: &[SlotRow]) -> Result<Vec<Option<u32>>, AllocError>
     requires { in_range rows.now ≡ true }
     ensures { IfOk result (λ entries. AreEntries entries.items rows.now) }
 {
+    if rows.is_empty() {
+        return Ok(Vec::new(alloc));
+    }
     let mut entries = blank(alloc)?;
     for (i, row) in rows.iter().enumerate() {
         let Ok(number) = u32::try_from(i) else {
@@ -50,4 +55,14 @@ pub fn entries_of(alloc: Global, rows: &[SlotRow]) -> Result<Vec<Option<u32>>, A
         give(&mut entries, row, number);
     }
     Ok(entries)
+}
+
+/// What the entries say of a slot.
+pub fn entry(entries: &[Option<u32>], slot: usize) -> Option<u32>
+    ensures { result ≡ entry_of entries.now slot }
+{
+    match entries.get(slot) {
+        Some(number) => *number,
+        None => None,
+    }
 }

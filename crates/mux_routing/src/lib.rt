@@ -16,7 +16,7 @@ pub use command_table::{
     SlotAddr, SlotParts, command_for_multi_slot_indices,
 };
 pub use parsing::parse_slots;
-pub use pipeline::{RouteError, route_for_pipeline};
+pub use pipeline::{PipelineRoute, RouteError, route_for_pipeline, route_with_draw};
 pub use rows::{SlotRow, SlotRows, SlotsError};
 pub use slot_hash::{AddressError, NodeAddress, key_slot};
 pub use slot_map::{NodeIndex, SlotMap};

@@ -3,6 +3,7 @@ ghost use Rattle.std.specs.Prelude.{◌≡◌, IfOk};
 use containers::{Seq, TryClone};
 use slot_hash::NodeAddress;
 use std::alloc::{AllocError, Global};
+use thiserror::Error;
 
 /// A row of a server's slots: the first and the last slot, and the nodes that have them.
 #[derive(Drop)]
@@ -17,10 +18,12 @@ pub struct SlotRow {
 pub type SlotRows = Seq<SlotRow>;
 
 /// Why a reply gives no rows.
-#[derive(Clone, Copy, Debug, PartialEq, Eq)]
+#[derive(Clone, Copy, Debug, PartialEq, Eq, Error)]
 pub enum SlotsError {
     /// The reply isn't of the shape of slot rows.
+    #[error("the reply has no rows of slots")]
     Parse,
+    #[error("out of memory")]
     NoMemory,
 }
 

@@ -1,6 +1,6 @@
-ghost use Rattle.std.specs.Prelude.{◌≡◌, map, IfOk, option_copied, Some};
-ghost use Rattle.mux_routing.specs.Entries.{numbered};
-ghost use Rattle.mux_routing.specs.Shards.{first_numbers, leading_below, leads, place_of, shard_of};
+ghost use Rattle.std.specs.Prelude.{◌≡◌, ◌==◌, ◌||◌, ◌<◌, ℕ, true, false, length, map, IfOk, option_copied, Some};
+ghost use Rattle.mux_routing.specs.Entries.{mark_at, numbered};
+ghost use Rattle.mux_routing.specs.Shards.{first_numbers, in_order, leading_below, leads, place_of, shard_of};
 ghost use Rattle.mux_routing.specs.Shards.{node_in, picking, reads_after};
 
 use crate::addresses::place_of;
@@ -12,9 +12,11 @@ use slot_hash::NodeAddress;
 use std::alloc::{AllocError, Global};
 use std::marker::Model;
 
-/// The nodes of a row by their places among the addresses of a map, and how many replicas there are.
+/// A row with its nodes by their places among the addresses of a map, and how many replicas there are.
 #[derive(Drop)]
 pub struct ShardNodes {
+    pub start: u16,
+    pub end: u16,
     pub primary: u32,
     pub replicas: Seq<u32>,
     pub count: u32,
@@ -26,13 +28,14 @@ impl Model for ShardNodes {
 
     ghost Value = { Shard };
 
-    ghost view = { λ s. record { primary = s.primary; replicas = s.replicas } };
+    ghost view = { λ s. record { start = s.start; end = s.end; primary = s.primary; replicas = s.replicas } };
 
     ghost invariant = { λ s. s.count ≡ length s.replicas };
 }
 
 /// The place of an address, as a number of 32 bits.
 fn number_of(nodes: &[NodeAddress], address: &NodeAddress) -> Result<u32, AllocError>
+    requires { in_order nodes.now ≡ true }
     ensures { IfOk result (λ n. n ≡ place_of nodes.now address.now) }
 {
     match u32::try_from(place_of(nodes, address)) {
@@ -47,6 +50,7 @@ fn numbers_of(
     nodes: &[NodeAddress],
     more: &[NodeAddress],
 ) -> Result<Seq<u32>, AllocError>
+    requires { in_order nodes.now ≡ true }
     ensures { IfOk result (λ ns. ns ≡ map (place_of nodes.now) more.now) }
 {
     let mut numbers = Seq::new(alloc);
@@ -57,8 +61,9 @@ fn numbers_of(
     Ok(numbers)
 }
 
-/// The nodes of a row by their places.
+/// A row with its nodes by their places.
 fn shard_of(alloc: Global, nodes: &[NodeAddress], row: &SlotRow) -> Result<ShardNodes, AllocError>
+    requires { in_order nodes.now ≡ true }
     ensures { IfOk result (λ s. s ≡ shard_of nodes.now row.now) }
 {
     let primary = number_of(nodes, &row.primary)?;
@@ -67,18 +72,21 @@ fn shard_of(alloc: Global, nodes: &[NodeAddress], row: &SlotRow) -> Result<Shard
         return Err(AllocError);
     };
     Ok(ShardNodes {
+        start: row.start,
+        end: row.end,
         primary,
         replicas,
         count,
     })
 }
 
-/// The nodes of each row by their places.
+/// Each row with its nodes by their places.
 pub fn shards_of(
     alloc: Global,
     nodes: &[NodeAddress],
     rows: &[SlotRow],
 ) -> Result<Seq<ShardNodes>, AllocError>
+    requires { in_order nodes.now ≡ true }
     ensures { IfOk result (λ ss. ss ≡ map (shard_of nodes.now) rows.now) }
 {
     let mut shards = Seq::new(alloc);
@@ -89,25 +97,50 @@ pub fn shards_of(
     Ok(shards)
 }
 
-/// Whether a node is the primary of a row.
-fn leads(node: usize, shards: &[ShardNodes]) -> bool
-    ensures { result ≡ leads node shards.now }
+/// So many marks, none of them set.
+fn no_marks(alloc: Global, count: usize) -> Result<Vec<bool>, AllocError>
+    ensures count { IfOk result (λ marks. length marks.items ≡ count) }
+    ensures each { IfOk result (λ marks. (i : ℕ) → i < count → mark_at marks.items i ≡ false) }
 {
-    for shard in shards {
-        if shard.primary as usize == node {
-            return true;
-        }
+    let mut marks = Vec::new(alloc);
+    while marks.len() < count {
+        marks.push(false)?;
     }
-    false
+    Ok(marks)
 }
 
-/// The first primaries of rows, in order.
+/// Sets the mark of a place, if there is one.
+fn set_mark(marks: &mut [bool], place: usize)
+    ensures count { length marks.new ≡ length marks.old }
+    ensures each { (i : ℕ) → i < length marks.old
+        → mark_at marks.new i ≡ (place == i || mark_at marks.old i) }
+{
+    if place < marks.len() {
+        marks[place] = true;
+    }
+}
+
+/// For each of so many nodes whether it is the primary of a row.
+fn marks_of(alloc: Global, count: usize, shards: &[ShardNodes]) -> Result<Vec<bool>, AllocError>
+    ensures count { IfOk result (λ marks. length marks.items ≡ count) }
+    ensures each { IfOk result
+        (λ marks. (i : ℕ) → i < count → mark_at marks.items i ≡ leads i shards.now) }
+{
+    let mut marks = no_marks(alloc, count)?;
+    for shard in shards {
+        set_mark(marks.as_mut_slice(), shard.primary as usize);
+    }
+    Ok(marks)
+}
+
+/// The first primaries of rows, in order. With n nodes and m rows it takes n + m steps.
 pub fn leading(alloc: Global, count: usize, shards: &[ShardNodes]) -> Result<Vec<u32>, AllocError>
     ensures { IfOk result (λ v. v.items ≡ leading_below count shards.now) }
 {
+    let marks = marks_of(alloc, count, shards)?;
     let mut leading = Vec::new(alloc);
     for i in 0..count {
-        if leads(i, shards) {
+        if marks[i] {
             let Ok(number) = u32::try_from(i) else {
                 return Err(AllocError);
             };

@@ -1,5 +1,5 @@
-use crate::addresses::addresses;
-use crate::entries::entries_of;
+use crate::addresses::{addresses, found};
+use crate::entries::{entries_of, entry};
 use crate::rows::SlotRows;
 use crate::shard::{ShardNodes, first_numbers, leading, node_in, numbered, shards_of};
 use crate::strategy::ReadRoutingStrategy;
@@ -15,26 +15,30 @@ pub type NodeIndex = u32;
 /// Which node has which slot. Contracts see the rows that it was made from.
 #[derive(Drop)]
 pub struct SlotMap {
-    rows: SlotRows,
+    /// The distinct addresses, in order.
     nodes: Vec<NodeAddress>,
     shards: Seq<ShardNodes>,
+    /// For each slot the number of the last row that holds it; nothing where there are no rows.
     entries: Vec<Option<u32>>,
+    primaries: Vec<NodeIndex>,
 }
 
 impl Model for SlotMap {
     ghost use Rattle.std.specs.Prelude.{List};
     ghost use Rattle.mux_routing.specs.declared.rows.SlotRow.{SlotRow};
-    ghost use Rattle.mux_routing.specs.Entries.{AreKept};
+    ghost use Rattle.mux_routing.specs.Entries.{AreKept, rows_kept};
 
     ghost Value = { List SlotRow };
 
-    ghost view = { λ m. m.rows };
+    ghost view = { λ m. rows_kept m.nodes.items m.shards };
 
-    ghost invariant = { λ m. AreKept m.nodes.items m.shards m.entries.items m.rows };
+    ghost invariant = { λ m. AreKept m.nodes.items m.shards m.entries.items m.primaries.items (rows_kept m.nodes.items m.shards) };
 }
 
 impl SlotMap {
-    ghost use Rattle.std.specs.Prelude.{◌≡◌, ◌<◌, ◌^◌, true, map, slice_get};
+    ghost use Rattle.std.specs.Prelude.{◌≡◌, ◌<◌, ◌^◌, true, map, slice_get, IsNone};
+    ghost use Rattle.std.specs.List.{Contains};
+    ghost use Rattle.mux_routing.specs.Members.{AreLeaders, AreNamed};
     ghost use Rattle.std.specs.Prelude.{IfOk, IfSome, Some, option_and_then, option_copied};
     ghost use Rattle.mux_routing.specs.Reply.{are_rows};
     ghost use Rattle.mux_routing.specs.Shards.{addresses, in_order, last_row, shard_at};
@@ -42,22 +46,23 @@ impl SlotMap {
     ghost use Rattle.mux_routing.specs.Shards.{fallback_addresses, fallbacks_in, node_places, primaries};
     ghost use Rattle.mux_routing.specs.Shards.{are_places, is_place};
 
-    /// The map of these rows.
-    #[tactic(auto, using(crate::proofs::Finding::are_in_order))]
+    /// The map of these rows. With n nodes it takes n log n comparisons of addresses, once; of no rows it takes no memory.
+    #[tactic(auto, using(crate::proofs::Finding::are_in_order, crate::proofs::Keeping::all_kept, crate::proofs::Keeping::same_rows, crate::proofs::Members::are_named))]
     pub fn from_rows(alloc: Global, rows: &SlotRows) -> Result<SlotMap, AllocError>
         requires { are_rows rows.now ≡ true }
         ensures is { IfOk result (λ m. m ≡ rows.now) }
         ensures order { IfOk result (λ m. in_order (addresses m) ≡ true) }
+        ensures named { IfOk result (λ m. AreNamed m (addresses m)) }
     {
-        let copies = rows.clone(alloc)?;
         let nodes = addresses(alloc, rows.as_slice())?;
         let shards = shards_of(alloc, nodes.as_slice(), rows.as_slice())?;
         let entries = entries_of(alloc, rows.as_slice())?;
+        let primaries = leading(alloc, nodes.len(), shards.as_slice())?;
         Ok(SlotMap {
-            rows: copies,
             nodes,
             shards,
             entries,
+            primaries,
         })
     }
 
@@ -66,7 +71,7 @@ impl SlotMap {
         requires { slot < 2 ^ 14 }
         ensures { option_copied result ≡ shard_at slot self.now }
     {
-        let number = self.entries[usize::from(slot)];
+        let number = entry(self.entries.as_slice(), usize::from(slot));
         numbered(self.shards.as_slice(), number)
     }
 
@@ -123,13 +128,15 @@ impl SlotMap {
         }
     }
 
-    /// The primaries of all rows, in the order of their addresses.
-    #[tactic(auto, unfolding(crate::specs::Shards::primaries), using(crate::proofs::Answering::primaries_within))]
+    /// The primaries of all rows, in the order of their addresses. Their number is what it costs.
+    #[tactic(auto, using(crate::proofs::Answering::primaries_within, crate::proofs::Leading::are_leaders))]
     pub fn primaries(&self, alloc: Global) -> Result<Vec<NodeIndex>, AllocError>
         ensures are { IfOk result (λ v. v.items ≡ primaries self.now) }
+        ensures leaders { IfOk result (λ v. AreLeaders self.now v.items) }
         ensures places { IfOk result (λ v. are_places self.now v.items ≡ true) }
     {
-        leading(alloc, self.nodes.len(), self.shards.as_slice())
+        let places = Vec::from_slice(alloc, self.primaries.as_slice())?;
+        Ok(places)
     }
 
     /// All nodes of all rows, in the order of their addresses.
@@ -139,6 +146,16 @@ impl SlotMap {
         ensures places { IfOk result (λ v. are_places self.now v.items ≡ true) }
     {
         first_numbers(alloc, self.nodes.len())
+    }
+
+    /// The place of an address, if it is one of this map.
+    #[tactic(auto, using(crate::proofs::Finding::are_in_order))]
+    pub fn place(&self, address: &NodeAddress) -> Option<NodeIndex>
+        ensures found { IfSome result (λ i. slice_get (addresses self.now) i ≡ Some address.now) }
+        ensures none { IsNone result → ¬ (Contains (addresses self.now) address.now) }
+    {
+        let place = found(self.nodes.as_slice(), address)?;
+        Some(place as u32)
     }
 
     /// The address of a node of this map.

@@ -16,6 +16,8 @@ use Rattle.redis_error.specs.declared.fault_kind.FaultKind.TheVariants as fault
 use Rattle.redis_error.specs.declared.redis_error.RedisError.{RedisError}
 use Rattle.redis_error.specs.declared.redis_error.RedisError.TheVariants as error
 use Rattle.redis_error.specs.Errors.{error_kind, error_method, is_io, is_dropped}
+use Rattle.trace_text.specs.Words.{line_of}
+use Rattle.trace_text.specs.Errors.{error_words}
 
 -- a code of a server error with its kind, and how its command is tried again
 abbrev pub told_by_code : List ℕ → ServerErrorKind × RetryMethod
@@ -158,4 +160,21 @@ strays =
     ∷ told (codes "MOVED") (codes " 127.0.0.1:6381")
     ∷ told (codes "MOVED") (codes "-1 127.0.0.1:6381")
     ∷ told (codes "ASK") (codes "16384 127.0.0.1:6381")
+    ∷ []
+
+-- the line in which a trace tells an error
+abbrev pub line_of_error : RedisError → List ℕ
+line_of_error e = line_of (error_words e) []
+
+-- errors that no request is answered with yet, each with its line
+abbrev pub errors_in_words : List (RedisError × List ℕ)
+errors_in_words =
+    (error.Client, codes "client\n")
+    ∷ (error.NotFound, codes "not-found\n")
+    ∷ (error.TurnsSpent 2, codes "turns 2\n")
+    ∷ (error.Config config.Keys, codes "config keys\n")
+    ∷ (error.CrossSlot 7 12182, codes "cross-slot 7 12182\n")
+    ∷ (error.RouteWithoutLink (3 ∷ 0 ∷ []), codes "no-link 3 0\n")
+    ∷ (error.CreateFailed (codes "io refused"), codes "create-failed io%20refused\n")
+    ∷ (error.Convert Nil, codes "convert _%0D%0A\n")
     ∷ []

@@ -8,3 +8,4 @@ pub mod Packing
 pub mod Canonical
 pub mod Tracking
 pub mod Routes
+pub mod SlotRows

@@ -63,11 +63,12 @@ routes_to_any =
     ∷ (codes "OBJECT" ∷ codes "ENCODING" ∷ [], to_one Random)
     ∷ (codes "XREAD" ∷ codes "COUNT" ∷ codes "2" ∷ [], to_one Random)
     ∷ (codes "EVAL" ∷ codes "return 1" ∷ codes "x" ∷ codes "foo" ∷ [], to_one Random)
-    ∷ (codes "EVAL" ∷ codes "return 1" ∷ codes "0" ∷ [], to_one RandomPrimary)
+    ∷ (codes "EVAL" ∷ codes "s" ∷ codes "0" ∷ [], to_one RandomPrimary)
     ∷ ([], None)
     ∷ []
 
--- commands for the slot of their key; one that stands in no table goes to the primary of its first argument
+-- commands for the slot of their key; one that stands in no table goes to the primary of its first argument, and of those with
+-- STREAMS the first such argument counts, also where it is a group's name
 abbrev pub routes_by_key : List Routing
 routes_by_key =
     (codes "GET" ∷ codes "foo" ∷ [], to_slot ReplicaOptional 12_182)
@@ -81,6 +82,7 @@ routes_by_key =
     ∷ (codes "FCALL_RO" ∷ codes "f" ∷ codes "2" ∷ codes "foo" ∷ codes "foo" ∷ [], to_slot ReplicaOptional 12_182)
     ∷ (codes "XREAD" ∷ codes "COUNT" ∷ codes "2" ∷ codes "streams" ∷ codes "foo" ∷ codes "0" ∷ [], to_slot ReplicaOptional 12_182)
     ∷ (codes "XREADGROUP" ∷ codes "GROUP" ∷ codes "g" ∷ codes "c" ∷ codes "STREAMS" ∷ codes "foo" ∷ codes ">" ∷ [], to_slot Master 12_182)
+    ∷ (codes "XREADGROUP" ∷ codes "GROUP" ∷ codes "streams" ∷ codes "foo" ∷ codes "STREAMS" ∷ codes "baz" ∷ codes ">" ∷ [], to_slot Master 12_182)
     ∷ []
 
 -- commands of several keys: to one slot where all have it, else in parts, by the places of their keys
@@ -89,6 +91,7 @@ routes_by_keys =
     (codes "MGET" ∷ codes "foo" ∷ codes "{foo}bar" ∷ [], to_slot ReplicaOptional 12_182)
     ∷ (codes "MGET" ∷ codes "foo" ∷ codes "baz" ∷ codes "{foo}bar" ∷ [], to_several (MultiSlot (part ReplicaOptional 12_182 (0 ∷ 2 ∷ []) ∷ part ReplicaOptional 4_813 (1 ∷ []) ∷ [])) CombineArrays)
     ∷ (codes "DEL" ∷ codes "foo" ∷ codes "baz" ∷ [], to_several (MultiSlot (part Master 12_182 (0 ∷ []) ∷ part Master 4_813 (1 ∷ []) ∷ [])) Sum)
+    ∷ (codes "EXISTS" ∷ codes "foo" ∷ codes "baz" ∷ [], to_several (MultiSlot (part ReplicaOptional 12_182 (0 ∷ []) ∷ part ReplicaOptional 4_813 (1 ∷ []) ∷ [])) Sum)
     ∷ (codes "mset" ∷ codes "foo" ∷ codes "1" ∷ codes "baz" ∷ codes "2" ∷ [], to_several (MultiSlot (part Master 12_182 (0 ∷ []) ∷ part Master 4_813 (1 ∷ []) ∷ [])) AllSucceeded)
     ∷ (codes "MSET" ∷ codes "foo" ∷ codes "1" ∷ codes "baz" ∷ [], to_slot Master 12_182)
     ∷ []

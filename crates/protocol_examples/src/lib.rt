@@ -20,11 +20,12 @@ ghost use Rattle.protocol_examples.specs.Tables.{Gives};
 ghost use Rattle.protocol_examples.specs.Grammar.{IsValue, lines, scalars, sized_texts, lists, tagged, malformed_lines, malformed_lengths, short_lines, short_lengths, BeginsNone};
 ghost use Rattle.protocol_examples.specs.Limits.{wrappings, MayNest, MayHoldNil, MayNotNest, MayNotHoldEmpty, IsReadToItsEnd, IsTooLong, greatest_lengths, lengths_too_great};
 ghost use Rattle.protocol_examples.specs.Pushes.{kinds_of_texts, IsOther, other_kinds, replies_of_kinds};
-ghost use Rattle.protocol_examples.specs.Errors.{told_by_code, codes_of_errors, TellsNothing, other_codes, told_by_error, errors_of_the_driver, faults, told_of_links, ends_of_links, unrecoverable_methods, IsLead, leads, strays};
+ghost use Rattle.protocol_examples.specs.Errors.{told_by_code, codes_of_errors, TellsNothing, other_codes, told_by_error, errors_of_the_driver, faults, told_of_links, ends_of_links, unrecoverable_methods, line_of_error, errors_in_words, IsLead, leads, strays};
 ghost use Rattle.protocol_examples.specs.Slots.{checksums, hash_tags, slots_of_keys, addresses};
 ghost use Rattle.protocol_examples.specs.Packing.{packed_commands, packed_pipelines};
 ghost use Rattle.protocol_examples.specs.Canonical.{texts_of_scalars, texts_of_aggregates, texts_of_kinds};
 ghost use Rattle.protocol_examples.specs.Tracking.{tracked_commands, subscribed_after, is_subscribed, subscribed_names, resubscribing, bytes_that_resubscribe, tracked_again};
+ghost use Rattle.protocol_examples.specs.SlotRows.{hosts_told, no_rows, primaries_of_slots, primary_of, rows_told};
 ghost use Rattle.protocol_examples.specs.Routes.{part_of_places, routes_to_all, routes_to_any, routes_by_key, routes_by_keys, commands_of_parts};
 
 /// Does nothing. Its contract: each of these texts is the value beside it, whatever follows it.
@@ -91,6 +92,11 @@ pub fn errors_tell_how_to_go_on()
     ensures unrecoverable { Gives needs_new_link unrecoverable_methods }
 {}
 
+/// Does nothing. Its contract: the lines in which a trace tells these errors.
+pub fn errors_have_these_words()
+    ensures { Gives line_of_error errors_in_words }
+{}
+
 /// Does nothing. Its contract: where these errors lead, and that others lead nowhere.
 pub fn redirects_lead_there()
     ensures leads { All IsLead leads }
@@ -144,4 +150,12 @@ pub fn commands_have_these_routes()
     ensures key { Gives routing_of routes_by_key }
     ensures keys { Gives routing_of routes_by_keys }
     ensures parts { Gives part_of_places commands_of_parts }
+{}
+
+/// Does nothing. Its contract: the rows of slots that these replies tell, that others tell none, and that of two rows
+/// with a slot the last one has it.
+pub fn replies_tell_these_rows()
+    ensures hosts { Gives rows_told hosts_told }
+    ensures none { Gives rows_told no_rows }
+    ensures slots { Gives primary_of primaries_of_slots }
 {}

@@ -16,7 +16,7 @@ use Rattle.command_table.specs.declared.commands.Form.TheVariants.{AllPrimaries,
 use Rattle.command_table.specs.Lookup.{form_of}
 use Rattle.command_table.specs.Routing.{after_streams, all_are, by_count, by_key, by_slots, is_number, keys_of_pairs, parts_of, placed, placed_all, random, routing_by, to_slot}
 use Rattle.command_table.specs.Selection.{is_several, width}
-use Rattle.route_laws.specs.Split.{AreApart, AreFilled, AreInTheirSlots, EachKeyIsCounted, HaveSlot, NoneIsOf, Parts, RoutesSplitTheKeys, Splits, keys_by, occurrences, places_of}
+use Rattle.route_laws.specs.Split.{AreApart, AreFilled, AreInTheirSlots, EachKeyIsCounted, HaveSlot, NoneIsOf, Parts, RoutesHaveParts, RoutesSplitTheKeys, Splits, keys_by, occurrences, places_of}
 
 -- how often a place stands among two lists
 occurrences-append : (k : ℕ) (is js : List ℕ) → occurrences k (is ++ js) ≡ occurrences k is + occurrences k js
@@ -30,6 +30,15 @@ placed_once_more addr slot i k (p ∷ ps) = by (p.0.slot == slot) (placed_once_m
     by : (b : Bool) → occurrences k (places_of (placed addr slot i ps)) ≡ (if i == k then 1 else 0) + occurrences k (places_of ps) → occurrences k (places_of (if b then (p.0, p.1 ++ i ∷ []) ∷ ps else (p ∷ placed addr slot i ps))) ≡ (if i == k then 1 else 0) + occurrences k (places_of (p ∷ ps))
     by true rest = omega (arith, occurrences-append k (p.1 ++ i ∷ []) (places_of ps), occurrences-append k p.1 (i ∷ []), occurrences-append k p.1 (places_of ps))
     by false rest = omega (arith, occurrences-append k p.1 (places_of (placed addr slot i ps)), occurrences-append k p.1 (places_of ps), rest)
+
+-- there is one place more
+counted_more : (addr : SlotAddr) (slot i : ℕ) (ps : Parts) → length (places_of (placed addr slot i ps)) ≡ length (places_of ps) + 1
+counted_more addr slot i [] = refl
+counted_more addr slot i (p ∷ ps) = by (p.0.slot == slot) (counted_more addr slot i ps)
+  where
+    by : (b : Bool) → length (places_of (placed addr slot i ps)) ≡ length (places_of ps) + 1 → length (places_of (if b then (p.0, p.1 ++ i ∷ []) ∷ ps else (p ∷ placed addr slot i ps))) ≡ length (places_of (p ∷ ps)) + 1
+    by true rest = omega (arith, length-append (p.1 ++ i ∷ []) (places_of ps), length-append p.1 (i ∷ []), length-append p.1 (places_of ps))
+    by false rest = omega (arith, length-append p.1 (places_of (placed addr slot i ps)), length-append p.1 (places_of ps), rest)
 
 below_more : (i k : ℕ) → (if i == k then 1 else 0) + (if nat_lt k i then 1 else 0) ≡ (if nat_lt k (i + 1) then 1 else 0)
 below_more i k = grind (arith, nat_tests)
@@ -92,6 +101,7 @@ in_slots_more addr slots slot i (p ∷ ps) h e = by (p.0.slot == slot) refl (in_
 
 one_more : (addr : SlotAddr) (slots : List ℕ) (slot : ℕ) (ps : Parts) → Splits slots ps → Splits (slots ++ slot ∷ []) (placed addr slot (length slots) ps)
 one_more addr slots slot ps s = record {
+  count = counted_more addr slot (length slots) ps ∙ ap (λ n. n + 1) s.count ∙ sym (length-append slots (slot ∷ []));
   once = λ k.
       placed_once_more addr slot (length slots) k ps
       ∙ ap (λ n. (if length slots == k then 1 else 0) + n) (s.once k)
@@ -113,7 +123,7 @@ none_below : (k : ℕ) → occurrences k [] ≡ (if nat_lt k 0 then 1 else 0)
 none_below k = grind (arith, nat_tests)
 
 nothing_split : Splits [] []
-nothing_split = record { once = none_below; filled = tt; apart = tt; in_slots = tt }
+nothing_split = record { count = refl; once = none_below; filled = tt; apart = tt; in_slots = tt }
 
 parts_split : (addr : SlotAddr) (slots : List ℕ) → Splits slots (parts_of addr slots)
 parts_split addr slots = all_more addr 0 [] slots [] refl nothing_split
@@ -164,6 +174,34 @@ some_same x y e = cc e
 pub routes_split : RoutesSplitTheKeys
 routes_split [] parts policy e = cc
 routes_split (name ∷ args) parts policy e = by_form (form_of name args) args parts policy (some_same _ _ e)
+
+-- a route to several slots has a part
+none_of_slots : (addr : SlotAddr) (rule : ResponsePolicy) (slots : List ℕ) (policy : Option ResponsePolicy) → by_slots addr rule slots ≡ several [] policy → ⊥
+none_of_slots addr rule [] policy e = cc
+none_of_slots addr rule (s ∷ slots) policy e =
+    let none : [] ≡ parts_of addr (s ∷ slots) = by_its_slots addr rule (s ∷ slots) [] policy e in
+    let split : Splits (s ∷ slots) [] = subst (Splits (s ∷ slots)) (sym none) (parts_split addr (s ∷ slots)) in
+    absurd (omega (arith, split.count))
+
+none_by_form : (form : Form) (args : List (List ℕ)) (policy : Option ResponsePolicy) → routing_by form args ≡ several [] policy → ⊥
+none_by_form (AllPrimaries rule) args policy e = cc
+none_by_form (AllNodes rule) args policy e = cc
+none_by_form (EachKey addr rule) args policy e = none_of_slots addr rule (map slot_of args) policy e
+none_by_form (EachPair addr rule) args policy e = by (length args % 2 == 1) e
+  where
+    by : (b : Bool) → (if b then by_key addr (slice_get args 0) else by_slots addr rule (map slot_of (keys_of_pairs args))) ≡ several [] policy → ⊥
+    by true h = not_by_key addr (slice_get args 0) [] policy h
+    by false h = none_of_slots addr rule (map slot_of (keys_of_pairs args)) policy h
+none_by_form Random args policy e = cc
+none_by_form (CountedKey addr) args policy e = not_by_count addr (slice_get args 1) (slice_get args 2) [] policy e
+none_by_form (AfterStreams addr) args policy e = not_by_key addr (after_streams args) [] policy e
+none_by_form (SecondKey addr) args policy e = not_by_key addr (slice_get args 1) [] policy e
+none_by_form (FirstKey addr) args policy e = not_by_key addr (slice_get args 0) [] policy e
+
+pub have_parts : RoutesHaveParts
+have_parts [] parts policy e = cc
+have_parts (name ∷ args) [] policy e = absurd (none_by_form (form_of name args) args policy (some_same _ _ e))
+have_parts (name ∷ args) (p ∷ ps) policy e = omega arith
 
 -- how many keys a command has
 pairs : (args : List (List ℕ)) → length (keys_of_pairs args) ≡ length args / 2

@@ -60,8 +60,10 @@ abbrev pub AreInTheirSlots : List ℕ → Parts → Type 0
 AreInTheirSlots slots [] = Unit {0}
 AreInTheirSlots slots (p ∷ ps) = HaveSlot slots p.0.slot p.1 × AreInTheirSlots slots ps
 
--- the parts split the keys of these slots: each key has one place in one part, which is of its slot; no part is empty, and no slot has two
+-- the parts split the keys of these slots: their places together are the numbers below the count of the keys, each once; each key
+-- has its place in the part of its slot; no part is empty, and no slot has two
 pub record Splits (slots : List ℕ) (parts : Parts) : Type 0 where
+  pub count : length (places_of parts) ≡ length slots
   pub once : (place : ℕ) → occurrences place (places_of parts) ≡ (if nat_lt place (length slots) then 1 else 0)
   pub filled : AreFilled parts
   pub apart : AreApart parts
@@ -72,6 +74,12 @@ abbrev pub RoutesSplitTheKeys : Type 0
 RoutesSplitTheKeys =
     (args : List (List ℕ)) (parts : Parts) (policy : Option ResponsePolicy)
     → routing_of args ≡ Some (MultiNode (MultiSlot parts) policy) → Splits (map slot_of (keys args)) parts
+
+-- every route to several slots has a part
+abbrev pub RoutesHaveParts : Type 0
+RoutesHaveParts =
+    (args : List (List ℕ)) (parts : Parts) (policy : Option ResponsePolicy)
+    → routing_of args ≡ Some (MultiNode (MultiSlot parts) policy) → 0 < length parts
 
 -- a command that may have keys in several slots has as many keys as are counted of it
 abbrev pub EachKeyIsCounted : Type 0

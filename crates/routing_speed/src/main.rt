@@ -1,10 +1,13 @@
-//! Looks up slots or routes so many times, for bench/routing to measure, and prints a number that depends on each
-//! answer.
+//! Looks up slots, routes or nodes so many times, or builds a map of slots so many times, for bench/routing to measure,
+//! and prints a number that depends on each answer.
 #![tactic(auto)]
+
+mod maps;
 
 use mux_routing::{RoutingInfo, key_slot};
 use resp_write::Cmd;
 use std::alloc::{AllocError, Global};
+use std::process::ExitCode;
 use std::{env, io};
 
 /// How long the key is whose slot is looked up.
@@ -104,30 +107,80 @@ fn looked_up(alloc: Global, what: &str, times: u32) -> Result<Option<u64>, Alloc
     Ok(None)
 }
 
-/// What the words of the program ask for, if they ask for something.
-fn answer(
+/// The same of a map of so many nodes.
+fn looked_up_in_map(
     alloc: Global,
-    what: Option<&str>,
-    times: Option<&str>,
+    what: &str,
+    nodes: u32,
+    times: u32,
 ) -> Result<Option<u64>, AllocError> {
-    let (Some(what), Some(times)) = (what, times) else {
-        return Ok(None);
-    };
-    match times.parse::<u32>() {
-        Ok(times) => looked_up(alloc, what, times),
-        Err(_) => Ok(None),
+    if what == "maps" {
+        return maps::ports_of_maps(alloc, nodes, times);
+    }
+    if what == "lookups" {
+        return maps::ports_of_slots(alloc, nodes, times);
+    }
+    if what == "primaries" {
+        return maps::count_of_primaries(alloc, nodes, times);
+    }
+    Ok(None)
+}
+
+fn number(word: &str) -> Option<u32> {
+    match word.parse::<u32>() {
+        Ok(number) => Some(number),
+        Err(_) => None,
     }
 }
 
-fn main(rt: HostRuntime) -> io::Result<()> {
+/// What the words of the program ask for, if they ask for something.
+fn answer(
+    alloc: Global,
+    what: &str,
+    first: &str,
+    second: Option<&str>,
+) -> Result<Option<u64>, AllocError> {
+    let Some(first) = number(first) else {
+        return Ok(None);
+    };
+    let Some(second) = second else {
+        return looked_up(alloc, what, first);
+    };
+    match number(second) {
+        Some(times) => looked_up_in_map(alloc, what, first, times),
+        None => Ok(None),
+    }
+}
+
+/// The same of words of which there may be too few.
+fn asked(
+    alloc: Global,
+    what: Option<&str>,
+    first: Option<&str>,
+    second: Option<&str>,
+) -> Result<Option<u64>, AllocError> {
+    let (Some(what), Some(first)) = (what, first) else {
+        return Ok(None);
+    };
+    answer(alloc, what, first, second)
+}
+
+fn main(rt: HostRuntime) -> io::Result<ExitCode> {
     let alloc = rt.alloc();
     let mut words = env::args(&rt)?;
     words.next();
     let what = words.next();
-    let times = words.next();
-    match answer(alloc, what.as_deref(), times.as_deref())? {
-        Some(number) => println!(rt; "{number}")?,
-        None => println!(rt; "usage: routing_speed slots|routes TIMES")?,
+    let first = words.next();
+    let second = words.next();
+    match asked(alloc, what.as_deref(), first.as_deref(), second.as_deref())? {
+        Some(number) => {
+            println!(rt; "{number}")?;
+            Ok(ExitCode::SUCCESS)
+        }
+        None => {
+            eprintln!(rt; "usage: routing_speed slots|routes TIMES")?;
+            eprintln!(rt; "       routing_speed maps|lookups|primaries NODES TIMES")?;
+            Ok(ExitCode::FAILURE)
+        }
     }
-    Ok(())
 }

@@ -23,7 +23,7 @@ enum Want {
 const FOO: u16 = 12182;
 
 /// Commands with where they go: each line of the table, and what each of its forms does without a key.
-const ROWS: [(&str, Want); 136] = [
+const ROWS: [(&str, Want); 137] = [
     ("FLUSHALL", Want::Primaries(ResponsePolicy::AllSucceeded)),
     (
         "FLUSHDB ASYNC",
@@ -158,6 +158,10 @@ const ROWS: [(&str, Want); 136] = [
     (
         "XREAD COUNT 2 STREAMS foo 0",
         Want::Foo(SlotAddr::ReplicaOptional),
+    ),
+    (
+        "XREADGROUP GROUP streams foo STREAMS bar 0",
+        Want::Foo(SlotAddr::Master),
     ),
     (
         "XREADGROUP GROUP a b streams foo 0",

@@ -2,8 +2,8 @@ ghost use Rattle.std.specs.Prelude.{◌≡◌, ◌<◌, ◌^◌};
 
 use containers::Bytes;
 use mux_routing::{
-    ReadRoutingStrategy, ReadStrategy, Route, RouteError, SlotAddr, SlotMap, SlotRows, SlotsError,
-    parse_slots, route_for_pipeline,
+    NodeAddress, ReadRoutingStrategy, ReadStrategy, Route, RouteError, SlotAddr, SlotMap, SlotRows,
+    SlotsError, parse_slots, route_for_pipeline, route_with_draw,
 };
 use resp_value::{Value, Values};
 use resp_write::{Cmd, Pipeline};
@@ -544,6 +544,30 @@ fn pipelines_have_routes(rt: HostRuntime) -> Result<(), AllocError> {
 }
 
 /// A pick through the trait alone.
+/// Pipelines with whether the draw is used for their route.
+const DRAWN: [(&str, bool); 3] = [
+    ("GET foo; EVAL x 0 foo; FLUSHALL", true),
+    ("EVAL x y foo; GET foo", false),
+    ("ECHO foo", false),
+];
+
+/// Whether the draw is used for the route of a text's commands; nothing where they have none.
+fn uses_draw(alloc: Global, text: &str) -> Result<Option<bool>, AllocError> {
+    let pipeline = pipeline(alloc, text)?;
+    match route_with_draw(alloc, &pipeline, 12_182) {
+        Ok(found) => Ok(Some(found.used_draw)),
+        Err(_) => Ok(None),
+    }
+}
+
+#[test]
+fn draws_are_told(rt: HostRuntime) -> Result<(), AllocError> {
+    for row in &DRAWN {
+        assert_eq!(rt; uses_draw(rt.alloc(), row.0)?, Some(row.1));
+    }
+    Ok(())
+}
+
 fn picked<R: ReadRoutingStrategy>(strategy: &mut R, replicas: u32) -> u32
     requires { 0 < replicas }
 {
@@ -601,5 +625,22 @@ fn has_address(alloc: Global, number: u32) -> Result<bool, SlotsError> {
 fn addresses_have_numbers(rt: HostRuntime) -> Result<(), Fail> {
     assert!(rt; has_address(rt.alloc(), 0)?);
     assert!(rt; !has_address(rt.alloc(), 5)?);
+    Ok(())
+}
+
+/// The place of an address in the map.
+fn place_in_map(alloc: Global, text: &[u8]) -> Result<Option<u32>, SlotsError> {
+    let map = map(alloc)?;
+    match NodeAddress::try_from(alloc, text) {
+        Ok(address) => Ok(map.place(&address)),
+        Err(_) => Ok(None),
+    }
+}
+
+#[test]
+fn addresses_have_places(rt: HostRuntime) -> Result<(), Fail> {
+    assert_eq!(rt; place_in_map(rt.alloc(), b"node2:1")?, Some(2));
+    assert_eq!(rt; place_in_map(rt.alloc(), b"replica3:1")?, Some(4));
+    assert_eq!(rt; place_in_map(rt.alloc(), b"node2:2")?, None);
     Ok(())
 }

@@ -1,5 +1,7 @@
+use containers::Bytes;
 use slot_hash::{AddressError, NodeAddress, key_slot};
 use std::alloc::{AllocError, Global};
+use std::cmp::Ordering;
 
 /// Keys with their slots: the check value of CRC-16/XMODEM is 31C3, and the hash tags are those of the public
 /// specification of the cluster.
@@ -107,5 +109,48 @@ fn texts_are_addresses(rt: HostRuntime) -> Result<(), AllocError> {
     for row in &ADDRESSES {
         assert!(rt; is_answer(rt.alloc(), row.0, &row.1)?);
     }
+    Ok(())
+}
+
+/// The text of the address that a text is.
+fn text_again(alloc: Global, text: &[u8]) -> Result<Option<Bytes>, AllocError> {
+    match NodeAddress::try_from(alloc, text) {
+        Ok(address) => Ok(Some(address.text(alloc)?)),
+        Err(_) => Ok(None),
+    }
+}
+
+fn has_text(alloc: Global, text: &[u8], wanted: &[u8]) -> Result<bool, AllocError> {
+    match text_again(alloc, text)? {
+        Some(text) => Ok(text.as_slice() == wanted),
+        None => Ok(false),
+    }
+}
+
+#[test]
+fn addresses_have_texts(rt: HostRuntime) -> Result<(), AllocError> {
+    assert!(rt; has_text(rt.alloc(), b"h:065535", b"h:65535")?);
+    assert!(rt; has_text(rt.alloc(), b"[::1]:6379", b"::1:6379")?);
+    Ok(())
+}
+
+/// How two addresses stand to each other, if they are addresses.
+fn order(alloc: Global, one: &[u8], other: &[u8]) -> Result<Option<Ordering>, AllocError> {
+    let one = NodeAddress::try_from(alloc, one);
+    let other = NodeAddress::try_from(alloc, other);
+    match (&one, &other) {
+        (Ok(one), Ok(other)) => Ok(Some(one.cmp(other))),
+        _ => Ok(None),
+    }
+}
+
+#[test]
+fn addresses_have_an_order(rt: HostRuntime) -> Result<(), AllocError> {
+    assert_eq!(rt; order(rt.alloc(), b"a:2", b"b:1")?, Some(Ordering::Less));
+    assert_eq!(rt;
+        order(rt.alloc(), b"a:10", b"a:9")?,
+        Some(Ordering::Greater)
+    );
+    assert_eq!(rt; order(rt.alloc(), b"a:1", b"a:1")?, Some(Ordering::Equal));
     Ok(())
 }

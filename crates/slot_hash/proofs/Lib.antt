@@ -1,3 +1,4 @@
 mod Register
 mod Entries
 mod Text
+pub mod Order

@@ -1,5 +1,5 @@
 -- The address of a node, as a text.
-use Rattle.std.specs.Prelude.{ℕ, suc, ◌-◌, ◌==◌, ◌&&◌, ◌||◌, nat_lt, nat_le, List, [], ◌∷◌, length, take, drop, get_or, Option, Some, None, if◌then◌else◌}
+use Rattle.std.specs.Prelude.{ℕ, suc, ◌-◌, ◌==◌, ◌&&◌, ◌||◌, nat_lt, nat_le, List, [], ◌∷◌, ◌++◌, length, take, drop, get_or, decimal, Option, Some, None, if◌then◌else◌}
 use Rattle.std.specs.Str.{is_utf8, all_ascii_digits}
 use Rattle.std.specs.Str.Parse.{digits_value}
 use Rattle.slot_hash.specs.declared.address.NodeAddress.{NodeAddress}
@@ -32,3 +32,7 @@ address_of text =
     if is_utf8 text && nat_lt 0 (end_of_last 58 text)
     then joined (bare (take (end_of_last 58 text - 1) text)) (port_of (drop (end_of_last 58 text) text))
     else None
+
+-- the text of an address: the host, a colon, and the port in decimal digits
+abbrev pub address_text : NodeAddress → List ℕ
+address_text a = a.host ++ 58 ∷ decimal a.port

@@ -1,3 +1,5 @@
 pub mod Address
 pub mod Crc
+pub mod Order
+pub mod OrderLaws
 pub mod Tag

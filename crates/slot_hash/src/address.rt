@@ -1,9 +1,12 @@
 ghost use Rattle.std.specs.Prelude.{◌≡◌, IfOk, IsErrOf, Some, None};
-ghost use Rattle.slot_hash.specs.Address.{address_of};
+ghost use Rattle.slot_hash.specs.Address.{address_of, address_text};
 
 use crate::reading::{bare, end_of_last, is_text, port};
 use containers::{Bytes, TryClone};
+use itoa::Buffer;
 use std::alloc::{AllocError, Global};
+use std::fmt;
+use thiserror::Error;
 
 /// Where a node is reached.
 #[derive(Drop)]
@@ -13,10 +16,12 @@ pub struct NodeAddress {
 }
 
 /// Why a text gives no address.
-#[derive(Clone, Copy, Debug, PartialEq, Eq)]
+#[derive(Clone, Copy, Debug, PartialEq, Eq, Error)]
 pub enum AddressError {
     /// The text isn't UTF-8, or it has no colon, no host before the last colon, or no port after it.
+    #[error("the text is no address of a node")]
     Invalid,
+    #[error("out of memory")]
     NoMemory,
 }
 
@@ -61,6 +66,30 @@ impl NodeAddress {
             host,
             port: self.port,
         })
+    }
+
+    /// The text of this address: the host, a colon, and the port in decimal digits.
+    pub fn text(&self, alloc: Global) -> Result<Bytes, AllocError>
+        ensures { IfOk result (λ text. text ≡ address_text self.now) }
+    {
+        let mut text = self.host.clone(alloc)?;
+        text.push(b':')?;
+        let mut digits = Buffer::new();
+        text.extend_from_slice(digits.format(self.port).as_bytes())?;
+        Ok(text)
+    }
+}
+
+/// The same text, with the bytes of the host that aren't printable escaped.
+impl fmt::Display for NodeAddress {
+    fn fmt<W: fmt::Write>(&self, f: &mut fmt::Formatter<W>) -> fmt::Result {
+        write!(f, "{}:{}", self.host.as_slice().escape_ascii(), self.port)
+    }
+}
+
+impl fmt::Debug for NodeAddress {
+    fn fmt<W: fmt::Write>(&self, f: &mut fmt::Formatter<W>) -> fmt::Result {
+        fmt::Display::fmt(self, f)
     }
 }
 

@@ -2,6 +2,7 @@
 #![tactic(auto)]
 
 mod address;
+mod address_order;
 mod reading;
 mod slot;
 mod table;

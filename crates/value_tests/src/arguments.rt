@@ -77,64 +77,26 @@ const FLOATS: [(f64, &[&[u8]]); 10] = [
     (f64::NAN, &[b"NaN"]),
 ];
 
-const SCORES: [(&[(f64, &str)], &[&[u8]]); 1] = [(
-    &[(1.5, "a"), (-2.0, "b")],
-    &[b"1.5", b"a", b"-2.0", b"b"],
-)];
-
-fn are_floats_written(alloc: Global, floats: &[f64], wanted: &[&[u8]]) -> Result<bool, AllocError> {
-    let vector = Vec::from_slice(alloc, floats)?;
-    is_written(alloc, &vector, wanted)
+fn are_numbers_written(alloc: Global) -> Result<bool, AllocError> {
+    Ok(
+        are_written(alloc, &I8)?
+            && are_written(alloc, &I16)?
+            && are_written(alloc, &I32)?
+            && are_written(alloc, &I64)?
+            && are_written(alloc, &ISIZE)?
+            && are_written(alloc, &FLOATS)?,
+    )
 }
 
-#[test]
-fn floats_become_short_texts(rt: HostRuntime) -> Result<(), AllocError> {
-    let alloc = rt.alloc();
-    let floats = are_written(alloc, &FLOATS)?;
-    assert!(rt; floats);
-    let scores = are_written(alloc, &SCORES)?;
-    assert!(rt; scores);
-    let vector = are_floats_written(alloc, &[0.5, 2.0], &[b"0.5", b"2.0"])?;
-    assert!(rt; vector);
-    Ok(())
-}
-
-fn are_small_written(alloc: Global) -> Result<bool, AllocError> {
-    Ok(are_written(alloc, &I8)? && are_written(alloc, &I16)? && are_written(alloc, &I32)?)
-}
-
-fn are_large_written(alloc: Global) -> Result<bool, AllocError> {
-    Ok(are_written(alloc, &I64)? && are_written(alloc, &ISIZE)?)
-}
-
-fn are_small_counts_written(alloc: Global) -> Result<bool, AllocError> {
-    Ok(are_written(alloc, &U8)? && are_written(alloc, &U16)? && are_written(alloc, &U32)?)
-}
-
-fn are_large_counts_written(alloc: Global) -> Result<bool, AllocError> {
-    Ok(are_written(alloc, &U64)? && are_written(alloc, &USIZE)?)
-}
-
-#[test]
-fn numbers_become_their_digits(rt: HostRuntime) -> Result<(), AllocError> {
-    let alloc = rt.alloc();
-    let small = are_small_written(alloc)?;
-    assert!(rt; small);
-    let large = are_large_written(alloc)?;
-    assert!(rt; large);
-    let truths = are_written(alloc, &TRUTHS)?;
-    assert!(rt; truths);
-    Ok(())
-}
-
-#[test]
-fn counts_become_their_digits(rt: HostRuntime) -> Result<(), AllocError> {
-    let alloc = rt.alloc();
-    let small = are_small_counts_written(alloc)?;
-    assert!(rt; small);
-    let large = are_large_counts_written(alloc)?;
-    assert!(rt; large);
-    Ok(())
+fn are_counts_written(alloc: Global) -> Result<bool, AllocError> {
+    Ok(
+        are_written(alloc, &TRUTHS)?
+            && are_written(alloc, &U8)?
+            && are_written(alloc, &U16)?
+            && are_written(alloc, &U32)?
+            && are_written(alloc, &U64)?
+            && are_written(alloc, &USIZE)?,
+    )
 }
 
 const TEXTS: [(&str, &[&[u8]]); 2] = [("", &[b""]), ("yz", &[b"yz"])];
@@ -143,8 +105,21 @@ const BYTES: [(&[u8], &[&[u8]]); 2] = [(b"", &[b""]), (b"X\r\n", &[b"X\r\n"])];
 
 const OPTIONS: [(Option<u16>, &[&[u8]]); 2] = [(None, &[]), (Some(7), &[b"7"])];
 
-fn are_lent_written(alloc: Global) -> Result<bool, AllocError> {
-    Ok(are_written(alloc, &TEXTS)? && are_written(alloc, &BYTES)? && are_written(alloc, &OPTIONS)?)
+const NUMBERS: [(&[i64], &[&[u8]]); 2] = [(&[], &[]), (&[3, -4], &[b"3", b"-4"])];
+
+const KEYS: [(&[&str], &[&[u8]]); 1] = [(&["a", "", "b"], &[b"a", b"", b"b"])];
+
+const LEFT_OUT: [(&[Option<bool>], &[&[u8]]); 1] = [(&[None, Some(true), None], &[b"1"])];
+
+fn are_texts_written(alloc: Global) -> Result<bool, AllocError> {
+    Ok(
+        are_written(alloc, &TEXTS)?
+            && are_written(alloc, &BYTES)?
+            && are_written(alloc, &OPTIONS)?
+            && are_written(alloc, &NUMBERS)?
+            && are_written(alloc, &KEYS)?
+            && are_written(alloc, &LEFT_OUT)?,
+    )
 }
 
 fn are_bytes_written(alloc: Global, bytes: &[u8]) -> Result<bool, AllocError> {
@@ -162,37 +137,7 @@ fn is_string_written(alloc: Global, text: &str) -> Result<bool, AllocError> {
     is_written(alloc, &string, &[text.as_bytes()])
 }
 
-#[test]
-fn texts_are_one_argument(rt: HostRuntime) -> Result<(), AllocError> {
-    let alloc = rt.alloc();
-    let lent = are_lent_written(alloc)?;
-    assert!(rt; lent);
-    let bytes = are_bytes_written(alloc, b"a\0")?;
-    assert!(rt; bytes);
-    let vector = is_vector_written(alloc, b"12")?;
-    assert!(rt; vector);
-    let string = is_string_written(alloc, "12")?;
-    assert!(rt; string);
-    Ok(())
-}
-
-const NUMBERS: [(&[i64], &[&[u8]]); 2] = [(&[], &[]), (&[3, -4], &[b"3", b"-4"])];
-
-const KEYS: [(&[&str], &[&[u8]]); 1] = [(&["a", "", "b"], &[b"a", b"", b"b"])];
-
-const FIELDS: [(&[(&str, u8)], &[&[u8]]); 1] = [(&[("a", 1), ("b", 2)], &[b"a", b"1", b"b", b"2"])];
-
-const LEFT_OUT: [(&[Option<bool>], &[&[u8]]); 1] = [(&[None, Some(true), None], &[b"1"])];
-
-fn are_slices_written(alloc: Global) -> Result<bool, AllocError> {
-    Ok(are_written(alloc, &NUMBERS)? && are_written(alloc, &KEYS)?)
-}
-
-fn are_parts_written(alloc: Global) -> Result<bool, AllocError> {
-    Ok(are_written(alloc, &FIELDS)? && are_written(alloc, &LEFT_OUT)?)
-}
-
-fn are_numbers_written(alloc: Global, wanted: &[&[u8]]) -> Result<bool, AllocError> {
+fn are_elements_written(alloc: Global, wanted: &[&[u8]]) -> Result<bool, AllocError> {
     let vector = Vec::from_slice(alloc, &[5u16, 6])?;
     is_written(alloc, &vector, wanted)
 }
@@ -202,46 +147,58 @@ fn are_names_written(alloc: Global, wanted: &[&[u8]]) -> Result<bool, AllocError
     is_written(alloc, &names, wanted)
 }
 
-#[test]
-fn elements_become_arguments_in_order(rt: HostRuntime) -> Result<(), AllocError> {
-    let alloc = rt.alloc();
-    let slices = are_slices_written(alloc)?;
-    assert!(rt; slices);
-    let parts = are_parts_written(alloc)?;
-    assert!(rt; parts);
-    let vector = are_numbers_written(alloc, &[b"5", b"6"])?;
-    assert!(rt; vector);
-    let names = are_names_written(alloc, &[b"n", b""])?;
-    assert!(rt; names);
-    Ok(())
+fn are_owned_written(alloc: Global) -> Result<bool, AllocError> {
+    Ok(
+        are_bytes_written(alloc, b"a\0")?
+            && is_vector_written(alloc, b"12")?
+            && is_string_written(alloc, "12")?
+            && are_elements_written(alloc, &[b"5", b"6"])?
+            && are_names_written(alloc, &[b"n", b""])?,
+    )
+}
+
+const TWO: [((&str, u32), &[&[u8]]); 1] = [(("EX", 5), &[b"EX", b"5"])];
+
+const THREE: [((u8, &str, i8), &[&[u8]]); 1] = [((1, "a", -1), &[b"1", b"a", b"-1"])];
+
+const FOUR: [((bool, bool, Option<u8>, &str), &[&[u8]]); 1] = [(
+    (true, false, None, "x"),
+    &[b"1", b"0", b"x"],
+)];
+
+const FIVE: [((u8, u8, u8, u8, u8), &[&[u8]]); 1] = [(
+    (1, 2, 3, 4, 5),
+    &[b"1", b"2", b"3", b"4", b"5"],
+)];
+
+const SIX: [((&str, (&str, u8), &str, &str, &str, &str), &[&[u8]]); 1] = [(
+    ("a", ("b", 1), "c", "d", "e", "f"),
+    &[b"a", b"b", b"1", b"c", b"d", b"e", b"f"],
+)];
+
+const SCORES: [(&[(f64, &str)], &[&[u8]]); 1] = [(
+    &[(1.5, "a"), (-2.0, "b")],
+    &[b"1.5", b"a", b"-2.0", b"b"],
+)];
+
+fn are_tuples_written(alloc: Global) -> Result<bool, AllocError> {
+    Ok(
+        are_written(alloc, &TWO)?
+            && are_written(alloc, &THREE)?
+            && are_written(alloc, &FOUR)?
+            && are_written(alloc, &FIVE)?
+            && are_written(alloc, &SIX)?
+            && are_written(alloc, &SCORES)?,
+    )
 }
 
 #[test]
-fn short_tuples_become_arguments_in_order(rt: HostRuntime) -> Result<(), AllocError> {
+fn values_become_arguments(rt: HostRuntime) -> Result<(), AllocError> {
     let alloc = rt.alloc();
-    let two = is_written(alloc, &("EX", 5u32), &[b"EX", b"5"])?;
-    assert!(rt; two);
-    let three = is_written(alloc, &(1u8, "a", -1i8), &[b"1", b"a", b"-1"])?;
-    assert!(rt; three);
-    let four = is_written(alloc, &(true, false, None::<u8>, "x"), &[b"1", b"0", b"x"])?;
-    assert!(rt; four);
-    Ok(())
-}
-
-#[test]
-fn long_tuples_become_arguments_in_order(rt: HostRuntime) -> Result<(), AllocError> {
-    let alloc = rt.alloc();
-    let five = is_written(
-        alloc,
-        &(1u8, 2u8, 3u8, 4u8, 5u8),
-        &[b"1", b"2", b"3", b"4", b"5"],
-    )?;
-    assert!(rt; five);
-    let six = is_written(
-        alloc,
-        &("a", ("b", 1u8), "c", "d", "e", "f"),
-        &[b"a", b"b", b"1", b"c", b"d", b"e", b"f"],
-    )?;
-    assert!(rt; six);
+    assert!(rt; are_numbers_written(alloc)?);
+    assert!(rt; are_counts_written(alloc)?);
+    assert!(rt; are_texts_written(alloc)?);
+    assert!(rt; are_owned_written(alloc)?);
+    assert!(rt; are_tuples_written(alloc)?);
     Ok(())
 }

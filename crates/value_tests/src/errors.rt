@@ -3,225 +3,6 @@ use redis_error::{ConfigName, ErrorKind, FaultKind, RedisError, RouteNumbers};
 use resp_value::{Aborts, RetryMethod, ServerError, ServerErrorKind, Value};
 use std::alloc::{AllocError, Global};
 use std::fmt::InlineText;
-use std::test::Fail;
-
-/// What the methods of an error say of it.
-#[derive(Clone, Copy)]
-struct Said {
-    kind: ErrorKind,
-    method: RetryMethod,
-    dropped: bool,
-    text: &'static str,
-}
-
-/// Faults of links: their methods, whether they are drops, and their texts.
-const FAULTS: [(FaultKind, RetryMethod, bool, &'static str); 10] = [
-    (
-        FaultKind::Refused,
-        RetryMethod::Reconnect,
-        false,
-        "the link failed: refused",
-    ),
-    (
-        FaultKind::Reset,
-        RetryMethod::Reconnect,
-        true,
-        "the link failed: reset",
-    ),
-    (
-        FaultKind::Aborted,
-        RetryMethod::Reconnect,
-        false,
-        "the link failed: aborted",
-    ),
-    (
-        FaultKind::NotConnected,
-        RetryMethod::Reconnect,
-        false,
-        "the link failed: not-connected",
-    ),
-    (
-        FaultKind::BrokenPipe,
-        RetryMethod::Reconnect,
-        true,
-        "the link failed: broken-pipe",
-    ),
-    (
-        FaultKind::Eof,
-        RetryMethod::Reconnect,
-        true,
-        "the link failed: eof",
-    ),
-    (
-        FaultKind::TimedOut,
-        RetryMethod::RetryImmediately,
-        false,
-        "the reply did not come in time",
-    ),
-    (
-        FaultKind::Interrupted,
-        RetryMethod::RetryImmediately,
-        false,
-        "the link failed: interrupted",
-    ),
-    (
-        FaultKind::Denied,
-        RetryMethod::NoRetry,
-        false,
-        "the link failed: denied",
-    ),
-    (
-        FaultKind::Other,
-        RetryMethod::NoRetry,
-        false,
-        "the link failed: other",
-    ),
-];
-
-/// Codes of servers: their kinds, their methods, and the texts of errors.
-const SERVER: [(&[u8], ServerErrorKind, RetryMethod, &'static str); 10] = [
-    (
-        b"MOVED",
-        ServerErrorKind::Moved,
-        RetryMethod::MovedRedirect,
-        "MOVED 7 h:1",
-    ),
-    (
-        b"ASK",
-        ServerErrorKind::Ask,
-        RetryMethod::AskRedirect,
-        "ASK 7 h:1",
-    ),
-    (
-        b"READONLY",
-        ServerErrorKind::ReadOnly,
-        RetryMethod::RefreshSlotsAndRetry,
-        "READONLY 7 h:1",
-    ),
-    (
-        b"TRYAGAIN",
-        ServerErrorKind::TryAgain,
-        RetryMethod::WaitAndRetry,
-        "TRYAGAIN 7 h:1",
-    ),
-    (
-        b"CLUSTERDOWN",
-        ServerErrorKind::ClusterDown,
-        RetryMethod::WaitAndRetry,
-        "CLUSTERDOWN 7 h:1",
-    ),
-    (
-        b"LOADING",
-        ServerErrorKind::BusyLoading,
-        RetryMethod::WaitAndRetry,
-        "LOADING 7 h:1",
-    ),
-    (
-        b"MASTERDOWN",
-        ServerErrorKind::MasterDown,
-        RetryMethod::WaitAndRetry,
-        "MASTERDOWN 7 h:1",
-    ),
-    (
-        b"CROSSSLOT",
-        ServerErrorKind::CrossSlot,
-        RetryMethod::NoRetry,
-        "CROSSSLOT 7 h:1",
-    ),
-    (
-        b"ERR",
-        ServerErrorKind::ResponseError,
-        RetryMethod::NoRetry,
-        "ERR 7 h:1",
-    ),
-    (b"", ServerErrorKind::Other, RetryMethod::NoRetry, " 7 h:1"),
-];
-
-fn server_error(alloc: Global, code: &[u8]) -> Result<ServerError, AllocError> {
-    let code = Bytes::from_slice(alloc, code)?;
-    let detail = Some(Bytes::from_slice(alloc, b"7 h:1")?);
-    Ok(ServerError { code, detail })
-}
-
-fn of_server(alloc: Global, code: &[u8]) -> Result<RedisError, AllocError> {
-    Ok(RedisError::Server(server_error(alloc, code)?))
-}
-
-/// Whether an error is of this kind, and whether it counts as one of the link.
-fn is_of_kind(error: &RedisError, kind: ErrorKind, dropped: bool) -> bool {
-    error.kind() == kind
-        && error.is_io_error() == (kind == ErrorKind::Io)
-        && error.is_connection_dropped() == dropped
-}
-
-/// Whether what failed by an error is tried again in this way.
-fn has_method(error: &RedisError, method: RetryMethod) -> bool {
-    let unrecoverable = matches!(
-        method,
-        RetryMethod::Reconnect | RetryMethod::ReconnectFromInitialConnections
-    );
-    error.retry_method() == method && error.is_unrecoverable_error() == unrecoverable
-}
-
-fn has_text(error: &RedisError, text: &str) -> bool {
-    InlineText::<80>::of(error).as_str() == text
-}
-
-fn is_said(error: &RedisError, said: Said) -> bool {
-    is_of_kind(error, said.kind, said.dropped)
-        && has_method(error, said.method)
-        && has_text(error, said.text)
-}
-
-/// Whether that is said of a copy of an error.
-fn is_said_of_copy(alloc: Global, error: &RedisError, said: Said) -> Result<bool, AllocError> {
-    let copy = error.clone(alloc)?;
-    Ok(is_said(&copy, said))
-}
-
-/// Whether that is said of an error, and of a copy of it.
-fn holds(alloc: Global, error: RedisError, said: Said) -> Result<bool, AllocError> {
-    Ok(is_said(&error, said) && is_said_of_copy(alloc, &error, said)?)
-}
-
-#[test]
-fn faults_have_methods(rt: HostRuntime) -> Result<(), Fail> {
-    let alloc = rt.alloc();
-    for (fault, method, dropped, text) in FAULTS {
-        let kind = ErrorKind::Io;
-        let said = Said {
-            kind,
-            method,
-            dropped,
-            text,
-        };
-        let same = holds(alloc, RedisError::Io { fault }, said)?;
-        assert!(rt; same, "{}", text);
-    }
-    Ok(())
-}
-
-/// Whether that is said of a server's error with this code.
-fn server_holds(alloc: Global, code: &[u8], said: Said) -> Result<bool, AllocError> {
-    let error = of_server(alloc, code)?;
-    holds(alloc, error, said)
-}
-
-#[test]
-fn server_errors_go_by_their_codes(rt: HostRuntime) -> Result<(), Fail> {
-    let alloc = rt.alloc();
-    for (code, kind, method, text) in SERVER {
-        let said = Said {
-            kind: ErrorKind::Server(kind),
-            method,
-            dropped: false,
-            text,
-        };
-        let same = server_holds(alloc, code, said)?;
-        assert!(rt; same, "{}", text);
-    }
-    Ok(())
-}
 
 /// An error that owns nothing.
 #[derive(Clone, Copy)]
@@ -235,6 +16,8 @@ enum Plain {
     Config,
     CrossSlot,
     TurnsSpent,
+    Convert,
+    Io(FaultKind),
 }
 
 fn plain_error(of: Plain) -> RedisError {
@@ -257,153 +40,92 @@ fn plain_error(of: Plain) -> RedisError {
             }
         }
         Plain::TurnsSpent => RedisError::TurnsSpent { turns: 2 },
+        Plain::Convert => {
+            RedisError::Convert {
+                value: Value::Boolean(true),
+            }
+        }
+        Plain::Io(fault) => RedisError::Io { fault },
     }
 }
 
-/// Errors that own nothing, and what is said of them.
-const PLAIN: [(Plain, ErrorKind, RetryMethod, &'static str); 9] = [
-    (
-        Plain::Closed,
-        ErrorKind::Io,
-        RetryMethod::Reconnect,
-        "the connection is closed",
-    ),
+fn has_text(error: &RedisError, text: &str) -> bool {
+    InlineText::<80>::of(error).as_str() == text
+}
+
+/// Whether people are told this of an error.
+fn is_plain_told(of: Plain, text: &str) -> bool {
+    has_text(&plain_error(of), text)
+}
+
+/// Errors that own nothing, and what people are told.
+const PLAIN: [(Plain, &str); 20] = [
+    (Plain::Closed, "the connection is closed"),
     (
         Plain::Client,
-        ErrorKind::Client,
-        RetryMethod::NoRetry,
         "automatic resubscription needs a push sender",
     ),
-    (
-        Plain::Resp3Required,
-        ErrorKind::Resp3Required,
-        RetryMethod::NoRetry,
-        "subscriptions need RESP3",
-    ),
-    (
-        Plain::EmptyCommand,
-        ErrorKind::EmptyCommand,
-        RetryMethod::NoRetry,
-        "the request has no command",
-    ),
-    (
-        Plain::Parse,
-        ErrorKind::Parse,
-        RetryMethod::Reconnect,
-        "the reply can not be read",
-    ),
-    (
-        Plain::NotFound,
-        ErrorKind::ClusterConnectionNotFound,
-        RetryMethod::ReconnectFromInitialConnections,
-        "no link serves the request",
-    ),
-    (
-        Plain::Config,
-        ErrorKind::InvalidClientConfig,
-        RetryMethod::NoRetry,
-        "the configuration is refused: database",
-    ),
-    (
-        Plain::CrossSlot,
-        ErrorKind::Server(ServerErrorKind::CrossSlot),
-        RetryMethod::NoRetry,
-        "the pipeline has the slots 7 and 12182",
-    ),
+    (Plain::Resp3Required, "subscriptions need RESP3"),
+    (Plain::EmptyCommand, "the request has no command"),
+    (Plain::Parse, "the reply can not be read"),
+    (Plain::NotFound, "no link serves the request"),
+    (Plain::Config, "the configuration is refused: database"),
+    (Plain::CrossSlot, "the pipeline has the slots 7 and 12182"),
     (
         Plain::TurnsSpent,
-        ErrorKind::TurnsSpent,
-        RetryMethod::NoRetry,
         "the transaction had no answer in 2 turns",
     ),
+    (
+        Plain::Convert,
+        "the value is of another type: boolean(true)",
+    ),
+    (Plain::Io(FaultKind::Refused), "the link failed: refused"),
+    (Plain::Io(FaultKind::Reset), "the link failed: reset"),
+    (Plain::Io(FaultKind::Aborted), "the link failed: aborted"),
+    (
+        Plain::Io(FaultKind::NotConnected),
+        "the link failed: not-connected",
+    ),
+    (
+        Plain::Io(FaultKind::BrokenPipe),
+        "the link failed: broken-pipe",
+    ),
+    (Plain::Io(FaultKind::Eof), "the link failed: eof"),
+    (
+        Plain::Io(FaultKind::TimedOut),
+        "the reply did not come in time",
+    ),
+    (
+        Plain::Io(FaultKind::Interrupted),
+        "the link failed: interrupted",
+    ),
+    (Plain::Io(FaultKind::Denied), "the link failed: denied"),
+    (Plain::Io(FaultKind::Other), "the link failed: other"),
 ];
 
-#[test]
-fn errors_without_texts_are_told_apart(rt: HostRuntime) -> Result<(), Fail> {
-    let alloc = rt.alloc();
-    for (of, kind, method, text) in PLAIN {
-        let said = Said {
-            kind,
-            method,
-            dropped: matches!(of, Plain::Closed),
-            text,
-        };
-        let same = holds(alloc, plain_error(of), said)?;
-        assert!(rt; same, "{}", text);
-    }
-    Ok(())
-}
-
-/// An error that owns a text.
+/// An error that owns a text, a server's error, or a list.
 #[derive(Clone, Copy)]
-enum Texted {
+enum Owning {
     Create,
     Authentication,
     Credentials,
-}
-
-fn text_error(alloc: Global, of: Texted, text: &[u8]) -> Result<RedisError, AllocError> {
-    let text = Bytes::from_slice(alloc, text)?;
-    Ok(match of {
-        Texted::Create => RedisError::CreateFailed { last: text },
-        Texted::Authentication => RedisError::AuthFailed { text },
-        Texted::Credentials => RedisError::Credentials { text },
-    })
-}
-
-/// Whether that is said of an error with this text.
-fn text_holds(alloc: Global, of: Texted, text: &[u8], said: Said) -> Result<bool, AllocError> {
-    let error = text_error(alloc, of, text)?;
-    holds(alloc, error, said)
-}
-
-/// Errors that own texts, and what is said of them.
-const TEXTED: [(Texted, &[u8], ErrorKind, RetryMethod, &'static str); 3] = [
-    (
-        Texted::Create,
-        b"io refused",
-        ErrorKind::Io,
-        RetryMethod::NoRetry,
-        "no initial node could be reached: io refused",
-    ),
-    (
-        Texted::Authentication,
-        b"WRONGPASS\n",
-        ErrorKind::AuthenticationFailed,
-        RetryMethod::Reconnect,
-        "authentication failed: WRONGPASS\\n",
-    ),
-    (
-        Texted::Credentials,
-        b"gone",
-        ErrorKind::Credentials,
-        RetryMethod::NoRetry,
-        "there are no credentials: gone",
-    ),
-];
-
-#[test]
-fn errors_with_texts_are_told_apart(rt: HostRuntime) -> Result<(), Fail> {
-    let alloc = rt.alloc();
-    for (of, owned, kind, method, text) in TEXTED {
-        let said = Said {
-            kind,
-            method,
-            dropped: false,
-            text,
-        };
-        let same = text_holds(alloc, of, owned, said)?;
-        assert!(rt; same, "{}", text);
-    }
-    Ok(())
-}
-
-/// An error that owns values or numbers.
-#[derive(Clone, Copy)]
-enum Listed {
-    Routes,
-    Value,
+    Server,
     Refusals,
+    Routes,
+}
+
+fn server_error(alloc: Global, code: &[u8], detail: &[u8]) -> Result<ServerError, AllocError> {
+    let code = Bytes::from_slice(alloc, code)?;
+    let detail = Some(Bytes::from_slice(alloc, detail)?);
+    Ok(ServerError { code, detail })
+}
+
+/// An error of one command that was refused.
+fn aborted(alloc: Global) -> Result<RedisError, AllocError> {
+    let mut errors = Aborts::new(alloc);
+    let refusal = server_error(alloc, b"ERR", b"no")?;
+    errors.push((1, refusal))?;
+    Ok(RedisError::Aborted { errors })
 }
 
 /// An error of two routes.
@@ -414,134 +136,112 @@ fn without_links(alloc: Global) -> Result<RedisError, AllocError> {
     Ok(RedisError::RouteWithoutLink { routes })
 }
 
-/// An error of one command that was refused.
-fn aborted(alloc: Global) -> Result<RedisError, AllocError> {
-    let mut errors = Aborts::new(alloc);
-    let refusal = server_error(alloc, b"ERR")?;
-    errors.push((1, refusal))?;
-    Ok(RedisError::Aborted { errors })
-}
-
-fn list_error(alloc: Global, of: Listed) -> Result<RedisError, AllocError> {
+fn owning_error(alloc: Global, of: Owning) -> Result<RedisError, AllocError> {
+    let text = Bytes::from_slice(alloc, b"gone\n")?;
     match of {
-        Listed::Routes => without_links(alloc),
-        Listed::Value => {
-            Ok(RedisError::Convert {
-                value: Value::Boolean(true),
-            })
-        }
-        Listed::Refusals => aborted(alloc),
+        Owning::Create => Ok(RedisError::CreateFailed { last: text }),
+        Owning::Authentication => Ok(RedisError::AuthFailed { text }),
+        Owning::Credentials => Ok(RedisError::Credentials { text }),
+        Owning::Server => Ok(RedisError::Server(server_error(alloc, b"MOVED", b"7 h:1")?)),
+        Owning::Refusals => aborted(alloc),
+        Owning::Routes => without_links(alloc),
     }
 }
 
-/// Whether that is said of an error that owns values or numbers.
-fn list_holds(alloc: Global, of: Listed, said: Said) -> Result<bool, AllocError> {
-    let error = list_error(alloc, of)?;
-    holds(alloc, error, said)
+fn is_copy_told(alloc: Global, error: &RedisError, text: &str) -> Result<bool, AllocError> {
+    let copy = error.clone(alloc)?;
+    Ok(has_text(&copy, text))
 }
 
-/// Errors that own values or numbers, and what is said of them.
-const LISTED: [(Listed, ErrorKind, &'static str); 3] = [
+/// Whether people are told this of an error, and of a copy of it.
+fn is_told(alloc: Global, of: Owning, text: &str) -> Result<bool, AllocError> {
+    let error = owning_error(alloc, of)?;
+    Ok(has_text(&error, text) && is_copy_told(alloc, &error, text)?)
+}
+
+/// Errors that own something, and what people are told.
+const OWNING: [(Owning, &str); 6] = [
+    (Owning::Create, "no initial node could be reached: gone\\n"),
+    (Owning::Authentication, "authentication failed: gone\\n"),
+    (Owning::Credentials, "there are no credentials: gone\\n"),
+    (Owning::Server, "MOVED 7 h:1"),
     (
-        Listed::Routes,
-        ErrorKind::RouteWithoutLink,
-        "2 routes have no link",
+        Owning::Refusals,
+        "the transaction is aborted: command 1 was refused: ERR no",
     ),
-    (
-        Listed::Value,
-        ErrorKind::UnexpectedReturnType,
-        "the value is of another type: boolean(true)",
-    ),
-    (
-        Listed::Refusals,
-        ErrorKind::Server(ServerErrorKind::ExecAbort),
-        "the transaction is aborted: command 1 was refused: ERR 7 h:1",
-    ),
+    (Owning::Routes, "2 routes have no link"),
 ];
 
 #[test]
-fn errors_with_lists_are_told_apart(rt: HostRuntime) -> Result<(), Fail> {
-    let alloc = rt.alloc();
-    for (of, kind, text) in LISTED {
-        let said = Said {
-            kind,
-            method: RetryMethod::NoRetry,
-            dropped: false,
-            text,
-        };
-        let same = list_holds(alloc, of, said)?;
-        assert!(rt; same, "{}", text);
+fn people_are_told_of_errors(rt: HostRuntime) -> Result<(), AllocError> {
+    for (of, text) in PLAIN {
+        assert!(rt; is_plain_told(of, text), "{text}");
+    }
+    for (of, text) in OWNING {
+        assert!(rt; is_told(rt.alloc(), of, text)?, "{text}");
     }
     Ok(())
 }
 
-/// Whether an error leads to slot 7 at this address, for all commands to come.
-fn leads_on(error: &RedisError) -> bool {
-    match error.redirect_node() {
-        Some(to) => to.slot == 7 && to.address == b"h:1".as_slice() && !to.ask,
-        None => false,
-    }
+/// What an error of a reply that didn't come in time is about, and how its request is tried again.
+fn is_late(error: &RedisError) -> bool {
+    error.kind() == ErrorKind::Io
+        && error.retry_method() == RetryMethod::RetryImmediately
+        && error.is_timeout()
 }
 
-/// Whether a server's error with this code leads on.
-fn code_leads_on(alloc: Global, code: &[u8]) -> Result<bool, AllocError> {
-    let error = of_server(alloc, code)?;
-    Ok(leads_on(&error))
+/// Whether an error is one of the link, which wasn't dropped and can be used again.
+fn keeps_link(error: &RedisError) -> bool {
+    error.is_io_error() && !error.is_connection_dropped() && !error.is_unrecoverable_error()
 }
 
-/// Whether a server's error with this code leads to no node.
-fn leads_nowhere(alloc: Global, code: &[u8]) -> Result<bool, AllocError> {
-    let error = of_server(alloc, code)?;
-    Ok(error.redirect_node().is_none())
+/// What they say of a server's error that leads to another node.
+fn has_moved(error: &RedisError) -> bool {
+    error.kind() == ErrorKind::Server(ServerErrorKind::Moved)
+        && error.code() == Some(b"MOVED".as_slice())
+        && error.detail() == Some(b"7 h:1".as_slice())
 }
 
-#[test]
-fn only_server_errors_are_redirects(rt: HostRuntime) -> Result<(), Fail> {
-    let alloc = rt.alloc();
-    let moved = code_leads_on(alloc, b"MOVED")?;
-    assert!(rt; moved);
-    let other = leads_nowhere(alloc, b"ERR")?;
-    assert!(rt; other);
-    assert!(rt; RedisError::Closed.redirect_node().is_none());
-    Ok(())
+fn is_moved(alloc: Global) -> Result<bool, AllocError> {
+    let error = owning_error(alloc, Owning::Server)?;
+    Ok(has_moved(&error) && error.redirect_node().is_some_and(|to| to.slot == 7))
 }
 
-/// Whether a server's error tells its code and its detail.
-fn tells_its_parts(alloc: Global) -> Result<bool, AllocError> {
-    let error = of_server(alloc, b"ERR")?;
-    let code = matches!(error.code(), Some(code) if code == b"ERR".as_slice());
-    let detail = matches!(error.detail(), Some(detail) if detail == b"7 h:1".as_slice());
-    Ok(code && detail)
-}
-
-/// Whether an error has neither a code nor a detail.
-fn has_no_parts(error: &RedisError) -> bool {
-    error.code().is_none() && error.detail().is_none()
-}
-
-/// Whether an error is shown with its name.
+/// Whether an error is shown to programmers with its name.
 fn is_shown(alloc: Global, error: &RedisError, wanted: &str) -> Result<bool, AllocError> {
     let shown = format!(in alloc; "{error:?}")?;
     Ok(shown.as_str() == wanted)
 }
 
-#[test]
-fn errors_tell_their_parts(rt: HostRuntime) -> Result<(), Fail> {
-    let alloc = rt.alloc();
-    let told = tells_its_parts(alloc)?;
-    assert!(rt; told);
-    assert!(rt; has_no_parts(&RedisError::Closed));
-    Ok(())
+/// Whether a reply that didn't come in time is so, and is shown so.
+fn is_late_shown(alloc: Global) -> Result<bool, AllocError> {
+    let late = plain_error(Plain::Io(FaultKind::TimedOut));
+    let told = is_late(&late) && keeps_link(&late);
+    Ok(told && is_shown(alloc, &late, "Io(the reply did not come in time)")?)
 }
 
+/// The slot and the address to which this detail of MOVED leads.
+fn leads(alloc: Global, detail: &[u8], wanted: Option<(u16, &[u8])>) -> Result<bool, AllocError> {
+    let error = server_error(alloc, b"MOVED", detail)?;
+    let found = error.redirect_node().map(|to| (to.slot, to.address));
+    Ok(found == wanted)
+}
+
+/// Details of MOVED, and where they lead.
+const LEADS: [(&[u8], Option<(u16, &[u8])>); 4] = [
+    (b"0016383  h:1", Some((16_383, b" h:1"))),
+    (b"7x h:1", None),
+    (b"+7 h:1", None),
+    (b"99999999999999999999 h:1", None),
+];
+
 #[test]
-fn late_replies_are_timeouts(rt: HostRuntime) -> Result<(), Fail> {
+fn errors_tell_their_parts(rt: HostRuntime) -> Result<(), AllocError> {
     let alloc = rt.alloc();
-    let fault = FaultKind::TimedOut;
-    assert!(rt; RedisError::Io { fault }.is_timeout());
-    assert!(rt; !RedisError::Closed.is_timeout());
-    let text = "Io(the reply did not come in time)";
-    let shown = is_shown(alloc, &RedisError::Io { fault }, text)?;
-    assert!(rt; shown);
+    assert!(rt; is_late_shown(alloc)?);
+    assert!(rt; is_moved(alloc)?);
+    for (detail, wanted) in LEADS {
+        assert!(rt; leads(alloc, detail, wanted)?);
+    }
     Ok(())
 }

@@ -4,16 +4,10 @@
 #[cfg(test)]
 mod arguments;
 #[cfg(test)]
-mod bytes;
+mod commands;
 #[cfg(test)]
 mod errors;
-#[cfg(test)]
-mod pipelines;
-#[cfg(test)]
-mod server_errors;
 #[cfg(test)]
 mod threads;
 #[cfg(test)]
 mod values;
-#[cfg(test)]
-mod writing;

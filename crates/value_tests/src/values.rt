@@ -1,169 +1,123 @@
 use containers::Bytes;
-use resp_value::{Inner, Pairs, PushKind, ServerError, Value, Values};
+use resp_read::Reader;
+use resp_value::{PushKind, Value};
+use resp_write::{canonical_text, write_value};
 use std::alloc::{AllocError, Global};
-use std::test::Fail;
 
-fn text(alloc: Global, bytes: &[u8]) -> Result<Bytes, AllocError> {
-    Bytes::from_slice(alloc, bytes)
-}
-
-fn error(alloc: Global) -> Result<ServerError, AllocError> {
-    let code = text(alloc, b"ERR")?;
-    let detail = Some(text(alloc, b"no")?);
-    Ok(ServerError { code, detail })
-}
-
-/// A number and an error.
-fn items(alloc: Global) -> Result<Values, AllocError> {
-    let mut items = Values::new(alloc);
-    items.push(Value::Int(7))?;
-    let error = Value::ServerError(error(alloc)?);
-    items.push(error)?;
-    Ok(items)
-}
-
-fn pair(alloc: Global) -> Result<Pairs, AllocError> {
-    let mut pairs = Pairs::new(alloc);
-    pairs.push(Value::Okay, Value::Nil)?;
-    Ok(pairs)
-}
-
-/// A value with one of each kind of part in it.
-fn nested(alloc: Global) -> Result<Value, AllocError> {
-    let items = Value::Array(items(alloc)?);
-    let inner = Inner::new(alloc, items)?;
-    let attributes = pair(alloc)?;
-    Ok(Value::Attribute { inner, attributes })
-}
-
-fn is_array_of_two(value: &Value) -> bool {
-    match value {
-        Value::Array(items) => items.len() == 2,
-        _ => false,
+/// The value of a text.
+fn value_of(alloc: Global, text: &[u8]) -> Result<Value, AllocError> {
+    let mut reader = Reader::new(alloc);
+    reader.feed(text)?;
+    match reader.next_value(alloc) {
+        Ok(Some(value)) => Ok(value),
+        Ok(None) | Err(_) => Err(AllocError),
     }
 }
 
-fn is_nested(value: &Value) -> bool {
-    match value {
-        Value::Attribute { inner, attributes } => {
-            is_array_of_two(inner.get()) && attributes.as_slice().len() == 1
-        }
-        _ => false,
-    }
+/// Whether a value has this text, where it is added behind another byte too.
+fn has_text(alloc: Global, value: &Value, wanted: &[u8]) -> Result<bool, AllocError> {
+    let mut all = Bytes::from_slice(alloc, b"=")?;
+    write_value(alloc, &mut all, value)?;
+    let text = canonical_text(alloc, value)?;
+    Ok(all.len() == wanted.len() + 1 && text.as_slice() == wanted)
 }
 
-/// Whether the copy of a value is nested like it, the same as it, and no other value.
-fn is_copied(alloc: Global) -> Result<bool, AllocError> {
-    let value = nested(alloc)?;
-    let copy = value.clone(alloc)?;
-    Ok(is_nested(&value) && is_nested(&copy) && value == copy && value != Value::Nil)
-}
-
-/// Whether a value shows all its parts.
-fn is_shown(alloc: Global, wanted: &str) -> Result<bool, AllocError> {
-    let value = nested(alloc)?;
+fn is_shown(alloc: Global, value: &Value, wanted: &str) -> Result<bool, AllocError> {
     let shown = format!(in alloc; "{value:?}")?;
     Ok(shown.as_str() == wanted)
 }
 
-#[test]
-fn copies_are_like_their_sources(rt: HostRuntime) -> Result<(), Fail> {
-    let alloc = rt.alloc();
-    let copied = is_copied(alloc)?;
-    assert!(rt; copied);
-    let text = "attribute(array(int(7), server-error(\"ERR\", \"no\")); ok: nil)";
-    let shown = is_shown(alloc, text)?;
-    assert!(rt; shown);
-    Ok(())
+/// Whether the copy of a value is the same value, and is shown so.
+fn is_copied(alloc: Global, value: &Value, wanted: &str) -> Result<bool, AllocError> {
+    let copy = value.clone(alloc)?;
+    Ok(copy == *value && is_shown(alloc, &copy, wanted)?)
 }
 
-fn is_error(extracted: &Result<Value, ServerError>, code: &[u8]) -> bool {
-    match extracted {
-        Ok(_) => false,
-        Err(error) => error.code.as_slice() == code,
-    }
+/// Whether the value of a text is shown so, itself and as a copy, and has that text.
+fn is(alloc: Global, text: &[u8], shown: &str) -> Result<bool, AllocError> {
+    let value = value_of(alloc, text)?;
+    Ok(has_text(alloc, &value, text)? && is_copied(alloc, &value, shown)?)
 }
 
-/// Whether the error within a value is extracted.
-fn is_extracted(alloc: Global) -> Result<bool, AllocError> {
-    let extracted = nested(alloc)?.extract_error();
-    Ok(is_error(&extracted, b"ERR"))
-}
-
-/// Whether a value without errors is kept.
-fn is_kept(alloc: Global) -> bool {
-    let extracted = Value::Array(Values::new(alloc)).extract_error();
-    matches!(&extracted, Ok(Value::Array(items)) if items.is_empty())
-}
-
-#[test]
-fn errors_are_extracted(rt: HostRuntime) -> Result<(), Fail> {
-    let alloc = rt.alloc();
-    let extracted = is_extracted(alloc)?;
-    assert!(rt; extracted);
-    assert!(rt; is_kept(alloc));
-    Ok(())
-}
-
-/// Whether a kind of a push has this name, and is shown so.
-fn is_kind(alloc: Global, kind: &PushKind, name: &[u8], wanted: &str) -> Result<bool, AllocError> {
-    let shown = format!(in alloc; "{kind:?}")?;
-    Ok(kind.name() == name && shown.as_str() == wanted)
-}
-
-/// Whether the copy of a kind is the same kind.
-fn is_kind_copied(alloc: Global, kind: &PushKind) -> Result<bool, AllocError> {
-    let copy = kind.clone(alloc)?;
-    Ok(copy == *kind)
-}
-
-/// Whether a kind with a name of its own is so, and is told apart from a known one.
-fn is_other_kind(alloc: Global, name: &[u8], shown: &str) -> Result<bool, AllocError> {
-    let kind = PushKind::Other(text(alloc, name)?);
-    let copied = is_kind_copied(alloc, &kind)?;
-    Ok(copied && kind != PushKind::Message && is_kind(alloc, &kind, name, shown)?)
-}
-
-/// Names of kinds that are not known, and how the kinds are shown.
-const OTHERS: [(&[u8], &str); 2] = [
-    (b"x\n", "other(\"x\\n\")"),
-    (b"message", "other(\"message\")"),
+/// Texts of values, each with how a programmer sees the value.
+const VALUES: [(&[u8], &str); 25] = [
+    (b"_\r\n", "nil"),
+    (b":0\r\n", "int(0)"),
+    (b":-7\r\n", "int(-7)"),
+    (b"#f\r\n", "boolean(false)"),
+    (b"#t\r\n", "boolean(true)"),
+    (b"+OK\r\n", "ok"),
+    (b"+x\r\n", "simple-string(\"x\")"),
+    (b"$0\r\n\r\n", "bulk-string(\"\")"),
+    (b"$3\r\na b\r\n", "bulk-string(\"a b\")"),
+    (b"$2\r\n\"\\\r\n", "bulk-string(\"\\\"\\\\\")"),
+    (b"$4\r\n\r\n\0\xff\r\n", "bulk-string(\"\\r\\n\\x00\\xff\")"),
+    (b",-1.50e3\r\n", "double(-1.50e3)"),
+    (b"(+0012\r\n", "big-number(+0012)"),
+    (b"=6\r\ntxt:ab\r\n", "verbatim-string(\"txt\", \"ab\")"),
+    (b"-ERR\r\n", "server-error(\"ERR\")"),
+    (b"-ERR no  such\r\n", "server-error(\"ERR\", \"no  such\")"),
+    (b"!7\r\nERR a\nb\r\n", "server-error(\"ERR\", \"a\\nb\")"),
+    (b"*0\r\n", "array()"),
+    (
+        b"*2\r\n:-7\r\n+x\r\n",
+        "array(int(-7), simple-string(\"x\"))",
+    ),
+    (b"~2\r\n:-7\r\n_\r\n", "set(int(-7), nil)"),
+    (
+        b"%2\r\n#t\r\n_\r\n:1\r\n:2\r\n",
+        "map(boolean(true): nil, int(1): int(2))",
+    ),
+    (
+        b"|1\r\n+OK\r\n_\r\n*2\r\n:7\r\n-ERR no\r\n",
+        "attribute(array(int(7), server-error(\"ERR\", \"no\")); ok: nil)",
+    ),
+    (
+        b">3\r\n$8\r\npmessage\r\n:-7\r\n_\r\n",
+        "push(pmessage; int(-7), nil)",
+    ),
+    (b">1\r\n$8\r\nsmessage\r\n", "push(smessage; )"),
+    (b">1\r\n$2\r\nx\n\r\n", "push(other(\"x\\n\"); )"),
 ];
 
 #[test]
-fn kinds_have_names(rt: HostRuntime) -> Result<(), Fail> {
-    let alloc = rt.alloc();
-    for (name, shown) in OTHERS {
-        let other = is_other_kind(alloc, name, shown)?;
-        assert!(rt; other, "{}", shown);
+fn values_are_written_copied_and_shown(rt: HostRuntime) -> Result<(), AllocError> {
+    for (text, shown) in VALUES {
+        assert!(rt; is(rt.alloc(), text, shown)?, "{shown}");
     }
-    let named = is_kind(alloc, &PushKind::SMessage, b"smessage", "smessage")?;
-    assert!(rt; named);
-    let copied = is_kind_copied(alloc, &PushKind::SSubscribe)?;
-    assert!(rt; copied);
     Ok(())
 }
 
-/// Whether a server's error has this text.
-fn has_text(alloc: Global, wanted: &str) -> Result<bool, AllocError> {
-    let error = error(alloc)?;
-    let shown = format!(in alloc; "{error}")?;
+/// How what is extracted of the value of a text is shown: its first error, or itself.
+fn extracted(alloc: Global, text: &[u8]) -> Result<String, AllocError> {
+    let value = value_of(alloc, text)?;
+    let extracted = value.extract_error();
+    format!(in alloc; "{extracted:?}")
+}
+
+fn is_extracted(alloc: Global, text: &[u8], wanted: &str) -> Result<bool, AllocError> {
+    let shown = extracted(alloc, text)?;
     Ok(shown.as_str() == wanted)
 }
 
-/// Whether a server's error is shown so.
-fn is_error_shown(alloc: Global, wanted: &str) -> Result<bool, AllocError> {
-    let error = error(alloc)?;
-    let shown = format!(in alloc; "{error:?}")?;
-    Ok(shown.as_str() == wanted)
+const EXTRACTED: [(&[u8], &str); 2] = [
+    (
+        b"|1\r\n+OK\r\n_\r\n*2\r\n:7\r\n-ERR no\r\n",
+        "Err(server-error(\"ERR\", \"no\"))",
+    ),
+    (b"*1\r\n:7\r\n", "Ok(array(int(7)))"),
+];
+
+/// Whether kinds of pushes have names, and are told apart.
+fn are_named() -> bool {
+    PushKind::SMessage.name() == b"smessage".as_slice() && PushKind::SMessage != PushKind::Message
 }
 
 #[test]
-fn errors_have_texts(rt: HostRuntime) -> Result<(), Fail> {
-    let alloc = rt.alloc();
-    let plain = has_text(alloc, "ERR no")?;
-    assert!(rt; plain);
-    let shown = is_error_shown(alloc, "server-error(\"ERR\", \"no\")")?;
-    assert!(rt; shown);
+fn errors_are_extracted(rt: HostRuntime) -> Result<(), AllocError> {
+    for (text, wanted) in EXTRACTED {
+        assert!(rt; is_extracted(rt.alloc(), text, wanted)?, "{wanted}");
+    }
+    assert!(rt; are_named());
     Ok(())
 }

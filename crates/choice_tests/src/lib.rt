@@ -1,0 +1,5 @@
+//! Tests of where requests go, by public calls alone.
+#![tactic(auto)]
+
+#[cfg(test)]
+mod tests;

@@ -1,0 +1,9 @@
+mod Order
+mod Finding
+mod Counting
+mod Standing
+mod Allowed
+mod Choosing
+mod PartsLinked
+mod Keeping
+mod Once
