@@ -232,10 +232,6 @@ is_one r x h =
     h.2
 
 -- an answer to an ask that it gave, by what was asked
-by_check : (r : Repair) (x : Ask) (link : ℕ) (found : Answer) (entries : List NodeEntry) (rows : List SlotRow) (more : List Answered) → IsItsAsk r x → x.request ≡ request.Check link
-    → repair_from (record r { check = Some found }) entries rows more ≡ repair_from r entries rows ((x, found) ∷ more)
-mends_by_check r x link found entries rows more given e = by_check r x link found entries rows more (is_one r x given) e
-
 by_check : (r : Repair) (x : Ask) (link : ℕ) (found : Answer) (entries : List NodeEntry) (rows : List SlotRow) (more : List Answered) → IsOne r x → x.request ≡ request.Check link
     → repair_from (record r { check = Some found }) entries rows more ≡ repair_from r entries rows ((x, found) ∷ more)
 by_check r x link found entries rows more (inl h) e =
@@ -243,7 +239,11 @@ by_check r x link found entries rows more (inl h) e =
 by_check r x link found entries rows more (inr (inl h)) e = let no : request.Connect ≡ request.Check link = sym (ap (λ y. y.request) h.0) ∙ e in absurd (cc)
 by_check r x link found entries rows more (inr (inr h)) e = let no : request.Wait (wait_ms r.attempt) ≡ request.Check link = sym (ap (λ y. y.request) h) ∙ e in absurd (cc)
 
-pub mends_by_connect : (r : Repair) (x : Ask) (found : Answer) (entries : List NodeEntry) (rows : List SlotRow) (more : List Answered) → IsOne r x → x.request ≡ request.Connect
+pub mends_by_check : (r : Repair) (x : Ask) (link : ℕ) (found : Answer) (entries : List NodeEntry) (rows : List SlotRow) (more : List Answered) → IsItsAsk r x → x.request ≡ request.Check link
+    → repair_from (record r { check = Some found }) entries rows more ≡ repair_from r entries rows ((x, found) ∷ more)
+mends_by_check r x link found entries rows more given e = by_check r x link found entries rows more (is_one r x given) e
+
+by_connect : (r : Repair) (x : Ask) (found : Answer) (entries : List NodeEntry) (rows : List SlotRow) (more : List Answered) → IsOne r x → x.request ≡ request.Connect
     → repair_from (record r { connect = Some found }) entries rows more ≡ repair_from r entries rows ((x, found) ∷ more)
 by_connect r x found entries rows more (inl h) e = let no : request.Check h.0 ≡ request.Connect = sym (ap (λ y. y.request) h.1) ∙ e in absurd (cc)
 by_connect r x found entries rows more (inr (inl h)) e =
