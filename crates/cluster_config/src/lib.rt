@@ -7,8 +7,8 @@ pub use cluster_client::{
     ClusterSettings, OverallResponseTimeout, Reads,
 };
 pub use cluster_plan::{
-    Answer, Ask, ConnState, ConnectionMap, Failure, NodeEntry, Part, Recovery, RecoveryEnd,
-    RecoveryKind, Repair, RepairStep, Request,
+    Answer, Ask, ConnState, ConnectionMap, Failure, InitialConnects, InitialEnd, NodeEntry, Part,
+    RecoveryKind, Request,
 };
 pub use cluster_retries::{
     AddressSet, Chosen, CmdArg, EndError, InternalRoutingInfo, InternalSingleNodeRouting, Next,
