@@ -82,6 +82,7 @@ fn link_in(state: Option<ConnState>) -> Option<u32>
 }
 
 /// Whether the map of slots has a node.
+#[tactic(auto, using(crate::proofs::Arriving::looked_all))]
 fn is_among(alloc: Global, address: &NodeAddress, slots: &SlotMap) -> Result<bool, AllocError>
     ensures { IfOk result (λ is. is ≡ is_among address.now (addresses slots.now)) }
 {
