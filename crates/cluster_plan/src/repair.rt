@@ -1,4 +1,4 @@
-ghost use Rattle.std.specs.Prelude.{◌≡◌, ◌∷◌, ◌<◌, ◌-◌, ◌^◌, ℕ, [], List, Option, IfOk};
+ghost use Rattle.std.specs.Prelude.{◌≡◌, ◌∷◌, ◌↔◌, ◌<◌, ◌-◌, ◌^◌, ℕ, [], List, Option, IfOk, IsTrue};
 ghost use Rattle.slot_hash.specs.declared.address.NodeAddress.{NodeAddress};
 ghost use Rattle.mux_routing.specs.declared.rows.SlotRow.{SlotRow};
 ghost use Rattle.mux_routing.specs.Shards.{addresses};
@@ -225,7 +225,14 @@ impl Repair {
         Ok(step)
     }
 
-    /// What it asked was answered. The numbers of attempts end at 2^32 - 1.
+    /// Whether it can go on behind an answer: the numbers of attempts end at 2^32 - 1.
+    pub fn has_room(&self) -> bool
+        ensures { IsTrue result ↔ (self.now.attempt < 2 ^ 32 - 1) }
+    {
+        self.attempt < u32::MAX
+    }
+
+    /// What it asked was answered.
     #[tactic(auto, using(crate::proofs::Mending::mends_by_check, crate::proofs::Mending::mends_by_connect, crate::proofs::Mending::mends_by_wait, crate::proofs::Mending::mends_no_query))]
     pub fn answer(&mut self, ask: &Ask, told: Answer)
         requires given { IsItsAsk self.old ask.now }
