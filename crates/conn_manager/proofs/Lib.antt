@@ -4,3 +4,4 @@ mod Resubscribing
 mod Once
 mod Turns
 mod Spent
+pub mod Threads
