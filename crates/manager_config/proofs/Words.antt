@@ -1,19 +1,18 @@
 -- The words that a client makes keep what its address and its configuration say.
-use Rattle.std.proofs.Common.{◌≡◌, ℕ, Bool, true, false, ◌&&◌, not, Option, Some, None, nat_eq, refl, sym, ap, subst, ◌∙◌, if◌then◌else◌}
+use Rattle.std.proofs.Common.{◌≡◌, ℕ, Bool, true, false, not, Option, Some, None, nat_eq, refl, sym, ap, subst, ◌∙◌, if◌then◌else◌}
 use Rattle.std.specs.Prelude.{option_map, unwrap_or}
 use Rattle.std.specs.Bool.{beq}
 use Rattle.std.proofs.lemmas.Str.{is_utf8-from_IsUtf8}
 use Rattle.std.proofs.lemmas.Bool.{eqb-true, and_parts}
 use Rattle.connection_info.specs.declared.address.ConnectionInfo.{ConnectionInfo}
-use Rattle.connection_info.specs.declared.config.AsyncConnectionConfig.{AsyncConnectionConfig}
 use Rattle.connection_info.specs.Address.{address_of}
 use Rattle.connection_info.specs.Config.{default_config}
-use Rattle.connection_info.specs.Written.{url_of, with_library, ReadsBack}
+use Rattle.connection_info.specs.Written.{url_of, ReadsBack}
 use Rattle.manager_config.specs.declared.config.ConnectionManagerConfig.{ConnectionManagerConfig}
 use Rattle.manager_config.specs.declared.settings.ManagerKind.{ManagerKind}
 use Rattle.manager_config.specs.declared.settings.ManagerSettings.{ManagerSettings}
 use Rattle.manager_config.specs.Config.{default_manager}
-use Rattle.manager_config.specs.Settings.{given, is_same_time, is_same_fraction, settings_of, url_said, with_word, address_said, connection_said, config_said, Keeps}
+use Rattle.manager_config.specs.Settings.{given, is_same_time, is_same_fraction, settings_of, with_word, address_said, config_said, Keeps}
 
 -- equal values are the same
 abbrev IsExact : {X : Type 0} → (X → X → Bool) → Type 0

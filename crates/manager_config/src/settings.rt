@@ -6,7 +6,7 @@ use std::alloc::{AllocError, Global};
 /// When a session over a connection manager connects first.
 #[derive(Clone, Copy, Debug, PartialEq, Eq)]
 pub enum ManagerKind {
-    /// As it begins. It takes no requests before that.
+    /// As it begins.
     Manager,
     /// For its first request.
     Lazy,
