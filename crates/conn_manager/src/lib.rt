@@ -24,7 +24,9 @@ pub use laws::{
     turns_move_generations_by_their_causes, what_is_subscribed_again_is_what_is_subscribed,
 };
 pub use manager::ConnectionManager;
-pub use manager_config::{ConnectionManagerConfig, backoff_ms};
+pub use manager_config::{
+    ConnectionManagerConfig, ManagerGetters, ManagerKind, ManagerSettings, backoff_ms,
+};
 pub use manager_generations::{
     Generations, ManagerAct, ManagerTimer, ManagerWait, Phase, Settings,
 };

@@ -1,3 +1,5 @@
 pub mod Config
 pub mod Refused
 pub mod Backoff
+pub mod Settings
+pub mod Asked
