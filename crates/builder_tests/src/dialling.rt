@@ -51,9 +51,10 @@ fn client(alloc: Global) -> Result<ClusterClient, OpenError> {
 
 /// Whether the second is dialled for the first.
 fn dials(alloc: Global, params: &ClusterParams, nodes: (Node, Node)) -> Result<bool, AllocError> {
-    let node = address(alloc, nodes.0)?;
+    let (node, wanted) = nodes;
+    let node = address(alloc, node)?;
     let dialled = params.dialled_address(&node);
-    Ok(dialled.host.as_slice() == nodes.1.0 && dialled.port == nodes.1.1)
+    Ok(dialled.host.as_slice() == wanted.0 && dialled.port == wanted.1)
 }
 
 /// The same of a client with that map.

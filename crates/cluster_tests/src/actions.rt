@@ -126,7 +126,12 @@ fn holds(set: &AddressSet, is_whole: bool) -> bool {
     if is_whole {
         return are_nodes(set, PUT_IN[0]);
     }
-    PUT_IN.iter().any(|nodes| are_nodes(set, nodes))
+    for nodes in PUT_IN {
+        if are_nodes(set, nodes) {
+            return true;
+        }
+    }
+    false
 }
 
 /// Whether a set holds what it may after others were joined to it.
