@@ -1,4 +1,4 @@
-use crate::nodes::{are_entries, is_node, node, nodes};
+use crate::nodes::{are_entries, is_node, node_at, nodes_at};
 use cluster_plan::{Ask, ConnState, InitialConnects, InitialEnd, Part, Request};
 use redis_error::{FaultKind, RedisError};
 use std::alloc::{AllocError, Global};
@@ -114,7 +114,7 @@ fn awaits(alloc: Global, connects: &InitialConnects, ports: &[u16]) -> Result<bo
     Ok(are_connects(asks.as_slice(), ports) && is_over == ports.is_empty())
 }
 
-fn told(told: Told) -> Result<u32, RedisError> {
+fn result_of(told: Told) -> Result<u32, RedisError> {
     match told {
         Told::Link(link) => Ok(link),
         Told::Fault(fault) => Err(RedisError::Io { fault }),
@@ -127,8 +127,8 @@ fn goes_on(alloc: Global, connects: &mut InitialConnects, case: &Case) -> Result
         return Ok(false);
     }
     for step in case.steps {
-        let address = node(alloc, step.0)?;
-        connects.answer(&address, told(step.1));
+        let address = node_at(alloc, step.0)?;
+        connects.answer(&address, result_of(step.1));
         if !awaits(alloc, connects, step.2)? {
             return Ok(false);
         }
@@ -163,7 +163,7 @@ fn ends(alloc: Global, connects: InitialConnects, wanted: Wanted) -> Result<bool
 }
 
 fn begun(alloc: Global, ports: &[u16]) -> Result<InitialConnects, AllocError> {
-    let nodes = nodes(alloc, ports)?;
+    let nodes = nodes_at(alloc, ports)?;
     InitialConnects::begin(alloc, nodes.as_slice())
 }
 

@@ -4,15 +4,15 @@ use mux_routing::NodeAddress;
 use std::alloc::{AllocError, Global};
 
 /// The node of that port, at the host h.
-pub fn node(alloc: Global, port: u16) -> Result<NodeAddress, AllocError> {
+pub fn node_at(alloc: Global, port: u16) -> Result<NodeAddress, AllocError> {
     let host = Bytes::from_slice(alloc, b"h")?;
     Ok(NodeAddress { host, port })
 }
 
-pub fn nodes(alloc: Global, ports: &[u16]) -> Result<Vec<NodeAddress>, AllocError> {
+pub fn nodes_at(alloc: Global, ports: &[u16]) -> Result<Vec<NodeAddress>, AllocError> {
     let mut nodes = Vec::new(alloc);
     for port in ports {
-        nodes.push(node(alloc, *port)?)?;
+        nodes.push(node_at(alloc, *port)?)?;
     }
     Ok(nodes)
 }
