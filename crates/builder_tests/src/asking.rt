@@ -56,7 +56,8 @@ fn is_quick_asked(alloc: Global) -> Result<bool, OpenError> {
     let client = builder(alloc, "redis://h:7000")?
         .response_timeout(7)
         .build(alloc)?;
-    is_asked_in_each_way(alloc, &client)
+    let overall = client.overall_response_timeout();
+    Ok(is_asked_in_each_way(alloc, &client)? && overall == Some(7))
 }
 
 /// An address of this host that leaves the library's name out.

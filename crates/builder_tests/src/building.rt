@@ -1,5 +1,5 @@
 use cluster_client::{ClusterClient, ClusterClientBuilder};
-use connection_info::{ConnectionInfo, IntoConnectionInfo, OpenError};
+use connection_info::{ConnectionInfo, IntoConnectionInfo, OpenError, ProtocolVersion};
 use redis_error::ConfigName;
 use std::alloc::{AllocError, Global};
 
@@ -12,40 +12,133 @@ pub fn builder(alloc: Global, urls: &str) -> Result<ClusterClientBuilder, AllocE
     ClusterClient::builder(alloc, nodes)
 }
 
-/// A client of these nodes whose connections have so many permits, at database 4.
-fn built(alloc: Global, urls: &str, limit: u32) -> Result<ClusterClient, OpenError> {
-    builder(alloc, urls)?
-        .connection_concurrency_limit(limit)
-        .database_id(4)
-        .build(alloc)
+/// What is set of a client.
+#[derive(Clone, Copy)]
+enum Set {
+    Nothing,
+    /// The database 0.
+    Zero,
+    /// The database 4.
+    Four,
+    Push,
+    NoPermits,
+    PushAndNoPermits,
 }
 
-/// Whether a client has that database and that protocol.
-fn says(client: &ClusterClient, db: i64, resp3: bool) -> bool {
+/// The builder with that set.
+fn with(builder: ClusterClientBuilder, set: Set) -> ClusterClientBuilder {
+    match set {
+        Set::Nothing => builder,
+        Set::Zero => builder.database_id(0),
+        Set::Four => builder.database_id(4),
+        Set::Push => builder.push_sender(),
+        Set::NoPermits => builder.connection_concurrency_limit(0),
+        Set::PushAndNoPermits => builder.push_sender().connection_concurrency_limit(0),
+    }
+}
+
+/// A client of these nodes, with that set.
+fn built(alloc: Global, urls: &str, set: Set) -> Result<ClusterClient, OpenError> {
+    let builder = builder(alloc, urls)?;
+    with(builder, set).build(alloc)
+}
+
+/// What becomes of a client.
+#[derive(Clone, Copy)]
+enum Wanted {
+    /// It is built, at database 4 of servers of this protocol.
+    Built(ProtocolVersion),
+    Refused(ConfigName),
+}
+
+fn is_built(client: &ClusterClient, wanted: Wanted) -> bool {
     let told = client.redis_connection_info();
-    told.db == db && told.protocol.supports_resp3() == resp3
+    match wanted {
+        Wanted::Built(protocol) => told.db == 4 && told.protocol == protocol,
+        Wanted::Refused(_) => false,
+    }
 }
 
-/// Whether the client of these nodes is refused for this; or built, at database 4 of a server of RESP3.
-fn comes_to(alloc: Global, urls: &str, limit: u32, wanted: Option<ConfigName>) -> bool {
-    match built(alloc, urls, limit) {
-        Ok(client) => wanted.is_none() && says(&client, 4, true),
-        Err(OpenError::Config(name)) => wanted == Some(name),
+fn is_refused(name: ConfigName, wanted: Wanted) -> bool {
+    match wanted {
+        Wanted::Built(_) => false,
+        Wanted::Refused(other) => name == other,
+    }
+}
+
+/// Whether that becomes of the client of these nodes, with that set.
+fn comes_to(alloc: Global, urls: &str, set: Set, wanted: Wanted) -> bool {
+    match built(alloc, urls, set) {
+        Ok(client) => is_built(&client, wanted),
+        Err(OpenError::Config(name)) => is_refused(name, wanted),
         Err(_) => false,
     }
 }
 
-/// Nodes and permits, and what is refused: by the nodes, by their URLs, by what is set, and first of two.
-const ROWS: [(&str, u32, Option<ConfigName>); 6] = [
-    ("redis://h?protocol=3 redis://i/4?protocol=3", 1, None),
-    ("", 1, Some(ConfigName::Nodes)),
-    ("redis://h/4 h", 1, Some(ConfigName::Url)),
-    ("redis+unix:///h", 0, Some(ConfigName::Url)),
-    ("redis://h", 0, Some(ConfigName::Limit)),
+/// Three nodes of one database.
+const FOURS: &str = "redis://h/4 redis://i/4 redis://j/4";
+
+/// Nodes, what is set, and what becomes of the client: it is built, one check fails, or two do.
+const ROWS: [(&str, Set, Wanted); 16] = [
+    (FOURS, Set::Nothing, Wanted::Built(ProtocolVersion::RESP2)),
+    (FOURS, Set::Four, Wanted::Built(ProtocolVersion::RESP2)),
+    (
+        "redis://h?protocol=3 redis://i/4?protocol=3",
+        Set::Four,
+        Wanted::Built(ProtocolVersion::RESP3),
+    ),
+    (FOURS, Set::Zero, Wanted::Refused(ConfigName::Database)),
+    (
+        "redis://h/4 h",
+        Set::Nothing,
+        Wanted::Refused(ConfigName::Url),
+    ),
+    ("", Set::Nothing, Wanted::Refused(ConfigName::Nodes)),
+    (
+        "redis://u:p@h redis://u:q@i",
+        Set::Nothing,
+        Wanted::Refused(ConfigName::Password),
+    ),
+    (
+        "redis://u:p@h redis://v:p@i",
+        Set::Nothing,
+        Wanted::Refused(ConfigName::User),
+    ),
     (
         "redis://h redis://i?protocol=3",
-        0,
-        Some(ConfigName::Protocol),
+        Set::Nothing,
+        Wanted::Refused(ConfigName::Protocol),
+    ),
+    (
+        "redis://h redis://i/4",
+        Set::Nothing,
+        Wanted::Refused(ConfigName::Database),
+    ),
+    ("redis://h", Set::Push, Wanted::Refused(ConfigName::Push)),
+    (
+        "redis://h",
+        Set::NoPermits,
+        Wanted::Refused(ConfigName::Limit),
+    ),
+    (
+        "redis+unix:///h",
+        Set::NoPermits,
+        Wanted::Refused(ConfigName::Url),
+    ),
+    (
+        "redis://u:p@h redis://v:q@i",
+        Set::Nothing,
+        Wanted::Refused(ConfigName::Password),
+    ),
+    (
+        "redis://h redis://i/4?protocol=3",
+        Set::Nothing,
+        Wanted::Refused(ConfigName::Protocol),
+    ),
+    (
+        "redis://h",
+        Set::PushAndNoPermits,
+        Wanted::Refused(ConfigName::Push),
     ),
 ];
 
@@ -80,8 +173,8 @@ fn url_has_node(alloc: Global, url: &str, host: &[u8]) -> Result<bool, AllocErro
 #[test]
 fn clients_are_built_and_refused(rt: HostRuntime) -> Result<(), AllocError> {
     let alloc = rt.alloc();
-    for (urls, limit, wanted) in ROWS {
-        assert!(rt; comes_to(alloc, urls, limit, wanted), "{urls}");
+    for (urls, set, wanted) in ROWS {
+        assert!(rt; comes_to(alloc, urls, set, wanted), "{urls}");
     }
     assert!(rt; has_node(alloc, "redis://h:7000", b"h")?);
     assert!(rt; url_has_node(alloc, "redis://h:7000", b"h")?);

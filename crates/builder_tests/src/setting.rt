@@ -149,5 +149,6 @@ fn everything_that_is_set_is_asked(rt: HostRuntime) -> Result<(), OpenError> {
     assert!(rt; config.connection_timeout.is_none());
     assert!(rt; copy.response_timeout == Some(5) && copy.connection_timeout == Some(6));
     assert!(rt; ClusterConfig::default() == ClusterConfig::new());
+    assert!(rt; copy.clone()? == copy);
     Ok(())
 }

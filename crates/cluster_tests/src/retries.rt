@@ -1,11 +1,11 @@
+use crate::actions::address;
 use cluster_config::{
-    AddressSet, Chosen, Next, OperationTarget, PollFlushAction, RecoveryAction, RetryParams,
-    RoundEnd, choose_response, cluster_retry_wait_upper_ms,
+    Chosen, Next, OperationTarget, RecoveryAction, RetryParams, RoundEnd, choose_response,
+    cluster_retry_wait_upper_ms,
 };
 use containers::Bytes;
 use redis_error::{FaultKind, RedisError};
 use resp_value::{Redirection, ServerError, Value, Values};
-use slot_hash::NodeAddress;
 use std::alloc::{AllocError, Global};
 
 /// A base wait, the least and the greatest wait, and what a wait stays below.
@@ -87,7 +87,7 @@ type Case = (
     RecoveryAction,
 );
 
-const FOLLOWED: [Case; 25] = [
+const FOLLOWED: [Case; 30] = [
     (
         Went::ToNode,
         Ended::Refused(b"ASK", b"123 foo:1234"),
@@ -234,8 +234,26 @@ const FOLLOWED: [Case; 25] = [
     ),
     (
         Went::ToNode,
+        Ended::Fault(FaultKind::TimedOut),
+        16,
+        Next::Answered,
+        false,
+        None,
+        RecoveryAction::None,
+    ),
+    (
+        Went::ToNode,
         Ended::Fault(FaultKind::Denied),
         0,
+        Next::Answered,
+        false,
+        None,
+        RecoveryAction::None,
+    ),
+    (
+        Went::ToNode,
+        Ended::Fault(FaultKind::Denied),
+        16,
         Next::Answered,
         false,
         None,
@@ -279,6 +297,33 @@ const FOLLOWED: [Case; 25] = [
     ),
     (
         Went::ToSeveral,
+        Ended::Closed,
+        16,
+        Next::Answered,
+        false,
+        None,
+        RecoveryAction::None,
+    ),
+    (
+        Went::ToSeveral,
+        Ended::NotFound,
+        0,
+        Next::Pending,
+        true,
+        None,
+        RecoveryAction::ReconnectInitial,
+    ),
+    (
+        Went::ToSeveral,
+        Ended::NotFound,
+        16,
+        Next::Answered,
+        false,
+        None,
+        RecoveryAction::ReconnectInitial,
+    ),
+    (
+        Went::Nowhere,
         Ended::NotFound,
         0,
         Next::Pending,
@@ -289,9 +334,9 @@ const FOLLOWED: [Case; 25] = [
     (
         Went::Nowhere,
         Ended::NotFound,
-        0,
-        Next::Pending,
-        true,
+        16,
+        Next::Answered,
+        false,
         None,
         RecoveryAction::ReconnectInitial,
     ),
@@ -314,11 +359,6 @@ const FOLLOWED: [Case; 25] = [
         RecoveryAction::RebuildSlots,
     ),
 ];
-
-fn address(alloc: Global, host: &[u8], port: u16) -> Result<NodeAddress, AllocError> {
-    let host = Bytes::from_slice(alloc, host)?;
-    Ok(NodeAddress { host, port })
-}
 
 fn target(alloc: Global, went: Went) -> Result<OperationTarget, AllocError> {
     match went {
@@ -410,106 +450,5 @@ fn has_code(error: &RedisError, code: &[u8]) -> bool {
 fn a_pipeline_counts_as_its_first_error(rt: HostRuntime) -> Result<(), AllocError> {
     let end = end(rt.alloc(), Ended::RefusedInPart(b"MOVED", b"1 a:2"))?;
     assert!(rt; counts_as(rt.alloc(), &end, b"MOVED")?);
-    Ok(())
-}
-
-/// An action, by the addresses that it has.
-#[derive(Clone, Copy)]
-enum Doing {
-    Nothing,
-    Slots,
-    Nodes(&'static [(&'static [u8], u16)]),
-    Initial,
-}
-
-/// Two actions, and the two as one.
-const JOINED: [(Doing, Doing, Doing); 8] = [
-    (
-        Doing::Nodes(&[(b"a", 1)]),
-        Doing::Nodes(&[(b"b", 1)]),
-        Doing::Nodes(&[(b"a", 1), (b"b", 1)]),
-    ),
-    (
-        Doing::Nodes(&[(b"b", 1), (b"aa", 1), (b"a", 10)]),
-        Doing::Nodes(&[(b"a", 9), (b"b", 1)]),
-        Doing::Nodes(&[(b"a", 9), (b"a", 10), (b"aa", 1), (b"b", 1)]),
-    ),
-    (
-        Doing::Nodes(&[(b"a", 1), (b"b", 1)]),
-        Doing::Slots,
-        Doing::Slots,
-    ),
-    (Doing::Slots, Doing::Nodes(&[(b"a", 1)]), Doing::Slots),
-    (Doing::Nothing, Doing::Slots, Doing::Slots),
-    (
-        Doing::Nodes(&[(b"a", 1)]),
-        Doing::Nothing,
-        Doing::Nodes(&[(b"a", 1)]),
-    ),
-    (Doing::Slots, Doing::Initial, Doing::Initial),
-    (Doing::Initial, Doing::Nodes(&[(b"a", 1)]), Doing::Initial),
-];
-
-fn address_set(alloc: Global, nodes: &[(&[u8], u16)]) -> Result<AddressSet, AllocError> {
-    let mut set = AddressSet::new(alloc);
-    for node in nodes {
-        set.insert(address(alloc, node.0, node.1)?)?;
-    }
-    Ok(set)
-}
-
-fn action(alloc: Global, doing: Doing) -> Result<PollFlushAction, AllocError> {
-    match doing {
-        Doing::Nothing => Ok(PollFlushAction::None),
-        Doing::Slots => Ok(PollFlushAction::RebuildSlots),
-        Doing::Nodes(nodes) => Ok(PollFlushAction::Reconnect(address_set(alloc, nodes)?)),
-        Doing::Initial => Ok(PollFlushAction::ReconnectFromInitialConnections),
-    }
-}
-
-fn are_nodes(set: &AddressSet, nodes: &[(&[u8], u16)]) -> bool {
-    let addresses = set.as_slice();
-    if addresses.len() != nodes.len() {
-        return false;
-    }
-    for (address, node) in addresses.iter().zip(nodes) {
-        if address.host.as_slice() != node.0 || address.port != node.1 {
-            return false;
-        }
-    }
-    true
-}
-
-fn is_action(action: &PollFlushAction, doing: &Doing) -> bool {
-    match (action, doing) {
-        (PollFlushAction::None, Doing::Nothing) => true,
-        (PollFlushAction::RebuildSlots, Doing::Slots) => true,
-        (PollFlushAction::Reconnect(set), Doing::Nodes(nodes)) => are_nodes(set, nodes),
-        (PollFlushAction::ReconnectFromInitialConnections, Doing::Initial) => true,
-        _ => false,
-    }
-}
-
-/// Whether the first two actions are the third as one.
-fn joins(alloc: Global, case: &(Doing, Doing, Doing)) -> Result<bool, AllocError> {
-    let first = action(alloc, case.0)?;
-    let next = action(alloc, case.1)?;
-    let both = first.change_state(next)?;
-    Ok(is_action(&both, &case.2))
-}
-
-#[test]
-fn actions_join(rt: HostRuntime) -> Result<(), AllocError> {
-    for case in &JOINED {
-        assert!(rt; joins(rt.alloc(), case)?);
-    }
-    Ok(())
-}
-
-#[test]
-fn one_address_is_a_set(rt: HostRuntime) -> Result<(), AllocError> {
-    let set = AddressSet::from_address(rt.alloc(), address(rt.alloc(), b"a", 1)?)?;
-    let one = are_nodes(&set, &[(b"a", 1)]) && set.len() == 1 && !set.is_empty();
-    assert!(rt; one);
     Ok(())
 }
