@@ -10,3 +10,6 @@ mod Repairing
 mod Skipping
 mod Settling
 mod Beginning
+mod Looking
+mod Waiting
+mod Mending
