@@ -12,4 +12,6 @@ mod Settling
 mod Beginning
 mod Looking
 mod Waiting
+mod Telling
 mod Mending
+mod Attempting

@@ -1,35 +1,28 @@
--- The addresses of a map of slots by their numbers.
-use Rattle.std.proofs.Common.{◌≡◌, ℕ, zero, suc, ◌≤◌, List, [], ◌∷◌, ◌++◌, length, take, slice_get, option_to_list, refl, sym, ◌∙◌, ap, append_assoc, append-nil, arith}
-use Rattle.std.proofs.lemmas.List.{take_all}
+-- A node is among the nodes of a map of slots where its address has a place there.
+use Rattle.std.proofs.Common.{◌≡◌, ◌<◌, ℕ, zero, suc, Bool, true, false, List, [], ◌∷◌, length, slice_get, Option, Some, None, is_some, IfSome, IsNone, refl, sym, ap, arith, if◌then◌else◌}
+use Rattle.std.specs.List.{Contains}
 use Rattle.slot_hash.specs.declared.address.NodeAddress.{NodeAddress}
-use Rattle.mux_routing.specs.Shards.{first_numbers}
+use Rattle.slot_hash.proofs.Order.{same_exactly}
+use Rattle.cluster_plan.specs.Asks.{same_address}
+use Rattle.cluster_plan.specs.Repair.{is_among}
+use Rattle.cluster_plan.proofs.Choosing.{of_either}
 
--- the addresses of these numbers
-abbrev pub looked_up : List NodeAddress → List ℕ → List NodeAddress
-looked_up nodes [] = []
-looked_up nodes (n ∷ ns) = option_to_list (slice_get nodes n) ++ looked_up nodes ns
+at_place : (a : NodeAddress) (nodes : List NodeAddress) (i : ℕ) → slice_get nodes i ≡ Some a → is_among a nodes ≡ true
+at_place a [] i h = cc
+at_place a (b ∷ nodes) zero h = let e : a ≡ b = cc in ap (λ t. if t then true else is_among a nodes) ((same_exactly a b).1 e)
+at_place a (b ∷ nodes) (suc i) h = of_either (λ t. t ≡ true) (same_address a b) true (is_among a nodes) refl (at_place a nodes i h)
 
-looked_append : (nodes : List NodeAddress) (ms ns : List ℕ) → looked_up nodes (ms ++ ns) ≡ looked_up nodes ms ++ looked_up nodes ns
-looked_append nodes [] ns = refl
-looked_append nodes (m ∷ ms) ns =
-    ap (λ rest. option_to_list (slice_get nodes m) ++ rest) (looked_append nodes ms ns)
-    ∙ sym (append_assoc (option_to_list (slice_get nodes m)) (looked_up nodes ms) (looked_up nodes ns))
+neither : (p q : Bool) → (p ≡ true → ⊥) → q ≡ false → (if p then true else q) ≡ false
+neither true q h g = absurd (h refl)
+neither false q h g = g
 
-take_next : (nodes : List NodeAddress) (n : ℕ) → take n nodes ++ option_to_list (slice_get nodes n) ≡ take (suc n) nodes
-take_next [] zero = refl
-take_next [] (suc n) = refl
-take_next (a ∷ nodes) zero = refl
-take_next (a ∷ nodes) (suc n) = ap (λ rest. a ∷ rest) (take_next nodes n)
+nowhere : (a : NodeAddress) (nodes : List NodeAddress) → (Contains nodes a → ⊥) → is_among a nodes ≡ false
+nowhere a [] h = refl
+nowhere a (b ∷ nodes) h =
+    neither (same_address a b) (is_among a nodes) (λ e. h (0, omega arith, sym ((same_exactly a b).0 e)))
+    (nowhere a nodes (λ c. h (suc c.0, omega arith, c.2)))
 
-looked_first : (nodes : List NodeAddress) (n : ℕ) → looked_up nodes (first_numbers n) ≡ take n nodes
-looked_first nodes zero = refl
-looked_first nodes (suc n) =
-    looked_append nodes (first_numbers n) (n ∷ [])
-    ∙ ap (λ front. front ++ (option_to_list (slice_get nodes n) ++ [])) (looked_first nodes n)
-    ∙ ap (λ last. take n nodes ++ last) (append-nil (option_to_list (slice_get nodes n)))
-    ∙ take_next nodes n
-
-pub looked_all : (nodes : List NodeAddress) → looked_up nodes (first_numbers (length nodes)) ≡ nodes
-looked_all nodes =
-    let all : length nodes ≤ length nodes = omega arith in
-    looked_first nodes (length nodes) ∙ take_all (length nodes) nodes all
+pub looked_up : (a : NodeAddress) (nodes : List NodeAddress) (place : Option ℕ) → IfSome place (λ i. slice_get nodes i ≡ Some a) → (IsNone place → Contains nodes a → ⊥)
+    → is_some place ≡ is_among a nodes
+looked_up a nodes (Some i) h g = sym (at_place a nodes i h)
+looked_up a nodes None h g = sym (nowhere a nodes (g refl))

@@ -4,17 +4,18 @@ ghost use Rattle.mux_routing.specs.declared.rows.SlotRow.{SlotRow};
 ghost use Rattle.mux_routing.specs.Shards.{addresses};
 ghost use Rattle.cluster_plan.specs.declared.connections.NodeEntry.{NodeEntry};
 ghost use Rattle.cluster_plan.specs.declared.recovery_kind.RecoveryKind.TheVariants as kind;
-ghost use Rattle.cluster_plan.specs.Asks.{Answered};
+ghost use Rattle.cluster_plan.specs.Asks.{Answered, link_told};
 ghost use Rattle.cluster_plan.specs.Connections.{link_in, link_of, state_at};
 ghost use Rattle.cluster_plan.specs.Plan.{plan};
+ghost use Rattle.cluster_plan.specs.Progress.{progress_by};
 ghost use Rattle.cluster_plan.specs.Reached.{connecting, reached};
 ghost use Rattle.cluster_plan.specs.Repair.{attempted, is_among, is_set, wait_ms};
-ghost use Rattle.cluster_plan.specs.Repairing.{IsItsAsk, is_connected, known, plan_by, repair_from};
+ghost use Rattle.cluster_plan.specs.Repairing.{IsItsAsk, is_connected, known, plan_by, repair_from, step_by};
 
 use crate::answers::{link_told, passes};
 use crate::asks::{Answer, Ask, Part, Request};
 use crate::connections::{ConnState, NodeEntry};
-use crate::progress::same_address;
+use crate::progress::{Progress, same_address};
 use mux_routing::SlotMap;
 use slot_hash::NodeAddress;
 use std::alloc::{AllocError, Global};
@@ -27,10 +28,19 @@ pub struct Repair {
     attempts: Option<u32>,
     /// The number of the attempt that goes on, counted from 1.
     attempt: u32,
-    /// What its check was answered.
-    check: Option<Answer>,
-    /// What its connect was answered.
-    connect: Option<Answer>,
+    /// Whether its check was passed, if it was answered.
+    check: Option<bool>,
+    /// What has come of its connect.
+    connect: Progress,
+}
+
+/// What an attempt does in a turn.
+#[derive(Clone, Copy)]
+enum AttemptStep {
+    /// It asks this.
+    Asks(Request),
+    /// It ends: the node is reached, by the link of this number.
+    Connected(u32),
 }
 
 /// What a repair does in a turn.
@@ -92,19 +102,11 @@ fn link_in(state: Option<ConnState>) -> Option<u32>
 }
 
 /// Whether the map of slots has a node.
-#[tactic(auto, using(crate::proofs::Looking::looked_all))]
-fn is_among(alloc: Global, address: &NodeAddress, slots: &SlotMap) -> Result<bool, AllocError>
-    ensures { IfOk result (λ is. is ≡ is_among address.now (addresses slots.now)) }
+#[tactic(auto, using(crate::proofs::Looking::looked_up))]
+fn is_among(address: &NodeAddress, slots: &SlotMap) -> bool
+    ensures { result ≡ is_among address.now (addresses slots.now) }
 {
-    let numbers = slots.nodes(alloc)?;
-    for number in &numbers {
-        if let Some(node) = slots.get(*number) {
-            if same_address(address, node) {
-                return Ok(true);
-            }
-        }
-    }
-    Ok(false)
+    slots.place(address).is_some()
 }
 
 /// The wait after an attempt, in milliseconds: 50 after the first, doubled each time, up to 1,000.
@@ -133,6 +135,16 @@ fn is_set(attempt: u32, attempts: Option<u32>) -> bool
     }
 }
 
+/// What an answer to a connect makes of it.
+fn progress_by(told: &Answer) -> Progress
+    ensures { result ≡ progress_by (link_told told.now) }
+{
+    match link_told(told) {
+        Some(link) => Progress::Arrived(link),
+        None => Progress::Lost,
+    }
+}
+
 impl Repair {
     /// The repair of a node begins, with so many attempts at most, if a number is set.
     #[tactic(auto, unfolding(crate::specs::Plan::plan, crate::specs::Repairing::repair_from))]
@@ -145,73 +157,43 @@ impl Repair {
             attempts,
             attempt: 1,
             check: None,
-            connect: None,
+            connect: Progress::Connecting,
         }
     }
 
-    /// An ask of the attempt that goes on.
-    fn ask(&self, alloc: Global, request: Request) -> Result<RepairStep, AllocError>
-        ensures { IfOk result (λ s. s ≡ RepairStep.Asks (record { part = Part.Attempt self.now.attempt; address = self.now.address; request = request })) }
+    /// The node is connected; where that fails, the attempt has its wait.
+    #[tactic(auto, using(crate::proofs::Attempting::connects, crate::proofs::Attempting::arrives, crate::proofs::Attempting::waits))]
+    fn connecting(&self) -> AttemptStep
+        ensures { (entries : List NodeEntry) (rows : List SlotRow)
+            → plan_by self.now.address entries rows (step_by self.now result)
+            ≡ attempted self.now.address entries rows self.now.attempt (connecting (Part.Attempt self.now.attempt) self.now.address (known self.now)) }
     {
-        let address = self.address.clone(alloc)?;
-        Ok(RepairStep::Asks(Ask {
-            part: Part::Attempt(self.attempt),
-            address,
-            request,
-        }))
-    }
-
-    /// The node is connected.
-    #[tactic(auto, using(crate::proofs::Mending::mends_asked, crate::proofs::Mending::mends_connected, crate::proofs::Mending::mends_waits))]
-    fn connecting(&self, alloc: Global) -> Result<RepairStep, AllocError>
-        ensures { IfOk result (λ s. (entries : List NodeEntry) (rows : List SlotRow)
-            → plan_by self.now.address entries rows s
-            ≡ attempted self.now.address entries rows self.now.attempt (connecting (Part.Attempt self.now.attempt) self.now.address (known self.now))) }
-    {
-        match &self.connect {
-            None => {
-                let step = self.ask(alloc, Request::Connect)?;
-                Ok(step)
-            }
-            Some(told) => match link_told(told) {
-                Some(link) => Ok(RepairStep::Connected(link)),
-                None => {
-                    let step = self.ask(alloc, Request::Wait(wait_ms(self.attempt)))?;
-                    Ok(step)
-                }
-            },
+        match self.connect {
+            Progress::Connecting => AttemptStep::Asks(Request::Connect),
+            Progress::Arrived(link) => AttemptStep::Connected(link),
+            Progress::Lost => AttemptStep::Asks(Request::Wait(wait_ms(self.attempt))),
         }
     }
 
-    /// The node is reached, by the link that there is.
-    #[tactic(auto, using(crate::proofs::Mending::mends_check, crate::proofs::Mending::mends_passed, crate::proofs::Mending::mends_on))]
-    fn reaching(&self, alloc: Global, link: Option<u32>) -> Result<RepairStep, AllocError>
-        ensures { IfOk result (λ s. (entries : List NodeEntry) (rows : List SlotRow)
-            → plan_by self.now.address entries rows s
-            ≡ attempted self.now.address entries rows self.now.attempt (reached (Part.Attempt self.now.attempt) self.now.address link (known self.now))) }
+    /// The node is checked by the link that there is, or connected.
+    #[tactic(auto, using(crate::proofs::Attempting::checks, crate::proofs::Attempting::passes_check, crate::proofs::Attempting::fails_check))]
+    fn reaching(&self, link: Option<u32>) -> AttemptStep
+        ensures { (entries : List NodeEntry) (rows : List SlotRow)
+            → plan_by self.now.address entries rows (step_by self.now result)
+            ≡ attempted self.now.address entries rows self.now.attempt (reached (Part.Attempt self.now.attempt) self.now.address link (known self.now)) }
     {
         let Some(link) = link else {
-            let step = self.connecting(alloc)?;
-            return Ok(step);
+            return self.connecting();
         };
-        match &self.check {
-            None => {
-                let step = self.ask(alloc, Request::Check(link))?;
-                Ok(step)
-            }
-            Some(told) => {
-                if passes(told) {
-                    Ok(RepairStep::Connected(link))
-                } else {
-                    let step = self.connecting(alloc)?;
-                    Ok(step)
-                }
-            }
+        match self.check {
+            None => AttemptStep::Asks(Request::Check(link)),
+            Some(true) => AttemptStep::Connected(link),
+            Some(false) => self.connecting(),
         }
     }
 
     /// What it does in a turn with these entries and these slots. Only want of memory is refused.
-    #[tactic(auto, using(crate::proofs::Mending::next_stays, crate::proofs::Mending::next_outside, crate::proofs::Mending::next_spent, crate::proofs::Mending::next_reaches))]
+    #[tactic(auto, using(crate::proofs::Attempting::next_stays, crate::proofs::Attempting::next_outside, crate::proofs::Attempting::next_spent))]
     pub fn next(
         &self,
         alloc: Global,
@@ -225,14 +207,23 @@ impl Repair {
         if is_connected(state) {
             return Ok(RepairStep::Stays);
         }
-        if !is_among(alloc, &self.address, slots)? {
+        if !is_among(&self.address, slots) {
             return Ok(RepairStep::Leaves);
         }
         if !is_set(self.attempt, self.attempts) {
             return Ok(RepairStep::Leaves);
         }
-        let step = self.reaching(alloc, link_in(state))?;
-        Ok(step)
+        match self.reaching(link_in(state)) {
+            AttemptStep::Asks(request) => {
+                let address = self.address.clone(alloc)?;
+                Ok(RepairStep::Asks(Ask {
+                    part: Part::Attempt(self.attempt),
+                    address,
+                    request,
+                }))
+            }
+            AttemptStep::Connected(link) => Ok(RepairStep::Connected(link)),
+        }
     }
 
     /// Whether it can go on behind an answer: the numbers of attempts end at 2^32 - 1.
@@ -243,7 +234,7 @@ impl Repair {
     }
 
     /// What it asked was answered.
-    #[tactic(auto, using(crate::proofs::Mending::mends_by_check, crate::proofs::Mending::mends_by_connect, crate::proofs::Mending::mends_by_wait, crate::proofs::Mending::mends_no_query))]
+    #[tactic(auto, using(crate::proofs::Mending::mends_by_check, crate::proofs::Mending::mends_by_connect, crate::proofs::Mending::mends_by_wait))]
     pub fn answer(&mut self, ask: &Ask, told: Answer)
         requires given { IsItsAsk self.old ask.now }
         requires room { self.old.attempt < 2 ^ 32 - 1 }
@@ -251,12 +242,12 @@ impl Repair {
             → repair_from self.new entries rows more ≡ repair_from self.old entries rows ((ask.now, told) ∷ more) }
     {
         match ask.request {
-            Request::Check(_) => self.check = Some(told),
-            Request::Connect => self.connect = Some(told),
+            Request::Check(_) => self.check = Some(passes(&told)),
+            Request::Connect => self.connect = progress_by(&told),
             Request::Wait(_) => {
                 self.attempt += 1;
                 self.check = None;
-                self.connect = None;
+                self.connect = Progress::Connecting;
             }
             Request::Query(_) => unreachable!(),
         }
