@@ -10,3 +10,8 @@ mod Repairing
 mod Skipping
 mod Settling
 mod Beginning
+mod Looking
+mod Waiting
+mod Telling
+mod Mending
+mod Attempting

@@ -8,3 +8,4 @@ pub mod Plan
 pub mod Laws
 pub mod Progress
 pub mod Connects
+pub mod Repairing

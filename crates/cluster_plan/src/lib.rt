@@ -2,12 +2,14 @@
 //! becomes of the map of links, by the asks that were answered.
 #![tactic(auto)]
 
+mod answers;
 mod asks;
 mod connections;
 mod connects;
 mod laws;
 mod progress;
 mod recovery_kind;
+mod repair;
 
 pub use asks::{Answer, Ask, Part, Request};
 pub use connections::{ConnState, ConnectionMap, NodeEntry};
@@ -20,3 +22,4 @@ pub use laws::{
 };
 pub use progress::{Progress, Tried};
 pub use recovery_kind::{Failure, RecoveryKind};
+pub use repair::{Repair, RepairStep};

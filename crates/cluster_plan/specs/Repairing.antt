@@ -1,0 +1,73 @@
+-- A repair by what has come of it so far: how its plan goes on.
+use Rattle.std.specs.Prelude.{ℕ, ◌+◌, Bool, true, false, List, [], ◌∷◌, ◌++◌, Option, Some, None, option_map}
+use Rattle.resp_value.specs.declared.value.Value.TheVariants.{Okay}
+use Rattle.redis_error.specs.declared.redis_error.RedisError.TheVariants.{Closed}
+use Rattle.slot_hash.specs.declared.address.NodeAddress.{NodeAddress}
+use Rattle.mux_routing.specs.declared.rows.SlotRow.{SlotRow}
+use Rattle.cluster_plan.specs.declared.asks.Part.TheVariants.{Attempt}
+use Rattle.cluster_plan.specs.declared.asks.Ask.{Ask}
+use Rattle.cluster_plan.specs.declared.asks.Answer.{Answer}
+use Rattle.cluster_plan.specs.declared.asks.Answer.TheVariants as answer
+use Rattle.cluster_plan.specs.declared.connections.NodeEntry.{NodeEntry}
+use Rattle.cluster_plan.specs.declared.connections.ConnState.{ConnState}
+use Rattle.cluster_plan.specs.declared.connections.ConnState.TheVariants.{Connected, Reconnecting, Connecting}
+use Rattle.cluster_plan.specs.declared.progress.Progress.{Progress}
+use Rattle.cluster_plan.specs.declared.progress.Progress.TheVariants as progress
+use Rattle.cluster_plan.specs.declared.repair.AttemptStep.{AttemptStep}
+use Rattle.cluster_plan.specs.declared.repair.AttemptStep.TheVariants as attempt_step
+use Rattle.cluster_plan.specs.declared.repair.Repair.{Repair}
+use Rattle.cluster_plan.specs.declared.repair.RepairStep.{RepairStep}
+use Rattle.cluster_plan.specs.declared.repair.RepairStep.TheVariants as step
+use Rattle.cluster_plan.specs.Asks.{Answered}
+use Rattle.cluster_plan.specs.Connections.{put, state_at, without}
+use Rattle.cluster_plan.specs.Reached.{check, connect}
+use Rattle.cluster_plan.specs.Refresh.{Plan}
+use Rattle.cluster_plan.specs.Laws.{IsGiven}
+use Rattle.cluster_plan.specs.Repair.{attempt, repaired, repairing, waits_over, while_not_connected}
+
+-- an answer that passes a check, or fails it
+abbrev pub check_answer : Bool → Answer
+check_answer true = answer.Value Okay
+check_answer false = answer.Failed Closed
+
+-- an answer by which a connect comes to this, if it has one
+abbrev pub connect_answer : Progress → Option Answer
+connect_answer progress.Connecting = None
+connect_answer (progress.Arrived link) = Some (answer.Connected link)
+connect_answer progress.Lost = Some (answer.Failed Closed)
+
+abbrev pub answered_by : Ask → Option Answer → List Answered
+answered_by x None = []
+answered_by x (Some found) = (x, found) ∷ []
+
+-- what is known of the attempt that goes on, as answers to its asks; an ask isn't told by its link
+abbrev pub known : Repair → List Answered
+known r = answered_by (check (Attempt r.attempt) r.address 0) (option_map check_answer r.check) ++ answered_by (connect (Attempt r.attempt) r.address) (connect_answer r.connect)
+
+-- how the plan of a repair goes on, by the entries and the rows of the turn, and by the answers to come
+unfoldable pub repair_from : Repair → List NodeEntry → List SlotRow → List Answered → Plan
+repair_from r entries rows more =
+    while_not_connected (state_at r.address entries) entries rows (attempt r.address entries rows r.attempts (waits_over more + r.attempt) (known r ++ more))
+
+-- whether the link of a node serves requests
+abbrev pub is_connected : Option ConnState → Bool
+is_connected None = false
+is_connected (Some (Connected link)) = true
+is_connected (Some (Reconnecting link)) = false
+is_connected (Some Connecting) = false
+
+-- what a repair does, by what its attempt does
+abbrev pub step_by : Repair → AttemptStep → RepairStep
+step_by r (attempt_step.Asks request) = step.Asks (record { part = Attempt r.attempt; address = r.address; request = request })
+step_by r (attempt_step.Connected link) = step.Connected link
+
+-- the plan by what a repair does in a turn: it asks, or it ends with that change of the entries
+abbrev pub plan_by : NodeAddress → List NodeEntry → List SlotRow → RepairStep → Plan
+plan_by a entries rows (step.Asks x) = repairing entries rows x
+plan_by a entries rows (step.Connected link) = repaired (put a (Connected link) entries) rows
+plan_by a entries rows step.Leaves = repaired (without a entries) rows
+plan_by a entries rows step.Stays = repaired entries rows
+
+-- an ask that it gives by the entries and the rows of some turn
+abbrev pub IsItsAsk : Repair → Ask → Type 0
+IsItsAsk r x = (entries : List NodeEntry) × (rows : List SlotRow) × IsGiven x (repair_from r entries rows []).next
