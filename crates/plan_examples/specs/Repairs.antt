@@ -70,8 +70,8 @@ begins =
     ∷ (entry (node 7_001) (state.Connected 1) ∷ [], entry (node 7_000) state.Connecting ∷ entry (node 7_001) (state.Connected 1) ∷ [])
     ∷ []
 
--- a repair of that node as it goes: what the map has of it, the port of the node that has all slots, how many attempts are
--- set, what each ask is told, and what the repair does in each turn
+-- how a repair of that node goes: what the map has of it, the port of the node that has all slots, how many attempts are set,
+-- what each ask is told, and what the repair does in each turn
 pub record Course : Type 0 where
   pub has : ConnState
   pub slots_at : ℕ

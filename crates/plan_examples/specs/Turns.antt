@@ -1,4 +1,4 @@
--- A plan that asks one thing at a time, by what each ask is told: how it stands in each turn.
+-- The turns of a plan and of a repair, by what each ask is told.
 use Rattle.std.specs.Prelude.{◌≡◌, ◌≤◌, ◌+◌, Bool, true, false, List, [], ◌∷◌}
 use Rattle.mux_routing.specs.declared.rows.SlotRow.{SlotRow}
 use Rattle.cluster_plan.specs.declared.asks.Ask.{Ask}
@@ -18,7 +18,8 @@ where_one_asked (asks (x ∷ y ∷ more)) behind = []
 where_one_asked ok behind = []
 where_one_asked (failed failure) behind = []
 
--- how it stands at first, and behind each answer to what it asks, until it ends or nothing more is told
+-- how a plan that asks one thing at a time stands at first, and behind each answer to what it asks, until it ends or nothing
+-- more is told
 abbrev pub turns : (List Answered → Plan) → List Answer → List Plan
 turns p [] = p [] ∷ []
 turns p (told ∷ more) = p [] ∷ where_one_asked (p []).next (λ x. turns (λ answers. p ((x, told) ∷ answers)) more)
@@ -30,13 +31,14 @@ IsItsStep r (step.Connected link) = Unit {0}
 IsItsStep r step.Leaves = Unit {0}
 IsItsStep r step.Stays = Unit {0}
 
--- a repair goes on behind an answer
+-- what a repair is behind the answer to an ask: it goes on as its plan does, is of the same node, and has counted one attempt
+-- at most
 abbrev pub IsBehind : Repair → Ask → Answer → Repair → Type 0
 IsBehind r x told later =
     ((entries : List NodeEntry) (rows : List SlotRow) (answers : List Answered) → repair_from later entries rows answers ≡ repair_from r entries rows ((x, told) ∷ answers))
     × (later.address ≡ r.address) × (later.attempt ≤ r.attempt + 1)
 
--- what a step asks is told the first of these, if it asks something and there is one
+-- what a step of a repair asks is told the first of these, if it asks something and there is one; else nothing comes of it
 abbrev pub IsTold : Repair → RepairStep → List Answer → Repair → List Answer → Bool → Type 0
 IsTold r (step.Asks x) [] later rest is = is ≡ false
 IsTold r (step.Asks x) (told ∷ more) later rest is = (is ≡ true) × (rest ≡ more) × IsBehind r x told later
