@@ -4,7 +4,6 @@ use Rattle.containers.proofs.Choices.{left_if, taken_if}
 use Rattle.mux_routing.specs.declared.rows.SlotRow.{SlotRow}
 use Rattle.mux_routing.specs.Shards.{addresses}
 use Rattle.cluster_plan.specs.declared.asks.Part.TheVariants.{Attempt}
-use Rattle.cluster_plan.specs.declared.asks.Answer.{Answer}
 use Rattle.cluster_plan.specs.declared.asks.Request.TheVariants as request
 use Rattle.cluster_plan.specs.declared.connections.ConnState.{ConnState}
 use Rattle.cluster_plan.specs.declared.connections.ConnState.TheVariants as conn

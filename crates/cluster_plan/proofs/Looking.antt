@@ -1,5 +1,5 @@
 -- A node is among the nodes of a map of slots where its address has a place there.
-use Rattle.std.proofs.Common.{◌≡◌, ◌<◌, ℕ, zero, suc, Bool, true, false, List, [], ◌∷◌, length, slice_get, Option, Some, None, is_some, IfSome, IsNone, refl, sym, ap, arith, if◌then◌else◌}
+use Rattle.std.proofs.Common.{◌≡◌, ℕ, zero, suc, Bool, true, false, List, [], ◌∷◌, slice_get, Option, Some, None, is_some, IfSome, IsNone, refl, sym, ap, arith, if◌then◌else◌}
 use Rattle.std.specs.List.{Contains}
 use Rattle.slot_hash.specs.declared.address.NodeAddress.{NodeAddress}
 use Rattle.slot_hash.proofs.Order.{same_exactly}

@@ -1,5 +1,5 @@
 -- A repair by what has come of it so far: how its plan goes on.
-use Rattle.std.specs.Prelude.{ℕ, ◌+◌, Bool, true, false, List, [], ◌∷◌, ◌++◌, Option, Some, None, option_map}
+use Rattle.std.specs.Prelude.{◌+◌, Bool, true, false, List, [], ◌∷◌, ◌++◌, Option, Some, None, option_map}
 use Rattle.resp_value.specs.declared.value.Value.TheVariants.{Okay}
 use Rattle.redis_error.specs.declared.redis_error.RedisError.TheVariants.{Closed}
 use Rattle.slot_hash.specs.declared.address.NodeAddress.{NodeAddress}

@@ -1,4 +1,4 @@
-ghost use Rattle.std.specs.Prelude.{◌≡◌, ◌∷◌, ◌↔◌, ◌<◌, ◌-◌, ◌^◌, ℕ, [], List, Option, IfOk, IsTrue};
+ghost use Rattle.std.specs.Prelude.{◌≡◌, ◌∷◌, ◌↔◌, ◌<◌, ◌≤◌, ◌+◌, ◌-◌, ◌^◌, ℕ, [], List, Option, IfOk, IsTrue};
 ghost use Rattle.slot_hash.specs.declared.address.NodeAddress.{NodeAddress};
 ghost use Rattle.mux_routing.specs.declared.rows.SlotRow.{SlotRow};
 ghost use Rattle.mux_routing.specs.Shards.{addresses};
@@ -149,8 +149,10 @@ impl Repair {
     /// The repair of a node begins, with so many attempts at most, if a number is set.
     #[tactic(auto, unfolding(crate::specs::Plan::plan, crate::specs::Repairing::repair_from))]
     pub fn begin(address: NodeAddress, attempts: Option<u32>) -> Repair
-        ensures { (nodes : List NodeAddress) (entries : List NodeEntry) (rows : List SlotRow) (more : List Answered)
+        ensures goes_on { (nodes : List NodeAddress) (entries : List NodeEntry) (rows : List SlotRow) (more : List Answered)
             → repair_from result entries rows more ≡ plan (kind.Repair address) nodes entries rows attempts more }
+        ensures address { result.address ≡ address }
+        ensures attempt { result.attempt ≡ 1 }
     {
         Repair {
             address,
@@ -159,6 +161,13 @@ impl Repair {
             check: None,
             connect: Progress::Connecting,
         }
+    }
+
+    /// The node whose link it is about.
+    pub fn address(&self) -> &NodeAddress
+        ensures { result.now ≡ self.now.address }
+    {
+        &self.address
     }
 
     /// The node is connected; where that fails, the attempt has its wait.
@@ -238,8 +247,10 @@ impl Repair {
     pub fn answer(&mut self, ask: &Ask, told: Answer)
         requires given { IsItsAsk self.old ask.now }
         requires room { self.old.attempt < 2 ^ 32 - 1 }
-        ensures { (entries : List NodeEntry) (rows : List SlotRow) (more : List Answered)
+        ensures goes_on { (entries : List NodeEntry) (rows : List SlotRow) (more : List Answered)
             → repair_from self.new entries rows more ≡ repair_from self.old entries rows ((ask.now, told) ∷ more) }
+        ensures address { self.new.address ≡ self.old.address }
+        ensures attempt { self.new.attempt ≤ self.old.attempt + 1 }
     {
         match ask.request {
             Request::Check(_) => self.check = Some(passes(&told)),

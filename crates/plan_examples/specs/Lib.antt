@@ -1,4 +1,5 @@
 pub mod Stories
+pub mod Turns
 pub mod Reconnects
 pub mod Refreshes
 pub mod Repairs

@@ -1,6 +1,8 @@
 //! Plans of recoveries and of repairs, each with the proof: what they ask next after each answer, and how they end.
 #![tactic(auto)]
 
+mod turns;
+
 ghost use Rattle.std.specs.Prelude.{◌≡◌, [], ◌∷◌, map};
 ghost use Rattle.cluster_plan.specs.declared.connections.ConnState.TheVariants as state;
 ghost use Rattle.redis_error.specs.declared.fault_kind.FaultKind.TheVariants.{Refused, Reset};
@@ -15,6 +17,8 @@ ghost use Rattle.plan_examples.specs.Reconnects as reconnect;
 ghost use Rattle.plan_examples.specs.Refreshes as refresh;
 ghost use Rattle.plan_examples.specs.Repairs as repair;
 ghost use Rattle.plan_examples.specs.Stories.{all_slots, node, okay, story};
+
+pub use turns::repair_turns;
 
 /// Does nothing. Its contract: of one initial node and of two, what a reconnect asks after each answer, and how it ends.
 pub fn reconnects_go_so()
@@ -49,8 +53,8 @@ pub fn refreshes_go_so()
     ensures bad { story refresh.of_one refresh.bad_twice ≡ refresh.comes_of_bad }
 {}
 
-/// Does nothing. Its contract: what a repair of two attempts asks after each answer, how it ends, its waits, and the map
-/// with which it begins.
+/// Does nothing. Its contract: what a repair of two attempts asks after each answer, how it ends, its waits, the map with
+/// which it begins, and what other repairs do in each turn, as `repair_turns` has it.
 pub fn repairs_go_so()
     ensures attempts { story (repair.from (state.Reconnecting 0) (all_slots 7_000 ∷ []))
         repair.two_attempts ≡ repair.comes_of_attempts }
@@ -64,4 +68,6 @@ pub fn repairs_go_so()
     ensures waits { map wait_ms (1 ∷ 2 ∷ 3 ∷ 4 ∷ 5 ∷ 6 ∷ 7 ∷ []) ≡ repair.waits }
     ensures begins { map (λ row. mark_reconnecting (node 7_000) row.0) repair.begins
         ≡ map (λ row. row.1) repair.begins }
+    ensures courses { map repair.plans_of repair.courses
+        ≡ map repair.plans_by_steps repair.courses }
 {}

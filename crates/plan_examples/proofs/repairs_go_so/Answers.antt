@@ -6,4 +6,4 @@ use Rattle.plan_examples.proofs.repairs_go_so.Goals as goal
 
 pub returns : goal.returns
 unfolding plan address_less mark_reconnecting
-returns c = record { attempts = refl; attempts_end = refl; reached = refl; connected = refl; outside = refl; waits = refl; begins = refl }
+returns c = record { attempts = refl; attempts_end = refl; reached = refl; connected = refl; outside = refl; waits = refl; begins = refl; courses = refl }
