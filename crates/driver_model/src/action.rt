@@ -25,6 +25,8 @@ pub enum Owner {
     Setup,
     /// New credentials, told to the server of a link that is set up.
     Auth,
+    /// What was subscribed, subscribed again on a new link.
+    Resub,
     /// MONITOR, which puts the server of a link into monitor mode.
     Monitor,
 }
@@ -38,6 +40,10 @@ pub enum WaitKind {
     Creds,
     /// The setup of its link is not answered yet.
     Setup,
+    /// What was subscribed is subscribed again on its link, and isn't answered yet.
+    Resubscribe,
+    /// The next attempt to connect hasn't begun.
+    Backoff,
     /// All permits of its connection are held.
     Permit,
     /// The queue of its link holds its size.
@@ -55,6 +61,10 @@ pub enum Purpose {
     Response { owner: Owner },
     /// The link's new credentials, the first of which have the number 0, are to be answered by then.
     Renewal { link: u32, number: u32 },
+    /// A generation waits behind a failed attempt before its next one.
+    Backoff { generation: u32 },
+    /// What was subscribed is to be subscribed again on the link by then.
+    Resubscription { link: u32 },
 }
 
 /// What a source of credentials is asked for.
@@ -109,6 +119,15 @@ pub enum Action {
     NeedCreds {
         source: u32,
         link: u32,
+    },
+    /// A generation of a manager begins, the first of which has the number 1.
+    Generation {
+        number: u32,
+    },
+    /// A round of a request begins, on this link, if on one.
+    Round {
+        owner: Owner,
+        link: Option<u32>,
     },
     /// The link ended, or is to be closed.
     Close {
@@ -219,6 +238,11 @@ impl Action {
             }
             Action::NeedCreds { source, link } => Ok(Action::NeedCreds {
                 source: *source,
+                link: *link,
+            }),
+            Action::Generation { number } => Ok(Action::Generation { number: *number }),
+            Action::Round { owner, link } => Ok(Action::Round {
+                owner: *owner,
                 link: *link,
             }),
             Action::Close { link } => Ok(Action::Close { link: *link }),
