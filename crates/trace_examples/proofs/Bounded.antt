@@ -14,7 +14,7 @@ use Rattle.driver_model.specs.declared.action.SourceUse.{SourceUse}
 use Rattle.driver_model.specs.declared.action.SourceUse.TheVariants as source
 use Rattle.resp_value.specs.declared.push_kind.PushKind.{PushKind}
 use Rattle.driver_model.specs.Push.{is_disconnection}
-use Rattle.driver_model.specs.News.{News, refused, overdue, took, came, failed, authorized, denied, deserted, renewed, unrenewed, late, silence, for_link, of_timer, of_source, news_of}
+use Rattle.driver_model.specs.News.{News, refused, overdue, took, came, failed, authorized, denied, deserted, renewed, unrenewed, late, unrepeated, silence, for_link, of_timer, of_source, news_of}
 use Rattle.legal_trace.specs.Ledger.{Ledger, Line, asks, hears, begins, tells, sources, times, ends, parts, dials, awaits_credentials, may_renew, is_renewal_open, with_news, noted, noted_each}
 use Rattle.legal_trace.specs.Story.{Story, is_open}
 use Rattle.legal_trace.proofs.Ledgers.{unasked_dials_not}
@@ -95,6 +95,8 @@ fired_idle : (l : Ledger) (turn n : ℕ) (what : Option Purpose) → IsIdle l �
 fired_idle l turn n None h = record { down = h.down; unasked = h.unasked; lives = h.lives; mute = h.mute; quiet = h.quiet }
 fired_idle l turn n (Some (purpose.Connect m)) h = hears_idle l turn (m == n) overdue h h
 fired_idle l turn n (Some (purpose.Renewal m k)) h = hears_idle l turn (m == n) (late k) h (chosen IsIdle (l.up && is_renewal_open l k) _ l (λ t. record { down = h.down; unasked = h.unasked; lives = h.lives; mute = h.mute; quiet = h.quiet }) (λ t. h))
+fired_idle l turn n (Some (purpose.Backoff g)) h = record { down = h.down; unasked = h.unasked; lives = h.lives; mute = h.mute; quiet = h.quiet }
+fired_idle l turn n (Some (purpose.Resubscription m)) h = hears_idle l turn (m == n) unrepeated h h
 fired_idle l turn n (Some (purpose.Response who)) h = record { down = h.down; unasked = h.unasked; lives = h.lives; mute = h.mute; quiet = h.quiet }
 
 -- so does a source of credentials
@@ -143,8 +145,8 @@ still_idle b n (action.Push l info) some first h = any_idle (b.link n) (l == n) 
 still_idle b n (action.Message m) some first h = any_idle (b.link n) (current b == n) tells h (told_idle (b.link n) h)
 still_idle b n (action.Monitor v) some first h = any_idle (b.link n) (current b == n) tells h (told_idle (b.link n) h)
 still_idle b n (action.NeedCreds c l) some first h = any_idle (b.link n) (l == n) sources h (record { down = h.down; unasked = h.unasked; lives = h.lives; mute = h.mute; quiet = h.quiet })
-still_idle b n (action.Generation g) some first h = any_idle (b.link n) (l == n) sources h (record { down = h.down; unasked = h.unasked; lives = h.lives; mute = h.mute; quiet = h.quiet })
-still_idle b n (action.Round who l) some first h = any_idle (b.link n) (l == n) sources h (record { down = h.down; unasked = h.unasked; lives = h.lives; mute = h.mute; quiet = h.quiet })
+still_idle b n (action.Generation g) some first h = h
+still_idle b n (action.Round who l) some first h = h
 still_idle b n (action.Close l) some first h = mine_idle b n l (ends (b.turns - 1)) some first h
 still_idle b n (action.Write l bytes) some first h = any_idle (b.link n) (l == n) _ h (record { down = h.down; unasked = h.unasked; lives = h.lives; mute = h.mute; quiet = h.quiet })
 still_idle b n (action.Wait who kind) some first h = h

@@ -261,6 +261,8 @@ timer_due b t ms (purpose.Response owner.Auth) = false
 timer_due b t ms (purpose.Response owner.Resub) = false
 timer_due b t ms (purpose.Response owner.Monitor) = false
 timer_due b t ms (purpose.Renewal l k) = renewal_time_due b t l k
+timer_due b t ms (purpose.Backoff g) = false
+timer_due b t ms (purpose.Resubscription l) = false
 timer_due b t ms (purpose.Response (owner.Try n round)) = (round == 0) && ask_due b t ms n
 
 -- that a connect may take so long, and is what the timer is for
@@ -274,6 +276,8 @@ abbrev pub IsTimeOf : Book → ℕ → Purpose → Type 0
 IsTimeOf b ms (purpose.Connect l) = IsTime b b.running ms (purpose.Connect l)
 IsTimeOf b ms (purpose.Response who) = Unit {0}
 IsTimeOf b ms (purpose.Renewal l k) = answer_time b.config ≡ Some ms
+IsTimeOf b ms (purpose.Backoff g) = Unit {0}
+IsTimeOf b ms (purpose.Resubscription l) = Unit {0}
 
 -- so the timer of a connect may stand
 connect_timer_stands : (b : Book) (t ms l : ℕ) → timer_due b t ms (purpose.Connect l) ≡ true → IsTime b b.running ms (purpose.Connect l) → MayTimeConnect b t ms (purpose.Connect l)
@@ -301,6 +305,8 @@ timer_stands b t ms (purpose.Response owner.Auth) bounded e said = cc e
 timer_stands b t ms (purpose.Response owner.Resub) bounded e said = cc e
 timer_stands b t ms (purpose.Response owner.Monitor) bounded e said = cc e
 timer_stands b t ms (purpose.Renewal l k) bounded e said = inr (inr (renewal_time_stands b t ms l k bounded e said))
+timer_stands b t ms (purpose.Backoff g) bounded e said = cc e
+timer_stands b t ms (purpose.Resubscription l) bounded e said = cc e
 timer_stands b t ms (purpose.Response (owner.Try n round)) bounded e said =
     inr (inl (subst (λ r. MayTime b t ms (purpose.Response (owner.Try n r))) (sym (eq_from round 0 (both_left (round == 0) (ask_due b t ms n) e))) (ask_stands b t ms n bounded (both_right (round == 0) (ask_due b t ms n) e))))
 
@@ -494,8 +500,8 @@ due b (action.Push l info) = push_due (is_disconnection info.kind) b l
 due b (action.Message m) = tell_due b (current b) (next_notice (b.link (current b)))
 due b (action.Monitor v) = tell_due b (current b) (next_notice (b.link (current b)))
 due b (action.NeedCreds c l) = need_due b c l
-due b (action.Generation g) = need_due b c l
-due b (action.Round who l) = need_due b c l
+due b (action.Generation g) = false
+due b (action.Round who l) = false
 due b (action.Close l) = close_due b l
 due b (action.Write l bytes) = write_due b l bytes
 due b (action.Wait owner.Setup kind) = false
@@ -505,7 +511,7 @@ due b (action.Wait owner.Monitor kind) = false
 due b (action.Wait (owner.Try n round) kind) = (round == 0) && wait_due b n kind
 due b (action.Start l k owner.Setup count len) = set_up_due b l k count len
 due b (action.Start l k owner.Auth count len) = renew_due b l k count len
-due b (action.Start l k owner.Resub count len) = watch_due b l k count len
+due b (action.Start l k owner.Resub count len) = false
 due b (action.Start l k owner.Monitor count len) = watch_due b l k count len
 due b (action.Start l k (owner.Try n round) count len) = (round == 0) && start_due b l k n count len
 due b (action.Created None) = created_due b
@@ -588,8 +594,8 @@ first_stands b (action.Push l info) more bounded e said = (push_stands (is_disco
 first_stands b (action.Message m) more bounded e said = (tell_stands b (current b) (notice.Message m) bounded e said.0, said.1)
 first_stands b (action.Monitor v) more bounded e said = (tell_stands b (current b) (notice.Monitor v) bounded e said.0, said.1)
 first_stands b (action.NeedCreds c l) more bounded e said = (need_stands b c l bounded e, said)
-first_stands b (action.Generation g) more bounded e said = (need_stands b c l bounded e, said)
-first_stands b (action.Round who l) more bounded e said = (need_stands b c l bounded e, said)
+first_stands b (action.Generation g) more bounded e said = absurd (cc e)
+first_stands b (action.Round who l) more bounded e said = absurd (cc e)
 first_stands b (action.Close l) more bounded e said = (close_stands b l bounded e, said)
 first_stands b (action.Write l bytes) more bounded e said = (write_stands b l bytes bounded e said.0, said.1)
 first_stands b (action.Wait owner.Setup kind) more bounded e said = absurd (cc e)
@@ -599,7 +605,7 @@ first_stands b (action.Wait owner.Monitor kind) more bounded e said = absurd (cc
 first_stands b (action.Wait (owner.Try n round) kind) more bounded e said =
     ((eq_from round 0 (both_left (round == 0) (wait_due b n kind) e), wait_stands b n kind bounded (both_right (round == 0) (wait_due b n kind) e)), said)
 first_stands b (action.Start l k owner.Setup count len) more bounded e said = (set_up_stands b l k count len bounded e, said)
-first_stands b (action.Start l k owner.Resub count len) more bounded e said = (watch_stands b l k count len bounded e, said)
+first_stands b (action.Start l k owner.Resub count len) more bounded e said = absurd (cc e)
 first_stands b (action.Start l k owner.Monitor count len) more bounded e said = (watch_stands b l k count len bounded e, said)
 first_stands b (action.Start l k owner.Auth count len) more bounded e said = (renew_stands b l k count len bounded e, said)
 first_stands b (action.Start l k (owner.Try n round) count len) more bounded e said =
