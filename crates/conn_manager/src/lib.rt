@@ -25,9 +25,7 @@ pub use laws::{
 };
 pub use manager::ConnectionManager;
 pub use manager_config::{ConnectionManagerConfig, backoff_ms};
-pub use manager_generations::{
-    Generations, ManagerAct, ManagerTimer, ManagerWait, Phase, Settings,
-};
+pub use manager_generations::{Generations, ManagerAct, ManagerTimer, Phase, Settings};
 pub use mux_client::SendError;
 pub use mux_conn::{ConnectionError, Pending};
 pub use request::{Call, HeldRequest, Stage};

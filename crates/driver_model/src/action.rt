@@ -1,4 +1,5 @@
 ghost use Rattle.std.specs.Prelude.{◌≡◌, IfOk};
+ghost use Rattle.driver_model.specs.Waits.{wait_code};
 
 use crate::config::Config;
 use crate::event::Event;
@@ -50,6 +51,24 @@ pub enum WaitKind {
     Place,
     /// It has its place, and so many bytes of its link are unwritten that no message starts.
     Room,
+}
+
+impl WaitKind {
+    /// Its place in the list of waits.
+    pub fn code(self) -> u8
+        ensures { result ≡ wait_code self }
+    {
+        match self {
+            WaitKind::Connect => 0,
+            WaitKind::Creds => 1,
+            WaitKind::Setup => 2,
+            WaitKind::Resubscribe => 3,
+            WaitKind::Backoff => 4,
+            WaitKind::Permit => 5,
+            WaitKind::Place => 6,
+            WaitKind::Room => 7,
+        }
+    }
 }
 
 /// What a timer is asked for.
