@@ -16,9 +16,8 @@ use Rattle.resp_value.specs.declared.value.Value.{Value}
 use Rattle.resp_read.specs.Grammar.{max_depth}
 use Rattle.resp_read.specs.Values.{values, left_over, is_spoiled}
 use Rattle.resp_read.specs.Items.{items}
-use Rattle.redis_error.specs.declared.config_name.ConfigName.TheVariants as name
 use Rattle.resp_write.specs.declared.subscription.SubscriptionAction.TheVariants.{SSubscribe}
-use Rattle.driver_model.specs.Config.{address, fault_in, first_fault}
+use Rattle.driver_model.specs.Config.{address, fault_in}
 use Rattle.driver_model.specs.Push.{is_disconnection}
 use Rattle.driver_model.specs.declared.action.Action.TheVariants as action
 use Rattle.driver_model.specs.declared.action.Cause.{Cause}
@@ -48,7 +47,6 @@ use Rattle.trace_examples.specs.Setups.{password_line, setup_sent}
 use Rattle.trace_examples.specs.Traces.{opening, came_up}
 use Rattle.trace_examples.proofs.Bounded.{blank_bounded, bounded_behind}
 use Rattle.trace_examples.proofs.Due.{IsPlace, legal, stands}
-use Rattle.trace_examples.proofs.Misplaced.{same_config}
 use Rattle.trace_examples.proofs.Pushes.{at_heard}
 use Rattle.trace_examples.proofs.Server.{at_h}
 use Rattle.trace_examples.proofs.Single.{none_is_some, other_fault}

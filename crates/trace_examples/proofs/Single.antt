@@ -1,6 +1,6 @@
 -- Books of traces with any configuration: where a command came the session is one multiplexed connection, which hears pushes or
 -- nothing, and where its link was up at once nothing is said to its server.
-use Rattle.std.proofs.Common.{◌≡◌, ℕ, ◌==◌, zero, suc, ℤ, pos, negsuc, Bool, true, false, ◌&&◌, List, ◌∷◌, ◌++◌, Option, Some, None, drop, unwrap_or, refl, sym, ap, ◌∙◌, subst}
+use Rattle.std.proofs.Common.{◌≡◌, ℕ, ◌==◌, zero, suc, ℤ, pos, negsuc, Bool, true, false, ◌&&◌, List, ◌∷◌, ◌++◌, Option, Some, None, drop, refl, sym, ap, ◌∙◌, subst}
 use Rattle.containers.proofs.Choices.{not_both}
 use Rattle.connection_info.specs.declared.address.RedisConnectionInfo.{RedisConnectionInfo}
 use Rattle.connection_info.specs.declared.protocol.ProtocolVersion.{ProtocolVersion}

@@ -6,7 +6,6 @@ use Rattle.resp_value.specs.View.{value_of}
 use Rattle.resp_write.specs.declared.subscription.SubscriptionAction.TheVariants.{Subscribe}
 use Rattle.driver_model.specs.declared.action.Action.{Action}
 use Rattle.driver_model.specs.declared.action.Action.TheVariants as action
-use Rattle.driver_model.specs.declared.action.Cause.TheVariants as cause
 use Rattle.driver_model.specs.declared.action.Owner.TheVariants as owner
 use Rattle.driver_model.specs.declared.config.Config.{Config}
 use Rattle.driver_model.specs.declared.config.Config.TheVariants as variant
