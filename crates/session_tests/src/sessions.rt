@@ -40,11 +40,7 @@ fn event(alloc: Global, told: Told) -> Result<Event, AllocError> {
 }
 
 /// The configuration of a connection to this address that behaves so. No library is named.
-fn config_of(
-    alloc: Global,
-    url: &[u8],
-    connection: ConnectionWords,
-) -> Result<Config, AllocError> {
+fn config_of(alloc: Global, url: &[u8], connection: ConnectionWords) -> Result<Config, AllocError> {
     let url = Bytes::from_slice(alloc, url)?;
     Ok(Config::Single {
         address: AddressWords {

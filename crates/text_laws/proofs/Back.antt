@@ -374,7 +374,7 @@ abbrev config_by : List ℕ → Setting (Option ℕ) → Setting (Option ℕ) �
 config_by address connect response limit buffer boundary push creds lib =
     if ((connect.allowed && response.allowed) && (limit.allowed && (buffer.allowed && boundary.allowed))) && (push.allowed && (creds.allowed && lib.allowed))
     then Some (variant.Single (record { url = address; lib = lib.read })
-        (record { connect = connect.read; response = response.read; limit = limit.read; buffer = buffer.read; boundary = boundary.read; push = push.read; creds = creds.read })) else None
+    (record { connect = connect.read; response = response.read; limit = limit.read; buffer = buffer.read; boundary = boundary.read; push = push.read; creds = creds.read })) else None
 
 -- a configuration by what is found in the words behind its address
 abbrev config_found : List ℕ → Found → Option Config
