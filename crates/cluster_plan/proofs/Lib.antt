@@ -7,6 +7,12 @@ mod Ended
 mod Failing
 mod Staying
 mod Repairing
-mod Skipping
+mod Missing
 mod Settling
 mod Beginning
+mod Passing
+mod Sorting
+mod Arriving
+mod Waiting
+mod Mending
+mod Going

@@ -28,7 +28,7 @@ use Rattle.cluster_plan.proofs.Ended.{KeepsAnswer, answer_kept, tries_kept, Keep
 itself : (n : ℕ) (host : List ℕ) (m p : ℕ) → ((n == n) && (m == m) && (bytes_eq host host && p == p)) ≡ true
 itself n host m p = let h : bytes_eq host host ≡ true = (bytes_eq-Decides host host).1 refl in grind (arith, nat_tests, h)
 
-is_ask_itself : (x : Ask) → is_ask x x ≡ true
+pub is_ask_itself : (x : Ask) → is_ask x x ≡ true
 is_ask_itself x = itself (part_number x.part) x.address.host (request_number x.request) x.address.port
 
 -- an ask that has no answer has none while another is answered

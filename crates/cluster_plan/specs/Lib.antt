@@ -8,3 +8,6 @@ pub mod Plan
 pub mod Laws
 pub mod Progress
 pub mod Connects
+pub mod Steps
+pub mod Recovering
+pub mod Repairing

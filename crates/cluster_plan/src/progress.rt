@@ -22,7 +22,7 @@ pub struct Tried {
 }
 
 /// Whether two addresses are one.
-fn same_address(a: &NodeAddress, b: &NodeAddress) -> bool
+pub fn same_address(a: &NodeAddress, b: &NodeAddress) -> bool
     ensures { result ≡ same_address a.now b.now }
 {
     a.host.as_slice() == b.host.as_slice() && a.port == b.port
