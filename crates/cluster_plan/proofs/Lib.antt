@@ -13,6 +13,4 @@ mod Beginning
 mod Passing
 mod Sorting
 mod Arriving
-mod Waiting
-mod Mending
 mod Going

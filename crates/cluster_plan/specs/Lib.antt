@@ -10,4 +10,3 @@ pub mod Progress
 pub mod Connects
 pub mod Steps
 pub mod Recovering
-pub mod Repairing

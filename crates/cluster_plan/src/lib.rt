@@ -12,7 +12,6 @@ mod passes;
 mod progress;
 mod recovery;
 mod recovery_kind;
-mod repair;
 mod state;
 mod step;
 
@@ -28,4 +27,3 @@ pub use laws::{
 pub use progress::{Progress, Tried};
 pub use recovery::{Recovery, RecoveryEnd};
 pub use recovery_kind::{Failure, RecoveryKind};
-pub use repair::{Repair, RepairStep};
