@@ -1,7 +1,7 @@
 -- Entries that are put in their places stand in the order of their addresses.
-use Rattle.std.proofs.Common.{◌≡◌, ◌&&◌, Bool, true, false, List, [], ◌∷◌, ◌++◌, refl, sym, ◌∙◌, ap, subst, if◌then◌else◌}
+use Rattle.std.proofs.Common.{◌≡◌, ◌&&◌, Bool, true, false, List, [], ◌∷◌, ◌++◌, refl, sym, ◌∙◌, ap, subst, append_assoc, if◌then◌else◌}
 use Rattle.std.specs.List.{list_all}
-use Rattle.containers.proofs.Choices.{both_left, both_right, chosen}
+use Rattle.containers.proofs.Choices.{both_left, both_right, chosen, left_if, taken_if}
 use Rattle.slot_hash.specs.declared.address.NodeAddress.{NodeAddress}
 use Rattle.mux_routing.specs.Shards.{address_less, in_order}
 use Rattle.cluster_retries.proofs.AddressOrder.{onwards, same}
@@ -10,6 +10,26 @@ use Rattle.cluster_plan.specs.declared.connections.NodeEntry.{NodeEntry}
 use Rattle.cluster_plan.specs.Connections.{entry, put}
 use Rattle.cluster_plan.specs.Initial.{in_address_order}
 use Rattle.cluster_plan.specs.Recovering.{places}
+
+-- an entry between those before its place and the one found there
+behind_one : (front between others es : List NodeEntry) (e : NodeEntry) → between ≡ front ++ e ∷ [] → es ≡ between ++ others → es ≡ front ++ e ∷ others
+behind_one front between others es e b h = h ∙ ap (λ xs. xs ++ others) b ∙ append_assoc front (e ∷ []) others
+
+pub put_over : (front between others es : List NodeEntry) (e found : NodeEntry) → address_less found.address e.address ≡ false → address_less e.address found.address ≡ false → between ≡ front ++ e ∷ [] → es ≡ between ++ others
+    → es ≡ front ++ put e.address e.state (found ∷ others)
+put_over front between others es e found f g b h =
+    behind_one front between others es e b h
+    ∙ ap (λ xs. front ++ xs) (sym (left_if (address_less e.address found.address) (e ∷ found ∷ others) (e ∷ others) g))
+    ∙ ap (λ xs. front ++ xs) (sym (left_if (address_less found.address e.address) (found ∷ put e.address e.state others) (if address_less e.address found.address then e ∷ found ∷ others else e ∷ others) f))
+
+pub put_between : (front before between others es : List NodeEntry) (e found : NodeEntry) → address_less found.address e.address ≡ false → address_less e.address found.address ≡ true → before ≡ front ++ e ∷ [] → between ≡ before ++ found ∷ [] → es ≡ between ++ others
+    → es ≡ front ++ put e.address e.state (found ∷ others)
+put_between front before between others es e found f g a b h =
+    behind_one before between others es found b h
+    ∙ ap (λ xs. xs ++ found ∷ others) a
+    ∙ append_assoc front (e ∷ []) (found ∷ others)
+    ∙ ap (λ xs. front ++ xs) (sym (taken_if (address_less e.address found.address) (e ∷ found ∷ others) (e ∷ others) g))
+    ∙ ap (λ xs. front ++ xs) (sym (left_if (address_less found.address e.address) (found ∷ put e.address e.state others) (if address_less e.address found.address then e ∷ found ∷ others else e ∷ others) f))
 
 -- entries put among others, the last one first
 abbrev pub put_all : List NodeEntry → List NodeEntry → List NodeEntry
@@ -23,6 +43,13 @@ put_all_last (f ∷ es) e done = ap (put f.address f.state) (put_all_last es e d
 pub put_all_alone : (es : List NodeEntry) → put_all es [] ≡ in_address_order es
 put_all_alone [] = refl
 put_all_alone (e ∷ es) = ap (put e.address e.state) (put_all_alone es)
+
+pub begun_sorting : (left sorted es : List NodeEntry) → left ≡ es → sorted ≡ [] → put_all left sorted ≡ in_address_order es
+begun_sorting left sorted es l s = (λ i. put_all (l i) (s i)) ∙ put_all_alone es
+
+pub sorted_on : (left rest sorted new all : List NodeEntry) (e : NodeEntry) → left ≡ rest ++ e ∷ [] → new ≡ put e.address e.state sorted → put_all left sorted ≡ all → put_all rest new ≡ all
+sorted_on left rest sorted new all e l n h =
+    ap (put_all rest) n ∙ sym (put_all_last rest e sorted) ∙ ap (λ es. put_all es sorted) (sym l) ∙ h
 
 pub both_true : (x y : Bool) → x ≡ true → y ≡ true → (x && y) ≡ true
 both_true x y h g = ap (λ b. b && y) h ∙ g

@@ -1,4 +1,4 @@
-ghost use Rattle.std.specs.Prelude.{◌≡◌, ◌++◌, true, IfOk};
+ghost use Rattle.std.specs.Prelude.{◌≡◌, ◌∷◌, ◌++◌, true, false, IfOk};
 ghost use Rattle.mux_routing.specs.Shards.{address_less, in_order, text_less};
 ghost use Rattle.cluster_plan.specs.Connections.{put};
 ghost use Rattle.cluster_plan.specs.Initial.{in_address_order};
@@ -41,6 +41,28 @@ pub fn appended(
     Ok(entries)
 }
 
+/// An entry between those before its place and the one found there, which it replaces if that is of the same node.
+#[tactic(auto, using(crate::proofs::Sorting::put_over, crate::proofs::Sorting::put_between))]
+fn put_here(
+    front: ConnectionMap,
+    new: NodeEntry,
+    found: NodeEntry,
+    others: Queue<NodeEntry>,
+) -> Result<ConnectionMap, AllocError>
+    requires { address_less found.address new.address ≡ false }
+    ensures { IfOk result
+        (λ entries. entries ≡ front ++ put new.address new.state (found ∷ others)) }
+{
+    let is_other = address_less(&new.address, &found.address);
+    let mut entries = front;
+    entries.push(new)?;
+    if !is_other {
+        return appended(entries, others);
+    }
+    entries.push(found)?;
+    appended(entries, others)
+}
+
 /// An entry in its place among others in order.
 fn put(alloc: Global, new: NodeEntry, sorted: ConnectionMap) -> Result<ConnectionMap, AllocError>
     ensures { IfOk result (λ entries. entries ≡ put new.address new.state sorted) }
@@ -49,12 +71,7 @@ fn put(alloc: Global, new: NodeEntry, sorted: ConnectionMap) -> Result<Connectio
     let mut rest = Queue::from_vec(sorted.into_vec());
     while let Some(entry) = rest.pop_front() {
         if !address_less(&entry.address, &new.address) {
-            let is_other = address_less(&new.address, &entry.address);
-            before.push(new)?;
-            if is_other {
-                before.push(entry)?;
-            }
-            return appended(before, rest);
+            return put_here(before, new, entry, rest);
         }
         before.push(entry)?;
     }
