@@ -1,15 +1,15 @@
 -- The nodes of a new map go on behind an answer as their plan does.
-use Rattle.std.proofs.Common.{◌≡◌, ◌⊎◌, inl, inr, ℕ, zero, suc, ◌≤◌, ◌==◌, ◌&&◌, Bool, true, false, List, [], ◌∷◌, ◌++◌, map, length, take, slice_get, option_to_list, Option, Some, None, refl, sym, ◌∙◌, ap, subst, append_assoc, append-nil, arith, if◌then◌else◌}
+use Rattle.std.proofs.Common.{◌≡◌, ◌⊎◌, inl, inr, ℕ, zero, suc, ◌≤◌, ◌==◌, ◌&&◌, Bool, true, false, List, [], ◌∷◌, ◌++◌, map, length, take, drop, slice_get, option_to_list, Option, Some, None, refl, sym, ◌∙◌, ap, subst, append_assoc, append-nil, arith, if◌then◌else◌}
 use Rattle.std.specs.List.{All, Contains, list_all}
 use Rattle.std.proofs.lemmas.Bool.Decides.{nat_tests}
-use Rattle.std.proofs.lemmas.List.{take_all}
+use Rattle.std.proofs.lemmas.List.{drop_all, take_all}
 use Rattle.std.proofs.lemmas.List.Elements.{All-nil, All-cons, All-head, All-tail}
 use Rattle.std.proofs.lemmas.Slice.Eq.{bytes_eq-Decides}
 use Rattle.containers.proofs.Choices.{both_left, both_right, chosen, left_if, taken_if}
 use Rattle.redis_error.specs.declared.redis_error.RedisError.{RedisError}
 use Rattle.slot_hash.specs.declared.address.NodeAddress.{NodeAddress}
 use Rattle.mux_routing.specs.declared.rows.SlotRow.{SlotRow}
-use Rattle.mux_routing.specs.Shards.{address_less, addresses, first_numbers, in_order}
+use Rattle.mux_routing.specs.Shards.{address_less, addresses, first_numbers, in_order, node_places}
 use Rattle.cluster_plan.specs.declared.asks.Ask.{Ask}
 use Rattle.cluster_plan.specs.declared.asks.Answer.{Answer}
 use Rattle.cluster_plan.specs.declared.asks.Part.TheVariants.{Initial, Last}
@@ -65,6 +65,15 @@ pub looked_all : (nodes : List NodeAddress) → looked_up nodes (first_numbers (
 looked_all nodes =
     let all : length nodes ≤ length nodes = omega arith in
     looked_first nodes (length nodes) ∙ take_all (length nodes) nodes all
+
+pub looked_over : (entries : List NodeEntry) (rows : List SlotRow) (nodes : List Arrival) (numbers : List ℕ) (k : ℕ) → numbers ≡ node_places rows → length numbers ≤ k
+    → nodes ++ map (begun_at entries) (looked_up (addresses rows) (drop k numbers)) ≡ map (begun_at entries) (looked_up (addresses rows) numbers) → nodes ≡ map (begun_at entries) (addresses rows)
+looked_over entries rows nodes numbers k n end h =
+    sym (append-nil nodes)
+    ∙ ap (λ ns. nodes ++ map (begun_at entries) (looked_up (addresses rows) ns)) (sym (drop_all k numbers end))
+    ∙ h
+    ∙ ap (λ ns. map (begun_at entries) (looked_up (addresses rows) ns)) n
+    ∙ ap (map (begun_at entries)) (looked_all (addresses rows))
 
 -- at the beginning
 pub begun_so : (entries : List NodeEntry) (nodes : List NodeAddress) (more : List Answered) → stepped (map (begun_at entries) nodes) more ≡ arrivals entries nodes more

@@ -20,6 +20,7 @@ use Rattle.cluster_plan.specs.declared.recovery_kind.RecoveryKind.{RecoveryKind}
 use Rattle.cluster_plan.specs.declared.recovery_kind.RecoveryKind.TheVariants as kind
 use Rattle.cluster_plan.specs.declared.recovery_kind.Failure.{Failure}
 use Rattle.cluster_plan.specs.declared.recovery_kind.Failure.TheVariants.{Create, Refresh}
+use Rattle.cluster_plan.specs.declared.heard.Heard.{Heard}
 use Rattle.cluster_plan.specs.declared.state.Pass.{Pass}
 use Rattle.cluster_plan.specs.declared.state.State.{State}
 use Rattle.cluster_plan.specs.declared.step.Arrival.{Arrival}
@@ -28,12 +29,13 @@ use Rattle.cluster_plan.specs.declared.step.Step.TheVariants.{Checking, Connecti
 use Rattle.cluster_plan.specs.Asks.{Answered, error_told, link_told, passes, rows_told}
 use Rattle.cluster_plan.specs.Connections.{connected_link, entry, link_of}
 use Rattle.cluster_plan.specs.Connects.{open_asks, plan_behind, plan_from}
+use Rattle.cluster_plan.specs.Heard.{heard_by_link, heard_by_rows, heard_of}
 use Rattle.cluster_plan.specs.Initial.{after_tries, in_address_order, initial}
 use Rattle.cluster_plan.specs.Laws.{IsGiven, IsRecovery}
 use Rattle.cluster_plan.specs.Plan.{plan}
 use Rattle.cluster_plan.specs.Progress.{go_on}
 use Rattle.cluster_plan.specs.Reached.{Reached, asked_for, check, connect}
-use Rattle.cluster_plan.specs.Recovering.{asked_second, asks_in, end_by, ended_so, entries_of, first_from, has_ended, places, plan_of, second_from}
+use Rattle.cluster_plan.specs.Recovering.{after_heard, asked_second, asks_in, end_by, ended_so, entries_of, first_from, has_ended, places, plan_of, second_from}
 use Rattle.cluster_plan.specs.Refresh.{asks, after_first, after_second, all_asked, by_connected, first_replies, query, refresh, renewed, renewed_by, second_replies, until_good, visited}
 use Rattle.cluster_plan.specs.Steps.{begun_at, begun_by, settled_nodes, stepped}
 use Rattle.cluster_plan.proofs.Arriving.{asks_all, begun_places, begun_so, connect_given, given_at, one_given, settled_order, settled_so}
@@ -111,37 +113,26 @@ goes_behind s p rows front state last more e h =
     ∙ ap (λ l. after_second (l ++ visited p.rest more) rows more (until_good last (second_replies p.rest more))) e
     ∙ ap (λ es. after_second es rows more (until_good last (second_replies p.rest more))) (append_assoc p.passed (entry p.here.address state ∷ []) (visited p.rest more))
 
-pub goes_checked : (p : Pass) (rows : List SlotRow) (last : RedisError) (more : List Answered) (link : ℕ) (found : Answer) (next : Step) → in_order (places (entries_of p)) ≡ true → next ≡ (if passes found then Arrived link else Connecting)
-    → second_from p rows next last more ≡ second_from p rows (Checking link) last ((check Second p.here.address link, found) ∷ more)
-goes_checked p rows last more link found next o e = ap (λ t. second_from p rows t last more) e ∙ sym (second_checked p rows last more link found o)
-
-pub goes_connected : (p : Pass) (rows : List SlotRow) (last : RedisError) (more : List Answered) (link : ℕ) (found : Answer) → in_order (places (entries_of p)) ≡ true → link_told found ≡ Some link
-    → second_from p rows (Arrived link) last more ≡ second_from p rows Connecting last ((connect Second p.here.address, found) ∷ more)
-goes_connected p rows last more link found o e = sym (second_connected p rows last more link found o e)
-
-pub goes_failed : (s : State) (p : Pass) (rows : List SlotRow) (last error : RedisError) (more : List Answered) (found : Answer) → in_order (places (entries_of p)) ≡ true → link_told found ≡ None → error ≡ error_told found
-    → ((m : List Answered) → plan_of s m ≡ after_second (p.passed ++ entry p.here.address conn.Connecting ∷ visited p.rest m) rows m (until_good error (second_replies p.rest m)))
-    → plan_of s more ≡ second_from p rows Connecting last ((connect Second p.here.address, found) ∷ more)
-goes_failed s p rows last error more found o t e h =
-    h more
-    ∙ ap (λ l. after_second (p.passed ++ entry p.here.address conn.Connecting ∷ visited p.rest more) rows more (until_good l (second_replies p.rest more))) e
-    ∙ sym (second_failed p rows last more found o t)
-
 pub goes_renewed_with : (s : State) (p : Pass) (new : List SlotRow) (es : List NodeEntry) (state : ConnState) (more : List Answered) → es ≡ p.passed ++ entry p.here.address state ∷ p.rest
     → ((m : List Answered) → plan_of s m ≡ renewed es new m) → plan_of s more ≡ renewed (p.passed ++ entry p.here.address state ∷ p.rest) new more
 goes_renewed_with s p new es state more e h = h more ∙ ap (λ l. renewed l new more) e
 
-pub goes_good : (s : State) (p : Pass) (rows new : List SlotRow) (last : RedisError) (more : List Answered) (link : ℕ) (found : Answer) → in_order (places (entries_of p)) ≡ true → rows_told p.here.address.host found ≡ Some new
-    → ((m : List Answered) → plan_of s m ≡ renewed (p.passed ++ entry p.here.address (conn.Connected link) ∷ p.rest) new m) → plan_of s more ≡ second_from p rows (Arrived link) last ((query Second p.here.address link, found) ∷ more)
-goes_good s p rows new last more link found o t h = h more ∙ sym (second_good p rows new last more link found o t)
+-- what was heard
+heard_link : (p : Pass) (rows : List SlotRow) (last : RedisError) (more : List Answered) (found : Answer) (o : Option ℕ) → in_order (places (entries_of p)) ≡ true → link_told found ≡ o
+    → after_heard p rows Connecting last (heard_by_link o (error_told found)) more ≡ second_from p rows Connecting last ((connect Second p.here.address, found) ∷ more)
+heard_link p rows last more found None o e = sym (second_failed p rows last more found o e)
+heard_link p rows last more found (Some link) o e = sym (second_connected p rows last more link found o e)
 
-pub goes_bad : (s : State) (p : Pass) (rows : List SlotRow) (last error : RedisError) (more : List Answered) (link : ℕ) (found : Answer) → in_order (places (entries_of p)) ≡ true → rows_told p.here.address.host found ≡ None → error ≡ error_told found
-    → ((m : List Answered) → plan_of s m ≡ after_second (p.passed ++ entry p.here.address (conn.Connected link) ∷ visited p.rest m) rows m (until_good error (second_replies p.rest m)))
-    → plan_of s more ≡ second_from p rows (Arrived link) last ((query Second p.here.address link, found) ∷ more)
-goes_bad s p rows last error more link found o t e h =
-    h more
-    ∙ ap (λ l. after_second (p.passed ++ entry p.here.address (conn.Connected link) ∷ visited p.rest more) rows more (until_good l (second_replies p.rest more))) e
-    ∙ sym (second_bad p rows last more link found o t)
+heard_rows : (p : Pass) (rows : List SlotRow) (link : ℕ) (last : RedisError) (more : List Answered) (found : Answer) (w : Option (List SlotRow)) → in_order (places (entries_of p)) ≡ true → rows_told p.here.address.host found ≡ w
+    → after_heard p rows (Arrived link) last (heard_by_rows w (error_told found)) more ≡ second_from p rows (Arrived link) last ((query Second p.here.address link, found) ∷ more)
+heard_rows p rows link last more found None o e = sym (second_bad p rows last more link found o e)
+heard_rows p rows link last more found (Some new) o e = sym (second_good p rows new last more link found o e)
+
+heard_so : (p : Pass) (rows : List SlotRow) (step : Step) (last : RedisError) (more : List Answered) (found : Answer) → in_order (places (entries_of p)) ≡ true
+    → after_heard p rows step last (heard_of p.here.address.host step found) more ≡ second_from p rows step last ((asked_second p.here.address step, found) ∷ more)
+heard_so p rows (Checking link) last more found o = sym (second_checked p rows last more link found o)
+heard_so p rows Connecting last more found o = heard_link p rows last more found (link_told found) o refl
+heard_so p rows (Arrived link) last more found o = heard_rows p rows link last more found (rows_told p.here.address.host found) o refl
 
 -- the nodes of the new map
 pub goes_renewed : (s : State) (entries : List NodeEntry) (rows : List SlotRow) (nodes : List Arrival) (more : List Answered) → nodes ≡ map (begun_at entries) (addresses rows)
@@ -208,10 +199,13 @@ second_given p rows (Checking link) last x given = one_given x (check Second p.h
 second_given p rows Connecting last x given = one_given x (connect Second p.here.address) given
 second_given p rows (Arrived link) last x given = one_given x (query Second p.here.address link) given
 
-pub goes_by_second : (s : State) (p : Pass) (rows : List SlotRow) (step : Step) (last : RedisError) (x : Ask) (found : Answer) (more : List Answered) → IsGiven x (second_from p rows step last []).next
-    → ((m : List Answered) → plan_of s m ≡ second_from p rows step last ((asked_second p.here.address step, found) ∷ m)) → plan_of s more ≡ second_from p rows step last ((x, found) ∷ more)
-goes_by_second s p rows step last x found more given h =
-    h more ∙ ap (λ y. second_from p rows step last ((y, found) ∷ more)) (sym (second_given p rows step last x given))
+pub goes_by_second : (s : State) (p : Pass) (rows : List SlotRow) (step : Step) (last : RedisError) (heard : Heard) (x : Ask) (found : Answer) (more : List Answered) → in_order (places (entries_of p)) ≡ true → IsGiven x (second_from p rows step last []).next
+    → heard ≡ heard_of p.here.address.host step found → ((m : List Answered) → plan_of s m ≡ after_heard p rows step last heard m) → plan_of s more ≡ second_from p rows step last ((x, found) ∷ more)
+goes_by_second s p rows step last heard x found more o given e h =
+    h more
+    ∙ ap (λ w. after_heard p rows step last w more) e
+    ∙ heard_so p rows step last more found o
+    ∙ ap (λ y. second_from p rows step last ((y, found) ∷ more)) (sym (second_given p rows step last x given))
 
 -- what is asked
 pub second_asks : (p : Pass) (rows : List SlotRow) (step : Step) (last : RedisError) → asks_in (second_from p rows step last []).next ≡ asked_second p.here.address step ∷ []

@@ -9,4 +9,5 @@ pub mod Laws
 pub mod Progress
 pub mod Connects
 pub mod Steps
+pub mod Heard
 pub mod Recovering

@@ -7,7 +7,11 @@ use Rattle.mux_routing.specs.declared.rows.SlotRow.{SlotRow}
 use Rattle.mux_routing.specs.Shards.{in_order}
 use Rattle.cluster_plan.specs.declared.asks.Ask.{Ask}
 use Rattle.cluster_plan.specs.declared.asks.Part.TheVariants.{First, Second}
+use Rattle.cluster_plan.specs.declared.connections.ConnState.{ConnState}
+use Rattle.cluster_plan.specs.declared.connections.ConnState.TheVariants as conn
 use Rattle.cluster_plan.specs.declared.connections.NodeEntry.{NodeEntry}
+use Rattle.cluster_plan.specs.declared.heard.Heard.{Heard}
+use Rattle.cluster_plan.specs.declared.heard.Heard.TheVariants as heard
 use Rattle.cluster_plan.specs.declared.recovery.Recovery.{Recovery}
 use Rattle.cluster_plan.specs.declared.recovery_kind.Failure.{Failure}
 use Rattle.cluster_plan.specs.declared.recovery_kind.Failure.TheVariants.{Create, Refresh}
@@ -21,7 +25,7 @@ use Rattle.cluster_plan.specs.Connections.{entry}
 use Rattle.cluster_plan.specs.Connects.{open_asks, plan_from}
 use Rattle.cluster_plan.specs.Initial.{last_failure}
 use Rattle.cluster_plan.specs.Reached.{Reached, asked_for, check, connect}
-use Rattle.cluster_plan.specs.Refresh.{Next, asks, ok, failed, Plan, after_first, after_second, behind, first_replies, queried, query, renewed_by, reply_where, second_replies, state_after, until_good, visited}
+use Rattle.cluster_plan.specs.Refresh.{Next, asks, ok, failed, Plan, after_first, after_second, behind, first_replies, queried, query, renewed, renewed_by, reply_where, second_replies, state_after, until_good, visited}
 use Rattle.cluster_plan.specs.Steps.{stepped, stepping}
 
 -- the addresses of entries, in their order
@@ -45,6 +49,19 @@ second_on p rows last more r =
 
 abbrev pub second_from : Pass → List SlotRow → Step → RedisError → List Answered → Plan
 second_from p rows step last more = second_on p rows last more (stepping Second p.here.address step more)
+
+-- what becomes of the entry of a node that was reached, or failed
+abbrev pub entered : Step → ConnState
+entered (Checking link) = conn.Connecting
+entered Connecting = conn.Connecting
+entered (Arrived link) = conn.Connected link
+
+-- how pass two goes on by what it heard of a node that was reached so
+abbrev pub after_heard : Pass → List SlotRow → Step → RedisError → Heard → List Answered → Plan
+after_heard p rows step last (heard.Goes next) more = second_from p rows next last more
+after_heard p rows step last (heard.Rows new) more = renewed (p.passed ++ entry p.here.address (entered step) ∷ p.rest) new more
+after_heard p rows step last (heard.Error error) more =
+    after_second (p.passed ++ entry p.here.address (entered step) ∷ visited p.rest more) rows more (until_good error (second_replies p.rest more))
 
 -- what pass two asks of a node: to reach it, and then for the slots
 abbrev pub asked_second : NodeAddress → Step → Ask

@@ -6,6 +6,7 @@ mod asks;
 mod connections;
 mod connects;
 mod entry_order;
+mod heard;
 mod last_part;
 mod laws;
 mod passes;

@@ -1,20 +1,22 @@
-ghost use Rattle.std.specs.Prelude.{◌≡◌, ◌∷◌, ◌++◌, [], List, true, IfOk, if◌then◌else◌};
+ghost use Rattle.std.specs.Prelude.{◌≡◌, ◌∷◌, ◌++◌, [], List, true, IfOk};
 ghost use Rattle.redis_error.specs.declared.redis_error.RedisError.TheVariants as redis;
 ghost use Rattle.mux_routing.specs.Reply.{are_rows};
 ghost use Rattle.mux_routing.specs.Shards.{in_order};
 ghost use Rattle.cluster_plan.specs.declared.asks.Part.TheVariants as part;
-ghost use Rattle.cluster_plan.specs.Asks.{Answered, passes};
+ghost use Rattle.cluster_plan.specs.Asks.{Answered};
 ghost use Rattle.cluster_plan.specs.Connections.{connected_link, entry, link_of};
 ghost use Rattle.cluster_plan.specs.Refresh.{after_first, after_second, first_replies, query, renewed, second_replies, until_good, visited};
-ghost use Rattle.cluster_plan.specs.Recovering.{IsSound, asked_second, entries_of, first_from, places, plan_of, second_from};
+ghost use Rattle.cluster_plan.specs.Heard.{AreHeard};
+ghost use Rattle.cluster_plan.specs.Recovering.{IsSound, after_heard, asked_second, entered, entries_of, first_from, places, plan_of};
 
 use crate::asks::{Answer, Ask, Part, Request};
 use crate::connections::{ConnState, ConnectionMap, NodeEntry};
 use crate::entry_order::appended;
+use crate::heard::{Heard, rows_told};
 use crate::last_part::renew;
 use crate::recovery_kind::Failure;
 use crate::state::{Pass, State};
-use crate::step::{Step, error_told, link_told, one_ask, passes, rows_told};
+use crate::step::{Step, one_ask};
 use containers::{Queue, Seq};
 use mux_routing::{SlotMap, SlotRows};
 use redis_error::RedisError;
@@ -171,15 +173,15 @@ pub fn after_first(
     pass: Pass,
     slots: SlotMap,
     link: u32,
-    told: Answer,
+    told: &Answer,
 ) -> Result<State, AllocError>
     requires { in_order (places (entries_of pass)) ≡ true }
     ensures is { IfOk result (λ s. (more : List Answered)
         → plan_of s more ≡ first_from pass slots link
-        ((query part.First pass.here.address link, told) ∷ more)) }
+        ((query part.First pass.here.address link, told.now) ∷ more)) }
     ensures sound { IfOk result IsSound }
 {
-    let rows = rows_told(alloc, pass.here.address.host.as_slice(), &told)?;
+    let rows = rows_told(alloc, pass.here.address.host.as_slice(), told)?;
     match rows {
         Some(rows) => {
             let entries = pass.entries()?;
@@ -190,17 +192,6 @@ pub fn after_first(
             let state = first_behind(alloc, pass, slots)?;
             Ok(state)
         }
-    }
-}
-
-/// What the answer to the check of a link makes of it.
-fn checked(link: u32, told: &Answer) -> Step
-    ensures { result ≡ (if passes told.now then Step.Arrived link else Step.Connecting) }
-{
-    if passes(told) {
-        Step::Arrived(link)
-    } else {
-        Step::Connecting
     }
 }
 
@@ -244,76 +235,46 @@ fn renew_with(
     Ok(renewed)
 }
 
-/// A node of pass two told its slots, or didn't.
-#[tactic(auto, using(crate::proofs::Going::goes_good, crate::proofs::Going::goes_bad))]
-fn after_query(
-    alloc: Global,
-    pass: Pass,
-    slots: SlotMap,
-    link: u32,
-    last: RedisError,
-    told: Answer,
-) -> Result<State, AllocError>
-    requires { in_order (places (entries_of pass)) ≡ true }
-    ensures is { IfOk result (λ s. (more : List Answered)
-        → plan_of s more ≡ second_from pass slots (Step.Arrived link) last
-        ((query part.Second pass.here.address link, told) ∷ more)) }
-    ensures sound { IfOk result IsSound }
+/// What becomes of the entry of a node that was reached, or failed.
+fn entered(step: Step) -> ConnState
+    ensures { result ≡ entered step }
 {
-    let rows = rows_told(alloc, pass.here.address.host.as_slice(), &told)?;
-    let state = ConnState::Connected(link);
-    match rows {
-        Some(rows) => {
-            let next = renew_with(alloc, pass, state, rows)?;
-            Ok(next)
-        }
-        None => {
-            let next = behind_node(pass, state, slots, error_told(told))?;
-            Ok(next)
-        }
+    match step {
+        Step::Checking(_) => ConnState::Connecting,
+        Step::Connecting => ConnState::Connecting,
+        Step::Arrived(link) => ConnState::Connected(link),
     }
 }
 
-/// What pass two asked of a node was answered.
-#[tactic(auto, unfolding(crate::specs::Recovering::plan_of), using(crate::proofs::Going::goes_checked, crate::proofs::Going::goes_connected, crate::proofs::Going::goes_failed))]
+/// Pass two goes on by what was heard of its node.
+#[tactic(auto, unfolding(crate::specs::Recovering::plan_of))]
 pub fn after_second(
     alloc: Global,
     pass: Pass,
     slots: SlotMap,
     step: Step,
     last: RedisError,
-    told: Answer,
+    heard: Heard,
 ) -> Result<State, AllocError>
-    requires { in_order (places (entries_of pass)) ≡ true }
+    requires order { in_order (places (entries_of pass)) ≡ true }
+    requires rows { AreHeard heard }
     ensures is { IfOk result (λ s. (more : List Answered)
-        → plan_of s more ≡ second_from pass slots step last
-        ((asked_second pass.here.address step, told) ∷ more)) }
+        → plan_of s more ≡ after_heard pass slots step last heard more) }
     ensures sound { IfOk result IsSound }
 {
-    match step {
-        Step::Checking(link) => {
-            let step = checked(link, &told);
-            Ok(State::Second {
-                pass,
-                slots,
-                step,
-                last,
-            })
+    match heard {
+        Heard::Goes(step) => Ok(State::Second {
+            pass,
+            slots,
+            step,
+            last,
+        }),
+        Heard::Rows(rows) => {
+            let next = renew_with(alloc, pass, entered(step), rows)?;
+            Ok(next)
         }
-        Step::Connecting => match link_told(&told) {
-            Some(link) => Ok(State::Second {
-                pass,
-                slots,
-                step: Step::Arrived(link),
-                last,
-            }),
-            None => {
-                let next = behind_node(pass, ConnState::Connecting, slots, error_told(told))?;
-                Ok(next)
-            }
-        },
-        Step::Arrived(link) => {
-            let next = after_query(alloc, pass, slots, link, last, told)?;
+        Heard::Error(error) => {
+            let next = behind_node(pass, entered(step), slots, error)?;
             Ok(next)
         }
     }

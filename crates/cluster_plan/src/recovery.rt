@@ -13,6 +13,7 @@ use crate::asks::{Answer, Ask, Part, Request};
 use crate::connections::ConnectionMap;
 use crate::connects::{InitialConnects, InitialEnd};
 use crate::entry_order::in_address_order;
+use crate::heard::hear;
 use crate::last_part::{after_arrival, asks_of_nodes};
 use crate::passes::{after_first, after_second, asks_of_second, begin_first};
 use crate::recovery_kind::{Failure, RecoveryKind};
@@ -152,7 +153,7 @@ fn first_answered(
         → plan_of s more ≡ first_from pass slots link ((ask.now, told) ∷ more)) }
     ensures sound { IfOk result IsSound }
 {
-    let state = after_first(alloc, pass, slots, link, told)?;
+    let state = after_first(alloc, pass, slots, link, &told)?;
     Ok(state)
 }
 
@@ -173,7 +174,8 @@ fn second_answered(
         → plan_of s more ≡ second_from pass slots step last ((ask.now, told) ∷ more)) }
     ensures sound { IfOk result IsSound }
 {
-    let state = after_second(alloc, pass, slots, step, last, told)?;
+    let heard = hear(alloc, pass.here.address.host.as_slice(), step, told)?;
+    let state = after_second(alloc, pass, slots, step, last, heard)?;
     Ok(state)
 }
 
@@ -185,15 +187,16 @@ fn last_answered(
     slots: SlotMap,
     nodes: Seq<Arrival>,
     ask: &Ask,
-    told: &Answer,
+    told: Answer,
 ) -> Result<State, AllocError>
     requires order { in_order (map (λ t. t.address) nodes) ≡ true }
     requires given { IsGiven ask.now (renewed_by entries slots (stepped nodes [])).next }
     ensures is { IfOk result (λ s. (more : List Answered)
-        → plan_of s more ≡ renewed_by entries slots (stepped nodes ((ask.now, told.now) ∷ more))) }
+        → plan_of s more ≡ renewed_by entries slots (stepped nodes ((ask.now, told) ∷ more))) }
     ensures sound { IfOk result IsSound }
 {
-    after_arrival(alloc, entries, slots, nodes, ask, told)
+    let state = after_arrival(alloc, entries, slots, nodes, ask, &told)?;
+    Ok(state)
 }
 
 /// One of its asks was answered.
@@ -224,7 +227,7 @@ fn after(alloc: Global, state: State, ask: &Ask, told: Answer) -> Result<State, 
             entries,
             slots,
             nodes,
-        } => last_answered(alloc, entries, slots, nodes, ask, &told),
+        } => last_answered(alloc, entries, slots, nodes, ask, told),
         State::Ended {
             entries: _,
             slots: _,

@@ -1,12 +1,10 @@
-ghost use Rattle.std.specs.Prelude.{◌≡◌, ◌∷◌, [], IfOk, IfSome, true};
+ghost use Rattle.std.specs.Prelude.{◌≡◌, ◌∷◌, [], IfOk};
 ghost use Rattle.resp_value.specs.View.{data_of};
-ghost use Rattle.mux_routing.specs.Reply.{are_rows};
-ghost use Rattle.cluster_plan.specs.Asks.{error_of_reply, error_told, link_told, passes, rows_told};
+ghost use Rattle.cluster_plan.specs.Asks.{error_of_reply, error_told, link_told, passes};
 ghost use Rattle.cluster_plan.specs.Steps.{ask_of, begun_by, step_by};
 
 use crate::asks::{Answer, Ask, Part, Request};
 use containers::Seq;
-use mux_routing::{SlotRows, SlotsError, parse_slots};
 use redis_error::RedisError;
 use resp_value::Value;
 use slot_hash::NodeAddress;
@@ -74,25 +72,6 @@ pub fn error_told(told: Answer) -> RedisError
         Answer::Value(reply) => error_of_reply(reply),
         Answer::Connected(_) => RedisError::Parse,
         Answer::Fired => RedisError::Parse,
-    }
-}
-
-/// The rows that the node of a host told, if its reply is good.
-pub fn rows_told(
-    alloc: Global,
-    host: &[u8],
-    told: &Answer,
-) -> Result<Option<SlotRows>, AllocError>
-    ensures told { IfOk result (λ rows. rows ≡ rows_told host.now told.now) }
-    ensures valid { IfOk result (λ rows. IfSome rows (λ rs. are_rows rs ≡ true)) }
-{
-    let Answer::Value(reply) = told else {
-        return Ok(None);
-    };
-    match parse_slots(alloc, reply, host) {
-        Ok(rows) => Ok(Some(rows)),
-        Err(SlotsError::Parse) => Ok(None),
-        Err(SlotsError::NoMemory) => Err(AllocError),
     }
 }
 

@@ -1,5 +1,6 @@
 use Rattle.std.proofs.Common.{◌++◌, ◌∙◌, sym, ap}
 use Rattle.redis_error.specs.declared.redis_error.RedisError.TheVariants.{NotFound}
+use Rattle.cluster_plan.specs.declared.state.Pass.{Pass}
 use Rattle.cluster_plan.specs.Recovering.{first_from, plan_of}
 use Rattle.cluster_plan.specs.Refresh.{after_second, second_replies, until_good, visited}
 use Rattle.cluster_plan.proofs.Going.{first_over, goes_first}
@@ -8,7 +9,7 @@ use Rattle.cluster_plan.proofs.passes.begin_first.Goals as goal
 pub returns-in-Some-connected_link-clause-is : goal.returns-in-Some-connected_link-clause-is
 unfolding plan_of
 returns-in-Some-connected_link-clause-is c =
-    let p = record { passed = c.loop-here.passed; here = c.in-Some.here; rest = c.pop_front.new.self } in
+    let p : Pass = record { passed = c.loop-here.passed; here = c.in-Some.here; rest = c.pop_front.new.self } in
     λ more.
         ap (λ slots. first_from p slots c.in-Some-connected_link.link more) c.loop-here.invariant.2
         ∙ goes_first p (c.args.front ++ c.args.others) c.loop-here.rest c.args.others c.args.slots c.in-Some-connected_link.link more
