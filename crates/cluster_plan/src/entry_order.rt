@@ -27,10 +27,7 @@ fn address_less(a: &NodeAddress, b: &NodeAddress) -> bool
 }
 
 /// These entries and the others behind them.
-pub fn appended(
-    front: ConnectionMap,
-    others: Queue<NodeEntry>,
-) -> Result<ConnectionMap, AllocError>
+pub fn appended(front: ConnectionMap, others: Queue<NodeEntry>) -> Result<ConnectionMap, AllocError>
     ensures { IfOk result (λ entries. entries ≡ front ++ others) }
 {
     let mut entries = front;
@@ -81,10 +78,7 @@ fn put(alloc: Global, new: NodeEntry, sorted: ConnectionMap) -> Result<Connectio
 
 /// The entries in the order of their addresses.
 #[tactic(auto, using(crate::proofs::Sorting::all_in_order))]
-pub fn in_address_order(
-    alloc: Global,
-    entries: ConnectionMap,
-) -> Result<ConnectionMap, AllocError>
+pub fn in_address_order(alloc: Global, entries: ConnectionMap) -> Result<ConnectionMap, AllocError>
     ensures is { IfOk result (λ sorted. sorted ≡ in_address_order entries) }
     ensures order { IfOk result (λ sorted. in_order (places sorted) ≡ true) }
 {

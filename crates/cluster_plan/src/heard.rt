@@ -21,11 +21,7 @@ pub enum Heard {
 }
 
 /// The rows that the node of a host told, if its reply is good.
-pub fn rows_told(
-    alloc: Global,
-    host: &[u8],
-    told: &Answer,
-) -> Result<Option<SlotRows>, AllocError>
+pub fn rows_told(alloc: Global, host: &[u8], told: &Answer) -> Result<Option<SlotRows>, AllocError>
     ensures told { IfOk result (λ rows. rows ≡ rows_told host.now told.now) }
     ensures valid { IfOk result (λ rows. IfSome rows (λ rs. are_rows rs ≡ true)) }
 {

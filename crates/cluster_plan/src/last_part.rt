@@ -147,11 +147,7 @@ fn go_on(
 
 /// A good reply: the nodes of the new map are reached.
 #[tactic(auto, using(crate::proofs::Going::goes_renewed, crate::proofs::Going::order_begun))]
-pub fn renew(
-    alloc: Global,
-    entries: ConnectionMap,
-    rows: SlotRows,
-) -> Result<State, AllocError>
+pub fn renew(alloc: Global, entries: ConnectionMap, rows: SlotRows) -> Result<State, AllocError>
     requires { are_rows rows ≡ true }
     ensures is { IfOk result (λ s. (more : List Answered) → plan_of s more ≡ renewed entries rows more) }
     ensures sound { IfOk result IsSound }

@@ -52,11 +52,7 @@ fn no_slots(alloc: Global) -> Result<SlotMap, AllocError>
 }
 
 /// A refresh from these entries.
-fn refresh(
-    alloc: Global,
-    entries: ConnectionMap,
-    slots: SlotMap,
-) -> Result<State, AllocError>
+fn refresh(alloc: Global, entries: ConnectionMap, slots: SlotMap) -> Result<State, AllocError>
     requires { in_order (places entries) ≡ true }
     ensures is { IfOk result (λ s. (more : List Answered) → plan_of s more ≡ refresh entries slots more) }
     ensures sound { IfOk result IsSound }
@@ -309,7 +305,12 @@ impl Recovery {
                 pass,
                 slots: _,
                 link,
-            } => one_ask(alloc, Part::First, &pass.here.address, Request::Query(*link)),
+            } => one_ask(
+                alloc,
+                Part::First,
+                &pass.here.address,
+                Request::Query(*link),
+            ),
             State::Second {
                 pass,
                 slots: _,
