@@ -7,7 +7,7 @@ mod Ended
 mod Failing
 mod Staying
 mod Repairing
-mod Skipping
+mod Missing
 mod Settling
 mod Beginning
 mod Looking
@@ -15,3 +15,7 @@ mod Waiting
 mod Telling
 mod Mending
 mod Attempting
+mod Passing
+mod Sorting
+mod Arriving
+mod Going

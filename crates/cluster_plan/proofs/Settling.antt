@@ -8,7 +8,6 @@ use Rattle.mux_routing.specs.declared.rows.SlotRow.{SlotRow}
 use Rattle.cluster_plan.specs.declared.asks.Part.TheVariants.{Initial}
 use Rattle.cluster_plan.specs.declared.asks.Ask.{Ask}
 use Rattle.cluster_plan.specs.declared.asks.Answer.{Answer}
-use Rattle.cluster_plan.specs.declared.asks.Answer.TheVariants as answer
 use Rattle.cluster_plan.specs.declared.connections.ConnState.TheVariants as state
 use Rattle.cluster_plan.specs.declared.connections.NodeEntry.{NodeEntry}
 use Rattle.cluster_plan.specs.declared.recovery_kind.Failure.TheVariants.{Create}
@@ -21,7 +20,11 @@ use Rattle.cluster_plan.specs.Reached.{Reached, asked, by_link, by_none, connect
 use Rattle.cluster_plan.specs.Refresh.{Plan, asks, failed, refresh}
 use Rattle.cluster_plan.specs.Initial.{last_failure, later_failure, links_of, in_address_order, begun_anew, after_tries}
 use Rattle.cluster_plan.specs.Progress.{goes_by, go_on, progress_by, settled_by, settled}
-use Rattle.cluster_plan.proofs.Skipping.{behind_connect, refresh_same}
+use Rattle.cluster_plan.proofs.Missing.{refresh_missed}
+
+-- the answers to come, behind that of an initial connect
+abbrev pub behind_connect : NodeAddress → Answer → List Answered → List Answered
+behind_connect a found more = (connect Initial a, found) ∷ more
 
 -- the same, but for the errors of nodes that failed
 abbrev pub Alike : Reached → Reached → Type 0
@@ -95,7 +98,7 @@ links_same (x ∷ xs) later h = ap links_of h.2 ∙ links_one x.0 x.1 h.0 xs h.1
 
 begun_same : (a : NodeAddress) (found : Answer) (last : RedisError) (entries new : List NodeEntry) (rows : List SlotRow) (more : List Answered) → begun_anew (later_failure (link_told found) (error_told found) last) entries rows more new ≡ begun_anew last entries rows (behind_connect a found more) new
 begun_same a found last entries [] rows more = refl
-begun_same a found last entries (n ∷ ns) rows more = sym (refresh_same a found (in_address_order (n ∷ ns)) [] more)
+begun_same a found last entries (n ∷ ns) rows more = sym (refresh_missed (in_address_order (n ∷ ns)) [] (connect Initial a, found) more refl refl refl)
 
 tries_same : (a : NodeAddress) (found : Answer) (last : RedisError) (entries : List NodeEntry) (rows : List SlotRow) (more : List Answered) (xs later : List (NodeAddress × Reached)) (ys : List Ask) → arrived later ≡ arrived xs → links_of later ≡ links_of xs
     → after_tries (later_failure (link_told found) (error_told found) last) entries rows more later ys ≡ after_tries last entries rows (behind_connect a found more) xs ys
@@ -114,17 +117,14 @@ answered_same a found last ts entries rows more =
     ap (after_tries (later_failure (link_told found) (error_told found) last) entries rows more later) (asked_same xs later alike)
     ∙ tries_same a found last entries rows more xs later (asked_for xs) (arrived_same xs later alike) (links_same xs later alike)
 
-pub answered_link : (last : RedisError) (ts later : List Tried) (a : NodeAddress) (link : ℕ) (entries : List NodeEntry) (rows : List SlotRow) (more : List Answered) → later ≡ map (settled a (Some link)) ts
-    → after_tries last entries rows more (go_on Initial later more) (asked_for (go_on Initial later more))
-    ≡ after_tries last entries rows ((connect Initial a, answer.Connected link) ∷ more) (go_on Initial ts ((connect Initial a, answer.Connected link) ∷ more)) (asked_for (go_on Initial ts ((connect Initial a, answer.Connected link) ∷ more)))
-answered_link last ts later a link entries rows more e =
-    ap (λ l. after_tries last entries rows more (go_on Initial l more) (asked_for (go_on Initial l more))) e ∙ answered_same a (answer.Connected link) last ts entries rows more
-
-pub answered_failure : (last error : RedisError) (ts later : List Tried) (a : NodeAddress) (entries : List NodeEntry) (rows : List SlotRow) (more : List Answered) → later ≡ map (settled a None) ts
-    → after_tries error entries rows more (go_on Initial later more) (asked_for (go_on Initial later more))
-    ≡ after_tries last entries rows ((connect Initial a, answer.Failed error) ∷ more) (go_on Initial ts ((connect Initial a, answer.Failed error) ∷ more)) (asked_for (go_on Initial ts ((connect Initial a, answer.Failed error) ∷ more)))
-answered_failure last error ts later a entries rows more e =
-    ap (λ l. after_tries error entries rows more (go_on Initial l more) (asked_for (go_on Initial l more))) e ∙ answered_same a (answer.Failed error) last ts entries rows more
+pub answered_by : (last new : RedisError) (ts later : List Tried) (a : NodeAddress) (found : Answer) (link : Option ℕ) (entries : List NodeEntry) (rows : List SlotRow) (more : List Answered)
+    → link ≡ link_told found → later ≡ map (settled a link) ts → new ≡ later_failure link (error_told found) last
+    → after_tries new entries rows more (go_on Initial later more) (asked_for (go_on Initial later more))
+    ≡ after_tries last entries rows ((connect Initial a, found) ∷ more) (go_on Initial ts ((connect Initial a, found) ∷ more)) (asked_for (go_on Initial ts ((connect Initial a, found) ∷ more)))
+answered_by last new ts later a found link entries rows more is e f =
+    let settles : later ≡ map (settled a (link_told found)) ts = e ∙ ap (λ l. map (settled a l) ts) is in
+    let fails : new ≡ later_failure (link_told found) (error_told found) last = f ∙ ap (λ l. later_failure l (error_told found) last) is in
+    (λ i. after_tries (fails i) entries rows more (go_on Initial (settles i) more) (asked_for (go_on Initial (settles i) more))) ∙ answered_same a found last ts entries rows more
 
 -- what is written back to a vector through a slice as long as it
 pub whole_items : {A : Type 0} (n : ℕ) (ws xs : List A) → length ws ≡ n → take n (ws ++ drop (length ws) xs) ≡ ws

@@ -1,7 +1,5 @@
 -- The connects with which a reconnect begins, by what has come of them so far.
-use Rattle.std.specs.Prelude.{ℕ, List, [], ◌∷◌, Result, Ok, Err}
-use Rattle.redis_error.specs.declared.redis_error.RedisError.{RedisError}
-use Rattle.slot_hash.specs.declared.address.NodeAddress.{NodeAddress}
+use Rattle.std.specs.Prelude.{List, [], ◌∷◌}
 use Rattle.mux_routing.specs.declared.rows.SlotRow.{SlotRow}
 use Rattle.cluster_plan.specs.declared.asks.Part.TheVariants.{Initial}
 use Rattle.cluster_plan.specs.declared.asks.Ask.{Ask}
@@ -10,8 +8,6 @@ use Rattle.cluster_plan.specs.declared.connects.InitialConnects.{InitialConnects
 use Rattle.cluster_plan.specs.declared.connects.InitialEnd.{InitialEnd}
 use Rattle.cluster_plan.specs.declared.connects.InitialEnd.TheVariants.{Connected, Failed}
 use Rattle.cluster_plan.specs.declared.recovery_kind.Failure.TheVariants.{Create}
-use Rattle.cluster_plan.specs.declared.asks.Answer.{Answer}
-use Rattle.cluster_plan.specs.declared.asks.Answer.TheVariants as answer
 use Rattle.cluster_plan.specs.Asks.{Answered}
 use Rattle.cluster_plan.specs.Reached.{asked_for}
 use Rattle.cluster_plan.specs.Refresh.{Plan, failed, refresh}
@@ -30,8 +26,3 @@ open_asks c = asked_for (go_on Initial c.nodes.items [])
 abbrev pub plan_behind : InitialEnd → List NodeEntry → List SlotRow → List Answered → Plan
 plan_behind (Connected links) entries rows more = refresh (in_address_order links) [] more
 plan_behind (Failed error) entries rows more = record { entries = entries; rows = rows; held = []; next = failed (Create (last_failure error more)) }
-
--- the answer to a connect: the link's number, or why there is none
-abbrev pub answer_by : Result ℕ RedisError → Answer
-answer_by (Ok link) = answer.Connected link
-answer_by (Err error) = answer.Failed error

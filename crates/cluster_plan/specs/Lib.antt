@@ -9,3 +9,6 @@ pub mod Laws
 pub mod Progress
 pub mod Connects
 pub mod Repairing
+pub mod Steps
+pub mod Heard
+pub mod Recovering

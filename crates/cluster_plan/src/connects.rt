@@ -3,15 +3,16 @@ ghost use Rattle.mux_routing.specs.declared.rows.SlotRow.{SlotRow};
 ghost use Rattle.cluster_plan.specs.declared.asks.Part.TheVariants as part;
 ghost use Rattle.cluster_plan.specs.declared.connections.NodeEntry.{NodeEntry};
 ghost use Rattle.cluster_plan.specs.declared.progress.Tried.{Tried};
-ghost use Rattle.cluster_plan.specs.Asks.{Answered};
-ghost use Rattle.cluster_plan.specs.Connects.{answer_by, open_asks, plan_behind, plan_from};
-ghost use Rattle.cluster_plan.specs.Initial.{initial};
+ghost use Rattle.cluster_plan.specs.Asks.{Answered, error_told};
+ghost use Rattle.cluster_plan.specs.Connects.{open_asks, plan_behind, plan_from};
+ghost use Rattle.cluster_plan.specs.Initial.{initial, later_failure};
 ghost use Rattle.cluster_plan.specs.Progress.{go_on};
 ghost use Rattle.cluster_plan.specs.Reached.{arrived, asked_for, connect};
 
-use crate::asks::{Ask, Part, Request};
+use crate::asks::{Answer, Ask, Part, Request};
 use crate::connections::{ConnState, ConnectionMap, NodeEntry};
 use crate::progress::{Progress, Tried, begun, settle_nodes};
+use crate::step::{error_told, link_told};
 use containers::{Queue, Seq};
 use redis_error::RedisError;
 use slot_hash::NodeAddress;
@@ -31,6 +32,15 @@ pub enum InitialEnd {
     Connected(ConnectionMap),
     /// None was connected; with the last failure.
     Failed(RedisError),
+}
+
+/// The last failure behind an answer.
+fn keep_failure(link: Option<u32>, told: Answer, last: &mut RedisError)
+    ensures { last.new ≡ later_failure link (error_told told) last.old }
+{
+    if link.is_none() {
+        *last = error_told(told);
+    }
 }
 
 /// The ask for a node that is being connected.
@@ -95,20 +105,16 @@ impl InitialConnects {
         })
     }
 
-    /// The connect of an address was answered: by the number of its link, or by an error.
-    #[tactic(auto, unfolding(crate::specs::Connects::plan_from), using(crate::proofs::Settling::answered_same))]
-    pub fn answer(&mut self, address: &NodeAddress, told: Result<u32, RedisError>)
+    /// The connect of an address was answered. What names no link counts as an error.
+    #[tactic(auto, unfolding(crate::specs::Connects::plan_from), using(crate::proofs::Settling::answered_by))]
+    pub fn answer(&mut self, address: &NodeAddress, told: Answer)
         ensures { (entries : List NodeEntry) (rows : List SlotRow) (more : List Answered)
             → plan_from self.new entries rows more ≡ plan_from self.old entries rows
-            ((connect part.Initial address.now, answer_by told) ∷ more) }
+            ((connect part.Initial address.now, told) ∷ more) }
     {
-        match told {
-            Ok(link) => settle_nodes(&mut self.nodes, address, Some(link)),
-            Err(error) => {
-                settle_nodes(&mut self.nodes, address, None);
-                self.last = error;
-            }
-        }
+        let link = link_told(&told);
+        settle_nodes(&mut self.nodes, address, link);
+        keep_failure(link, told, &mut self.last);
     }
 
     /// The connects that have no answer, in the order of the addresses.

@@ -2,14 +2,20 @@
 //! becomes of the map of links, by the asks that were answered.
 #![tactic(auto)]
 
-mod answers;
 mod asks;
 mod connections;
 mod connects;
+mod entry_order;
+mod heard;
+mod last_part;
 mod laws;
+mod passes;
 mod progress;
+mod recovery;
 mod recovery_kind;
 mod repair;
+mod state;
+mod step;
 
 pub use asks::{Answer, Ask, Part, Request};
 pub use connections::{ConnState, ConnectionMap, NodeEntry};
@@ -21,5 +27,6 @@ pub use laws::{
     what_is_asked_for_stays_so,
 };
 pub use progress::{Progress, Tried};
+pub use recovery::{Recovery, RecoveryEnd};
 pub use recovery_kind::{Failure, RecoveryKind};
 pub use repair::{Repair, RepairStep};

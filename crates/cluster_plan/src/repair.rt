@@ -5,17 +5,18 @@ ghost use Rattle.mux_routing.specs.Shards.{addresses};
 ghost use Rattle.cluster_plan.specs.declared.connections.NodeEntry.{NodeEntry};
 ghost use Rattle.cluster_plan.specs.declared.recovery_kind.RecoveryKind.TheVariants as kind;
 ghost use Rattle.cluster_plan.specs.Asks.{Answered, link_told};
-ghost use Rattle.cluster_plan.specs.Connections.{link_in, link_of, state_at};
+ghost use Rattle.cluster_plan.specs.Connections.{link_in, state_at};
 ghost use Rattle.cluster_plan.specs.Plan.{plan};
 ghost use Rattle.cluster_plan.specs.Progress.{progress_by};
 ghost use Rattle.cluster_plan.specs.Reached.{connecting, reached};
 ghost use Rattle.cluster_plan.specs.Repair.{attempted, is_among, is_set, wait_ms};
 ghost use Rattle.cluster_plan.specs.Repairing.{IsItsAsk, is_connected, known, plan_by, repair_from, step_by};
 
-use crate::answers::{link_told, passes};
 use crate::asks::{Answer, Ask, Part, Request};
 use crate::connections::{ConnState, NodeEntry};
+use crate::passes::link_of;
 use crate::progress::{Progress, same_address};
+use crate::step::{link_told, passes};
 use mux_routing::SlotMap;
 use slot_hash::NodeAddress;
 use std::alloc::{AllocError, Global};
@@ -77,17 +78,6 @@ fn is_connected(state: Option<ConnState>) -> bool
         Some(ConnState::Connected(_)) => true,
         Some(ConnState::Reconnecting(_)) => false,
         Some(ConnState::Connecting) => false,
-    }
-}
-
-/// The link of a state, also one that is being repaired.
-fn link_of(state: ConnState) -> Option<u32>
-    ensures { result ≡ link_of state }
-{
-    match state {
-        ConnState::Connected(link) => Some(link),
-        ConnState::Reconnecting(link) => Some(link),
-        ConnState::Connecting => None,
     }
 }
 

@@ -1,5 +1,5 @@
 use crate::nodes::{are_entries, is_node, node_at, nodes_at};
-use cluster_plan::{Ask, ConnState, InitialConnects, InitialEnd, Part, Request};
+use cluster_plan::{Answer, Ask, ConnState, InitialConnects, InitialEnd, Part, Request};
 use redis_error::{FaultKind, RedisError};
 use std::alloc::{AllocError, Global};
 
@@ -114,10 +114,10 @@ fn awaits(alloc: Global, connects: &InitialConnects, ports: &[u16]) -> Result<bo
     Ok(are_connects(asks.as_slice(), ports) && is_over == ports.is_empty())
 }
 
-fn result_of(told: Told) -> Result<u32, RedisError> {
+fn answer_of(told: Told) -> Answer {
     match told {
-        Told::Link(link) => Ok(link),
-        Told::Fault(fault) => Err(RedisError::Io { fault }),
+        Told::Link(link) => Answer::Connected(link),
+        Told::Fault(fault) => Answer::Failed(RedisError::Io { fault }),
     }
 }
 
@@ -128,7 +128,7 @@ fn goes_on(alloc: Global, connects: &mut InitialConnects, case: &Case) -> Result
     }
     for step in case.steps {
         let address = node_at(alloc, step.0)?;
-        connects.answer(&address, result_of(step.1));
+        connects.answer(&address, answer_of(step.1));
         if !awaits(alloc, connects, step.2)? {
             return Ok(false);
         }
