@@ -18,7 +18,7 @@ use Rattle.driver_model.specs.Hearing.{felt, hears_messages, hears_pushes}
 use Rattle.driver_model.specs.declared.hearing.Hearing.{Hearing}
 use Rattle.driver_model.specs.declared.hearing.Notice.{Notice}
 use Rattle.driver_model.specs.declared.hearing.Notice.TheVariants as notice
-use Rattle.driver_model.specs.News.{News, silence, connected, took, failed, shut, refused, overdue, authorized, denied, deserted, renewed, unrenewed, late, dropped}
+use Rattle.driver_model.specs.News.{News, silence, connected, took, failed, shut, refused, overdue, authorized, denied, deserted, renewed, unrenewed, late, unrepeated, dropped}
 use Rattle.driver_model.specs.News.{came}
 use Rattle.driver_model.specs.Shape.{outcome_of}
 use Rattle.link_core.specs.declared.message.Entry.{Entry}
@@ -450,5 +450,6 @@ bare_applied n p w deserted h = bare_unauthorized n p w (error.AuthFailed []) w.
 bare_applied n p w (renewed c) h = ap (λ (x : MultiplexedConnection). record (bare n p w) { conn = x }) (bare_expecting p w.conn c)
 bare_applied n p w unrenewed h = refl
 bare_applied n p w (late k) h = ap (λ (x : MultiplexedConnection). record (bare n p w) { conn = x }) (bare_late_for p w.conn k)
+bare_applied n p w unrepeated h = refl
 bare_applied n p w dropped h = bare_dropped n p w h
 bare_applied n p w shut h = bare_shut n p w w.conn.life h

@@ -20,7 +20,7 @@ use Rattle.driver_model.specs.declared.news.LinkFault.{LinkFault}
 use Rattle.driver_model.specs.declared.news.LinkFault.TheVariants as fault
 use Rattle.driver_model.specs.declared.outcome.Outcome.{Outcome}
 use Rattle.driver_model.specs.declared.outcome.Outcome.TheVariants as outcome
-use Rattle.driver_model.specs.News.{News, news_of, silence, connected, took, failed, shut, refused, overdue, authorized, denied, deserted, renewed, unrenewed, late, dropped}
+use Rattle.driver_model.specs.News.{News, news_of, silence, connected, took, failed, shut, refused, overdue, authorized, denied, deserted, renewed, unrenewed, late, unrepeated, dropped}
 use Rattle.driver_model.specs.News.{came}
 use Rattle.driver_model.specs.Request.{packed_bytes, lacks_resp3}
 use Rattle.driver_model.specs.Setup.{says_nothing}
@@ -449,6 +449,7 @@ applied_kept k w deserted h = unauthorized_kept k w (error.AuthFailed []) w.conn
 applied_kept k w (renewed c) h = expecting_kept k w c h
 applied_kept k w unrenewed h = h
 applied_kept k w (late n) h = late_for_kept k w n h
+applied_kept k w unrepeated h = h
 applied_kept k w dropped h = dropped_kept k w h
 applied_kept k w shut h = shut_kept k w w.conn.life h
 
@@ -714,8 +715,11 @@ fired_kept k t None h = h
 fired_kept k t (Some (purpose.Connect l)) h = h
 fired_kept k t (Some (purpose.Response owner.Setup)) h = h
 fired_kept k t (Some (purpose.Response owner.Auth)) h = h
+fired_kept k t (Some (purpose.Response owner.Resub)) h = h
 fired_kept k t (Some (purpose.Response owner.Monitor)) h = h
 fired_kept k t (Some (purpose.Renewal l number)) h = h
+fired_kept k t (Some (purpose.Backoff g)) h = h
+fired_kept k t (Some (purpose.Resubscription l)) h = h
 fired_kept k t (Some (purpose.Response (owner.Try n round))) h = late_kept k t (slice_get t.core.table n) h
 
 -- a submission is handed in

@@ -94,8 +94,11 @@ table_fired t None = refl
 table_fired t (Some (purpose.Connect l)) = refl
 table_fired t (Some (purpose.Response owner.Setup)) = refl
 table_fired t (Some (purpose.Response owner.Auth)) = refl
+table_fired t (Some (purpose.Response owner.Resub)) = refl
 table_fired t (Some (purpose.Response owner.Monitor)) = refl
 table_fired t (Some (purpose.Renewal l k)) = refl
+table_fired t (Some (purpose.Backoff g)) = refl
+table_fired t (Some (purpose.Resubscription l)) = refl
 table_fired t (Some (purpose.Response (owner.Try n round))) = table_late t (slice_get t.core.table n)
 
 -- so both do

@@ -13,7 +13,7 @@ use Rattle.driver_model.specs.declared.event.Submission.{Submission}
 use Rattle.driver_model.specs.declared.event.Submission.TheVariants.{Cmd, Pipe, Multi, Subscription, Ping}
 use Rattle.resp_write.specs.declared.subscription.SubscriptionAction.{SubscriptionAction}
 use Rattle.connection_setup.specs.Setup.{setup}
-use Rattle.driver_model.specs.Config.{address, buffer_size, buffer_fault, has_line, hearing_of, permits, room_fault, fault_in, told_info}
+use Rattle.driver_model.specs.Config.{address, buffer_size, buffer_fault, hearing_of, permits, room_fault, fault_in, told_info}
 use Rattle.driver_model.specs.Hearing.{hears_messages, hears_pushes, is_watching}
 use Rattle.driver_model.specs.declared.hearing.Hearing.{Hearing}
 use Rattle.mux_conn.specs.declared.life.Greeting.TheVariants as greet
@@ -71,8 +71,7 @@ up_at config word draw wants silent watching =
 connected_free : (config : Config) (word draw : ℕ) → IsSound config → SaysNothing config → IsFree (state_after config word (connected_at draw ∷ []))
 unfolding state_after next_turn
 connected_free config word draw sound silent =
-    let faults = fault_in (address config) (hears_pushes (hearing_of config)) (permits config) (buffer_size config) in
-    let fits = room_sound (address config) (hears_pushes (hearing_of config)) (permits config) (buffer_size config) (unless_refused (not (has_line config)) name.Kind faults sound).1 in
+    let fits = room_sound (address config) (hears_pushes (hearing_of config)) (permits config) (buffer_size config) sound in
     let says = says_nothing (setup (told_info config) true) in
     subst (λ (b : Bool). IsFree (up_at config word draw b says (is_watching (hearing_of config)))) (sym silent.0)
     (subst (λ (b : Bool). IsFree (up_at config word draw false b (is_watching (hearing_of config)))) (sym silent.1)

@@ -91,8 +91,11 @@ bare_fired n p t None h = refl
 bare_fired n p t (Some (purpose.Connect l)) h = refl
 bare_fired n p t (Some (purpose.Response owner.Setup)) h = refl
 bare_fired n p t (Some (purpose.Response owner.Auth)) h = refl
+bare_fired n p t (Some (purpose.Response owner.Resub)) h = refl
 bare_fired n p t (Some (purpose.Response owner.Monitor)) h = refl
 bare_fired n p t (Some (purpose.Renewal l k)) h = refl
+bare_fired n p t (Some (purpose.Backoff g)) h = refl
+bare_fired n p t (Some (purpose.Resubscription l)) h = refl
 bare_fired n p t (Some (purpose.Response (owner.Try m round))) h = bare_late_by n p t (slice_get t.core.table m) h
 
 -- what an event is to the submissions
@@ -228,8 +231,11 @@ more_requested n t (event.Fired m) l = more_fired (slice_get t.core.timers m)
     more_fired (Some (purpose.Connect k)) = l
     more_fired (Some (purpose.Response owner.Setup)) = l
     more_fired (Some (purpose.Response owner.Auth)) = l
+    more_fired (Some (purpose.Response owner.Resub)) = l
     more_fired (Some (purpose.Response owner.Monitor)) = l
     more_fired (Some (purpose.Renewal link k)) = l
+    more_fired (Some (purpose.Backoff g)) = l
+    more_fired (Some (purpose.Resubscription link)) = l
     more_fired (Some (purpose.Response (owner.Try k round))) = more_late (slice_get t.core.table k)
 more_requested n t (event.Timeout ms) l = chosen (λ (c : Core). n < length c.table) (is_single t.core.kind) (record t.core { timeout = ms }) t.core (λ y. l) (λ y. l)
 more_requested n t (event.Creds c auth) l = l

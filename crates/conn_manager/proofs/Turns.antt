@@ -19,7 +19,6 @@ use Rattle.mux_conn.specs.Passes as passes
 use Rattle.mux_conn.specs.Turn as conn_turn
 use Rattle.manager_generations.specs.declared.act.ManagerAct.{ManagerAct}
 use Rattle.manager_generations.specs.declared.act.ManagerAct.TheVariants as act
-use Rattle.manager_generations.specs.declared.act.ManagerWait.{ManagerWait}
 use Rattle.manager_generations.specs.declared.generations.Generations.{Generations}
 use Rattle.conn_manager.specs.declared.manager.ConnectionManager.{ConnectionManager}
 use Rattle.manager_generations.specs.declared.phase.Phase.{Phase}
@@ -234,14 +233,14 @@ runs_rounds m draw =
 passes_on : (m : ConnectionManager) (draw : ℕ) → Goes m (passed m draw)
 passes_on m draw = onward m (connection_passed m draw) (passed m draw) (moves_on m draw (passes.passed (work_with m.conn []))) (runs_rounds (connection_passed m draw) draw)
 
-shows_each : (m : ConnectionManager) (kind : ManagerWait) (ps : List ℕ) → Goes m (wait_shown_each m kind ps)
+shows_each : (m : ConnectionManager) (kind : WaitKind) (ps : List ℕ) → Goes m (wait_shown_each m kind ps)
 shows_each m kind [] = itself m
 shows_each m kind (p ∷ ps) =
     let next = wait_shown m kind p in
     onward m next (wait_shown_each next kind ps)
     (chosen (Goes m) (is_held_at m.stages p) _ _ (λ _. says m _) (λ _. itself m)) (shows_each next kind ps)
 
-shows_held : (m : ConnectionManager) (kind : Option ManagerWait) → Goes m (held_shown_as m kind)
+shows_held : (m : ConnectionManager) (kind : Option WaitKind) → Goes m (held_shown_as m kind)
 shows_held m None = alike m (with_wait m None) refl
 shows_held m (Some kind) =
     let next = with_wait m (Some kind) in

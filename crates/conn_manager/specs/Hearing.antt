@@ -15,7 +15,6 @@ use Rattle.manager_generations.specs.declared.act.ManagerTimer.TheVariants as ti
 use Rattle.conn_manager.specs.declared.manager.ConnectionManager.{ConnectionManager}
 use Rattle.manager_generations.specs.Generations as generations
 use Rattle.conn_manager.specs.Manager.{pending, with_generations, said, link_of, answered, failure_answered}
-use Rattle.manager_generations.specs.Waits.{wait_of}
 
 -- the name of the request that subscribes again: no other has it
 abbrev pub resubscription_name : ℕ
@@ -52,7 +51,7 @@ came_to m p o = if p == resubscription_name then resubscribed m else answered m 
 
 -- a request of the connection waits
 abbrev pub waits : ConnectionManager → ℕ → WaitKind → ConnectionManager
-waits m p kind = if p == resubscription_name then m else said m (act.Wait (pending p) (wait_of kind))
+waits m p kind = if p == resubscription_name then m else said m (act.Wait (pending p) kind)
 
 -- its message starts
 abbrev pub starts : ConnectionManager → ℕ → ℕ → ℕ → ℕ → ConnectionManager

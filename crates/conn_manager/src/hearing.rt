@@ -4,7 +4,7 @@ ghost use Rattle.conn_manager.specs.Manager.{pending};
 use crate::manager::ConnectionManager;
 use containers::Queue;
 use driver_model::{LinkNews, Outcome, WaitKind};
-use manager_generations::{ManagerAct, ManagerTimer, ManagerWait};
+use manager_generations::{ManagerAct, ManagerTimer};
 use mux_conn::{ConnectionError, LinkAct, Pending};
 use redis_error::RedisError;
 use std::alloc::{AllocError, Global};
@@ -104,7 +104,7 @@ impl ConnectionManager {
         }
         self.say(ManagerAct::Wait {
             request: Pending { number: request },
-            wait: ManagerWait::of_link(wait),
+            wait,
         })
     }
 

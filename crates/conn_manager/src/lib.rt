@@ -27,9 +27,7 @@ pub use manager::ConnectionManager;
 pub use manager_config::{
     ConnectionManagerConfig, ManagerGetters, ManagerKind, ManagerSettings, backoff_ms,
 };
-pub use manager_generations::{
-    Generations, ManagerAct, ManagerTimer, ManagerWait, Phase, Settings,
-};
+pub use manager_generations::{Generations, ManagerAct, ManagerTimer, Phase, Settings};
 pub use mux_client::SendError;
 pub use mux_conn::{ConnectionError, Pending};
 pub use request::{Call, HeldRequest, Stage};

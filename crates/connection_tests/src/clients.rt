@@ -424,8 +424,12 @@ fn are_words(
     response: Option<Option<u64>>,
 ) -> Result<bool, AllocError> {
     let words = words(alloc, "redis://h/4", config)?;
-    let url = words.url.as_slice() == b"redis://h:6379/4".as_slice();
-    Ok(url && words.connect == None && words.response == response)
+    let url = words.address().url.as_slice() == b"redis://h:6379/4".as_slice();
+    let times = match words.connection() {
+        Some(given) => given.connect == None && given.response == response,
+        None => false,
+    };
+    Ok(url && times)
 }
 
 #[test]

@@ -16,7 +16,7 @@ use Rattle.driver_model.specs.declared.event.EventKind.TheVariants as event
 use Rattle.driver_model.specs.declared.outcome.Outcome.{Outcome}
 use Rattle.driver_model.specs.declared.hearing.Notice.{Notice}
 use Rattle.driver_model.specs.Hearing.{hears_something}
-use Rattle.driver_model.specs.News.{News, silence, connected, refused, overdue, took, came, failed, dropped, shut, authorized, denied, deserted, renewed, unrenewed, late}
+use Rattle.driver_model.specs.News.{News, silence, connected, refused, overdue, took, came, failed, dropped, shut, authorized, denied, deserted, renewed, unrenewed, late, unrepeated}
 use Rattle.legal_trace.specs.Ledger.{Ledger, Heard, Line, Start, asks, hears, begins, offers, tells, ends, parts, noted, noted_each, with_news, refused_in, bytes_came, is_over, dials, reach, reached, is_full, is_full_by, next_notice, sources, awaits_credentials, authorized_by, times, may_renew, renewed_by, unrenewed_by, is_renewal_open, lost_by}
 use Rattle.legal_trace.specs.Story.{Story, Try, last_of, is_open, handed_in, left, holds, clocked, fires, tried, waits, answered}
 use Rattle.legal_trace.specs.Book.{Book, blank_book, book, entered, entered_each, current, is_clock_of, after_event, is_unspoken, message_of, if_mine, lines_of, lines_of_each, hearing_in}
@@ -59,6 +59,7 @@ takes_hears k count l turn deserted h = h
 takes_hears k count l turn (renewed c) h = chosen (TakesUpTo k count) (may_renew l) (renewed_by l c) l (λ t. record { started = h.started; takes = h.takes }) (λ e. h)
 takes_hears k count l turn unrenewed h = chosen (TakesUpTo k count) l.up (unrenewed_by l) l (λ t. record { started = h.started; takes = h.takes }) (λ e. h)
 takes_hears k count l turn (late i) h = chosen (TakesUpTo k count) (l.up && is_renewal_open l i) (lost_by l) l (λ t. record { started = h.started; takes = h.takes }) (λ e. h)
+takes_hears k count l turn unrepeated h = h
 takes_hears k count l turn dropped h = h
 takes_hears k count l turn shut h = h
 
@@ -133,20 +134,25 @@ message_from b (action.Connect m host port) l n k blank = λ o h. inl (o, h)
 message_from b (action.Timer t ms what) l n k blank = chosen (IsFrom b (action.Timer t ms what) l n k) (is_clock_of n (Some what)) (clocked (b.story n) t) (b.story n) (λ e o h. inl (o, h)) (λ f o h. inl (o, h))
 message_from b (action.Took owner.Setup m count) l n k blank = λ o h. inl (o, h)
 message_from b (action.Took owner.Auth m count) l n k blank = λ o h. inl (o, h)
+message_from b (action.Took owner.Resub m count) l n k blank = λ o h. inl (o, h)
 message_from b (action.Took owner.Monitor m count) l n k blank = λ o h. inl (o, h)
 message_from b (action.Took (owner.Try i round) m count) l n k blank = chosen (IsFrom b (action.Took (owner.Try i round) m count) l n k) (i == n) (holds (b.story n) count) (b.story n) (λ e o h. inl (o, h)) (λ f o h. inl (o, h))
 message_from b (action.Push m info) l n k blank = λ o h. inl (o, h)
 message_from b (action.Message msg) l n k blank = λ o h. inl (o, h)
 message_from b (action.Monitor v) l n k blank = λ o h. inl (o, h)
 message_from b (action.NeedCreds c m) l n k blank = λ o h. inl (o, h)
+message_from b (action.Generation g) l n k blank = λ o h. inl (o, h)
+message_from b (action.Round who m) l n k blank = λ o h. inl (o, h)
 message_from b (action.Close m) l n k blank = λ o h. inl (o, h)
 message_from b (action.Write m bytes) l n k blank = λ o h. inl (o, h)
 message_from b (action.Wait owner.Setup kind) l n k blank = λ o h. inl (o, h)
 message_from b (action.Wait owner.Auth kind) l n k blank = λ o h. inl (o, h)
+message_from b (action.Wait owner.Resub kind) l n k blank = λ o h. inl (o, h)
 message_from b (action.Wait owner.Monitor kind) l n k blank = λ o h. inl (o, h)
 message_from b (action.Wait (owner.Try i round) kind) l n k blank = chosen (IsFrom b (action.Wait (owner.Try i round) kind) l n k) (i == n) (waits (b.story n) kind) (b.story n) (λ e o h. inl (o, h)) (λ f o h. inl (o, h))
 message_from b (action.Start m j owner.Setup count len) l n k blank = λ o h. inl (o, h)
 message_from b (action.Start m j owner.Auth count len) l n k blank = λ o h. inl (o, h)
+message_from b (action.Start m j owner.Resub count len) l n k blank = λ o h. inl (o, h)
 message_from b (action.Start m j owner.Monitor count len) l n k blank = λ o h. inl (o, h)
 message_from b (action.Start m j (owner.Try i round) count len) l n k blank = chosen (IsFrom b (action.Start m j (owner.Try i round) count len) l n k) (i == n) (tried (b.story n) m j) (b.story n)
     (λ e o h. let same = same_last (b.story n).tries m j l k h in inr (same.0, same.1, eq_from i n e)) (λ f o h. inl (o, h))
@@ -195,6 +201,7 @@ dealt_hears count l turn deserted i = i
 dealt_hears count l turn (renewed c) i = chosen (λ (x : Ledger). count ≤ length x.dealt) (may_renew l) (renewed_by l c) l (λ t. i) (λ e. i)
 dealt_hears count l turn unrenewed i = chosen (λ (x : Ledger). count ≤ length x.dealt) l.up (unrenewed_by l) l (λ t. i) (λ e. i)
 dealt_hears count l turn (late k) i = chosen (λ (x : Ledger). count ≤ length x.dealt) (l.up && is_renewal_open l k) (lost_by l) l (λ t. i) (λ e. i)
+dealt_hears count l turn unrepeated i = i
 dealt_hears count l turn dropped i = i
 dealt_hears count l turn shut i = i
 

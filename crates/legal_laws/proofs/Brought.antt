@@ -15,7 +15,7 @@ use Rattle.driver_model.specs.declared.action.SourceUse.TheVariants as source
 use Rattle.driver_model.specs.declared.event.EventKind.{EventKind}
 use Rattle.driver_model.specs.declared.event.EventKind.TheVariants as event
 use Rattle.driver_model.specs.declared.news.LinkFault.TheVariants as fault
-use Rattle.driver_model.specs.News.{News, silence, connected, refused, overdue, took, came, failed, authorized, denied, deserted, renewed, unrenewed, late, dropped, shut, news_of, for_link, of_timer, of_source, renews}
+use Rattle.driver_model.specs.News.{News, silence, connected, refused, overdue, took, came, failed, authorized, denied, deserted, renewed, unrenewed, late, unrepeated, dropped, shut, news_of, for_link, of_timer, of_source, renews}
 use Rattle.legal_trace.specs.Ledger.{Ledger, End, Sourced, asks, hears, begins, offers, sources, times, ends, noted, noted_each, with_news, refused_in, bytes_came, is_over, is_ready, is_set_up, dials, awaits_credentials, authorized_by, may_renew, renewed_by, unrenewed_by, is_renewal_open, lost_by, source_due}
 use Rattle.legal_trace.specs.Book.{Book, blank_book, book, entered, if_mine, info_in, wanted_in, message_of, use_for, is_renewal_of, hearing_in, current}
 use Rattle.legal_trace.specs.Events.{is_bad_event}
@@ -144,6 +144,7 @@ news_has l turn unrenewed asked c new shaped h = chosen (HasOf asked c (new ++ [
     (λ f. none_came asked c new l h)
 news_has l turn (late k) asked c new shaped h = chosen (HasOf asked c (new ++ [])) (l.up && is_renewal_open l k) (lost_by l) l
     (λ t. none_came asked c new (lost_by l) (record { counted = h.counted; unasked = h.unasked; lives = h.lives; has = h.has })) (λ f. none_came asked c new l h)
+news_has l turn unrepeated asked c new shaped h = none_came asked c new l h
 news_has l turn dropped asked c new shaped h = none_came asked c new l h
 news_has l turn shut asked c new shaped h = none_came asked c new l h
 
@@ -163,6 +164,8 @@ timer_news l None = refl
 timer_news l (Some (purpose.Connect m)) = plain_news (m == l) overdue refl
 timer_news l (Some (purpose.Response who)) = refl
 timer_news l (Some (purpose.Renewal m k)) = plain_news (m == l) (late k) refl
+timer_news l (Some (purpose.Backoff g)) = refl
+timer_news l (Some (purpose.Resubscription m)) = plain_news (m == l) unrepeated refl
 
 -- nor are a source's other news
 source_news : (l : ℕ) (o : Option SourceUse) (first later : News) → new_in first ≡ [] → new_in later ≡ [] → new_in (of_source l o first later) ≡ []
@@ -366,6 +369,8 @@ accounts_kept b (action.Push m info) l c asked new may sound h = goes_on b (acti
 accounts_kept b (action.Message msg) l c asked new may sound h = goes_on b (action.Message msg) l c asked new refl (tell_keeps (HasOf asked c new) (current b == l) (b.link l) h.link h.link) h
 accounts_kept b (action.Monitor v) l c asked new may sound h = goes_on b (action.Monitor v) l c asked new refl (tell_keeps (HasOf asked c new) (current b == l) (b.link l) h.link h.link) h
 accounts_kept b (action.NeedCreds d m) l c asked new may sound h = need_accounts b d m l c asked new may sound h
+accounts_kept b (action.Generation g) l c asked new may sound h = absurd may
+accounts_kept b (action.Round who m) l c asked new may sound h = absurd may
 accounts_kept b (action.Close m) l c asked new may sound h = goes_on b (action.Close m) l c asked new refl
     (mine_keeps (HasOf asked c new) (m == l) (b.link l) (ends (b.turns - 1))
     (λ t. record { counted = h.link.counted; unasked = h.link.unasked; lives = λ r d. refl; has = λ e. record { first = (h.link.has e).first; all = λ u. absurd (cc u) } }) h.link) h

@@ -19,7 +19,7 @@ use Rattle.driver_model.specs.declared.hearing.Hearing.TheVariants as hearing
 use Rattle.driver_model.specs.declared.msg.Msg.{Msg}
 use Rattle.driver_model.specs.Config.{hearing_of}
 use Rattle.driver_model.specs.Hearing.{Taking, answers, taking, array_taken, as_message, bulk_text, plain_text, hears_messages, is_answer_named, is_watching, message_named, message_of, message_taken, push_taken}
-use Rattle.driver_model.specs.News.{News, silence, connected, refused, overdue, took, came, failed, dropped, shut, news_of, authorized, denied, deserted, renewed, unrenewed, late}
+use Rattle.driver_model.specs.News.{News, silence, connected, refused, overdue, took, came, failed, dropped, shut, news_of, authorized, denied, deserted, renewed, unrenewed, late, unrepeated}
 use Rattle.driver_model.specs.Shape.{need_of}
 use Rattle.legal_trace.specs.Ledger.{Ledger, Start, asks, begins, offers, ends, sources, times, noted, with_news, refused_in, bytes_came, is_over, is_of_setup, is_awaiting, is_set_up, cut, dials, items_came, heard_at, reach, reached, setup_count, taking_of, value_by, value_came, awaits_credentials, authorized_by, may_renew, renewed_by, unrenewed_by, is_renewal_open, lost_by}
 use Rattle.legal_trace.specs.Book.{Book, blank_book, book, entered, entered_each, current, hearing_in, info_in, message_of as start_of, wanted_in, is_renewal_of}
@@ -189,6 +189,7 @@ news_sorted l turn deserted few are h = h
 news_sorted l turn (renewed c) few are h = chosen IsSorted (may_renew l) (renewed_by l c) l (λ t m. sorted_alike l (h m) _ refl refl (λ f. f)) (λ e. h)
 news_sorted l turn unrenewed few are h = chosen IsSorted l.up (unrenewed_by l) l (λ t m. sorted_alike l (h m) _ refl refl (λ f. f)) (λ e. h)
 news_sorted l turn (late k) few are h = chosen IsSorted (l.up && is_renewal_open l k) (lost_by l) l (λ t m. sorted_alike l (h m) _ refl refl (λ f. f)) (λ e. h)
+news_sorted l turn unrepeated few are h = h
 news_sorted l turn dropped few are h = h
 news_sorted l turn shut few are h = h
 
@@ -236,6 +237,8 @@ sorted_kept b l (action.Push m info) may s after h = push_keeps IsSorted (m == l
 sorted_kept b l (action.Message msg) may s after h = tell_keeps IsSorted (current b == l) (b.link l) (λ m. sorted_alike (b.link l) (h m) _ refl refl (λ f. f)) h
 sorted_kept b l (action.Monitor v) may s after h = tell_keeps IsSorted (current b == l) (b.link l) (λ m. sorted_alike (b.link l) (h m) _ refl refl (λ f. f)) h
 sorted_kept b l (action.NeedCreds c m) may s after h = mine_keeps IsSorted (m == l) (b.link l) sources (λ t m. sorted_alike (b.link l) (h m) _ refl refl (λ f. f)) h
+sorted_kept b l (action.Generation g) may s after h = absurd may
+sorted_kept b l (action.Round who m) may s after h = absurd may
 sorted_kept b l (action.Close m) may s after h = mine_keeps IsSorted (m == l) (b.link l) (ends (b.turns - 1)) (λ t m. sorted_alike (b.link l) (h m) _ refl refl (λ f. f)) h
 sorted_kept b l (action.Write m bytes) may s after h = mine_keeps IsSorted (m == l) (b.link l) (offers bytes) (λ t m. sorted_alike (b.link l) (h m) _ refl refl (λ f. f)) h
 sorted_kept b l (action.Wait who kind) may s after h = h
@@ -244,6 +247,7 @@ sorted_kept b l (action.Start m k owner.Setup count len) may s after h =
     mine_keeps IsSorted (m == l) (b.link l) (begins begun)
     (λ t heard. setup_sorted (b.link l) begun refl (subst (λ j. is_set_up (b.link j) ≡ false) (eq_from m l t) (due_is_unset (b.link m) may.k may.due))
     (few_keeps (b.link l) (begins begun) (s.few l)) (h heard)) h
+sorted_kept b l (action.Start m k owner.Resub count len) may s after h = absurd may
 sorted_kept b l (action.Start m k owner.Monitor count len) may s after h = mine_keeps IsSorted (m == l) (b.link l) (begins (start_of b m owner.Monitor))
     (λ t heard. absurd (not_both_heard (b.link l).hearing heard (subst (λ j. is_watching (b.link j).hearing ≡ true) (eq_from m l t) (watch_is_heard (b.link m) may.due)))) h
 sorted_kept b l (action.Start m k owner.Auth count len) may s after h = mine_keeps IsSorted (m == l) (b.link l) (begins (start_of b m owner.Auth))

@@ -65,6 +65,7 @@ below_the_next b (action.Push l info) t may e = let i = push_first (is_disconnec
 below_the_next b (action.Created x) t may e = let i = creation_first x in omega arith
 below_the_next b (action.Start l k owner.Setup count len) t may e = omega arith
 below_the_next b (action.Start l k owner.Auth count len) t may e = omega arith
+below_the_next b (action.Start l k owner.Resub count len) t may e = absurd may
 below_the_next b (action.Start l k owner.Monitor count len) t may e = omega arith
 below_the_next b (action.Start l k (owner.Try n round) count len) t may e = omega arith
 below_the_next b _ t may e = omega arith

@@ -68,20 +68,25 @@ over_kept b (action.Connect m host port) may n i h = h
 over_kept b (action.Timer t ms what) may n i h = chosen IsOver (is_clock_of n (Some what)) (clocked (b.story n) t) (b.story n) (λ e. h) (λ f. h)
 over_kept b (action.Took owner.Setup l count) may n i h = absurd may
 over_kept b (action.Took owner.Auth l count) may n i h = absurd may
+over_kept b (action.Took owner.Resub l count) may n i h = absurd may
 over_kept b (action.Took owner.Monitor l count) may n i h = absurd may
 over_kept b (action.Took (owner.Try m round) l count) may n i h = chosen IsOver (m == n) (holds (b.story n) count) (b.story n) (λ e. h) (λ f. h)
 over_kept b (action.Push m info) may n i h = h
 over_kept b (action.Message msg) may n i h = h
 over_kept b (action.Monitor v) may n i h = h
 over_kept b (action.NeedCreds c m) may n i h = h
+over_kept b (action.Generation g) may n i h = absurd may
+over_kept b (action.Round who m) may n i h = absurd may
 over_kept b (action.Close m) may n i h = h
 over_kept b (action.Write m bytes) may n i h = h
 over_kept b (action.Wait owner.Setup kind) may n i h = absurd may
 over_kept b (action.Wait owner.Auth kind) may n i h = absurd may
+over_kept b (action.Wait owner.Resub kind) may n i h = absurd may
 over_kept b (action.Wait owner.Monitor kind) may n i h = absurd may
 over_kept b (action.Wait (owner.Try m round) kind) may n i h = chosen IsOver (m == n) (waits (b.story n) kind) (b.story n) (λ e. h) (λ f. h)
 over_kept b (action.Start l k owner.Setup count len) may n i h = h
 over_kept b (action.Start l k owner.Auth count len) may n i h = h
+over_kept b (action.Start l k owner.Resub count len) may n i h = absurd may
 over_kept b (action.Start l k owner.Monitor count len) may n i h = h
 over_kept b (action.Start l k (owner.Try m round) count len) may n i h = chosen IsOver (m == n) (tried (b.story n) l k) (b.story n)
     (λ e u. absurd (not_empty (b.story n).tries (record { link = l; message = k }) (has_no_tries (tried (b.story n) l k) u))) (λ f. h)

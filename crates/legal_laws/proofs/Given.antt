@@ -18,7 +18,7 @@ use Rattle.driver_model.specs.declared.event.Event.{Event}
 use Rattle.driver_model.specs.declared.event.EventKind.{EventKind}
 use Rattle.driver_model.specs.declared.event.EventKind.TheVariants as event
 use Rattle.driver_model.specs.declared.news.LinkFault.TheVariants as fault
-use Rattle.driver_model.specs.News.{News, silence, connected, refused, overdue, took, came, failed, authorized, denied, deserted, renewed, unrenewed, late, dropped, shut, news_of, for_link, of_timer, of_source, is_source_of, renews}
+use Rattle.driver_model.specs.News.{News, silence, connected, refused, overdue, took, came, failed, authorized, denied, deserted, renewed, unrenewed, late, unrepeated, dropped, shut, news_of, for_link, of_timer, of_source, is_source_of, renews}
 use Rattle.legal_trace.specs.Ledger.{Ledger, asks, hears, begins, offers, sources, ends, noted, with_news, refused_in, bytes_came, is_over, dials, lacks_credentials, awaits_credentials, authorized_by, times, may_renew, renewed_by, unrenewed_by, is_renewal_open, lost_by}
 use Rattle.legal_trace.specs.Book.{Book, blank_book, book, entered, info_in, wanted_in, message_of, use_for, is_renewal_of, hearing_in, current}
 use Rattle.legal_trace.specs.Legal.{MayStand, AllStand, Legal}
@@ -74,6 +74,8 @@ adds_sources : (b : Book) (a : Action) → MayStand b a → AddsSources b a
 adds_sources b (action.NeedCreds d m) may c l e = elim (item_behind b.sources (use_for b m) (source.Setup l) c e) [
   | inl before ↦ inl before
   | inr new ↦ let same : d ≡ c = may.next ∙ sym new.0 in let mine : m ≡ l = use_is_for b m l new.1 in inr cc
+adds_sources b (action.Generation g) may c l e = absurd may
+adds_sources b (action.Round who m) may c l e = absurd may
 ]
 adds_sources b (action.Turn k (cause.Opening config word)) may c l e = inl e
 adds_sources b (action.Turn k (cause.Event event)) may c l e = inl e
@@ -114,6 +116,8 @@ not_of_timer l None c e = cc e
 not_of_timer l (Some (purpose.Connect m)) c e = not_for_link (m == l) overdue c (λ x. cc x) e
 not_of_timer l (Some (purpose.Response who)) c e = cc e
 not_of_timer l (Some (purpose.Renewal m k)) c e = not_for_link (m == l) (late k) c (λ x. cc x) e
+not_of_timer l (Some (purpose.Backoff g)) c e = cc e
+not_of_timer l (Some (purpose.Resubscription m)) c e = not_for_link (m == l) unrepeated c (λ x. cc x) e
 
 -- nor what comes of a source, where it is none for its setup or its renewals
 not_of_source : (l : ℕ) (o : Option SourceUse) (first later : News) (c : Credentials) → (first ≡ authorized c → ⊥) → (later ≡ authorized c → ⊥) → of_source l o first later ≡ authorized c → ⊥
@@ -171,6 +175,7 @@ hears_given l turn deserted = λ e. inl (e, refl)
 hears_given l turn (renewed c) = chosen (AreGiven l (renewed c)) (may_renew l) (renewed_by l c) l (λ t e. inl (e, refl)) (λ f e. inl (e, refl))
 hears_given l turn unrenewed = chosen (AreGiven l unrenewed) l.up (unrenewed_by l) l (λ t e. inl (e, refl)) (λ f e. inl (e, refl))
 hears_given l turn (late k) = chosen (AreGiven l (late k)) (l.up && is_renewal_open l k) (lost_by l) l (λ t e. inl (e, refl)) (λ f e. inl (e, refl))
+hears_given l turn unrepeated = λ e. inl (e, refl)
 hears_given l turn dropped = λ e. inl (e, refl)
 hears_given l turn shut = λ e. inl (e, refl)
 
@@ -209,6 +214,8 @@ gives_by b (action.Push m info) l e = inl (push_keeps (WereGiven (b.link l)) (m 
 gives_by b (action.Message msg) l e = inl (tell_keeps (WereGiven (b.link l)) (current b == l) (b.link l) (λ old. (old, refl)) (λ old. (old, refl)) e)
 gives_by b (action.Monitor v) l e = inl (tell_keeps (WereGiven (b.link l)) (current b == l) (b.link l) (λ old. (old, refl)) (λ old. (old, refl)) e)
 gives_by b (action.NeedCreds c m) l e = inl (mine_keeps (WereGiven (b.link l)) (m == l) (b.link l) sources (λ t old. (old, refl)) (λ old. (old, refl)) e)
+gives_by b (action.Generation g) l e = inl (e, refl)
+gives_by b (action.Round who m) l e = inl (e, refl)
 gives_by b (action.Close m) l e = inl (mine_keeps (WereGiven (b.link l)) (m == l) (b.link l) (ends (b.turns - 1)) (λ t old. (old, refl)) (λ old. (old, refl)) e)
 gives_by b (action.Write m bytes) l e = inl (mine_keeps (WereGiven (b.link l)) (m == l) (b.link l) (offers bytes) (λ t old. (old, refl)) (λ old. (old, refl)) e)
 gives_by b (action.Wait who kind) l e = inl (e, refl)
@@ -288,6 +295,7 @@ hears_wanted l turn deserted = refl
 hears_wanted l turn (renewed c) = chosen (λ (x : Ledger). x.creds.wanted ≡ l.creds.wanted) (may_renew l) (renewed_by l c) l (λ t. refl) (λ f. refl)
 hears_wanted l turn unrenewed = chosen (λ (x : Ledger). x.creds.wanted ≡ l.creds.wanted) l.up (unrenewed_by l) l (λ t. refl) (λ f. refl)
 hears_wanted l turn (late k) = chosen (λ (x : Ledger). x.creds.wanted ≡ l.creds.wanted) (l.up && is_renewal_open l k) (lost_by l) l (λ t. refl) (λ f. refl)
+hears_wanted l turn unrepeated = refl
 hears_wanted l turn dropped = refl
 hears_wanted l turn shut = refl
 
@@ -313,6 +321,8 @@ want_kept b (action.Push m info) may sound h l = push_keeps (Wants (wanted_in b.
 want_kept b (action.Message msg) may sound h l = tell_keeps (Wants (wanted_in b.config)) (current b == l) (b.link l) (h l) (h l)
 want_kept b (action.Monitor v) may sound h l = tell_keeps (Wants (wanted_in b.config)) (current b == l) (b.link l) (h l) (h l)
 want_kept b (action.NeedCreds c m) may sound h l = mine_keeps (Wants (wanted_in b.config)) (m == l) (b.link l) sources (λ t. h l) (h l)
+want_kept b (action.Generation g) may sound h l = absurd may
+want_kept b (action.Round who m) may sound h l = absurd may
 want_kept b (action.Close m) may sound h l = mine_keeps (Wants (wanted_in b.config)) (m == l) (b.link l) (ends (b.turns - 1)) (λ t. h l) (h l)
 want_kept b (action.Write m bytes) may sound h l = mine_keeps (Wants (wanted_in b.config)) (m == l) (b.link l) (offers bytes) (λ t. h l) (h l)
 want_kept b (action.Wait who kind) may sound h l = h l
@@ -337,6 +347,7 @@ start_is_given b (action.Start m k owner.Setup count len) l may sound on = subst
     (due_is_up (b.link m) may.k may.due, by_test (lacks_credentials (b.link m)) (lacks_credentials (b.link m) ≡ false) (λ t. absurd (due_is_given (b.link m) may.k (sound.shaped m) may.due t)) (λ f. f))
 start_is_given b (action.Start m k owner.Auth count len) l may sound on = subst (λ j. ((b.link j).up ≡ true) × (lacks_credentials (b.link j) ≡ false)) on
     (renewal_is_up (b.link m) may.credentials may.due, set_is_given (b.link m) (renewal_is_set (b.link m) may.credentials (sound.shaped m) may.due))
+start_is_given b (action.Start m k owner.Resub count len) l may sound on = absurd may
 start_is_given b (action.Start m k owner.Monitor count len) l may sound on = subst (λ j. ((b.link j).up ≡ true) × (lacks_credentials (b.link j) ≡ false)) on
     (watch_is_up (b.link m) may.due, greeted_is_given (b.link m) (watch_is_greeted (b.link m) may.due))
 start_is_given b (action.Start m k (owner.Try n round) count len) l may sound on =

@@ -7,7 +7,7 @@ use Rattle.resp_value.specs.Data.{Data}
 use Rattle.driver_model.specs.Hearing.{Taking}
 use Rattle.driver_model.specs.declared.hearing.Notice.{Notice}
 use Rattle.driver_model.specs.declared.action.Action.{Action}
-use Rattle.driver_model.specs.News.{News, silence, connected, refused, overdue, took, came, failed, dropped, shut, authorized, denied, deserted, renewed, unrenewed, late}
+use Rattle.driver_model.specs.News.{News, silence, connected, refused, overdue, took, came, failed, dropped, shut, authorized, denied, deserted, renewed, unrenewed, late, unrepeated}
 use Rattle.legal_trace.specs.Ledger.{Ledger, Heard, Line, asks, hears, begins, offers, tells, ends, parts, blank_ledger, noted, with_news, refused_in, bytes_came, items_came, value_came, heard_at, taking_of, value_by, is_over, dials, reach, sources, awaits_credentials, authorized_by, times, may_renew, renewed_by, unrenewed_by, is_renewal_open, lost_by}
 use Rattle.legal_trace.specs.Book.{book}
 use Rattle.legal_trace.proofs.Ledgers.{each_keeps, FewAreDealt, few_keeps}
@@ -104,6 +104,7 @@ rises_hears l turn deserted h = h.rise
 rises_hears l turn (renewed c) h = chosen Rises (may_renew l) (renewed_by l c) l (λ t. h.rise) (λ e. h.rise)
 rises_hears l turn unrenewed h = chosen Rises l.up (unrenewed_by l) l (λ t. h.rise) (λ e. h.rise)
 rises_hears l turn (late k) h = chosen Rises (l.up && is_renewal_open l k) (lost_by l) l (λ t. h.rise) (λ e. h.rise)
+rises_hears l turn unrepeated h = h.rise
 rises_hears l turn dropped h = h.rise
 rises_hears l turn shut h = h.rise
 
@@ -169,6 +170,7 @@ beyond_hears count l turn deserted h = h
 beyond_hears count l turn (renewed c) h = chosen (IsBeyond count) (may_renew l) (renewed_by l c) l (λ t. record { dealt = h.dealt; waits = h.waits }) (λ e. h)
 beyond_hears count l turn unrenewed h = chosen (IsBeyond count) l.up (unrenewed_by l) l (λ t. record { dealt = h.dealt; waits = h.waits }) (λ e. h)
 beyond_hears count l turn (late k) h = chosen (IsBeyond count) (l.up && is_renewal_open l k) (lost_by l) l (λ t. record { dealt = h.dealt; waits = h.waits }) (λ e. h)
+beyond_hears count l turn unrepeated h = h
 beyond_hears count l turn dropped h = h
 beyond_hears count l turn shut h = h
 

@@ -169,6 +169,7 @@ follows b (action.Connect l host port) may n i = same_story (permits_in b.config
 follows b (action.Timer t ms what) may n i = chosen (Follows (permits_in b.config) (b.story n)) (is_clock_of n (Some what)) (clocked (b.story n) t) (b.story n) (λ e. clocked_follows (permits_in b.config) (b.story n) t) (λ f. same_story (permits_in b.config) (b.story n))
 follows b (action.Took owner.Setup l count) may n i = absurd may
 follows b (action.Took owner.Auth l count) may n i = absurd may
+follows b (action.Took owner.Resub l count) may n i = absurd may
 follows b (action.Took owner.Monitor l count) may n i = absurd may
 follows b (action.Took (owner.Try m round) l count) may n i = chosen (Follows (permits_in b.config) (b.story n)) (m == n) (holds (b.story n) count) (b.story n)
     (λ t. subst (λ j. Follows (permits_in b.config) (b.story j) (holds (b.story j) count)) (eq_from m n t) (holds_follows b m l count may.1)) (λ f. same_story (permits_in b.config) (b.story n))
@@ -176,15 +177,19 @@ follows b (action.Push l info) may n i = same_story (permits_in b.config) (b.sto
 follows b (action.Message msg) may n i = same_story (permits_in b.config) (b.story n)
 follows b (action.Monitor v) may n i = same_story (permits_in b.config) (b.story n)
 follows b (action.NeedCreds c l) may n i = same_story (permits_in b.config) (b.story n)
+follows b (action.Generation g) may n i = absurd may
+follows b (action.Round who l) may n i = absurd may
 follows b (action.Close l) may n i = same_story (permits_in b.config) (b.story n)
 follows b (action.Write l bytes) may n i = same_story (permits_in b.config) (b.story n)
 follows b (action.Wait owner.Setup kind) may n i = absurd may
 follows b (action.Wait owner.Auth kind) may n i = absurd may
+follows b (action.Wait owner.Resub kind) may n i = absurd may
 follows b (action.Wait owner.Monitor kind) may n i = absurd may
 follows b (action.Wait (owner.Try m round) kind) may n i = chosen (Follows (permits_in b.config) (b.story n)) (m == n) (waits (b.story n) kind) (b.story n)
     (λ t. record { link = refl; unstarted = λ u. u; told = λ u e. e; stays = λ u e. e; holds = λ u e j. j }) (λ f. same_story (permits_in b.config) (b.story n))
 follows b (action.Start l k owner.Setup count len) may n i = same_story (permits_in b.config) (b.story n)
 follows b (action.Start l k owner.Auth count len) may n i = same_story (permits_in b.config) (b.story n)
+follows b (action.Start l k owner.Resub count len) may n i = absurd may
 follows b (action.Start l k owner.Monitor count len) may n i = same_story (permits_in b.config) (b.story n)
 follows b (action.Start l k (owner.Try m round) count len) may n i = chosen (Follows (permits_in b.config) (b.story n)) (m == n) (tried (b.story n) l k) (b.story n) (λ t. tried_follows (permits_in b.config) (b.story n) l k) (λ f. same_story (permits_in b.config) (b.story n))
 follows b (action.Created e) may n i = same_story (permits_in b.config) (b.story n)
@@ -210,6 +215,8 @@ submissions_grow b (action.Push m info) = omega arith
 submissions_grow b (action.Message msg) = omega arith
 submissions_grow b (action.Monitor v) = omega arith
 submissions_grow b (action.NeedCreds c m) = omega arith
+submissions_grow b (action.Generation g) = omega arith
+submissions_grow b (action.Round who m) = omega arith
 submissions_grow b (action.Close m) = omega arith
 submissions_grow b (action.Write m bytes) = omega arith
 submissions_grow b (action.Wait who kind) = omega arith

@@ -15,7 +15,7 @@ use Rattle.driver_model.specs.declared.action.Purpose.{Purpose}
 use Rattle.driver_model.specs.declared.action.Purpose.TheVariants as purpose
 use Rattle.driver_model.specs.declared.action.SourceUse.{SourceUse}
 use Rattle.driver_model.specs.declared.action.SourceUse.TheVariants as source
-use Rattle.driver_model.specs.News.{News, silence, connected, refused, overdue, took, came, failed, authorized, denied, deserted, renewed, unrenewed, late, news_of, of_timer, of_source}
+use Rattle.driver_model.specs.News.{News, silence, connected, refused, overdue, took, came, failed, authorized, denied, deserted, renewed, unrenewed, late, unrepeated, news_of, of_timer, of_source}
 use Rattle.legal_trace.specs.Ledger.{Ledger, Line, asks, begins, offers, ends, is_over, IsWithin, MayNote, AllNoted, sources, times, tells}
 use Rattle.legal_trace.specs.Story.{is_awaited, is_no_error, bytes_of}
 use Rattle.legal_trace.specs.Book.{Book, blank_book, entered, lines_of, lines_of_each, if_mine, push_line, info_in, message_of, wanted_in, is_renewal_of, hearing_in, current}
@@ -54,6 +54,8 @@ of_timer_within l n None = tt
 of_timer_within l n (Some (purpose.Connect m)) = chosen (IsWithin l) (m == n) overdue silence (λ t. tt) (λ f. tt)
 of_timer_within l n (Some (purpose.Response who)) = tt
 of_timer_within l n (Some (purpose.Renewal m k)) = chosen (IsWithin l) (m == n) (late k) silence (λ t. tt) (λ f. tt)
+of_timer_within l n (Some (purpose.Backoff g)) = tt
+of_timer_within l n (Some (purpose.Resubscription m)) = chosen (IsWithin l) (m == n) unrepeated silence (λ t. tt) (λ f. tt)
 
 -- nor does what comes of a source
 of_source_within : (l : Ledger) (n : ℕ) (what : Option SourceUse) (first later : News) → IsWithin l first → IsWithin l later → IsWithin l (of_source n what first later)
@@ -109,21 +111,26 @@ lines_may b l (action.Connect m host port) may h = may_mine (m == l) (b.link l) 
 lines_may b l (action.Timer t ms what) may h = may_mine (is_renewal_of l what) (b.link l) times (timer_may b l t ms what may)
 lines_may b l (action.Took owner.Setup m count) may h = absurd may
 lines_may b l (action.Took owner.Auth m count) may h = absurd may
+lines_may b l (action.Took owner.Resub m count) may h = absurd may
 lines_may b l (action.Took owner.Monitor m count) may h = absurd may
 lines_may b l (action.Took (owner.Try n round) m count) may h = tt
 lines_may b l (action.Push m info) may h = may_mine (m == l) (b.link l) (push_line info.kind) (λ t. subst (λ j. MayNote (b.link j) (push_line info.kind)) (eq_from m l t) (push_may b m info may))
 lines_may b l (action.Message msg) may h = may_mine (current b == l) (b.link l) tells (λ t. subst (λ j. MayNote (b.link j) tells) (eq_from (current b) l t) (ap is_some may.next))
 lines_may b l (action.Monitor v) may h = may_mine (current b == l) (b.link l) tells (λ t. subst (λ j. MayNote (b.link j) tells) (eq_from (current b) l t) (ap is_some may.next))
 lines_may b l (action.NeedCreds c m) may h = may_mine (m == l) (b.link l) sources (λ t. subst (λ j. MayNote (b.link j) sources) (eq_from m l t) may.due)
+lines_may b l (action.Generation g) may h = absurd may
+lines_may b l (action.Round who m) may h = absurd may
 lines_may b l (action.Close m) may h = may_mine (m == l) (b.link l) (ends (b.turns - 1)) (λ t. subst (λ j. MayNote (b.link j) (ends (b.turns - 1))) (eq_from m l t) (may.why, may.ends))
 lines_may b l (action.Write m bytes) may h = may_mine (m == l) (b.link l) (offers bytes) (λ t. subst (λ j. MayNote (b.link j) (offers bytes)) (eq_from m l t) (may.up, may.answered, may.all, may.some))
 lines_may b l (action.Wait owner.Setup kind) may h = absurd may
 lines_may b l (action.Wait owner.Auth kind) may h = absurd may
+lines_may b l (action.Wait owner.Resub kind) may h = absurd may
 lines_may b l (action.Wait owner.Monitor kind) may h = absurd may
 lines_may b l (action.Wait (owner.Try n round) kind) may h = tt
 lines_may b l (action.Start m k owner.Setup count len) may h =
     may_mine (m == l) (b.link l) (begins (message_of b m owner.Setup))
     (λ t. (subst (λ j. (b.link j).up ≡ true) (eq_from m l t) (due_is_up (b.link m) may.k may.due), due_has_bytes (b.link m) may.k may.due))
+lines_may b l (action.Start m k owner.Resub count len) may h = absurd may
 lines_may b l (action.Start m k owner.Monitor count len) may h =
     may_mine (m == l) (b.link l) (begins (message_of b m owner.Monitor))
     (λ t. (subst (λ j. (b.link j).up ≡ true) (eq_from m l t) (watch_is_up (b.link m) may.due), monitor_has_bytes))

@@ -14,7 +14,7 @@ use Rattle.driver_model.specs.Config.{hearing_of}
 use Rattle.driver_model.specs.Hearing.{hears_something}
 use Rattle.driver_model.specs.declared.hearing.Notice.{Notice}
 use Rattle.driver_model.specs.declared.hearing.Notice.TheVariants as notice
-use Rattle.driver_model.specs.News.{News, silence, connected, refused, overdue, took, came, failed, dropped, shut, news_of, authorized, denied, deserted, renewed, unrenewed, late}
+use Rattle.driver_model.specs.News.{News, silence, connected, refused, overdue, took, came, failed, dropped, shut, news_of, authorized, denied, deserted, renewed, unrenewed, late, unrepeated}
 use Rattle.driver_model.specs.Push.{is_disconnection}
 use Rattle.legal_trace.specs.Ledger.{Ledger, Heard, asks, hears, begins, offers, tells, ends, parts, noted, noted_each, refused_in, bytes_came, is_over, dials, next_notice, sources, awaits_credentials, authorized_by, times, may_renew, renewed_by, unrenewed_by, is_renewal_open, lost_by}
 use Rattle.legal_trace.specs.Book.{Book, blank_book, book, entered, entered_each, if_mine, push_line, info_in, message_of, wanted_in, is_renewal_of, hearing_in, current}
@@ -65,6 +65,7 @@ hears_on l turn deserted = same_notices l _ refl refl
 hears_on l turn (renewed c) = chosen (λ (x : Ledger). GoesOn l (record x { heard = renewed c })) (may_renew l) (renewed_by l c) l (λ t. same_notices l _ refl refl) (λ e. same_notices l _ refl refl)
 hears_on l turn unrenewed = chosen (λ (x : Ledger). GoesOn l (record x { heard = unrenewed })) l.up (unrenewed_by l) l (λ t. same_notices l _ refl refl) (λ e. same_notices l _ refl refl)
 hears_on l turn (late k) = chosen (λ (x : Ledger). GoesOn l (record x { heard = late k })) (l.up && is_renewal_open l k) (lost_by l) l (λ t. same_notices l _ refl refl) (λ e. same_notices l _ refl refl)
+hears_on l turn unrepeated = same_notices l _ refl refl
 hears_on l turn dropped = same_notices l _ refl refl
 hears_on l turn shut = same_notices l _ refl refl
 
@@ -143,6 +144,8 @@ step_tells b l (action.Connect m host port) may = no_notice b l (action.Connect 
 step_tells b l (action.Timer t ms what) may = no_notice b l (action.Timer t ms what) refl (mine_keeps (GoesOn (b.link l)) (is_renewal_of l what) (b.link l) times (λ t. same_notices (b.link l) _ refl refl) (same_notices (b.link l) (b.link l) refl refl))
 step_tells b l (action.Took who m count) may = no_notice b l (action.Took who m count) refl (same_notices (b.link l) (b.link l) refl refl)
 step_tells b l (action.NeedCreds c m) may = no_notice b l (action.NeedCreds c m) refl (mine_keeps (GoesOn (b.link l)) (m == l) (b.link l) sources (λ t. same_notices (b.link l) _ refl refl) (same_notices (b.link l) (b.link l) refl refl))
+step_tells b l (action.Generation g) may = absurd may
+step_tells b l (action.Round who m) may = absurd may
 step_tells b l (action.Close m) may = no_notice b l (action.Close m) refl (mine_keeps (GoesOn (b.link l)) (m == l) (b.link l) (ends (b.turns - 1)) (λ t. same_notices (b.link l) _ refl refl) (same_notices (b.link l) (b.link l) refl refl))
 step_tells b l (action.Write m bytes) may = no_notice b l (action.Write m bytes) refl (mine_keeps (GoesOn (b.link l)) (m == l) (b.link l) (offers bytes) (λ t. same_notices (b.link l) _ refl refl) (same_notices (b.link l) (b.link l) refl refl))
 step_tells b l (action.Wait who kind) may = no_notice b l (action.Wait who kind) refl (same_notices (b.link l) (b.link l) refl refl)
@@ -234,6 +237,8 @@ settled_whole config word events front (action.Push l info ∷ more) h whole = a
 settled_whole config word events front (action.Message msg ∷ more) h whole = absurd whole
 settled_whole config word events front (action.Monitor v ∷ more) h whole = absurd whole
 settled_whole config word events front (action.NeedCreds c l ∷ more) h whole = absurd whole
+settled_whole config word events front (action.Generation g ∷ more) h whole = absurd whole
+settled_whole config word events front (action.Round who l ∷ more) h whole = absurd whole
 settled_whole config word events front (action.Close l ∷ more) h whole = absurd whole
 settled_whole config word events front (action.Write l bytes ∷ more) h whole = absurd whole
 settled_whole config word events front (action.Wait who kind ∷ more) h whole = absurd whole

@@ -13,7 +13,7 @@ use Rattle.driver_model.specs.declared.action.Purpose.{Purpose}
 use Rattle.driver_model.specs.declared.action.Purpose.TheVariants as purpose
 use Rattle.driver_model.specs.declared.action.SourceUse.{SourceUse}
 use Rattle.driver_model.specs.declared.action.SourceUse.TheVariants as source
-use Rattle.driver_model.specs.News.{News, silence, connected, refused, overdue, took, came, failed, authorized, denied, deserted, renewed, unrenewed, late, news_of, for_link, of_timer, of_source}
+use Rattle.driver_model.specs.News.{News, silence, connected, refused, overdue, took, came, failed, authorized, denied, deserted, renewed, unrenewed, late, unrepeated, news_of, for_link, of_timer, of_source}
 use Rattle.driver_model.specs.declared.outcome.Outcome.{Outcome}
 use Rattle.legal_trace.specs.Ledger.{Ledger, End, asks, begins, offers, ends, is_over, ending, ending_alive, ending_asked, noted_each, sources, times}
 use Rattle.legal_trace.specs.Story.{Story, blank_story, is_open, is_told, handed_in, left, holds, clocked, fires, tried, waits, answered}
@@ -45,6 +45,8 @@ not_of_timer l None e = cc e
 not_of_timer l (Some (purpose.Connect m)) e = not_for_link (m == l) overdue (λ x. cc x) e
 not_of_timer l (Some (purpose.Response who)) e = cc e
 not_of_timer l (Some (purpose.Renewal m k)) e = not_for_link (m == l) (late k) (λ x. cc x) e
+not_of_timer l (Some (purpose.Backoff g)) e = cc e
+not_of_timer l (Some (purpose.Resubscription m)) e = not_for_link (m == l) unrepeated (λ x. cc x) e
 
 -- nor is what comes of a source
 not_of_source : (l : ℕ) (what : Option SourceUse) (first later : News) → (first ≡ connected → ⊥) → (later ≡ connected → ⊥) → of_source l what first later ≡ connected → ⊥
@@ -93,6 +95,8 @@ unasked_kept b l (action.Push m info) may i h = push_keeps IsUnasked (m == l) in
 unasked_kept b l (action.Message msg) may i h = tell_keeps IsUnasked (current b == l) (b.link l) h h
 unasked_kept b l (action.Monitor v) may i h = tell_keeps IsUnasked (current b == l) (b.link l) h h
 unasked_kept b l (action.NeedCreds c m) may i h = mine_keeps IsUnasked (m == l) (b.link l) sources (λ t. h) h
+unasked_kept b l (action.Generation g) may i h = absurd may
+unasked_kept b l (action.Round who m) may i h = absurd may
 unasked_kept b l (action.Close m) may i h =
     mine_keeps IsUnasked (m == l) (b.link l) (ends (b.turns - 1))
     (λ t. absurd (not_none (ending (b.link m)) may.why (unasked_stays (b.link m) (subst (λ j. IsUnasked (b.link j)) (sym (eq_from m l t)) h)) may.ends)) h
@@ -113,6 +117,8 @@ links_grow b (action.Push m info) = omega arith
 links_grow b (action.Message msg) = omega arith
 links_grow b (action.Monitor v) = omega arith
 links_grow b (action.NeedCreds c m) = omega arith
+links_grow b (action.Generation g) = omega arith
+links_grow b (action.Round who m) = omega arith
 links_grow b (action.Close m) = omega arith
 links_grow b (action.Write m bytes) = omega arith
 links_grow b (action.Wait who kind) = omega arith
@@ -136,20 +142,25 @@ asked_kept b l (action.Connect m host port) may h i =
 asked_kept b l (action.Timer t ms what) may h i = asked_stays b l (action.Timer t ms what) (h.asked l i)
 asked_kept b l (action.Took owner.Setup m count) may h i = absurd may
 asked_kept b l (action.Took owner.Auth m count) may h i = absurd may
+asked_kept b l (action.Took owner.Resub m count) may h i = absurd may
 asked_kept b l (action.Took owner.Monitor m count) may h i = absurd may
 asked_kept b l (action.Took (owner.Try n round) m count) may h i = asked_stays b l (action.Took (owner.Try n round) m count) (h.asked l i)
 asked_kept b l (action.Push m info) may h i = asked_stays b l (action.Push m info) (h.asked l i)
 asked_kept b l (action.Message msg) may h i = asked_stays b l (action.Message msg) (h.asked l i)
 asked_kept b l (action.Monitor v) may h i = asked_stays b l (action.Monitor v) (h.asked l i)
 asked_kept b l (action.NeedCreds c m) may h i = asked_stays b l (action.NeedCreds c m) (h.asked l i)
+asked_kept b l (action.Generation g) may h i = absurd may
+asked_kept b l (action.Round who m) may h i = absurd may
 asked_kept b l (action.Close m) may h i = asked_stays b l (action.Close m) (h.asked l i)
 asked_kept b l (action.Write m bytes) may h i = asked_stays b l (action.Write m bytes) (h.asked l i)
 asked_kept b l (action.Wait owner.Setup kind) may h i = absurd may
 asked_kept b l (action.Wait owner.Auth kind) may h i = absurd may
+asked_kept b l (action.Wait owner.Resub kind) may h i = absurd may
 asked_kept b l (action.Wait owner.Monitor kind) may h i = absurd may
 asked_kept b l (action.Wait (owner.Try n round) kind) may h i = asked_stays b l (action.Wait (owner.Try n round) kind) (h.asked l i)
 asked_kept b l (action.Start m k owner.Setup count len) may h i = asked_stays b l (action.Start m k owner.Setup count len) (h.asked l i)
 asked_kept b l (action.Start m k owner.Auth count len) may h i = asked_stays b l (action.Start m k owner.Auth count len) (h.asked l i)
+asked_kept b l (action.Start m k owner.Resub count len) may h i = absurd may
 asked_kept b l (action.Start m k owner.Monitor count len) may h i = asked_stays b l (action.Start m k owner.Monitor count len) (h.asked l i)
 asked_kept b l (action.Start m k (owner.Try n round) count len) may h i = asked_stays b l (action.Start m k (owner.Try n round) count len) (h.asked l i)
 asked_kept b l (action.Created e) may h i = asked_stays b l (action.Created e) (h.asked l i)
@@ -249,20 +260,25 @@ stories_kept b (action.Connect l host port) may h n i = h n i
 stories_kept b (action.Timer t ms what) may h n i = timer_leaves_blank b t ms what n may h i
 stories_kept b (action.Took owner.Setup l count) may h n i = absurd may
 stories_kept b (action.Took owner.Auth l count) may h n i = absurd may
+stories_kept b (action.Took owner.Resub l count) may h n i = absurd may
 stories_kept b (action.Took owner.Monitor l count) may h n i = absurd may
 stories_kept b (action.Took (owner.Try m round) l count) may h n i = others_blank b m n (holds (b.story n) count) h i (mover_is_numbered b m h (taker_moves b m l count may.1))
 stories_kept b (action.Push l info) may h n i = h n i
 stories_kept b (action.Message msg) may h n i = h n i
 stories_kept b (action.Monitor v) may h n i = h n i
 stories_kept b (action.NeedCreds c l) may h n i = h n i
+stories_kept b (action.Generation g) may h n i = absurd may
+stories_kept b (action.Round who l) may h n i = absurd may
 stories_kept b (action.Close l) may h n i = h n i
 stories_kept b (action.Write l bytes) may h n i = h n i
 stories_kept b (action.Wait owner.Setup kind) may h n i = absurd may
 stories_kept b (action.Wait owner.Auth kind) may h n i = absurd may
+stories_kept b (action.Wait owner.Resub kind) may h n i = absurd may
 stories_kept b (action.Wait owner.Monitor kind) may h n i = absurd may
 stories_kept b (action.Wait (owner.Try m round) kind) may h n i = others_blank b m n (waits (b.story n) kind) h i (open_is_numbered b m h may.1.asked)
 stories_kept b (action.Start l k owner.Setup count len) may h n i = h n i
 stories_kept b (action.Start l k owner.Auth count len) may h n i = h n i
+stories_kept b (action.Start l k owner.Resub count len) may h n i = absurd may
 stories_kept b (action.Start l k owner.Monitor count len) may h n i = h n i
 stories_kept b (action.Start l k (owner.Try m round) count len) may h n i = others_blank b m n (tried (b.story n) l k) h i (mover_is_numbered b m h (starter_moves b l k m count len may.1))
 stories_kept b (action.Created e) may h n i = h n i

@@ -62,20 +62,25 @@ opening_kept b (action.Connect l host port) may h = record {
 opening_kept b (action.Timer t ms what) may h = h
 opening_kept b (action.Took owner.Setup l count) may h = absurd may
 opening_kept b (action.Took owner.Auth l count) may h = absurd may
+opening_kept b (action.Took owner.Resub l count) may h = absurd may
 opening_kept b (action.Took owner.Monitor l count) may h = absurd may
 opening_kept b (action.Took (owner.Try n round) l count) may h = h
 opening_kept b (action.Push l info) may h = h
 opening_kept b (action.Message msg) may h = h
 opening_kept b (action.Monitor v) may h = h
 opening_kept b (action.NeedCreds c l) may h = h
+opening_kept b (action.Generation g) may h = absurd may
+opening_kept b (action.Round who l) may h = absurd may
 opening_kept b (action.Close l) may h = h
 opening_kept b (action.Write l bytes) may h = h
 opening_kept b (action.Wait owner.Setup kind) may h = absurd may
 opening_kept b (action.Wait owner.Auth kind) may h = absurd may
+opening_kept b (action.Wait owner.Resub kind) may h = absurd may
 opening_kept b (action.Wait owner.Monitor kind) may h = absurd may
 opening_kept b (action.Wait (owner.Try n round) kind) may h = h
 opening_kept b (action.Start l k owner.Setup count len) may h = h
 opening_kept b (action.Start l k owner.Auth count len) may h = h
+opening_kept b (action.Start l k owner.Resub count len) may h = absurd may
 opening_kept b (action.Start l k owner.Monitor count len) may h = h
 opening_kept b (action.Start l k (owner.Try n round) count len) may h = h
 opening_kept b (action.Created e) may h = h
@@ -107,20 +112,25 @@ still_kept b (action.Connect m host port) may h = λ i l. mine_keeps IsStill (m 
 still_kept b (action.Timer t ms what) may h = λ i l. mine_keeps IsStill (is_renewal_of l what) (b.link l) times (λ t. record { down = (h i l).down; lives = (h i l).lives; untold = (h i l).untold; mute = (h i l).mute }) (h i l)
 still_kept b (action.Took owner.Setup l count) may h = absurd may
 still_kept b (action.Took owner.Auth l count) may h = absurd may
+still_kept b (action.Took owner.Resub l count) may h = absurd may
 still_kept b (action.Took owner.Monitor l count) may h = absurd may
 still_kept b (action.Took (owner.Try n round) l count) may h = h
 still_kept b (action.Push m info) may h = λ i l. push_keeps IsStill (m == l) info.kind (b.link l) (record { down = (h i l).down; lives = (h i l).lives; untold = (h i l).untold; mute = (h i l).mute }) (record { down = (h i l).down; lives = (h i l).lives; untold = (h i l).untold; mute = (h i l).mute }) (h i l)
 still_kept b (action.Message msg) may h = λ i l. tell_keeps IsStill (current b == l) (b.link l) (record { down = (h i l).down; lives = (h i l).lives; untold = (h i l).untold; mute = (h i l).mute }) (h i l)
 still_kept b (action.Monitor v) may h = λ i l. tell_keeps IsStill (current b == l) (b.link l) (record { down = (h i l).down; lives = (h i l).lives; untold = (h i l).untold; mute = (h i l).mute }) (h i l)
 still_kept b (action.NeedCreds c m) may h = λ i l. mine_keeps IsStill (m == l) (b.link l) sources (λ t. record { down = (h i l).down; lives = (h i l).lives; untold = (h i l).untold; mute = (h i l).mute }) (h i l)
+still_kept b (action.Generation g) may h = absurd may
+still_kept b (action.Round who m) may h = absurd may
 still_kept b (action.Close m) may h = λ i. absurd (not_none (ending (b.link m)) may.why (still_stays (b.link m) (h i m)) may.ends)
 still_kept b (action.Write m bytes) may h = λ i l. mine_keeps IsStill (m == l) (b.link l) (offers bytes) (λ t. record { down = (h i l).down; lives = (h i l).lives; untold = (h i l).untold; mute = (h i l).mute }) (h i l)
 still_kept b (action.Wait owner.Setup kind) may h = absurd may
 still_kept b (action.Wait owner.Auth kind) may h = absurd may
+still_kept b (action.Wait owner.Resub kind) may h = absurd may
 still_kept b (action.Wait owner.Monitor kind) may h = absurd may
 still_kept b (action.Wait (owner.Try n round) kind) may h = h
 still_kept b (action.Start m k owner.Setup count len) may h = λ i l. mine_keeps IsStill (m == l) (b.link l) (begins (message_of b m owner.Setup)) (λ t. record { down = (h i l).down; lives = (h i l).lives; untold = (h i l).untold; mute = (h i l).mute }) (h i l)
 still_kept b (action.Start m k owner.Auth count len) may h = λ i l. mine_keeps IsStill (m == l) (b.link l) (begins (message_of b m owner.Auth)) (λ t. record { down = (h i l).down; lives = (h i l).lives; untold = (h i l).untold; mute = (h i l).mute }) (h i l)
+still_kept b (action.Start m k owner.Resub count len) may h = absurd may
 still_kept b (action.Start m k owner.Monitor count len) may h = λ i l. mine_keeps IsStill (m == l) (b.link l) (begins (message_of b m owner.Monitor)) (λ t. record { down = (h i l).down; lives = (h i l).lives; untold = (h i l).untold; mute = (h i l).mute }) (h i l)
 still_kept b (action.Start m k (owner.Try n round) count len) may h = λ i l. mine_keeps IsStill (m == l) (b.link l) (begins (message_of b m (owner.Try n round))) (λ t. record { down = (h i l).down; lives = (h i l).lives; untold = (h i l).untold; mute = (h i l).mute }) (h i l)
 still_kept b (action.Created e) may h = h

@@ -54,16 +54,20 @@ quiet_stays b (action.Connect m host port) may h some l q = absurd (some (h.open
 quiet_stays b (action.Timer t ms what) may h some l q = mine_keeps (IsQuiet []) (is_renewal_of l what) (b.link l) times (λ t. record { quiet = q.quiet; tells = q.tells }) q
 quiet_stays b (action.Took owner.Setup m count) may h some l q = absurd may
 quiet_stays b (action.Took owner.Auth m count) may h some l q = absurd may
+quiet_stays b (action.Took owner.Resub m count) may h some l q = absurd may
 quiet_stays b (action.Took owner.Monitor m count) may h some l q = absurd may
 quiet_stays b (action.Took (owner.Try n round) m count) may h some l q = q
 quiet_stays b (action.Push m info) may h some l q = push_keeps (IsQuiet []) (m == l) info.kind (b.link l) (record { quiet = q.quiet; tells = q.tells }) (record { quiet = q.quiet; tells = q.tells }) q
 quiet_stays b (action.Message msg) may h some l q = tell_keeps (IsQuiet []) (current b == l) (b.link l) (record { quiet = q.quiet; tells = q.tells }) q
 quiet_stays b (action.Monitor v) may h some l q = tell_keeps (IsQuiet []) (current b == l) (b.link l) (record { quiet = q.quiet; tells = q.tells }) q
 quiet_stays b (action.NeedCreds c m) may h some l q = mine_keeps (IsQuiet []) (m == l) (b.link l) sources (λ t. record { quiet = q.quiet; tells = q.tells }) q
+quiet_stays b (action.Generation g) may h some l q = absurd may
+quiet_stays b (action.Round who m) may h some l q = absurd may
 quiet_stays b (action.Close m) may h some l q = mine_keeps (IsQuiet []) (m == l) (b.link l) (ends (b.turns - 1)) (λ t. ends_quiet [] (b.link l) (b.turns - 1) q) q
 quiet_stays b (action.Write m bytes) may h some l q = mine_keeps (IsQuiet []) (m == l) (b.link l) (offers bytes) (λ t. record { quiet = q.quiet; tells = q.tells }) q
 quiet_stays b (action.Wait owner.Setup kind) may h some l q = absurd may
 quiet_stays b (action.Wait owner.Auth kind) may h some l q = absurd may
+quiet_stays b (action.Wait owner.Resub kind) may h some l q = absurd may
 quiet_stays b (action.Wait owner.Monitor kind) may h some l q = absurd may
 quiet_stays b (action.Wait (owner.Try n round) kind) may h some l q = q
 quiet_stays b (action.Start m k owner.Setup count len) may h some l q =
@@ -71,6 +75,7 @@ quiet_stays b (action.Start m k owner.Setup count len) may h some l q =
     (λ t. absurd (let due : setup_due (b.link l) ≡ Some may.k = ap (λ j. setup_due (b.link j)) (sym (eq_from m l t)) ∙ may.due in set_is_undue (b.link l) may.k (q.quiet.1 (due_is_up (b.link l) may.k due)) due)) q
 quiet_stays b (action.Start m k owner.Auth count len) may h some l q =
     mine_keeps (IsQuiet []) (m == l) (b.link l) (begins (message_of b m owner.Auth)) (λ t. begins_quiet [] (b.link l) (message_of b m owner.Auth) refl q) q
+quiet_stays b (action.Start m k owner.Resub count len) may h some l q = absurd may
 quiet_stays b (action.Start m k owner.Monitor count len) may h some l q =
     mine_keeps (IsQuiet []) (m == l) (b.link l) (begins (message_of b m owner.Monitor)) (λ t. begins_quiet [] (b.link l) (message_of b m owner.Monitor) refl q) q
 quiet_stays b (action.Start m k (owner.Try n round) count len) may h some l q =
@@ -121,6 +126,8 @@ clock_before b (action.Push m info) may h run n c = run.asked n c
 clock_before b (action.Message msg) may h run n c = run.asked n c
 clock_before b (action.Monitor v) may h run n c = run.asked n c
 clock_before b (action.NeedCreds s m) may h run n c = run.asked n c
+clock_before b (action.Generation g) may h run n c = absurd may
+clock_before b (action.Round who m) may h run n c = absurd may
 clock_before b (action.Close m) may h run n c = run.asked n c
 clock_before b (action.Write m bytes) may h run n c = run.asked n c
 clock_before b (action.Wait who kind) may h run n c = run.asked n c
@@ -160,20 +167,25 @@ over_before b (action.Connect m host port) n = λ e. inl e
 over_before b (action.Timer t ms what) n = chosen (WasOver b n) (is_clock_of n (Some what)) (clocked (b.story n) t) (b.story n) (λ c e. inl e) (λ f e. inl e)
 over_before b (action.Took owner.Setup l count) n = λ e. inl e
 over_before b (action.Took owner.Auth l count) n = λ e. inl e
+over_before b (action.Took owner.Resub l count) n = λ e. inl e
 over_before b (action.Took owner.Monitor l count) n = λ e. inl e
 over_before b (action.Took (owner.Try m round) l count) n = chosen (WasOver b n) (m == n) (holds (b.story n) count) (b.story n) (λ t e. inl e) (λ f e. inl e)
 over_before b (action.Push m info) n = λ e. inl e
 over_before b (action.Message msg) n = λ e. inl e
 over_before b (action.Monitor v) n = λ e. inl e
 over_before b (action.NeedCreds c m) n = λ e. inl e
+over_before b (action.Generation g) n = λ e. inl e
+over_before b (action.Round who m) n = λ e. inl e
 over_before b (action.Close m) n = λ e. inl e
 over_before b (action.Write m bytes) n = λ e. inl e
 over_before b (action.Wait owner.Setup kind) n = λ e. inl e
 over_before b (action.Wait owner.Auth kind) n = λ e. inl e
+over_before b (action.Wait owner.Resub kind) n = λ e. inl e
 over_before b (action.Wait owner.Monitor kind) n = λ e. inl e
 over_before b (action.Wait (owner.Try m round) kind) n = chosen (WasOver b n) (m == n) (waits (b.story n) kind) (b.story n) (λ t e. inl e) (λ f e. inl e)
 over_before b (action.Start l k owner.Setup count len) n = λ e. inl e
 over_before b (action.Start l k owner.Auth count len) n = λ e. inl e
+over_before b (action.Start l k owner.Resub count len) n = λ e. inl e
 over_before b (action.Start l k owner.Monitor count len) n = λ e. inl e
 over_before b (action.Start l k (owner.Try m round) count len) n = chosen (WasOver b n) (m == n) (tried (b.story n) l k) (b.story n) (λ t e. inl e) (λ f e. inl e)
 over_before b (action.Created x) n = λ e. inl e

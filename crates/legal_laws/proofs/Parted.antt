@@ -13,7 +13,7 @@ use Rattle.driver_model.specs.declared.event.Event.{Event}
 use Rattle.driver_model.specs.declared.outcome.Outcome.{Outcome}
 use Rattle.driver_model.specs.declared.push_info.PushInfo.{PushInfo}
 use Rattle.driver_model.specs.declared.news.LinkFault.TheVariants as fault
-use Rattle.driver_model.specs.News.{News, silence, connected, refused, overdue, took, came, failed, dropped, shut, news_of, authorized, denied, deserted, renewed, unrenewed, late}
+use Rattle.driver_model.specs.News.{News, silence, connected, refused, overdue, took, came, failed, dropped, shut, news_of, authorized, denied, deserted, renewed, unrenewed, late, unrepeated}
 use Rattle.driver_model.specs.Push.{is_disconnection}
 use Rattle.legal_trace.specs.Ledger.{Ledger, Line, End, Ending, by_opening, asks, hears, begins, offers, tells, ends, parts, noted, noted_each, with_news, refused_in, bytes_came, is_over, is_fault, is_cut, is_set_up, setup_result, error_in, dials, ending, ending_alive, ending_by, ending_unready, ending_asked, ending_or_shutdown, MayNote, AllNoted, sources, lacks_credentials, awaits_credentials, authorized_by, times, may_renew, renewed_by, unrenewed_by, is_renewal_open, lost_by, is_unreadable, opening_error}
 use Rattle.legal_trace.specs.Book.{Book, blank_book, book, entered, entered_each, push_line, info_in, message_of, lines_of_each, wanted_in, is_renewal_of, hearing_in, current}
@@ -71,6 +71,7 @@ hears_parted l turn deserted = refl
 hears_parted l turn (renewed c) = chosen (λ (x : Ledger). x.parted ≡ l.parted) (may_renew l) (renewed_by l c) l (λ t. refl) (λ e. refl)
 hears_parted l turn unrenewed = chosen (λ (x : Ledger). x.parted ≡ l.parted) l.up (unrenewed_by l) l (λ t. refl) (λ e. refl)
 hears_parted l turn (late k) = chosen (λ (x : Ledger). x.parted ≡ l.parted) (l.up && is_renewal_open l k) (lost_by l) l (λ t. refl) (λ e. refl)
+hears_parted l turn unrepeated = refl
 hears_parted l turn dropped = refl
 hears_parted l turn shut = refl
 
@@ -113,6 +114,8 @@ parted_by b l (action.Connect m host port) not_yet then_is = absurd (not_both (b
 parted_by b l (action.Timer t ms what) not_yet then_is = absurd (not_both (b.link l).parted not_yet (mine_keeps (λ (x : Ledger). WasParted x → WasParted (b.link l)) (is_renewal_of l what) (b.link l) times (λ t e. e) (λ e. e) then_is))
 parted_by b l (action.Took who m count) not_yet then_is = absurd (not_both (b.link l).parted not_yet then_is)
 parted_by b l (action.NeedCreds c m) not_yet then_is = absurd (not_both (b.link l).parted not_yet (mine_keeps (λ (x : Ledger). WasParted x → WasParted (b.link l)) (m == l) (b.link l) sources (λ t e. e) (λ e. e) then_is))
+parted_by b l (action.Generation g) not_yet then_is = absurd (not_both (b.link l).parted not_yet then_is)
+parted_by b l (action.Round who m) not_yet then_is = absurd (not_both (b.link l).parted not_yet then_is)
 parted_by b l (action.Close m) not_yet then_is = absurd (not_both (b.link l).parted not_yet (mine_keeps (λ (x : Ledger). WasParted x → WasParted (b.link l)) (m == l) (b.link l) (ends (b.turns - 1)) (λ t e. e) (λ e. e) then_is))
 parted_by b l (action.Write m bytes) not_yet then_is = absurd (not_both (b.link l).parted not_yet (mine_keeps (λ (x : Ledger). WasParted x → WasParted (b.link l)) (m == l) (b.link l) (offers bytes) (λ t e. e) (λ e. e) then_is))
 parted_by b l (action.Wait who kind) not_yet then_is = absurd (not_both (b.link l).parted not_yet then_is)
@@ -141,12 +144,15 @@ hears_cut l turn deserted = λ e. e
 hears_cut l turn (renewed c) = chosen (λ (x : Ledger). IsCut x → IsCut l) (may_renew l) (renewed_by l c) l (λ t e. e) (λ f e. e)
 hears_cut l turn unrenewed = chosen (λ (x : Ledger). IsCut x → IsCut l) l.up (unrenewed_by l) l (λ t e. e) (λ f e. e)
 hears_cut l turn (late k) = chosen (λ (x : Ledger). IsCut x → IsCut l) (l.up && is_renewal_open l k) (lost_by l) l (λ t e. e) (λ f e. e)
+hears_cut l turn unrepeated = λ e. e
 hears_cut l turn dropped = λ e. e
 hears_cut l turn shut = λ e. e
 
 -- it is closed then
 cut_by : (b : Book) (l : ℕ) (a : Action) → is_cut (b.link l).end ≡ false → IsCut ((entered b a).link l) → a ≡ action.Close l
 cut_by b l (action.NeedCreds c m) not_yet then_is = absurd (not_both (is_cut (b.link l).end) not_yet (mine_keeps (λ (x : Ledger). IsCut x → IsCut (b.link l)) (m == l) (b.link l) sources (λ t e. e) (λ e. e) then_is))
+cut_by b l (action.Generation g) not_yet then_is = absurd (not_both (is_cut (b.link l).end) not_yet then_is)
+cut_by b l (action.Round who m) not_yet then_is = absurd (not_both (is_cut (b.link l).end) not_yet then_is)
 cut_by b l (action.Close m) not_yet then_is =
     mine_keeps (λ (x : Ledger). IsCut x → action.Close m ≡ action.Close l) (m == l) (b.link l) (ends (b.turns - 1))
     (λ t e. ap action.Close (eq_from m l t)) (λ e. absurd (not_both (is_cut (b.link l).end) not_yet e)) then_is
@@ -190,6 +196,7 @@ unready_faults_not l deserted = chosen NoFault (lacks_credentials l) (Some (by_o
 unready_faults_not l (renewed c) = refl
 unready_faults_not l unrenewed = refl
 unready_faults_not l (late k) = refl
+unready_faults_not l unrepeated = refl
 unready_faults_not l dropped = chosen NoFault (hears_messages l.hearing) (Some (by_opening error.Closed)) None (λ t. refl) (λ f. refl)
 unready_faults_not l shut = refl
 
@@ -208,6 +215,7 @@ asked_faults_not l deserted = refl
 asked_faults_not l (renewed c) = refl
 asked_faults_not l unrenewed = refl
 asked_faults_not l (late k) = refl
+asked_faults_not l unrepeated = refl
 asked_faults_not l dropped = chosen NoFault (hears_messages l.hearing) (Some (by_opening error.Closed)) None (λ t. refl) (λ f. refl)
 asked_faults_not l shut = refl
 
@@ -247,6 +255,7 @@ hears_set l turn deserted up h = h
 hears_set l turn (renewed c) up h = chosen CutIsSet (may_renew l) (renewed_by l c) l (λ t. h) (λ e. h)
 hears_set l turn unrenewed up h = chosen CutIsSet l.up (unrenewed_by l) l (λ t. h) (λ e. h)
 hears_set l turn (late k) up h = chosen CutIsSet (l.up && is_renewal_open l k) (lost_by l) l (λ t. h) (λ e. h)
+hears_set l turn unrepeated up h = h
 hears_set l turn dropped up h = h
 hears_set l turn shut up h = h
 
@@ -259,22 +268,27 @@ set_kept b l (action.Connect m host port) may s h = mine_keeps CutIsSet (m == l)
 set_kept b l (action.Timer t ms what) may s h = mine_keeps CutIsSet (is_renewal_of l what) (b.link l) times (λ t. h) h
 set_kept b l (action.Took owner.Setup m count) may s h = absurd may
 set_kept b l (action.Took owner.Auth m count) may s h = absurd may
+set_kept b l (action.Took owner.Resub m count) may s h = absurd may
 set_kept b l (action.Took owner.Monitor m count) may s h = absurd may
 set_kept b l (action.Took (owner.Try n round) m count) may s h = h
 set_kept b l (action.Push m info) may s h = push_keeps CutIsSet (m == l) info.kind (b.link l) h h h
 set_kept b l (action.Message msg) may s h = tell_keeps CutIsSet (current b == l) (b.link l) h h
 set_kept b l (action.Monitor v) may s h = tell_keeps CutIsSet (current b == l) (b.link l) h h
 set_kept b l (action.NeedCreds c m) may s h = mine_keeps CutIsSet (m == l) (b.link l) sources (λ t. h) h
+set_kept b l (action.Generation g) may s h = absurd may
+set_kept b l (action.Round who m) may s h = absurd may
 set_kept b l (action.Close m) may s h = mine_keeps CutIsSet (m == l) (b.link l) (ends (b.turns - 1)) (λ t cut. fault_is_set (b.link l) cut) h
 set_kept b l (action.Write m bytes) may s h = mine_keeps CutIsSet (m == l) (b.link l) (offers bytes) (λ t. h) h
 set_kept b l (action.Wait owner.Setup kind) may s h = absurd may
 set_kept b l (action.Wait owner.Auth kind) may s h = absurd may
+set_kept b l (action.Wait owner.Resub kind) may s h = absurd may
 set_kept b l (action.Wait owner.Monitor kind) may s h = absurd may
 set_kept b l (action.Wait (owner.Try n round) kind) may s h = h
 set_kept b l (action.Start m k owner.Setup count len) may s h = mine_keeps CutIsSet (m == l) (b.link l) (begins (message_of b m owner.Setup))
     (λ t cut. absurd (lives_uncut (b.link l) (s.up l (subst (λ j. (b.link j).up ≡ true) (eq_from m l t) (due_is_up (b.link m) may.k may.due))) cut)) h
 set_kept b l (action.Start m k owner.Auth count len) may s h = mine_keeps CutIsSet (m == l) (b.link l) (begins (message_of b m owner.Auth))
     (λ t cut. absurd (lives_uncut (b.link l) (s.up l (subst (λ j. (b.link j).up ≡ true) (eq_from m l t) (renewal_is_up (b.link m) may.credentials may.due))) cut)) h
+set_kept b l (action.Start m k owner.Resub count len) may s h = absurd may
 set_kept b l (action.Start m k owner.Monitor count len) may s h = mine_keeps CutIsSet (m == l) (b.link l) (begins (message_of b m owner.Monitor))
     (λ t cut. absurd (lives_uncut (b.link l) (s.up l (subst (λ j. (b.link j).up ≡ true) (eq_from m l t) (watch_is_up (b.link m) may.due))) cut)) h
 set_kept b l (action.Start m k (owner.Try n round) count len) may s h = mine_keeps CutIsSet (m == l) (b.link l) (begins (message_of b m (owner.Try n round)))
@@ -310,6 +324,7 @@ end_hears end l turn deserted h = h
 end_hears end l turn (renewed c) h = chosen (EndedAs end) (may_renew l) (renewed_by l c) l (λ t. h) (λ e. h)
 end_hears end l turn unrenewed h = chosen (EndedAs end) l.up (unrenewed_by l) l (λ t. h) (λ e. h)
 end_hears end l turn (late k) h = chosen (EndedAs end) (l.up && is_renewal_open l k) (lost_by l) l (λ t. h) (λ e. h)
+end_hears end l turn unrepeated h = h
 end_hears end l turn dropped h = h
 end_hears end l turn shut h = h
 

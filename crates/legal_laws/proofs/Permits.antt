@@ -149,21 +149,26 @@ within_kept b (action.Timer t ms what) may sound h = kept_by b (action.Timer t m
     (λ n i. chosen (λ (s : Story). s.permits ≤ (b.story n).permits) (is_clock_of n (Some what)) (clocked (b.story n) t) (b.story n) (λ e. omega arith) (λ f. omega arith)) h
 within_kept b (action.Took owner.Setup l count) may sound h = absurd may
 within_kept b (action.Took owner.Auth l count) may sound h = absurd may
+within_kept b (action.Took owner.Resub l count) may sound h = absurd may
 within_kept b (action.Took owner.Monitor l count) may sound h = absurd may
 within_kept b (action.Took (owner.Try m round) l count) may sound h = taken_within b m round l count may.1 may sound h
 within_kept b (action.Push m info) may sound h = kept_by b (action.Push m info) may sound refl (λ n i. omega arith) h
 within_kept b (action.Message msg) may sound h = kept_by b (action.Message msg) may sound refl (λ n i. omega arith) h
 within_kept b (action.Monitor v) may sound h = kept_by b (action.Monitor v) may sound refl (λ n i. omega arith) h
 within_kept b (action.NeedCreds c m) may sound h = kept_by b (action.NeedCreds c m) may sound refl (λ n i. omega arith) h
+within_kept b (action.Generation g) may sound h = absurd may
+within_kept b (action.Round who m) may sound h = absurd may
 within_kept b (action.Close m) may sound h = kept_by b (action.Close m) may sound refl (λ n i. omega arith) h
 within_kept b (action.Write m bytes) may sound h = kept_by b (action.Write m bytes) may sound refl (λ n i. omega arith) h
 within_kept b (action.Wait owner.Setup kind) may sound h = absurd may
 within_kept b (action.Wait owner.Auth kind) may sound h = absurd may
+within_kept b (action.Wait owner.Resub kind) may sound h = absurd may
 within_kept b (action.Wait owner.Monitor kind) may sound h = absurd may
 within_kept b (action.Wait (owner.Try m round) kind) may sound h = kept_by b (action.Wait (owner.Try m round) kind) may sound refl
     (λ n i. chosen (λ (s : Story). s.permits ≤ (b.story n).permits) (m == n) (waits (b.story n) kind) (b.story n) (λ e. omega arith) (λ f. omega arith)) h
 within_kept b (action.Start l k owner.Setup count len) may sound h = kept_by b (action.Start l k owner.Setup count len) may sound refl (λ n i. omega arith) h
 within_kept b (action.Start l k owner.Auth count len) may sound h = kept_by b (action.Start l k owner.Auth count len) may sound refl (λ n i. omega arith) h
+within_kept b (action.Start l k owner.Resub count len) may sound h = absurd may
 within_kept b (action.Start l k owner.Monitor count len) may sound h = kept_by b (action.Start l k owner.Monitor count len) may sound refl (λ n i. omega arith) h
 within_kept b (action.Start l k (owner.Try m round) count len) may sound h = kept_by b (action.Start l k (owner.Try m round) count len) may sound refl
     (λ n i. chosen (λ (s : Story). s.permits ≤ (b.story n).permits) (m == n) (tried (b.story n) l k) (b.story n) (λ e. omega arith) (λ f. omega arith)) h
@@ -189,6 +194,7 @@ none_held b l sound none = ap (permits_held b.story l) (sound.opens.no_submissio
 counted_where_taken : (config : Config) (b : Book) (who : Owner) (l count : ℕ) → IsReady config b → MayStand b (action.Took who l count) → permits config ≡ None → ⊥
 counted_where_taken config b owner.Setup l count ready may none = absurd may
 counted_where_taken config b owner.Auth l count ready may none = absurd may
+counted_where_taken config b owner.Resub l count ready may none = absurd may
 counted_where_taken config b owner.Monitor l count ready may none = absurd may
 counted_where_taken config b (owner.Try n round) l count ready may none =
     let t = takes_mean b n count may.1.takes in

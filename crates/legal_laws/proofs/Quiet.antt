@@ -5,7 +5,7 @@ use Rattle.containers.proofs.Choices.{by_test, chosen, taken_if, both_left, both
 use Rattle.redis_error.specs.declared.redis_error.RedisError.{RedisError}
 use Rattle.redis_error.specs.declared.redis_error.RedisError.TheVariants as error
 use Rattle.driver_model.specs.declared.news.LinkFault.TheVariants as fault
-use Rattle.driver_model.specs.News.{News, silence, connected, refused, overdue, took, came, failed, dropped, shut, authorized, denied, deserted, renewed, unrenewed, late}
+use Rattle.driver_model.specs.News.{News, silence, connected, refused, overdue, took, came, failed, dropped, shut, authorized, denied, deserted, renewed, unrenewed, late, unrepeated}
 use Rattle.legal_trace.specs.Ledger.{Ledger, Line, Start, End, Ending, is_of_setup, is_set_up, setup_result, error_in, ending_by, ending_unready, ending_alive, by_fault, asks, hears, begins, offers, tells, ends, parts, noted, noted_each, with_news, refused_in, bytes_came, is_over, dials, ending, ending_up, ending_asked, ending_or_shutdown, failure_of, failure_in, MayNote, AllNoted, sources, awaits_credentials, authorized_by, times, may_renew, renewed_by, unrenewed_by, is_renewal_open, lost_by, is_unreadable}
 use Rattle.legal_trace.proofs.Ledgers.{dials_from, UpIsNotOver, up_keeps}
 use Rattle.legal_trace.proofs.Plain.{none_from, not_none}
@@ -35,6 +35,7 @@ quiet_hears l turn deserted asked shaped h = h
 quiet_hears l turn (renewed c) asked shaped h = chosen Quiet (may_renew l) (renewed_by l c) l (λ t. h) (λ e. h)
 quiet_hears l turn unrenewed asked shaped h = chosen Quiet l.up (unrenewed_by l) l (λ t. h) (λ e. h)
 quiet_hears l turn (late k) asked shaped h = chosen Quiet (l.up && is_renewal_open l k) (lost_by l) l (λ t. h) (λ e. h)
+quiet_hears l turn unrepeated asked shaped h = h
 quiet_hears l turn dropped asked shaped h = h
 quiet_hears l turn shut asked shaped h = h
 
@@ -57,6 +58,7 @@ up_fails_not l deserted = refl
 up_fails_not l (renewed c) = refl
 up_fails_not l unrenewed = refl
 up_fails_not l (late k) = refl
+up_fails_not l unrepeated = refl
 up_fails_not l dropped = chosen NoFailure (hears_messages l.hearing) (Some (by_fault fault.Ended)) None (λ t. refl) (λ f. refl)
 up_fails_not l shut = refl
 
@@ -95,6 +97,7 @@ tells_hears shown l turn deserted h = h.tells
 tells_hears shown l turn (renewed c) h = chosen (Tells shown) (may_renew l) (renewed_by l c) l (λ t. h.tells) (λ e. h.tells)
 tells_hears shown l turn unrenewed h = chosen (Tells shown) l.up (unrenewed_by l) l (λ t. h.tells) (λ e. h.tells)
 tells_hears shown l turn (late k) h = chosen (Tells shown) (l.up && is_renewal_open l k) (lost_by l) l (λ t. h.tells) (λ e. h.tells)
+tells_hears shown l turn unrepeated h = h.tells
 tells_hears shown l turn dropped h = h.tells
 tells_hears shown l turn shut h = h.tells
 
@@ -149,6 +152,7 @@ failed_hears e l turn deserted h = h
 failed_hears e l turn (renewed c) h = chosen (FailedWith e) (may_renew l) (renewed_by l c) l (λ t. h) (λ f. h)
 failed_hears e l turn unrenewed h = chosen (FailedWith e) l.up (unrenewed_by l) l (λ t. h) (λ f. h)
 failed_hears e l turn (late k) h = chosen (FailedWith e) (l.up && is_renewal_open l k) (lost_by l) l (λ t. h) (λ f. h)
+failed_hears e l turn unrepeated h = h
 failed_hears e l turn dropped h = h
 failed_hears e l turn shut h = h
 

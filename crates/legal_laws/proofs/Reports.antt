@@ -1,6 +1,6 @@
 -- A monitor's link is set up once MONITOR is answered, and deals nothing from then on.
 use Rattle.std.proofs.Common.{◌≡◌, ℕ, ◌+◌, ◌-◌, ◌==◌, Bool, true, false, ◌&&◌, ◌||◌, not, List, [], ◌∷◌, ◌++◌, take, Option, Some, None, refl, sym, ◌∙◌, ap, subst, arith, zero, suc}
-use Rattle.std.specs.Prelude.{slice_get, unwrap_or}
+use Rattle.std.specs.Prelude.{slice_get}
 use Rattle.containers.proofs.Choices.{chosen, eq_from, not_both, taken_if, by_test, left_if}
 use Rattle.redis_error.specs.declared.redis_error.RedisError.TheVariants as error
 use Rattle.resp_value.specs.Data.{Data}
@@ -13,7 +13,7 @@ use Rattle.driver_model.specs.declared.event.Event.{Event}
 use Rattle.driver_model.specs.declared.hearing.Hearing.{Hearing}
 use Rattle.driver_model.specs.declared.hearing.Hearing.TheVariants as hearing
 use Rattle.driver_model.specs.Hearing.{taking, is_watching}
-use Rattle.driver_model.specs.News.{News, silence, connected, refused, overdue, took, came, failed, dropped, shut, news_of, authorized, denied, deserted, renewed, unrenewed, late}
+use Rattle.driver_model.specs.News.{News, silence, connected, refused, overdue, took, came, failed, dropped, shut, news_of, authorized, denied, deserted, renewed, unrenewed, late, unrepeated}
 use Rattle.legal_trace.specs.Ledger.{Ledger, asks, begins, offers, ends, sources, times, with_news, refused_in, bytes_came, is_answered, is_awaiting, is_over, is_set_up, dials, items_came, heard_at, monitor_of, taking_of, value_by, value_came, awaits_credentials, authorized_by, may_renew, renewed_by, unrenewed_by, is_renewal_open, lost_by, Start, is_of_monitor, monitor_among, monitor_due}
 use Rattle.legal_trace.specs.Book.{Book, blank_book, book, entered, entered_each, current, hearing_in, info_in, message_of, wanted_in, is_renewal_of, kind_in, submitted_by}
 use Rattle.legal_trace.specs.Legal.{MayStand, AllStand, Legal}
@@ -39,7 +39,7 @@ use Rattle.driver_model.specs.declared.event.EventKind.{EventKind}
 use Rattle.driver_model.specs.declared.kind.SessionKind.{SessionKind}
 use Rattle.driver_model.specs.declared.kind.SessionKind.TheVariants as kind
 use Rattle.driver_model.specs.declared.event.EventKind.TheVariants as event
-use Rattle.driver_model.specs.Config.{hearing_in as kind_hears}
+use Rattle.driver_model.specs.Config.{kind_of, wants_pushes, hearing_in as kind_hears}
 
 -- where a server is put into monitor mode, and the link is set up, MONITOR is answered
 watched_by : (l : Ledger) (o : Option ℕ) → monitor_of l ≡ o → is_answered l o ≡ true → IsWatched l
@@ -109,6 +109,7 @@ news_done ds l turn deserted are h = h
 news_done ds l turn (renewed c) are h = chosen (IsDone ds) (may_renew l) (renewed_by l c) l (λ t. record { asked = h.asked; watching = h.watching; ready = h.ready; dealt = h.dealt }) (λ e. h)
 news_done ds l turn unrenewed are h = chosen (IsDone ds) l.up (unrenewed_by l) l (λ t. record { asked = h.asked; watching = h.watching; ready = h.ready; dealt = h.dealt }) (λ e. h)
 news_done ds l turn (late k) are h = chosen (IsDone ds) (l.up && is_renewal_open l k) (lost_by l) l (λ t. record { asked = h.asked; watching = h.watching; ready = h.ready; dealt = h.dealt }) (λ e. h)
+news_done ds l turn unrepeated are h = h
 news_done ds l turn dropped are h = h
 news_done ds l turn shut are h = h
 
@@ -124,11 +125,14 @@ done_kept b l ds (action.Push m info) may s h = push_keeps (IsDone ds) (m == l) 
 done_kept b l ds (action.Message msg) may s h = tell_keeps (IsDone ds) (current b == l) (b.link l) (record { asked = h.asked; watching = h.watching; ready = h.ready; dealt = h.dealt }) h
 done_kept b l ds (action.Monitor v) may s h = tell_keeps (IsDone ds) (current b == l) (b.link l) (record { asked = h.asked; watching = h.watching; ready = h.ready; dealt = h.dealt }) h
 done_kept b l ds (action.NeedCreds c m) may s h = mine_keeps (IsDone ds) (m == l) (b.link l) sources (λ t. record { asked = h.asked; watching = h.watching; ready = h.ready; dealt = h.dealt }) h
+done_kept b l ds (action.Generation g) may s h = absurd may
+done_kept b l ds (action.Round who m) may s h = absurd may
 done_kept b l ds (action.Close m) may s h = mine_keeps (IsDone ds) (m == l) (b.link l) (ends (b.turns - 1)) (λ t. record { asked = h.asked; watching = h.watching; ready = h.ready; dealt = h.dealt }) h
 done_kept b l ds (action.Write m bytes) may s h = mine_keeps (IsDone ds) (m == l) (b.link l) (offers bytes) (λ t. record { asked = h.asked; watching = h.watching; ready = h.ready; dealt = h.dealt }) h
 done_kept b l ds (action.Wait who kind) may s h = h
 done_kept b l ds (action.Start m k owner.Setup count len) may s h = mine_keeps (IsDone ds) (m == l) (b.link l) (begins (message_of b m owner.Setup))
     (λ t. absurd (set_is_undue (b.link m) may.k (subst (λ j. is_set_up (b.link j) ≡ true) (sym (eq_from m l t)) h.ready) may.due)) h
+done_kept b l ds (action.Start m k owner.Resub count len) may s h = absurd may
 done_kept b l ds (action.Start m k owner.Monitor count len) may s h = mine_keeps (IsDone ds) (m == l) (b.link l) (begins (message_of b m owner.Monitor)) (λ t. record { asked = h.asked; watching = h.watching; ready = set_begins (b.link l) (message_of b m owner.Monitor) refl h.ready; dealt = h.dealt }) h
 done_kept b l ds (action.Start m k owner.Auth count len) may s h = mine_keeps (IsDone ds) (m == l) (b.link l) (begins (message_of b m owner.Auth)) (λ t. record { asked = h.asked; watching = h.watching; ready = set_begins (b.link l) (message_of b m owner.Auth) refl h.ready; dealt = h.dealt }) h
 done_kept b l ds (action.Start m k (owner.Try n round) count len) may s h = mine_keeps (IsDone ds) (m == l) (b.link l) (begins (message_of b m (owner.Try n round))) (λ t. record { asked = h.asked; watching = h.watching; ready = set_begins (b.link l) (message_of b m (owner.Try n round)) refl h.ready; dealt = h.dealt }) h
@@ -207,6 +211,8 @@ none_submitted b (action.Push l info) may s h = h
 none_submitted b (action.Message msg) may s h = h
 none_submitted b (action.Monitor v) may s h = h
 none_submitted b (action.NeedCreds c l) may s h = h
+none_submitted b (action.Generation g) may s h = absurd may
+none_submitted b (action.Round who l) may s h = absurd may
 none_submitted b (action.Close l) may s h = h
 none_submitted b (action.Write l bytes) may s h = h
 none_submitted b (action.Wait who kind) may s h = h
@@ -224,7 +230,7 @@ submits_nothing config word events trace h watching =
     let sound : Sound (book trace) = sound_behind trace h.each in
     let ready = ready_behind config word events trace [] (subst (Legal config word events) (sym (append-nil trace)) h) in
     let configured : (book trace).config ≡ Some config = ready.configured (applied_began (book trace) sound h.settled.written.moved.begun.applied) in
-    each_unsubmitted blank_book trace h.each blank_is_sound (λ is. refl) (ap kind_in configured ∙ kind_is_monitor config.kind (unwrap_or config.push false) watching)
+    each_unsubmitted blank_book trace h.each blank_is_sound (λ is. refl) (ap kind_in configured ∙ kind_is_monitor (kind_of config) (wants_pushes config) watching)
 
 pub tells_reports : (config : Config) (word : ℕ) (events : List Event) (trace : List Action) → Legal config word events trace → TellsReports config trace
 tells_reports config word events trace h = record {

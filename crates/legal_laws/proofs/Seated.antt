@@ -240,6 +240,7 @@ seated_kept b (action.Timer w ms what) may sound holders h =
     kept_by b (action.Timer w ms what) may refl (unchanged b (action.Timer w ms what) (λ n. chosen (λ s. has_place s ≡ true → has_place (b.story n) ≡ true) (is_clock_of n (Some what)) (clocked (b.story n) w) (b.story n) (λ e t. t) (λ f t. t))) h
 seated_kept b (action.Took owner.Setup l count) may sound holders h = absurd may
 seated_kept b (action.Took owner.Auth l count) may sound holders h = absurd may
+seated_kept b (action.Took owner.Resub l count) may sound holders h = absurd may
 seated_kept b (action.Took owner.Monitor l count) may sound holders h = absurd may
 seated_kept b (action.Took (owner.Try m round) l count) may sound holders h =
     kept_by b (action.Took (owner.Try m round) l count) may refl (unchanged b (action.Took (owner.Try m round) l count) (λ n. chosen (λ s. has_place s ≡ true → has_place (b.story n) ≡ true) (m == n) (holds (b.story n) count) (b.story n) (λ e t. t) (λ f t. t))) h
@@ -247,10 +248,13 @@ seated_kept b (action.Push l info) may sound holders h = kept_by b (action.Push 
 seated_kept b (action.Message msg) may sound holders h = kept_by b (action.Message msg) may refl (unchanged b (action.Message msg) (λ n t. t)) h
 seated_kept b (action.Monitor v) may sound holders h = kept_by b (action.Monitor v) may refl (unchanged b (action.Monitor v) (λ n t. t)) h
 seated_kept b (action.NeedCreds c l) may sound holders h = kept_by b (action.NeedCreds c l) may refl (unchanged b (action.NeedCreds c l) (λ n t. t)) h
+seated_kept b (action.Generation g) may sound holders h = absurd may
+seated_kept b (action.Round who l) may sound holders h = absurd may
 seated_kept b (action.Close l) may sound holders h = kept_by b (action.Close l) may refl (unchanged b (action.Close l) (λ n t. t)) h
 seated_kept b (action.Write l bytes) may sound holders h = kept_by b (action.Write l bytes) may refl (unchanged b (action.Write l bytes) (λ n t. t)) h
 seated_kept b (action.Wait owner.Setup kind) may sound holders h = absurd may
 seated_kept b (action.Wait owner.Auth kind) may sound holders h = absurd may
+seated_kept b (action.Wait owner.Resub kind) may sound holders h = absurd may
 seated_kept b (action.Wait owner.Monitor kind) may sound holders h = absurd may
 seated_kept b (action.Wait (owner.Try m round) kind) may sound holders h =
     kept_by b (action.Wait (owner.Try m round) kind) may refl
@@ -262,6 +266,7 @@ seated_kept b (action.Wait (owner.Try m round) kind) may sound holders h =
     (λ f u p. inl p)) h
 seated_kept b (action.Start l k owner.Setup count len) may sound holders h = kept_by b (action.Start l k owner.Setup count len) may refl (unchanged b (action.Start l k owner.Setup count len) (λ n t. t)) h
 seated_kept b (action.Start l k owner.Auth count len) may sound holders h = kept_by b (action.Start l k owner.Auth count len) may refl (unchanged b (action.Start l k owner.Auth count len) (λ n t. t)) h
+seated_kept b (action.Start l k owner.Resub count len) may sound holders h = absurd may
 seated_kept b (action.Start l k owner.Monitor count len) may sound holders h = kept_by b (action.Start l k owner.Monitor count len) may refl (unchanged b (action.Start l k owner.Monitor count len) (λ n t. t)) h
 seated_kept b (action.Start l k (owner.Try m round) count len) may sound holders h =
     kept_by b (action.Start l k (owner.Try m round) count len) may refl (unchanged b (action.Start l k (owner.Try m round) count len) (λ n. chosen (λ s. has_place s ≡ true → has_place (b.story n) ≡ true) (m == n) (tried (b.story n) l k) (b.story n) (λ e. place_from (b.story n) (tried (b.story n) l k) (λ r. absurd (cc r)) (λ t. t)) (λ f t. t))) h
@@ -319,6 +324,7 @@ gains b (action.Connect l host port) may n = λ i. inl i
 gains b (action.Timer t ms what) may n = chosen (Gains b n) (is_clock_of n (Some what)) (clocked (b.story n) t) (b.story n) (λ e i. inl i) (λ f i. inl i)
 gains b (action.Took owner.Setup l count) may n = absurd may
 gains b (action.Took owner.Auth l count) may n = absurd may
+gains b (action.Took owner.Resub l count) may n = absurd may
 gains b (action.Took owner.Monitor l count) may n = absurd may
 gains b (action.Took (owner.Try m round) l count) may n = chosen (Gains b n) (m == n) (holds (b.story n) count) (b.story n)
     (λ t i. inr (subst (TakesNow b) (eq_from m n t) (l, count, may.1))) (λ f i. inl i)
@@ -326,14 +332,18 @@ gains b (action.Push l info) may n = λ i. inl i
 gains b (action.Message msg) may n = λ i. inl i
 gains b (action.Monitor v) may n = λ i. inl i
 gains b (action.NeedCreds c l) may n = λ i. inl i
+gains b (action.Generation g) may n = absurd may
+gains b (action.Round who l) may n = absurd may
 gains b (action.Close l) may n = λ i. inl i
 gains b (action.Write l bytes) may n = λ i. inl i
 gains b (action.Wait owner.Setup kind) may n = absurd may
 gains b (action.Wait owner.Auth kind) may n = absurd may
+gains b (action.Wait owner.Resub kind) may n = absurd may
 gains b (action.Wait owner.Monitor kind) may n = absurd may
 gains b (action.Wait (owner.Try m round) kind) may n = chosen (Gains b n) (m == n) (waits (b.story n) kind) (b.story n) (λ t i. inl i) (λ f i. inl i)
 gains b (action.Start l k owner.Setup count len) may n = λ i. inl i
 gains b (action.Start l k owner.Auth count len) may n = λ i. inl i
+gains b (action.Start l k owner.Resub count len) may n = absurd may
 gains b (action.Start l k owner.Monitor count len) may n = λ i. inl i
 gains b (action.Start l k (owner.Try m round) count len) may n = chosen (Gains b n) (m == n) (tried (b.story n) l k) (b.story n) (λ t i. inl i) (λ f i. inl i)
 gains b (action.Created e) may n = λ i. inl i

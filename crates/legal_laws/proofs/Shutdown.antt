@@ -88,20 +88,25 @@ shut_kept b (action.Connect m host port) may opening h = λ s. absurd (not_both 
 shut_kept b (action.Timer t ms what) may opening h = λ s l. mine_keeps HearsShut (is_renewal_of l what) (b.link l) times (λ t. h s l) (h s l)
 shut_kept b (action.Took owner.Setup l count) may opening h = absurd may
 shut_kept b (action.Took owner.Auth l count) may opening h = absurd may
+shut_kept b (action.Took owner.Resub l count) may opening h = absurd may
 shut_kept b (action.Took owner.Monitor l count) may opening h = absurd may
 shut_kept b (action.Took (owner.Try n round) l count) may opening h = h
 shut_kept b (action.Push m info) may opening h = λ s l. push_keeps HearsShut (m == l) info.kind (b.link l) (h s l) (h s l) (h s l)
 shut_kept b (action.Message msg) may opening h = λ s l. tell_keeps HearsShut (current b == l) (b.link l) (h s l) (h s l)
 shut_kept b (action.Monitor v) may opening h = λ s l. tell_keeps HearsShut (current b == l) (b.link l) (h s l) (h s l)
 shut_kept b (action.NeedCreds c m) may opening h = λ s l. mine_keeps HearsShut (m == l) (b.link l) sources (λ t. h s l) (h s l)
+shut_kept b (action.Generation g) may opening h = absurd may
+shut_kept b (action.Round who m) may opening h = absurd may
 shut_kept b (action.Close m) may opening h = λ s l. mine_keeps HearsShut (m == l) (b.link l) (ends (b.turns - 1)) (λ t a e. cc) (h s l)
 shut_kept b (action.Write m bytes) may opening h = λ s l. mine_keeps HearsShut (m == l) (b.link l) (offers bytes) (λ t. h s l) (h s l)
 shut_kept b (action.Wait owner.Setup kind) may opening h = absurd may
 shut_kept b (action.Wait owner.Auth kind) may opening h = absurd may
+shut_kept b (action.Wait owner.Resub kind) may opening h = absurd may
 shut_kept b (action.Wait owner.Monitor kind) may opening h = absurd may
 shut_kept b (action.Wait (owner.Try n round) kind) may opening h = h
 shut_kept b (action.Start m k owner.Setup count len) may opening h = λ s l. mine_keeps HearsShut (m == l) (b.link l) (begins (message_of b m owner.Setup)) (λ t. h s l) (h s l)
 shut_kept b (action.Start m k owner.Auth count len) may opening h = λ s l. mine_keeps HearsShut (m == l) (b.link l) (begins (message_of b m owner.Auth)) (λ t. h s l) (h s l)
+shut_kept b (action.Start m k owner.Resub count len) may opening h = absurd may
 shut_kept b (action.Start m k owner.Monitor count len) may opening h = λ s l. mine_keeps HearsShut (m == l) (b.link l) (begins (message_of b m owner.Monitor)) (λ t. h s l) (h s l)
 shut_kept b (action.Start m k (owner.Try n round) count len) may opening h = λ s l. mine_keeps HearsShut (m == l) (b.link l) (begins (message_of b m (owner.Try n round))) (λ t. h s l) (h s l)
 shut_kept b (action.Created e) may opening h = h

@@ -4,7 +4,7 @@ use Rattle.std.proofs.lemmas.List.{append-nil, take-append-drop}
 use Rattle.std.proofs.Math.Seq.{drop-append_seam}
 use Rattle.containers.proofs.Choices.{chosen}
 use Rattle.redis_error.specs.declared.redis_error.RedisError.TheVariants as error
-use Rattle.driver_model.specs.News.{News, silence, connected, refused, overdue, took, came, failed, dropped, shut, authorized, denied, deserted, renewed, unrenewed, late}
+use Rattle.driver_model.specs.News.{News, silence, connected, refused, overdue, took, came, failed, dropped, shut, authorized, denied, deserted, renewed, unrenewed, late, unrepeated}
 use Rattle.legal_trace.specs.Ledger.{Ledger, Line, asks, hears, begins, offers, tells, ends, parts, blank_ledger, noted, noted_each, with_news, refused_in, bytes_came, is_over, dials, joined, stream, MayNote, AllNoted, LinkLegal, sources, awaits_credentials, authorized_by, times, may_renew, renewed_by, unrenewed_by, is_renewal_open, lost_by}
 use Rattle.legal_trace.proofs.Ledgers.{joined_more}
 use Rattle.legal_trace.proofs.Came.{holds_bytes}
@@ -50,6 +50,7 @@ hears_in_order l turn deserted h = h
 hears_in_order l turn (renewed c) h = chosen InOrder (may_renew l) (renewed_by l c) l (λ t. h) (λ e. h)
 hears_in_order l turn unrenewed h = chosen InOrder l.up (unrenewed_by l) l (λ t. h) (λ e. h)
 hears_in_order l turn (late k) h = chosen InOrder (l.up && is_renewal_open l k) (lost_by l) l (λ t. h) (λ e. h)
+hears_in_order l turn unrepeated h = h
 hears_in_order l turn dropped h = h
 hears_in_order l turn shut h = h
 

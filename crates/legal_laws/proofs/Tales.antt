@@ -114,20 +114,25 @@ once_kept b (action.Connect l host port) may blank n h = h
 once_kept b (action.Timer t ms what) may blank n h = chosen AnsweredOnce (is_clock_of n (Some what)) (clocked (b.story n) t) (b.story n) (λ e. h) (λ f. h)
 once_kept b (action.Took owner.Setup l count) may blank n h = absurd may
 once_kept b (action.Took owner.Auth l count) may blank n h = absurd may
+once_kept b (action.Took owner.Resub l count) may blank n h = absurd may
 once_kept b (action.Took owner.Monitor l count) may blank n h = absurd may
 once_kept b (action.Took (owner.Try m round) l count) may blank n h = chosen AnsweredOnce (m == n) (holds (b.story n) count) (b.story n) (λ t. h) (λ f. h)
 once_kept b (action.Push l info) may blank n h = h
 once_kept b (action.Message msg) may blank n h = h
 once_kept b (action.Monitor v) may blank n h = h
 once_kept b (action.NeedCreds c l) may blank n h = h
+once_kept b (action.Generation g) may blank n h = absurd may
+once_kept b (action.Round who l) may blank n h = absurd may
 once_kept b (action.Close l) may blank n h = h
 once_kept b (action.Write l bytes) may blank n h = h
 once_kept b (action.Wait owner.Setup kind) may blank n h = absurd may
 once_kept b (action.Wait owner.Auth kind) may blank n h = absurd may
+once_kept b (action.Wait owner.Resub kind) may blank n h = absurd may
 once_kept b (action.Wait owner.Monitor kind) may blank n h = absurd may
 once_kept b (action.Wait (owner.Try m round) kind) may blank n h = chosen AnsweredOnce (m == n) (waits (b.story n) kind) (b.story n) (λ t. h) (λ f. h)
 once_kept b (action.Start l k owner.Setup count len) may blank n h = h
 once_kept b (action.Start l k owner.Auth count len) may blank n h = h
+once_kept b (action.Start l k owner.Resub count len) may blank n h = absurd may
 once_kept b (action.Start l k owner.Monitor count len) may blank n h = h
 once_kept b (action.Start l k (owner.Try m round) count len) may blank n h = chosen AnsweredOnce (m == n) (tried (b.story n) l k) (b.story n) (λ t. started_once (b.story n) l k h) (λ f. h)
 once_kept b (action.Created e) may blank n h = h
@@ -185,20 +190,25 @@ tries_kept b (action.Connect l host port) may n h = h
 tries_kept b (action.Timer t ms what) may n h = chosen (TriesAreStarted (entered b (action.Timer t ms what)).link) (is_clock_of n (Some what)) (clocked (b.story n) t) (b.story n) (λ e. h) (λ f. h)
 tries_kept b (action.Took owner.Setup l count) may n h = absurd may
 tries_kept b (action.Took owner.Auth l count) may n h = absurd may
+tries_kept b (action.Took owner.Resub l count) may n h = absurd may
 tries_kept b (action.Took owner.Monitor l count) may n h = absurd may
 tries_kept b (action.Took (owner.Try m round) l count) may n h = chosen (TriesAreStarted (entered b (action.Took (owner.Try m round) l count)).link) (m == n) (holds (b.story n) count) (b.story n) (λ t. h) (λ f. h)
 tries_kept b (action.Push l info) may n h = h
 tries_kept b (action.Message msg) may n h = h
 tries_kept b (action.Monitor v) may n h = h
 tries_kept b (action.NeedCreds c l) may n h = h
+tries_kept b (action.Generation g) may n h = absurd may
+tries_kept b (action.Round who l) may n h = absurd may
 tries_kept b (action.Close l) may n h = h
 tries_kept b (action.Write l bytes) may n h = h
 tries_kept b (action.Wait owner.Setup kind) may n h = absurd may
 tries_kept b (action.Wait owner.Auth kind) may n h = absurd may
+tries_kept b (action.Wait owner.Resub kind) may n h = absurd may
 tries_kept b (action.Wait owner.Monitor kind) may n h = absurd may
 tries_kept b (action.Wait (owner.Try m round) kind) may n h = chosen (TriesAreStarted (entered b (action.Wait (owner.Try m round) kind)).link) (m == n) (waits (b.story n) kind) (b.story n) (λ t. h) (λ f. h)
 tries_kept b (action.Start l k owner.Setup count len) may n h = h
 tries_kept b (action.Start l k owner.Auth count len) may n h = h
+tries_kept b (action.Start l k owner.Resub count len) may n h = absurd may
 tries_kept b (action.Start l k owner.Monitor count len) may n h = h
 tries_kept b (action.Start l k (owner.Try m round) count len) may n h =
     chosen (TriesAreStarted (entered b (action.Start l k (owner.Try m round) count len)).link) (m == n) (tried (b.story n) l k) (b.story n)

@@ -11,7 +11,7 @@ use Rattle.driver_model.specs.declared.action.Purpose.{Purpose}
 use Rattle.driver_model.specs.declared.action.Purpose.TheVariants as purpose
 use Rattle.driver_model.specs.declared.config.Config.{Config}
 use Rattle.driver_model.specs.declared.event.Event.{Event}
-use Rattle.driver_model.specs.News.{News, silence, connected, refused, overdue, took, came, failed, authorized, denied, deserted, renewed, unrenewed, late, dropped, shut, news_of}
+use Rattle.driver_model.specs.News.{News, silence, connected, refused, overdue, took, came, failed, authorized, denied, deserted, renewed, unrenewed, late, unrepeated, dropped, shut, news_of}
 use Rattle.legal_trace.specs.Ledger.{Ledger, asks, hears, begins, offers, sources, times, ends, noted, noted_each, with_news, refused_in, bytes_came, is_over, dials, awaits_credentials, authorized_by, may_renew, renewed_by, unrenewed_by, is_renewal_open, lost_by, renewal_count, renewal_due, renewals_asked}
 use Rattle.legal_trace.specs.Book.{Book, blank_book, book, entered, if_mine, info_in, wanted_in, message_of, is_renewal_of, hearing_in, current}
 use Rattle.legal_trace.specs.Steps.{renewals_in_line}
@@ -51,6 +51,7 @@ news_timers count l turn deserted h = h
 news_timers count l turn (renewed c) h = chosen (HasTimers count) (may_renew l) (renewed_by l c) l (λ t. same_timers count l (renewed_by l c) refl refl h) (λ f. h)
 news_timers count l turn unrenewed h = chosen (HasTimers count) l.up (unrenewed_by l) l (λ t. same_timers count l (unrenewed_by l) refl refl h) (λ f. h)
 news_timers count l turn (late k) h = chosen (HasTimers count) (l.up && is_renewal_open l k) (lost_by l) l (λ t. same_timers count l (lost_by l) refl refl h) (λ f. h)
+news_timers count l turn unrepeated h = h
 news_timers count l turn dropped h = h
 news_timers count l turn shut h = h
 
@@ -70,12 +71,16 @@ renewal_of b t ms l k (inl may) = absurd (let x : false ≡ true = ap is_connect
     is_connect (purpose.Connect m) = true
     is_connect (purpose.Response who) = false
     is_connect (purpose.Renewal m j) = false
+    is_connect (purpose.Backoff g) = false
+    is_connect (purpose.Resubscription m) = false
 renewal_of b t ms l k (inr (inl may)) = absurd (let x : false ≡ true = ap is_response may.is_for in cc x)
   where
     is_response : Purpose → Bool
     is_response (purpose.Connect m) = false
     is_response (purpose.Response who) = true
     is_response (purpose.Renewal m j) = false
+    is_response (purpose.Backoff g) = false
+    is_response (purpose.Resubscription m) = false
 renewal_of b t ms l k (inr (inr may)) = may
 
 -- it is of the next that have none
@@ -123,6 +128,8 @@ timers_kept b (action.Connect m host port) l count may sound h = no_more count _
     connect_timers count (b.link l) (noted (b.link l) (asks (info_in b.config) (wanted_in b.config) (hearing_in b.config))) (sound.links.unasked l (omega (arith, same, next))).0 refl h) h)
 timers_kept b (action.Timer t ms (purpose.Connect m)) l count may sound h = no_more count (b.link l) h
 timers_kept b (action.Timer t ms (purpose.Response who)) l count may sound h = no_more count (b.link l) h
+timers_kept b (action.Timer t ms (purpose.Backoff g)) l count may sound h = no_more count (b.link l) h
+timers_kept b (action.Timer t ms (purpose.Resubscription m)) l count may sound h = no_more count (b.link l) h
 timers_kept b (action.Timer t ms (purpose.Renewal m k)) l count may sound h = one_more (m == l) count (b.link l)
     (λ e.
     let its : MayTimeRenewal b t ms (purpose.Renewal m k) = renewal_of b t ms m k may in
@@ -136,6 +143,8 @@ timers_kept b (action.Message msg) l count may sound h = no_more count _
 timers_kept b (action.Monitor v) l count may sound h = no_more count _
     (tell_keeps (HasTimers count) (current b == l) (b.link l) (same_timers count (b.link l) _ refl refl h) h)
 timers_kept b (action.NeedCreds c m) l count may sound h = no_more count _ (mine_keeps (HasTimers count) (m == l) (b.link l) sources (λ t. same_timers count (b.link l) (noted (b.link l) sources) refl refl h) h)
+timers_kept b (action.Generation g) l count may sound h = absurd may
+timers_kept b (action.Round who m) l count may sound h = absurd may
 timers_kept b (action.Close m) l count may sound h = no_more count _
     (mine_keeps (HasTimers count) (m == l) (b.link l) (ends (b.turns - 1)) (λ t. same_timers count (b.link l) (noted (b.link l) (ends (b.turns - 1))) refl refl h) h)
 timers_kept b (action.Write m bytes) l count may sound h = no_more count _ (mine_keeps (HasTimers count) (m == l) (b.link l) (offers bytes) (λ t. same_timers count (b.link l) (noted (b.link l) (offers bytes)) refl refl h) h)

@@ -32,12 +32,16 @@ ask_of b t ms n round (inl may) = absurd (let x : false ≡ true = ap is_respons
     is_response (purpose.Connect l) = true
     is_response (purpose.Response who) = false
     is_response (purpose.Renewal l k) = true
+    is_response (purpose.Backoff g) = true
+    is_response (purpose.Resubscription l) = true
 ask_of b t ms n round (inr (inr may)) = absurd (let x : false ≡ true = ap is_renewal may.is_for in cc x)
   where
     is_renewal : Purpose → Bool
     is_renewal (purpose.Connect l) = false
     is_renewal (purpose.Response who) = false
     is_renewal (purpose.Renewal l k) = true
+    is_renewal (purpose.Backoff g) = false
+    is_renewal (purpose.Resubscription l) = false
 ask_of b t ms n round (inr (inl may)) = (may, same_owner may.n n round may.is_for)
   where
     same_owner : (m n round : ℕ) → purpose.Response (owner.Try n round) ≡ purpose.Response (owner.Try m 0) → m ≡ n
@@ -80,20 +84,25 @@ clock_stays b (action.Connect m host port) n h = h
 clock_stays b (action.Timer t ms what) n h = chosen Clocked (is_clock_of n (Some what)) (clocked (b.story n) t) (b.story n) (λ e. refl) (λ f. h)
 clock_stays b (action.Took owner.Setup l count) n h = h
 clock_stays b (action.Took owner.Auth l count) n h = h
+clock_stays b (action.Took owner.Resub l count) n h = h
 clock_stays b (action.Took owner.Monitor l count) n h = h
 clock_stays b (action.Took (owner.Try m round) l count) n h = chosen Clocked (m == n) (holds (b.story n) count) (b.story n) (λ e. h) (λ f. h)
 clock_stays b (action.Push m info) n h = h
 clock_stays b (action.Message msg) n h = h
 clock_stays b (action.Monitor v) n h = h
 clock_stays b (action.NeedCreds c m) n h = h
+clock_stays b (action.Generation g) n h = h
+clock_stays b (action.Round who m) n h = h
 clock_stays b (action.Close m) n h = h
 clock_stays b (action.Write m bytes) n h = h
 clock_stays b (action.Wait owner.Setup kind) n h = h
 clock_stays b (action.Wait owner.Auth kind) n h = h
+clock_stays b (action.Wait owner.Resub kind) n h = h
 clock_stays b (action.Wait owner.Monitor kind) n h = h
 clock_stays b (action.Wait (owner.Try m round) kind) n h = chosen Clocked (m == n) (waits (b.story n) kind) (b.story n) (λ e. h) (λ f. h)
 clock_stays b (action.Start l k owner.Setup count len) n h = h
 clock_stays b (action.Start l k owner.Auth count len) n h = h
+clock_stays b (action.Start l k owner.Resub count len) n h = h
 clock_stays b (action.Start l k owner.Monitor count len) n h = h
 clock_stays b (action.Start l k (owner.Try m round) count len) n h = chosen Clocked (m == n) (tried (b.story n) l k) (b.story n) (λ e. h) (λ f. h)
 clock_stays b (action.Created e) n h = h
@@ -152,20 +161,25 @@ timeout_stays b (action.Connect m host port) n i = refl
 timeout_stays b (action.Timer t ms what) n i = chosen (λ (s : Story). s.timeout ≡ (b.story n).timeout) (is_clock_of n (Some what)) (clocked (b.story n) t) (b.story n) (λ e. refl) (λ f. refl)
 timeout_stays b (action.Took owner.Setup l count) n i = refl
 timeout_stays b (action.Took owner.Auth l count) n i = refl
+timeout_stays b (action.Took owner.Resub l count) n i = refl
 timeout_stays b (action.Took owner.Monitor l count) n i = refl
 timeout_stays b (action.Took (owner.Try m round) l count) n i = chosen (λ (s : Story). s.timeout ≡ (b.story n).timeout) (m == n) (holds (b.story n) count) (b.story n) (λ e. refl) (λ f. refl)
 timeout_stays b (action.Push m info) n i = refl
 timeout_stays b (action.Message msg) n i = refl
 timeout_stays b (action.Monitor v) n i = refl
 timeout_stays b (action.NeedCreds c m) n i = refl
+timeout_stays b (action.Generation g) n i = refl
+timeout_stays b (action.Round who m) n i = refl
 timeout_stays b (action.Close m) n i = refl
 timeout_stays b (action.Write m bytes) n i = refl
 timeout_stays b (action.Wait owner.Setup kind) n i = refl
 timeout_stays b (action.Wait owner.Auth kind) n i = refl
+timeout_stays b (action.Wait owner.Resub kind) n i = refl
 timeout_stays b (action.Wait owner.Monitor kind) n i = refl
 timeout_stays b (action.Wait (owner.Try m round) kind) n i = chosen (λ (s : Story). s.timeout ≡ (b.story n).timeout) (m == n) (waits (b.story n) kind) (b.story n) (λ e. refl) (λ f. refl)
 timeout_stays b (action.Start l k owner.Setup count len) n i = refl
 timeout_stays b (action.Start l k owner.Auth count len) n i = refl
+timeout_stays b (action.Start l k owner.Resub count len) n i = refl
 timeout_stays b (action.Start l k owner.Monitor count len) n i = refl
 timeout_stays b (action.Start l k (owner.Try m round) count len) n i = chosen (λ (s : Story). s.timeout ≡ (b.story n).timeout) (m == n) (tried (b.story n) l k) (b.story n) (λ e. refl) (λ f. refl)
 timeout_stays b (action.Created e) n i = refl

@@ -11,7 +11,7 @@ use Rattle.driver_model.specs.declared.action.Cause.TheVariants as cause
 use Rattle.driver_model.specs.declared.action.Owner.TheVariants as owner
 use Rattle.driver_model.specs.declared.event.EventKind.{EventKind}
 use Rattle.driver_model.specs.declared.event.EventKind.TheVariants as event
-use Rattle.driver_model.specs.News.{News, silence, connected, refused, overdue, took, came, failed, dropped, shut, news_of, authorized, denied, deserted, renewed, unrenewed, late}
+use Rattle.driver_model.specs.News.{News, silence, connected, refused, overdue, took, came, failed, dropped, shut, news_of, authorized, denied, deserted, renewed, unrenewed, late, unrepeated}
 use Rattle.legal_trace.specs.Ledger.{Ledger, Heard, asks, begins, offers, tells, ends, parts, noted, with_news, refused_in, bytes_came, is_over, dials, next_notice, MayNote, sources, awaits_credentials, authorized_by, times, may_renew, renewed_by, unrenewed_by, is_renewal_open, lost_by}
 use Rattle.legal_trace.specs.Story.{Story, is_open, handed_in, left, holds, clocked, fires, tried, waits, answered}
 use Rattle.legal_trace.specs.Book.{Book, entered, push_line, info_in, message_of, current, is_clock_of, after_event, is_unspoken, wanted_in, is_renewal_of, hearing_in}
@@ -60,6 +60,7 @@ waits_hears l turn deserted h = h
 waits_hears l turn (renewed c) h = chosen Waits (may_renew l) (renewed_by l c) l (λ t. h) (λ e. h)
 waits_hears l turn unrenewed h = chosen Waits l.up (unrenewed_by l) l (λ t. h) (λ e. h)
 waits_hears l turn (late k) h = chosen Waits (l.up && is_renewal_open l k) (lost_by l) l (λ t. h) (λ e. h)
+waits_hears l turn unrepeated h = h
 waits_hears l turn dropped h = h
 waits_hears l turn shut h = h
 
@@ -81,20 +82,25 @@ waits_kept b (action.Connect m host port) may still h = λ l heard. mine_keeps W
 waits_kept b (action.Timer t ms what) may still h = λ l heard. mine_keeps Waits (is_renewal_of l what) (b.link l) times (λ t. h l heard) (h l heard)
 waits_kept b (action.Took owner.Setup m count) may still h = absurd may
 waits_kept b (action.Took owner.Auth m count) may still h = absurd may
+waits_kept b (action.Took owner.Resub m count) may still h = absurd may
 waits_kept b (action.Took owner.Monitor m count) may still h = absurd may
 waits_kept b (action.Took (owner.Try n round) m count) may still h = h
 waits_kept b (action.Push m info) may still h = λ l heard. push_keeps Waits (m == l) info.kind (b.link l) (waits_tells (b.link l) (h l heard)) (h l heard) (h l heard)
 waits_kept b (action.Message msg) may still h = λ l heard. tell_keeps Waits (current b == l) (b.link l) (waits_tells (b.link l) (h l heard)) (h l heard)
 waits_kept b (action.Monitor v) may still h = λ l heard. tell_keeps Waits (current b == l) (b.link l) (waits_tells (b.link l) (h l heard)) (h l heard)
 waits_kept b (action.NeedCreds c m) may still h = λ l heard. mine_keeps Waits (m == l) (b.link l) sources (λ t. h l heard) (h l heard)
+waits_kept b (action.Generation g) may still h = absurd may
+waits_kept b (action.Round who m) may still h = absurd may
 waits_kept b (action.Close m) may still h = λ l heard. mine_keeps Waits (m == l) (b.link l) (ends (b.turns - 1)) (λ t p next. absurd (not_none (next_notice (b.link l)) p (may.pushed l heard) next)) (h l heard)
 waits_kept b (action.Write m bytes) may still h = λ l heard. mine_keeps Waits (m == l) (b.link l) (offers bytes) (λ t. h l heard) (h l heard)
 waits_kept b (action.Wait owner.Setup kind) may still h = absurd may
 waits_kept b (action.Wait owner.Auth kind) may still h = absurd may
+waits_kept b (action.Wait owner.Resub kind) may still h = absurd may
 waits_kept b (action.Wait owner.Monitor kind) may still h = absurd may
 waits_kept b (action.Wait (owner.Try n round) kind) may still h = h
 waits_kept b (action.Start m k owner.Setup count len) may still h = λ l heard. mine_keeps Waits (m == l) (b.link l) (begins (message_of b m owner.Setup)) (λ t. h l heard) (h l heard)
 waits_kept b (action.Start m k owner.Auth count len) may still h = λ l heard. mine_keeps Waits (m == l) (b.link l) (begins (message_of b m owner.Auth)) (λ t. h l heard) (h l heard)
+waits_kept b (action.Start m k owner.Resub count len) may still h = absurd may
 waits_kept b (action.Start m k owner.Monitor count len) may still h = λ l heard. mine_keeps Waits (m == l) (b.link l) (begins (message_of b m owner.Monitor)) (λ t. h l heard) (h l heard)
 waits_kept b (action.Start m k (owner.Try n round) count len) may still h = λ l heard. mine_keeps Waits (m == l) (b.link l) (begins (message_of b m (owner.Try n round))) (λ t. h l heard) (h l heard)
 waits_kept b (action.Created e) may still h = h
@@ -135,20 +141,25 @@ goes_kept b (action.Connect m host port) one h n = h n
 goes_kept b (action.Timer t ms what) one h n = chosen OnFirst (is_clock_of n (Some what)) (clocked (b.story n) t) (b.story n) (λ e. h n) (λ f. h n)
 goes_kept b (action.Took owner.Setup m count) one h n = h n
 goes_kept b (action.Took owner.Auth m count) one h n = h n
+goes_kept b (action.Took owner.Resub m count) one h n = h n
 goes_kept b (action.Took owner.Monitor m count) one h n = h n
 goes_kept b (action.Took (owner.Try i round) m count) one h n = chosen OnFirst (i == n) (holds (b.story n) count) (b.story n) (λ e. h n) (λ f. h n)
 goes_kept b (action.Push m info) one h n = h n
 goes_kept b (action.Message msg) one h n = h n
 goes_kept b (action.Monitor v) one h n = h n
 goes_kept b (action.NeedCreds c m) one h n = h n
+goes_kept b (action.Generation g) one h n = h n
+goes_kept b (action.Round who m) one h n = h n
 goes_kept b (action.Close m) one h n = h n
 goes_kept b (action.Write m bytes) one h n = h n
 goes_kept b (action.Wait owner.Setup kind) one h n = h n
 goes_kept b (action.Wait owner.Auth kind) one h n = h n
+goes_kept b (action.Wait owner.Resub kind) one h n = h n
 goes_kept b (action.Wait owner.Monitor kind) one h n = h n
 goes_kept b (action.Wait (owner.Try i round) kind) one h n = chosen OnFirst (i == n) (waits (b.story n) kind) (b.story n) (λ e. h n) (λ f. h n)
 goes_kept b (action.Start m k owner.Setup count len) one h n = h n
 goes_kept b (action.Start m k owner.Auth count len) one h n = h n
+goes_kept b (action.Start m k owner.Resub count len) one h n = h n
 goes_kept b (action.Start m k owner.Monitor count len) one h n = h n
 goes_kept b (action.Start m k (owner.Try i round) count len) one h n = chosen OnFirst (i == n) (tried (b.story n) m k) (b.story n) (λ e. h n) (λ f. h n)
 goes_kept b (action.Created e) one h n = h n

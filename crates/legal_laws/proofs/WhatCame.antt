@@ -9,7 +9,7 @@ use Rattle.driver_model.specs.declared.action.Action.{Action}
 use Rattle.driver_model.specs.declared.action.Action.TheVariants as action
 use Rattle.driver_model.specs.declared.action.Cause.TheVariants as cause
 use Rattle.driver_model.specs.declared.hearing.Hearing.{Hearing}
-use Rattle.driver_model.specs.News.{News, silence, connected, refused, overdue, took, came, failed, dropped, shut, news_of, authorized, denied, deserted, renewed, unrenewed, late}
+use Rattle.driver_model.specs.News.{News, silence, connected, refused, overdue, took, came, failed, dropped, shut, news_of, authorized, denied, deserted, renewed, unrenewed, late, unrepeated}
 use Rattle.legal_trace.specs.Ledger.{Ledger, asks, hears, begins, offers, ends, sources, times, noted, with_news, refused_in, bytes_came, is_over, dials, awaits_credentials, authorized_by, may_renew, renewed_by, unrenewed_by, is_renewal_open, lost_by}
 use Rattle.legal_trace.specs.Book.{Book, blank_book, book, entered, entered_each, current, hearing_in, info_in, message_of, wanted_in, is_renewal_of}
 use Rattle.legal_trace.specs.Legal.{MayStand, AllStand}
@@ -68,6 +68,7 @@ news_well wanted l turn deserted vs down h = same_heard wanted l l vs refl refl 
 news_well wanted l turn (renewed c) vs down h = chosen (λ x. HeardWell wanted x (vs ++ [])) (may_renew l) (renewed_by l c) l (λ t. same_heard wanted l _ vs refl refl refl h) (λ e. same_heard wanted l l vs refl refl refl h)
 news_well wanted l turn unrenewed vs down h = chosen (λ x. HeardWell wanted x (vs ++ [])) l.up (unrenewed_by l) l (λ t. same_heard wanted l _ vs refl refl refl h) (λ e. same_heard wanted l l vs refl refl refl h)
 news_well wanted l turn (late k) vs down h = chosen (λ x. HeardWell wanted x (vs ++ [])) (l.up && is_renewal_open l k) (lost_by l) l (λ t. same_heard wanted l _ vs refl refl refl h) (λ e. same_heard wanted l l vs refl refl refl h)
+news_well wanted l turn unrepeated vs down h = same_heard wanted l l vs refl refl refl h
 news_well wanted l turn dropped vs down h = same_heard wanted l l vs refl refl refl h
 news_well wanted l turn shut vs down h = same_heard wanted l l vs refl refl refl h
 
@@ -108,6 +109,8 @@ step_well b l vs (action.Push m info) may s h = push_keeps (λ x. HeardWell (hea
 step_well b l vs (action.Message msg) may s h = tell_keeps (λ x. HeardWell (hearing_in b.config) x (vs ++ [])) (current b == l) (b.link l) (same_heard (hearing_in b.config) (b.link l) _ vs refl refl refl h) (same_heard (hearing_in b.config) (b.link l) (b.link l) vs refl refl refl h)
 step_well b l vs (action.Monitor v) may s h = tell_keeps (λ x. HeardWell (hearing_in b.config) x (vs ++ [])) (current b == l) (b.link l) (same_heard (hearing_in b.config) (b.link l) _ vs refl refl refl h) (same_heard (hearing_in b.config) (b.link l) (b.link l) vs refl refl refl h)
 step_well b l vs (action.NeedCreds c m) may s h = mine_keeps (λ x. HeardWell (hearing_in b.config) x (vs ++ [])) (m == l) (b.link l) sources (λ t. same_heard (hearing_in b.config) (b.link l) _ vs refl refl refl h) (same_heard (hearing_in b.config) (b.link l) (b.link l) vs refl refl refl h)
+step_well b l vs (action.Generation g) may s h = absurd may
+step_well b l vs (action.Round who m) may s h = absurd may
 step_well b l vs (action.Close m) may s h = mine_keeps (λ x. HeardWell (hearing_in b.config) x (vs ++ [])) (m == l) (b.link l) (ends (b.turns - 1)) (λ t. same_heard (hearing_in b.config) (b.link l) _ vs refl refl refl h) (same_heard (hearing_in b.config) (b.link l) (b.link l) vs refl refl refl h)
 step_well b l vs (action.Write m bytes) may s h = mine_keeps (λ x. HeardWell (hearing_in b.config) x (vs ++ [])) (m == l) (b.link l) (offers bytes) (λ t. same_heard (hearing_in b.config) (b.link l) _ vs refl refl refl h) (same_heard (hearing_in b.config) (b.link l) (b.link l) vs refl refl refl h)
 step_well b l vs (action.Wait who kind) may s h = same_heard (hearing_in b.config) (b.link l) (b.link l) vs refl refl refl h

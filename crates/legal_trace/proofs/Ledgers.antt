@@ -4,7 +4,7 @@ use Rattle.containers.proofs.Choices.{chosen, if_false, ne_from, not_both}
 use Rattle.std.proofs.lemmas.List.{append-nil, length-take, take-append-le}
 use Rattle.resp_value.specs.Data.{Data}
 use Rattle.redis_error.specs.declared.redis_error.RedisError.TheVariants as error
-use Rattle.driver_model.specs.News.{News, silence, connected, refused, overdue, took, came, failed, authorized, denied, deserted, renewed, unrenewed, late, dropped, shut}
+use Rattle.driver_model.specs.News.{News, silence, connected, refused, overdue, took, came, failed, authorized, denied, deserted, renewed, unrenewed, late, unrepeated, dropped, shut}
 use Rattle.driver_model.specs.declared.outcome.Shape.{Shape}
 use Rattle.driver_model.specs.declared.outcome.Shape.TheVariants.{Single, Pipeline, Confirmation}
 use Rattle.driver_model.specs.Shape.{need_of}
@@ -67,6 +67,7 @@ up_hears l turn deserted h = h
 up_hears l turn (renewed c) h = chosen UpIsNotOver (may_renew l) (renewed_by l c) l (λ t. h) (λ e. h)
 up_hears l turn unrenewed h = chosen UpIsNotOver l.up (unrenewed_by l) l (λ t. h) (λ e. h)
 up_hears l turn (late k) h = chosen UpIsNotOver (l.up && is_renewal_open l k) (lost_by l) l (λ t. h) (λ e. h)
+up_hears l turn unrepeated h = h
 up_hears l turn dropped h = h
 up_hears l turn shut h = h
 
@@ -112,6 +113,7 @@ hears_past l turn deserted = same_past l
 hears_past l turn (renewed c) = chosen (SamePast l) (may_renew l) (renewed_by l c) l (λ t. record { asked = refl; hearing = refl; end = λ n. n; starts = refl }) (λ e. same_past l)
 hears_past l turn unrenewed = chosen (SamePast l) l.up (unrenewed_by l) l (λ t. record { asked = refl; hearing = refl; end = λ n. n; starts = refl }) (λ e. same_past l)
 hears_past l turn (late k) = chosen (SamePast l) (l.up && is_renewal_open l k) (lost_by l) l (λ t. record { asked = refl; hearing = refl; end = λ n. n; starts = refl }) (λ e. same_past l)
+hears_past l turn unrepeated = same_past l
 hears_past l turn dropped = same_past l
 hears_past l turn shut = same_past l
 
@@ -166,6 +168,7 @@ unasked_hears l turn deserted not_up h = h
 unasked_hears l turn (renewed c) not_up h = chosen IsUnasked (may_renew l) (renewed_by l c) l (λ t. h) (λ e. h)
 unasked_hears l turn unrenewed not_up h = chosen IsUnasked l.up (unrenewed_by l) l (λ t. h) (λ e. h)
 unasked_hears l turn (late k) not_up h = chosen IsUnasked (l.up && is_renewal_open l k) (lost_by l) l (λ t. h) (λ e. h)
+unasked_hears l turn unrepeated not_up h = h
 unasked_hears l turn dropped not_up h = h
 unasked_hears l turn shut not_up h = h
 
@@ -231,6 +234,7 @@ few_hears l turn deserted h = h
 few_hears l turn (renewed c) h = chosen FewAreDealt (may_renew l) (renewed_by l c) l (λ t. h) (λ e. h)
 few_hears l turn unrenewed h = chosen FewAreDealt l.up (unrenewed_by l) l (λ t. h) (λ e. h)
 few_hears l turn (late k) h = chosen FewAreDealt (l.up && is_renewal_open l k) (lost_by l) l (λ t. h) (λ e. h)
+few_hears l turn unrepeated h = h
 few_hears l turn dropped h = h
 few_hears l turn shut h = h
 

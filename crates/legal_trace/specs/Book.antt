@@ -14,12 +14,13 @@ use Rattle.driver_model.specs.declared.action.Owner.TheVariants as owner
 use Rattle.driver_model.specs.declared.event.EventKind.{EventKind}
 use Rattle.driver_model.specs.declared.event.EventKind.TheVariants as event
 use Rattle.connection_info.specs.declared.address.RedisConnectionInfo.{RedisConnectionInfo}
-use Rattle.driver_model.specs.Config.{response_timeout, told_info, bare_info, wants_credentials, hearing_of}
+use Rattle.driver_model.specs.Config.{kind_of, response_timeout, told_info, bare_info, wants_credentials, hearing_of}
 use Rattle.driver_model.specs.declared.kind.SessionKind.{SessionKind}
 use Rattle.driver_model.specs.declared.kind.SessionKind.TheVariants as kind
 use Rattle.driver_model.specs.declared.hearing.Hearing.{Hearing}
 use Rattle.driver_model.specs.declared.hearing.Hearing.TheVariants as hearing
 use Rattle.driver_model.specs.declared.event.Submission.{Submission}
+use Rattle.driver_model.specs.declared.outcome.Shape.TheVariants.{Single}
 use Rattle.driver_model.specs.News.{news_of}
 use Rattle.driver_model.specs.Request.{lacks_resp3}
 use Rattle.credentials.specs.Credentials.{Credentials}
@@ -67,7 +68,7 @@ hearing_in (Some config) = hearing_of config
 -- and what the session is
 abbrev pub kind_in : Option Config → SessionKind
 kind_in None = kind.Single
-kind_in (Some config) = config.kind
+kind_in (Some config) = kind_of config
 
 -- these credentials, where there are any
 abbrev pub credentials_in : Option Credentials → Credentials
@@ -78,10 +79,11 @@ credentials_in (Some c) = c
 abbrev pub renewal_in : Option Credentials → Start
 renewal_in o = renewal_message (credentials_in o)
 
--- a message that starts on link l as its owner has it: it carries the owner's bytes
+-- a message that starts on link l as its owner has it: it carries the owner's bytes. Nothing is subscribed again yet
 abbrev pub message_of : Book → ℕ → Owner → Start
 message_of b l owner.Setup = setup_message (b.link l) (setup_count (b.link l).starts)
 message_of b l owner.Auth = renewal_in (renewal_due (b.link l))
+message_of b l owner.Resub = record { owner = owner.Resub; shape = Single; bytes = [] }
 message_of b l owner.Monitor = monitor_message
 message_of b l (owner.Try n round) = record { owner = owner.Try n round; shape = shape (b.story n); bytes = bytes_of (b.story n) }
 
@@ -98,6 +100,8 @@ abbrev pub is_renewal_of : ℕ → Purpose → Bool
 is_renewal_of n (purpose.Renewal l k) = l == n
 is_renewal_of n (purpose.Connect l) = false
 is_renewal_of n (purpose.Response who) = false
+is_renewal_of n (purpose.Backoff g) = false
+is_renewal_of n (purpose.Resubscription l) = false
 
 -- the link that submissions go to, and of which messages are told: the last that was asked for
 abbrev pub current : Book → ℕ
@@ -110,6 +114,8 @@ lines_of b n (action.Turn number (cause.Event e)) = hears number (news_of b.time
 lines_of b n (action.Connect l host port) = if_mine (l == n) (asks (info_in b.config) (wanted_in b.config) (hearing_in b.config))
 lines_of b n (action.Timer t ms what) = if_mine (is_renewal_of n what) times
 lines_of b n (action.NeedCreds c l) = if_mine (l == n) sources
+lines_of b n (action.Generation g) = []
+lines_of b n (action.Round who l) = []
 lines_of b n (action.Took who l count) = []
 lines_of b n (action.Push l info) = if_mine (l == n) (push_line info.kind)
 lines_of b n (action.Message m) = if_mine (current b == n) tells
@@ -135,8 +141,11 @@ is_clock_of n None = false
 is_clock_of n (Some (purpose.Connect l)) = false
 is_clock_of n (Some (purpose.Response owner.Setup)) = false
 is_clock_of n (Some (purpose.Response owner.Auth)) = false
+is_clock_of n (Some (purpose.Response owner.Resub)) = false
 is_clock_of n (Some (purpose.Response owner.Monitor)) = false
 is_clock_of n (Some (purpose.Renewal l k)) = false
+is_clock_of n (Some (purpose.Backoff g)) = false
+is_clock_of n (Some (purpose.Resubscription l)) = false
 is_clock_of n (Some (purpose.Response (owner.Try m round))) = m == n
 
 -- what an event is to submission n
@@ -169,18 +178,23 @@ story_after b n (action.Connect l host port) = b.story n
 story_after b n (action.Timer t ms what) = if_own (is_clock_of n (Some what)) (clocked (b.story n) t) (b.story n)
 story_after b n (action.Took owner.Setup l count) = b.story n
 story_after b n (action.Took owner.Auth l count) = b.story n
+story_after b n (action.Took owner.Resub l count) = b.story n
 story_after b n (action.Took owner.Monitor l count) = b.story n
 story_after b n (action.Start l message owner.Setup count len) = b.story n
 story_after b n (action.Start l message owner.Auth count len) = b.story n
+story_after b n (action.Start l message owner.Resub count len) = b.story n
 story_after b n (action.Start l message owner.Monitor count len) = b.story n
 story_after b n (action.Wait owner.Setup kind) = b.story n
 story_after b n (action.Wait owner.Auth kind) = b.story n
+story_after b n (action.Wait owner.Resub kind) = b.story n
 story_after b n (action.Wait owner.Monitor kind) = b.story n
 story_after b n (action.Took (owner.Try m round) l count) = if_own (m == n) (holds (b.story n) count) (b.story n)
 story_after b n (action.Push l info) = b.story n
 story_after b n (action.Message m) = b.story n
 story_after b n (action.Monitor v) = b.story n
 story_after b n (action.NeedCreds c l) = b.story n
+story_after b n (action.Generation g) = b.story n
+story_after b n (action.Round who l) = b.story n
 story_after b n (action.Close l) = b.story n
 story_after b n (action.Write l bytes) = b.story n
 story_after b n (action.Created e) = b.story n
@@ -225,6 +239,8 @@ counted b (action.Push l info) = b
 counted b (action.Message m) = b
 counted b (action.Monitor v) = b
 counted b (action.NeedCreds c l) = record b { sources = b.sources ++ use_for b l ∷ [] }
+counted b (action.Generation g) = b
+counted b (action.Round who l) = b
 counted b (action.Close l) = b
 counted b (action.Write l bytes) = b
 counted b (action.Wait who kind) = b

@@ -28,7 +28,7 @@ use Rattle.driver_model.specs.declared.outcome.Shape.{Shape}
 use Rattle.driver_model.specs.declared.outcome.Shape.TheVariants.{Single, Confirmation}
 use Rattle.driver_model.specs.declared.outcome.Verdict.{Verdict}
 use Rattle.driver_model.specs.declared.outcome.Verdict.TheVariants as verdict
-use Rattle.driver_model.specs.News.{News, silence, connected, refused, overdue, took, came, failed, authorized, denied, deserted, renewed, unrenewed, late, dropped, shut}
+use Rattle.driver_model.specs.News.{News, silence, connected, refused, overdue, took, came, failed, authorized, denied, deserted, renewed, unrenewed, late, unrepeated, dropped, shut}
 use Rattle.driver_model.specs.Shape.{need_of, verdict_of}
 
 -- a message that started: who owns it, how many items it takes and what they become, and its bytes
@@ -139,6 +139,7 @@ abbrev pub is_of_setup : Owner → Bool
 is_of_setup owner.Setup = true
 is_of_setup (owner.Try n round) = false
 is_of_setup owner.Auth = false
+is_of_setup owner.Resub = false
 is_of_setup owner.Monitor = false
 
 -- how many of these starts are of the setup: they are the first ones
@@ -181,6 +182,7 @@ is_of_monitor owner.Monitor = true
 is_of_monitor owner.Setup = false
 is_of_monitor (owner.Try n round) = false
 is_of_monitor owner.Auth = false
+is_of_monitor owner.Resub = false
 
 -- the number of the first of these starts that does, where the first of them has the number k
 abbrev pub monitor_among : List Start → ℕ → Option ℕ
@@ -283,6 +285,7 @@ abbrev pub is_of_renewal : Owner → Bool
 is_of_renewal owner.Auth = true
 is_of_renewal owner.Setup = false
 is_of_renewal (owner.Try n round) = false
+is_of_renewal owner.Resub = false
 is_of_renewal owner.Monitor = false
 
 -- how many of these starts do
@@ -346,6 +349,7 @@ with_news l turn deserted = l
 with_news l turn (renewed c) = if may_renew l then renewed_by l c else l
 with_news l turn unrenewed = if l.up then unrenewed_by l else l
 with_news l turn (late k) = if l.up && is_renewal_open l k then lost_by l else l
+with_news l turn unrepeated = l
 with_news l turn silence = l
 with_news l turn overdue = l
 with_news l turn (failed f) = l
@@ -422,6 +426,7 @@ ending_up l deserted = None
 ending_up l (renewed c) = None
 ending_up l unrenewed = None
 ending_up l (late k) = None
+ending_up l unrepeated = None
 
 -- what ends a link that is up and not set up: the setup failed, or there are no credentials for it, the time for it is over,
 -- the stream of messages is dropped, everything is shut down, or the link fails
@@ -441,6 +446,7 @@ ending_unready l (authorized c) = None
 ending_unready l (renewed c) = None
 ending_unready l unrenewed = None
 ending_unready l (late k) = None
+ending_unready l unrepeated = None
 
 abbrev pub ending_by : Option RedisError → Option Ending → Option Ending
 ending_by None other = other
@@ -468,6 +474,7 @@ ending_asked l deserted = None
 ending_asked l (renewed c) = None
 ending_asked l unrenewed = None
 ending_asked l (late k) = None
+ending_asked l unrepeated = None
 
 -- what must end the link in the turn that runs, if anything does
 abbrev pub ending : Ledger → Option Ending

@@ -12,7 +12,7 @@ use Rattle.driver_model.specs.declared.action.Owner.{Owner}
 use Rattle.driver_model.specs.declared.hearing.Hearing.{Hearing}
 use Rattle.redis_error.specs.declared.fault_kind.FaultKind.{FaultKind}
 use Rattle.redis_error.specs.declared.redis_error.RedisError.TheVariants as error
-use Rattle.driver_model.specs.News.{News, silence, connected, refused, overdue, took, came, failed, authorized, denied, deserted, renewed, unrenewed, late, dropped, shut}
+use Rattle.driver_model.specs.News.{News, silence, connected, refused, overdue, took, came, failed, authorized, denied, deserted, renewed, unrenewed, late, unrepeated, dropped, shut}
 use Rattle.link_core.specs.declared.message.Entry.{Entry}
 use Rattle.link_core.specs.declared.message.Queued.{Queued}
 use Rattle.link_core.specs.declared.message.Settled.{Settled}
@@ -177,6 +177,7 @@ unheard_tied name l s turn deserted f h = told_tied name l s l.asked l.up desert
 unheard_tied name l s turn (renewed c) f h = renewed_tied name l s turn c h
 unheard_tied name l s turn unrenewed f h = unrenewed_tied name l s turn h
 unheard_tied name l s turn (late k) f h = late_tied name l s turn k h
+unheard_tied name l s turn unrepeated f h = silent_tied name l s turn h
 unheard_tied name l s turn dropped f h = told_tied name l s l.asked l.up dropped h
 unheard_tied name l s turn shut f h = told_tied name l s l.asked l.up shut h
 

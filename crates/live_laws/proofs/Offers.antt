@@ -89,6 +89,8 @@ noted_ties a b (action.Monitor v) quiet may h = all_stay b (entered b (action.Mo
 noted_ties a b (action.Took who l count) quiet may h = all_stay b (entered b (action.Took who l count)) a.links (λ n. stays_same (b.link n)) h
 noted_ties a b (action.NeedCreds c l) quiet may h =
     all_stay b (entered b (action.NeedCreds c l)) a.links (λ n. mine_keeps (Stays (b.link n)) (l == n) (b.link n) _ (λ t. (λ u. u, refl, refl)) (stays_same (b.link n))) h
+noted_ties a b (action.Generation g) quiet may h = absurd may
+noted_ties a b (action.Round who l) quiet may h = absurd may
 noted_ties a b (action.Wait who kind) quiet may h = all_stay b (entered b (action.Wait who kind)) a.links (λ n. stays_same (b.link n)) h
 noted_ties a b (action.Created e) quiet may h = all_stay b (entered b (action.Created e)) a.links (λ n. stays_same (b.link n)) h
 noted_ties a b (action.Outcome n o) quiet may h = all_stay b (entered b (action.Outcome n o)) a.links (λ n. stays_same (b.link n)) h

@@ -42,6 +42,8 @@ action_taken b (action.Close l) n quiet = mine_keeps (λ (g : Ledger). g.taken �
 action_taken b (action.Write l bytes) n quiet = mine_keeps (λ (g : Ledger). g.taken ≡ (b.link n).taken) (l == n) (b.link n) _ (λ t. refl) refl
 action_taken b (action.Start l message who count len) n quiet = mine_keeps (λ (g : Ledger). g.taken ≡ (b.link n).taken) (l == n) (b.link n) _ (λ t. refl) refl
 action_taken b (action.NeedCreds c l) n quiet = mine_keeps (λ (g : Ledger). g.taken ≡ (b.link n).taken) (l == n) (b.link n) _ (λ t. refl) refl
+action_taken b (action.Generation g) n quiet = refl
+action_taken b (action.Round who l) n quiet = refl
 action_taken b (action.Wait who kind) n quiet = refl
 action_taken b (action.Created e) n quiet = refl
 action_taken b (action.Outcome m o) n quiet = refl

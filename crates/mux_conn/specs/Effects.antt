@@ -8,7 +8,7 @@ use Rattle.driver_model.specs.declared.news.LinkFault.{LinkFault}
 use Rattle.driver_model.specs.declared.news.LinkFault.TheVariants as fault
 use Rattle.driver_model.specs.declared.outcome.Outcome.TheVariants as outcome
 use Rattle.resp_value.specs.declared.push_kind.PushKind.TheVariants.{Disconnection}
-use Rattle.driver_model.specs.News.{News, silence, connected, refused, overdue, took, came, failed, authorized, denied, deserted, renewed, unrenewed, late, dropped, shut}
+use Rattle.driver_model.specs.News.{News, silence, connected, refused, overdue, took, came, failed, authorized, denied, deserted, renewed, unrenewed, late, unrepeated, dropped, shut}
 use Rattle.connection_setup.specs.declared.judgement.SetupResult.{SetupResult}
 use Rattle.connection_setup.specs.declared.judgement.SetupResult.TheVariants as result
 use Rattle.connection_setup.specs.Setup.{Step, setup}
@@ -351,6 +351,7 @@ IsWithin life deserted = Unit {0}
 IsWithin life (renewed c) = Unit {0}
 IsWithin life unrenewed = Unit {0}
 IsWithin life (late k) = Unit {0}
+IsWithin life unrepeated = Unit {0}
 IsWithin life dropped = Unit {0}
 IsWithin life shut = Unit {0}
 
@@ -369,6 +370,7 @@ applied w deserted = unauthorized_at w (error.AuthFailed []) w.conn.life
 applied w (renewed c) = record w { conn = expecting w.conn c }
 applied w unrenewed = record w { conn = none_follow w.conn }
 applied w (late k) = record w { conn = late_for w.conn k }
+applied w unrepeated = w
 applied w dropped = dropped_by w
 applied w shut = shut_at w w.conn.life
 

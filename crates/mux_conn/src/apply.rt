@@ -578,6 +578,7 @@ impl MultiplexedConnection {
                 self.renew_late(number);
                 Ok(())
             }
+            LinkNews::Unrepeated => Ok(()),
             LinkNews::Dropped => self.drop_stream(alloc, out),
             LinkNews::Shut => self.shut(alloc, out),
         }

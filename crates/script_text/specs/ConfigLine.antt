@@ -3,6 +3,9 @@ use Rattle.std.specs.Prelude.{ℕ, Bool, true, false, ◌&&◌, List, [], ◌∷
 use Rattle.std.specs.Option.{option_to_list}
 use Rattle.std.specs.List.{list_all, list_any}
 use Rattle.driver_model.specs.declared.config.Config.{Config}
+use Rattle.driver_model.specs.declared.config.Config.TheVariants as config
+use Rattle.driver_model.specs.declared.config_words.AddressWords.{AddressWords}
+use Rattle.driver_model.specs.declared.config_words.ConnectionWords.{ConnectionWords}
 use Rattle.driver_model.specs.declared.kind.SessionKind.{SessionKind}
 use Rattle.driver_model.specs.declared.kind.SessionKind.TheVariants as kind
 use Rattle.script_text.specs.Words.{LineWords, cut_at}
@@ -85,11 +88,13 @@ allows_switches words = allows switch (values (codes "push") words) && allows_se
 abbrev pub are_allowed : List (List ℕ) → Bool
 are_allowed words = allows_optional words && allows_switches words
 
--- the configuration of this kind with this URL, and with what words give it beside that
-abbrev pub config_with : SessionKind → List (List ℕ) → List ℕ → Config
-config_with kind words url = record {
-  kind = kind;
-  url = url;
+-- the address with this URL, and with what words give it beside that
+abbrev pub address_with : List (List ℕ) → List ℕ → AddressWords
+address_with words url = record { url = url; lib = given switch (values (codes "lib") words) }
+
+-- what words give of how a multiplexed connection behaves
+abbrev pub connection_with : List (List ℕ) → ConnectionWords
+connection_with words = record {
   connect = given time_limit (values (codes "connect") words);
   response = given time_limit (values (codes "response") words);
   limit = given (number max_u32) (values (codes "limit") words);
@@ -97,8 +102,13 @@ config_with kind words url = record {
   boundary = given (number max_u64) (values (codes "boundary") words);
   push = given switch (values (codes "push") words);
   creds = given switch (values (codes "creds") words);
-  lib = given switch (values (codes "lib") words);
 }
+
+-- the configuration of this kind with this URL, and with what words give it beside that
+abbrev pub config_with : SessionKind → List (List ℕ) → List ℕ → Config
+config_with kind.Single words url = config.Single (address_with words url) (connection_with words)
+config_with kind.PubSub words url = config.PubSub (address_with words url)
+config_with kind.Monitor words url = config.Monitor (address_with words url)
 
 -- a session of this kind: each of its keys once at most, in any order, and `url` there. What `url` says is any text
 abbrev pub session : SessionKind → List (List ℕ) → Option Config

@@ -4,7 +4,8 @@ ghost use Rattle.script_text.specs.ConfigLine.{connection_keys, link_keys, keys,
 ghost use Rattle.script_text.specs.ConfigLine.{value_of, values, only};
 ghost use Rattle.script_text.specs.ConfigLine.{allows, given, allows_times, allows_queue};
 ghost use Rattle.script_text.specs.ConfigLine.{allows_numbers, allows_optional, allows_switches, are_allowed};
-ghost use Rattle.script_text.specs.ConfigLine.{allows_setup, config_with, session, kind_named, config_of, opening_of};
+ghost use Rattle.script_text.specs.ConfigLine.{allows_setup, address_with, connection_with};
+ghost use Rattle.script_text.specs.ConfigLine.{config_with, session, kind_named, config_of, opening_of};
 ghost use Rattle.script_text.specs.Numbers.{number, max_u32, max_u64, time_limit, switch};
 
 use crate::draw::drawn;
@@ -13,7 +14,7 @@ use crate::number::{number_u32, number_u64, switch, time_limit};
 use crate::word::Word;
 use crate::words::cut;
 use containers::{Bytes, Seq};
-use driver_model::{Config, SessionKind};
+use driver_model::{AddressWords, Config, ConnectionWords, SessionKind};
 use std::alloc::{AllocError, Global};
 
 /// Whether this is a key of one multiplexed connection.
@@ -231,13 +232,21 @@ fn are_allowed(words: &[Word<'_>]) -> bool
     allows_optional(words) && allows_switches(words)
 }
 
-/// The configuration of this kind with this URL, and with what words give it beside that.
-fn config_with(kind: SessionKind, words: &[Word<'_>], url: Bytes) -> Config
-    ensures { result ≡ config_with kind words.now url }
+/// The address with this URL, and with what words give it beside that.
+fn address_with(words: &[Word<'_>], url: Bytes) -> AddressWords
+    ensures { result ≡ address_with words.now url }
 {
-    Config {
-        kind,
+    AddressWords {
         url,
+        lib: switch_of(words, b"lib"),
+    }
+}
+
+/// What words give of how a multiplexed connection behaves.
+fn connection_with(words: &[Word<'_>]) -> ConnectionWords
+    ensures { result ≡ connection_with words.now }
+{
+    ConnectionWords {
         connect: time_of(words, b"connect"),
         response: time_of(words, b"response"),
         limit: number_of(words, b"limit"),
@@ -245,7 +254,21 @@ fn config_with(kind: SessionKind, words: &[Word<'_>], url: Bytes) -> Config
         boundary: large_number_of(words, b"boundary"),
         push: switch_of(words, b"push"),
         creds: switch_of(words, b"creds"),
-        lib: switch_of(words, b"lib"),
+    }
+}
+
+/// The configuration of this kind with this URL, and with what words give it beside that.
+fn config_with(kind: SessionKind, words: &[Word<'_>], url: Bytes) -> Config
+    ensures { result ≡ config_with kind words.now url }
+{
+    let address = address_with(words, url);
+    match kind {
+        SessionKind::Single => Config::Single {
+            address,
+            connection: connection_with(words),
+        },
+        SessionKind::PubSub => Config::PubSub { address },
+        SessionKind::Monitor => Config::Monitor { address },
     }
 }
 

@@ -337,6 +337,8 @@ not_room (Some wait.Room) other = absurd (other refl)
 not_room (Some wait.Connect) other = refl
 not_room (Some wait.Creds) other = refl
 not_room (Some wait.Setup) other = refl
+not_room (Some wait.Resubscribe) other = refl
+not_room (Some wait.Backoff) other = refl
 not_room (Some wait.Permit) other = refl
 not_room (Some wait.Place) other = refl
 

@@ -15,7 +15,7 @@ use Rattle.driver_model.specs.declared.action.Cause.TheVariants as cause
 use Rattle.driver_model.specs.declared.event.EventKind.{EventKind}
 use Rattle.driver_model.specs.declared.event.EventKind.TheVariants as event
 use Rattle.driver_model.specs.declared.news.LinkFault.TheVariants as fault
-use Rattle.driver_model.specs.News.{News, silence, connected, took, came, failed, authorized, denied, deserted, shut, for_link, news_of, refused, overdue, of_timer, renewed, unrenewed, late, of_source, dropped}
+use Rattle.driver_model.specs.News.{News, silence, connected, took, came, failed, authorized, denied, deserted, shut, for_link, news_of, refused, overdue, of_timer, renewed, unrenewed, late, unrepeated, of_source, dropped}
 use Rattle.driver_model.specs.declared.outcome.Outcome.TheVariants as outcome
 use Rattle.link_core.specs.Link.{LinkState}
 use Rattle.link_laws.proofs.TiedLink.{TiedLink}
@@ -116,6 +116,8 @@ elsewhere_fired link count m n timers aims other = by_timer (slice_get timers n)
     by_timer (Some (purpose.Connect l)) e = left_if (l == m) overdue silence (ne_test l m (λ same. other (sym same ∙ aims n (purpose.Connect l) e)))
     by_timer (Some (purpose.Response who)) e = refl
     by_timer (Some (purpose.Renewal l k)) e = left_if (l == m) (late k) silence (ne_test l m (λ same. other (sym same ∙ aims n (purpose.Renewal l k) e)))
+    by_timer (Some (purpose.Backoff g)) e = refl
+    by_timer (Some (purpose.Resubscription l)) e = absurd (aims n (purpose.Resubscription l) e)
 
 -- nor of a source of credentials
 elsewhere_given : (link m n : ℕ) (sources : List SourceUse) (first later : News) → AreUses sources link → m ≢ link → of_source m (slice_get sources n) first later ≡ silence
@@ -197,6 +199,7 @@ heard_starts l turn (authorized c) = chosen (λ (x : Ledger). x.starts ≡ l.sta
 heard_starts l turn (renewed c) = chosen (λ (x : Ledger). x.starts ≡ l.starts) (may_renew l) (renewed_by l c) l (λ t. refl) (λ f. refl)
 heard_starts l turn unrenewed = chosen (λ (x : Ledger). x.starts ≡ l.starts) l.up (unrenewed_by l) l (λ t. refl) (λ f. refl)
 heard_starts l turn (late k) = chosen (λ (x : Ledger). x.starts ≡ l.starts) (l.up && is_renewal_open l k) (lost_by l) l (λ t. refl) (λ f. refl)
+heard_starts l turn unrepeated = refl
 heard_starts l turn (denied text) = refl
 heard_starts l turn deserted = refl
 heard_starts l turn dropped = refl
@@ -339,8 +342,11 @@ aims_longer timers link count more l h k what e = by_purpose what (h k what e)
     by_purpose (purpose.Connect m) is = is
     by_purpose (purpose.Response owner.Setup) is = absurd is
     by_purpose (purpose.Response owner.Auth) is = absurd is
+    by_purpose (purpose.Response owner.Resub) is = absurd is
     by_purpose (purpose.Response owner.Monitor) is = absurd is
     by_purpose (purpose.Renewal m k) is = is
+    by_purpose (purpose.Backoff g) is = absurd is
+    by_purpose (purpose.Resubscription m) is = absurd is
     by_purpose (purpose.Response (owner.Try n round)) is = (let less = is.0 in omega arith, is.1)
 
 -- what the session needs of the life, and of the new credentials, that the turn leads to, by the ledger that its link has come
@@ -445,6 +451,7 @@ sources_hear l turn deserted = refl
 sources_hear l turn (renewed c) = chosen (λ (x : Ledger). sources_asked_in x.creds ≡ sources_asked_in l.creds) (may_renew l) (renewed_by l c) l (λ t. refl) (λ f. refl)
 sources_hear l turn unrenewed = chosen (λ (x : Ledger). sources_asked_in x.creds ≡ sources_asked_in l.creds) l.up (unrenewed_by l) l (λ t. refl) (λ f. refl)
 sources_hear l turn (late k) = chosen (λ (x : Ledger). sources_asked_in x.creds ≡ sources_asked_in l.creds) (l.up && is_renewal_open l k) (lost_by l) l (λ t. refl) (λ f. refl)
+sources_hear l turn unrepeated = refl
 sources_hear l turn dropped = refl
 sources_hear l turn shut = refl
 
@@ -463,6 +470,7 @@ timed_hear l turn deserted = refl
 timed_hear l turn (renewed c) = chosen (λ (x : Ledger). x.creds.timed ≡ l.creds.timed) (may_renew l) (renewed_by l c) l (λ t. refl) (λ f. refl)
 timed_hear l turn unrenewed = chosen (λ (x : Ledger). x.creds.timed ≡ l.creds.timed) l.up (unrenewed_by l) l (λ t. refl) (λ f. refl)
 timed_hear l turn (late k) = chosen (λ (x : Ledger). x.creds.timed ≡ l.creds.timed) (l.up && is_renewal_open l k) (lost_by l) l (λ t. refl) (λ f. refl)
+timed_hear l turn unrepeated = refl
 timed_hear l turn dropped = refl
 timed_hear l turn shut = refl
 
@@ -481,6 +489,7 @@ renews_hear l turn deserted = refl
 renews_hear l turn (renewed c) = chosen (λ (x : Ledger). x.creds.renews ≡ l.creds.renews) (may_renew l) (renewed_by l c) l (λ t. refl) (λ f. refl)
 renews_hear l turn unrenewed = chosen (λ (x : Ledger). x.creds.renews ≡ l.creds.renews) l.up (unrenewed_by l) l (λ t. refl) (λ f. refl)
 renews_hear l turn (late k) = chosen (λ (x : Ledger). x.creds.renews ≡ l.creds.renews) (l.up && is_renewal_open l k) (lost_by l) l (λ t. refl) (λ f. refl)
+renews_hear l turn unrepeated = refl
 renews_hear l turn dropped = refl
 renews_hear l turn shut = refl
 

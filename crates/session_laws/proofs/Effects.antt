@@ -59,7 +59,10 @@ fired before c started word n (purpose.Renewal l k) h good is =
     let own : news_of c.timers c.sources c.single.link (event.Fired n) ≡ late k = ap (of_timer c.single.link) is ∙ taken_if (l == c.single.link) (late k) silence (eq_test l c.single.link (h.sound.tied.numbers.aims n (purpose.Renewal l k) is)) in
     by_news before c started word (event.Fired n) (news_of c.timers c.sources c.single.link (event.Fired n)) (late k) own (renewal_late before c started word (event.Fired n) k h good (λ m. ap (is_clock_of m) is) own)
 fired before c started word n (purpose.Response owner.Setup) h good is = absurd (h.sound.tied.numbers.aims n (purpose.Response owner.Setup) is)
+fired before c started word n (purpose.Response owner.Resub) h good is = absurd (h.sound.tied.numbers.aims n (purpose.Response owner.Resub) is)
 fired before c started word n (purpose.Response owner.Monitor) h good is = absurd (h.sound.tied.numbers.aims n (purpose.Response owner.Monitor) is)
+fired before c started word n (purpose.Backoff g) h good is = absurd (h.sound.tied.numbers.aims n (purpose.Backoff g) is)
+fired before c started word n (purpose.Resubscription l) h good is = absurd (h.sound.tied.numbers.aims n (purpose.Resubscription l) is)
 fired before c started word n (purpose.Response (owner.Try m round)) h good is =
     let aim : (m < length c.table) × (round ≡ 0) = h.sound.tied.numbers.aims n (purpose.Response (owner.Try m round)) is in
     let first = is ∙ ap (λ k. Some (purpose.Response (owner.Try m k))) aim.1 in

@@ -22,7 +22,7 @@ use Rattle.driver_model.specs.declared.news.LinkFault.{LinkFault}
 use Rattle.driver_model.specs.declared.news.LinkFault.TheVariants as fault
 use Rattle.driver_model.specs.declared.outcome.Outcome.{Outcome}
 use Rattle.driver_model.specs.declared.outcome.Outcome.TheVariants as outcome
-use Rattle.driver_model.specs.News.{News, silence, connected, refused, overdue, took, came, failed, authorized, denied, deserted, renewed, unrenewed, late, shut, news_of, dropped}
+use Rattle.driver_model.specs.News.{News, silence, connected, refused, overdue, took, came, failed, authorized, denied, deserted, renewed, unrenewed, late, unrepeated, shut, news_of, dropped}
 use Rattle.link_core.specs.declared.message.NoticeAt.{NoticeAt}
 use Rattle.link_core.specs.declared.message.Settled.{Settled}
 use Rattle.link_core.specs.declared.message.Started.{Started}
@@ -252,6 +252,7 @@ applied_asked n w deserted h = unauthorized_asked n w (error.AuthFailed []) w.co
 applied_asked n w (renewed c) h = chosen (λ (x : MultiplexedConnection). x.renewal.asked ≡ n) (is_ready w.conn.life && takes_more w.conn.renewal) _ w.conn (λ t. h) (λ f. h)
 applied_asked n w unrenewed h = h
 applied_asked n w (late k) h = chosen (λ (x : MultiplexedConnection). x.renewal.asked ≡ n) (is_unanswered w.conn.renewal k) _ w.conn (λ t. h) (λ f. h)
+applied_asked n w unrepeated h = h
 applied_asked n w dropped h = dropped_asked n w h
 applied_asked n w shut h = shut_asked n w w.conn.life h
 
@@ -279,8 +280,11 @@ fired_asked n t None h = h
 fired_asked n t (Some (purpose.Connect l)) h = h
 fired_asked n t (Some (purpose.Response owner.Setup)) h = h
 fired_asked n t (Some (purpose.Response owner.Auth)) h = h
+fired_asked n t (Some (purpose.Response owner.Resub)) h = h
 fired_asked n t (Some (purpose.Response owner.Monitor)) h = h
 fired_asked n t (Some (purpose.Renewal l k)) h = h
+fired_asked n t (Some (purpose.Backoff g)) h = h
+fired_asked n t (Some (purpose.Resubscription l)) h = h
 fired_asked n t (Some (purpose.Response (owner.Try m round))) h = late_asked n t (slice_get t.core.table m) h
 
 -- a submission

@@ -7,7 +7,7 @@ use Rattle.driver_model.specs.declared.action.Action.{Action}
 use Rattle.connection_info.specs.declared.address.RedisConnectionInfo.{RedisConnectionInfo}
 use Rattle.driver_model.specs.declared.action.Purpose.{Purpose}
 use Rattle.driver_model.specs.declared.event.EventKind.{EventKind}
-use Rattle.driver_model.specs.News.{News, silence, connected, took, came, failed, authorized, denied, deserted, shut, news_of, refused, overdue, renewed, unrenewed, late, dropped}
+use Rattle.driver_model.specs.News.{News, silence, connected, took, came, failed, authorized, denied, deserted, shut, news_of, refused, overdue, renewed, unrenewed, late, unrepeated, dropped}
 use Rattle.driver_model.specs.declared.outcome.Outcome.TheVariants as outcome
 use Rattle.link_core.specs.Link.{LinkState}
 use Rattle.link_laws.proofs.TiedLink.{TiedLink, told_tied, unheard_tied}
@@ -155,6 +155,7 @@ creds_still l turn deserted (inl k) = refl
 creds_still l turn (renewed c) (inl k) = absurd k
 creds_still l turn unrenewed (inl k) = absurd k
 creds_still l turn (late m) (inl k) = absurd k
+creds_still l turn unrepeated (inl k) = refl
 creds_still l turn dropped (inl k) = refl
 creds_still l turn shut (inl k) = refl
 
@@ -173,6 +174,7 @@ dealt_still l turn deserted k = refl
 dealt_still l turn (renewed c) k = chosen (λ (x : Ledger). x.dealt ≡ l.dealt) (may_renew l) (renewed_by l c) l (λ t. refl) (λ f. refl)
 dealt_still l turn unrenewed k = chosen (λ (x : Ledger). x.dealt ≡ l.dealt) l.up (unrenewed_by l) l (λ t. refl) (λ f. refl)
 dealt_still l turn (late m) k = chosen (λ (x : Ledger). x.dealt ≡ l.dealt) (l.up && is_renewal_open l m) (lost_by l) l (λ t. refl) (λ f. refl)
+dealt_still l turn unrepeated k = refl
 dealt_still l turn dropped k = refl
 dealt_still l turn shut k = refl
 
@@ -197,6 +199,7 @@ none_new l turn deserted other = (refl, refl, refl, refl)
 none_new l turn (renewed c) other = absurd (other tt)
 none_new l turn unrenewed other = absurd (other tt)
 none_new l turn (late m) other = absurd (other tt)
+none_new l turn unrepeated other = (refl, refl, refl, refl)
 none_new l turn dropped other = (refl, refl, refl, refl)
 none_new l turn shut other = (refl, refl, refl, refl)
 
@@ -275,6 +278,7 @@ ended_hears l created e turn (authorized c) h = subst (λ (x : Ledger). TiedLife
 ended_hears l created e turn (renewed c) h = if_false (λ (x : Ledger). TiedLife x created (Ended e)) (may_renew l) (renewed_by l c) l (down_may_renew l h.0) h
 ended_hears l created e turn unrenewed h = if_false (λ (x : Ledger). TiedLife x created (Ended e)) l.up (unrenewed_by l) l h.0 h
 ended_hears l created e turn (late m) h = if_false (λ (x : Ledger). TiedLife x created (Ended e)) (l.up && is_renewal_open l m) (lost_by l) l (ap (λ u. u && is_renewal_open l m) h.0) h
+ended_hears l created e turn unrepeated h = h
 ended_hears l created e turn (denied text) h = h
 ended_hears l created e turn deserted h = h
 ended_hears l created e turn dropped h = h
@@ -318,6 +322,7 @@ IsOfAnother deserted = Unit {0}
 IsOfAnother (renewed c) = ⊥
 IsOfAnother unrenewed = ⊥
 IsOfAnother (late m) = ⊥
+IsOfAnother unrepeated = ⊥
 IsOfAnother silence = ⊥
 IsOfAnother (refused f) = ⊥
 IsOfAnother overdue = ⊥
@@ -338,6 +343,7 @@ dialing_hears l created turn (authorized c) k h = subst (λ (x : Ledger). TiedLi
 dialing_hears l created turn (renewed c) k h = absurd k
 dialing_hears l created turn unrenewed k h = absurd k
 dialing_hears l created turn (late m) k h = absurd k
+dialing_hears l created turn unrepeated k h = absurd k
 dialing_hears l created turn (denied text) k h = h
 dialing_hears l created turn deserted k h = h
 dialing_hears l created turn dropped k h = absurd k
@@ -356,6 +362,7 @@ asked_on l (authorized c) k = refl
 asked_on l (renewed c) k = refl
 asked_on l unrenewed k = refl
 asked_on l (late m) k = refl
+asked_on l unrepeated k = refl
 asked_on l (denied text) k = refl
 asked_on l deserted k = refl
 asked_on l dropped k = absurd k

@@ -73,8 +73,11 @@ fired_still t None = (refl, refl, refl)
 fired_still t (Some (purpose.Connect l)) = (refl, refl, refl)
 fired_still t (Some (purpose.Response owner.Setup)) = (refl, refl, refl)
 fired_still t (Some (purpose.Response owner.Auth)) = (refl, refl, refl)
+fired_still t (Some (purpose.Response owner.Resub)) = (refl, refl, refl)
 fired_still t (Some (purpose.Response owner.Monitor)) = (refl, refl, refl)
 fired_still t (Some (purpose.Renewal l k)) = (refl, refl, refl)
+fired_still t (Some (purpose.Backoff g)) = (refl, refl, refl)
+fired_still t (Some (purpose.Resubscription l)) = (refl, refl, refl)
 fired_still t (Some (purpose.Response (owner.Try n round))) = late_still t (slice_get t.core.table n)
 
 -- and so does any event

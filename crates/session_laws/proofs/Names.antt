@@ -21,7 +21,6 @@ use Rattle.driver_model.specs.Config as Configs
 use Rattle.driver_model.specs.declared.config.Config.{Config}
 use Rattle.driver_model.specs.declared.event.Submission.{Submission}
 use Rattle.driver_model.specs.Request.{has_no_form}
-use Rattle.std.specs.Prelude.{unwrap_or}
 
 -- what stands at a place within
 pub get_some : {X : Type 0} (xs : List X) (n : ℕ) → n < length xs → (x : X) × (slice_get xs n ≡ Some x)
@@ -268,7 +267,7 @@ asked_unwatched b t p h within = by_test (is_watching (b.link t.link).hearing) _
     (λ f. f)
 
 -- what is put into monitor mode is a session of that kind
-pub watching_kind : (is : SessionKind) (pushes : Bool) → is_watching (Configs.hearing_in is pushes) ≡ true → is ≡ session.Monitor
+watching_kind : (is : SessionKind) (pushes : Bool) → is_watching (Configs.hearing_in is pushes) ≡ true → is ≡ session.Monitor
 watching_kind session.Single true w = cc
 watching_kind session.Single false w = cc
 watching_kind session.PubSub pushes w = cc
@@ -276,7 +275,7 @@ watching_kind session.Monitor pushes w = refl
 
 watching_book : (config : Option Config) → is_watching (hearing_in config) ≡ true → kind_in config ≡ session.Monitor
 watching_book None w = cc
-watching_book (Some config) w = watching_kind config.kind (unwrap_or config.push false) w
+watching_book (Some config) w = watching_kind (Configs.kind_of config) (Configs.wants_pushes config) w
 
 -- which nothing is submitted to
 pub submits_unwatched : (b : Book) (t : Inner) (what : Submission) → Tied b t → has_no_form t.kind what ≡ false → is_watching t.hears ≡ true → ⊥

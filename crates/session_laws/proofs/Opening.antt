@@ -8,7 +8,9 @@ use Rattle.redis_error.specs.declared.config_name.ConfigName.TheVariants as name
 use Rattle.driver_model.specs.declared.action.Action.TheVariants as action
 use Rattle.driver_model.specs.declared.action.Cause.TheVariants as cause
 use Rattle.driver_model.specs.declared.config.Config.{Config}
-use Rattle.driver_model.specs.Config.{address, boundary, buffer_fault, buffer_size, connect_timeout, fault_in, response_timeout, room_fault, told_info, hearing_of, has_line, permits, wants_credentials}
+use Rattle.driver_model.specs.declared.config.Config.TheVariants as variant
+use Rattle.driver_model.specs.declared.kind.SessionKind.TheVariants as kind
+use Rattle.driver_model.specs.Config.{address, boundary, kind_of, buffer_fault, buffer_size, connect_timeout, fault_in, response_timeout, room_fault, told_info, hearing_of, hearing_in, permits, wants_credentials}
 use Rattle.driver_model.specs.declared.action.Action.{Action}
 use Rattle.driver_model.specs.declared.action.Cause.{Cause}
 use Rattle.driver_model.specs.declared.action.Purpose.{Purpose}
@@ -30,9 +32,7 @@ use Rattle.session_laws.proofs.Waits.{IsQuiet}
 use Rattle.session_laws.proofs.Write.{is_written}
 use Rattle.connection_info.specs.Protocol.{is_resp3}
 use Rattle.mux_conn.specs.Renewals.{no_renewal}
-use Rattle.driver_model.specs.Hearing.{hears_pushes}
-use Rattle.driver_model.specs.Kind.{is_single}
-use Rattle.session_laws.proofs.Names.{watching_kind}
+use Rattle.driver_model.specs.Hearing.{hears_pushes, is_watching}
 
 -- what timers the opening has asked for
 abbrev asks_timers : List Purpose → Book → Book
@@ -45,7 +45,7 @@ opened config word info timers = asks_timers timers (entered (entered blank_book
 -- the session then
 abbrev opened_core : Config → List Purpose → Core
 opened_core config timers = record {
-  kind = config.kind;
+  kind = kind_of config;
   turns = 1;
   links = first_link + 1;
   shut = false;
@@ -104,6 +104,17 @@ sized : (info : ConnectionInfo) (heard : Bool) (limit : Option ℕ) (size : ℕ)
 sized info heard limit size =
     chosen (λ (x : Option ConfigName). x ≡ None → IsSized limit size) (heard && not (is_resp3 info.redis.protocol)) (Some name.Push) (room_fault limit size) (λ t e. absurd (no_fault name.Push e)) (λ n e. room_sized limit size e)
 
+-- no multiplexed connection is put into monitor mode
+single_unwatched : (pushes : Bool) → is_watching (hearing_in kind.Single pushes) ≡ true → ⊥
+single_unwatched true w = cc w
+single_unwatched false w = cc w
+
+-- and where the server is, no credentials come of sources
+unwanted_where_watched : (config : Config) → is_watching (hearing_of config) ≡ true → wants_credentials config ≡ false
+unwanted_where_watched (variant.Single address connection) w = absurd (single_unwatched (unwrap_or connection.push false) w)
+unwanted_where_watched (variant.PubSub address) w = refl
+unwanted_where_watched (variant.Monitor address) w = refl
+
 -- its numbers
 opening_numbers : (config : Config) (word : ℕ) (info : ConnectionInfo) (timeout : Option ℕ) → IsSized (permits config) (buffer_size config) → connect_timeout config ≡ timeout → TiedNumbers (opened config word info (connect_timers timeout)) (inner (opened_core config (connect_timers timeout)) [])
 opening_numbers config word info timeout some is = record {
@@ -121,7 +132,7 @@ opening_numbers config word info timeout some is = record {
   few = omega arith;
   settings = record { size_is = refl; bound_is = refl; limit_is = refl; some = some.some; limited = some.limited };
   kind_is = refl;
-  quiet = λ w. record { none = refl; unwanted = ap (λ is. is_single is && unwrap_or config.creds false) (watching_kind config.kind (unwrap_or config.push false) w); unrenewed = refl };
+  quiet = λ w. record { none = refl; unwanted = unwanted_where_watched config w; unrenewed = refl };
   one = refl;
   only = λ m less. omega arith;
 }
@@ -246,7 +257,7 @@ opened_between config word info timeout sound at some is =
 
 -- and after that of a sound configuration
 pub opening_between : (config : Config) (word : ℕ) → IsSound config → IsBetween (opening_actions config word) (opening_core config word)
-opening_between config word sound = by_line (has_line config) sound
+opening_between config word sound = by_address (address config) refl sound
   where
     heard : Bool
     heard = hears_pushes (hearing_of config)
@@ -255,7 +266,3 @@ opening_between config word sound = by_line (has_line config) sound
         → IsBetween (action.Turn 0 (cause.Opening config word) ∷ connect_asked x (connect_timeout config)) (opening_core config word)
     by_address None at none = cc
     by_address (Some info) at none = opened_between config word info (connect_timeout config) sound at (sized info heard (permits config) (buffer_size config) none) refl
-
-    by_line : (line : Bool) → (if not line then Some name.Kind else fault_in (address config) heard (permits config) (buffer_size config)) ≡ None → IsBetween (opening_actions config word) (opening_core config word)
-    by_line true none = by_address (address config) refl none
-    by_line false none = cc

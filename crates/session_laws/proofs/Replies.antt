@@ -70,6 +70,7 @@ auth_is : (o : Owner) → is_of_renewal o ≡ true → o ≡ owner.Auth
 auth_is owner.Auth e = refl
 auth_is owner.Setup e = cc
 auth_is (owner.Try n round) e = cc
+auth_is owner.Resub e = cc
 auth_is owner.Monitor e = cc
 
 -- and none is behind the last

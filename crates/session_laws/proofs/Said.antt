@@ -6,7 +6,7 @@ use Rattle.redis_error.specs.declared.redis_error.RedisError.TheVariants as erro
 use Rattle.connection_info.specs.declared.address.RedisConnectionInfo.{RedisConnectionInfo}
 use Rattle.connection_setup.specs.declared.judgement.SetupResult.TheVariants.{Failed}
 use Rattle.driver_model.specs.declared.action.Owner.TheVariants as owner
-use Rattle.driver_model.specs.News.{News, silence, connected, refused, overdue, took, came, failed, authorized, denied, deserted, shut, renewed, unrenewed, late, dropped}
+use Rattle.driver_model.specs.News.{News, silence, connected, refused, overdue, took, came, failed, authorized, denied, deserted, shut, renewed, unrenewed, late, unrepeated, dropped}
 use Rattle.link_core.specs.Link.{LinkState}
 use Rattle.link_laws.proofs.TiedLink.{TiedLink}
 use Rattle.mux_conn.specs.declared.life.Greeting.{Greeting}
@@ -120,6 +120,7 @@ BringsNothing (authorized c) = ⊥
 BringsNothing (renewed c) = ⊥
 BringsNothing unrenewed = ⊥
 BringsNothing (late k) = ⊥
+BringsNothing unrepeated = Unit {0}
 BringsNothing silence = Unit {0}
 BringsNothing connected = Unit {0}
 BringsNothing (refused f) = Unit {0}
@@ -154,6 +155,7 @@ setup_hears l turn (authorized c) info started life k h = absurd k
 setup_hears l turn (renewed c) info started life k h = absurd k
 setup_hears l turn unrenewed info started life k h = absurd k
 setup_hears l turn (late m) info started life k h = absurd k
+setup_hears l turn unrepeated info started life k h = setup_on l l.asked l.up l.end l.taken l.offer l.rest unrepeated info started life h
 setup_hears l turn (denied text) info started life k h = setup_on l l.asked l.up l.end l.taken l.offer l.rest (denied text) info started life h
 setup_hears l turn deserted info started life k h = setup_on l l.asked l.up l.end l.taken l.offer l.rest deserted info started life h
 setup_hears l turn dropped info started life k h = setup_on l l.asked l.up l.end l.taken l.offer l.rest dropped info started life h
@@ -177,6 +179,7 @@ setup_unheard l turn unrenewed info started life down h =
     if_false (λ (x : Ledger). TiedSetup (record x { heard = unrenewed }) info started life) l.up (unrenewed_by l) l down (setup_on l l.asked l.up l.end l.taken l.offer l.rest unrenewed info started life h)
 setup_unheard l turn (late m) info started life down h =
     if_false (λ (x : Ledger). TiedSetup (record x { heard = late m }) info started life) (l.up && is_renewal_open l m) (lost_by l) l (ap (λ u. u && is_renewal_open l m) down) (setup_on l l.asked l.up l.end l.taken l.offer l.rest (late m) info started life h)
+setup_unheard l turn unrepeated info started life down h = setup_hears l turn unrepeated info started life tt h
 setup_unheard l turn (denied text) info started life down h = setup_hears l turn (denied text) info started life tt h
 setup_unheard l turn deserted info started life down h = setup_hears l turn deserted info started life tt h
 setup_unheard l turn dropped info started life down h = setup_hears l turn dropped info started life tt h
@@ -216,6 +219,7 @@ pushes_hear l turn (authorized c) heard mine tame k h = chosen (λ (x : Ledger).
 pushes_hear l turn (renewed c) heard mine tame k h = chosen (λ (x : Ledger). PushesOf heard mine (record x { heard = renewed c })) (may_renew l) (renewed_by l c) l (λ t. renoticed tame h) (λ f. renoticed tame h)
 pushes_hear l turn unrenewed heard mine tame k h = chosen (λ (x : Ledger). PushesOf heard mine (record x { heard = unrenewed })) l.up (unrenewed_by l) l (λ t. renoticed tame h) (λ f. renoticed tame h)
 pushes_hear l turn (late m) heard mine tame k h = chosen (λ (x : Ledger). PushesOf heard mine (record x { heard = late m })) (l.up && is_renewal_open l m) (lost_by l) l (λ t. renoticed tame h) (λ f. renoticed tame h)
+pushes_hear l turn unrepeated heard mine tame k h = renoticed tame h
 pushes_hear l turn (denied text) heard mine tame k h = renoticed tame h
 pushes_hear l turn deserted heard mine tame k h = renoticed tame h
 pushes_hear l turn dropped heard mine tame k h = renoticed tame h
@@ -272,6 +276,7 @@ is_tame b t h none lives = by_news (b.link t.link).heard refl
     by_news (renewed c) e = other (renewed c) e refl
     by_news unrenewed e = other unrenewed e refl
     by_news (late k) e = other (late k) e refl
+    by_news unrepeated e = other unrepeated e refl
     by_news dropped e = other dropped e refl
     by_news shut e = other shut e refl
 

@@ -167,8 +167,11 @@ abbrev pub IsAim : Purpose → ℕ → ℕ → Type 0
 IsAim (purpose.Connect l) link count = l ≡ link
 IsAim (purpose.Response owner.Setup) link count = ⊥
 IsAim (purpose.Response owner.Auth) link count = ⊥
+IsAim (purpose.Response owner.Resub) link count = ⊥
 IsAim (purpose.Response owner.Monitor) link count = ⊥
 IsAim (purpose.Renewal l k) link count = l ≡ link
+IsAim (purpose.Backoff g) link count = ⊥
+IsAim (purpose.Resubscription l) link count = ⊥
 IsAim (purpose.Response (owner.Try n round)) link count = (n < count) × (round ≡ 0)
 
 -- all timers are
@@ -466,6 +469,7 @@ abbrev pub is_of_greeting : Owner → Bool
 is_of_greeting owner.Setup = true
 is_of_greeting owner.Monitor = true
 is_of_greeting owner.Auth = false
+is_of_greeting owner.Resub = false
 is_of_greeting (owner.Try n round) = false
 
 -- nothing but greetings has started

@@ -2,7 +2,7 @@
 use Rattle.std.proofs.Common.{◌≡◌, ◌+◌, ◌==◌, ◌&&◌, ℕ, Bool, true, false, List, [], ◌∷◌, ◌++◌, Option, Some, None, ◌∙◌, sym, ap, subst, if◌then◌else◌}
 use Rattle.std.specs.Prelude.{slice_get}
 use Rattle.containers.proofs.Choices.{chosen}
-use Rattle.driver_model.specs.News.{News, news_of, of_timer, of_source, overdue, silence, authorized, denied, deserted, renewed, unrenewed, late, came}
+use Rattle.driver_model.specs.News.{News, news_of, of_timer, of_source, overdue, silence, authorized, denied, deserted, renewed, unrenewed, late, unrepeated, came}
 use Rattle.resp_value.specs.declared.push_kind.PushKind.{PushKind}
 use Rattle.resp_value.specs.declared.value.Value.{Value}
 use Rattle.driver_model.specs.declared.push_info.PushInfo.{PushInfo}
@@ -56,6 +56,8 @@ timer_in o l turn (Some (purpose.Connect k)) h = chosen (λ news. IsOfferIn o (w
 timer_in o l turn (Some (purpose.Response who)) h = h
 timer_in o l turn (Some (purpose.Renewal k n)) h =
     chosen (λ news. IsOfferIn o (with_news l turn news)) (k == 0) (late n) silence (λ t. either_in o l (l.up && is_renewal_open l n) l.info (record l.creds { lost = true }) h) (λ f. h)
+timer_in o l turn (Some (purpose.Backoff g)) h = h
+timer_in o l turn (Some (purpose.Resubscription k)) h = chosen (λ news. IsOfferIn o (with_news l turn news)) (k == 0) unrepeated silence (λ t. h) (λ f. h)
 
 -- nor what comes of a source
 source_in : (o : Offer) (l : Ledger) (turn : ℕ) (asked : Option SourceUse) (first later : News) → IsOfferIn o l → IsOfferIn o (with_news l turn first) → IsOfferIn o (with_news l turn later)

@@ -85,6 +85,7 @@ impl Offer {
             LinkNews::Renewed { auth: _ } => self,
             LinkNews::Unrenewed => self,
             LinkNews::Late { number: _ } => self,
+            LinkNews::Unrepeated => self,
             LinkNews::Dropped => self,
             LinkNews::Shut => self,
         }

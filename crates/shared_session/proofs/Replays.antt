@@ -123,8 +123,11 @@ fired_turns t None = refl
 fired_turns t (Some (purpose.Connect l)) = refl
 fired_turns t (Some (purpose.Response owner.Setup)) = refl
 fired_turns t (Some (purpose.Response owner.Auth)) = refl
+fired_turns t (Some (purpose.Response owner.Resub)) = refl
 fired_turns t (Some (purpose.Response owner.Monitor)) = refl
 fired_turns t (Some (purpose.Renewal l k)) = refl
+fired_turns t (Some (purpose.Backoff g)) = refl
+fired_turns t (Some (purpose.Resubscription l)) = refl
 fired_turns t (Some (purpose.Response (owner.Try n round))) = late_turns t (slice_get t.core.table n)
 
 requested_turns : (t : Turning) (kind : EventKind) → (requested t kind).core.turns ≡ t.core.turns

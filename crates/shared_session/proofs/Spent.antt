@@ -69,8 +69,11 @@ fired_numbers t None = same_numbers t
 fired_numbers t (Some (purpose.Connect l)) = same_numbers t
 fired_numbers t (Some (purpose.Response owner.Setup)) = same_numbers t
 fired_numbers t (Some (purpose.Response owner.Auth)) = same_numbers t
+fired_numbers t (Some (purpose.Response owner.Resub)) = same_numbers t
 fired_numbers t (Some (purpose.Response owner.Monitor)) = same_numbers t
 fired_numbers t (Some (purpose.Renewal l k)) = same_numbers t
+fired_numbers t (Some (purpose.Backoff g)) = same_numbers t
+fired_numbers t (Some (purpose.Resubscription l)) = same_numbers t
 fired_numbers t (Some (purpose.Response (owner.Try n round))) = late_numbers t (slice_get t.core.table n)
 
 left_numbers : (t : Turning) (slot : Option (Option Pending)) → SameNumbers (left_by t slot) t

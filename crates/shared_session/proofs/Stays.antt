@@ -6,6 +6,7 @@ use Rattle.driver_model.specs.declared.action.Owner.TheVariants as owner
 use Rattle.driver_model.specs.declared.action.Purpose.{Purpose}
 use Rattle.driver_model.specs.declared.action.Purpose.TheVariants as purpose
 use Rattle.driver_model.specs.declared.config.Config.{Config}
+use Rattle.driver_model.specs.Config.{kind_of}
 use Rattle.driver_model.specs.declared.event.Event.{Event}
 use Rattle.driver_model.specs.declared.event.EventKind.{EventKind}
 use Rattle.driver_model.specs.declared.event.EventKind.TheVariants as event
@@ -39,8 +40,11 @@ fired_kind t None = refl
 fired_kind t (Some (purpose.Connect l)) = refl
 fired_kind t (Some (purpose.Response owner.Setup)) = refl
 fired_kind t (Some (purpose.Response owner.Auth)) = refl
+fired_kind t (Some (purpose.Response owner.Resub)) = refl
 fired_kind t (Some (purpose.Response owner.Monitor)) = refl
 fired_kind t (Some (purpose.Renewal l k)) = refl
+fired_kind t (Some (purpose.Backoff g)) = refl
+fired_kind t (Some (purpose.Resubscription l)) = refl
 fired_kind t (Some (purpose.Response (owner.Try n round))) = late_kind t (slice_get t.core.table n)
 
 timed_kind : (c : Core) (ms : Option ℕ) → (timed_by c ms).kind ≡ c.kind
@@ -74,6 +78,6 @@ run_on_kind c [] = refl
 run_on_kind c (e ∷ es) = run_on_kind (next_turn c e.kind).core es ∙ turn_kind c e.kind
 
 -- so where a history leads it is what it was opened as
-pub state_kind : (config : Config) (word : ℕ) (es : List Event) → (state_after config word es).kind ≡ config.kind
+pub state_kind : (config : Config) (word : ℕ) (es : List Event) → (state_after config word es).kind ≡ kind_of config
 unfolding state_after
 state_kind config word es = run_on_kind (opening_core config word) es

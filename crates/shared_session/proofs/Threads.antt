@@ -1,6 +1,7 @@
 -- A session may go to another thread, and threads may share it. With `crossing` a search proves the same of what holds sessions.
 use denote.Param.Send.{IsSend, IsSync}
 use Rattle.redis_error.specs.contracts.redis_error.RedisError as RedisError
+use Rattle.driver_model.specs.contracts.config.Config as Config
 use Rattle.driver_model.specs.contracts.event.Event as Event
 use Rattle.driver_model.specs.contracts.msg.Msg as Msg
 use Rattle.driver_model.specs.contracts.outcome.Outcome as Outcome
@@ -10,6 +11,12 @@ use Rattle.mux_conn.specs.contracts.act.LinkAct as Act
 use Rattle.shared_session.specs.contracts.core_state.Core as Core
 use Rattle.shared_session.specs.contracts.session.Session as Session
 use Rattle.shared_session.specs.contracts.showing.Done as Done
+
+config_send : IsSend Config.the_field.row
+config_send = search connections.crossing depth 60 fits 20000
+
+config_sync : IsSync Config.the_field.row
+config_sync = search connections.crossing depth 60 fits 20000
 
 event_send : IsSend Event.the_field.row
 event_send = search connections.crossing depth 60 fits 20000
@@ -60,9 +67,9 @@ done_sync : IsSync Done.the_field.row
 done_sync = search (outcome_sync, connections.crossing) depth 60 fits 20000
 
 pub session_send : IsSend Session.the_field.row
-session_send = search (event_send, outcome_send, core_send, act_send, done_send, connections.crossing) depth 60 fits 20000
+session_send = search (config_send, event_send, outcome_send, core_send, act_send, done_send, connections.crossing) depth 60 fits 20000
 
 pub session_sync : IsSync Session.the_field.row
-session_sync = search (event_sync, outcome_sync, core_sync, act_sync, done_sync, connections.crossing) depth 60 fits 20000
+session_sync = search (config_sync, event_sync, outcome_sync, core_sync, act_sync, done_sync, connections.crossing) depth 60 fits 20000
 
 pub ruleset crossing = (session_send, session_sync, connections.crossing)

@@ -8,7 +8,7 @@ use Rattle.driver_model.specs.declared.action.SourceUse.{SourceUse}
 use Rattle.driver_model.specs.declared.action.SourceUse.TheVariants as source
 use Rattle.driver_model.specs.declared.event.EventKind.{EventKind}
 use Rattle.driver_model.specs.declared.event.EventKind.TheVariants as event
-use Rattle.driver_model.specs.News.{News, silence, connected, refused, overdue, took, came, failed, authorized, denied, deserted, renewed, unrenewed, late, shut, for_link, of_timer, of_source, news_of}
+use Rattle.driver_model.specs.News.{News, silence, connected, refused, overdue, took, came, failed, authorized, denied, deserted, renewed, unrenewed, late, unrepeated, shut, for_link, of_timer, of_source, news_of}
 use Rattle.mux_conn.specs.declared.life.Life.{Life}
 use Rattle.mux_conn.specs.declared.life.Life.TheVariants.{Dialing, Wanting, SettingUp, Ready, Ended}
 use Rattle.mux_conn.specs.Effects.{IsWithin, CanTake}
@@ -35,6 +35,8 @@ timer_within life n None = tt
 timer_within life n (Some (purpose.Connect l)) = either_news (l == n) life overdue tt
 timer_within life n (Some (purpose.Response who)) = tt
 timer_within life n (Some (purpose.Renewal l k)) = either_news (l == n) life (late k) tt
+timer_within life n (Some (purpose.Backoff g)) = tt
+timer_within life n (Some (purpose.Resubscription l)) = either_news (l == n) life unrepeated tt
 
 source_within : (life : Life) (n : ℕ) (slot : Option SourceUse) (first later : News) → IsWithin life first → IsWithin life later → IsWithin life (of_source n slot first later)
 source_within life n None first later h k = tt

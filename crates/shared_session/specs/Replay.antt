@@ -12,7 +12,7 @@ use Rattle.driver_model.specs.declared.event.Event.{Event}
 use Rattle.driver_model.specs.declared.event.EventKind.{EventKind}
 use Rattle.driver_model.specs.declared.event.EventKind.TheVariants as event
 use Rattle.driver_model.specs.declared.outcome.Outcome.{Outcome}
-use Rattle.driver_model.specs.Config.{address, connect_timeout, response_timeout, buffer_size, boundary, permits, hearing_of, wants_credentials, told_info, first_fault}
+use Rattle.driver_model.specs.Config.{kind_of, address, connect_timeout, response_timeout, buffer_size, boundary, permits, hearing_of, wants_credentials, told_info, first_fault}
 use Rattle.mux_conn.specs.Renewals.{no_renewal}
 use Rattle.mux_conn.specs.Turn.{dialing}
 use Rattle.shared_session.specs.declared.core_state.Core.{Core}
@@ -30,7 +30,7 @@ connect_timers (Some ms) = purpose.Connect first_link ∷ []
 -- after turn 0: the first link was asked for, and its timer
 abbrev pub opening_core : Config → ℕ → Core
 opening_core config word = record {
-  kind = config.kind;
+  kind = kind_of config;
   turns = 1;
   links = first_link + 1;
   shut = false;
@@ -106,6 +106,8 @@ told os (action.Push l info) = os
 told os (action.Message m) = os
 told os (action.Monitor v) = os
 told os (action.NeedCreds c l) = os
+told os (action.Generation g) = os
+told os (action.Round who l) = os
 told os (action.Close l) = os
 told os (action.Write l bytes) = os
 told os (action.Wait who kind) = os

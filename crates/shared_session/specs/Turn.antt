@@ -115,8 +115,11 @@ fired_by t None = t
 fired_by t (Some (purpose.Connect l)) = t
 fired_by t (Some (purpose.Response owner.Setup)) = t
 fired_by t (Some (purpose.Response owner.Auth)) = t
+fired_by t (Some (purpose.Response owner.Resub)) = t
 fired_by t (Some (purpose.Response owner.Monitor)) = t
 fired_by t (Some (purpose.Renewal l k)) = t
+fired_by t (Some (purpose.Backoff g)) = t
+fired_by t (Some (purpose.Resubscription l)) = t
 fired_by t (Some (purpose.Response (owner.Try n round))) = late_by t (slice_get t.core.table n)
 
 -- a new time for the requests of a multiplexed connection

@@ -249,9 +249,14 @@ impl Core {
             } => Ok(()),
             Purpose::Response { owner: Owner::Auth } => Ok(()),
             Purpose::Response {
+                owner: Owner::Resub,
+            } => Ok(()),
+            Purpose::Response {
                 owner: Owner::Monitor,
             } => Ok(()),
             Purpose::Renewal { link: _, number: _ } => Ok(()),
+            Purpose::Backoff { generation: _ } => Ok(()),
+            Purpose::Resubscription { link: _ } => Ok(()),
             Purpose::Response {
                 owner: Owner::Try {
                     submission,

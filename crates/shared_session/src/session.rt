@@ -101,7 +101,7 @@ fn opened(alloc: Global, config: &Config, info: RedisConnectionInfo) -> Result<C
     let timers = opening_timers(alloc, config.connect_timeout())?;
     let renewal = Renewal::new(alloc, config.wants_credentials(), config.response_timeout());
     Ok(Core {
-        kind: config.kind,
+        kind: config.kind(),
         turns: 1,
         links: FIRST_LINK + 1,
         shut: false,

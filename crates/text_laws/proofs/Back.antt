@@ -1,14 +1,16 @@
 -- The configuration, the word and the events are read back from the words of their causes.
 use Rattle.std.proofs.Common.{◌≡◌, ℕ, Bool, true, false, ◌&&◌, ◌<◌, ◌^◌, ◌==◌, List, [], ◌∷◌, ◌++◌, All, Option, Some, None, map, option_map, option_and_then, decimal, codes, append_assoc, refl, sym, ap, ◌∙◌, subst, if◌then◌else◌, arith}
-use Rattle.std.proofs.lemmas.Bool.{and_parts}
 use Rattle.std.proofs.lemmas.List.Elements.{All-head, All-tail}
-use Rattle.std.specs.Prelude.{is_some, is_none}
+use Rattle.std.specs.Prelude.{is_some}
 use Rattle.std.specs.List.{list_all}
 use Rattle.driver_model.specs.declared.action.Cause.TheVariants as cause
 use Rattle.driver_model.specs.declared.config.Config.{Config}
+use Rattle.driver_model.specs.declared.config.Config.TheVariants as variant
+use Rattle.driver_model.specs.declared.config_words.AddressWords.{AddressWords}
+use Rattle.driver_model.specs.declared.config_words.ConnectionWords.{ConnectionWords}
 use Rattle.driver_model.specs.declared.kind.SessionKind.{SessionKind}
 use Rattle.driver_model.specs.declared.kind.SessionKind.TheVariants as kind
-use Rattle.driver_model.specs.Config.{config_of as given_alone, is_bare}
+use Rattle.driver_model.specs.Config.{kind_of}
 use Rattle.driver_model.specs.declared.event.Event.{Event}
 use Rattle.driver_model.specs.declared.event.EventKind.{EventKind}
 use Rattle.driver_model.specs.declared.event.EventKind.TheVariants as event
@@ -25,9 +27,9 @@ use Rattle.script_text.specs.Draws.{drawn}
 use Rattle.script_text.specs.EventLine.{by_first, commands, calls, requests, submissions, faults, fault_among, failed, others, events, drawing, event_of}
 use Rattle.script_text.specs.Words.{all_of}
 use Rattle.legal_trace.specs.Legal.{event_causes}
-use Rattle.trace_text.specs.Show.{url, draw_words, connect_words, response_words, buffer_words, limit_words, boundary_words, push_words, creds_words, lib_words, switch_words, times_words, numbers_words, later_words, config_words, time_word, first_of, behind_first, submission_words, submission_more, event_words, event_more}
+use Rattle.trace_text.specs.Show.{url, draw_words, connect_words, response_words, buffer_words, limit_words, boundary_words, push_words, creds_words, lib_words, switch_words, times_words, numbers_words, setting_words, config_words, time_word, first_of, behind_first, submission_words, submission_more, event_words, event_more}
 use Rattle.containers.proofs.Choices.{chosen, eq_from}
-use Rattle.text_laws.specs.Fits.{FitsSubmission, FitsKind, FitsEvent, FitsLimit, FitsNumber, FitsConfig, FitsHistory, HasLine, HasForm, WithForm, HaveForms}
+use Rattle.text_laws.specs.Fits.{FitsSubmission, FitsKind, FitsEvent, FitsLimit, FitsNumber, FitsConnection, FitsConfig, FitsHistory, HasForm, WithForm, HaveForms}
 use Rattle.text_laws.specs.History.{script_with, history_in}
 use Rattle.text_laws.proofs.Bytes.{number_back, decimal_is_no_none}
 use Rattle.text_laws.proofs.Turns.{cause_line}
@@ -321,26 +323,30 @@ lib_found (Some true) = refl
 lib_found (Some false) = refl
 
 -- what is found in the words of what is on or off
-abbrev switches_of : Config → Found
-switches_of c = with_push c.push (with_creds c.creds (with_lib c.lib (found_in [])))
+abbrev switches_of : ConnectionWords → Option Bool → Found
+switches_of c lib = with_push c.push (with_creds c.creds (with_lib lib (found_in [])))
 
-switches_found : (c : Config) → found_in (switch_words c) ≡ switches_of c
-switches_found c =
-    ap found_in (append_assoc (push_words c.push) (creds_words c.creds) (lib_words c.lib))
-    ∙ push_found c.push (creds_words c.creds ++ lib_words c.lib)
-    ∙ ap (with_push c.push) (creds_found c.creds (lib_words c.lib) ∙ ap (with_creds c.creds) (lib_found c.lib))
+-- those words
+abbrev switch_row : ConnectionWords → Option Bool → List (List ℕ)
+switch_row c lib = switch_words c ++ lib_words lib
+
+switches_found : (c : ConnectionWords) (lib : Option Bool) → found_in (switch_row c lib) ≡ switches_of c lib
+switches_found c lib =
+    ap found_in (append_assoc (push_words c.push) (creds_words c.creds) (lib_words lib))
+    ∙ push_found c.push (creds_words c.creds ++ lib_words lib)
+    ∙ ap (with_push c.push) (creds_found c.creds (lib_words lib) ∙ ap (with_creds c.creds) (lib_found lib))
 
 -- what is found in the words behind the address
-abbrev found_of : Config → Found
-found_of c = with_connect c.connect (with_response c.response (with_buffer c.buffer (with_limit c.limit (with_boundary c.boundary (switches_of c)))))
+abbrev found_of : ConnectionWords → Option Bool → Found
+found_of c lib = with_connect c.connect (with_response c.response (with_buffer c.buffer (with_limit c.limit (with_boundary c.boundary (switches_of c lib)))))
 
 -- the words behind the address, in a row
-abbrev in_a_row : Config → List (List ℕ)
-in_a_row c = connect_words c.connect ++ (response_words c.response ++ (buffer_words c.buffer ++ (limit_words c.limit ++ (boundary_words c.boundary ++ switch_words c))))
+abbrev in_a_row : ConnectionWords → Option Bool → List (List ℕ)
+in_a_row c lib = connect_words c.connect ++ (response_words c.response ++ (buffer_words c.buffer ++ (limit_words c.limit ++ (boundary_words c.boundary ++ switch_row c lib))))
 
-row_found : (c : Config) → found_in (in_a_row c) ≡ found_of c
-row_found c =
-    let bound = boundary_words c.boundary ++ switch_words c in
+row_found : (c : ConnectionWords) (lib : Option Bool) → found_in (in_a_row c lib) ≡ found_of c lib
+row_found c lib =
+    let bound = boundary_words c.boundary ++ switch_row c lib in
     let permits = limit_words c.limit ++ bound in
     let numbers = buffer_words c.buffer ++ permits in
     connect_found c.connect (response_words c.response ++ numbers)
@@ -351,30 +357,30 @@ row_found c =
     ∙ ap (with_buffer c.buffer)
     (limit_found c.limit bound
     ∙ ap (with_limit c.limit)
-    (boundary_found c.boundary (switch_words c)
-    ∙ ap (with_boundary c.boundary) (switches_found c)))))
+    (boundary_found c.boundary (switch_row c lib)
+    ∙ ap (with_boundary c.boundary) (switches_found c lib)))))
 
-later_row : (c : Config) → later_words c ≡ in_a_row c
-later_row c =
-    append_assoc (times_words c) (numbers_words c) (switch_words c)
-    ∙ append_assoc (connect_words c.connect) (response_words c.response) (numbers_words c ++ switch_words c)
+later_row : (c : ConnectionWords) (lib : Option Bool) → setting_words c ++ lib_words lib ≡ in_a_row c lib
+later_row c lib =
+    append_assoc (times_words c ++ numbers_words c) (switch_words c) (lib_words lib)
+    ∙ append_assoc (times_words c) (numbers_words c) (switch_row c lib)
+    ∙ append_assoc (connect_words c.connect) (response_words c.response) (numbers_words c ++ switch_row c lib)
     ∙ ap (λ t. connect_words c.connect ++ (response_words c.response ++ t))
-    (append_assoc (buffer_words c.buffer ++ limit_words c.limit) (boundary_words c.boundary) (switch_words c)
-    ∙ append_assoc (buffer_words c.buffer) (limit_words c.limit) (boundary_words c.boundary ++ switch_words c))
+    (append_assoc (buffer_words c.buffer ++ limit_words c.limit) (boundary_words c.boundary) (switch_row c lib)
+    ∙ append_assoc (buffer_words c.buffer) (limit_words c.limit) (boundary_words c.boundary ++ switch_row c lib))
 
 -- a configuration by what is read of its settings
 abbrev config_by : List ℕ → Setting (Option ℕ) → Setting (Option ℕ) → Setting ℕ → Setting ℕ → Setting ℕ → Setting Bool → Setting Bool → Setting Bool → Option Config
 config_by address connect response limit buffer boundary push creds lib =
     if ((connect.allowed && response.allowed) && (limit.allowed && (buffer.allowed && boundary.allowed))) && (push.allowed && (creds.allowed && lib.allowed))
-    then Some (record { kind = kind.Single; url = address; connect = connect.read; response = response.read; limit = limit.read; buffer = buffer.read; boundary = boundary.read; push = push.read; creds = creds.read; lib = lib.read }) else None
+    then Some (variant.Single (record { url = address; lib = lib.read })
+    (record { connect = connect.read; response = response.read; limit = limit.read; buffer = buffer.read; boundary = boundary.read; push = push.read; creds = creds.read })) else None
 
 -- a configuration by what is found in the words behind its address
 abbrev config_found : List ℕ → Found → Option Config
 config_found address f =
     if f.are && (((allows time_limit f.connect && allows time_limit f.response) && (allows (number max_u32) f.limit && (allows (number max_u32) f.buffer && allows (number max_u64) f.boundary))) && (allows switch f.push && (allows switch f.creds && allows switch f.lib)))
-    then option_map (λ text. record {
-      kind = kind.Single;
-      url = text;
+    then option_map (λ text. variant.Single (record { url = text; lib = given switch f.lib }) (record {
       connect = given time_limit f.connect;
       response = given time_limit f.response;
       limit = given (number max_u32) f.limit;
@@ -382,87 +388,54 @@ config_found address f =
       boundary = given (number max_u64) f.boundary;
       push = given switch f.push;
       creds = given switch f.creds;
-      lib = given switch f.lib;
-    }) (only (address ∷ f.url)) else None
+    })) (only (address ∷ f.url)) else None
 
 -- what is read of the line of a configuration
 abbrev ReadBack : Config → Type 0
 ReadBack c = config_of (record { words = config_words c; more = [] }) ≡ Some c
 
 -- one multiplexed connection
-connection_back : (c : Config) → FitsConfig c → ReadBack (record c { kind = kind.Single })
+connection_back : (at : AddressWords) (c : ConnectionWords) → FitsConnection c → ReadBack (variant.Single at c)
 unfolding url config_of
-connection_back c fits =
-    ap (config_found c.url) (ap found_in (later_row c) ∙ row_found c)
-    ∙ ap (λ s. config_by c.url s (time_given c.response) (small_given c.limit) (small_given c.buffer) (long_given c.boundary) (switch_given c.push) (switch_given c.creds) (switch_given c.lib)) (limit_back c.connect fits.connect)
-    ∙ ap (λ s. config_by c.url (as_given c.connect) s (small_given c.limit) (small_given c.buffer) (long_given c.boundary) (switch_given c.push) (switch_given c.creds) (switch_given c.lib)) (limit_back c.response fits.response)
-    ∙ ap (λ s. config_by c.url (as_given c.connect) (as_given c.response) s (small_given c.buffer) (long_given c.boundary) (switch_given c.push) (switch_given c.creds) (switch_given c.lib)) (small_back c.limit fits.limit)
-    ∙ ap (λ s. config_by c.url (as_given c.connect) (as_given c.response) (as_given c.limit) s (long_given c.boundary) (switch_given c.push) (switch_given c.creds) (switch_given c.lib)) (small_back c.buffer fits.buffer)
-    ∙ ap (λ s. config_by c.url (as_given c.connect) (as_given c.response) (as_given c.limit) (as_given c.buffer) s (switch_given c.push) (switch_given c.creds) (switch_given c.lib)) (long_back c.boundary fits.boundary)
-    ∙ ap (λ s. config_by c.url (as_given c.connect) (as_given c.response) (as_given c.limit) (as_given c.buffer) (as_given c.boundary) s (switch_given c.creds) (switch_given c.lib)) (switch_back c.push)
-    ∙ ap (λ s. config_by c.url (as_given c.connect) (as_given c.response) (as_given c.limit) (as_given c.buffer) (as_given c.boundary) (as_given c.push) s (switch_given c.lib)) (switch_back c.creds)
-    ∙ ap (λ s. config_by c.url (as_given c.connect) (as_given c.response) (as_given c.limit) (as_given c.buffer) (as_given c.boundary) (as_given c.push) (as_given c.creds) s) (switch_back c.lib)
-
--- the configuration of a link with this address
-abbrev link_at : SessionKind → List ℕ → Option Bool → Config
-link_at k address lib = record (given_alone k address) { lib = lib }
+connection_back at c fits =
+    let address = at.url in
+    let lib = at.lib in
+    ap (config_found address) (ap found_in (later_row c lib) ∙ row_found c lib)
+    ∙ ap (λ s. config_by address s (time_given c.response) (small_given c.limit) (small_given c.buffer) (long_given c.boundary) (switch_given c.push) (switch_given c.creds) (switch_given lib)) (limit_back c.connect fits.connect)
+    ∙ ap (λ s. config_by address (as_given c.connect) s (small_given c.limit) (small_given c.buffer) (long_given c.boundary) (switch_given c.push) (switch_given c.creds) (switch_given lib)) (limit_back c.response fits.response)
+    ∙ ap (λ s. config_by address (as_given c.connect) (as_given c.response) s (small_given c.buffer) (long_given c.boundary) (switch_given c.push) (switch_given c.creds) (switch_given lib)) (small_back c.limit fits.limit)
+    ∙ ap (λ s. config_by address (as_given c.connect) (as_given c.response) (as_given c.limit) s (long_given c.boundary) (switch_given c.push) (switch_given c.creds) (switch_given lib)) (small_back c.buffer fits.buffer)
+    ∙ ap (λ s. config_by address (as_given c.connect) (as_given c.response) (as_given c.limit) (as_given c.buffer) s (switch_given c.push) (switch_given c.creds) (switch_given lib)) (long_back c.boundary fits.boundary)
+    ∙ ap (λ s. config_by address (as_given c.connect) (as_given c.response) (as_given c.limit) (as_given c.buffer) (as_given c.boundary) s (switch_given c.creds) (switch_given lib)) (switch_back c.push)
+    ∙ ap (λ s. config_by address (as_given c.connect) (as_given c.response) (as_given c.limit) (as_given c.buffer) (as_given c.boundary) (as_given c.push) s (switch_given lib)) (switch_back c.creds)
+    ∙ ap (λ s. config_by address (as_given c.connect) (as_given c.response) (as_given c.limit) (as_given c.buffer) (as_given c.boundary) (as_given c.push) (as_given c.creds) s) (switch_back lib)
 
 -- a link of publish/subscribe
-pubsub_back : (address : List ℕ) (lib : Option Bool) → ReadBack (link_at kind.PubSub address lib)
+pubsub_back : (address : List ℕ) (lib : Option Bool) → ReadBack (variant.PubSub (record { url = address; lib = lib }))
 unfolding url config_of
 pubsub_back address None = refl
 pubsub_back address (Some true) = refl
 pubsub_back address (Some false) = refl
 
 -- and one of monitor mode
-monitor_back : (address : List ℕ) (lib : Option Bool) → ReadBack (link_at kind.Monitor address lib)
+monitor_back : (address : List ℕ) (lib : Option Bool) → ReadBack (variant.Monitor (record { url = address; lib = lib }))
 unfolding url config_of
 monitor_back address None = refl
 monitor_back address (Some true) = refl
 monitor_back address (Some false) = refl
 
-is_missing : {A : Type 0} (o : Option A) → is_none o ≡ true → o ≡ None
-is_missing None is = refl
-is_missing (Some a) is = cc is
-
--- a configuration of which nothing else is given
-bare_is : (c : Config) → is_bare c ≡ true → c ≡ link_at c.kind c.url c.lib
-bare_is c bare =
-    let creds = and_parts (is_none c.connect && is_none c.response && is_none c.limit && is_none c.buffer && is_none c.boundary && is_none c.push) (is_none c.creds) bare in
-    let push = and_parts (is_none c.connect && is_none c.response && is_none c.limit && is_none c.buffer && is_none c.boundary) (is_none c.push) creds.0 in
-    let boundary = and_parts (is_none c.connect && is_none c.response && is_none c.limit && is_none c.buffer) (is_none c.boundary) push.0 in
-    let buffer = and_parts (is_none c.connect && is_none c.response && is_none c.limit) (is_none c.buffer) boundary.0 in
-    let limit = and_parts (is_none c.connect && is_none c.response) (is_none c.limit) buffer.0 in
-    let times = and_parts (is_none c.connect) (is_none c.response) limit.0 in
-    λ i. record {
-      kind = c.kind;
-      url = c.url;
-      connect = is_missing c.connect times.0 i;
-      response = is_missing c.response times.1 i;
-      limit = is_missing c.limit limit.1 i;
-      buffer = is_missing c.buffer buffer.1 i;
-      boundary = is_missing c.boundary boundary.1 i;
-      push = is_missing c.push push.1 i;
-      creds = is_missing c.creds creds.1 i;
-      lib = c.lib;
-    }
-
--- a configuration of this kind that has a line
-back_by : (k : SessionKind) (c : Config) → FitsConfig c → HasLine (record c { kind = k }) → ReadBack (record c { kind = k })
-back_by kind.Single c fits line = connection_back c fits
-back_by kind.PubSub c fits line = subst ReadBack (sym (bare_is (record c { kind = kind.PubSub }) line)) (pubsub_back c.url c.lib)
-back_by kind.Monitor c fits line = subst ReadBack (sym (bare_is (record c { kind = kind.Monitor }) line)) (monitor_back c.url c.lib)
-
-config_back : (c : Config) → FitsConfig c → HasLine c → ReadBack c
-config_back c fits line = back_by c.kind c fits line
+config_back : (c : Config) → FitsConfig c → ReadBack c
+config_back (variant.Single address connection) fits = connection_back address connection fits.1
+config_back (variant.PubSub address) fits = pubsub_back address.url address.lib
+config_back (variant.Monitor address) fits = monitor_back address.url address.lib
 
 config_undrawn : (config : Config) → IsUndrawn (config_words config)
 config_undrawn config = refl
 
-pub opening_back : (config : Config) (word : ℕ) → FitsConfig config → HasLine config → word < 2 ^ 64 → opening_of (cause_line (cause.Opening config word)) ≡ Some (config, word)
-opening_back config word fits line small =
+pub opening_back : (config : Config) (word : ℕ) → FitsConfig config → word < 2 ^ 64 → opening_of (cause_line (cause.Opening config word)) ≡ Some (config, word)
+opening_back config word fits small =
     ap (option_and_then (λ d. option_map (λ c. (c, d.0)) (config_of (record { words = d.1; more = [] })))) (drawn_back word (config_words config) small (config_undrawn config))
-    ∙ ap (option_map (λ c. (c, word))) (config_back config fits line)
+    ∙ ap (option_map (λ c. (c, word))) (config_back config fits)
 
 events_back : (session : SessionKind) (events : List Event) → All FitsEvent events → All (WithForm session) events → all_of (map (event_of session) (map cause_line (event_causes events))) ≡ Some events
 events_back session [] fits forms = refl
@@ -474,5 +447,5 @@ events_back session (e ∷ es) fits forms =
 pub causes_back : (config : Config) (word : ℕ) (events : List Event) → FitsHistory config word events → HaveForms config events
     → history_in (map cause_line (cause.Opening config word ∷ event_causes events)) ≡ Some (record { config = config; word = word; events = events })
 causes_back config word events fits forms =
-    ap (option_and_then (λ opening. option_map (script_with opening) (all_of (map (event_of opening.0.kind) (map cause_line (event_causes events)))))) (opening_back config word fits.config forms.config fits.word)
-    ∙ ap (option_map (script_with (config, word))) (events_back config.kind events fits.events forms.events)
+    ap (option_and_then (λ opening. option_map (script_with opening) (all_of (map (event_of (kind_of opening.0)) (map cause_line (event_causes events)))))) (opening_back config word fits.config fits.word)
+    ∙ ap (option_map (script_with (config, word))) (events_back (kind_of config) events fits.events forms)

@@ -1,5 +1,5 @@
 -- The turns of a replay's trace are those of its history, and its text tells them.
-use Rattle.std.proofs.Common.{◌≡◌, ℕ, ◌+◌, Bool, true, false, not, if◌then◌else◌, List, [], ◌∷◌, ◌++◌, length, All, Option, Some, None, map, refl, ap, ◌∙◌, subst}
+use Rattle.std.proofs.Common.{◌≡◌, ℕ, ◌+◌, false, if◌then◌else◌, List, [], ◌∷◌, ◌++◌, length, All, Option, Some, None, map, refl, ap, ◌∙◌, subst}
 use Rattle.std.specs.Prelude.{option_and_then}
 use Rattle.std.proofs.lemmas.List.Elements.{All-nil, All-cons, All-head, All-tail, All-same}
 use Rattle.driver_model.specs.declared.action.Action.{Action}
@@ -8,10 +8,7 @@ use Rattle.driver_model.specs.declared.action.Cause.{Cause}
 use Rattle.driver_model.specs.declared.action.Cause.TheVariants as cause
 use Rattle.connection_info.specs.declared.address.ConnectionInfo.{ConnectionInfo}
 use Rattle.driver_model.specs.declared.config.Config.{Config}
-use Rattle.driver_model.specs.Config.{address, connect_timeout, hearing_of, permits, buffer_size, fault_in, has_line, first_fault}
-use Rattle.driver_model.specs.Hearing.{hears_pushes}
-use Rattle.redis_error.specs.declared.config_name.ConfigName.{ConfigName}
-use Rattle.redis_error.specs.declared.config_name.ConfigName.TheVariants as name
+use Rattle.driver_model.specs.Config.{address, connect_timeout}
 use Rattle.driver_model.specs.declared.event.Event.{Event}
 use Rattle.driver_model.specs.declared.event.EventKind.{EventKind}
 use Rattle.driver_model.specs.declared.event.EventKind.TheVariants as event
@@ -22,7 +19,7 @@ use Rattle.shared_session.specs.Turn.{next_turn, is_bad, shown_each, actions_of}
 use Rattle.shared_session.specs.Replay.{opening_core, connect_asked, turns_on, trace_of, AreGoodOn, AreGood}
 use Rattle.legal_trace.specs.Legal.{causes, event_causes}
 use Rattle.trace_text.specs.Show.{show}
-use Rattle.text_laws.specs.Fits.{FitsEvent, FitsHistory, HasLine, HasForm, WithForm, HaveForms}
+use Rattle.text_laws.specs.Fits.{FitsEvent, FitsHistory, HasForm, WithForm, HaveForms}
 use Rattle.text_laws.specs.History.{history_in, history_of}
 use Rattle.text_laws.proofs.Back.{causes_back}
 use Rattle.text_laws.proofs.Bytes.{FitsCause}
@@ -59,6 +56,8 @@ causes_append (action.Push link info ∷ xs) ys = causes_append xs ys
 causes_append (action.Message msg ∷ xs) ys = causes_append xs ys
 causes_append (action.Monitor value ∷ xs) ys = causes_append xs ys
 causes_append (action.NeedCreds source link ∷ xs) ys = causes_append xs ys
+causes_append (action.Generation g ∷ xs) ys = causes_append xs ys
+causes_append (action.Round who link ∷ xs) ys = causes_append xs ys
 causes_append (action.Close link ∷ xs) ys = causes_append xs ys
 causes_append (action.Write link bytes ∷ xs) ys = causes_append xs ys
 causes_append (action.Wait owner kind ∷ xs) ys = causes_append xs ys
@@ -133,20 +132,12 @@ good_forms_on c [] good = All-nil (WithForm c.kind)
 good_forms_on c (e ∷ es) good =
     All-cons (WithForm c.kind) e es (good_form c e.kind good.0) (subst (λ session. All (WithForm session) es) (turn_kind c e.kind) (good_forms_on (next_turn c e.kind).core es good.1))
 
--- a configuration of which nothing is refused has a line
-line_by : (has : Bool) (rest : Option ConfigName) → (if not has then Some name.Kind else rest) ≡ None → has ≡ true
-line_by true rest none = refl
-line_by false rest none = cc none
-
-pub sound_line : (config : Config) → first_fault config ≡ None → HasLine config
-sound_line config none = line_by (has_line config) (fault_in (address config) (hears_pushes (hearing_of config)) (permits config) (buffer_size config)) none
-
 -- nor does a good history
-pub good_forms : (config : Config) (word : ℕ) (events : List Event) → HasLine config → AreGood config word events → HaveForms config events
+pub good_forms : (config : Config) (word : ℕ) (events : List Event) → AreGood config word events → HaveForms config events
 unfolding AreGood
-good_forms config word events line good = record { config = line; events = good_forms_on (opening_core config word) events good }
+good_forms config word events good = good_forms_on (opening_core config word) events good
 
 -- without exception where no event is bad
-pub good_history_back : (config : Config) (word : ℕ) (events : List Event) → FitsHistory config word events → HasLine config → AreGood config word events
+pub good_history_back : (config : Config) (word : ℕ) (events : List Event) → FitsHistory config word events → AreGood config word events
     → history_of (show (trace_of config word events)) ≡ Some (record { config = config; word = word; events = events })
-good_history_back config word events fits line good = history_back config word events fits (good_forms config word events line good)
+good_history_back config word events fits good = history_back config word events fits (good_forms config word events good)

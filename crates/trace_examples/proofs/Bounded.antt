@@ -14,7 +14,7 @@ use Rattle.driver_model.specs.declared.action.SourceUse.{SourceUse}
 use Rattle.driver_model.specs.declared.action.SourceUse.TheVariants as source
 use Rattle.resp_value.specs.declared.push_kind.PushKind.{PushKind}
 use Rattle.driver_model.specs.Push.{is_disconnection}
-use Rattle.driver_model.specs.News.{News, refused, overdue, took, came, failed, authorized, denied, deserted, renewed, unrenewed, late, silence, for_link, of_timer, of_source, news_of}
+use Rattle.driver_model.specs.News.{News, refused, overdue, took, came, failed, authorized, denied, deserted, renewed, unrenewed, late, unrepeated, silence, for_link, of_timer, of_source, news_of}
 use Rattle.legal_trace.specs.Ledger.{Ledger, Line, asks, hears, begins, tells, sources, times, ends, parts, dials, awaits_credentials, may_renew, is_renewal_open, with_news, noted, noted_each}
 use Rattle.legal_trace.specs.Story.{Story, is_open}
 use Rattle.legal_trace.proofs.Ledgers.{unasked_dials_not}
@@ -50,6 +50,8 @@ is_of_first (action.Push l info) = true
 is_of_first (action.Message m) = true
 is_of_first (action.Monitor v) = true
 is_of_first (action.NeedCreds c l) = true
+is_of_first (action.Generation g) = true
+is_of_first (action.Round who l) = true
 is_of_first (action.Close l) = l == 0
 is_of_first (action.Write l bytes) = true
 is_of_first (action.Wait who kind) = true
@@ -93,6 +95,8 @@ fired_idle : (l : Ledger) (turn n : ℕ) (what : Option Purpose) → IsIdle l �
 fired_idle l turn n None h = record { down = h.down; unasked = h.unasked; lives = h.lives; mute = h.mute; quiet = h.quiet }
 fired_idle l turn n (Some (purpose.Connect m)) h = hears_idle l turn (m == n) overdue h h
 fired_idle l turn n (Some (purpose.Renewal m k)) h = hears_idle l turn (m == n) (late k) h (chosen IsIdle (l.up && is_renewal_open l k) _ l (λ t. record { down = h.down; unasked = h.unasked; lives = h.lives; mute = h.mute; quiet = h.quiet }) (λ t. h))
+fired_idle l turn n (Some (purpose.Backoff g)) h = record { down = h.down; unasked = h.unasked; lives = h.lives; mute = h.mute; quiet = h.quiet }
+fired_idle l turn n (Some (purpose.Resubscription m)) h = hears_idle l turn (m == n) unrepeated h h
 fired_idle l turn n (Some (purpose.Response who)) h = record { down = h.down; unasked = h.unasked; lives = h.lives; mute = h.mute; quiet = h.quiet }
 
 -- so does a source of credentials
@@ -141,6 +145,8 @@ still_idle b n (action.Push l info) some first h = any_idle (b.link n) (l == n) 
 still_idle b n (action.Message m) some first h = any_idle (b.link n) (current b == n) tells h (told_idle (b.link n) h)
 still_idle b n (action.Monitor v) some first h = any_idle (b.link n) (current b == n) tells h (told_idle (b.link n) h)
 still_idle b n (action.NeedCreds c l) some first h = any_idle (b.link n) (l == n) sources h (record { down = h.down; unasked = h.unasked; lives = h.lives; mute = h.mute; quiet = h.quiet })
+still_idle b n (action.Generation g) some first h = h
+still_idle b n (action.Round who l) some first h = h
 still_idle b n (action.Close l) some first h = mine_idle b n l (ends (b.turns - 1)) some first h
 still_idle b n (action.Write l bytes) some first h = any_idle (b.link n) (l == n) _ h (record { down = h.down; unasked = h.unasked; lives = h.lives; mute = h.mute; quiet = h.quiet })
 still_idle b n (action.Wait who kind) some first h = h
@@ -177,10 +183,12 @@ still_absent b n (action.Turn k (cause.Opening config word)) l h = h n l
 still_absent b n (action.Turn k (cause.Event e)) l h = event_absent b n e.kind l (h n (omega arith))
 still_absent b n (action.Start m k owner.Setup count len) l h = h n l
 still_absent b n (action.Start m k owner.Auth count len) l h = h n l
+still_absent b n (action.Start m k owner.Resub count len) l h = h n l
 still_absent b n (action.Start m k owner.Monitor count len) l h = h n l
 still_absent b n (action.Start m k (owner.Try i round) count len) l h = chosen IsAbsent (i == n) _ _ (λ t. h n l) (λ t. h n l)
 still_absent b n (action.Wait owner.Setup kind) l h = h n l
 still_absent b n (action.Wait owner.Auth kind) l h = h n l
+still_absent b n (action.Wait owner.Resub kind) l h = h n l
 still_absent b n (action.Wait owner.Monitor kind) l h = h n l
 still_absent b n (action.Wait (owner.Try i round) kind) l h = chosen IsAbsent (i == n) _ _ (λ t. h n l) (λ t. h n l)
 still_absent b n (action.Outcome m o) l h = chosen IsAbsent (m == n) _ _ (λ t. h n l) (λ t. h n l)
@@ -188,12 +196,15 @@ still_absent b n (action.Connect m host port) l h = h n l
 still_absent b n (action.Timer t ms what) l h = chosen IsAbsent (is_clock_of n (Some what)) _ _ (λ e. h n l) (λ e. h n l)
 still_absent b n (action.Took owner.Setup m count) l h = h n l
 still_absent b n (action.Took owner.Auth m count) l h = h n l
+still_absent b n (action.Took owner.Resub m count) l h = h n l
 still_absent b n (action.Took owner.Monitor m count) l h = h n l
 still_absent b n (action.Took (owner.Try i round) m count) l h = chosen IsAbsent (i == n) _ _ (λ t. h n l) (λ t. h n l)
 still_absent b n (action.Push m info) l h = h n l
 still_absent b n (action.Message m) l h = h n l
 still_absent b n (action.Monitor v) l h = h n l
 still_absent b n (action.NeedCreds c m) l h = h n l
+still_absent b n (action.Generation g) l h = h n l
+still_absent b n (action.Round who m) l h = h n l
 still_absent b n (action.Close m) l h = h n l
 still_absent b n (action.Write m bytes) l h = h n l
 still_absent b n (action.Created e) l h = h n l

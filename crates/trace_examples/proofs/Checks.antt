@@ -53,6 +53,8 @@ abbrev pub same_wait : WaitKind → WaitKind → Bool
 same_wait wait.Connect wait.Connect = true
 same_wait wait.Creds wait.Creds = true
 same_wait wait.Setup wait.Setup = true
+same_wait wait.Resubscribe wait.Resubscribe = true
+same_wait wait.Backoff wait.Backoff = true
 same_wait wait.Permit wait.Permit = true
 same_wait wait.Place wait.Place = true
 same_wait wait.Room wait.Room = true
@@ -63,6 +65,8 @@ wait_from : (k j : WaitKind) → same_wait k j ≡ true → k ≡ j
 wait_from wait.Connect wait.Connect e = refl
 wait_from wait.Creds wait.Creds e = refl
 wait_from wait.Setup wait.Setup e = refl
+wait_from wait.Resubscribe wait.Resubscribe e = refl
+wait_from wait.Backoff wait.Backoff e = refl
 wait_from wait.Permit wait.Permit e = refl
 wait_from wait.Place wait.Place e = refl
 wait_from wait.Room wait.Room e = refl
@@ -73,6 +77,8 @@ wait_is_one : (k : WaitKind) → same_wait k k ≡ true
 wait_is_one wait.Connect = refl
 wait_is_one wait.Creds = refl
 wait_is_one wait.Setup = refl
+wait_is_one wait.Resubscribe = refl
+wait_is_one wait.Backoff = refl
 wait_is_one wait.Permit = refl
 wait_is_one wait.Place = refl
 wait_is_one wait.Room = refl

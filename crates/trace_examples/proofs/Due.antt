@@ -258,8 +258,11 @@ abbrev pub timer_due : Book → ℕ → ℕ → Purpose → Bool
 timer_due b t ms (purpose.Connect l) = not (b.links == 0) && is_empty b.timers && (t == length b.timers)
 timer_due b t ms (purpose.Response owner.Setup) = false
 timer_due b t ms (purpose.Response owner.Auth) = false
+timer_due b t ms (purpose.Response owner.Resub) = false
 timer_due b t ms (purpose.Response owner.Monitor) = false
 timer_due b t ms (purpose.Renewal l k) = renewal_time_due b t l k
+timer_due b t ms (purpose.Backoff g) = false
+timer_due b t ms (purpose.Resubscription l) = false
 timer_due b t ms (purpose.Response (owner.Try n round)) = (round == 0) && ask_due b t ms n
 
 -- that a connect may take so long, and is what the timer is for
@@ -273,6 +276,8 @@ abbrev pub IsTimeOf : Book → ℕ → Purpose → Type 0
 IsTimeOf b ms (purpose.Connect l) = IsTime b b.running ms (purpose.Connect l)
 IsTimeOf b ms (purpose.Response who) = Unit {0}
 IsTimeOf b ms (purpose.Renewal l k) = answer_time b.config ≡ Some ms
+IsTimeOf b ms (purpose.Backoff g) = Unit {0}
+IsTimeOf b ms (purpose.Resubscription l) = Unit {0}
 
 -- so the timer of a connect may stand
 connect_timer_stands : (b : Book) (t ms l : ℕ) → timer_due b t ms (purpose.Connect l) ≡ true → IsTime b b.running ms (purpose.Connect l) → MayTimeConnect b t ms (purpose.Connect l)
@@ -297,8 +302,11 @@ timer_stands : (b : Book) (t ms : ℕ) (what : Purpose) → IsBounded b → time
 timer_stands b t ms (purpose.Connect l) bounded e said = inl (connect_timer_stands b t ms l e said)
 timer_stands b t ms (purpose.Response owner.Setup) bounded e said = cc e
 timer_stands b t ms (purpose.Response owner.Auth) bounded e said = cc e
+timer_stands b t ms (purpose.Response owner.Resub) bounded e said = cc e
 timer_stands b t ms (purpose.Response owner.Monitor) bounded e said = cc e
 timer_stands b t ms (purpose.Renewal l k) bounded e said = inr (inr (renewal_time_stands b t ms l k bounded e said))
+timer_stands b t ms (purpose.Backoff g) bounded e said = cc e
+timer_stands b t ms (purpose.Resubscription l) bounded e said = cc e
 timer_stands b t ms (purpose.Response (owner.Try n round)) bounded e said =
     inr (inl (subst (λ r. MayTime b t ms (purpose.Response (owner.Try n r))) (sym (eq_from round 0 (both_left (round == 0) (ask_due b t ms n) e))) (ask_stands b t ms n bounded (both_right (round == 0) (ask_due b t ms n) e))))
 
@@ -485,20 +493,25 @@ due b (action.Connect l host port) = (b.links == 0) && (l == 0)
 due b (action.Timer t ms what) = timer_due b t ms what
 due b (action.Took owner.Setup l count) = false
 due b (action.Took owner.Auth l count) = false
+due b (action.Took owner.Resub l count) = false
 due b (action.Took owner.Monitor l count) = false
 due b (action.Took (owner.Try n round) l count) = (round == 0) && take_due b n l count
 due b (action.Push l info) = push_due (is_disconnection info.kind) b l
 due b (action.Message m) = tell_due b (current b) (next_notice (b.link (current b)))
 due b (action.Monitor v) = tell_due b (current b) (next_notice (b.link (current b)))
 due b (action.NeedCreds c l) = need_due b c l
+due b (action.Generation g) = false
+due b (action.Round who l) = false
 due b (action.Close l) = close_due b l
 due b (action.Write l bytes) = write_due b l bytes
 due b (action.Wait owner.Setup kind) = false
 due b (action.Wait owner.Auth kind) = false
+due b (action.Wait owner.Resub kind) = false
 due b (action.Wait owner.Monitor kind) = false
 due b (action.Wait (owner.Try n round) kind) = (round == 0) && wait_due b n kind
 due b (action.Start l k owner.Setup count len) = set_up_due b l k count len
 due b (action.Start l k owner.Auth count len) = renew_due b l k count len
+due b (action.Start l k owner.Resub count len) = false
 due b (action.Start l k owner.Monitor count len) = watch_due b l k count len
 due b (action.Start l k (owner.Try n round) count len) = (round == 0) && start_due b l k n count len
 due b (action.Created None) = created_due b
@@ -558,6 +571,8 @@ AllSaid b (action.Push l info ∷ more) = IsPushSaid (is_disconnection info.kind
 AllSaid b (action.Message m ∷ more) = IsNoticeOf (notice.Message m) (next_notice (b.link (current b))) × AllSaid (entered b (action.Message m)) more
 AllSaid b (action.Monitor v ∷ more) = IsNoticeOf (notice.Monitor v) (next_notice (b.link (current b))) × AllSaid (entered b (action.Monitor v)) more
 AllSaid b (action.NeedCreds c l ∷ more) = AllSaid (entered b (action.NeedCreds c l)) more
+AllSaid b (action.Generation g ∷ more) = AllSaid (entered b (action.Generation g)) more
+AllSaid b (action.Round who l ∷ more) = AllSaid (entered b (action.Round who l)) more
 AllSaid b (action.Close l ∷ more) = AllSaid (entered b (action.Close l)) more
 AllSaid b (action.Wait who kind ∷ more) = AllSaid (entered b (action.Wait who kind)) more
 AllSaid b (action.Start l k who count len ∷ more) = AllSaid (entered b (action.Start l k who count len)) more
@@ -571,6 +586,7 @@ first_stands b (action.Connect l host port) more bounded e said = (connect_stand
 first_stands b (action.Timer t ms what) more bounded e said = (timer_stands b t ms what bounded e said.0, said.1)
 first_stands b (action.Took owner.Setup l count) more bounded e said = absurd (cc e)
 first_stands b (action.Took owner.Auth l count) more bounded e said = absurd (cc e)
+first_stands b (action.Took owner.Resub l count) more bounded e said = absurd (cc e)
 first_stands b (action.Took owner.Monitor l count) more bounded e said = absurd (cc e)
 first_stands b (action.Took (owner.Try n round) l count) more bounded e said =
     ((eq_from round 0 (both_left (round == 0) (take_due b n l count) e), take_stands b n l count bounded (both_right (round == 0) (take_due b n l count) e)), said)
@@ -578,14 +594,18 @@ first_stands b (action.Push l info) more bounded e said = (push_stands (is_disco
 first_stands b (action.Message m) more bounded e said = (tell_stands b (current b) (notice.Message m) bounded e said.0, said.1)
 first_stands b (action.Monitor v) more bounded e said = (tell_stands b (current b) (notice.Monitor v) bounded e said.0, said.1)
 first_stands b (action.NeedCreds c l) more bounded e said = (need_stands b c l bounded e, said)
+first_stands b (action.Generation g) more bounded e said = absurd (cc e)
+first_stands b (action.Round who l) more bounded e said = absurd (cc e)
 first_stands b (action.Close l) more bounded e said = (close_stands b l bounded e, said)
 first_stands b (action.Write l bytes) more bounded e said = (write_stands b l bytes bounded e said.0, said.1)
 first_stands b (action.Wait owner.Setup kind) more bounded e said = absurd (cc e)
 first_stands b (action.Wait owner.Auth kind) more bounded e said = absurd (cc e)
+first_stands b (action.Wait owner.Resub kind) more bounded e said = absurd (cc e)
 first_stands b (action.Wait owner.Monitor kind) more bounded e said = absurd (cc e)
 first_stands b (action.Wait (owner.Try n round) kind) more bounded e said =
     ((eq_from round 0 (both_left (round == 0) (wait_due b n kind) e), wait_stands b n kind bounded (both_right (round == 0) (wait_due b n kind) e)), said)
 first_stands b (action.Start l k owner.Setup count len) more bounded e said = (set_up_stands b l k count len bounded e, said)
+first_stands b (action.Start l k owner.Resub count len) more bounded e said = absurd (cc e)
 first_stands b (action.Start l k owner.Monitor count len) more bounded e said = (watch_stands b l k count len bounded e, said)
 first_stands b (action.Start l k owner.Auth count len) more bounded e said = (renew_stands b l k count len bounded e, said)
 first_stands b (action.Start l k (owner.Try n round) count len) more bounded e said =

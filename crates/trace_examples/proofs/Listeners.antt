@@ -16,9 +16,8 @@ use Rattle.resp_value.specs.declared.value.Value.{Value}
 use Rattle.resp_read.specs.Grammar.{max_depth}
 use Rattle.resp_read.specs.Values.{values, left_over, is_spoiled}
 use Rattle.resp_read.specs.Items.{items}
-use Rattle.redis_error.specs.declared.config_name.ConfigName.TheVariants as name
 use Rattle.resp_write.specs.declared.subscription.SubscriptionAction.TheVariants.{SSubscribe}
-use Rattle.driver_model.specs.Config.{address, fault_in, first_fault}
+use Rattle.driver_model.specs.Config.{address, fault_in}
 use Rattle.driver_model.specs.Push.{is_disconnection}
 use Rattle.driver_model.specs.declared.action.Action.TheVariants as action
 use Rattle.driver_model.specs.declared.action.Cause.{Cause}
@@ -41,14 +40,13 @@ use Rattle.legal_trace.specs.Legal.{MayNotify, MayPushBy, MayTurn, are_pushes_he
 use Rattle.legal_trace.proofs.Plain.{same_some}
 use Rattle.trace_examples.specs.Claims.{IsTraceIn, NoneBeginsIn}
 use Rattle.trace_examples.specs.Fronts.{EachStands}
-use Rattle.trace_examples.specs.Listeners.{listener, watcher, secured_listener, secured_watcher, subscription, subscribed_line, message_line, greeting, bare_ping, pong_line, foo_line, plain_line, watched_line, answer_and_watched, called, confirmation_came, message_came, message_told, message_while_called, cut_off_called, dropped_called, closed_called, pinged, both_came, message_and_more, item_came, begun, limited_listener, formless_fronts, subscribe_line, strange_came, dropped_alone, message_in_setup, watching, watch_answered, watched, setup_and_watching, listening_fronts, watching_fronts}
+use Rattle.trace_examples.specs.Listeners.{listener, watcher, secured_listener, secured_watcher, subscription, subscribed_line, message_line, greeting, bare_ping, pong_line, foo_line, plain_line, watched_line, answer_and_watched, called, confirmation_came, message_came, message_told, message_while_called, cut_off_called, dropped_called, closed_called, pinged, both_came, message_and_more, item_came, formless_fronts, subscribe_line, strange_came, dropped_alone, message_in_setup, watching, watch_answered, watched, setup_and_watching, listening_fronts, watching_fronts}
 use Rattle.trace_examples.specs.Parts.{unbounded, turn, command, okay_line}
 use Rattle.trace_examples.specs.Pushes.{heard, invalidation, pushed_alone}
 use Rattle.trace_examples.specs.Setups.{password_line, setup_sent}
 use Rattle.trace_examples.specs.Traces.{opening, came_up}
 use Rattle.trace_examples.proofs.Bounded.{blank_bounded, bounded_behind}
 use Rattle.trace_examples.proofs.Due.{IsPlace, legal, stands}
-use Rattle.trace_examples.proofs.Misplaced.{same_config}
 use Rattle.trace_examples.proofs.Pushes.{at_heard}
 use Rattle.trace_examples.proofs.Server.{at_h}
 use Rattle.trace_examples.proofs.Single.{none_is_some, other_fault}
@@ -413,7 +411,7 @@ formless_fronts_stand word =
     let up = stands (came_up listener word) refl (at_listener, tt) in
     let other = stands (came_up unbounded word) refl (at_h (Some None), tt) in
     let shown = stands (watched watcher word) refl (at_watcher, (refl, tt)) in
-    (up, (other, (shown, (stands (begun limited_listener word) refl tt, tt))))
+    (up, (other, (shown, tt)))
 
 -- a command on a link of messages
 pub command_among_messages : NoneBeginsIn listener came_up (turn 2 (event.Submit (command 71)))
@@ -435,11 +433,3 @@ ping_elsewhere word events after h = let x : true ≡ false = (may_stand unbound
 pub submitted_in_monitor_mode : (what : Submission) → NoneBeginsIn watcher watched (turn 3 (event.Submit what))
 unfolding is_bad_event
 submitted_in_monitor_mode what word events after h = let x : true ≡ false = (may_stand watcher word events (watched watcher word) after (turn 3 (event.Submit what)) h).is_for.2 in cc x
-
--- a link that is asked for where the configuration says what its kind doesn't have
-pub limited_and_asked_for : (l port : ℕ) (host : List ℕ) → NoneBeginsIn limited_listener begun (action.Connect l host port)
-limited_and_asked_for l port host word events after h =
-    let m = may_stand limited_listener word events (begun limited_listener word) after (action.Connect l host port) h in
-    let same : limited_listener ≡ m.config = same_config limited_listener m.config word m.word m.opens in
-    let sound : first_fault limited_listener ≡ None = ap first_fault same ∙ m.sound in
-    let x : Some name.Kind ≡ None = sound in cc x

@@ -17,7 +17,7 @@ use Rattle.driver_model.specs.declared.config.Config.{Config}
 use Rattle.driver_model.specs.declared.event.Event.{Event}
 use Rattle.driver_model.specs.declared.event.EventKind.TheVariants as event
 use Rattle.driver_model.specs.declared.outcome.Outcome.TheVariants as outcome
-use Rattle.driver_model.specs.Config.{buffer_size, boundary, permits}
+use Rattle.driver_model.specs.Config.{kind_of, buffer_size, boundary, permits}
 use Rattle.driver_model.specs.Request.{packed_bytes}
 use Rattle.legal_trace.specs.Events.{is_bad_event}
 use Rattle.legal_trace.specs.Ledger.{dials, is_ready}
@@ -200,21 +200,21 @@ pub nameless : (config : Config) (word : ℕ) (events : List Event) (after : Lis
 unfolding is_bad_event
 nameless config word events after h =
     let m = may_stand config word events (came_up config word) after (turn 2 (event.Submit one_nameless)) h in
-    no_session_has config.kind one_nameless refl refl m.is_for.2
+    no_session_has (kind_of config) one_nameless refl refl m.is_for.2
 
 pub nameless_transaction : (config : Config) (word : ℕ) (events : List Event) (after : List Action)
     → Legal config word events (came_up config word ++ turn 2 (event.Submit nameless_atomic) ∷ after) → ⊥
 unfolding is_bad_event
 nameless_transaction config word events after h =
     let m = may_stand config word events (came_up config word) after (turn 2 (event.Submit nameless_atomic)) h in
-    no_session_has config.kind nameless_atomic refl refl m.is_for.2
+    no_session_has (kind_of config) nameless_atomic refl refl m.is_for.2
 
 pub nameless_packed : (config : Config) (word : ℕ) (events : List Event) (after : List Action) (offset count : ℕ)
     → Legal config word events (came_up config word ++ turn 2 (event.Submit (nameless_skipped offset count)) ∷ after) → ⊥
 unfolding is_bad_event
 nameless_packed config word events after offset count h =
     let m = may_stand config word events (came_up config word) after (turn 2 (event.Submit (nameless_skipped offset count))) h in
-    no_session_has config.kind (nameless_skipped offset count) refl refl m.is_for.2
+    no_session_has (kind_of config) (nameless_skipped offset count) refl refl m.is_for.2
 
 -- the turn of more bytes taken than were offered
 pub took_too_much : (config : Config) (word : ℕ) (events : List Event) (after : List Action)

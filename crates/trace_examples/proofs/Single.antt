@@ -1,6 +1,6 @@
 -- Books of traces with any configuration: where a command came the session is one multiplexed connection, which hears pushes or
 -- nothing, and where its link was up at once nothing is said to its server.
-use Rattle.std.proofs.Common.{◌≡◌, ℕ, ◌==◌, zero, suc, ℤ, pos, negsuc, Bool, true, false, ◌&&◌, List, ◌∷◌, ◌++◌, Option, Some, None, drop, unwrap_or, refl, sym, ap, ◌∙◌, subst}
+use Rattle.std.proofs.Common.{◌≡◌, ℕ, ◌==◌, zero, suc, ℤ, pos, negsuc, Bool, true, false, ◌&&◌, List, ◌∷◌, ◌++◌, Option, Some, None, drop, refl, sym, ap, ◌∙◌, subst}
 use Rattle.containers.proofs.Choices.{not_both}
 use Rattle.connection_info.specs.declared.address.RedisConnectionInfo.{RedisConnectionInfo}
 use Rattle.connection_info.specs.declared.protocol.ProtocolVersion.{ProtocolVersion}
@@ -18,7 +18,7 @@ use Rattle.driver_model.specs.declared.kind.SessionKind.TheVariants as kind
 use Rattle.driver_model.specs.declared.outcome.Outcome.{Outcome}
 use Rattle.driver_model.specs.declared.outcome.Outcome.TheVariants as outcome
 use Rattle.redis_error.specs.declared.redis_error.RedisError.{RedisError}
-use Rattle.driver_model.specs.Config.{bare_info, told_info, wants_credentials, hearing_in, hearing_of}
+use Rattle.driver_model.specs.Config.{kind_of, wants_pushes, bare_info, told_info, wants_credentials, hearing_in, hearing_of}
 use Rattle.driver_model.specs.Hearing.{is_watching}
 use Rattle.driver_model.specs.Request.{has_no_form, is_foreign, is_formless}
 use Rattle.driver_model.specs.Setup.{says_nothing}
@@ -56,11 +56,11 @@ no_session_has kind.Monitor what formless foreign formed = cc formed
 
 -- a session to which such a submission was handed in is one multiplexed connection
 pub single_behind : (config : Config) (word : ℕ) (events : List Event) (front after : List Action) (k : ℕ) (what : Submission) → (book_of front).config ≡ Some config → is_foreign what ≡ true
-    → Legal config word events (front ++ turn k (event.Submit what) ∷ after) → config.kind ≡ kind.Single
+    → Legal config word events (front ++ turn k (event.Submit what) ∷ after) → kind_of config ≡ kind.Single
 unfolding is_bad_event
 single_behind config word events front after k what same foreign h =
     let m = may_stand config word events front after (turn k (event.Submit what)) h in
-    single_has config.kind what foreign (ap (λ c. has_no_form (kind_in c) what) (sym same) ∙ m.is_for.2)
+    single_has (kind_of config) what foreign (ap (λ c. has_no_form (kind_in c) what) (sym same) ∙ m.is_for.2)
 
 -- what holds where nothing is heard, and where pushes are, holds on one multiplexed connection
 of_hearing : (P : Hearing → Type 0) (pushes : Bool) → P hearing.Nothing → P hearing.Pushes → P (hearing_in kind.Single pushes)
@@ -68,17 +68,17 @@ of_hearing P true none some = some
 of_hearing P false none some = none
 
 -- its server isn't put into monitor mode
-pub unwatched : (config : Config) → config.kind ≡ kind.Single → is_watching (hearing_of config) ≡ false
-unwatched config single = ap (λ k. is_watching (hearing_in k (unwrap_or config.push false))) single ∙ of_hearing (λ h. is_watching h ≡ false) (unwrap_or config.push false) refl refl
+pub unwatched : (config : Config) → kind_of config ≡ kind.Single → is_watching (hearing_of config) ≡ false
+unwatched config single = ap (λ k. is_watching (hearing_in k (wants_pushes config))) single ∙ of_hearing (λ h. is_watching h ≡ false) (wants_pushes config) refl refl
 
 -- what holds of both books holds of the one that its configuration says
-pub of_single : (config : Config) (word : ℕ) (front : List Action) (P : Book → Type 0) → config.kind ≡ kind.Single
+pub of_single : (config : Config) (word : ℕ) (front : List Action) (P : Book → Type 0) → kind_of config ≡ kind.Single
     → P (book_from config word front (told_info config) (wants_credentials config) hearing.Nothing)
     → P (book_from config word front (told_info config) (wants_credentials config) hearing.Pushes)
     → P (book_said config word front)
 of_single config word front P single none some =
     let Q : Hearing → Type 0 = λ h. P (book_from config word front (told_info config) (wants_credentials config) h) in
-    subst (λ k. Q (hearing_in k (unwrap_or config.push false))) (sym single) (of_hearing Q (unwrap_or config.push false) none some)
+    subst (λ k. Q (hearing_in k (wants_pushes config))) (sym single) (of_hearing Q (wants_pushes config) none some)
 
 -- nothing is said to a server, where perhaps a user has a name
 abbrev pub silent_as : Option (List ℕ) → RedisConnectionInfo
@@ -108,7 +108,7 @@ unwanted true e = cc e
 unwanted false e = refl
 
 -- so it is of a link that was up at once
-pub of_silent : (config : Config) (word : ℕ) (front : List Action) (P : Book → Type 0) → config.kind ≡ kind.Single → IsSilent config → IsGiven config
+pub of_silent : (config : Config) (word : ℕ) (front : List Action) (P : Book → Type 0) → kind_of config ≡ kind.Single → IsSilent config → IsGiven config
     → ((name : Option (List ℕ)) → P (book_from config word front (silent_as name) false hearing.Nothing))
     → ((name : Option (List ℕ)) → P (book_from config word front (silent_as name) false hearing.Pushes))
     → P (book_said config word front)
