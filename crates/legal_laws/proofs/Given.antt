@@ -74,9 +74,9 @@ adds_sources : (b : Book) (a : Action) → MayStand b a → AddsSources b a
 adds_sources b (action.NeedCreds d m) may c l e = elim (item_behind b.sources (use_for b m) (source.Setup l) c e) [
   | inl before ↦ inl before
   | inr new ↦ let same : d ≡ c = may.next ∙ sym new.0 in let mine : m ≡ l = use_is_for b m l new.1 in inr cc
+]
 adds_sources b (action.Generation g) may c l e = absurd may
 adds_sources b (action.Round who m) may c l e = absurd may
-]
 adds_sources b (action.Turn k (cause.Opening config word)) may c l e = inl e
 adds_sources b (action.Turn k (cause.Event event)) may c l e = inl e
 adds_sources b (action.Connect m host port) may c l e = inl e
