@@ -177,7 +177,7 @@ unheard_tied name l s turn deserted f h = told_tied name l s l.asked l.up desert
 unheard_tied name l s turn (renewed c) f h = renewed_tied name l s turn c h
 unheard_tied name l s turn unrenewed f h = unrenewed_tied name l s turn h
 unheard_tied name l s turn (late k) f h = late_tied name l s turn k h
-unheard_tied name l s turn unrepeated f h = silent_tied name l s turn h
+unheard_tied name l s turn unrepeated f h = told_tied name l s l.asked l.up unrepeated h
 unheard_tied name l s turn dropped f h = told_tied name l s l.asked l.up dropped h
 unheard_tied name l s turn shut f h = told_tied name l s l.asked l.up shut h
 
