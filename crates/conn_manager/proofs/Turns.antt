@@ -4,7 +4,7 @@ use Rattle.containers.proofs.Choices.{chosen, either}
 use Rattle.redis_error.specs.declared.redis_error.RedisError.{RedisError}
 use Rattle.redis_error.specs.declared.redis_error.RedisError.TheVariants as error
 use Rattle.resp_write.specs.Pack.{pack_pipeline}
-use Rattle.mux_client.specs.Calls.{shape_inside}
+use Rattle.driver_model.specs.Shape.{shape_inside}
 use Rattle.sub_tracker.specs.Pipeline.{resubscription}
 use Rattle.driver_model.specs.News.{News, shut}
 use Rattle.driver_model.specs.declared.action.WaitKind.{WaitKind}

@@ -8,7 +8,7 @@ use Rattle.mux_conn.specs.Internal.{asked_inside}
 use Rattle.mux_conn.specs.Passes as passes
 use Rattle.mux_conn.specs.Requests.{asked}
 use Rattle.mux_conn.specs.Turn as conn_turn
-use Rattle.mux_client.specs.Calls.{shape_inside}
+use Rattle.driver_model.specs.Shape.{shape_inside}
 use Rattle.sub_tracker.specs.Pipeline.{resubscription}
 use Rattle.manager_generations.specs.declared.act.ManagerAct.TheVariants as act
 use Rattle.manager_generations.specs.declared.act.ManagerTimer.TheVariants as timer

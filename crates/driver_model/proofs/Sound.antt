@@ -16,12 +16,16 @@ pub unless_refused : (b : Bool) (what : ConfigName) (rest : Option ConfigName) �
 unless_refused true what rest e = cc
 unless_refused false what rest e = (refl, e)
 
--- some permit, and some place in the queue
+-- a queue with some place
+placed : (size : ℕ) → 0 < size → buffer_fault size ≡ None
+placed size places = ap (λ b. if b then Some name.Buffer else None) (ne_eqb size 0 (λ e. omega (arith, e, places)))
+
+-- some permit, and such a queue
 roomy : (limit : Option ℕ) (size : ℕ) → limit ≢ Some 0 → 0 < size → room_fault limit size ≡ None
-roomy None size some places = ap (λ b. if b then Some name.Buffer else None) (ne_eqb size 0 (λ e. omega (arith, e, places)))
+roomy None size some places = placed size places
 roomy (Some limit) size some places =
     ap (λ b. if b then Some name.Limit else buffer_fault size) (ne_eqb limit 0 (λ e. some (ap Some e)))
-    ∙ roomy None size (λ e. cc) places
+    ∙ placed size places
 
 -- behind an address, of what doesn't come back
 room_in : (at : Option ConnectionInfo) (heard : Bool) (limit : Option ℕ) (size : ℕ) → fault_in at heard limit size ≡ None → room_fault limit size ≡ None

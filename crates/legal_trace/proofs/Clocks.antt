@@ -1,10 +1,13 @@
--- What a timer that is asked for is to submissions.
-use Rattle.std.proofs.Common.{◌≡◌, ◌⊎◌, inl, inr, ℕ, Bool, true, false, ◌&&◌, Some, refl, ap}
+-- What a timer that is asked for is to submissions, and to links.
+use Rattle.std.proofs.Common.{◌≡◌, ◌⊎◌, inl, inr, ℕ, ◌==◌, Bool, true, false, ◌&&◌, Some, refl, ap}
 use Rattle.containers.proofs.Choices.{chosen, left_if, both_left, both_right}
 use Rattle.driver_model.specs.declared.action.Purpose.{Purpose}
+use Rattle.driver_model.specs.declared.action.Purpose.TheVariants as purpose
+use Rattle.legal_trace.specs.Ledger.{Ledger, times, repeats_timed, noted, noted_each}
 use Rattle.legal_trace.specs.Story.{Story, is_open, carried, clocked}
-use Rattle.legal_trace.specs.Book.{Book, after_timer, if_own, is_clock_of, is_rest}
+use Rattle.legal_trace.specs.Book.{Book, after_timer, if_own, is_clock_of, is_rest, timer_lines}
 use Rattle.legal_trace.specs.Legal.{MayTimer, MayRest}
+use Rattle.legal_trace.proofs.Ledgers.{mine_keeps}
 
 -- what holds of a submission holds behind a timer, where it holds of one that goes to the next link, and of one whose own it is
 pub timer_keeps : (P : Story → Type 0) (b : Book) (n t : ℕ) (what : Purpose)
@@ -23,4 +26,15 @@ pub timer_rests : (b : Book) (t ms : ℕ) (what : Purpose) → MayTimer b t ms w
 timer_rests b t ms what (inl (inl may)) = inr (ap is_rest may.is_for)
 timer_rests b t ms what (inl (inr may)) = inl may
 timer_rests b t ms what (inr (inl may)) = inr (ap is_rest may.is_for)
-timer_rests b t ms what (inr (inr may)) = inr (ap is_rest may.is_for)
+timer_rests b t ms what (inr (inr (inl may))) = inr (ap is_rest may.is_for)
+timer_rests b t ms what (inr (inr (inr may))) = inr (ap is_rest may.is_for)
+
+-- what holds of a link holds behind what a timer tells of it, where it holds of one for whose new credentials it is, and of one for
+-- which it is of what is subscribed again
+pub timer_tells : (P : Ledger → Type 0) (l : Ledger) (n : ℕ) (what : Purpose) → ((m k : ℕ) → what ≡ purpose.Renewal m k → (m == n) ≡ true → P (noted l times))
+    → ((m : ℕ) → what ≡ purpose.Resubscription m → (m == n) ≡ true → P (noted l repeats_timed)) → P l → P (noted_each l (timer_lines n what))
+timer_tells P l n (purpose.Renewal m k) renews repeats h = mine_keeps P (m == n) l times (λ t. renews m k refl t) h
+timer_tells P l n (purpose.Resubscription m) renews repeats h = mine_keeps P (m == n) l repeats_timed (λ t. repeats m refl t) h
+timer_tells P l n (purpose.Connect m) renews repeats h = h
+timer_tells P l n (purpose.Response who) renews repeats h = h
+timer_tells P l n (purpose.Backoff g) renews repeats h = h

@@ -10,4 +10,5 @@ pub mod Monitors
 pub mod Setups
 pub mod Watching
 pub mod Sources
+pub mod Again
 pub mod Renewals

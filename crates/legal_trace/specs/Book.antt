@@ -22,16 +22,17 @@ use Rattle.driver_model.specs.declared.hearing.Hearing.TheVariants as hearing
 use Rattle.driver_model.specs.declared.event.Submission.{Submission}
 use Rattle.driver_model.specs.declared.outcome.Outcome.{Outcome}
 use Rattle.driver_model.specs.declared.outcome.Outcome.TheVariants as outcome
-use Rattle.driver_model.specs.declared.outcome.Shape.TheVariants.{Single}
 use Rattle.driver_model.specs.News.{news_of}
 use Rattle.driver_model.specs.Request.{lacks_resp3}
 use Rattle.credentials.specs.Credentials.{Credentials}
 use Rattle.redis_error.specs.declared.redis_error.RedisError.{RedisError}
-use Rattle.legal_trace.specs.Ledger.{Ledger, Start, Line, asks, hears, begins, offers, ends, blank_ledger, setup_count, setup_message, monitor_message, renewal_due, renewal_message, noted_each, tells, parts, sources, times}
+use Rattle.legal_trace.specs.Ledger.{Ledger, Start, Line, asks, hears, begins, offers, ends, blank_ledger, setup_count, setup_message, monitor_message, renewal_due, renewal_message, noted_each, tells, parts, sources, times, repeats_timed}
 use Rattle.resp_value.specs.declared.push_kind.PushKind.{PushKind}
 use Rattle.driver_model.specs.Push.{is_disconnection}
-use Rattle.legal_trace.specs.Story.{Story, blank_story, bytes_of, shape, is_open, handed_in, carried, left, holds, clocked, fires, tried, waits, answered}
+use Rattle.legal_trace.specs.Story.{Story, blank_story, bytes_of, shape, is_open, handed_in, carried, left, holds, clocked, rounds, fires, tried, waits, answered}
+use Rattle.sub_tracker.specs.Subscribed.{Request}
 use Rattle.legal_trace.specs.Managers.{settings_in, is_last}
+use Rattle.legal_trace.specs.Again.{again_message, confirmed, repeats_in}
 
 -- the configuration, once the opening has told it; how many links were asked for, and the ledger of each; how many
 -- submissions were handed in, and the story of each; what each timer, and each source of credentials, was asked for, in order;
@@ -39,7 +40,8 @@ use Rattle.legal_trace.specs.Managers.{settings_in, is_last}
 -- answered, if within any; whether everything was shut down; how many turns began, and what the turn that runs is the turn of;
 -- the link that submissions go to; how many generations began, and how many attempts of the current one failed before the one that
 -- runs; the timer of the wait behind a failed attempt, while that goes on; for how many connects a timer was asked; whether the
--- creation failed; and the errors that submissions were answered with in the turn that runs, since they go to that link
+-- creation failed; the subscription calls that were confirmed, in order; and the errors that submissions were answered with in the
+-- turn that runs, since they go to that link
 pub record Book : Type 0 where
   pub config : Option Config
   pub links : ℕ
@@ -59,10 +61,11 @@ pub record Book : Type 0 where
   pub rest : Option ℕ
   pub timed : ℕ
   pub failed : Bool
+  pub tracked : List Request
   pub errors : List RedisError
 
 abbrev pub blank_book : Book
-blank_book = record { config = None; links = 0; link = λ n. blank_ledger; submissions = 0; story = λ n. blank_story; timers = []; sources = []; created = 0; timeout = None; shut = false; turns = 0; running = None; current = 0; generation = 0; attempt = 0; rest = None; timed = 0; failed = false; errors = [] }
+blank_book = record { config = None; links = 0; link = λ n. blank_ledger; submissions = 0; story = λ n. blank_story; timers = []; sources = []; created = 0; timeout = None; shut = false; turns = 0; running = None; current = 0; generation = 0; attempt = 0; rest = None; timed = 0; failed = false; tracked = []; errors = [] }
 
 -- what is said to a server before the first request, where a configuration tells it
 abbrev pub info_in : Option Config → RedisConnectionInfo
@@ -97,11 +100,11 @@ credentials_in (Some c) = c
 abbrev pub renewal_in : Option Credentials → Start
 renewal_in o = renewal_message (credentials_in o)
 
--- a message that starts on link l as its owner has it: it carries the owner's bytes. Nothing is subscribed again yet
+-- a message that starts on link l as its owner has it: it carries the owner's bytes
 abbrev pub message_of : Book → ℕ → Owner → Start
 message_of b l owner.Setup = setup_message (b.link l) (setup_count (b.link l).starts)
 message_of b l owner.Auth = renewal_in (renewal_due (b.link l))
-message_of b l owner.Resub = record { owner = owner.Resub; shape = Single; bytes = [] }
+message_of b l owner.Resub = again_message b.tracked
 message_of b l owner.Monitor = monitor_message
 message_of b l (owner.Try n round) = record { owner = owner.Try n round; shape = shape (b.story n); bytes = bytes_of (b.story n) }
 
@@ -113,20 +116,20 @@ if_mine mine line = if mine then line ∷ [] else []
 abbrev pub push_line : PushKind → Line
 push_line kind = if is_disconnection kind then parts else tells
 
--- a timer is for new credentials of link n
-abbrev pub is_renewal_of : ℕ → Purpose → Bool
-is_renewal_of n (purpose.Renewal l k) = l == n
-is_renewal_of n (purpose.Connect l) = false
-is_renewal_of n (purpose.Response who) = false
-is_renewal_of n (purpose.Backoff g) = false
-is_renewal_of n (purpose.Resubscription l) = false
+-- what a timer that is asked for tells of link n: it is for new credentials, or for what is subscribed again
+abbrev pub timer_lines : ℕ → Purpose → List Line
+timer_lines n (purpose.Renewal l k) = if_mine (l == n) times
+timer_lines n (purpose.Resubscription l) = if_mine (l == n) repeats_timed
+timer_lines n (purpose.Connect l) = []
+timer_lines n (purpose.Response who) = []
+timer_lines n (purpose.Backoff g) = []
 
 -- what an action tells of link n
 abbrev pub lines_of : Book → ℕ → Action → List Line
 lines_of b n (action.Turn number (cause.Opening config word)) = []
 lines_of b n (action.Turn number (cause.Event e)) = hears number (news_of b.timers b.sources n e.kind) ∷ []
-lines_of b n (action.Connect l host port) = if_mine (l == n) (asks (info_in b.config) (wanted_in b.config) (hearing_in b.config) (is_last (settings_in b.config) b.attempt))
-lines_of b n (action.Timer t ms what) = if_mine (is_renewal_of n what) times
+lines_of b n (action.Connect l host port) = if_mine (l == n) (asks (info_in b.config) (wanted_in b.config) (hearing_in b.config) (is_last (settings_in b.config) b.attempt) (repeats_in (settings_in b.config) b.tracked))
+lines_of b n (action.Timer t ms what) = timer_lines n what
 lines_of b n (action.NeedCreds c l) = if_mine (l == n) sources
 lines_of b n (action.Generation g) = []
 lines_of b n (action.Round who l) = []
@@ -229,7 +232,11 @@ story_after b n (action.Message m) = b.story n
 story_after b n (action.Monitor v) = b.story n
 story_after b n (action.NeedCreds c l) = b.story n
 story_after b n (action.Generation g) = b.story n
-story_after b n (action.Round who l) = b.story n
+story_after b n (action.Round (owner.Try m round) l) = if_own (m == n) (rounds (b.story n)) (b.story n)
+story_after b n (action.Round owner.Setup l) = b.story n
+story_after b n (action.Round owner.Auth l) = b.story n
+story_after b n (action.Round owner.Resub l) = b.story n
+story_after b n (action.Round owner.Monitor l) = b.story n
 story_after b n (action.Close l) = b.story n
 story_after b n (action.Write l bytes) = b.story n
 story_after b n (action.Created e) = b.story n
@@ -306,7 +313,7 @@ counted b (action.Close l) = b
 counted b (action.Write l bytes) = b
 counted b (action.Wait who kind) = b
 counted b (action.Start l message who count len) = b
-counted b (action.Outcome n o) = record b { errors = b.errors ++ faults_in o }
+counted b (action.Outcome n o) = record b { tracked = b.tracked ++ confirmed (b.story n).submission o; errors = b.errors ++ faults_in o }
 
 -- what one more action adds
 abbrev pub entered : Book → Action → Book

@@ -31,12 +31,13 @@ use Rattle.driver_model.specs.declared.hearing.Notice.TheVariants as notice
 use Rattle.driver_model.specs.Hearing.{hears_pushes, hears_something}
 use Rattle.credentials.specs.Credentials.{Credentials}
 use Rattle.driver_model.specs.Shape.{need_of}
-use Rattle.legal_trace.specs.Ledger.{Ledger, Heard, End, Ending, by_shutdown, by_fault, by_opening, by_attempt, is_fault, IsOffered, is_full, is_full_by, is_over, is_ready, is_cut, ending, failure_in, monitor_due, monitor_message, next_notice, renewal_due, renewal_message, renewals_asked, setup_due, setup_message, source_due, unwritten}
+use Rattle.legal_trace.specs.Ledger.{Ledger, Heard, End, Ending, by_shutdown, by_fault, by_opening, by_attempt, is_fault, IsOffered, is_full, again_due, is_full_by, is_over, is_ready, is_cut, ending, failure_in, monitor_due, monitor_message, next_notice, renewal_due, renewal_message, renewals_asked, setup_due, setup_message, source_due, unwritten}
 use Rattle.legal_trace.specs.Story.{Try, last_of, is_open, is_unstarted, bytes_of, shape}
 use Rattle.legal_trace.specs.Managers.{settings_in, is_lazy}
+use Rattle.legal_trace.specs.Again.{again_message}
 use Rattle.legal_trace.specs.Book.{Book, blank_book, book, entered, has_generations, hearing_in, info_in}
 use Rattle.legal_trace.specs.Owed.{owed}
-use Rattle.legal_trace.specs.Steps.{waits, takes, asks, tells, starts, is_due, is_held_back, next_step}
+use Rattle.legal_trace.specs.Steps.{waits, rounds, takes, asks, tells, starts, is_due, is_held_back, next_step}
 use Rattle.legal_trace.specs.Events.{is_bad_event}
 
 -- submission n is handed in, and neither answered nor cancelled
@@ -182,6 +183,14 @@ abbrev pub answer_time : Option Config → Option ℕ
 answer_time None = None
 answer_time (Some config) = response_timeout config
 
+-- where such a time is set, a timer was asked for all that is to be subscribed again
+abbrev pub RepeatsAreTimed : Book → Type 0
+RepeatsAreTimed b = (l : ℕ) → answer_time b.config ≢ None → again_due (b.link l) ≡ true → (b.link l).again.timed ≡ true
+
+-- what is to be subscribed again has started, but where the link is held back
+abbrev pub RepeatsAreStarted : Book → Type 0
+RepeatsAreStarted b = (l : ℕ) → again_due (b.link l) ≡ true → is_held_back b (b.link l) ≡ true
+
 -- where such a time is set, a timer was asked for all new credentials that were to be told so far
 abbrev pub RenewalsAreTimed : Book → Type 0
 RenewalsAreTimed b = (l : ℕ) → answer_time b.config ≢ None → renewals_asked (b.link l) ≤ (b.link l).creds.timed
@@ -190,11 +199,14 @@ RenewalsAreTimed b = (l : ℕ) → answer_time b.config ≢ None → renewals_as
 abbrev pub RenewalsAreStarted : Book → Type 0
 RenewalsAreStarted b = (l : ℕ) (c : Credentials) → renewal_due (b.link l) ≡ Some c → is_held_back b (b.link l) ≡ true
 
--- the event has had its own effect, setups have started, and so have MONITOR and new credentials, which have their timers
+-- the event has had its own effect, setups have started, and so have MONITOR, what is subscribed again and new credentials, which
+-- have their timers
 pub record IsBegun (b : Book) : Type 0 where
   pub applied : IsApplied b
   pub setups : SetupsAreStarted b
   pub monitors : MonitorsAreStarted b
+  pub repeats_timed : RepeatsAreTimed b
+  pub repeated : RepeatsAreStarted b
   pub timed : RenewalsAreTimed b
   pub renewed : RenewalsAreStarted b
 
@@ -213,9 +225,9 @@ pub record IsWritten (b : Book) : Type 0 where
   pub moved : IsMoved b
   pub offered : (l : ℕ) → (b.link l).up ≡ true → IsOffered (b.link l)
 
--- the wait that is true of a submission without a message: its link's connect isn't asked for, or isn't answered, or the credentials for its setup
--- have not come, or the setup isn't answered; all permits are held; the queue of its link has no place for it; or it has its
--- place, and its link is held back
+-- the wait that is true of a submission without a message: its link's connect isn't asked for, or isn't answered, or the
+-- credentials for its setup have not come, or the setup isn't answered, or what is subscribed again isn't; all permits are held; the
+-- queue of its link has no place for it; or it has its place, and its link is held back
 abbrev pub WaitHolds : Book → ℕ → WaitKind → Type 0
 WaitHolds b n kind = next_step b n ≡ waits kind
 
@@ -427,11 +439,39 @@ pub record MayNeed (b : Book) (c l : ℕ) : Type 0 where
   pub answered : VerdictsAreShown b
   pub created : ReadyIsShown b
 
+-- a timer of the configured time is asked for what is subscribed again, as soon as that is to start
+pub record MayTimeRepeat (b : Book) (t ms : ℕ) (what : Purpose) : Type 0 where
+  pub applied : IsApplied b
+  pub setups : SetupsAreStarted b
+  pub monitors : MonitorsAreStarted b
+  pub l : ℕ
+  pub within : answer_time b.config ≡ Some ms
+  pub due : again_due (b.link l) ≡ true
+  pub once : (b.link l).again.timed ≡ false
+  pub in_order : (m : ℕ) → m < l → again_due (b.link m) ≡ true → (b.link m).again.timed ≡ true
+  pub next : t ≡ length b.timers
+  pub is_for : what ≡ purpose.Resubscription l
+
+-- all that is subscribed is subscribed again, by one message, on a link that is set up and isn't held back
+pub record MayRepeat (b : Book) (l message count len : ℕ) : Type 0 where
+  pub applied : IsApplied b
+  pub setups : SetupsAreStarted b
+  pub monitors : MonitorsAreStarted b
+  pub timed : RepeatsAreTimed b
+  pub due : again_due (b.link l) ≡ true
+  pub free : is_held_back b (b.link l) ≡ false
+  pub in_order : (m : ℕ) → m < l → again_due (b.link m) ≡ true → is_held_back b (b.link m) ≡ true
+  pub next : message ≡ length (b.link l).starts
+  pub needs_its_items : count ≡ need_of (again_message b.tracked).shape
+  pub long_as_its_bytes : len ≡ length (again_message b.tracked).bytes
+
 -- a timer of the configured time is asked for new credentials, as soon as they are to be told
 pub record MayTimeRenewal (b : Book) (t ms : ℕ) (what : Purpose) : Type 0 where
   pub applied : IsApplied b
   pub setups : SetupsAreStarted b
   pub monitors : MonitorsAreStarted b
+  pub repeats_timed : RepeatsAreTimed b
+  pub repeated : RepeatsAreStarted b
   pub l : ℕ
   pub within : answer_time b.config ≡ Some ms
   pub asked : (b.link l).creds.timed < renewals_asked (b.link l)
@@ -444,6 +484,8 @@ pub record MayRenew (b : Book) (l message count len : ℕ) : Type 0 where
   pub applied : IsApplied b
   pub setups : SetupsAreStarted b
   pub monitors : MonitorsAreStarted b
+  pub repeats_timed : RepeatsAreTimed b
+  pub repeated : RepeatsAreStarted b
   pub timed : RenewalsAreTimed b
   pub credentials : Credentials
   pub due : renewal_due (b.link l) ≡ Some credentials
@@ -503,7 +545,20 @@ pub record MayTime (b : Book) (t ms : ℕ) (what : Purpose) : Type 0 where
   pub is_for : what ≡ purpose.Response (owner.Try n 0)
 
 abbrev pub MayTimer : Book → ℕ → ℕ → Purpose → Type 0
-MayTimer b t ms what = (MayTimeConnect b t ms what ⊎ MayRest b t ms what) ⊎ (MayTime b t ms what ⊎ MayTimeRenewal b t ms what)
+MayTimer b t ms what = (MayTimeConnect b t ms what ⊎ MayRest b t ms what) ⊎ (MayTime b t ms what ⊎ (MayTimeRenewal b t ms what ⊎ MayTimeRepeat b t ms what))
+
+-- the round of a submission begins on its link, in the order of submissions
+pub record MayRound (b : Book) (n l : ℕ) : Type 0 where
+  pub begun : IsBegun b
+  pub unstarted : is_unstarted (b.story n) ≡ true
+  pub rounds : next_step b n ≡ rounds
+  pub in_order : IsFirstToMove b n
+  pub on_its_link : l ≡ (b.story n).link
+
+-- it does so on one link
+abbrev pub MayRoundOn : Book → ℕ → Option ℕ → Type 0
+MayRoundOn b n None = ⊥
+MayRoundOn b n (Some l) = MayRound b n l
 
 -- a submission takes its permits, in the order of submissions
 pub record MayTake (b : Book) (n l count : ℕ) : Type 0 where
@@ -528,7 +583,11 @@ MayStand b (action.Message m) = MayNotify b b.current (notice.Message m)
 MayStand b (action.Monitor v) = MayNotify b b.current (notice.Monitor v)
 MayStand b (action.NeedCreds c l) = MayNeed b c l
 MayStand b (action.Generation g) = MayGenerate b g
-MayStand b (action.Round who l) = ⊥
+MayStand b (action.Round owner.Setup l) = ⊥
+MayStand b (action.Round owner.Auth l) = ⊥
+MayStand b (action.Round owner.Resub l) = ⊥
+MayStand b (action.Round owner.Monitor l) = ⊥
+MayStand b (action.Round (owner.Try n round) l) = (round ≡ 0) × MayRoundOn b n l
 MayStand b (action.Close l) = MayClose b l
 MayStand b (action.Write l bytes) = MayWrite b l bytes
 MayStand b (action.Wait owner.Setup kind) = ⊥
@@ -538,7 +597,7 @@ MayStand b (action.Wait owner.Monitor kind) = ⊥
 MayStand b (action.Start l message owner.Auth count len) = MayRenew b l message count len
 MayStand b (action.Start l message owner.Setup count len) = MaySetUp b l message count len
 MayStand b (action.Start l message owner.Monitor count len) = MayWatch b l message count len
-MayStand b (action.Start l message owner.Resub count len) = ⊥
+MayStand b (action.Start l message owner.Resub count len) = MayRepeat b l message count len
 MayStand b (action.Wait (owner.Try n round) kind) = (round ≡ 0) × MayWait b n kind
 MayStand b (action.Start l message (owner.Try n round) count len) = (round ≡ 0) × MayStart b l message n count len
 MayStand b (action.Created e) = MayShowCreation b e

@@ -1,27 +1,16 @@
--- Which sessions come back: where a link is lost, a manager asks for another one, in a new generation. No kind of session does yet.
+-- Which sessions come back: where a link is lost, a manager asks for another one, in a new generation.
 use Rattle.std.specs.Prelude.{ℕ, nat_le, Bool, true, false, Option, Some, None}
 use Rattle.driver_model.specs.declared.config.Config.{Config}
-use Rattle.driver_model.specs.declared.config.Config.TheVariants as config
+use Rattle.driver_model.specs.Config.{manager_of}
+use Rattle.driver_model.specs.Config.{is_lazy as waits_for_use}
 use Rattle.manager_config.specs.declared.config.ConnectionManagerConfig.{ConnectionManagerConfig}
 
--- how a session of this configuration comes back, if it does
-abbrev pub manager_of : Config → Option ConnectionManagerConfig
-manager_of (config.Single address connection) = None
-manager_of (config.PubSub address) = None
-manager_of (config.Monitor address) = None
-
--- the same, where a configuration was told
+-- how a session comes back whose configuration was told, if it does
 unfoldable pub settings_in : Option Config → Option ConnectionManagerConfig
 settings_in None = None
 settings_in (Some config) = manager_of config
 
 -- it asks for its first link with its first submission
-abbrev pub waits_for_use : Config → Bool
-waits_for_use (config.Single address connection) = false
-waits_for_use (config.PubSub address) = false
-waits_for_use (config.Monitor address) = false
-
--- the same, where a configuration was told
 unfoldable pub is_lazy : Option Config → Bool
 is_lazy None = false
 is_lazy (Some config) = waits_for_use config
