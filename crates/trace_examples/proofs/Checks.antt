@@ -5,7 +5,7 @@ use Rattle.std.proofs.lemmas.Bool.{not-true}
 use Rattle.containers.proofs.Choices.{by_test, eq_from, ne_from, both_left, both_right, not_both}
 use Rattle.driver_model.specs.declared.action.WaitKind.{WaitKind}
 use Rattle.driver_model.specs.declared.action.WaitKind.TheVariants as wait
-use Rattle.legal_trace.specs.Steps.{Step, waits, takes, asks, tells, starts, nothing}
+use Rattle.legal_trace.specs.Steps.{Step, waits, rounds, takes, asks, tells, starts, nothing}
 
 -- the second test, where the first is true
 abbrev pub holds_if : Bool → Bool → Bool
@@ -86,6 +86,7 @@ wait_is_one wait.Room = refl
 -- two steps of one sort
 abbrev pub same_step : Step → Step → Bool
 same_step (waits k) (waits j) = same_wait k j
+same_step rounds rounds = true
 same_step (takes m) (takes n) = m == n
 same_step (asks m) (asks n) = m == n
 same_step tells tells = true
@@ -96,6 +97,7 @@ same_step _ _ = false
 -- what this says
 pub step_from : (s t : Step) → same_step s t ≡ true → s ≡ t
 step_from (waits k) (waits j) e = ap waits (wait_from k j e)
+step_from rounds rounds e = refl
 step_from (takes m) (takes n) e = ap takes (eq_from m n e)
 step_from (asks m) (asks n) e = ap asks (eq_from m n e)
 step_from tells tells e = refl
