@@ -22,6 +22,7 @@ use Rattle.driver_model.specs.declared.event.Submission.{Submission}
 use Rattle.driver_model.specs.declared.event.Submission.TheVariants as submission
 use Rattle.driver_model.specs.declared.outcome.Outcome.TheVariants as outcome
 use Rattle.driver_model.specs.Request.{packed_bytes}
+use Rattle.legal_trace.specs.Legal.{Legal}
 use Rattle.trace_examples.specs.Parts.{patient, turn, history}
 use Rattle.trace_examples.specs.Calls.{call_of_c, hello_line, confirmation}
 use Rattle.trace_examples.specs.Pushes.{get, subscription, disconnection}
@@ -193,20 +194,33 @@ coming_back =
     event.Submit (get 97) ∷ event.Submit (get 98) ∷ event.Ended 0 ∷ event.Submit (get 100) ∷
     event.Connected 1 ∷ event.Bytes 1 hello_bare ∷ event.Bytes 1 confirmation ∷ []
 
--- a call about the channel d, of as many bytes as its word gives it
+-- a call about the channel d: of 26 bytes where it subscribes to it, and of 29 where it leaves it
 abbrev pub call_of_d : SubscriptionAction → Submission
 call_of_d what = submission.Subscription what (codes "d" ∷ [])
 
--- another channel was subscribed, and no longer is, when the link ends and the next one is set up
+-- another channel was subscribed, and no longer is, each call confirmed by whatever is answered, when the link ends and the next
+-- one is set up
 abbrev pub left_d : Config → ℕ → List Action
 left_d config word =
     subscribed_c config word ++
     turn 7 (event.Submit (call_of_d Subscribe)) ∷ started 0 2 1 26 (call_of_d Subscribe) ++
     turn 8 (event.Wrote 0 26) ∷ turn 9 (event.Bytes 0 confirmation) ∷ action.Push 0 subscription ∷ action.Outcome 1 outcome.Done ∷
-    turn 10 (event.Submit (call_of_d Unsubscribe)) ∷ started 0 3 2 28 (call_of_d Unsubscribe) ++
-    turn 11 (event.Wrote 0 28) ∷ turn 12 (event.Bytes 0 confirmation) ∷ action.Push 0 subscription ∷ action.Outcome 2 outcome.Done ∷
+    turn 10 (event.Submit (call_of_d Unsubscribe)) ∷ started 0 3 2 29 (call_of_d Unsubscribe) ++
+    turn 11 (event.Wrote 0 29) ∷ turn 12 (event.Bytes 0 confirmation) ∷ action.Push 0 subscription ∷ action.Outcome 2 outcome.Done ∷
     turn 13 (event.Ended 0) ∷ action.Close 0 ∷ action.Push 0 disconnection ∷ action.Generation 2 ∷ connect 1 ∷
     greeted_on 1 14 ++ turn 15 (event.Bytes 1 hello_bare) ∷ []
+
+-- the events of it
+abbrev pub leaving_d : List EventKind
+leaving_d =
+    event.Connected 0 ∷ event.Wrote 0 22 ∷ event.Bytes 0 hello_bare ∷ event.Submit call_of_c ∷ event.Wrote 0 26 ∷ event.Bytes 0 confirmation ∷
+    event.Submit (call_of_d Subscribe) ∷ event.Wrote 0 26 ∷ event.Bytes 0 confirmation ∷
+    event.Submit (call_of_d Unsubscribe) ∷ event.Wrote 0 29 ∷ event.Bytes 0 confirmation ∷
+    event.Ended 0 ∷ event.Connected 1 ∷ event.Bytes 1 hello_bare ∷ []
+
+-- with this configuration, these actions are a legal trace for these events, whatever the word of the opening
+abbrev pub AreLegal : Config → List Event → (Config → ℕ → List Action) → List Action → Type 0
+AreLegal config events front last = (word : ℕ) → Legal config word events (front config word ++ last)
 
 -- the fronts of the traces that are refused for what comes next
 abbrev pub manager_fronts : ℕ → List (List Action)
