@@ -20,6 +20,7 @@ use Rattle.driver_model.specs.News.{News, silence, connected, refused, overdue, 
 use Rattle.legal_trace.specs.Ledger.{Ledger, Heard, Line, Start, asks, hears, begins, offers, tells, ends, parts, noted, noted_each, with_news, refused_in, bytes_came, is_over, dials, reach, reached, is_full, is_full_by, next_notice, sources, awaits_credentials, authorized_by, times, may_renew, renewed_by, unrenewed_by, is_renewal_open, lost_by}
 use Rattle.legal_trace.specs.Story.{Story, Try, last_of, is_open, handed_in, left, holds, clocked, fires, tried, waits, answered}
 use Rattle.legal_trace.specs.Book.{Book, blank_book, book, entered, entered_each, is_clock_of, after_event, is_unspoken, message_of, if_mine, lines_of, lines_of_each, hearing_in}
+use Rattle.legal_trace.proofs.Clocks.{timer_keeps}
 use Rattle.legal_trace.specs.Legal.{MayStand, MayNotify, MayAnswer, MayTell, AllStand, IsOpen, IsBefore, is_heard, Legal}
 use Rattle.legal_trace.proofs.Books.{stand_front, stand_behind, book_append}
 use Rattle.legal_trace.proofs.Ledgers.{each_keeps, reach_alike, reach_more, takes_one}
@@ -131,7 +132,7 @@ message_from : (b : Book) (a : Action) (l n k : ℕ) → HasStories b → IsFrom
 message_from b (action.Turn j (cause.Opening config word)) l n k blank = λ o h. inl (o, h)
 message_from b (action.Turn j (cause.Event e)) l n k blank = event_from b (action.Turn j (cause.Event e)) l n k e.kind blank
 message_from b (action.Connect m host port) l n k blank = λ o h. inl (o, h)
-message_from b (action.Timer t ms what) l n k blank = chosen (IsFrom b (action.Timer t ms what) l n k) (is_clock_of n (Some what)) (clocked (b.story n) t) (b.story n) (λ e o h. inl (o, h)) (λ f o h. inl (o, h))
+message_from b (action.Timer t ms what) l n k blank = timer_keeps (IsFrom b (action.Timer t ms what) l n k) b n t what (λ e open_still o h. inl (o, h)) (λ e o h. inl (o, h)) (λ o h. inl (o, h))
 message_from b (action.Took owner.Setup m count) l n k blank = λ o h. inl (o, h)
 message_from b (action.Took owner.Auth m count) l n k blank = λ o h. inl (o, h)
 message_from b (action.Took owner.Resub m count) l n k blank = λ o h. inl (o, h)

@@ -3,6 +3,11 @@ pub mod Told
 pub mod Streams
 pub mod Lines
 pub mod Opens
+pub mod Aside
+pub mod Ended
+pub mod Causes
+pub mod Goes
+pub mod Lives
 pub mod Numbers
 pub mod Owes
 pub mod Tales

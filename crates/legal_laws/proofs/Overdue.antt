@@ -13,6 +13,7 @@ use Rattle.driver_model.specs.declared.event.EventKind.TheVariants as event
 use Rattle.legal_trace.specs.Ledger.{begins, offers, ends, failure_in, setup_due, sources, times}
 use Rattle.legal_trace.specs.Story.{Story, is_open, handed_in, left, holds, clocked, fires, tried, waits, answered}
 use Rattle.legal_trace.specs.Book.{Book, blank_book, book, entered, entered_each, message_of, is_clock_of, after_event, is_unspoken, is_renewal_of}
+use Rattle.legal_trace.proofs.Clocks.{timer_keeps}
 use Rattle.legal_trace.specs.Legal.{MayTimer, MayTime, MayStand, AllStand, link_of}
 use Rattle.legal_trace.proofs.Ledgers.{mine_keeps}
 use Rattle.legal_laws.proofs.InLine.{follows, submissions_grow}
@@ -61,7 +62,7 @@ quiet_stays b (action.Push m info) may h some l q = push_keeps (IsQuiet []) (m =
 quiet_stays b (action.Message msg) may h some l q = tell_keeps (IsQuiet []) (b.current == l) (b.link l) (record { quiet = q.quiet; tells = q.tells }) q
 quiet_stays b (action.Monitor v) may h some l q = tell_keeps (IsQuiet []) (b.current == l) (b.link l) (record { quiet = q.quiet; tells = q.tells }) q
 quiet_stays b (action.NeedCreds c m) may h some l q = mine_keeps (IsQuiet []) (m == l) (b.link l) sources (λ t. record { quiet = q.quiet; tells = q.tells }) q
-quiet_stays b (action.Generation g) may h some l q = absurd may
+quiet_stays b (action.Generation g) may h some l q = q
 quiet_stays b (action.Round who m) may h some l q = absurd may
 quiet_stays b (action.Close m) may h some l q = mine_keeps (IsQuiet []) (m == l) (b.link l) (ends (b.turns - 1)) (λ t. ends_quiet [] (b.link l) (b.turns - 1) q) q
 quiet_stays b (action.Write m bytes) may h some l q = mine_keeps (IsQuiet []) (m == l) (b.link l) (offers bytes) (λ t. record { quiet = q.quiet; tells = q.tells }) q
@@ -126,7 +127,7 @@ clock_before b (action.Push m info) may h run n c = run.asked n c
 clock_before b (action.Message msg) may h run n c = run.asked n c
 clock_before b (action.Monitor v) may h run n c = run.asked n c
 clock_before b (action.NeedCreds s m) may h run n c = run.asked n c
-clock_before b (action.Generation g) may h run n c = absurd may
+clock_before b (action.Generation g) may h run n c = run.asked n c
 clock_before b (action.Round who m) may h run n c = absurd may
 clock_before b (action.Close m) may h run n c = run.asked n c
 clock_before b (action.Write m bytes) may h run n c = run.asked n c
@@ -164,7 +165,7 @@ over_before : (b : Book) (a : Action) (n : ℕ) → WasOver b n ((entered b a).s
 over_before b (action.Turn k (cause.Opening config word)) n = λ e. inl e
 over_before b (action.Turn k (cause.Event e)) n = event_over b n e.kind
 over_before b (action.Connect m host port) n = λ e. inl e
-over_before b (action.Timer t ms what) n = chosen (WasOver b n) (is_clock_of n (Some what)) (clocked (b.story n) t) (b.story n) (λ c e. inl e) (λ f e. inl e)
+over_before b (action.Timer t ms what) n = timer_keeps (WasOver b n) b n t what (λ c o e. inl e) (λ c e. inl e) (λ e. inl e)
 over_before b (action.Took owner.Setup l count) n = λ e. inl e
 over_before b (action.Took owner.Auth l count) n = λ e. inl e
 over_before b (action.Took owner.Resub l count) n = λ e. inl e

@@ -276,7 +276,7 @@ set_kept b l (action.Push m info) may s h = push_keeps CutIsSet (m == l) info.ki
 set_kept b l (action.Message msg) may s h = tell_keeps CutIsSet (b.current == l) (b.link l) h h
 set_kept b l (action.Monitor v) may s h = tell_keeps CutIsSet (b.current == l) (b.link l) h h
 set_kept b l (action.NeedCreds c m) may s h = mine_keeps CutIsSet (m == l) (b.link l) sources (λ t. h) h
-set_kept b l (action.Generation g) may s h = absurd may
+set_kept b l (action.Generation g) may s h = h
 set_kept b l (action.Round who m) may s h = absurd may
 set_kept b l (action.Close m) may s h = mine_keeps CutIsSet (m == l) (b.link l) (ends (b.turns - 1)) (λ t cut. fault_is_set (b.link l) cut) h
 set_kept b l (action.Write m bytes) may s h = mine_keeps CutIsSet (m == l) (b.link l) (offers bytes) (λ t. h) h

@@ -14,6 +14,7 @@ use Rattle.driver_model.specs.declared.event.EventKind.TheVariants as event
 use Rattle.legal_trace.specs.Story.{Story, is_open, handed_in, left, holds, clocked, fires, tried, waits, answered}
 use Rattle.legal_trace.specs.Book.{Book, blank_book, book, entered, entered_each, is_clock_of, after_event, is_unspoken}
 use Rattle.legal_trace.specs.Steps.{permits_in, permits_on, permits_held}
+use Rattle.legal_trace.proofs.Clocks.{timer_keeps}
 use Rattle.legal_trace.specs.Legal.{MayTake, MayStand, AllStand, Legal}
 use Rattle.legal_trace.proofs.Books.{stand_front}
 use Rattle.legal_laws.specs.Permits.{KeepsPermits}
@@ -146,7 +147,7 @@ within_kept b (action.Turn k (cause.Opening config word)) may sound h = λ limit
 within_kept b (action.Turn k (cause.Event e)) may sound h = kept_by b (action.Turn k (cause.Event e)) may sound refl (λ n i. event_less b n e.kind) h
 within_kept b (action.Connect m host port) may sound h = kept_by b (action.Connect m host port) may sound refl (λ n i. omega arith) h
 within_kept b (action.Timer t ms what) may sound h = kept_by b (action.Timer t ms what) may sound refl
-    (λ n i. chosen (λ (s : Story). s.permits ≤ (b.story n).permits) (is_clock_of n (Some what)) (clocked (b.story n) t) (b.story n) (λ e. omega arith) (λ f. omega arith)) h
+    (λ n i. timer_keeps (λ (s : Story). s.permits ≤ (b.story n).permits) b n t what (λ e o. omega arith) (λ e. omega arith) (omega arith)) h
 within_kept b (action.Took owner.Setup l count) may sound h = absurd may
 within_kept b (action.Took owner.Auth l count) may sound h = absurd may
 within_kept b (action.Took owner.Resub l count) may sound h = absurd may
@@ -156,7 +157,7 @@ within_kept b (action.Push m info) may sound h = kept_by b (action.Push m info) 
 within_kept b (action.Message msg) may sound h = kept_by b (action.Message msg) may sound refl (λ n i. omega arith) h
 within_kept b (action.Monitor v) may sound h = kept_by b (action.Monitor v) may sound refl (λ n i. omega arith) h
 within_kept b (action.NeedCreds c m) may sound h = kept_by b (action.NeedCreds c m) may sound refl (λ n i. omega arith) h
-within_kept b (action.Generation g) may sound h = absurd may
+within_kept b (action.Generation g) may sound h = kept_by b (action.Generation g) may sound refl (λ n i. omega arith) h
 within_kept b (action.Round who m) may sound h = absurd may
 within_kept b (action.Close m) may sound h = kept_by b (action.Close m) may sound refl (λ n i. omega arith) h
 within_kept b (action.Write m bytes) may sound h = kept_by b (action.Write m bytes) may sound refl (λ n i. omega arith) h

@@ -126,7 +126,7 @@ done_kept b l ds (action.Push m info) may s h = push_keeps (IsDone ds) (m == l) 
 done_kept b l ds (action.Message msg) may s h = tell_keeps (IsDone ds) (b.current == l) (b.link l) (record { asked = h.asked; watching = h.watching; ready = h.ready; dealt = h.dealt }) h
 done_kept b l ds (action.Monitor v) may s h = tell_keeps (IsDone ds) (b.current == l) (b.link l) (record { asked = h.asked; watching = h.watching; ready = h.ready; dealt = h.dealt }) h
 done_kept b l ds (action.NeedCreds c m) may s h = mine_keeps (IsDone ds) (m == l) (b.link l) sources (λ t. record { asked = h.asked; watching = h.watching; ready = h.ready; dealt = h.dealt }) h
-done_kept b l ds (action.Generation g) may s h = absurd may
+done_kept b l ds (action.Generation g) may s h = h
 done_kept b l ds (action.Round who m) may s h = absurd may
 done_kept b l ds (action.Close m) may s h = mine_keeps (IsDone ds) (m == l) (b.link l) (ends (b.turns - 1)) (λ t. record { asked = h.asked; watching = h.watching; ready = h.ready; dealt = h.dealt }) h
 done_kept b l ds (action.Write m bytes) may s h = mine_keeps (IsDone ds) (m == l) (b.link l) (offers bytes) (λ t. record { asked = h.asked; watching = h.watching; ready = h.ready; dealt = h.dealt }) h
@@ -212,7 +212,7 @@ none_submitted b (action.Push l info) may s h = h
 none_submitted b (action.Message msg) may s h = h
 none_submitted b (action.Monitor v) may s h = h
 none_submitted b (action.NeedCreds c l) may s h = h
-none_submitted b (action.Generation g) may s h = absurd may
+none_submitted b (action.Generation g) may s h = h
 none_submitted b (action.Round who l) may s h = absurd may
 none_submitted b (action.Close l) may s h = h
 none_submitted b (action.Write l bytes) may s h = h

@@ -16,6 +16,7 @@ use Rattle.legal_trace.specs.Ledger.{dials, is_ready}
 use Rattle.legal_trace.specs.Story.{Story, has_place, is_room, is_open, is_told, is_awaited, is_no_error, is_unstarted, handed_in, left, holds, clocked, fires, tried, waits, answered}
 use Rattle.legal_trace.specs.Book.{Book, blank_book, book, entered, entered_each, is_clock_of, after_event, is_unspoken}
 use Rattle.legal_trace.specs.Steps.{configured, queue_size, permits_in, free_permits, is_let_in, is_in_line, line_before, is_outside}
+use Rattle.legal_trace.proofs.Clocks.{timer_keeps}
 use Rattle.legal_trace.specs.Legal.{MayStand, MayAnswer, MayTell, MayTake, MayWait, AllStand, CanMove, link_of}
 use Rattle.legal_trace.proofs.Moves.{lt_test, one_holds, both_hold, inside_has_room, rooms_mean, holds_some, is_timed, tells_mean, takes_mean, holder_is_timed, rester_holds, teller_moves, taker_moves}
 use Rattle.legal_laws.proofs.InLine.{is_to_start, is_admitted, Follows, first_holds, second_holds, follows, owed_is_done, to_start_before, shorter}
@@ -248,7 +249,7 @@ seated_kept b (action.Push l info) may sound holders h = kept_by b (action.Push 
 seated_kept b (action.Message msg) may sound holders h = kept_by b (action.Message msg) may refl (unchanged b (action.Message msg) (λ n t. t)) h
 seated_kept b (action.Monitor v) may sound holders h = kept_by b (action.Monitor v) may refl (unchanged b (action.Monitor v) (λ n t. t)) h
 seated_kept b (action.NeedCreds c l) may sound holders h = kept_by b (action.NeedCreds c l) may refl (unchanged b (action.NeedCreds c l) (λ n t. t)) h
-seated_kept b (action.Generation g) may sound holders h = absurd may
+seated_kept b (action.Generation g) may sound holders h = kept_by b (action.Generation g) may refl (unchanged b (action.Generation g) (λ n t. t)) h
 seated_kept b (action.Round who l) may sound holders h = absurd may
 seated_kept b (action.Close l) may sound holders h = kept_by b (action.Close l) may refl (unchanged b (action.Close l) (λ n t. t)) h
 seated_kept b (action.Write l bytes) may sound holders h = kept_by b (action.Write l bytes) may refl (unchanged b (action.Write l bytes) (λ n t. t)) h
@@ -321,7 +322,7 @@ pub gains : (b : Book) (a : Action) → MayStand b a → (n : ℕ) → Gains b n
 gains b (action.Turn k (cause.Opening config word)) may n = λ i. inl i
 gains b (action.Turn k (cause.Event e)) may n = event_gains b n e.kind
 gains b (action.Connect l host port) may n = λ i. inl i
-gains b (action.Timer t ms what) may n = chosen (Gains b n) (is_clock_of n (Some what)) (clocked (b.story n) t) (b.story n) (λ e i. inl i) (λ f i. inl i)
+gains b (action.Timer t ms what) may n = timer_keeps (Gains b n) b n t what (λ e o i. absurd (omega (arith, i))) (λ e i. inl i) (λ i. inl i)
 gains b (action.Took owner.Setup l count) may n = absurd may
 gains b (action.Took owner.Auth l count) may n = absurd may
 gains b (action.Took owner.Resub l count) may n = absurd may
@@ -332,7 +333,7 @@ gains b (action.Push l info) may n = λ i. inl i
 gains b (action.Message msg) may n = λ i. inl i
 gains b (action.Monitor v) may n = λ i. inl i
 gains b (action.NeedCreds c l) may n = λ i. inl i
-gains b (action.Generation g) may n = absurd may
+gains b (action.Generation g) may n = λ i. inl i
 gains b (action.Round who l) may n = absurd may
 gains b (action.Close l) may n = λ i. inl i
 gains b (action.Write l bytes) may n = λ i. inl i

@@ -148,7 +148,7 @@ shaped_kept b (action.Message msg) l may links h = tell_keeps IsShaped (b.curren
 shaped_kept b (action.Monitor v) l may links h = tell_keeps IsShaped (b.current == l) (b.link l) (record { none = h.none; are = h.are; bare = h.bare; ready = h.ready; second = h.second; came = h.came }) h
 shaped_kept b (action.NeedCreds c m) l may links h = mine_keeps IsShaped (m == l) (b.link l) sources
     (λ t. source_shaped (b.link l) (subst (λ j. source_due (b.link j) ≡ true) (eq_from m l t) may.due) h) h
-shaped_kept b (action.Generation g) l may links h = absurd may
+shaped_kept b (action.Generation g) l may links h = h
 shaped_kept b (action.Round who m) l may links h = absurd may
 shaped_kept b (action.Close m) l may links h = mine_keeps IsShaped (m == l) (b.link l) (ends (b.turns - 1)) (λ t. record { none = h.none; are = h.are; bare = h.bare; ready = h.ready; second = h.second; came = h.came }) h
 shaped_kept b (action.Write m bytes) l may links h = mine_keeps IsShaped (m == l) (b.link l) (offers bytes) (λ t. record { none = h.none; are = h.are; bare = h.bare; ready = h.ready; second = h.second; came = h.came }) h

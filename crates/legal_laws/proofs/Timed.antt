@@ -144,7 +144,7 @@ timers_kept b (action.Message msg) l count may sound h = no_more count _
 timers_kept b (action.Monitor v) l count may sound h = no_more count _
     (tell_keeps (HasTimers count) (b.current == l) (b.link l) (same_timers count (b.link l) _ refl refl h) h)
 timers_kept b (action.NeedCreds c m) l count may sound h = no_more count _ (mine_keeps (HasTimers count) (m == l) (b.link l) sources (λ t. same_timers count (b.link l) (noted (b.link l) sources) refl refl h) h)
-timers_kept b (action.Generation g) l count may sound h = absurd may
+timers_kept b (action.Generation g) l count may sound h = no_more count (b.link l) h
 timers_kept b (action.Round who m) l count may sound h = absurd may
 timers_kept b (action.Close m) l count may sound h = no_more count _
     (mine_keeps (HasTimers count) (m == l) (b.link l) (ends (b.turns - 1)) (λ t. same_timers count (b.link l) (noted (b.link l) (ends (b.turns - 1))) refl refl h) h)
