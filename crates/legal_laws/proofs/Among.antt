@@ -242,7 +242,7 @@ told_takes : (b : Book) (l n : ℕ) (what : Notice) (p : Heard) → Sound b → 
 told_takes b l n what p sound row may next = record {
   dealt = (between_at 0 (b.link l).notices (length (b.link l).dealt) (b.link l).told p row.rise next).1;
   takes = λ k o has. by_test (is_full_by (b.link l) p.after k) (p.after < reached (b.link l) (k + 1))
-      (λ t. absurd (may.answered n o (on_its_link b n l what sound may) (record {
+      (λ t. absurd (may.answered n o (on_its_link b n l what sound o may) (record {
         try = record { link = l; message = k };
         last = has;
         full = subst (λ (q : Heard). is_full_by (b.link l) q.after k ≡ true) (same_some p may.heard (sym next ∙ may.next)) t;
@@ -303,7 +303,7 @@ answers_before b middle more a l n k o p sound row all is next has full =
     let numbered : n < b.submissions = open_is_numbered b n sound.stories may.asked in
     let some : b.turns ≢ 0 = λ none. let empty : b.submissions ≡ 0 = sound.opens.none_yet (omega (arith, none)) in omega (arith, numbered, empty) in
     let heard : is_heard b ≡ true = sym (ap (λ config. hears_something (hearing_in config)) (config_kept b (answer ∷ middle) front some)) ∙ t.1.is_heard in
-    let on : (b.story n).link ≡ l = sound.goes n ∙ (sym (sound_later.goes n) ∙ on_its_link later n l t.0 sound_later t.1) in
+    let on : (b.story n).link ≡ l = sym ((sound.goes n).tries_on (record { link = l; message = k }) has) in
     let count : ℕ = reached (b.link l) (k + 1) in
     let beyond : IsBeyond count (later.link l) = subst (IsBeyond count) (sym (told_behind b l (answer ∷ middle)))
     (each_keeps (IsBeyond count) (beyond_keeps count) (b.link l) (lines_of_each b l (answer ∷ middle)) (answered_beyond b l n k o row heard on may has full)) in

@@ -22,6 +22,7 @@ pub mod Turned
 pub mod Ranks
 pub mod Next
 pub mod Equal
+pub mod Undue
 pub mod Held
 pub mod InLine
 pub mod Overdue

@@ -100,7 +100,8 @@ connects_new b l m next h t = let e : m ≡ l = eq_from m l t in (h.links.unaske
 
 -- a timer of new credentials is asked for where one is to be
 timer_may : (b : Book) (l t ms : ℕ) (what : Purpose) → MayTimer b t ms what → is_renewal_of l what ≡ true → MayNote (b.link l) times
-timer_may b l t ms what (inl may) e = absurd (let x : false ≡ true = sym (ap (is_renewal_of l) may.is_for) ∙ e in cc x)
+timer_may b l t ms what (inl (inl may)) e = absurd (let x : false ≡ true = sym (ap (is_renewal_of l) may.is_for) ∙ e in cc x)
+timer_may b l t ms what (inl (inr may)) e = absurd (let x : false ≡ true = sym (ap (is_renewal_of l) may.is_for) ∙ e in cc x)
 timer_may b l t ms what (inr (inl may)) e = absurd (let x : false ≡ true = sym (ap (is_renewal_of l) may.is_for) ∙ e in cc x)
 timer_may b l t ms what (inr (inr may)) e = subst (λ j. MayNote (b.link j) times) (eq_from may.l l (sym (ap (is_renewal_of l) may.is_for) ∙ e)) may.asked
 

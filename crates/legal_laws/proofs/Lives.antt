@@ -35,7 +35,7 @@ use Rattle.legal_laws.proofs.Aside.{IsAside, aside_kept, unnumbered_aside}
 use Rattle.legal_laws.proofs.Causes.{needs_link, needs_in, verdict_needs_none}
 use Rattle.legal_laws.proofs.Ended.{end_kept, some_end}
 use Rattle.legal_laws.proofs.Numbers.{HasLinks}
-use Rattle.legal_laws.proofs.Opens.{IsOpening}
+use Rattle.legal_laws.proofs.Opens.{IsOpening, due_has_no_link}
 use Rattle.legal_laws.proofs.Owes.{owed_story}
 use Rattle.legal_laws.proofs.Quiet.{failed_is_over}
 
@@ -94,7 +94,7 @@ none_is_next b h none = elim h.near [ inl next ↦ next | inr last ↦ absurd (o
 pub due_link_is_next : (b : Book) → Lives b → HasLinks b → link_due b ≡ true → b.current ≡ b.links
 due_link_is_next b h links due = by_test (has_generations b) (b.current ≡ b.links)
     (λ has. unasked_is_next b h links (due_link_is_unasked b due has).0)
-    (λ plain. none_is_next b h (eq_from b.links 0 (sym (left_if (has_generations b) (nat_lt 0 b.generation && (not (current_link b).asked && (is_none b.rest && not b.shut))) (b.links == 0) plain) ∙ due)))
+    (λ plain. none_is_next b h (due_has_no_link b due plain))
 
 -- a lost link has ended
 lost_is_over : (turn : ℕ) (o : Option End) → is_lost_in turn o ≡ true → is_some o ≡ true
@@ -194,7 +194,7 @@ left_aside b l h up shown over = by_test (l == b.current) (IsAside (are_pushes_h
     (λ f. h.aside l (ne_from l b.current f))
 
 -- a failed opening stays one
-failure_kept : (b : Book) (a : Action) (l : ℕ) (e : RedisError) → MayStand b a → UpIsNotOver (b.link l) → failure_in (b.link l).end ≡ Some e → failure_in ((entered b a).link l).end ≡ Some e
+pub failure_kept : (b : Book) (a : Action) (l : ℕ) (e : RedisError) → MayStand b a → UpIsNotOver (b.link l) → failure_in (b.link l).end ≡ Some e → failure_in ((entered b a).link l).end ≡ Some e
 failure_kept b a l e may up fails =
     let over = failed_is_over (b.link l).end e fails in
     ap failure_in (end_kept b a l over.0 may up over.1) ∙ (sym (ap failure_in over.1) ∙ fails)

@@ -108,7 +108,7 @@ unasked_kept b l (action.Created e) may i h = h
 unasked_kept b l (action.Outcome n o) may i h = h
 
 -- links are never taken back
-links_grow : (b : Book) (a : Action) → b.links ≤ (entered b a).links
+pub links_grow : (b : Book) (a : Action) → b.links ≤ (entered b a).links
 links_grow b (action.Turn k (cause.Opening config word)) = omega arith
 links_grow b (action.Turn k (cause.Event e)) = omega arith
 links_grow b (action.Connect m host port) = omega arith
@@ -132,7 +132,7 @@ asked_stays : (b : Book) (l : ℕ) (a : Action) → IsAsked (b.link l) → IsAsk
 asked_stays b l a h = each_keeps IsAsked asked_keeps (b.link l) (lines_of b l a) h
 
 -- and a connect asks for the next one
-asked_kept : (b : Book) (l : ℕ) (a : Action) → MayStand b a → HasLinks b → l < (entered b a).links → IsAsked ((entered b a).link l)
+pub asked_kept : (b : Book) (l : ℕ) (a : Action) → MayStand b a → HasLinks b → l < (entered b a).links → IsAsked ((entered b a).link l)
 asked_kept b l (action.Turn k (cause.Opening config word)) may h i = asked_stays b l (action.Turn k (cause.Opening config word)) (h.asked l i)
 asked_kept b l (action.Turn k (cause.Event e)) may h i = asked_stays b l (action.Turn k (cause.Event e)) (h.asked l i)
 asked_kept b l (action.Connect m host port) may h i =
@@ -184,6 +184,12 @@ up_is_numbered b l h up = by_test (nat_le b.links l) (l < b.links)
 pub over_is_numbered : (b : Book) (l : ℕ) (end : End) → HasLinks b → (b.link l).end ≡ Some end → l < b.links
 over_is_numbered b l end h over = by_test (nat_le b.links l) (l < b.links)
     (λ t. absurd (not_none (b.link l).end end (h.unasked l (le_from b.links l t)).2 over))
+    (λ f. not_le_from b.links l f)
+
+-- so is one that was asked for
+pub asked_is_numbered : (b : Book) (l : ℕ) → HasLinks b → (b.link l).asked ≡ true → l < b.links
+asked_is_numbered b l h asked = by_test (nat_le b.links l) (l < b.links)
+    (λ t. absurd (not_both (b.link l).asked (h.unasked l (le_from b.links l t)).0 asked))
     (λ f. not_le_from b.links l f)
 
 -- and one that is up was asked for

@@ -1,6 +1,6 @@
 -- Until the first event nothing is handed in, and nothing happens to a link.
 use Rattle.std.proofs.Common.{◌≡◌, ◌≢◌, ℕ, ◌<◌, ◌≤◌, ◌==◌, nat_lt, Bool, false, ◌&&◌, not, [], Option, Some, None, is_some, is_none, if◌then◌else◌, refl, sym, ◌∙◌, ap, arith}
-use Rattle.containers.proofs.Choices.{chosen, left_if, ne_from}
+use Rattle.containers.proofs.Choices.{chosen, left_if, eq_from, ne_from}
 use Rattle.driver_model.specs.declared.action.Action.{Action}
 use Rattle.driver_model.specs.declared.action.Action.TheVariants as action
 use Rattle.driver_model.specs.declared.action.Cause.{Cause}
@@ -17,13 +17,15 @@ use Rattle.legal_trace.proofs.Plain.{not_none}
 use Rattle.legal_laws.proofs.Pushed.{push_keeps, tell_keeps}
 
 -- before the first turn no link is asked for and no configuration is told; until the first event nothing is handed in or shut down;
--- and by then a link was asked for, where the session doesn't come back
+-- by then a link was asked for, where the session doesn't come back,
+-- and never another one
 pub record Opens (turns links submissions : ℕ) (config : Option Config) (is_shut : Bool) : Type 0 where
   pub no_links : turns ≡ 0 → links ≡ 0
   pub no_config : turns ≡ 0 → config ≡ None
   pub none_yet : turns ≤ 1 → submissions ≡ 0
   pub not_shut : turns ≤ 1 → is_shut ≡ false
   pub asked : 1 < turns → is_some (settings_in config) ≡ false → links ≢ 0
+  pub one_link : is_some (settings_in config) ≡ false → links ≤ 1
 
 -- so it is in a book
 abbrev pub IsOpening : Book → Type 0
@@ -34,6 +36,11 @@ pub applied_has_link : (b : Book) → link_due b ≡ false → has_generations b
 applied_has_link b linked plain =
     ne_from b.links 0 (sym (left_if (has_generations b) (nat_lt 0 b.generation && (not (current_link b).asked && (is_none b.rest && not b.shut))) (b.links == 0) plain) ∙ linked)
 
+-- where one is to be asked for there, there is none
+pub due_has_no_link : (b : Book) → link_due b ≡ true → has_generations b ≡ false → b.links ≡ 0
+due_has_no_link b due plain =
+    eq_from b.links 0 (sym (left_if (has_generations b) (nat_lt 0 b.generation && (not (current_link b).asked && (is_none b.rest && not b.shut))) (b.links == 0) plain) ∙ due)
+
 -- each action that may stand keeps it
 pub opening_kept : (b : Book) (a : Action) → MayStand b a → IsOpening b → IsOpening (entered b a)
 opening_kept b (action.Turn k (cause.Opening config word)) may h = record {
@@ -42,6 +49,7 @@ opening_kept b (action.Turn k (cause.Opening config word)) may h = record {
   none_yet = λ i. let start : b.turns ≡ 0 = may.is_for in h.none_yet (omega arith);
   not_shut = λ i. let start : b.turns ≡ 0 = may.is_for in h.not_shut (omega arith);
   asked = λ i. absurd (let start : b.turns ≡ 0 = may.is_for in omega (arith, start, i));
+  one_link = λ plain. let none : b.links ≡ 0 = h.no_links may.is_for in omega (arith, none);
 }
 opening_kept b (action.Turn k (cause.Event event)) may h = record {
   no_links = λ e. absurd (omega arith);
@@ -49,6 +57,7 @@ opening_kept b (action.Turn k (cause.Event event)) may h = record {
   none_yet = λ i. let later : b.turns ≢ 0 = may.is_for.0 in absurd (omega arith);
   not_shut = λ i. let later : b.turns ≢ 0 = may.is_for.0 in absurd (omega arith);
   asked = λ i plain. applied_has_link b may.is_for.1.written.moved.begun.applied.linked plain;
+  one_link = h.one_link;
 }
 opening_kept b (action.Connect l host port) may h = record {
   no_links = λ e. absurd (not_none b.config may.config (h.no_config e) may.told);
@@ -56,6 +65,7 @@ opening_kept b (action.Connect l host port) may h = record {
   none_yet = h.none_yet;
   not_shut = h.not_shut;
   asked = λ i plain none. omega (arith, none);
+  one_link = λ plain. let none : b.links ≡ 0 = due_has_no_link b may.due plain in omega (arith, none);
 }
 opening_kept b (action.Timer t ms what) may h = h
 opening_kept b (action.Took owner.Setup l count) may h = absurd may

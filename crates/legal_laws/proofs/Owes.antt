@@ -1,7 +1,7 @@
 -- When a submission is owed nothing, and that it stays so while messages start.
 use Rattle.std.proofs.Common.{◌≡◌, ◌≢◌, ℕ, ◌+◌, ◌<◌, ◌≤◌, ◌==◌, nat_le, Bool, true, false, [], ◌∷◌, ◌++◌, length, take, Option, Some, None, is_some, ◌&&◌, not, if◌then◌else◌, refl, sym, ◌∙◌, ap, arith, length-append}
 use Rattle.std.proofs.lemmas.List.{take-append-le, take_all}
-use Rattle.containers.proofs.Choices.{chosen, not_le_test, left_if, not_both, eq_test}
+use Rattle.containers.proofs.Choices.{chosen, not_le_test, taken_if, left_if, not_both, eq_test}
 use Rattle.redis_error.specs.declared.fault_kind.FaultKind.TheVariants as kind
 use Rattle.redis_error.specs.declared.redis_error.RedisError.TheVariants as error
 use Rattle.driver_model.specs.declared.outcome.Outcome.{Outcome}
@@ -150,3 +150,11 @@ over_owes b s there over last none = by_last (last_of s.tries) refl
     by_last : (o : Option Try) → last_of s.tries ≡ o → ⊥
     by_last None e = not_both (is_attempt (b.link s.link).end) last (waiting_alone b.shut (b.link s.link) over (sym (ap (owed_to_try b s) e) ∙ (nothing_is_owed b s none).by_message))
     by_last (Some t) e = tried_owes b s t e (ap (λ l. is_over (b.link l)) (there t e) ∙ over) none
+
+-- where everything is shut down, a submission without a message is owed something while its link isn't asked for
+pub shut_owes : (b : Book) (s : Story) → b.shut ≡ true → (b.link s.link).asked ≡ false → s.tries ≡ [] → owed_story b s ≡ None → ⊥
+shut_owes b s shut unasked none owes =
+    let l : Ledger = b.link s.link in
+    let waits : owed_waiting b.shut l ≡ None = sym (ap (λ ts. owed_to_try b s (last_of ts)) none) ∙ (nothing_is_owed b s owes).by_message in
+    let closed : owed_waiting b.shut l ≡ Some (outcome.Fault error.Closed) = taken_if (b.shut && not l.asked) (Some (outcome.Fault error.Closed)) (owed_unstarted l.end) (ap (λ x. x && not l.asked) shut ∙ ap not unasked) in
+    let x : None ≡ Some (outcome.Fault error.Closed) = sym waits ∙ closed in cc x

@@ -203,7 +203,7 @@ event_submits b (event.Submit what) good is = absurd (not_both (has_no_form (kin
 event_submits b _ good is = refl
 
 none_submitted : (b : Book) (a : Action) → MayStand b a → Sound b → NoneSubmitted b → NoneSubmitted (entered b a)
-none_submitted b (action.Turn k (cause.Opening config word)) may s h = λ is. s.opens.no_submissions (s.opens.no_links may.is_for)
+none_submitted b (action.Turn k (cause.Opening config word)) may s h = λ is. let start : b.turns ≡ 0 = may.is_for in s.opens.none_yet (omega (arith, start))
 none_submitted b (action.Turn k (cause.Event e)) may s h = λ is. let none : b.submissions ≡ 0 = h is in let more : submitted_by e.kind ≡ 0 = event_submits b e.kind may.is_for.2 is in omega (arith, none, more)
 none_submitted b (action.Connect l host port) may s h = h
 none_submitted b (action.Timer t ms what) may s h = h

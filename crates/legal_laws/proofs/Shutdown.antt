@@ -1,7 +1,7 @@
 -- What every link hears of a shutdown.
 use Rattle.std.proofs.Common.{◌≡◌, ℕ, ◌-◌, ◌<◌, ◌≤◌, ◌==◌, nat_lt, Bool, true, false, ◌&&◌, ◌||◌, not, Option, Some, None, is_some, is_none, if◌then◌else◌, refl, sym, ◌∙◌, ap}
 use Rattle.std.proofs.lemmas.Bool.{not-true}
-use Rattle.containers.proofs.Choices.{by_test, chosen, taken_if, left_if, eq_from, lt_from, not_lt_from, not_both, both_right}
+use Rattle.containers.proofs.Choices.{by_test, chosen, taken_if, eq_from, lt_from, not_lt_from, not_both, both_right}
 use Rattle.redis_error.specs.declared.redis_error.RedisError.{RedisError}
 use Rattle.driver_model.specs.declared.action.Action.{Action}
 use Rattle.driver_model.specs.declared.action.Action.TheVariants as action
@@ -15,7 +15,7 @@ use Rattle.legal_trace.specs.Book.{Book, entered, has_generations, message_of, s
 use Rattle.legal_trace.specs.Legal.{MayStand, NoneEnds, current_link, link_due}
 use Rattle.legal_trace.proofs.Ledgers.{mine_keeps, hears_past}
 use Rattle.legal_trace.proofs.Plain.{not_none}
-use Rattle.legal_laws.proofs.Opens.{IsOpening}
+use Rattle.legal_laws.proofs.Opens.{IsOpening, due_has_no_link}
 use Rattle.legal_laws.proofs.Pushed.{push_keeps, tell_keeps}
 
 -- a link that was asked for and has not ended was told of the shutdown by the turn that runs
@@ -86,7 +86,7 @@ pub connect_is_open : (b : Book) → IsOpening b → link_due b ≡ true → b.s
 connect_is_open b opening due = by_test (has_generations b) (b.shut ≡ false)
     (λ has. let all = sym (taken_if (has_generations b) (nat_lt 0 b.generation && (not (current_link b).asked && (is_none b.rest && not b.shut))) (b.links == 0) has) ∙ due in
     not-true b.shut (both_right (is_none b.rest) (not b.shut) (both_right (not (current_link b).asked) (is_none b.rest && not b.shut) (both_right (nat_lt 0 b.generation) (not (current_link b).asked && (is_none b.rest && not b.shut)) all))))
-    (λ plain. let none : b.links ≡ 0 = eq_from b.links 0 (sym (left_if (has_generations b) (nat_lt 0 b.generation && (not (current_link b).asked && (is_none b.rest && not b.shut))) (b.links == 0) plain) ∙ due) in
+    (λ plain. let none : b.links ≡ 0 = due_has_no_link b due plain in
     by_test (nat_lt 1 b.turns) (b.shut ≡ false)
     (λ later. absurd (opening.asked (lt_from 1 b.turns later) plain none))
     (λ early. opening.not_shut (not_lt_from 1 b.turns early)))

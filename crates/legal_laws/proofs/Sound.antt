@@ -59,6 +59,7 @@ blank_is_sound = record {
     none_yet = λ i. refl;
     not_shut = λ i. refl;
     asked = λ i. absurd (omega (arith, i));
+    one_link = λ plain. omega arith;
   };
   still = λ i l. record { down = refl; lives = refl; untold = refl; mute = refl };
   links = record { asked = λ l i. absurd (omega arith); unasked = λ l i. (refl, refl, refl) };

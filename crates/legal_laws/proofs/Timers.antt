@@ -14,7 +14,7 @@ use Rattle.driver_model.specs.declared.event.EventKind.{EventKind}
 use Rattle.driver_model.specs.declared.event.EventKind.TheVariants as event
 use Rattle.driver_model.specs.declared.event.Submission.{Submission}
 use Rattle.legal_trace.specs.Story.{Story, is_open, handed_in, left, holds, clocked, fires, tried, waits, answered}
-use Rattle.legal_trace.specs.Book.{Book, blank_book, book, entered, entered_each, is_clock_of, after_event, is_unspoken}
+use Rattle.legal_trace.specs.Book.{is_of_connect, is_rest, Book, blank_book, book, entered, entered_each, is_clock_of, after_event, is_unspoken}
 use Rattle.legal_trace.specs.Steps.{permits_in}
 use Rattle.legal_trace.proofs.Clocks.{timer_keeps}
 use Rattle.legal_trace.specs.Legal.{MayTimer, MayTime, MayStand, AllStand, Legal}
@@ -27,14 +27,8 @@ use Rattle.driver_model.specs.Config.{permits}
 
 -- of a timer of submission n that may be asked for
 ask_of : (b : Book) (t ms n round : ℕ) → MayTimer b t ms (purpose.Response (owner.Try n round)) → (may : MayTime b t ms (purpose.Response (owner.Try n round))) × (may.n ≡ n)
-ask_of b t ms n round (inl may) = absurd (let x : false ≡ true = ap is_response may.is_for in cc x)
-  where
-    is_response : Purpose → Bool
-    is_response (purpose.Connect l) = true
-    is_response (purpose.Response who) = false
-    is_response (purpose.Renewal l k) = true
-    is_response (purpose.Backoff g) = true
-    is_response (purpose.Resubscription l) = true
+ask_of b t ms n round (inl (inl may)) = absurd (let x : false ≡ true = ap is_of_connect may.is_for in cc x)
+ask_of b t ms n round (inl (inr may)) = absurd (let x : false ≡ true = ap is_rest may.is_for in cc x)
 ask_of b t ms n round (inr (inr may)) = absurd (let x : false ≡ true = ap is_renewal may.is_for in cc x)
   where
     is_renewal : Purpose → Bool
