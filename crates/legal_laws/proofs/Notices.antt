@@ -259,4 +259,4 @@ tells_each config word events trace h some front more l is whole =
     let settled = settled_whole config word events front more legal whole in
     let done = settled.written.moved.begun.applied in
     let heard : is_heard (book front) ≡ true = ap (λ config. hears_something (hearing_in config)) (ready.configured (applied_began (book front) ready.sound done)) ∙ some in
-    all_said l front (front_stands config word events front more legal) (done.pushed l heard)
+    all_said l front (front_stands config word events front more legal) (done.shown.pushed l heard)
