@@ -51,3 +51,5 @@ pub mod Reports
 pub mod Drops
 pub mod Parted
 pub mod Among
+pub mod Attempts
+pub mod Generations

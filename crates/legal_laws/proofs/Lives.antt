@@ -1,9 +1,9 @@
 -- One link is current: the others are aside, submissions that are open go to it, and it has ended where a new link is to come.
-use Rattle.std.proofs.Common.{◌≡◌, ◌≢◌, ◌⊎◌, inl, inr, ℕ, ◌+◌, ◌-◌, ◌<◌, ◌≤◌, ◌==◌, nat_lt, Bool, true, false, ◌&&◌, ◌||◌, not, List, [], ◌∷◌, ◌++◌, length, Option, Some, None, is_some, is_none, if◌then◌else◌, refl, sym, ◌∙◌, ap, subst, arith}
+use Rattle.std.proofs.Common.{◌≡◌, ◌≢◌, ◌⊎◌, inl, inr, ℕ, ◌+◌, ◌-◌, ◌<◌, ◌≤◌, ◌==◌, nat_lt, max, Bool, true, false, ◌&&◌, ◌||◌, not, List, [], ◌∷◌, ◌++◌, length, Option, Some, None, is_some, is_none, if◌then◌else◌, refl, sym, ◌∙◌, ap, subst, arith}
 use Rattle.std.specs.List.{list_any}
 use Rattle.std.proofs.lemmas.List.Folds.{list_any-append}
 use Rattle.std.proofs.lemmas.Bool.{not-true}
-use Rattle.containers.proofs.Choices.{by_test, chosen, left_if, taken_if, eq_from, ne_from, lt_from, both_left, both_right, not_both}
+use Rattle.containers.proofs.Choices.{by_test, chosen, left_if, taken_if, eq_from, ne_from, ne_test, lt_from, both_left, both_right, not_both}
 use Rattle.redis_error.specs.declared.fault_kind.FaultKind.TheVariants as kind
 use Rattle.redis_error.specs.declared.redis_error.RedisError.{RedisError}
 use Rattle.redis_error.specs.declared.redis_error.RedisError.TheVariants as error
@@ -39,17 +39,18 @@ use Rattle.legal_laws.proofs.Opens.{IsOpening, due_has_no_link}
 use Rattle.legal_laws.proofs.Owes.{owed_story}
 use Rattle.legal_laws.proofs.Quiet.{failed_is_over}
 
--- a submission goes to the current link while it is open, and its messages to its own; it comes late only once everything is shut
--- down; and it goes to no link that isn't current yet
-pub record GoesOn (current : ℕ) (shut : Bool) (s : Story) : Type 0 where
+-- a submission goes to the current link while it is open, and is of the current generation, or of the first before that began; its
+-- messages go to its own link; it comes late only once everything is shut down; and it goes to no link that isn't current yet
+pub record GoesOn (generation current : ℕ) (shut : Bool) (s : Story) : Type 0 where
   pub open_on : is_open s ≡ true → s.link ≡ current
+  pub open_in : is_open s ≡ true → s.generation ≡ max 1 generation
   pub tries_on : (t : Try) → last_of s.tries ≡ Some t → t.link ≡ s.link
   pub late_on : s.late ≡ true → shut ≡ true
   pub behind : s.link ≤ current
 
 -- so each does
 abbrev pub Goes : Book → Type 0
-Goes b = (n : ℕ) → GoesOn b.current b.shut (b.story n)
+Goes b = (n : ℕ) → GoesOn b.generation b.current b.shut (b.story n)
 
 -- this link has ended
 abbrev pub HasEnded : Ledger → Type 0
@@ -142,13 +143,17 @@ due_parts b due =
     let last : (not b.shut && by) ≡ true = both_right (not b.failed) (not b.shut && by) more in
     (both_left (has_generations b) (not b.failed && (not b.shut && by)) due, not-true b.failed (both_left (not b.failed) (not b.shut && by) more), not-true b.shut (both_left (not b.shut) by last), both_right (not b.shut) by last)
 
--- where a generation begins the current link is the next one, or has ended
-pub generation_moves : (b : Book) → Lives b → generation_due b ≡ true → (b.current ≡ b.links) ⊎ (is_over (current_link b) ≡ true)
+-- where the next generation begins there is a cause
+pub due_is_caused : (b : Book) → generation_due b ≡ true → b.generation ≢ 0 → is_caused b ≡ true
+due_is_caused b due some = sym (left_if (b.generation == 0) (begins_first b) (is_caused b) (ne_test b.generation 0 some)) ∙ (due_parts b due).3
+
+-- where a generation begins it is the first, on the next link, or the current link has ended
+pub generation_moves : (b : Book) → Lives b → generation_due b ≡ true → ((b.generation ≡ 0) × (b.current ≡ b.links)) ⊎ (is_over (current_link b) ≡ true)
 generation_moves b h due =
     let parts = due_parts b due in
-    by_test (b.generation == 0) ((b.current ≡ b.links) ⊎ (is_over (current_link b) ≡ true))
-    (λ t. inl (none_is_next b h (h.first parts.0 (eq_from b.generation 0 t))))
-    (λ f. inr (caused_is_over b h parts.2 (sym (left_if (b.generation == 0) (begins_first b) (is_caused b) f) ∙ parts.3)))
+    by_test (b.generation == 0) (((b.generation ≡ 0) × (b.current ≡ b.links)) ⊎ (is_over (current_link b) ≡ true))
+    (λ t. inl (eq_from b.generation 0 t, none_is_next b h (h.first parts.0 (eq_from b.generation 0 t))))
+    (λ f. inr (caused_is_over b h parts.2 (due_is_caused b due (ne_from b.generation 0 f))))
 
 -- an attempt that another one follows has ended
 pub attempt_is_over : (o : Option End) → is_attempt o ≡ true → is_some o ≡ true
@@ -330,7 +335,7 @@ generation_lives : (b : Book) (g : ℕ) → MayGenerate b g → IsOpening b → 
 generation_lives b g may opens links up h = record {
   near = inl refl;
   aside = λ l apart. aside_kept b (action.Generation g) l may opens links apart (elim (generation_moves b h may.due) [
-    | inl next ↦ h.aside l (λ e. apart (e ∙ next))
+    | inl first ↦ h.aside l (λ e. apart (e ∙ first.1))
     | inr over ↦ left_aside b l h (up l) may.shown over
   ]);
   first = λ has none. absurd (let next : g ≡ b.generation + 1 = may.next in omega (arith, next, none));

@@ -256,7 +256,7 @@ verdicts : (b : Book) → NoneIsOwed b → VerdictsAreShown b
 verdicts b none n o e = none n o
 
 -- what is done where what the event does is shown
-shown : (b : Book) → IsShown b → b.turns ≢ 0 → Reached 7 b
+pub shown : (b : Book) → IsShown b → b.turns ≢ 0 → Reached 7 b
 shown b done turns = (
   done.answered,
   (

@@ -79,7 +79,7 @@ blank_is_sound = record {
     errors = λ some. absurd (cc some);
     lazy = λ i. absurd (omega (arith, i));
   };
-  goes = λ n. record { open_on = λ o. refl; tries_on = λ t last. absurd (cc last); late_on = λ late. absurd (cc late); behind = omega arith };
+  goes = λ n. record { open_on = λ o. refl; open_in = λ o. absurd (cc o); tries_on = λ t last. absurd (cc last); late_on = λ late. absurd (cc late); behind = omega arith };
 }
 
 -- and so do many
