@@ -34,7 +34,7 @@ use Rattle.trace_examples.specs.Fronts.{EachStands}
 use Rattle.trace_examples.proofs.Bounded.{blank_bounded, bounded_behind}
 use Rattle.trace_examples.proofs.Due.{IsPlace, legal, stands}
 use Rattle.trace_examples.proofs.Settled.{first_and_idle, failed_idle}
-use Rattle.trace_examples.proofs.Stood.{book_of, may_stand, none_is_set}
+use Rattle.trace_examples.proofs.Stood.{book_of, created_by_link, may_stand, none_is_set}
 
 -- h and 6379
 abbrev server : ConnectionInfo
@@ -117,7 +117,7 @@ said_without k count len word events after h =
 pub created_without : NoneBeginsIn sourced needed (action.Created None)
 unfolding digits url_on_literals utf8_lossy utf8_valid_len settings_in
 created_without word events after h =
-    let m = may_stand sourced word events (needed sourced word) after (action.Created None) h in
+    let m = created_by_link (book_of (needed sourced word)) (may_stand sourced word events (needed sourced word) after (action.Created None) h) in
     none_is_set (book_of (needed sourced word)) m.l (bounded_behind blank_book (needed sourced word) refl blank_bounded) refl m.ready
 
 -- a source that is asked for twice
@@ -149,7 +149,9 @@ unfolding digits url_on_literals utf8_lossy utf8_valid_len settings_in
 failed_before_the_close e word events after h = of_error e (may_stand sourced word events (deserted_first sourced word) after (action.Created e) h)
   where
     of_error : (e : Option RedisError) → MayShowCreation (book_of (deserted_first sourced word)) e → ⊥
-    of_error None m = none_is_set (book_of (deserted_first sourced word)) m.l (bounded_behind blank_book (deserted_first sourced word) refl blank_bounded) refl m.ready
+    of_error None m =
+        let ready = created_by_link (book_of (deserted_first sourced word)) m in
+        none_is_set (book_of (deserted_first sourced word)) ready.l (bounded_behind blank_book (deserted_first sourced word) refl blank_bounded) refl ready.ready
     of_error (Some x) m = cc (m.ended 0)
 
 -- an opening that fails with another error than what its source says

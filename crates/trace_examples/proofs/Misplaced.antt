@@ -31,7 +31,7 @@ use Rattle.legal_trace.proofs.Moves.{is_timed, starts_mean, tells_mean, placed_i
 use Rattle.trace_examples.specs.Parts.{turn, command, unawaited, reply, one_nameless, nameless_atomic, nameless_skipped}
 use Rattle.trace_examples.specs.Traces.{opening, taken_in_part, came_up, arrived, started_one, started_unoffered, held_back, spoiled, cut_off, left_untold, left_out, both_left_out, up_in_wait, both_in_wait, first_of_both, ended}
 use Rattle.legal_trace.proofs.Setups.{silent_is_set}
-use Rattle.trace_examples.proofs.Stood.{book_of, may_stand, both_up_silent, both_up_given}
+use Rattle.trace_examples.proofs.Stood.{book_of, created_by_link, may_stand, both_up_silent, both_up_given}
 use Rattle.trace_examples.proofs.Single.{none_is_some, some_is_none, no_session_has, single_behind, unwatched, of_single, of_arrived}
 
 -- whoever starts and wasn't told starts at its place, where its reply is awaited
@@ -118,10 +118,6 @@ held_back_behind config word events after number c h = of_cause c (may_stand con
     of_cause : (c : Cause) → MayTurn (book_of (held_back config word)) number c → ⊥
     of_cause (cause.Opening config word) m = cc m.is_for
     of_cause (cause.Event e) m = elim (m.is_for.1.goes 1 refl) [ inl started ↦ cc started.last | inr waits ↦ cc waits.shown ]
-
--- an opening has one configuration
-pub same_config : (c d : Config) (v w : ℕ) → Some (cause.Opening c v) ≡ Some (cause.Opening d w) → c ≡ d
-same_config c d v w e = cc
 
 -- bytes that are offered before a message that may start, where these 11 don't hold it back
 pub offered_before_a_start : (config : Config) (word : ℕ) (events : List Event) (after : List Action) (bytes : List ℕ) → 11 < boundary config
@@ -229,5 +225,5 @@ took_too_much config word events after h =
 pub created_twice : (config : Config) (word : ℕ) (events : List Event) (after : List Action)
     → Legal config word events (came_up config word ++ action.Created None ∷ after) → ⊥
 created_twice config word events after h =
-    let m = may_stand config word events (came_up config word) after (action.Created None) h in
+    let m = created_by_link (book_of (came_up config word)) (may_stand config word events (came_up config word) after (action.Created None) h) in
     cc m.once

@@ -21,7 +21,7 @@ use Rattle.driver_model.specs.declared.event.EventKind.TheVariants as event
 use Rattle.driver_model.specs.declared.outcome.Outcome.TheVariants as outcome
 use Rattle.driver_model.specs.Request.{packed_bytes}
 use Rattle.legal_trace.specs.Managers.{settings_in}
-use Rattle.legal_trace.specs.Book.{Book, current}
+use Rattle.legal_trace.specs.Book.{Book}
 use Rattle.legal_trace.specs.Events.{is_bad_event}
 use Rattle.legal_trace.specs.Steps.{waits, asks, next_step}
 use Rattle.legal_trace.specs.Legal.{MayTurn, MayTimer}
@@ -168,10 +168,14 @@ taken_out_of_order word events after h =
 
 -- a timer of the first submission is asked for where this is its step
 asked_by_the_first : (b : Book) (t ms : ℕ) → MayTimer b t ms (purpose.Response (owner.Try 0 0)) → next_step b 0 ≡ asks ms
-asked_by_the_first b t ms (inl may) = absurd (of_a_connect (current b) may.is_for)
+asked_by_the_first b t ms (inl (inl may)) = absurd (of_a_connect b.current may.is_for)
   where
     of_a_connect : (l : ℕ) → purpose.Response (owner.Try 0 0) ≡ purpose.Connect l → ⊥
     of_a_connect l e = cc e
+asked_by_the_first b t ms (inl (inr may)) = absurd (of_a_rest b.generation may.is_for)
+  where
+    of_a_rest : (g : ℕ) → purpose.Response (owner.Try 0 0) ≡ purpose.Backoff g → ⊥
+    of_a_rest g e = cc e
 asked_by_the_first b t ms (inr (inr may)) = absurd (of_a_renewal may.l (b.link may.l).creds.timed may.is_for)
   where
     of_a_renewal : (l k : ℕ) → purpose.Response (owner.Try 0 0) ≡ purpose.Renewal l k → ⊥

@@ -190,7 +190,8 @@ told_otherwise k count len other word events after h =
 pub timed_for_nothing : (t ms : ℕ) → NoneBeginsIn sourced renewal_came (action.Timer t ms (purpose.Renewal 0 0))
 unfolding digits items values left_over max_depth url_on_literals utf8_lossy utf8_valid_len settings_in
 timed_for_nothing t ms word events after h = elim (may_stand sourced word events (renewal_came sourced word) after (action.Timer t ms (purpose.Renewal 0 0)) h) [
-  | inl m ↦ cc m.is_for
+  | inl (inl m) ↦ cc m.is_for
+  | inl (inr m) ↦ cc m.is_for
   | inr (inl m) ↦ cc m.is_for
   | inr (inr m) ↦ cc m.within
 ]

@@ -17,7 +17,9 @@ use Rattle.driver_model.specs.declared.outcome.Outcome.{Outcome}
 use Rattle.legal_trace.specs.Ledger.{is_ready, is_set_up, is_well}
 use Rattle.legal_trace.specs.Story.{is_awaited}
 use Rattle.legal_trace.specs.Book.{Book, blank_book, entered_each}
-use Rattle.legal_trace.specs.Legal.{IsOpen, MayAnswer, MayStand, Legal}
+use Rattle.legal_trace.specs.Legal.{IsOpen, MayAnswer, MayBeCreated, MayShowCreation, MayStand, Legal}
+use Rattle.legal_trace.specs.Managers.{is_lazy}
+use Rattle.legal_trace.proofs.Managers.{never_lazy}
 use Rattle.legal_trace.proofs.Books.{stand_behind}
 use Rattle.legal_trace.proofs.Moves.{tells_mean, ready_is_up, ready_is_set}
 use Rattle.legal_trace.proofs.Setups.{set_is_given, set_is_said}
@@ -64,10 +66,15 @@ none_is_set b l bounded unset = first_and_idle b (λ m. is_ready (b.link m) ≡ 
     (λ r. not_both (is_set_up (b.link 0)) unset (ready_is_set (b.link 0) r))
     (λ idle r. not_both (b.link l).up idle.down (ready_is_up (b.link l) r))
 
+-- a creation without an error is that of a link that is ready
+pub created_by_link : (b : Book) → MayShowCreation b None → MayBeCreated b
+created_by_link b (inl m) = m
+created_by_link b (inr m) = absurd (not_both (is_lazy (Some m.config)) (never_lazy (Some m.config)) m.lazy)
+
 -- where the creation is shown, the first link is ready
 created_ready : (config : Config) (word : ℕ) (events : List Event) (front after : List Action) → IsBounded (book_of front) → Legal config word events (front ++ action.Created None ∷ after) → is_ready ((book_of front).link 0) ≡ true
 created_ready config word events front after bounded h =
-    let m = may_stand config word events front after (action.Created None) h in
+    let m = created_by_link (book_of front) (may_stand config word events front after (action.Created None) h) in
     let b = book_of front in
     first_and_idle b (λ l. is_ready (b.link l) ≡ true → is_ready (b.link 0) ≡ true) m.l bounded (λ r. r)
     (λ idle r. absurd (not_both (b.link m.l).up idle.down (ready_is_up (b.link m.l) r))) m.ready

@@ -13,9 +13,11 @@ use Rattle.driver_model.specs.declared.action.Purpose.{Purpose}
 use Rattle.driver_model.specs.declared.config.Config.{Config}
 use Rattle.driver_model.specs.declared.outcome.Outcome.{Outcome}
 use Rattle.driver_model.specs.declared.outcome.Outcome.TheVariants as outcome
-use Rattle.legal_trace.specs.Managers.{settings_in}
+use Rattle.legal_trace.specs.Managers.{settings_in, is_last}
+use Rattle.legal_trace.proofs.Managers.{no_settings}
+use Rattle.legal_trace.proofs.Plain.{not_none, same_some}
 use Rattle.legal_trace.specs.Book.{Book, blank_book}
-use Rattle.legal_trace.specs.Ledger.{failure_in, renewals_asked}
+use Rattle.legal_trace.specs.Ledger.{by_opening, failure_in, failure_of, lasting, renewals_asked}
 use Rattle.legal_trace.specs.Owed.{owed}
 use Rattle.legal_trace.specs.Legal.{MayTurn, MayShowCreation}
 use Rattle.trace_examples.specs.Parts.{command}
@@ -23,9 +25,8 @@ use Rattle.trace_examples.specs.Traces.{opening}
 use Rattle.trace_examples.specs.Openings.{timed_opening, connect_refused, refusal_shown, overdue, timed_out}
 use Rattle.trace_examples.specs.Claims.{NoneBegins, NoneBeginsIn}
 use Rattle.trace_examples.proofs.Bounded.{IsBounded, blank_bounded, bounded_behind}
-use Rattle.trace_examples.proofs.Misplaced.{same_config}
 use Rattle.trace_examples.proofs.Settled.{first_and_idle, failed_idle, idle_unasked}
-use Rattle.trace_examples.proofs.Stood.{book_of, may_stand, answer, none_is_ready}
+use Rattle.trace_examples.proofs.Stood.{book_of, created_by_link, may_stand, answer, none_is_ready}
 use Rattle.trace_examples.proofs.Single.{some_is_none, other_fault, single_behind, of_single}
 
 -- a command that waited, answered with the closed connection
@@ -36,12 +37,17 @@ closed_in_place config word events after h =
     of_single config word (timed_out config word) (λ b. owed b 0 ≡ Some (outcome.Fault error.Closed) → ⊥) single (other_fault (error.Io TimedOut) error.Closed (λ e. cc e)) (other_fault (error.Io TimedOut) error.Closed (λ e. cc e))
     (answer config word events (timed_out config word) after 0 (outcome.Fault error.Closed) refl h).owes
 
+-- the opening of its link failed
+refused_fails : (config : Config) (word : ℕ) → failure_in ((book_of (connect_refused config word)).link 0).end ≡ Some (error.Io Reset)
+unfolding digits
+refused_fails config word = ap (λ s. failure_of (lasting (is_last s 0) (by_opening (error.Io Reset)))) (no_settings (Some config))
+
 -- an outcome before it was shown that the connect failed
 pub answered_before_the_failure : (o : Outcome) → NoneBegins connect_refused (action.Outcome 0 o)
 unfolding digits settings_in
 answered_before_the_failure o config word events after h =
     let m = answer config word events (connect_refused config word) after 0 o refl h in
-    (m.after_closes refl).2 0 (error.Io Reset) refl refl
+    (m.after_closes refl).2 0 (error.Io Reset) (refused_fails config word) refl
 
 -- and an outcome before an earlier one
 pub second_before_the_first : (o : Outcome) → NoneBegins refusal_shown (action.Outcome 1 o)
@@ -57,7 +63,7 @@ pub shown_again : (e : Option RedisError) → NoneBegins refusal_shown (action.C
 shown_again e config word events after h = of_error e (may_stand config word events (refusal_shown config word) after (action.Created e) h)
   where
     of_error : (e : Option RedisError) → MayShowCreation (book_of (refusal_shown config word)) e → ⊥
-    of_error None m = cc m.once
+    of_error None m = cc (created_by_link (book_of (refusal_shown config word)) m).once
     of_error (Some x) m = cc m.once
 
 -- a creation that is shown before the link is closed
@@ -65,7 +71,9 @@ pub failed_before_the_close : (e : Option RedisError) → NoneBegins overdue (ac
 failed_before_the_close e config word events after h = of_error e (may_stand config word events (overdue config word) after (action.Created e) h)
   where
     of_error : (e : Option RedisError) → MayShowCreation (book_of (overdue config word)) e → ⊥
-    of_error None m = none_is_ready (book_of (overdue config word)) m.l (bounded_behind blank_book (overdue config word) refl blank_bounded) refl m.ready
+    of_error None m =
+        let ready = created_by_link (book_of (overdue config word)) m in
+        none_is_ready (book_of (overdue config word)) ready.l (bounded_behind blank_book (overdue config word) refl blank_bounded) refl ready.ready
     of_error (Some x) m = cc (m.ended 0)
 
 -- a failed connect has one link
@@ -75,7 +83,7 @@ refused_is_bounded config word = bounded_behind blank_book (connect_refused conf
 -- a connect that failed, shown as one that didn't
 pub created_when_refused : NoneBegins connect_refused (action.Created None)
 created_when_refused config word events after h =
-    let m = may_stand config word events (connect_refused config word) after (action.Created None) h in
+    let m = created_by_link (book_of (connect_refused config word)) (may_stand config word events (connect_refused config word) after (action.Created None) h) in
     none_is_ready (book_of (connect_refused config word)) m.l (refused_is_bounded config word) refl m.ready
 
 -- or with another error
@@ -83,7 +91,7 @@ pub another_error : NoneBegins connect_refused (action.Created (Some error.Close
 another_error config word events after h =
     let m = may_stand config word events (connect_refused config word) after (action.Created (Some error.Closed)) h in
     let b = book_of (connect_refused config word) in
-    first_and_idle b (λ l. failure_in (b.link l).end ≡ Some error.Closed → ⊥) m.l (refused_is_bounded config word) (λ fails. cc fails)
+    first_and_idle b (λ l. failure_in (b.link l).end ≡ Some error.Closed → ⊥) m.l (refused_is_bounded config word) (λ fails. let x : Some (error.Io Reset) ≡ Some error.Closed = sym (refused_fails config word) ∙ fails in cc x)
     (λ idle fails. failed_idle (b.link m.l) error.Closed idle fails) m.fails
 
 -- a close of a link whose connect failed
@@ -98,9 +106,10 @@ unrenewed b l bounded none asked = first_and_idle b (λ m. (b.link m).creds.time
 -- a timer of a connect that may take any time
 pub timer_unasked : (config : Config) (t ms : ℕ) (what : Purpose) → connect_timeout config ≡ None → NoneBeginsIn config opening (action.Timer t ms what)
 timer_unasked config t ms what none word events after h = elim (may_stand config word events (opening config word) after (action.Timer t ms what) h) [
-  | inl m ↦
-      let same : config ≡ m.config = same_config config m.config word m.word m.opens in
+  | inl (inl m) ↦
+      let same : config ≡ m.config = same_some config m.config m.told in
       let both : ◌≡◌ {A = Option ℕ} None (Some ms) = sym none ∙ (ap connect_timeout same ∙ m.bounded) in cc both
+  | inl (inr m) ↦ not_none (settings_in (Some config)) m.settings (no_settings (Some config)) m.set
   | inr (inl m) ↦ cc m.unstarted
   | inr (inr m) ↦ unrenewed (book_of (opening config word)) m.l (bounded_behind blank_book (opening config word) refl blank_bounded) refl m.asked
 ]
@@ -111,4 +120,4 @@ timer_left_out config number c bounded word events after h = of_cause c (may_sta
   where
     of_cause : (c : Cause) → MayTurn (book_of (opening config word)) number c → ⊥
     of_cause (cause.Opening other draws) m = cc m.is_for
-    of_cause (cause.Event e) m = m.is_for.1.written.moved.begun.applied.timed config word refl bounded refl
+    of_cause (cause.Event e) m = let x : 0 ≡ 1 = m.is_for.1.written.moved.begun.applied.timed config refl bounded in omega (arith, x)
