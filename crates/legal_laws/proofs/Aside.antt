@@ -8,10 +8,12 @@ use Rattle.driver_model.specs.declared.action.Action.TheVariants as action
 use Rattle.driver_model.specs.declared.action.Cause.TheVariants as cause
 use Rattle.driver_model.specs.declared.action.Owner.TheVariants as owner
 use Rattle.driver_model.specs.News.{News, silence, connected, refused, overdue, took, came, failed, authorized, denied, deserted, renewed, unrenewed, late, unrepeated, dropped, shut, news_of}
-use Rattle.legal_trace.specs.Ledger.{Ledger, Ending, asks, hears, begins, offers, ends, noted, noted_each, with_news, refused_in, bytes_came, is_over, is_cut, dials, ending, ending_alive, ending_asked, failure_in, sources, times, awaits_credentials, authorized_by, may_renew, renewed_by, unrenewed_by, is_renewal_open, lost_by}
+use Rattle.legal_trace.specs.Ledger.{Ledger, Ending, asks, hears, begins, offers, ends, noted, noted_each, with_news, refused_in, bytes_came, is_over, is_cut, dials, ending, ending_alive, ending_asked, failure_in, sources, times, awaits_credentials, authorized_by, may_renew, renewed_by, unrenewed_by, is_renewal_open, lost_by, is_repeating, unrepeated_by}
 use Rattle.legal_trace.specs.Managers.{settings_in, is_last}
-use Rattle.legal_trace.specs.Book.{Book, entered, if_mine, lines_of, info_in, message_of, wanted_in, is_renewal_of, hearing_in}
+use Rattle.legal_trace.specs.Book.{Book, entered, if_mine, lines_of, info_in, message_of, wanted_in, hearing_in}
 use Rattle.legal_trace.specs.Legal.{MayStand, are_pushes_heard}
+use Rattle.legal_trace.specs.Again.{repeats_in}
+use Rattle.legal_trace.proofs.Clocks.{timer_tells}
 use Rattle.legal_trace.proofs.Ledgers.{mine_keeps}
 use Rattle.legal_trace.proofs.Plain.{not_none}
 use Rattle.legal_laws.proofs.Numbers.{HasLinks, not_connected}
@@ -64,7 +66,7 @@ aside_hears heard created l turn deserted over h = h
 aside_hears heard created l turn (renewed c) over h = chosen (IsAside heard created) (may_renew l) (renewed_by l c) l (λ t. record { down = h.down; still = h.still; parted = h.parted; shown = h.shown }) (λ f. h)
 aside_hears heard created l turn unrenewed over h = if_false (IsAside heard created) l.up (unrenewed_by l) l h.down h
 aside_hears heard created l turn (late k) over h = chosen (IsAside heard created) (l.up && is_renewal_open l k) (lost_by l) l (λ t. record { down = h.down; still = h.still; parted = h.parted; shown = h.shown }) (λ f. h)
-aside_hears heard created l turn unrepeated over h = h
+aside_hears heard created l turn unrepeated over h = chosen (IsAside heard created) (is_repeating l) (unrepeated_by l) l (λ t. record { down = h.down; still = h.still; parted = h.parted; shown = h.shown }) (λ f. h)
 aside_hears heard created l turn dropped over h = h
 aside_hears heard created l turn shut over h = h
 
@@ -99,8 +101,8 @@ aside_kept b (action.Turn k (cause.Event e)) l may opens links apart h =
     (λ t. absurd (not_connected b l e.kind (le_from b.links l t) may.is_for.2 connects))
     (λ f. aside_over (are_pushes_heard b) b.created (b.link l) (links.asked l (not_le_from b.links l f)) h)) h
 aside_kept b (action.Connect m host port) l may opens links apart h =
-    mine_keeps (IsAside (are_pushes_heard b) b.created) (m == l) (b.link l) (asks (info_in b.config) (wanted_in b.config) (hearing_in b.config) (is_last (settings_in b.config) b.attempt)) (λ t. absurd (apart (sym (eq_from m l t)))) h
-aside_kept b (action.Timer t ms what) l may opens links apart h = mine_keeps (IsAside (are_pushes_heard b) b.created) (is_renewal_of l what) (b.link l) times (λ e. record { down = h.down; still = h.still; parted = h.parted; shown = h.shown }) h
+    mine_keeps (IsAside (are_pushes_heard b) b.created) (m == l) (b.link l) (asks (info_in b.config) (wanted_in b.config) (hearing_in b.config) (is_last (settings_in b.config) b.attempt) (repeats_in (settings_in b.config) b.tracked)) (λ t. absurd (apart (sym (eq_from m l t)))) h
+aside_kept b (action.Timer t ms what) l may opens links apart h = timer_tells (IsAside (are_pushes_heard b) b.created) (b.link l) l what (λ on k is e. record { down = h.down; still = h.still; parted = h.parted; shown = h.shown }) (λ on is e. record { down = h.down; still = h.still; parted = h.parted; shown = h.shown }) h
 aside_kept b (action.Took who m count) l may opens links apart h = h
 aside_kept b (action.Push m info) l may opens links apart h =
     push_keeps (IsAside (are_pushes_heard b) b.created) (m == l) info.kind (b.link l) (record { down = h.down; still = h.still; parted = h.parted; shown = h.shown }) (record { down = h.down; still = h.still; parted = λ heard cut. refl; shown = h.shown }) h
@@ -108,7 +110,7 @@ aside_kept b (action.Message msg) l may opens links apart h = tell_keeps (IsAsid
 aside_kept b (action.Monitor v) l may opens links apart h = tell_keeps (IsAside (are_pushes_heard b) b.created) (b.current == l) (b.link l) (record { down = h.down; still = h.still; parted = h.parted; shown = h.shown }) h
 aside_kept b (action.NeedCreds c m) l may opens links apart h = mine_keeps (IsAside (are_pushes_heard b) b.created) (m == l) (b.link l) sources (λ e. record { down = h.down; still = h.still; parted = h.parted; shown = h.shown }) h
 aside_kept b (action.Generation g) l may opens links apart h = h
-aside_kept b (action.Round who m) l may opens links apart h = absurd may
+aside_kept b (action.Round who m) l may opens links apart h = h
 aside_kept b (action.Close m) l may opens links apart h =
     mine_keeps (IsAside (are_pushes_heard b) b.created) (m == l) (b.link l) (ends (b.turns - 1))
     (λ t. absurd (not_none (ending (b.link l)) may.why (aside_stays (are_pushes_heard b) b.created (b.link l) h) (ap (λ j. ending (b.link j)) (sym (eq_from m l t)) ∙ may.ends))) h

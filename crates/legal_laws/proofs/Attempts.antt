@@ -13,11 +13,12 @@ use Rattle.driver_model.specs.declared.action.Purpose.TheVariants as purpose
 use Rattle.driver_model.specs.declared.news.LinkFault.TheVariants as fault
 use Rattle.driver_model.specs.Hearing.{felt, hears_messages}
 use Rattle.driver_model.specs.News.{News, silence, connected, refused, overdue, took, came, failed, authorized, denied, deserted, renewed, unrenewed, late, unrepeated, dropped, shut, news_of}
-use Rattle.legal_trace.specs.Ledger.{Ledger, Line, Ending, by_fault, by_opening, lasting, asks, hears, begins, offers, tells, ends, parts, sources, times, noted, noted_each, with_news, refused_in, bytes_came, is_over, dials, lacks_credentials, awaits_credentials, authorized_by, may_renew, renewed_by, unrenewed_by, is_renewal_open, lost_by, is_set_up, setup_result, error_in, is_unreadable, opening_error, ending, ending_up, ending_unready, ending_asked, ending_alive, ending_by, ending_or_shutdown}
+use Rattle.legal_trace.specs.Ledger.{Ledger, Line, Ending, by_fault, by_opening, lasting, asks, hears, begins, offers, tells, ends, parts, sources, times, noted, noted_each, with_news, refused_in, bytes_came, is_over, dials, lacks_credentials, awaits_credentials, authorized_by, may_renew, renewed_by, unrenewed_by, is_renewal_open, lost_by, is_set_up, setup_result, error_in, is_unreadable, opening_error, ending, ending_up, ending_unready, ending_asked, ending_alive, ending_by, ending_or_shutdown, repeats_timed}
 use Rattle.legal_trace.specs.Managers.{settings_in, is_last}
-use Rattle.legal_trace.specs.Book.{Book, blank_book, book, entered, entered_each, has_generations, if_mine, info_in, wanted_in, hearing_in, message_of, is_rest, is_renewal_of}
+use Rattle.legal_trace.specs.Book.{Book, blank_book, book, entered, entered_each, has_generations, if_mine, info_in, wanted_in, hearing_in, message_of, is_rest}
 use Rattle.legal_trace.specs.Legal.{MayStand, MayTimer, MayRest, MayGenerate, MayConnect, AllStand, current_link, is_by_attempt, is_attempt}
-use Rattle.legal_trace.proofs.Clocks.{timer_rests}
+use Rattle.legal_trace.specs.Again.{repeats_in}
+use Rattle.legal_trace.proofs.Clocks.{timer_rests, timer_tells}
 use Rattle.legal_trace.proofs.Ledgers.{mine_keeps}
 use Rattle.legal_trace.proofs.Came.{holds_bytes}
 use Rattle.legal_laws.specs.Generations.{attempts_behind}
@@ -108,7 +109,7 @@ action_try : (b : Book) (a : Action) (l : ℕ) → MayStand b a → (Connects a 
 action_try b (action.Turn k (cause.Opening config word)) l may other = same_try (b.link l)
 action_try b (action.Turn k (cause.Event e)) l may other = turn_try (b.link l) k (news_of b.timers b.sources l e.kind)
 action_try b (action.Connect m host port) l may other = absurd (other tt)
-action_try b (action.Timer t ms what) l may other = mine_keeps (SameTry (b.link l)) (is_renewal_of l what) (b.link l) times (λ e. plain_try (b.link l) (noted (b.link l) times) refl refl refl) (same_try (b.link l))
+action_try b (action.Timer t ms what) l may other = timer_tells (SameTry (b.link l)) (b.link l) l what (λ on k is e. plain_try (b.link l) (noted (b.link l) times) refl refl refl) (λ on is e. plain_try (b.link l) (noted (b.link l) repeats_timed) refl refl refl) (same_try (b.link l))
 action_try b (action.Took who m count) l may other = same_try (b.link l)
 action_try b (action.Push m info) l may other =
     push_keeps (SameTry (b.link l)) (m == l) info.kind (b.link l) (plain_try (b.link l) (noted (b.link l) tells) refl refl refl) (plain_try (b.link l) (noted (b.link l) parts) refl refl refl) (same_try (b.link l))
@@ -116,7 +117,7 @@ action_try b (action.Message msg) l may other = tell_keeps (SameTry (b.link l)) 
 action_try b (action.Monitor v) l may other = tell_keeps (SameTry (b.link l)) (b.current == l) (b.link l) (plain_try (b.link l) (noted (b.link l) tells) refl refl refl) (same_try (b.link l))
 action_try b (action.NeedCreds c m) l may other = mine_keeps (SameTry (b.link l)) (m == l) (b.link l) sources (λ e. plain_try (b.link l) (noted (b.link l) sources) refl refl refl) (same_try (b.link l))
 action_try b (action.Generation g) l may other = same_try (b.link l)
-action_try b (action.Round who m) l may other = absurd may
+action_try b (action.Round who m) l may other = same_try (b.link l)
 action_try b (action.Close m) l may other =
     mine_keeps (SameTry (b.link l)) (m == l) (b.link l) (ends (b.turns - 1))
     (λ t. record { asked = refl; last = refl; end = λ e. inr (lasting_is_last (b.link l).last (ending_or_shutdown (ending (b.link l))) (ending_is_none (b.link l)) e) }) (same_try (b.link l))
@@ -195,7 +196,7 @@ connect_tries : (b : Book) (m : ℕ) (host : List ℕ) (port count : ℕ) → Ma
 connect_tries b m host port count may sound h =
     let next : b.current ≡ b.links = due_link_is_next b sound.lives sound.links may.due in
     let none = sound.links.unasked b.current (omega (arith, next)) in
-    let line : Line = asks (info_in b.config) (wanted_in b.config) (hearing_in b.config) (is_last (settings_in b.config) b.attempt) in
+    let line : Line = asks (info_in b.config) (wanted_in b.config) (hearing_in b.config) (is_last (settings_in b.config) b.attempt) (repeats_in (settings_in b.config) b.tracked) in
     let it : (entered b (action.Connect m host port)).link m ≡ noted (b.link m) line = taken_line (m == m) (b.link m) line (eq_test m m refl) in
     let lives : (b.link m).end ≡ None = (sound.links.unasked m (omega (arith, may.next))).2 in
     record {
@@ -246,7 +247,7 @@ tries_kept b (action.Turn k (cause.Event e)) count may sound h = unmoved_tries b
 tries_kept b (action.Connect m host port) count may sound h = connect_tries b m host port count may sound h
 tries_kept b (action.Timer t ms what) count may sound h = timer_tries b t ms what count may sound h
 tries_kept b (action.Generation g) count may sound h = generation_tries b g may sound
-tries_kept b (action.Round who m) count may sound h = absurd may
+tries_kept b (action.Round who m) count may sound h = unmoved_tries b (action.Round who m) count may (λ c. c) refl refl refl (λ e. e) h
 tries_kept b (action.Took who m n) count may sound h = unmoved_tries b (action.Took who m n) count may (λ c. c) refl refl refl (λ e. e) h
 tries_kept b (action.Push m info) count may sound h = unmoved_tries b (action.Push m info) count may (λ c. c) refl refl refl (λ e. e) h
 tries_kept b (action.Message msg) count may sound h = unmoved_tries b (action.Message msg) count may (λ c. c) refl refl refl (λ e. e) h

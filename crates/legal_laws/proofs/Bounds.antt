@@ -44,7 +44,7 @@ free_from bound u e = by_test (nat_lt 0 u) ((u ≡ 0) ⊎ (u < bound))
 start_free : (b : Book) (a : Action) (l : ℕ) → MayStand b a → StartsOn l a → IsApplied b × (is_held_back b (b.link l) ≡ false)
 start_free b (action.Start m k owner.Setup count len) l may on = (may.applied, subst (λ j. is_held_back b (b.link j) ≡ false) on may.free)
 start_free b (action.Start m k owner.Auth count len) l may on = (may.applied, subst (λ j. is_held_back b (b.link j) ≡ false) on may.free)
-start_free b (action.Start m k owner.Resub count len) l may on = absurd may
+start_free b (action.Start m k owner.Resub count len) l may on = (may.applied, subst (λ j. is_held_back b (b.link j) ≡ false) on may.free)
 start_free b (action.Start m k owner.Monitor count len) l may on = (may.applied, subst (λ j. is_held_back b (b.link j) ≡ false) on may.free)
 start_free b (action.Start m k (owner.Try n round) count len) l may on =
     (may.1.begun.applied, subst (λ j. is_held_back b (b.link j) ≡ false) (sym may.1.on_its_link ∙ on) (starts_mean b n may.1.starts).2)

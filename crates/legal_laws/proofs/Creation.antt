@@ -16,14 +16,14 @@ use Rattle.driver_model.specs.declared.outcome.Outcome.TheVariants as outcome
 use Rattle.legal_trace.specs.Ledger.{Ledger, End, Ending, by_shutdown, by_fault, by_opening, by_attempt, is_over, begins, offers, sources, ends, failure_of, failure_in, is_set_up, setup_due, times}
 use Rattle.legal_trace.specs.Story.{Try, bytes_of, last_of}
 use Rattle.legal_trace.specs.Managers.{settings_in, is_lazy}
-use Rattle.legal_trace.specs.Book.{Book, blank_book, book, entered, entered_each, has_generations, message_of, is_rest, is_renewal_of}
+use Rattle.legal_trace.specs.Book.{Book, blank_book, book, entered, entered_each, has_generations, message_of, is_rest}
 use Rattle.legal_trace.specs.Owed.{owed, owed_to_try, owed_by, owed_unstarted}
 use Rattle.legal_trace.specs.Legal.{MayTimer, MayGenerate, current_link, is_attempt, rest_due, link_due, MayStand, MayAnswer, MayTell, MaySetUp, MayBeCreated, MayFail, MayShowCreation, AllStand, link_of, Legal}
 use Rattle.legal_trace.proofs.Books.{stand_front, stand_behind}
 use Rattle.legal_trace.proofs.Ledgers.{mine_keeps}
 use Rattle.legal_trace.proofs.Plain.{not_none, same_some}
 use Rattle.legal_laws.specs.Creation.{shown_by, creations, HasFailed, IsUnopened, AnswersTell, TellsOfOpening}
-use Rattle.legal_trace.proofs.Clocks.{timer_rests}
+use Rattle.legal_trace.proofs.Clocks.{timer_rests, timer_tells}
 use Rattle.legal_trace.proofs.Managers.{lazy_comes_back}
 use Rattle.legal_laws.proofs.Configured.{turns_stay}
 use Rattle.legal_laws.proofs.Lives.{attempt_fails_not, due_link_is_next, due_parts, failure_kept}
@@ -84,7 +84,7 @@ stays_current b (action.Message msg) e may h f fails = refl
 stays_current b (action.Monitor v) e may h f fails = refl
 stays_current b (action.NeedCreds c l) e may h f fails = refl
 stays_current b (action.Generation g) e may h f fails = absurd (failed_generates_not b g may f)
-stays_current b (action.Round who l) e may h f fails = absurd may
+stays_current b (action.Round who l) e may h f fails = refl
 stays_current b (action.Close l) e may h f fails = refl
 stays_current b (action.Write l bytes) e may h f fails = refl
 stays_current b (action.Wait who kind) e may h f fails = refl
@@ -254,7 +254,7 @@ need_shows_none b c m = unchanged b (action.NeedCreds c m) refl refl refl refl
 -- a timer
 timer_shows_none : (b : Book) (t ms : ℕ) (what : Purpose) → ShowsNone b (action.Timer t ms what)
 timer_shows_none b t ms what = unchanged b (action.Timer t ms what) refl refl refl refl
-    (λ shown l may h q. mine_keeps (IsQuiet shown) (is_renewal_of l what) (b.link l) times (λ e. record { quiet = q.quiet; tells = q.tells }) q)
+    (λ shown l may h q. timer_tells (IsQuiet shown) (b.link l) l what (λ on k is e. record { quiet = q.quiet; tells = q.tells }) (λ on is e. record { quiet = q.quiet; tells = q.tells }) q)
 
 -- a write
 write_shows_none : (b : Book) (m : ℕ) (bytes : List ℕ) → ShowsNone b (action.Write m bytes)
@@ -280,6 +280,11 @@ report_shows_none b v = unchanged b (action.Monitor v) refl refl refl refl
 watch_shows_none : (b : Book) (m k count len : ℕ) → ShowsNone b (action.Start m k owner.Monitor count len)
 watch_shows_none b m k count len = unchanged b (action.Start m k owner.Monitor count len) refl refl refl refl
     (λ shown l may h q. mine_keeps (IsQuiet shown) (m == l) (b.link l) (begins (message_of b m owner.Monitor)) (λ t. begins_quiet shown (b.link l) (message_of b m owner.Monitor) refl q) q)
+
+-- what is subscribed again
+repeat_shows_none : (b : Book) (m k count len : ℕ) → ShowsNone b (action.Start m k owner.Resub count len)
+repeat_shows_none b m k count len = unchanged b (action.Start m k owner.Resub count len) refl refl refl refl
+    (λ shown l may h q. mine_keeps (IsQuiet shown) (m == l) (b.link l) (begins (message_of b m owner.Resub)) (λ t. begins_quiet shown (b.link l) (message_of b m owner.Resub) refl q) q)
 
 -- new credentials
 renew_shows_none : (b : Book) (m k count len : ℕ) → ShowsNone b (action.Start m k owner.Auth count len)
@@ -318,7 +323,11 @@ step_told b shown (action.Message msg) may h told = still_told b shown (action.M
 step_told b shown (action.Monitor v) may h told = still_told b shown (action.Monitor v) (report_shows_none b v) may h told
 step_told b shown (action.NeedCreds c m) may h told = still_told b shown (action.NeedCreds c m) (need_shows_none b c m) may h told
 step_told b shown (action.Generation g) may h told = still_told b shown (action.Generation g) (unchanged b (action.Generation g) refl refl refl refl (λ s l m h q. q)) may h told
-step_told b shown (action.Round who m) may h told = absurd may
+step_told b shown (action.Round owner.Setup on) may h told = absurd may
+step_told b shown (action.Round owner.Auth on) may h told = absurd may
+step_told b shown (action.Round owner.Resub on) may h told = absurd may
+step_told b shown (action.Round owner.Monitor on) may h told = absurd may
+step_told b shown (action.Round (owner.Try n round) on) may h told = still_told b shown (action.Round (owner.Try n round) on) (unchanged b (action.Round (owner.Try n round) on) refl refl refl refl (λ s j k h q. q)) may h told
 step_told b shown (action.Close m) may h told = still_told b shown (action.Close m) (close_shows_none b m) may h told
 step_told b shown (action.Write m bytes) may h told = still_told b shown (action.Write m bytes) (write_shows_none b m bytes) may h told
 step_told b shown (action.Wait owner.Setup kind) may h told = absurd may
@@ -328,7 +337,7 @@ step_told b shown (action.Wait owner.Monitor kind) may h told = absurd may
 step_told b shown (action.Wait (owner.Try n round) kind) may h told = still_told b shown (action.Wait (owner.Try n round) kind) (unchanged b (action.Wait (owner.Try n round) kind) refl refl refl refl (λ s l m h q. q)) may h told
 step_told b shown (action.Start m k owner.Setup count len) may h told = still_told b shown (action.Start m k owner.Setup count len) (setup_shows_none b m k count len) may h told
 step_told b shown (action.Start m k owner.Auth count len) may h told = still_told b shown (action.Start m k owner.Auth count len) (renew_shows_none b m k count len) may h told
-step_told b shown (action.Start m k owner.Resub count len) may h told = absurd may
+step_told b shown (action.Start m k owner.Resub count len) may h told = still_told b shown (action.Start m k owner.Resub count len) (repeat_shows_none b m k count len) may h told
 step_told b shown (action.Start m k owner.Monitor count len) may h told = still_told b shown (action.Start m k owner.Monitor count len) (watch_shows_none b m k count len) may h told
 step_told b shown (action.Start m k (owner.Try n round) count len) may h told = still_told b shown (action.Start m k (owner.Try n round) count len) (start_shows_none b m k n round count len) may h told
 step_told b shown (action.Outcome n o) may h told = still_told b shown (action.Outcome n o) (unchanged b (action.Outcome n o) refl refl refl refl (λ s l m h q. q)) may h told

@@ -6,10 +6,12 @@ use Rattle.driver_model.specs.declared.action.Action.{Action}
 use Rattle.driver_model.specs.declared.action.Action.TheVariants as action
 use Rattle.driver_model.specs.declared.action.Cause.TheVariants as cause
 use Rattle.driver_model.specs.News.{News, silence, connected, refused, overdue, took, came, failed, authorized, denied, deserted, renewed, unrenewed, late, unrepeated, dropped, shut, news_of}
-use Rattle.legal_trace.specs.Ledger.{Ledger, End, asks, begins, offers, ends, with_news, refused_in, bytes_came, is_over, dials, ending, sources, times, awaits_credentials, authorized_by, may_renew, renewed_by, unrenewed_by, is_renewal_open, lost_by}
+use Rattle.legal_trace.specs.Ledger.{Ledger, End, asks, begins, offers, ends, with_news, refused_in, bytes_came, is_over, dials, ending, sources, times, awaits_credentials, authorized_by, may_renew, renewed_by, unrenewed_by, is_renewal_open, lost_by, is_repeating, unrepeated_by}
 use Rattle.legal_trace.specs.Managers.{settings_in, is_last}
-use Rattle.legal_trace.specs.Book.{Book, entered, info_in, message_of, wanted_in, is_renewal_of, hearing_in}
+use Rattle.legal_trace.specs.Book.{Book, entered, info_in, message_of, wanted_in, hearing_in}
 use Rattle.legal_trace.specs.Legal.{MayStand}
+use Rattle.legal_trace.specs.Again.{repeats_in}
+use Rattle.legal_trace.proofs.Clocks.{timer_tells}
 use Rattle.legal_trace.proofs.Ledgers.{mine_keeps, dials_from, UpIsNotOver}
 use Rattle.legal_trace.proofs.Plain.{none_from, not_none}
 use Rattle.legal_trace.proofs.Came.{holds_bytes}
@@ -35,7 +37,7 @@ end_hears end l turn deserted h = h
 end_hears end l turn (renewed c) h = chosen (EndedSo end) (may_renew l) (renewed_by l c) l (λ t. h) (λ f. h)
 end_hears end l turn unrenewed h = chosen (EndedSo end) l.up (unrenewed_by l) l (λ t. h) (λ f. h)
 end_hears end l turn (late k) h = chosen (EndedSo end) (l.up && is_renewal_open l k) (lost_by l) l (λ t. h) (λ f. h)
-end_hears end l turn unrepeated h = h
+end_hears end l turn unrepeated h = chosen (EndedSo end) (is_repeating l) (unrepeated_by l) l (λ t. h) (λ f. h)
 end_hears end l turn dropped h = h
 end_hears end l turn shut h = h
 
@@ -43,15 +45,15 @@ end_hears end l turn shut h = h
 pub end_kept : (b : Book) (a : Action) (l : ℕ) (end : End) → MayStand b a → UpIsNotOver (b.link l) → (b.link l).end ≡ Some end → ((entered b a).link l).end ≡ Some end
 end_kept b (action.Turn k (cause.Opening config word)) l end may up h = h
 end_kept b (action.Turn k (cause.Event e)) l end may up h = end_hears end (b.link l) k (news_of b.timers b.sources l e.kind) h
-end_kept b (action.Connect m host port) l end may up h = mine_keeps (EndedSo end) (m == l) (b.link l) (asks (info_in b.config) (wanted_in b.config) (hearing_in b.config) (is_last (settings_in b.config) b.attempt)) (λ t. h) h
-end_kept b (action.Timer t ms what) l end may up h = mine_keeps (EndedSo end) (is_renewal_of l what) (b.link l) times (λ e. h) h
+end_kept b (action.Connect m host port) l end may up h = mine_keeps (EndedSo end) (m == l) (b.link l) (asks (info_in b.config) (wanted_in b.config) (hearing_in b.config) (is_last (settings_in b.config) b.attempt) (repeats_in (settings_in b.config) b.tracked)) (λ t. h) h
+end_kept b (action.Timer t ms what) l end may up h = timer_tells (EndedSo end) (b.link l) l what (λ on k is e. h) (λ on is e. h) h
 end_kept b (action.Took who m count) l end may up h = h
 end_kept b (action.Push m info) l end may up h = push_keeps (EndedSo end) (m == l) info.kind (b.link l) h h h
 end_kept b (action.Message msg) l end may up h = tell_keeps (EndedSo end) (b.current == l) (b.link l) h h
 end_kept b (action.Monitor v) l end may up h = tell_keeps (EndedSo end) (b.current == l) (b.link l) h h
 end_kept b (action.NeedCreds c m) l end may up h = mine_keeps (EndedSo end) (m == l) (b.link l) sources (λ e. h) h
 end_kept b (action.Generation g) l end may up h = h
-end_kept b (action.Round who m) l end may up h = absurd may
+end_kept b (action.Round who m) l end may up h = h
 end_kept b (action.Close m) l end may up h =
     mine_keeps (EndedSo end) (m == l) (b.link l) (ends (b.turns - 1)) (λ t. absurd (not_none (ending (b.link l)) may.why (over_stays (b.link l) end up h) (ap (λ j. ending (b.link j)) (sym (eq_from m l t)) ∙ may.ends))) h
 end_kept b (action.Write m bytes) l end may up h = mine_keeps (EndedSo end) (m == l) (b.link l) (offers bytes) (λ t. h) h

@@ -11,7 +11,7 @@ use Rattle.driver_model.specs.declared.event.Event.{Event}
 use Rattle.driver_model.specs.declared.event.EventKind.{EventKind}
 use Rattle.driver_model.specs.declared.event.EventKind.TheVariants as event
 use Rattle.driver_model.specs.declared.outcome.Outcome.{Outcome}
-use Rattle.legal_trace.specs.Story.{Story, is_open, is_unstarted, handed_in, left, holds, clocked, fires, tried, waits, answered}
+use Rattle.legal_trace.specs.Story.{Story, is_open, is_unstarted, handed_in, left, holds, clocked, rounds, fires, tried, waits, answered}
 use Rattle.legal_trace.specs.Book.{Book, blank_book, book, entered, entered_each, is_clock_of, after_event, is_unspoken}
 use Rattle.legal_trace.proofs.Clocks.{timer_keeps}
 use Rattle.legal_trace.specs.Legal.{MayStand, MayAnswer, MayTell, AllStand, IsOpen, IsApplied, Legal}
@@ -77,7 +77,11 @@ over_kept b (action.Message msg) may n i h = h
 over_kept b (action.Monitor v) may n i h = h
 over_kept b (action.NeedCreds c m) may n i h = h
 over_kept b (action.Generation g) may n i h = h
-over_kept b (action.Round who m) may n i h = absurd may
+over_kept b (action.Round owner.Setup on) may n i h = absurd may
+over_kept b (action.Round owner.Auth on) may n i h = absurd may
+over_kept b (action.Round owner.Resub on) may n i h = absurd may
+over_kept b (action.Round owner.Monitor on) may n i h = absurd may
+over_kept b (action.Round (owner.Try m round) on) may n i h = chosen IsOver (m == n) (rounds (b.story n)) (b.story n) (λ e. h) (λ f. h)
 over_kept b (action.Close m) may n i h = h
 over_kept b (action.Write m bytes) may n i h = h
 over_kept b (action.Wait owner.Setup kind) may n i h = absurd may
@@ -87,7 +91,7 @@ over_kept b (action.Wait owner.Monitor kind) may n i h = absurd may
 over_kept b (action.Wait (owner.Try m round) kind) may n i h = chosen IsOver (m == n) (waits (b.story n) kind) (b.story n) (λ e. h) (λ f. h)
 over_kept b (action.Start l k owner.Setup count len) may n i h = h
 over_kept b (action.Start l k owner.Auth count len) may n i h = h
-over_kept b (action.Start l k owner.Resub count len) may n i h = absurd may
+over_kept b (action.Start l k owner.Resub count len) may n i h = h
 over_kept b (action.Start l k owner.Monitor count len) may n i h = h
 over_kept b (action.Start l k (owner.Try m round) count len) may n i h = chosen IsOver (m == n) (tried (b.story n) l k) (b.story n)
     (λ e u. absurd (not_empty (b.story n).tries (record { link = l; message = k }) (has_no_tries (tried (b.story n) l k) u))) (λ f. h)

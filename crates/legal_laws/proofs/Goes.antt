@@ -12,7 +12,7 @@ use Rattle.driver_model.specs.declared.event.EventKind.{EventKind}
 use Rattle.driver_model.specs.declared.event.EventKind.TheVariants as event
 use Rattle.driver_model.specs.declared.outcome.Outcome.{Outcome}
 use Rattle.legal_trace.specs.Ledger.{is_over}
-use Rattle.legal_trace.specs.Story.{Story, Try, blank_story, is_open, handed_in, carried, left, holds, clocked, fires, tried, waits, answered, last_of}
+use Rattle.legal_trace.specs.Story.{Story, Try, blank_story, is_open, handed_in, carried, left, holds, clocked, rounds, fires, tried, waits, answered, last_of}
 use Rattle.legal_trace.specs.Book.{Book, entered, has_generations, if_own, is_clock_of, is_rest, after_event, after_timer, is_unspoken, shuts}
 use Rattle.legal_trace.specs.Legal.{MayStand, MayTimer, MayRest, MayGenerate, MayAnswer, MayTell, IsOpen, current_link, is_attempt, generation_due}
 use Rattle.legal_trace.proofs.Clocks.{timer_own, timer_rests}
@@ -189,7 +189,11 @@ goes_kept b (action.Message msg) may links stories lives h n = h n
 goes_kept b (action.Monitor v) may links stories lives h n = h n
 goes_kept b (action.NeedCreds c m) may links stories lives h n = h n
 goes_kept b (action.Generation g) may links stories lives h n = generation_goes b g may lives h n
-goes_kept b (action.Round who m) may links stories lives h n = absurd may
+goes_kept b (action.Round owner.Setup on) may links stories lives h n = absurd may
+goes_kept b (action.Round owner.Auth on) may links stories lives h n = absurd may
+goes_kept b (action.Round owner.Resub on) may links stories lives h n = absurd may
+goes_kept b (action.Round owner.Monitor on) may links stories lives h n = absurd may
+goes_kept b (action.Round (owner.Try i round) on) may links stories lives h n = chosen (GoesOn b.generation b.current b.shut) (i == n) (rounds (b.story n)) (b.story n) (λ e. record { open_on = (h n).open_on; open_in = (h n).open_in; tries_on = (h n).tries_on; late_on = (h n).late_on; behind = (h n).behind }) (λ f. h n)
 goes_kept b (action.Close m) may links stories lives h n = h n
 goes_kept b (action.Write m bytes) may links stories lives h n = h n
 goes_kept b (action.Wait owner.Setup kind) may links stories lives h n = absurd may
@@ -199,7 +203,7 @@ goes_kept b (action.Wait owner.Monitor kind) may links stories lives h n = absur
 goes_kept b (action.Wait (owner.Try i round) kind) may links stories lives h n = chosen (GoesOn b.generation b.current b.shut) (i == n) (waits (b.story n) kind) (b.story n) (λ e. record { open_on = (h n).open_on; open_in = (h n).open_in; tries_on = (h n).tries_on; late_on = (h n).late_on; behind = (h n).behind }) (λ f. h n)
 goes_kept b (action.Start m k owner.Setup count len) may links stories lives h n = h n
 goes_kept b (action.Start m k owner.Auth count len) may links stories lives h n = h n
-goes_kept b (action.Start m k owner.Resub count len) may links stories lives h n = absurd may
+goes_kept b (action.Start m k owner.Resub count len) may links stories lives h n = h n
 goes_kept b (action.Start m k owner.Monitor count len) may links stories lives h n = h n
 goes_kept b (action.Start m k (owner.Try i round) count len) may links stories lives h n = chosen (GoesOn b.generation b.current b.shut) (i == n) (tried (b.story n) m k) (b.story n)
     (λ e. tried_goes b.generation b.current b.shut (b.story n) m k (subst (λ j. m ≡ (b.story j).link) (eq_from i n e) may.1.on_its_link) (h n)) (λ f. h n)

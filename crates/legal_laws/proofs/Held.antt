@@ -9,14 +9,14 @@ use Rattle.driver_model.specs.declared.action.Owner.TheVariants as owner
 use Rattle.driver_model.specs.declared.action.Purpose.{Purpose}
 use Rattle.driver_model.specs.declared.action.WaitKind.{WaitKind}
 use Rattle.driver_model.specs.declared.outcome.Outcome.{Outcome}
-use Rattle.legal_trace.specs.Ledger.{Ledger, Line, Start, begins, offers, noted_each, is_of_setup, is_set_up, is_ready, is_cut, setup_due, source_due, ending, failure_in, next_notice, renewals_asked, times, renewal_due, monitor_due}
-use Rattle.legal_trace.specs.Story.{Story, Try, is_open, is_unstarted, shape, holds, clocked, tried, waits, answered}
+use Rattle.legal_trace.specs.Ledger.{Ledger, Line, Start, begins, offers, noted_each, is_of_setup, is_set_up, is_ready, is_cut, setup_due, source_due, ending, failure_in, next_notice, renewals_asked, times, renewal_due, monitor_due, again_due}
+use Rattle.legal_trace.specs.Story.{Story, Try, is_open, is_unstarted, shape, holds, clocked, tried, waits, answered, rounds}
 use Rattle.legal_trace.specs.Steps.{is_due, is_held_back, permits_in, permits_on, permits_held, is_in_line, line_before, next_step}
 use Rattle.legal_trace.specs.Steps.{waits as shows}
 use Rattle.legal_trace.specs.Owed.{owed_to_message, owed_to_try, owed_waiting}
-use Rattle.legal_trace.specs.Book.{Book, entered, if_mine, message_of, is_clock_of, is_rest, is_of_connect, is_renewal_of, faults_in}
-use Rattle.legal_trace.specs.Legal.{MayTell, MayStart, MaySetUp, link_of, NoneIsOwed, IsApplied, IsBegun, IsMoved, IsWritten, MayRenew, MayWait, MayWatch}
-use Rattle.legal_trace.proofs.Clocks.{timer_keeps, timer_own}
+use Rattle.legal_trace.specs.Book.{Book, entered, if_mine, message_of, is_clock_of, is_rest, is_of_connect, faults_in, timer_lines}
+use Rattle.legal_trace.specs.Legal.{MayTell, MayStart, MaySetUp, link_of, NoneIsOwed, IsApplied, IsBegun, IsMoved, IsWritten, MayRenew, MayWait, MayWatch, MayRepeat}
+use Rattle.legal_trace.proofs.Clocks.{timer_keeps, timer_own, timer_tells}
 use Rattle.legal_trace.proofs.Ledgers.{mine_keeps}
 use Rattle.legal_trace.proofs.Setups.{set_begins, ends_where_set, begun_undecided, due_is_unset, setup_stays, ungreeted_is_unset}
 use Rattle.legal_trace.proofs.Renewals.{renewal_is_up}
@@ -28,6 +28,7 @@ use Rattle.legal_trace.proofs.Plain.{not_empty}
 use Rattle.legal_laws.proofs.Sound.{Sound}
 use Rattle.legal_laws.proofs.Undue.{still_generated, still_linked, still_rested}
 use Rattle.legal_trace.proofs.Watching.{watch_stays, watch_is_unset, watching_is_unset}
+use Rattle.legal_trace.proofs.Again.{repeating_is_ready, due_repeats}
 
 -- a message of a submission starts
 abbrev pub starting : ℕ → ℕ → ℕ → ℕ → ℕ → ℕ → Action
@@ -54,12 +55,12 @@ offered_asked_is : (b : Book) (l m : ℕ) (bytes : List ℕ) → (noted_each (b.
 offered_asked_is b l m bytes = mine_keeps (λ (x : Ledger). x.asked ≡ (b.link m).asked) (l == m) (b.link m) (offers bytes) (λ t. refl) refl
 
 -- nor does a timer end one
-timed_end_is : (b : Book) (m : ℕ) (what : Purpose) → (noted_each (b.link m) (if_mine (is_renewal_of m what) times)).end ≡ (b.link m).end
-timed_end_is b m what = mine_keeps (λ (x : Ledger). x.end ≡ (b.link m).end) (is_renewal_of m what) (b.link m) times (λ t. refl) refl
+timed_end_is : (b : Book) (m : ℕ) (what : Purpose) → (noted_each (b.link m) (timer_lines m what)).end ≡ (b.link m).end
+timed_end_is b m what = timer_tells (λ (x : Ledger). x.end ≡ (b.link m).end) (b.link m) m what (λ on k is t. refl) (λ on is t. refl) refl
 
 -- or ask for one
-timed_asked_is : (b : Book) (m : ℕ) (what : Purpose) → (noted_each (b.link m) (if_mine (is_renewal_of m what) times)).asked ≡ (b.link m).asked
-timed_asked_is b m what = mine_keeps (λ (x : Ledger). x.asked ≡ (b.link m).asked) (is_renewal_of m what) (b.link m) times (λ t. refl) refl
+timed_asked_is : (b : Book) (m : ℕ) (what : Purpose) → (noted_each (b.link m) (timer_lines m what)).asked ≡ (b.link m).asked
+timed_asked_is b m what = timer_tells (λ (x : Ledger). x.asked ≡ (b.link m).asked) (b.link m) m what (λ on k is t. refl) (λ on is t. refl) refl
 
 -- the new message is owed nothing
 new_message : (b : Book) (l k n round count len : ℕ) → MayStart b l k n count len → Sound b → owed_to_message ((entered b (starting l k n round count len)).link l) k (shape (b.story n)) ≡ None
@@ -145,6 +146,32 @@ renew_applied b l k count len may h =
     record {
       shown = record {
         answered = λ n o. others_owed b l k owner.Auth count len h n (may.applied.shown.answered n o);
+        ended = λ j. mine_keeps (λ x. ending x ≡ None) (l == j) (b.link j) (begins s)
+            (λ t. ready_begins (b.link j) s refl (subst (λ i. is_ready (b.link i) ≡ true) (eq_from l j t) ready) (may.applied.shown.ended j)) (may.applied.shown.ended j);
+        created = record {
+          lazy = may.applied.shown.created.lazy;
+          shown = λ j. mine_keeps (λ (x : Ledger). is_ready x ≡ true → b.created ≢ 0) (l == j) (b.link j) (begins s) (λ t other. may.applied.shown.created.shown l ready) (may.applied.shown.created.shown j);
+          failed = λ j e. mine_keeps (λ (x : Ledger). failure_in x.end ≡ Some e → b.created ≢ 0) (l == j) (b.link j) (begins s) (λ t. may.applied.shown.created.failed j e) (may.applied.shown.created.failed j e);
+        };
+        pushed = λ j heard. mine_keeps (λ x. next_notice x ≡ None) (l == j) (b.link j) (begins s) (λ t. may.applied.shown.pushed j heard) (may.applied.shown.pushed j heard);
+        parted = λ j heard. mine_keeps IsToldOver (l == j) (b.link j) (begins s) (λ t. may.applied.shown.parted j heard) (may.applied.shown.parted j heard);
+        sourced = λ j. mine_keeps (λ x. source_due x ≡ false) (l == j) (b.link j) (begins s)
+            (λ t. set_sources (b.link j) s refl (ready_is_set (b.link j) (subst (λ i. is_ready (b.link i) ≡ true) (eq_from l j t) ready)) (may.applied.shown.sourced j)) (may.applied.shown.sourced j);
+      };
+      rested = still_rested b (begun_end_is b l b.current (s)) may.applied.rested;
+      generated = still_generated b (is_open (b.story (b.submissions - 1))) (begun_end_is b l b.current (s)) refl (λ o. o) may.applied.generated;
+      linked = still_linked b (begun_asked_is b l b.current (s)) refl may.applied.linked;
+      timed = may.applied.timed;
+    }
+
+-- so does what is subscribed again
+pub repeat_applied : (b : Book) (l k count len : ℕ) → MayRepeat b l k count len → Sound b → IsApplied (entered b (action.Start l k owner.Resub count len))
+repeat_applied b l k count len may h =
+    let ready : is_ready (b.link l) ≡ true = repeating_is_ready (b.link l) (due_repeats (b.link l) may.due) in
+    let s : Start = message_of b l owner.Resub in
+    record {
+      shown = record {
+        answered = λ n o. others_owed b l k owner.Resub count len h n (may.applied.shown.answered n o);
         ended = λ j. mine_keeps (λ x. ending x ≡ None) (l == j) (b.link j) (begins s)
             (λ t. ready_begins (b.link j) s refl (subst (λ i. is_ready (b.link i) ≡ true) (eq_from l j t) ready) (may.applied.shown.ended j)) (may.applied.shown.ended j);
         created = record {
@@ -269,12 +296,14 @@ write_applied b l bytes done = record {
   timed = done.timed;
 }
 
--- setups stay started, and so do MONITOR and new credentials
+-- setups stay started, and so do MONITOR, what is subscribed again and new credentials
 write_begun : (b : Book) (l : ℕ) (bytes : List ℕ) → IsBegun b → IsBegun (entered b (action.Write l bytes))
 write_begun b l bytes done = record {
   applied = write_applied b l bytes done.applied;
   setups = λ j k. mine_keeps (λ x. setup_due x ≡ Some k → is_held_back b x ≡ true) (l == j) (b.link j) (offers bytes) (λ t. done.setups j k) (done.setups j k);
   monitors = λ j. mine_keeps (λ x. monitor_due x ≡ true → is_held_back b x ≡ true) (l == j) (b.link j) (offers bytes) (λ t. done.monitors j) (done.monitors j);
+  repeats_timed = λ j set. mine_keeps (λ (x : Ledger). again_due x ≡ true → x.again.timed ≡ true) (l == j) (b.link j) (offers bytes) (λ t. done.repeats_timed j set) (done.repeats_timed j set);
+  repeated = λ j. mine_keeps (λ x. again_due x ≡ true → is_held_back b x ≡ true) (l == j) (b.link j) (offers bytes) (λ t. done.repeated j) (done.repeated j);
   timed = λ j set. mine_keeps (λ (x : Ledger). renewals_asked x ≤ x.creds.timed) (l == j) (b.link j) (offers bytes) (λ t. done.timed j set) (done.timed j set);
   renewed = λ j c. mine_keeps (λ x. renewal_due x ≡ Some c → is_held_back b x ≡ true) (l == j) (b.link j) (offers bytes) (λ t. done.renewed j c) (done.renewed j c);
 }
@@ -309,11 +338,30 @@ take_applied b m round l count done = record {
   timed = done.timed;
 }
 
--- a timer for new credentials is nothing to what is owed
+-- so does the round of a submission
+pub round_applied : (b : Book) (m round : ℕ) (on : Option ℕ) → IsApplied b → IsApplied (entered b (action.Round (owner.Try m round) on))
+round_applied b m round on done = record {
+  shown = record {
+    answered = λ n. chosen (λ (s : Story). is_open s ≡ true → owed_story (entered b (action.Round (owner.Try m round) on)) s ≡ None) (m == n) (rounds (b.story n)) (b.story n)
+        (λ t o. owed_again b (entered b (action.Round (owner.Try m round) on)) (b.story n) (λ e. e, λ u last e. e) (done.shown.answered n o))
+        (λ f o. owed_again b (entered b (action.Round (owner.Try m round) on)) (b.story n) (λ e. e, λ u last e. e) (done.shown.answered n o));
+    ended = done.shown.ended;
+    created = record { lazy = done.shown.created.lazy; shown = done.shown.created.shown; failed = done.shown.created.failed };
+    pushed = done.shown.pushed;
+    parted = done.shown.parted;
+    sourced = done.shown.sourced;
+  };
+  rested = still_rested b (refl) done.rested;
+  generated = still_generated b (is_open ((entered b (action.Round (owner.Try m round) on)).story (b.submissions - 1))) (refl) refl (chosen (λ s. is_open s ≡ true → is_open (b.story (b.submissions - 1)) ≡ true) (m == b.submissions - 1) (rounds (b.story (b.submissions - 1))) (b.story (b.submissions - 1)) (λ t o. o) (λ f o. o)) done.generated;
+  linked = still_linked b (refl) refl done.linked;
+  timed = done.timed;
+}
+
+-- a timer for new credentials, or for what is subscribed again, is nothing to what is owed
 times_owed : (b : Book) (t ms : ℕ) (what : Purpose) (n : ℕ) → owed_story b (b.story n) ≡ None → owed_story (entered b (action.Timer t ms what)) (b.story n) ≡ None
 times_owed b t ms what n none = owed_again b (entered b (action.Timer t ms what)) (b.story n) (
-  λ e. mine_keeps (λ (x : Ledger). owed_waiting b.shut x ≡ None) (is_renewal_of (b.story n).link what) (b.link (b.story n).link) times (λ u. e) e,
-  λ u last e. mine_keeps (λ x. owed_to_message x u.message (shape (b.story n)) ≡ None) (is_renewal_of u.link what) (b.link u.link) times (λ mine. e) e,
+  λ e. timer_tells (λ (x : Ledger). owed_waiting b.shut x ≡ None) (b.link (b.story n).link) (b.story n).link what (λ on k is u. e) (λ on is u. e) e,
+  λ u last e. timer_tells (λ x. owed_to_message x u.message (shape (b.story n)) ≡ None) (b.link u.link) u.link what (λ on k is mine. e) (λ on is mine. e) e,
 )
     none
 
@@ -325,15 +373,15 @@ ask_applied b t ms what other apart done = record {
         (chosen (λ (s : Story). is_open s ≡ true → owed_story (entered b (action.Timer t ms what)) s ≡ None) (is_clock_of n (Some what)) (clocked (b.story n) t) (b.story n)
         (λ e o. times_owed b t ms what n (done.shown.answered n o))
         (λ f o. times_owed b t ms what n (done.shown.answered n o)));
-    ended = λ j. mine_keeps (λ x. ending x ≡ None) (is_renewal_of j what) (b.link j) times (λ t. done.shown.ended j) (done.shown.ended j);
+    ended = λ j. timer_tells (λ x. ending x ≡ None) (b.link j) j what (λ on k is t. done.shown.ended j) (λ on is t. done.shown.ended j) (done.shown.ended j);
     created = record {
       lazy = done.shown.created.lazy;
-      shown = λ j. mine_keeps (λ (x : Ledger). is_ready x ≡ true → b.created ≢ 0) (is_renewal_of j what) (b.link j) times (λ t. done.shown.created.shown j) (done.shown.created.shown j);
-      failed = λ j e. mine_keeps (λ (x : Ledger). failure_in x.end ≡ Some e → b.created ≢ 0) (is_renewal_of j what) (b.link j) times (λ t. done.shown.created.failed j e) (done.shown.created.failed j e);
+      shown = λ j. timer_tells (λ (x : Ledger). is_ready x ≡ true → b.created ≢ 0) (b.link j) j what (λ on k is t. done.shown.created.shown j) (λ on is t. done.shown.created.shown j) (done.shown.created.shown j);
+      failed = λ j e. timer_tells (λ (x : Ledger). failure_in x.end ≡ Some e → b.created ≢ 0) (b.link j) j what (λ on k is t. done.shown.created.failed j e) (λ on is t. done.shown.created.failed j e) (done.shown.created.failed j e);
     };
-    pushed = λ j heard. mine_keeps (λ x. next_notice x ≡ None) (is_renewal_of j what) (b.link j) times (λ t. done.shown.pushed j heard) (done.shown.pushed j heard);
-    parted = λ j heard. mine_keeps IsToldOver (is_renewal_of j what) (b.link j) times (λ t. done.shown.parted j heard) (done.shown.parted j heard);
-    sourced = λ j. mine_keeps (λ x. source_due x ≡ false) (is_renewal_of j what) (b.link j) times (λ t. done.shown.sourced j) (done.shown.sourced j);
+    pushed = λ j heard. timer_tells (λ x. next_notice x ≡ None) (b.link j) j what (λ on k is t. done.shown.pushed j heard) (λ on is t. done.shown.pushed j heard) (done.shown.pushed j heard);
+    parted = λ j heard. timer_tells IsToldOver (b.link j) j what (λ on k is t. done.shown.parted j heard) (λ on is t. done.shown.parted j heard) (done.shown.parted j heard);
+    sourced = λ j. timer_tells (λ x. source_due x ≡ false) (b.link j) j what (λ on k is t. done.shown.sourced j) (λ on is t. done.shown.sourced j) (done.shown.sourced j);
   };
   rested = still_rested b (ap (λ c. ((entered b (action.Timer t ms what)).link c).end) (left_if (is_rest what) b.links b.current other) ∙ timed_end_is b b.current what) done.rested;
   generated = still_generated b (is_open ((entered b (action.Timer t ms what)).story (b.submissions - 1)))
@@ -395,7 +443,7 @@ wait_unstarted b m round kind n = chosen (λ s. is_unstarted s ≡ is_unstarted 
 pub wait_written : (b : Book) (m round : ℕ) (kind : WaitKind) → MayWait b m kind → IsWritten b → IsWritten (entered b (action.Wait (owner.Try m round) kind))
 wait_written b m round kind may done = record {
   moved = record {
-    begun = record { applied = wait_applied b m round kind done.moved.begun.applied; setups = done.moved.begun.setups; monitors = done.moved.begun.monitors; timed = done.moved.begun.timed; renewed = done.moved.begun.renewed };
+    begun = record { applied = wait_applied b m round kind done.moved.begun.applied; setups = done.moved.begun.setups; monitors = done.moved.begun.monitors; repeats_timed = done.moved.begun.repeats_timed; repeated = done.moved.begun.repeated; timed = done.moved.begun.timed; renewed = done.moved.begun.renewed };
     moved = λ n p. done.moved.moved n (record {
       unstarted = sym (wait_unstarted b m round kind n) ∙ p.unstarted;
       due = sym (ap is_due (wait_step b m round kind may n)) ∙ p.due;

@@ -10,7 +10,7 @@ use Rattle.driver_model.specs.declared.event.EventKind.{EventKind}
 use Rattle.driver_model.specs.declared.event.EventKind.TheVariants as event
 use Rattle.driver_model.specs.declared.outcome.Outcome.{Outcome}
 use Rattle.driver_model.specs.declared.action.Purpose.{Purpose}
-use Rattle.legal_trace.specs.Story.{Story, is_open, is_told, is_awaited, is_no_error, is_unstarted, handed_in, carried, left, holds, clocked, fires, tried, waits, answered}
+use Rattle.legal_trace.specs.Story.{Story, is_open, is_told, is_awaited, is_no_error, is_unstarted, handed_in, carried, left, holds, clocked, rounds, fires, tried, waits, answered}
 use Rattle.legal_trace.specs.Book.{Book, entered, entered_each, has_generations, is_clock_of, after_event, after_timer, is_unspoken}
 use Rattle.legal_trace.specs.Steps.{permits_in, is_let_in, is_in_line, line_before}
 use Rattle.legal_trace.specs.Legal.{MayStand, MayTimer, MayAnswer, MayTell, MayTake, MayStart, AllStand, current_link, is_attempt, rest_due}
@@ -210,7 +210,13 @@ follows b (action.Message msg) may n i = same_story b (b.story n)
 follows b (action.Monitor v) may n i = same_story b (b.story n)
 follows b (action.NeedCreds c l) may n i = same_story b (b.story n)
 follows b (action.Generation g) may n i = same_story b (b.story n)
-follows b (action.Round who l) may n i = absurd may
+follows b (action.Round owner.Setup on) may n i = absurd may
+follows b (action.Round owner.Auth on) may n i = absurd may
+follows b (action.Round owner.Resub on) may n i = absurd may
+follows b (action.Round owner.Monitor on) may n i = absurd may
+follows b (action.Round (owner.Try m round) on) may n i =
+    chosen (Follows b (b.story n)) (m == n) (rounds (b.story n)) (b.story n)
+    (λ t. record { unstarted = λ u. u; told = λ u e. e; on = inl (record { link = refl; stays = λ u e. e; holds = λ u e j. j }) }) (λ f. same_story b (b.story n))
 follows b (action.Close l) may n i = same_story b (b.story n)
 follows b (action.Write l bytes) may n i = same_story b (b.story n)
 follows b (action.Wait owner.Setup kind) may n i = absurd may
@@ -221,7 +227,7 @@ follows b (action.Wait (owner.Try m round) kind) may n i = chosen (Follows b (b.
     (λ t. record { unstarted = λ u. u; told = λ u e. e; on = inl (record { link = refl; stays = λ u e. e; holds = λ u e j. j }) }) (λ f. same_story b (b.story n))
 follows b (action.Start l k owner.Setup count len) may n i = same_story b (b.story n)
 follows b (action.Start l k owner.Auth count len) may n i = same_story b (b.story n)
-follows b (action.Start l k owner.Resub count len) may n i = absurd may
+follows b (action.Start l k owner.Resub count len) may n i = same_story b (b.story n)
 follows b (action.Start l k owner.Monitor count len) may n i = same_story b (b.story n)
 follows b (action.Start l k (owner.Try m round) count len) may n i = chosen (Follows b (b.story n)) (m == n) (tried (b.story n) l k) (b.story n) (λ t. tried_follows b (b.story n) l k) (λ f. same_story b (b.story n))
 follows b (action.Created e) may n i = same_story b (b.story n)

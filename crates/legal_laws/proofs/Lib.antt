@@ -7,6 +7,10 @@ pub mod Aside
 pub mod Ended
 pub mod Causes
 pub mod Goes
+pub mod Rounds
+pub mod Messages
+pub mod Served
+pub mod Repeats
 pub mod Lives
 pub mod Numbers
 pub mod Owes

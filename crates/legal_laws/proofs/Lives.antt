@@ -397,7 +397,7 @@ lives_kept b (action.Timer t ms what) may opens links up goes h = timer_lives b 
 lives_kept b (action.Generation g) may opens links up goes h = generation_lives b g may opens links up h
 lives_kept b (action.Created e) may opens links up goes h = created_lives b e may opens links h
 lives_kept b (action.Outcome n o) may opens links up goes h = outcome_lives b n o may opens links goes h
-lives_kept b (action.Round who m) may opens links up goes h = absurd may
+lives_kept b (action.Round who m) may opens links up goes h = unmoved_lives b (action.Round who m) may opens links up (record { current = refl; links = refl; generation = refl; failed = refl; errors = refl; shut = refl; turns = refl; config = refl; created = refl }) h
 lives_kept b (action.Took who m count) may opens links up goes h = unmoved_lives b (action.Took who m count) may opens links up (record { current = refl; links = refl; generation = refl; failed = refl; errors = refl; shut = refl; turns = refl; config = refl; created = refl }) h
 lives_kept b (action.Push m info) may opens links up goes h = unmoved_lives b (action.Push m info) may opens links up (record { current = refl; links = refl; generation = refl; failed = refl; errors = refl; shut = refl; turns = refl; config = refl; created = refl }) h
 lives_kept b (action.Message msg) may opens links up goes h = unmoved_lives b (action.Message msg) may opens links up (record { current = refl; links = refl; generation = refl; failed = refl; errors = refl; shut = refl; turns = refl; config = refl; created = refl }) h

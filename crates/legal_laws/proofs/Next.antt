@@ -24,15 +24,16 @@ use Rattle.resp_value.specs.declared.push_kind.PushKind.TheVariants.{Disconnecti
 use Rattle.credentials.specs.Credentials.{Credentials}
 use Rattle.driver_model.specs.Push.{is_disconnection}
 use Rattle.driver_model.specs.declared.push_info.PushInfo.{PushInfo}
-use Rattle.legal_trace.specs.Ledger.{Heard, IsOffered, is_over, is_cut, unwritten, ending, failure_in, next_notice, setup_due, setup_message, source_due, renewal_due, renewal_message, renewals_asked, monitor_due, monitor_message}
+use Rattle.legal_trace.specs.Ledger.{Heard, IsOffered, is_over, is_cut, unwritten, ending, failure_in, next_notice, setup_due, setup_message, source_due, renewal_due, renewal_message, renewals_asked, monitor_due, monitor_message, again_due}
 use Rattle.legal_trace.specs.Story.{shape, bytes_of}
 use Rattle.legal_trace.specs.Owed.{owed}
 use Rattle.legal_trace.specs.Book.{Book, book}
-use Rattle.legal_trace.specs.Steps.{Step, waits, takes, asks, tells, starts, nothing, is_held_back, next_step}
+use Rattle.legal_trace.specs.Steps.{Step, waits, takes, asks, tells, starts, nothing, is_held_back, next_step, rounds}
 use Rattle.manager_config.specs.Backoff.{backoff}
-use Rattle.legal_trace.specs.Legal.{MayStand, MayConnect, MayTimeConnect, MayRest, MayGenerate, MayBeLazy, word_of, MayTime, MayTake, MayTimer, MayNeed, MayNotify, MayWatch, MayPart, MayPushBy, MayClose, MayBeCreated, MayFail, MayShowCreation, MayAnswer, MayTell, MayStart, MaySetUp, MayWrite, MayWait, IsOpen, IsWaiting, link_of, CanMove, MayTimeRenewal, MayRenew}
+use Rattle.legal_trace.specs.Legal.{MayStand, MayConnect, MayTimeConnect, MayRest, MayGenerate, MayBeLazy, word_of, MayTime, MayTake, MayTimer, MayNeed, MayNotify, MayWatch, MayPart, MayPushBy, MayClose, MayBeCreated, MayFail, MayShowCreation, MayAnswer, MayTell, MayStart, MaySetUp, MayWrite, MayWait, IsOpen, IsWaiting, link_of, CanMove, MayTimeRenewal, MayRenew, MayRoundOn, MayRepeat, MayTimeRepeat}
+use Rattle.legal_trace.specs.Again.{again_message}
 use Rattle.legal_laws.specs.Next.{BothAnnounce, OneIsNext, OneIsNextBehind}
-use Rattle.legal_trace.proofs.Moves.{teller_moves, starter_moves, taker_moves, asker_moves, same_kind}
+use Rattle.legal_trace.proofs.Moves.{teller_moves, starter_moves, taker_moves, asker_moves, same_kind, rounder_moves}
 use Rattle.legal_laws.proofs.Ranks.{up_is_current, answer_rank, creation_rank, push_rank, rank, same_rank, outcome_rank, timer_rank, not_offered, not_shown}
 use Rattle.legal_trace.proofs.Plain.{not_none, same_some}
 use Rattle.legal_laws.proofs.Sound.{Sound, sound_behind}
@@ -68,6 +69,7 @@ one_move b = least_is_one (CanMove b)
 -- the action that a step of submission n is
 abbrev pub move_of : Book → ℕ → Step → Action
 move_of b n (waits kind) = action.Wait (owner.Try n 0) kind
+move_of b n rounds = action.Round (owner.Try n 0) (Some (b.story n).link)
 move_of b n (takes count) = action.Took (owner.Try n 0) (b.story n).link count
 move_of b n (asks ms) = action.Timer (length b.timers) ms (purpose.Response (owner.Try n 0))
 move_of b n tells = action.Outcome n (outcome.One Nil)
@@ -96,6 +98,11 @@ start_moving b l k n count len may =
     ∙ (ap (λ x. action.Start (b.story n).link (length (link_of b n).starts) (owner.Try n 0) x len) may.needs_its_items
     ∙ ap (λ x. action.Start (b.story n).link (length (link_of b n).starts) (owner.Try n 0) (need_of (shape (b.story n))) x) may.long_as_its_bytes)) in
     (n, starter_moves b l k n count len may, may.in_order, same ∙ sym (ap (move_of b n) may.starts))
+
+-- a round that begins
+round_moving : (b : Book) (n : ℕ) (on : Option ℕ) → MayRoundOn b n on → IsMoving b (action.Round (owner.Try n 0) on)
+round_moving b n None may = absurd may
+round_moving b n (Some l) may = (n, rounder_moves b n l may, may.in_order, ap (λ x. action.Round (owner.Try n 0) (Some x)) may.on_its_link ∙ sym (ap (move_of b n) may.rounds))
 
 -- permits that are taken
 take_moving : (b : Book) (n l count : ℕ) → MayTake b n l count → IsMoving b (action.Took (owner.Try n 0) l count)
@@ -236,6 +243,38 @@ one_watch b l m message other count need len size h k =
     (λ j i w. not_both (is_held_back b (b.link j)) w.1 (h.in_order j i w.0)) (λ j i w. not_both (is_held_back b (b.link j)) w.1 (k.in_order j i w.0)) in
     watch_is b l message count len h ∙ (ap (watch_on b) e ∙ sym (watch_is b m other need size k))
 
+-- what is subscribed again is known by its link
+abbrev pub repeat_on : Book → ℕ → Action
+repeat_on b l = action.Start l (length (b.link l).starts) owner.Resub (need_of (again_message b.tracked).shape) (length (again_message b.tracked).bytes)
+
+-- it is that
+repeat_is : (b : Book) (l message count len : ℕ) (may : MayRepeat b l message count len) → action.Start l message owner.Resub count len ≡ repeat_on b l
+repeat_is b l message count len may =
+    ap (λ x. action.Start l x owner.Resub count len) may.next
+    ∙ (ap (λ x. action.Start l (length (b.link l).starts) owner.Resub x len) may.needs_its_items
+    ∙ ap (λ x. action.Start l (length (b.link l).starts) owner.Resub (need_of (again_message b.tracked).shape) x) may.long_as_its_bytes)
+
+-- it is to start on that link, which isn't held back
+abbrev pub IsRepeating : Book → ℕ → Type 0
+IsRepeating b l = (again_due (b.link l) ≡ true) × (is_held_back b (b.link l) ≡ false)
+
+-- two that start are one
+one_repeat : (b : Book) (l m message other count need len size : ℕ) → MayRepeat b l message count len → MayRepeat b m other need size → action.Start l message owner.Resub count len ≡ action.Start m other owner.Resub need size
+one_repeat b l m message other count need len size h k =
+    let e : l ≡ m = least_is_one (IsRepeating b) l m (h.due, h.free) (k.due, k.free)
+    (λ j i w. not_both (is_held_back b (b.link j)) w.1 (h.in_order j i w.0)) (λ j i w. not_both (is_held_back b (b.link j)) w.1 (k.in_order j i w.0)) in
+    repeat_is b l message count len h ∙ (ap (repeat_on b) e ∙ sym (repeat_is b m other need size k))
+
+-- two timers of what is subscribed again are one
+one_repeat_timer : (b : Book) (t u ms time : ℕ) (what other : Purpose) → MayTimeRepeat b t ms what → MayTimeRepeat b u time other → action.Timer t ms what ≡ action.Timer u time other
+one_repeat_timer b t u ms time what other h k =
+    let e : h.l ≡ k.l = least_is_one (λ j. (again_due (b.link j) ≡ true) × ((b.link j).again.timed ≡ false)) h.l k.l (h.due, h.once) (k.due, k.once)
+    (λ j i w. not_both (b.link j).again.timed w.1 (h.in_order j i w.0)) (λ j i w. not_both (b.link j).again.timed w.1 (k.in_order j i w.0)) in
+    let i : t ≡ u = h.next ∙ sym k.next in
+    let m : ms ≡ time = same_some ms time (sym h.within ∙ k.within) in
+    let w : what ≡ other = h.is_for ∙ (ap purpose.Resubscription e ∙ sym k.is_for) in
+    cc (i, m, w)
+
 -- what tells this of link l
 abbrev pub telling_of : ℕ → Notice → Action
 telling_of l (notice.Push info) = action.Push l info
@@ -332,12 +371,14 @@ OfRank (suc (suc (suc (suc (suc (suc (suc (suc (suc zero))))))))) b y = (l : ℕ
 OfRank (suc (suc (suc (suc (suc (suc (suc (suc (suc (suc zero)))))))))) b y = (t : ℕ) × (ms : ℕ) × (what : Purpose) × (y ≡ action.Timer t ms what) × MayTimeConnect b t ms what
 OfRank (suc (suc (suc (suc (suc (suc (suc (suc (suc (suc (suc zero))))))))))) b y = (l : ℕ) × (k : ℕ) × (count : ℕ) × (len : ℕ) × (y ≡ action.Start l k owner.Setup count len) × MaySetUp b l k count len
 OfRank (suc (suc (suc (suc (suc (suc (suc (suc (suc (suc (suc (suc zero)))))))))))) b y = (l : ℕ) × (k : ℕ) × (count : ℕ) × (len : ℕ) × (y ≡ action.Start l k owner.Monitor count len) × MayWatch b l k count len
-OfRank (suc (suc (suc (suc (suc (suc (suc (suc (suc (suc (suc (suc (suc zero))))))))))))) b y = (t : ℕ) × (ms : ℕ) × (what : Purpose) × (y ≡ action.Timer t ms what) × MayTimeRenewal b t ms what
-OfRank (suc (suc (suc (suc (suc (suc (suc (suc (suc (suc (suc (suc (suc (suc zero)))))))))))))) b y = (l : ℕ) × (k : ℕ) × (count : ℕ) × (len : ℕ) × (y ≡ action.Start l k owner.Auth count len) × MayRenew b l k count len
-OfRank (suc (suc (suc (suc (suc (suc (suc (suc (suc (suc (suc (suc (suc (suc (suc zero))))))))))))))) b y = IsMoving b y
-OfRank (suc (suc (suc (suc (suc (suc (suc (suc (suc (suc (suc (suc (suc (suc (suc (suc zero)))))))))))))))) b y = (l : ℕ) × (bytes : List ℕ) × (y ≡ action.Write l bytes) × MayWrite b l bytes
-OfRank (suc (suc (suc (suc (suc (suc (suc (suc (suc (suc (suc (suc (suc (suc (suc (suc (suc zero))))))))))))))))) b y = (n : ℕ) × (kind : WaitKind) × (y ≡ action.Wait (owner.Try n 0) kind) × MayWait b n kind
-OfRank (suc (suc (suc (suc (suc (suc (suc (suc (suc (suc (suc (suc (suc (suc (suc (suc (suc (suc more)))))))))))))))))) b y = (k : ℕ) × (e : Event) × (y ≡ action.Turn k (cause.Event e)) × (k ≡ b.turns)
+OfRank (suc (suc (suc (suc (suc (suc (suc (suc (suc (suc (suc (suc (suc zero))))))))))))) b y = (t : ℕ) × (ms : ℕ) × (what : Purpose) × (y ≡ action.Timer t ms what) × MayTimeRepeat b t ms what
+OfRank (suc (suc (suc (suc (suc (suc (suc (suc (suc (suc (suc (suc (suc (suc zero)))))))))))))) b y = (l : ℕ) × (k : ℕ) × (count : ℕ) × (len : ℕ) × (y ≡ action.Start l k owner.Resub count len) × MayRepeat b l k count len
+OfRank (suc (suc (suc (suc (suc (suc (suc (suc (suc (suc (suc (suc (suc (suc (suc zero))))))))))))))) b y = (t : ℕ) × (ms : ℕ) × (what : Purpose) × (y ≡ action.Timer t ms what) × MayTimeRenewal b t ms what
+OfRank (suc (suc (suc (suc (suc (suc (suc (suc (suc (suc (suc (suc (suc (suc (suc (suc zero)))))))))))))))) b y = (l : ℕ) × (k : ℕ) × (count : ℕ) × (len : ℕ) × (y ≡ action.Start l k owner.Auth count len) × MayRenew b l k count len
+OfRank (suc (suc (suc (suc (suc (suc (suc (suc (suc (suc (suc (suc (suc (suc (suc (suc (suc zero))))))))))))))))) b y = IsMoving b y
+OfRank (suc (suc (suc (suc (suc (suc (suc (suc (suc (suc (suc (suc (suc (suc (suc (suc (suc (suc zero)))))))))))))))))) b y = (l : ℕ) × (bytes : List ℕ) × (y ≡ action.Write l bytes) × MayWrite b l bytes
+OfRank (suc (suc (suc (suc (suc (suc (suc (suc (suc (suc (suc (suc (suc (suc (suc (suc (suc (suc (suc zero))))))))))))))))))) b y = (n : ℕ) × (kind : WaitKind) × (y ≡ action.Wait (owner.Try n 0) kind) × MayWait b n kind
+OfRank (suc (suc (suc (suc (suc (suc (suc (suc (suc (suc (suc (suc (suc (suc (suc (suc (suc (suc (suc (suc more)))))))))))))))))))) b y = (k : ℕ) × (e : Event) × (y ≡ action.Turn k (cause.Event e)) × (k ≡ b.turns)
 
 -- an outcome that is owed is of its rank
 answer_of_rank : (b : Book) (n : ℕ) (o : Outcome) (over : Bool) → is_over (link_of b n) ≡ over → MayAnswer b n o → OfRank (answer_rank over) b (action.Outcome n o)
@@ -365,7 +406,8 @@ timer_of_rank : (b : Book) (t ms : ℕ) (what : Purpose) (may : MayTimer b t ms 
 timer_of_rank b t ms what (inl (inl may)) = (t, ms, what, refl, may)
 timer_of_rank b t ms what (inl (inr may)) = (t, ms, what, refl, may)
 timer_of_rank b t ms what (inr (inl may)) = ask_moving b t ms what may
-timer_of_rank b t ms what (inr (inr may)) = (t, ms, what, refl, may)
+timer_of_rank b t ms what (inr (inr (inl may))) = (t, ms, what, refl, may)
+timer_of_rank b t ms what (inr (inr (inr may))) = (t, ms, what, refl, may)
 
 -- each action that may stand is of its rank
 pub of_rank : (b : Book) (y : Action) (may : MayStand b y) → OfRank (rank b y may) b y
@@ -383,12 +425,16 @@ of_rank b (action.Message msg) may = inr (inr (inl (b.current, notice.Message ms
 of_rank b (action.Monitor v) may = inr (inr (inl (b.current, notice.Monitor v, refl, may)))
 of_rank b (action.NeedCreds c l) may = inr (inr (inr (c, l, refl, may)))
 of_rank b (action.Generation g) may = (g, refl, may)
-of_rank b (action.Round who l) may = absurd may
+of_rank b (action.Round owner.Setup on) may = absurd may
+of_rank b (action.Round owner.Auth on) may = absurd may
+of_rank b (action.Round owner.Resub on) may = absurd may
+of_rank b (action.Round owner.Monitor on) may = absurd may
+of_rank b (action.Round (owner.Try n round) on) may = subst (λ r. IsMoving b (action.Round (owner.Try n r) on)) (sym may.0) (round_moving b n on may.1)
 of_rank b (action.Close l) may = (l, refl, may)
 of_rank b (action.Created e) may = creation_of_rank b e may
 of_rank b (action.Start l k owner.Setup count len) may = (l, k, count, len, refl, may)
 of_rank b (action.Start l k owner.Auth count len) may = (l, k, count, len, refl, may)
-of_rank b (action.Start l k owner.Resub count len) may = absurd may
+of_rank b (action.Start l k owner.Resub count len) may = (l, k, count, len, refl, may)
 of_rank b (action.Start l k owner.Monitor count len) may = (l, k, count, len, refl, may)
 of_rank b (action.Start l k (owner.Try n round) count len) may = subst (λ r. IsMoving b (action.Start l k (owner.Try n r) count len)) (sym may.0) (start_moving b l k n count len may.1)
 of_rank b (action.Write l bytes) may = (l, bytes, refl, may)
@@ -487,7 +533,8 @@ beside_timer : (b : Book) (t ms : ℕ) (what : Purpose) (y : Action) (p : MayTim
 beside_timer b t ms what y (inl (inl p)) q = inl (one_timer b t q.0 ms q.1 what q.2 p q.4 ∙ sym q.3)
 beside_timer b t ms what y (inl (inr p)) q = inl (one_rest b t q.0 ms q.1 what q.2 p q.4 ∙ sym q.3)
 beside_timer b t ms what y (inr (inl p)) q = inl (one_moving b (action.Timer t ms what) y (ask_moving b t ms what p) q)
-beside_timer b t ms what y (inr (inr p)) q = inl (one_renewal_timer b t q.0 ms q.1 what q.2 p q.4 ∙ sym q.3)
+beside_timer b t ms what y (inr (inr (inl p))) q = inl (one_renewal_timer b t q.0 ms q.1 what q.2 p q.4 ∙ sym q.3)
+beside_timer b t ms what y (inr (inr (inr p))) q = inl (one_repeat_timer b t q.0 ms q.1 what q.2 p q.4 ∙ sym q.3)
 
 -- beside each
 pub beside : (b : Book) (x y : Action) (p : MayStand b x) → Sound b → OfRank (rank b x p) b y → AreOne x y
@@ -505,12 +552,16 @@ beside b (action.Message msg) y p h q = beside_telling b b.current (notice.Messa
 beside b (action.Monitor v) y p h q = beside_telling b b.current (notice.Monitor v) y h p q
 beside b (action.NeedCreds c l) y p h q = beside_need b c l y p q
 beside b (action.Generation g) y p h q = inl (one_generation b g q.0 p q.2 ∙ sym q.1)
-beside b (action.Round who l) y p h q = absurd p
+beside b (action.Round owner.Setup on) y p h q = absurd p
+beside b (action.Round owner.Auth on) y p h q = absurd p
+beside b (action.Round owner.Resub on) y p h q = absurd p
+beside b (action.Round owner.Monitor on) y p h q = absurd p
+beside b (action.Round (owner.Try n round) on) y p h q = subst (λ r. AreOne (action.Round (owner.Try n r) on) y) (sym p.0) (inl (one_moving b (action.Round (owner.Try n 0) on) y (round_moving b n on p.1) q))
 beside b (action.Close l) y p h q = inl (one_close b l q.0 p q.2 ∙ sym q.1)
 beside b (action.Created e) y p h q = beside_creation b e y p q
 beside b (action.Start l k owner.Setup count len) y p h q = inl (one_setup b l q.0 k q.1 count q.2 len q.3 p q.5 ∙ sym q.4)
 beside b (action.Start l k owner.Auth count len) y p h q = inl (one_renewal b l q.0 k q.1 count q.2 len q.3 p q.5 ∙ sym q.4)
-beside b (action.Start l k owner.Resub count len) y p h q = absurd p
+beside b (action.Start l k owner.Resub count len) y p h q = inl (one_repeat b l q.0 k q.1 count q.2 len q.3 p q.5 ∙ sym q.4)
 beside b (action.Start l k owner.Monitor count len) y p h q = inl (one_watch b l q.0 k q.1 count q.2 len q.3 p q.5 ∙ sym q.4)
 beside b (action.Start l k (owner.Try n round) count len) y p h q = subst (λ r. AreOne (action.Start l k (owner.Try n r) count len) y) (sym p.0) (inl (one_moving b (action.Start l k (owner.Try n 0) count len) y (start_moving b l k n count len p.1) q))
 beside b (action.Write l bytes) y p h q = inl (one_write b l q.0 bytes q.1 p q.3 ∙ sym q.2)

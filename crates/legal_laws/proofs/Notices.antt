@@ -16,10 +16,12 @@ use Rattle.driver_model.specs.declared.hearing.Notice.{Notice}
 use Rattle.driver_model.specs.declared.hearing.Notice.TheVariants as notice
 use Rattle.driver_model.specs.News.{News, silence, connected, refused, overdue, took, came, failed, dropped, shut, news_of, authorized, denied, deserted, renewed, unrenewed, late, unrepeated}
 use Rattle.driver_model.specs.Push.{is_disconnection}
-use Rattle.legal_trace.specs.Ledger.{Ledger, Heard, asks, hears, begins, offers, tells, ends, parts, noted, noted_each, refused_in, bytes_came, is_over, dials, next_notice, sources, awaits_credentials, authorized_by, times, may_renew, renewed_by, unrenewed_by, is_renewal_open, lost_by}
+use Rattle.legal_trace.specs.Ledger.{Ledger, Heard, asks, hears, begins, offers, tells, ends, parts, noted, noted_each, refused_in, bytes_came, is_over, dials, next_notice, sources, awaits_credentials, authorized_by, times, may_renew, renewed_by, unrenewed_by, is_renewal_open, lost_by, is_repeating, unrepeated_by}
 use Rattle.legal_trace.specs.Managers.{settings_in, is_last}
-use Rattle.legal_trace.specs.Book.{Book, blank_book, book, entered, entered_each, if_mine, push_line, info_in, message_of, wanted_in, is_renewal_of, hearing_in}
+use Rattle.legal_trace.specs.Book.{Book, blank_book, book, entered, entered_each, if_mine, push_line, info_in, message_of, wanted_in, hearing_in}
 use Rattle.legal_trace.specs.Legal.{MayStand, MayNotify, MayPart, MayPush, MayPushBy, AllStand, IsSettled, is_heard, Legal}
+use Rattle.legal_trace.specs.Again.{repeats_in}
+use Rattle.legal_trace.proofs.Clocks.{timer_tells}
 use Rattle.legal_trace.proofs.Books.{stand_front}
 use Rattle.legal_trace.proofs.Ledgers.{mine_keeps}
 use Rattle.legal_trace.proofs.Plain.{same_some}
@@ -66,7 +68,7 @@ hears_on l turn deserted = same_notices l _ refl refl
 hears_on l turn (renewed c) = chosen (λ (x : Ledger). GoesOn l (record x { heard = renewed c })) (may_renew l) (renewed_by l c) l (λ t. same_notices l _ refl refl) (λ e. same_notices l _ refl refl)
 hears_on l turn unrenewed = chosen (λ (x : Ledger). GoesOn l (record x { heard = unrenewed })) l.up (unrenewed_by l) l (λ t. same_notices l _ refl refl) (λ e. same_notices l _ refl refl)
 hears_on l turn (late k) = chosen (λ (x : Ledger). GoesOn l (record x { heard = late k })) (l.up && is_renewal_open l k) (lost_by l) l (λ t. same_notices l _ refl refl) (λ e. same_notices l _ refl refl)
-hears_on l turn unrepeated = same_notices l _ refl refl
+hears_on l turn unrepeated = chosen (λ (x : Ledger). GoesOn l (record x { heard = unrepeated })) (is_repeating l) (unrepeated_by l) l (λ t. same_notices l _ refl refl) (λ e. same_notices l _ refl refl)
 hears_on l turn dropped = same_notices l _ refl refl
 hears_on l turn shut = same_notices l _ refl refl
 
@@ -141,12 +143,12 @@ step_tells b l (action.Message msg) may = current_told b l (notice.Message msg) 
 step_tells b l (action.Monitor v) may = current_told b l (notice.Monitor v) (action.Monitor v) refl refl may
 step_tells b l (action.Turn k (cause.Opening config word)) may = no_notice b l (action.Turn k (cause.Opening config word)) refl (same_notices (b.link l) (b.link l) refl refl)
 step_tells b l (action.Turn k (cause.Event e)) may = no_notice b l (action.Turn k (cause.Event e)) refl (hears_on (b.link l) k (news_of b.timers b.sources l e.kind))
-step_tells b l (action.Connect m host port) may = no_notice b l (action.Connect m host port) refl (mine_keeps (GoesOn (b.link l)) (m == l) (b.link l) (asks (info_in b.config) (wanted_in b.config) (hearing_in b.config) (is_last (settings_in b.config) b.attempt)) (λ t. same_notices (b.link l) _ refl refl) (same_notices (b.link l) (b.link l) refl refl))
-step_tells b l (action.Timer t ms what) may = no_notice b l (action.Timer t ms what) refl (mine_keeps (GoesOn (b.link l)) (is_renewal_of l what) (b.link l) times (λ t. same_notices (b.link l) _ refl refl) (same_notices (b.link l) (b.link l) refl refl))
+step_tells b l (action.Connect m host port) may = no_notice b l (action.Connect m host port) refl (mine_keeps (GoesOn (b.link l)) (m == l) (b.link l) (asks (info_in b.config) (wanted_in b.config) (hearing_in b.config) (is_last (settings_in b.config) b.attempt) (repeats_in (settings_in b.config) b.tracked)) (λ t. same_notices (b.link l) _ refl refl) (same_notices (b.link l) (b.link l) refl refl))
+step_tells b l (action.Timer t ms what) may = no_notice b l (action.Timer t ms what) refl (timer_tells (GoesOn (b.link l)) (b.link l) l what (λ on k is t. same_notices (b.link l) _ refl refl) (λ on is t. same_notices (b.link l) _ refl refl) (same_notices (b.link l) (b.link l) refl refl))
 step_tells b l (action.Took who m count) may = no_notice b l (action.Took who m count) refl (same_notices (b.link l) (b.link l) refl refl)
 step_tells b l (action.NeedCreds c m) may = no_notice b l (action.NeedCreds c m) refl (mine_keeps (GoesOn (b.link l)) (m == l) (b.link l) sources (λ t. same_notices (b.link l) _ refl refl) (same_notices (b.link l) (b.link l) refl refl))
 step_tells b l (action.Generation g) may = no_notice b l (action.Generation g) refl (same_notices (b.link l) (b.link l) refl refl)
-step_tells b l (action.Round who m) may = absurd may
+step_tells b l (action.Round who m) may = no_notice b l (action.Round who m) refl (same_notices (b.link l) (b.link l) refl refl)
 step_tells b l (action.Close m) may = no_notice b l (action.Close m) refl (mine_keeps (GoesOn (b.link l)) (m == l) (b.link l) (ends (b.turns - 1)) (λ t. same_notices (b.link l) _ refl refl) (same_notices (b.link l) (b.link l) refl refl))
 step_tells b l (action.Write m bytes) may = no_notice b l (action.Write m bytes) refl (mine_keeps (GoesOn (b.link l)) (m == l) (b.link l) (offers bytes) (λ t. same_notices (b.link l) _ refl refl) (same_notices (b.link l) (b.link l) refl refl))
 step_tells b l (action.Wait who kind) may = no_notice b l (action.Wait who kind) refl (same_notices (b.link l) (b.link l) refl refl)

@@ -16,15 +16,18 @@ use Rattle.driver_model.specs.declared.action.SourceUse.TheVariants as source
 use Rattle.driver_model.specs.News.{News, silence, connected, refused, overdue, took, came, failed, authorized, denied, deserted, renewed, unrenewed, late, unrepeated, news_of, for_link, of_timer, of_source}
 use Rattle.driver_model.specs.declared.outcome.Outcome.{Outcome}
 use Rattle.legal_trace.specs.Ledger.{Ledger, End, asks, begins, offers, ends, is_over, ending, ending_alive, ending_asked, noted_each, sources, times}
-use Rattle.legal_trace.specs.Story.{Story, blank_story, is_open, is_told, handed_in, carried, left, holds, clocked, fires, tried, waits, answered}
+use Rattle.legal_trace.specs.Story.{Story, blank_story, is_open, is_told, handed_in, carried, left, holds, clocked, rounds, fires, tried, waits, answered}
 use Rattle.legal_trace.specs.Managers.{settings_in, is_last}
-use Rattle.legal_trace.specs.Book.{Book, entered, lines_of, if_mine, if_own, info_in, message_of, is_clock_of, is_rest, after_event, after_timer, submitted_by, is_unspoken, wanted_in, is_renewal_of, hearing_in}
+use Rattle.legal_trace.specs.Book.{Book, entered, lines_of, if_mine, if_own, info_in, message_of, is_clock_of, is_rest, after_event, after_timer, submitted_by, is_unspoken, wanted_in, hearing_in}
 use Rattle.legal_trace.specs.Events.{is_bad_event}
 use Rattle.legal_trace.specs.Legal.{MayAnswer, MayTell, MayTimer, MayStand, IsOpen, CanMove}
+use Rattle.legal_trace.specs.Again.{repeats_in}
+use Rattle.legal_trace.proofs.Clocks.{timer_tells}
 use Rattle.legal_trace.proofs.Ledgers.{each_keeps, mine_keeps, IsAsked, asked_keeps, IsUnasked, unasked_hears}
 use Rattle.legal_trace.proofs.Plain.{not_none}
 use Rattle.legal_trace.proofs.Moves.{open_or_told, starter_moves, taker_moves, asker_moves}
 use Rattle.legal_laws.proofs.Pushed.{push_keeps, tell_keeps}
+use Rattle.legal_laws.proofs.Rounds.{round_moves}
 
 -- the links below that number were asked for, and no others
 pub record LinksAreNumbered (links : ℕ) (link : ℕ → Ledger) : Type 0 where
@@ -89,15 +92,15 @@ unasked_kept b l (action.Turn k (cause.Event e)) may i h = unasked_hears (b.link
 unasked_kept b l (action.Connect m host port) may i h =
     let e : m ≡ b.links = may.next in
     let other : (m == l) ≡ false = ne_test m l (omega arith) in
-    mine_keeps IsUnasked (m == l) (b.link l) (asks (info_in b.config) (wanted_in b.config) (hearing_in b.config) (is_last (settings_in b.config) b.attempt)) (λ t. absurd (not_both (m == l) other t)) h
-unasked_kept b l (action.Timer t ms what) may i h = mine_keeps IsUnasked (is_renewal_of l what) (b.link l) times (λ t. h) h
+    mine_keeps IsUnasked (m == l) (b.link l) (asks (info_in b.config) (wanted_in b.config) (hearing_in b.config) (is_last (settings_in b.config) b.attempt) (repeats_in (settings_in b.config) b.tracked)) (λ t. absurd (not_both (m == l) other t)) h
+unasked_kept b l (action.Timer t ms what) may i h = timer_tells IsUnasked (b.link l) l what (λ on k is t. h) (λ on is t. h) h
 unasked_kept b l (action.Took who m count) may i h = h
 unasked_kept b l (action.Push m info) may i h = push_keeps IsUnasked (m == l) info.kind (b.link l) h h h
 unasked_kept b l (action.Message msg) may i h = tell_keeps IsUnasked (b.current == l) (b.link l) h h
 unasked_kept b l (action.Monitor v) may i h = tell_keeps IsUnasked (b.current == l) (b.link l) h h
 unasked_kept b l (action.NeedCreds c m) may i h = mine_keeps IsUnasked (m == l) (b.link l) sources (λ t. h) h
 unasked_kept b l (action.Generation g) may i h = h
-unasked_kept b l (action.Round who m) may i h = absurd may
+unasked_kept b l (action.Round who m) may i h = h
 unasked_kept b l (action.Close m) may i h =
     mine_keeps IsUnasked (m == l) (b.link l) (ends (b.turns - 1))
     (λ t. absurd (not_none (ending (b.link m)) may.why (unasked_stays (b.link m) (subst (λ j. IsUnasked (b.link j)) (sym (eq_from m l t)) h)) may.ends)) h
@@ -137,9 +140,9 @@ asked_kept b l (action.Turn k (cause.Opening config word)) may h i = asked_stays
 asked_kept b l (action.Turn k (cause.Event e)) may h i = asked_stays b l (action.Turn k (cause.Event e)) (h.asked l i)
 asked_kept b l (action.Connect m host port) may h i =
     let e : m ≡ b.links = may.next in
-    by_test (m == l) (IsAsked (noted_each (b.link l) (if_mine (m == l) (asks (info_in b.config) (wanted_in b.config) (hearing_in b.config) (is_last (settings_in b.config) b.attempt)))))
-    (λ t. subst (λ (x : Bool). IsAsked (noted_each (b.link l) (if_mine x (asks (info_in b.config) (wanted_in b.config) (hearing_in b.config) (is_last (settings_in b.config) b.attempt))))) (sym t) refl)
-    (λ f. let other : m ≢ l = ne_from m l f in mine_keeps IsAsked (m == l) (b.link l) (asks (info_in b.config) (wanted_in b.config) (hearing_in b.config) (is_last (settings_in b.config) b.attempt)) (λ t. refl) (h.asked l (omega arith)))
+    by_test (m == l) (IsAsked (noted_each (b.link l) (if_mine (m == l) (asks (info_in b.config) (wanted_in b.config) (hearing_in b.config) (is_last (settings_in b.config) b.attempt) (repeats_in (settings_in b.config) b.tracked)))))
+    (λ t. subst (λ (x : Bool). IsAsked (noted_each (b.link l) (if_mine x (asks (info_in b.config) (wanted_in b.config) (hearing_in b.config) (is_last (settings_in b.config) b.attempt) (repeats_in (settings_in b.config) b.tracked))))) (sym t) refl)
+    (λ f. let other : m ≢ l = ne_from m l f in mine_keeps IsAsked (m == l) (b.link l) (asks (info_in b.config) (wanted_in b.config) (hearing_in b.config) (is_last (settings_in b.config) b.attempt) (repeats_in (settings_in b.config) b.tracked)) (λ t. refl) (h.asked l (omega arith)))
 asked_kept b l (action.Timer t ms what) may h i = asked_stays b l (action.Timer t ms what) (h.asked l i)
 asked_kept b l (action.Took owner.Setup m count) may h i = absurd may
 asked_kept b l (action.Took owner.Auth m count) may h i = absurd may
@@ -151,7 +154,7 @@ asked_kept b l (action.Message msg) may h i = asked_stays b l (action.Message ms
 asked_kept b l (action.Monitor v) may h i = asked_stays b l (action.Monitor v) (h.asked l i)
 asked_kept b l (action.NeedCreds c m) may h i = asked_stays b l (action.NeedCreds c m) (h.asked l i)
 asked_kept b l (action.Generation g) may h i = asked_stays b l (action.Generation g) (h.asked l i)
-asked_kept b l (action.Round who m) may h i = absurd may
+asked_kept b l (action.Round who m) may h i = asked_stays b l (action.Round who m) (h.asked l i)
 asked_kept b l (action.Close m) may h i = asked_stays b l (action.Close m) (h.asked l i)
 asked_kept b l (action.Write m bytes) may h i = asked_stays b l (action.Write m bytes) (h.asked l i)
 asked_kept b l (action.Wait owner.Setup kind) may h i = absurd may
@@ -161,7 +164,7 @@ asked_kept b l (action.Wait owner.Monitor kind) may h i = absurd may
 asked_kept b l (action.Wait (owner.Try n round) kind) may h i = asked_stays b l (action.Wait (owner.Try n round) kind) (h.asked l i)
 asked_kept b l (action.Start m k owner.Setup count len) may h i = asked_stays b l (action.Start m k owner.Setup count len) (h.asked l i)
 asked_kept b l (action.Start m k owner.Auth count len) may h i = asked_stays b l (action.Start m k owner.Auth count len) (h.asked l i)
-asked_kept b l (action.Start m k owner.Resub count len) may h i = absurd may
+asked_kept b l (action.Start m k owner.Resub count len) may h i = asked_stays b l (action.Start m k owner.Resub count len) (h.asked l i)
 asked_kept b l (action.Start m k owner.Monitor count len) may h i = asked_stays b l (action.Start m k owner.Monitor count len) (h.asked l i)
 asked_kept b l (action.Start m k (owner.Try n round) count len) may h i = asked_stays b l (action.Start m k (owner.Try n round) count len) (h.asked l i)
 asked_kept b l (action.Created e) may h i = asked_stays b l (action.Created e) (h.asked l i)
@@ -232,7 +235,8 @@ fires_blank s e = ap fires e
 clock_leaves_blank : (b : Book) (t ms : ℕ) (what : Purpose) (n : ℕ) → MayTimer b t ms what → HasStories b → b.submissions ≤ n → if_own (is_clock_of n (Some what)) (clocked (b.story n) t) (b.story n) ≡ blank_story
 clock_leaves_blank b t ms what n (inl (inl may)) h i = ap (λ x. if_own (is_clock_of n (Some x)) (clocked (b.story n) t) (b.story n)) may.is_for ∙ h n i
 clock_leaves_blank b t ms what n (inl (inr may)) h i = ap (λ x. if_own (is_clock_of n (Some x)) (clocked (b.story n) t) (b.story n)) may.is_for ∙ h n i
-clock_leaves_blank b t ms what n (inr (inr may)) h i = ap (λ x. if_own (is_clock_of n (Some x)) (clocked (b.story n) t) (b.story n)) may.is_for ∙ h n i
+clock_leaves_blank b t ms what n (inr (inr (inl may))) h i = ap (λ x. if_own (is_clock_of n (Some x)) (clocked (b.story n) t) (b.story n)) may.is_for ∙ h n i
+clock_leaves_blank b t ms what n (inr (inr (inr may))) h i = ap (λ x. if_own (is_clock_of n (Some x)) (clocked (b.story n) t) (b.story n)) may.is_for ∙ h n i
 clock_leaves_blank b t ms what n (inr (inl may)) h i = ap (λ x. if_own (is_clock_of n (Some x)) (clocked (b.story n) t) (b.story n)) may.is_for ∙ others_blank b may.n n (clocked (b.story n) t) h i (mover_is_numbered b may.n h (asker_moves b t ms what may))
 
 -- so whichever it is for
@@ -283,7 +287,11 @@ stories_kept b (action.Message msg) may h n i = h n i
 stories_kept b (action.Monitor v) may h n i = h n i
 stories_kept b (action.NeedCreds c l) may h n i = h n i
 stories_kept b (action.Generation g) may h n i = h n i
-stories_kept b (action.Round who l) may h n i = absurd may
+stories_kept b (action.Round owner.Setup on) may h n i = absurd may
+stories_kept b (action.Round owner.Auth on) may h n i = absurd may
+stories_kept b (action.Round owner.Resub on) may h n i = absurd may
+stories_kept b (action.Round owner.Monitor on) may h n i = absurd may
+stories_kept b (action.Round (owner.Try m round) on) may h n i = others_blank b m n (rounds (b.story n)) h i (mover_is_numbered b m h (round_moves b m on may.1))
 stories_kept b (action.Close l) may h n i = h n i
 stories_kept b (action.Write l bytes) may h n i = h n i
 stories_kept b (action.Wait owner.Setup kind) may h n i = absurd may
@@ -293,7 +301,7 @@ stories_kept b (action.Wait owner.Monitor kind) may h n i = absurd may
 stories_kept b (action.Wait (owner.Try m round) kind) may h n i = others_blank b m n (waits (b.story n) kind) h i (open_is_numbered b m h may.1.asked)
 stories_kept b (action.Start l k owner.Setup count len) may h n i = h n i
 stories_kept b (action.Start l k owner.Auth count len) may h n i = h n i
-stories_kept b (action.Start l k owner.Resub count len) may h n i = absurd may
+stories_kept b (action.Start l k owner.Resub count len) may h n i = h n i
 stories_kept b (action.Start l k owner.Monitor count len) may h n i = h n i
 stories_kept b (action.Start l k (owner.Try m round) count len) may h n i = others_blank b m n (tried (b.story n) l k) h i (mover_is_numbered b m h (starter_moves b l k m count len may.1))
 stories_kept b (action.Created e) may h n i = h n i

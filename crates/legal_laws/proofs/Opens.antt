@@ -10,8 +10,10 @@ use Rattle.driver_model.specs.declared.config.Config.{Config}
 use Rattle.driver_model.specs.News.{News, silence}
 use Rattle.legal_trace.specs.Ledger.{Ledger, Ending, asks, begins, offers, is_over, ending, ending_alive, ending_asked, sources, times}
 use Rattle.legal_trace.specs.Managers.{settings_in, is_last}
-use Rattle.legal_trace.specs.Book.{Book, entered, has_generations, info_in, message_of, wanted_in, is_renewal_of, hearing_in}
+use Rattle.legal_trace.specs.Book.{Book, entered, has_generations, info_in, message_of, wanted_in, hearing_in}
 use Rattle.legal_trace.specs.Legal.{MayStand, current_link, link_due}
+use Rattle.legal_trace.specs.Again.{repeats_in}
+use Rattle.legal_trace.proofs.Clocks.{timer_tells}
 use Rattle.legal_trace.proofs.Ledgers.{mine_keeps}
 use Rattle.legal_trace.proofs.Plain.{not_none}
 use Rattle.legal_laws.proofs.Pushed.{push_keeps, tell_keeps}
@@ -78,7 +80,7 @@ opening_kept b (action.Message msg) may h = h
 opening_kept b (action.Monitor v) may h = h
 opening_kept b (action.NeedCreds c l) may h = h
 opening_kept b (action.Generation g) may h = h
-opening_kept b (action.Round who l) may h = absurd may
+opening_kept b (action.Round who l) may h = h
 opening_kept b (action.Close l) may h = h
 opening_kept b (action.Write l bytes) may h = h
 opening_kept b (action.Wait owner.Setup kind) may h = absurd may
@@ -88,7 +90,7 @@ opening_kept b (action.Wait owner.Monitor kind) may h = absurd may
 opening_kept b (action.Wait (owner.Try n round) kind) may h = h
 opening_kept b (action.Start l k owner.Setup count len) may h = h
 opening_kept b (action.Start l k owner.Auth count len) may h = h
-opening_kept b (action.Start l k owner.Resub count len) may h = absurd may
+opening_kept b (action.Start l k owner.Resub count len) may h = h
 opening_kept b (action.Start l k owner.Monitor count len) may h = h
 opening_kept b (action.Start l k (owner.Try n round) count len) may h = h
 opening_kept b (action.Created e) may h = h
@@ -116,8 +118,8 @@ still_stays l h =
 pub still_kept : (b : Book) (a : Action) → MayStand b a → StillAtFirst b.turns b.link → StillAtFirst (entered b a).turns (entered b a).link
 still_kept b (action.Turn k (cause.Opening config word)) may h = λ i. h (omega arith)
 still_kept b (action.Turn k (cause.Event e)) may h = λ i. let later : b.turns ≢ 0 = may.is_for.0 in absurd (omega arith)
-still_kept b (action.Connect m host port) may h = λ i l. mine_keeps IsStill (m == l) (b.link l) (asks (info_in b.config) (wanted_in b.config) (hearing_in b.config) (is_last (settings_in b.config) b.attempt)) (λ t. record { down = (h i l).down; lives = (h i l).lives; untold = (h i l).untold; mute = (h i l).mute }) (h i l)
-still_kept b (action.Timer t ms what) may h = λ i l. mine_keeps IsStill (is_renewal_of l what) (b.link l) times (λ t. record { down = (h i l).down; lives = (h i l).lives; untold = (h i l).untold; mute = (h i l).mute }) (h i l)
+still_kept b (action.Connect m host port) may h = λ i l. mine_keeps IsStill (m == l) (b.link l) (asks (info_in b.config) (wanted_in b.config) (hearing_in b.config) (is_last (settings_in b.config) b.attempt) (repeats_in (settings_in b.config) b.tracked)) (λ t. record { down = (h i l).down; lives = (h i l).lives; untold = (h i l).untold; mute = (h i l).mute }) (h i l)
+still_kept b (action.Timer t ms what) may h = λ i l. timer_tells IsStill (b.link l) l what (λ on k is t. record { down = (h i l).down; lives = (h i l).lives; untold = (h i l).untold; mute = (h i l).mute }) (λ on is t. record { down = (h i l).down; lives = (h i l).lives; untold = (h i l).untold; mute = (h i l).mute }) (h i l)
 still_kept b (action.Took owner.Setup l count) may h = absurd may
 still_kept b (action.Took owner.Auth l count) may h = absurd may
 still_kept b (action.Took owner.Resub l count) may h = absurd may
@@ -128,7 +130,7 @@ still_kept b (action.Message msg) may h = λ i l. tell_keeps IsStill (b.current 
 still_kept b (action.Monitor v) may h = λ i l. tell_keeps IsStill (b.current == l) (b.link l) (record { down = (h i l).down; lives = (h i l).lives; untold = (h i l).untold; mute = (h i l).mute }) (h i l)
 still_kept b (action.NeedCreds c m) may h = λ i l. mine_keeps IsStill (m == l) (b.link l) sources (λ t. record { down = (h i l).down; lives = (h i l).lives; untold = (h i l).untold; mute = (h i l).mute }) (h i l)
 still_kept b (action.Generation g) may h = h
-still_kept b (action.Round who m) may h = absurd may
+still_kept b (action.Round who m) may h = h
 still_kept b (action.Close m) may h = λ i. absurd (not_none (ending (b.link m)) may.why (still_stays (b.link m) (h i m)) may.ends)
 still_kept b (action.Write m bytes) may h = λ i l. mine_keeps IsStill (m == l) (b.link l) (offers bytes) (λ t. record { down = (h i l).down; lives = (h i l).lives; untold = (h i l).untold; mute = (h i l).mute }) (h i l)
 still_kept b (action.Wait owner.Setup kind) may h = absurd may
@@ -138,7 +140,7 @@ still_kept b (action.Wait owner.Monitor kind) may h = absurd may
 still_kept b (action.Wait (owner.Try n round) kind) may h = h
 still_kept b (action.Start m k owner.Setup count len) may h = λ i l. mine_keeps IsStill (m == l) (b.link l) (begins (message_of b m owner.Setup)) (λ t. record { down = (h i l).down; lives = (h i l).lives; untold = (h i l).untold; mute = (h i l).mute }) (h i l)
 still_kept b (action.Start m k owner.Auth count len) may h = λ i l. mine_keeps IsStill (m == l) (b.link l) (begins (message_of b m owner.Auth)) (λ t. record { down = (h i l).down; lives = (h i l).lives; untold = (h i l).untold; mute = (h i l).mute }) (h i l)
-still_kept b (action.Start m k owner.Resub count len) may h = absurd may
+still_kept b (action.Start m k owner.Resub count len) may h = λ i l. mine_keeps IsStill (m == l) (b.link l) (begins (message_of b m owner.Resub)) (λ t. record { down = (h i l).down; lives = (h i l).lives; untold = (h i l).untold; mute = (h i l).mute }) (h i l)
 still_kept b (action.Start m k owner.Monitor count len) may h = λ i l. mine_keeps IsStill (m == l) (b.link l) (begins (message_of b m owner.Monitor)) (λ t. record { down = (h i l).down; lives = (h i l).lives; untold = (h i l).untold; mute = (h i l).mute }) (h i l)
 still_kept b (action.Start m k (owner.Try n round) count len) may h = λ i l. mine_keeps IsStill (m == l) (b.link l) (begins (message_of b m (owner.Try n round))) (λ t. record { down = (h i l).down; lives = (h i l).lives; untold = (h i l).untold; mute = (h i l).mute }) (h i l)
 still_kept b (action.Created e) may h = h

@@ -12,11 +12,12 @@ use Rattle.driver_model.specs.declared.event.EventKind.{EventKind}
 use Rattle.driver_model.specs.declared.event.EventKind.TheVariants as event
 use Rattle.driver_model.specs.News.{news_of}
 use Rattle.legal_trace.specs.Ledger.{Ledger, asks, begins, offers, ends, failure_in, setup_due, sources, times}
-use Rattle.legal_trace.specs.Story.{Story, is_open, handed_in, left, holds, clocked, fires, tried, waits, answered}
+use Rattle.legal_trace.specs.Story.{Story, is_open, handed_in, left, holds, clocked, rounds, fires, tried, waits, answered}
 use Rattle.legal_trace.specs.Managers.{settings_in, is_last}
-use Rattle.legal_trace.specs.Book.{Book, blank_book, book, entered, entered_each, has_generations, info_in, wanted_in, hearing_in, message_of, is_clock_of, after_event, is_unspoken, is_renewal_of}
-use Rattle.legal_trace.proofs.Clocks.{timer_keeps}
+use Rattle.legal_trace.specs.Book.{Book, blank_book, book, entered, entered_each, has_generations, info_in, wanted_in, hearing_in, message_of, is_clock_of, after_event, is_unspoken}
+use Rattle.legal_trace.proofs.Clocks.{timer_keeps, timer_tells}
 use Rattle.legal_trace.specs.Legal.{MayTimer, MayTime, MayStand, AllStand, link_of, current_link, is_attempt}
+use Rattle.legal_trace.specs.Again.{repeats_in}
 use Rattle.legal_trace.proofs.Ledgers.{mine_keeps}
 use Rattle.legal_laws.proofs.InLine.{follows, submissions_grow}
 use Rattle.legal_trace.proofs.Moves.{mover_is_ready, ready_is_up, ready_is_set, asker_moves}
@@ -64,9 +65,9 @@ opened_stays b (action.Turn k (cause.Event e)) may h l q = record {
   first = first_hears (b.link l) k (news_of b.timers b.sources l e.kind) q.asked q.quiet.quiet q.first;
 }
 opened_stays b (action.Connect m host port) may h l q =
-    mine_keeps HasOpened (m == l) (b.link l) (asks (info_in b.config) (wanted_in b.config) (hearing_in b.config) (is_last (settings_in b.config) b.attempt))
+    mine_keeps HasOpened (m == l) (b.link l) (asks (info_in b.config) (wanted_in b.config) (hearing_in b.config) (is_last (settings_in b.config) b.attempt) (repeats_in (settings_in b.config) b.tracked))
     (λ t. absurd (not_both (b.link l).asked (let same : m ≡ l = eq_from m l t in let next : m ≡ b.links = may.next in (h.links.unasked l (omega (arith, same, next))).0) q.asked)) q
-opened_stays b (action.Timer t ms what) may h l q = mine_keeps HasOpened (is_renewal_of l what) (b.link l) times (λ t. record { asked = q.asked; quiet = record { quiet = q.quiet.quiet; tells = q.quiet.tells }; first = q.first }) q
+opened_stays b (action.Timer t ms what) may h l q = timer_tells HasOpened (b.link l) l what (λ on k is t. record { asked = q.asked; quiet = record { quiet = q.quiet.quiet; tells = q.quiet.tells }; first = q.first }) (λ on is t. record { asked = q.asked; quiet = record { quiet = q.quiet.quiet; tells = q.quiet.tells }; first = q.first }) q
 opened_stays b (action.Took owner.Setup m count) may h l q = absurd may
 opened_stays b (action.Took owner.Auth m count) may h l q = absurd may
 opened_stays b (action.Took owner.Resub m count) may h l q = absurd may
@@ -77,7 +78,7 @@ opened_stays b (action.Message msg) may h l q = tell_keeps HasOpened (b.current 
 opened_stays b (action.Monitor v) may h l q = tell_keeps HasOpened (b.current == l) (b.link l) (record { asked = q.asked; quiet = record { quiet = q.quiet.quiet; tells = q.quiet.tells }; first = q.first }) q
 opened_stays b (action.NeedCreds c m) may h l q = mine_keeps HasOpened (m == l) (b.link l) sources (λ t. record { asked = q.asked; quiet = record { quiet = q.quiet.quiet; tells = q.quiet.tells }; first = q.first }) q
 opened_stays b (action.Generation g) may h l q = q
-opened_stays b (action.Round who m) may h l q = absurd may
+opened_stays b (action.Round who m) may h l q = q
 opened_stays b (action.Close m) may h l q = mine_keeps HasOpened (m == l) (b.link l) (ends (b.turns - 1)) (λ t. record { asked = q.asked; quiet = ends_quiet [] (b.link l) (b.turns - 1) q.quiet; first = ends_first (b.link l) (b.turns - 1) q.quiet.quiet }) q
 opened_stays b (action.Write m bytes) may h l q = mine_keeps HasOpened (m == l) (b.link l) (offers bytes) (λ t. record { asked = q.asked; quiet = record { quiet = q.quiet.quiet; tells = q.quiet.tells }; first = q.first }) q
 opened_stays b (action.Wait owner.Setup kind) may h l q = absurd may
@@ -90,7 +91,8 @@ opened_stays b (action.Start m k owner.Setup count len) may h l q =
     (λ t. absurd (let due : setup_due (b.link l) ≡ Some may.k = ap (λ j. setup_due (b.link j)) (sym (eq_from m l t)) ∙ may.due in set_is_undue (b.link l) may.k (q.quiet.quiet.1 (due_is_up (b.link l) may.k due)) due)) q
 opened_stays b (action.Start m k owner.Auth count len) may h l q =
     mine_keeps HasOpened (m == l) (b.link l) (begins (message_of b m owner.Auth)) (λ t. record { asked = q.asked; quiet = begins_quiet [] (b.link l) (message_of b m owner.Auth) refl q.quiet; first = q.first }) q
-opened_stays b (action.Start m k owner.Resub count len) may h l q = absurd may
+opened_stays b (action.Start m k owner.Resub count len) may h l q =
+    mine_keeps HasOpened (m == l) (b.link l) (begins (message_of b m owner.Resub)) (λ t. record { asked = q.asked; quiet = begins_quiet [] (b.link l) (message_of b m owner.Resub) refl q.quiet; first = q.first }) q
 opened_stays b (action.Start m k owner.Monitor count len) may h l q =
     mine_keeps HasOpened (m == l) (b.link l) (begins (message_of b m owner.Monitor)) (λ t. record { asked = q.asked; quiet = begins_quiet [] (b.link l) (message_of b m owner.Monitor) refl q.quiet; first = q.first }) q
 opened_stays b (action.Start m k (owner.Try n round) count len) may h l q =
@@ -141,7 +143,8 @@ asker_on_a_link b t ms what h may =
 new_clock : (b : Book) (t ms : ℕ) (what : Purpose) (n : ℕ) → Sound b → MayTimer b t ms what → is_clock_of n (Some what) ≡ true → IsOnALink b n
 new_clock b t ms what n h (inl (inl may)) e = absurd (let x : false ≡ true = sym (ap (λ p. is_clock_of n (Some p)) may.is_for) ∙ e in cc x)
 new_clock b t ms what n h (inl (inr may)) e = absurd (let x : false ≡ true = sym (ap (λ p. is_clock_of n (Some p)) may.is_for) ∙ e in cc x)
-new_clock b t ms what n h (inr (inr may)) e = absurd (let x : false ≡ true = sym (ap (λ p. is_clock_of n (Some p)) may.is_for) ∙ e in cc x)
+new_clock b t ms what n h (inr (inr (inl may))) e = absurd (let x : false ≡ true = sym (ap (λ p. is_clock_of n (Some p)) may.is_for) ∙ e in cc x)
+new_clock b t ms what n h (inr (inr (inr may))) e = absurd (let x : false ≡ true = sym (ap (λ p. is_clock_of n (Some p)) may.is_for) ∙ e in cc x)
 new_clock b t ms what n h (inr (inl may)) e = subst (IsOnALink b) (eq_from may.n n (sym (ap (λ p. is_clock_of n (Some p)) may.is_for) ∙ e)) (asker_on_a_link b t ms what h may)
 
 -- where a timer was asked for, it was before, or is now
@@ -156,7 +159,7 @@ clock_before b (action.Message msg) may h run n c = run.asked n c
 clock_before b (action.Monitor v) may h run n c = run.asked n c
 clock_before b (action.NeedCreds s m) may h run n c = run.asked n c
 clock_before b (action.Generation g) may h run n c = run.asked n c
-clock_before b (action.Round who m) may h run n c = absurd may
+clock_before b (action.Round who m) may h run n c = run.asked n c
 clock_before b (action.Close m) may h run n c = run.asked n c
 clock_before b (action.Write m bytes) may h run n c = run.asked n c
 clock_before b (action.Wait who kind) may h run n c = run.asked n c
@@ -204,7 +207,11 @@ over_before b (action.Message msg) n = λ e. inl e
 over_before b (action.Monitor v) n = λ e. inl e
 over_before b (action.NeedCreds c m) n = λ e. inl e
 over_before b (action.Generation g) n = λ e. inl e
-over_before b (action.Round who m) n = λ e. inl e
+over_before b (action.Round owner.Setup on) n = λ e. inl e
+over_before b (action.Round owner.Auth on) n = λ e. inl e
+over_before b (action.Round owner.Resub on) n = λ e. inl e
+over_before b (action.Round owner.Monitor on) n = λ e. inl e
+over_before b (action.Round (owner.Try m round) on) n = chosen (WasOver b n) (m == n) (rounds (b.story n)) (b.story n) (λ t e. inl e) (λ f e. inl e)
 over_before b (action.Close m) n = λ e. inl e
 over_before b (action.Write m bytes) n = λ e. inl e
 over_before b (action.Wait owner.Setup kind) n = λ e. inl e

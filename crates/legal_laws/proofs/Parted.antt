@@ -15,10 +15,12 @@ use Rattle.driver_model.specs.declared.push_info.PushInfo.{PushInfo}
 use Rattle.driver_model.specs.declared.news.LinkFault.TheVariants as fault
 use Rattle.driver_model.specs.News.{News, silence, connected, refused, overdue, took, came, failed, dropped, shut, news_of, authorized, denied, deserted, renewed, unrenewed, late, unrepeated}
 use Rattle.driver_model.specs.Push.{is_disconnection}
-use Rattle.legal_trace.specs.Ledger.{Ledger, Line, End, Ending, by_opening, asks, hears, begins, offers, tells, ends, parts, noted, noted_each, with_news, refused_in, bytes_came, is_over, is_fault, is_cut, is_set_up, setup_result, error_in, dials, ending, ending_alive, ending_by, ending_unready, ending_asked, ending_or_shutdown, MayNote, AllNoted, sources, lacks_credentials, awaits_credentials, authorized_by, times, may_renew, renewed_by, unrenewed_by, is_renewal_open, lost_by, is_unreadable, opening_error}
+use Rattle.legal_trace.specs.Ledger.{Ledger, Line, End, Ending, by_opening, asks, hears, begins, offers, tells, ends, parts, noted, noted_each, with_news, refused_in, bytes_came, is_over, is_fault, is_cut, is_set_up, setup_result, error_in, dials, ending, ending_alive, ending_by, ending_unready, ending_asked, ending_or_shutdown, MayNote, AllNoted, sources, lacks_credentials, awaits_credentials, authorized_by, times, may_renew, renewed_by, unrenewed_by, is_renewal_open, lost_by, is_unreadable, opening_error, is_repeating, unrepeated_by, repeats_timed}
 use Rattle.legal_trace.specs.Managers.{settings_in, is_last}
-use Rattle.legal_trace.specs.Book.{Book, blank_book, book, entered, entered_each, push_line, info_in, message_of, lines_of_each, wanted_in, is_renewal_of, hearing_in}
+use Rattle.legal_trace.specs.Book.{Book, blank_book, book, entered, entered_each, push_line, info_in, message_of, lines_of_each, wanted_in, hearing_in}
 use Rattle.legal_trace.specs.Legal.{MayStand, MayAnswer, MayTell, MayPart, AllStand, are_pushes_heard, Legal}
+use Rattle.legal_trace.specs.Again.{repeats_in}
+use Rattle.legal_trace.proofs.Clocks.{timer_tells}
 use Rattle.legal_trace.proofs.Books.{stand_front, stand_behind}
 use Rattle.legal_trace.proofs.Renewals.{renewal_is_up}
 use Rattle.legal_trace.proofs.Sources.{awaits_up}
@@ -41,6 +43,7 @@ use Rattle.legal_laws.proofs.Quiet.{over_stays}
 use Rattle.legal_laws.proofs.Sound.{Sound, stays_sound, blank_is_sound, sound_behind}
 use Rattle.driver_model.specs.Hearing.{hears_messages, hears_pushes}
 use Rattle.legal_trace.proofs.Watching.{watch_is_up}
+use Rattle.legal_trace.proofs.Again.{again_is_up}
 
 -- what a test says of books, which it didn't at first, it says by one of the actions
 pub record Comes (test : Book → Bool) (b : Book) (trace : List Action) : Type 0 where
@@ -74,7 +77,7 @@ hears_parted l turn deserted = refl
 hears_parted l turn (renewed c) = chosen (λ (x : Ledger). x.parted ≡ l.parted) (may_renew l) (renewed_by l c) l (λ t. refl) (λ e. refl)
 hears_parted l turn unrenewed = chosen (λ (x : Ledger). x.parted ≡ l.parted) l.up (unrenewed_by l) l (λ t. refl) (λ e. refl)
 hears_parted l turn (late k) = chosen (λ (x : Ledger). x.parted ≡ l.parted) (l.up && is_renewal_open l k) (lost_by l) l (λ t. refl) (λ e. refl)
-hears_parted l turn unrepeated = refl
+hears_parted l turn unrepeated = chosen (λ (x : Ledger). x.parted ≡ l.parted) (is_repeating l) (unrepeated_by l) l (λ t. refl) (λ e. refl)
 hears_parted l turn dropped = refl
 hears_parted l turn shut = refl
 
@@ -84,7 +87,7 @@ WasParted l = l.parted ≡ true
 
 -- so it stays
 parted_keeps : (l : Ledger) (x : Line) → WasParted l → WasParted (noted l x)
-parted_keeps l (asks info wanted hearing last) h = h
+parted_keeps l (asks info wanted hearing last again) h = h
 parted_keeps l (hears turn news) h = hears_parted l turn news ∙ h
 parted_keeps l (begins s) h = h
 parted_keeps l (offers bytes) h = h
@@ -92,6 +95,7 @@ parted_keeps l tells h = h
 parted_keeps l (ends turn) h = h
 parted_keeps l sources h = h
 parted_keeps l times h = h
+parted_keeps l repeats_timed h = h
 parted_keeps l parts h = refl
 
 -- behind many actions
@@ -113,8 +117,8 @@ parted_by b l (action.Push m info) not_yet then_is =
     (λ e. absurd (not_both (b.link l).parted not_yet e)) then_is
 parted_by b l (action.Turn k (cause.Opening config word)) not_yet then_is = absurd (not_both (b.link l).parted not_yet then_is)
 parted_by b l (action.Turn k (cause.Event e)) not_yet then_is = absurd (not_both (b.link l).parted not_yet (sym (hears_parted (b.link l) k (news_of b.timers b.sources l e.kind)) ∙ then_is))
-parted_by b l (action.Connect m host port) not_yet then_is = absurd (not_both (b.link l).parted not_yet (mine_keeps (λ (x : Ledger). WasParted x → WasParted (b.link l)) (m == l) (b.link l) (asks (info_in b.config) (wanted_in b.config) (hearing_in b.config) (is_last (settings_in b.config) b.attempt)) (λ t e. e) (λ e. e) then_is))
-parted_by b l (action.Timer t ms what) not_yet then_is = absurd (not_both (b.link l).parted not_yet (mine_keeps (λ (x : Ledger). WasParted x → WasParted (b.link l)) (is_renewal_of l what) (b.link l) times (λ t e. e) (λ e. e) then_is))
+parted_by b l (action.Connect m host port) not_yet then_is = absurd (not_both (b.link l).parted not_yet (mine_keeps (λ (x : Ledger). WasParted x → WasParted (b.link l)) (m == l) (b.link l) (asks (info_in b.config) (wanted_in b.config) (hearing_in b.config) (is_last (settings_in b.config) b.attempt) (repeats_in (settings_in b.config) b.tracked)) (λ t e. e) (λ e. e) then_is))
+parted_by b l (action.Timer t ms what) not_yet then_is = absurd (not_both (b.link l).parted not_yet (timer_tells (λ (x : Ledger). WasParted x → WasParted (b.link l)) (b.link l) l what (λ on k is t e. e) (λ on is t e. e) (λ e. e) then_is))
 parted_by b l (action.Took who m count) not_yet then_is = absurd (not_both (b.link l).parted not_yet then_is)
 parted_by b l (action.NeedCreds c m) not_yet then_is = absurd (not_both (b.link l).parted not_yet (mine_keeps (λ (x : Ledger). WasParted x → WasParted (b.link l)) (m == l) (b.link l) sources (λ t e. e) (λ e. e) then_is))
 parted_by b l (action.Generation g) not_yet then_is = absurd (not_both (b.link l).parted not_yet then_is)
@@ -147,7 +151,7 @@ hears_cut l turn deserted = λ e. e
 hears_cut l turn (renewed c) = chosen (λ (x : Ledger). IsCut x → IsCut l) (may_renew l) (renewed_by l c) l (λ t e. e) (λ f e. e)
 hears_cut l turn unrenewed = chosen (λ (x : Ledger). IsCut x → IsCut l) l.up (unrenewed_by l) l (λ t e. e) (λ f e. e)
 hears_cut l turn (late k) = chosen (λ (x : Ledger). IsCut x → IsCut l) (l.up && is_renewal_open l k) (lost_by l) l (λ t e. e) (λ f e. e)
-hears_cut l turn unrepeated = λ e. e
+hears_cut l turn unrepeated = chosen (λ (x : Ledger). IsCut x → IsCut l) (is_repeating l) (unrepeated_by l) l (λ t e. e) (λ f e. e)
 hears_cut l turn dropped = λ e. e
 hears_cut l turn shut = λ e. e
 
@@ -164,8 +168,8 @@ cut_by b l (action.Message msg) not_yet then_is = absurd (not_both (is_cut (b.li
 cut_by b l (action.Monitor v) not_yet then_is = absurd (not_both (is_cut (b.link l).end) not_yet (tell_keeps (λ (x : Ledger). IsCut x → IsCut (b.link l)) (b.current == l) (b.link l) (λ e. e) (λ e. e) then_is))
 cut_by b l (action.Turn k (cause.Opening config word)) not_yet then_is = absurd (not_both (is_cut (b.link l).end) not_yet then_is)
 cut_by b l (action.Turn k (cause.Event e)) not_yet then_is = absurd (not_both (is_cut (b.link l).end) not_yet (hears_cut (b.link l) k (news_of b.timers b.sources l e.kind) then_is))
-cut_by b l (action.Connect m host port) not_yet then_is = absurd (not_both (is_cut (b.link l).end) not_yet (mine_keeps (λ (x : Ledger). IsCut x → IsCut (b.link l)) (m == l) (b.link l) (asks (info_in b.config) (wanted_in b.config) (hearing_in b.config) (is_last (settings_in b.config) b.attempt)) (λ t e. e) (λ e. e) then_is))
-cut_by b l (action.Timer t ms what) not_yet then_is = absurd (not_both (is_cut (b.link l).end) not_yet (mine_keeps (λ (x : Ledger). IsCut x → IsCut (b.link l)) (is_renewal_of l what) (b.link l) times (λ t e. e) (λ e. e) then_is))
+cut_by b l (action.Connect m host port) not_yet then_is = absurd (not_both (is_cut (b.link l).end) not_yet (mine_keeps (λ (x : Ledger). IsCut x → IsCut (b.link l)) (m == l) (b.link l) (asks (info_in b.config) (wanted_in b.config) (hearing_in b.config) (is_last (settings_in b.config) b.attempt) (repeats_in (settings_in b.config) b.tracked)) (λ t e. e) (λ e. e) then_is))
+cut_by b l (action.Timer t ms what) not_yet then_is = absurd (not_both (is_cut (b.link l).end) not_yet (timer_tells (λ (x : Ledger). IsCut x → IsCut (b.link l)) (b.link l) l what (λ on k is t e. e) (λ on is t e. e) (λ e. e) then_is))
 cut_by b l (action.Took who m count) not_yet then_is = absurd (not_both (is_cut (b.link l).end) not_yet then_is)
 cut_by b l (action.Write m bytes) not_yet then_is = absurd (not_both (is_cut (b.link l).end) not_yet (mine_keeps (λ (x : Ledger). IsCut x → IsCut (b.link l)) (m == l) (b.link l) (offers bytes) (λ t e. e) (λ e. e) then_is))
 cut_by b l (action.Wait who kind) not_yet then_is = absurd (not_both (is_cut (b.link l).end) not_yet then_is)
@@ -258,7 +262,7 @@ hears_set l turn deserted up h = h
 hears_set l turn (renewed c) up h = chosen CutIsSet (may_renew l) (renewed_by l c) l (λ t. h) (λ e. h)
 hears_set l turn unrenewed up h = chosen CutIsSet l.up (unrenewed_by l) l (λ t. h) (λ e. h)
 hears_set l turn (late k) up h = chosen CutIsSet (l.up && is_renewal_open l k) (lost_by l) l (λ t. h) (λ e. h)
-hears_set l turn unrepeated up h = h
+hears_set l turn unrepeated up h = chosen CutIsSet (is_repeating l) (unrepeated_by l) l (λ t. h) (λ e. h)
 hears_set l turn dropped up h = h
 hears_set l turn shut up h = h
 
@@ -266,9 +270,9 @@ hears_set l turn shut up h = h
 set_kept : (b : Book) (l : ℕ) (a : Action) → MayStand b a → Sound b → CutIsSet (b.link l) → CutIsSet ((entered b a).link l)
 set_kept b l (action.Turn k (cause.Opening config word)) may s h = h
 set_kept b l (action.Turn k (cause.Event e)) may s h = hears_set (b.link l) k (news_of b.timers b.sources l e.kind) (s.up l) h
-set_kept b l (action.Connect m host port) may s h = mine_keeps CutIsSet (m == l) (b.link l) (asks (info_in b.config) (wanted_in b.config) (hearing_in b.config) (is_last (settings_in b.config) b.attempt))
+set_kept b l (action.Connect m host port) may s h = mine_keeps CutIsSet (m == l) (b.link l) (asks (info_in b.config) (wanted_in b.config) (hearing_in b.config) (is_last (settings_in b.config) b.attempt) (repeats_in (settings_in b.config) b.tracked))
     (λ t cut. let e : m ≡ l = eq_from m l t in let next : m ≡ b.links = may.next in absurd (lives_uncut (b.link l) (s.links.unasked l (omega (arith, e, next))).2 cut)) h
-set_kept b l (action.Timer t ms what) may s h = mine_keeps CutIsSet (is_renewal_of l what) (b.link l) times (λ t. h) h
+set_kept b l (action.Timer t ms what) may s h = timer_tells CutIsSet (b.link l) l what (λ on k is t. h) (λ on is t. h) h
 set_kept b l (action.Took owner.Setup m count) may s h = absurd may
 set_kept b l (action.Took owner.Auth m count) may s h = absurd may
 set_kept b l (action.Took owner.Resub m count) may s h = absurd may
@@ -279,7 +283,7 @@ set_kept b l (action.Message msg) may s h = tell_keeps CutIsSet (b.current == l)
 set_kept b l (action.Monitor v) may s h = tell_keeps CutIsSet (b.current == l) (b.link l) h h
 set_kept b l (action.NeedCreds c m) may s h = mine_keeps CutIsSet (m == l) (b.link l) sources (λ t. h) h
 set_kept b l (action.Generation g) may s h = h
-set_kept b l (action.Round who m) may s h = absurd may
+set_kept b l (action.Round who m) may s h = h
 set_kept b l (action.Close m) may s h = mine_keeps CutIsSet (m == l) (b.link l) (ends (b.turns - 1)) (λ t cut. fault_is_set (b.link l) (sym (lasting_is_fault (b.link l).last (ending_or_shutdown (ending (b.link l)))) ∙ cut)) h
 set_kept b l (action.Write m bytes) may s h = mine_keeps CutIsSet (m == l) (b.link l) (offers bytes) (λ t. h) h
 set_kept b l (action.Wait owner.Setup kind) may s h = absurd may
@@ -291,7 +295,8 @@ set_kept b l (action.Start m k owner.Setup count len) may s h = mine_keeps CutIs
     (λ t cut. absurd (lives_uncut (b.link l) (s.up l (subst (λ j. (b.link j).up ≡ true) (eq_from m l t) (due_is_up (b.link m) may.k may.due))) cut)) h
 set_kept b l (action.Start m k owner.Auth count len) may s h = mine_keeps CutIsSet (m == l) (b.link l) (begins (message_of b m owner.Auth))
     (λ t cut. absurd (lives_uncut (b.link l) (s.up l (subst (λ j. (b.link j).up ≡ true) (eq_from m l t) (renewal_is_up (b.link m) may.credentials may.due))) cut)) h
-set_kept b l (action.Start m k owner.Resub count len) may s h = absurd may
+set_kept b l (action.Start m k owner.Resub count len) may s h = mine_keeps CutIsSet (m == l) (b.link l) (begins (message_of b m owner.Resub))
+    (λ t cut. absurd (lives_uncut (b.link l) (s.up l (subst (λ j. (b.link j).up ≡ true) (eq_from m l t) (again_is_up (b.link m) may.due))) cut)) h
 set_kept b l (action.Start m k owner.Monitor count len) may s h = mine_keeps CutIsSet (m == l) (b.link l) (begins (message_of b m owner.Monitor))
     (λ t cut. absurd (lives_uncut (b.link l) (s.up l (subst (λ j. (b.link j).up ≡ true) (eq_from m l t) (watch_is_up (b.link m) may.due))) cut)) h
 set_kept b l (action.Start m k (owner.Try n round) count len) may s h = mine_keeps CutIsSet (m == l) (b.link l) (begins (message_of b m (owner.Try n round)))

@@ -11,7 +11,7 @@ use Rattle.driver_model.specs.declared.config.Config.{Config}
 use Rattle.driver_model.specs.declared.event.Event.{Event}
 use Rattle.driver_model.specs.declared.event.EventKind.{EventKind}
 use Rattle.driver_model.specs.declared.event.EventKind.TheVariants as event
-use Rattle.legal_trace.specs.Story.{Story, is_open, handed_in, left, holds, clocked, fires, tried, waits, answered}
+use Rattle.legal_trace.specs.Story.{Story, is_open, handed_in, left, holds, clocked, rounds, fires, tried, waits, answered}
 use Rattle.legal_trace.specs.Book.{Book, blank_book, book, entered, entered_each, is_clock_of, after_event, is_unspoken}
 use Rattle.legal_trace.specs.Steps.{permits_in, permits_on, permits_held}
 use Rattle.legal_trace.proofs.Clocks.{timer_keeps}
@@ -165,7 +165,13 @@ within_kept b (action.Message msg) may sound h = kept_by b (action.Message msg) 
 within_kept b (action.Monitor v) may sound h = kept_by b (action.Monitor v) may sound refl (λ n i. omega arith) h
 within_kept b (action.NeedCreds c m) may sound h = kept_by b (action.NeedCreds c m) may sound refl (λ n i. omega arith) h
 within_kept b (action.Generation g) may sound h = kept_by b (action.Generation g) may sound refl (λ n i. omega arith) h
-within_kept b (action.Round who m) may sound h = absurd may
+within_kept b (action.Round owner.Setup on) may sound h = absurd may
+within_kept b (action.Round owner.Auth on) may sound h = absurd may
+within_kept b (action.Round owner.Resub on) may sound h = absurd may
+within_kept b (action.Round owner.Monitor on) may sound h = absurd may
+within_kept b (action.Round (owner.Try m round) on) may sound h =
+    kept_by b (action.Round (owner.Try m round) on) may sound refl
+    (λ n i. chosen (λ (s : Story). s.permits ≤ (b.story n).permits) (m == n) (rounds (b.story n)) (b.story n) (λ e. omega arith) (λ f. omega arith)) h
 within_kept b (action.Close m) may sound h = kept_by b (action.Close m) may sound refl (λ n i. omega arith) h
 within_kept b (action.Write m bytes) may sound h = kept_by b (action.Write m bytes) may sound refl (λ n i. omega arith) h
 within_kept b (action.Wait owner.Setup kind) may sound h = absurd may
@@ -176,7 +182,7 @@ within_kept b (action.Wait (owner.Try m round) kind) may sound h = kept_by b (ac
     (λ n i. chosen (λ (s : Story). s.permits ≤ (b.story n).permits) (m == n) (waits (b.story n) kind) (b.story n) (λ e. omega arith) (λ f. omega arith)) h
 within_kept b (action.Start l k owner.Setup count len) may sound h = kept_by b (action.Start l k owner.Setup count len) may sound refl (λ n i. omega arith) h
 within_kept b (action.Start l k owner.Auth count len) may sound h = kept_by b (action.Start l k owner.Auth count len) may sound refl (λ n i. omega arith) h
-within_kept b (action.Start l k owner.Resub count len) may sound h = absurd may
+within_kept b (action.Start l k owner.Resub count len) may sound h = kept_by b (action.Start l k owner.Resub count len) may sound refl (λ n i. omega arith) h
 within_kept b (action.Start l k owner.Monitor count len) may sound h = kept_by b (action.Start l k owner.Monitor count len) may sound refl (λ n i. omega arith) h
 within_kept b (action.Start l k (owner.Try m round) count len) may sound h = kept_by b (action.Start l k (owner.Try m round) count len) may sound refl
     (λ n i. chosen (λ (s : Story). s.permits ≤ (b.story n).permits) (m == n) (tried (b.story n) l k) (b.story n) (λ e. omega arith) (λ f. omega arith)) h

@@ -6,7 +6,7 @@ use Rattle.redis_error.specs.declared.redis_error.RedisError.{RedisError}
 use Rattle.redis_error.specs.declared.redis_error.RedisError.TheVariants as error
 use Rattle.driver_model.specs.declared.news.LinkFault.TheVariants as fault
 use Rattle.driver_model.specs.News.{News, silence, connected, refused, overdue, took, came, failed, dropped, shut, authorized, denied, deserted, renewed, unrenewed, late, unrepeated}
-use Rattle.legal_trace.specs.Ledger.{Ledger, Line, Start, End, Ending, is_of_setup, is_set_up, setup_result, error_in, ending_by, ending_unready, ending_alive, by_shutdown, by_fault, by_opening, by_attempt, lasting, asks, hears, begins, offers, tells, ends, parts, noted, noted_each, with_news, refused_in, bytes_came, is_over, dials, ending, ending_up, ending_asked, ending_or_shutdown, failure_of, failure_in, MayNote, AllNoted, sources, awaits_credentials, authorized_by, times, may_renew, renewed_by, unrenewed_by, is_renewal_open, lost_by, is_unreadable}
+use Rattle.legal_trace.specs.Ledger.{Ledger, Line, Start, End, Ending, is_of_setup, is_set_up, setup_result, error_in, ending_by, ending_unready, ending_alive, by_shutdown, by_fault, by_opening, by_attempt, lasting, asks, hears, begins, offers, tells, ends, parts, noted, noted_each, with_news, refused_in, bytes_came, is_over, dials, ending, ending_up, ending_asked, ending_or_shutdown, failure_of, failure_in, MayNote, AllNoted, sources, awaits_credentials, authorized_by, times, may_renew, renewed_by, unrenewed_by, is_renewal_open, lost_by, is_unreadable, is_repeating, unrepeated_by, repeats_timed}
 use Rattle.legal_trace.specs.Legal.{is_by_attempt, is_attempt}
 use Rattle.legal_trace.proofs.Endings.{lasting_fault, lasting_shutdown}
 use Rattle.legal_trace.proofs.Ledgers.{dials_from, UpIsNotOver, up_keeps}
@@ -37,7 +37,7 @@ quiet_hears l turn deserted asked shaped h = h
 quiet_hears l turn (renewed c) asked shaped h = chosen Quiet (may_renew l) (renewed_by l c) l (λ t. h) (λ e. h)
 quiet_hears l turn unrenewed asked shaped h = chosen Quiet l.up (unrenewed_by l) l (λ t. h) (λ e. h)
 quiet_hears l turn (late k) asked shaped h = chosen Quiet (l.up && is_renewal_open l k) (lost_by l) l (λ t. h) (λ e. h)
-quiet_hears l turn unrepeated asked shaped h = h
+quiet_hears l turn unrepeated asked shaped h = chosen Quiet (is_repeating l) (unrepeated_by l) l (λ t. h) (λ e. h)
 quiet_hears l turn dropped asked shaped h = h
 quiet_hears l turn shut asked shaped h = h
 
@@ -113,7 +113,7 @@ tells_hears shown l turn deserted h = h.tells
 tells_hears shown l turn (renewed c) h = chosen (Tells shown) (may_renew l) (renewed_by l c) l (λ t. h.tells) (λ e. h.tells)
 tells_hears shown l turn unrenewed h = chosen (Tells shown) l.up (unrenewed_by l) l (λ t. h.tells) (λ e. h.tells)
 tells_hears shown l turn (late k) h = chosen (Tells shown) (l.up && is_renewal_open l k) (lost_by l) l (λ t. h.tells) (λ e. h.tells)
-tells_hears shown l turn unrepeated h = h.tells
+tells_hears shown l turn unrepeated h = chosen (Tells shown) (is_repeating l) (unrepeated_by l) l (λ t. h.tells) (λ e. h.tells)
 tells_hears shown l turn dropped h = h.tells
 tells_hears shown l turn shut h = h.tells
 
@@ -148,7 +148,7 @@ first_hears l turn deserted asked h first = first
 first_hears l turn (renewed c) asked h first = chosen (λ (x : Ledger). is_attempt x.end ≡ false) (may_renew l) (renewed_by l c) l (λ t. first) (λ f. first)
 first_hears l turn unrenewed asked h first = chosen (λ (x : Ledger). is_attempt x.end ≡ false) l.up (unrenewed_by l) l (λ t. first) (λ f. first)
 first_hears l turn (late k) asked h first = chosen (λ (x : Ledger). is_attempt x.end ≡ false) (l.up && is_renewal_open l k) (lost_by l) l (λ t. first) (λ f. first)
-first_hears l turn unrepeated asked h first = first
+first_hears l turn unrepeated asked h first = chosen (λ (x : Ledger). is_attempt x.end ≡ false) (is_repeating l) (unrepeated_by l) l (λ t. first) (λ f. first)
 first_hears l turn dropped asked h first = first
 first_hears l turn shut asked h first = first
 
@@ -192,13 +192,13 @@ failed_hears e l turn deserted h = h
 failed_hears e l turn (renewed c) h = chosen (FailedWith e) (may_renew l) (renewed_by l c) l (λ t. h) (λ f. h)
 failed_hears e l turn unrenewed h = chosen (FailedWith e) l.up (unrenewed_by l) l (λ t. h) (λ f. h)
 failed_hears e l turn (late k) h = chosen (FailedWith e) (l.up && is_renewal_open l k) (lost_by l) l (λ t. h) (λ f. h)
-failed_hears e l turn unrepeated h = h
+failed_hears e l turn unrepeated h = chosen (FailedWith e) (is_repeating l) (unrepeated_by l) l (λ t. h) (λ f. h)
 failed_hears e l turn dropped h = h
 failed_hears e l turn shut h = h
 
 -- with any line that may stand
 failed_noted : (e : RedisError) (l : Ledger) (x : Line) → MayNote l x → UpIsNotOver l → FailedWith e l → FailedWith e (noted l x)
-failed_noted e l (asks info wanted hearing last) may up h = h
+failed_noted e l (asks info wanted hearing last again) may up h = h
 failed_noted e l (hears turn news) may up h = failed_hears e l turn news h
 failed_noted e l (begins s) may up h = h
 failed_noted e l (offers bytes) may up h = h
@@ -206,6 +206,7 @@ failed_noted e l tells may up h = h
 failed_noted e l (ends turn) may up h = let over = failed_is_over l.end e h in absurd (not_none (ending l) may.0 (over_stays l over.0 up over.1) may.1)
 failed_noted e l sources may up h = h
 failed_noted e l times may up h = h
+failed_noted e l repeats_timed may up h = h
 failed_noted e l parts may up h = h
 
 -- and with many

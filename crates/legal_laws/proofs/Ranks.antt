@@ -18,7 +18,7 @@ use Rattle.legal_trace.specs.Story.{Try, last_of}
 use Rattle.legal_trace.specs.Managers.{settings_in, is_lazy}
 use Rattle.legal_trace.specs.Book.{Book, has_generations}
 use Rattle.legal_trace.specs.Steps.{is_held_back, next_step}
-use Rattle.legal_trace.specs.Legal.{MayStand, MayTimer, MayNeed, MayAnswer, MayTell, MayWrite, MayWait, MayShowCreation, MayPushBy, MayNotify, IsOpen, link_of, NoneIsOwed, VerdictsAreShown, NoneEnds, FailuresAreShown, ReadyIsShown, NoticesAreTold, SourcesAreAsked, EndsAreTold, IsShown, are_pushes_heard, current_link, rest_due, generation_due, link_due, SetupsAreStarted, MonitorsAreStarted, IsTimed, IsApplied, IsBegun, IsMoved, IsWritten, IsSettled, IsStarted, IsWaiting, CanMove, RenewalsAreTimed, RenewalsAreStarted, answer_time}
+use Rattle.legal_trace.specs.Legal.{MayStand, MayTimer, MayNeed, MayAnswer, MayTell, MayWrite, MayWait, MayShowCreation, MayPushBy, MayNotify, IsOpen, link_of, NoneIsOwed, VerdictsAreShown, NoneEnds, FailuresAreShown, ReadyIsShown, NoticesAreTold, SourcesAreAsked, EndsAreTold, IsShown, are_pushes_heard, current_link, rest_due, generation_due, link_due, SetupsAreStarted, MonitorsAreStarted, IsTimed, IsApplied, IsBegun, IsMoved, IsWritten, IsSettled, IsStarted, IsWaiting, CanMove, RenewalsAreTimed, RenewalsAreStarted, answer_time, RepeatsAreTimed, RepeatsAreStarted}
 use Rattle.legal_trace.proofs.Moves.{teller_moves, starter_moves, taker_moves, asker_moves, same_kind, ready_is_up}
 use Rattle.legal_trace.proofs.Managers.{untold_settings}
 use Rattle.legal_laws.proofs.Numbers.{open_is_numbered}
@@ -30,6 +30,7 @@ use Rattle.legal_trace.proofs.Plain.{not_none}
 use Rattle.legal_trace.proofs.Sources.{source_is_up}
 use Rattle.legal_laws.proofs.Told.{none_unless}
 use Rattle.legal_laws.proofs.Sound.{Sound}
+use Rattle.legal_laws.proofs.Rounds.{round_moves, round_begun}
 use Rattle.driver_model.specs.declared.hearing.Notice.{Notice}
 use Rattle.driver_model.specs.declared.hearing.Notice.TheVariants as notice
 
@@ -53,42 +54,43 @@ push_rank true = 5
 -- these come before one that is told at its place
 abbrev pub outcome_rank : (b : Book) (n : ℕ) (o : Outcome) → MayAnswer b n o ⊎ MayTell b n o → ℕ
 outcome_rank b n o (inl owed) = answer_rank (is_over (link_of b n))
-outcome_rank b n o (inr told) = 15
+outcome_rank b n o (inr told) = 17
 
 -- the timer of a connect comes behind it, that of the wait behind an attempt before that, one of a submission is of the passes, and one
--- of new credentials comes before them
+-- of new credentials comes before them, behind one of what is subscribed again
 abbrev pub timer_rank : (b : Book) (t ms : ℕ) (what : Purpose) → MayTimer b t ms what → ℕ
 timer_rank b t ms what (inl (inl connect)) = 10
 timer_rank b t ms what (inl (inr rest)) = 7
-timer_rank b t ms what (inr (inl response)) = 15
-timer_rank b t ms what (inr (inr renewal)) = 13
+timer_rank b t ms what (inr (inl response)) = 17
+timer_rank b t ms what (inr (inr (inl renewal))) = 15
+timer_rank b t ms what (inr (inr (inr repeat))) = 13
 
 -- the opening, that a session which waits for it is created, the outcomes of links that have not ended, the creation, the sources of
 -- credentials and what is told of what came, the closes, the creation that failed, that links have ended, the other outcomes that are
--- owed, the wait behind an attempt, the generations, the connects and their timers, the setups, MONITOR, the timers of new credentials,
--- these, the passes, the writes, the waits, and the next event
+-- owed, the wait behind an attempt, the generations, the connects and their timers, the setups, MONITOR, the timers of what is subscribed
+-- again, and this, the timers of new credentials, and these, the passes, the writes, the waits, and the next event
 abbrev pub rank : (b : Book) (a : Action) → MayStand b a → ℕ
 rank b (action.Turn k (cause.Opening config word)) may = 0
 rank b (action.Connect l host port) may = 9
 rank b (action.Timer t ms what) may = timer_rank b t ms what may
-rank b (action.Took who l count) may = 15
+rank b (action.Took who l count) may = 17
 rank b (action.Outcome n o) may = outcome_rank b n o may
 rank b (action.Push l info) may = push_rank (is_disconnection info.kind)
 rank b (action.Message msg) may = 2
 rank b (action.Monitor v) may = 2
 rank b (action.NeedCreds c l) may = 2
 rank b (action.Generation g) may = 8
-rank b (action.Round who l) may = 15
+rank b (action.Round who l) may = 17
 rank b (action.Close l) may = 3
 rank b (action.Created e) may = creation_rank b e may
 rank b (action.Start l k owner.Setup count len) may = 11
-rank b (action.Start l k owner.Resub count len) may = 12
+rank b (action.Start l k owner.Resub count len) may = 14
 rank b (action.Start l k owner.Monitor count len) may = 12
-rank b (action.Start l k owner.Auth count len) may = 14
-rank b (action.Start l k (owner.Try n round) count len) may = 15
-rank b (action.Write l bytes) may = 16
-rank b (action.Wait who kind) may = 17
-rank b (action.Turn k (cause.Event e)) may = 18
+rank b (action.Start l k owner.Auth count len) may = 16
+rank b (action.Start l k (owner.Try n round) count len) may = 17
+rank b (action.Write l bytes) may = 18
+rank b (action.Wait who kind) may = 19
+rank b (action.Turn k (cause.Event e)) may = 20
 
 -- an outcome that is owed comes before the passes
 pub answer_first : (over : Bool) → answer_rank over < 11
@@ -128,12 +130,14 @@ Step (suc (suc (suc (suc (suc (suc (suc (suc (suc zero))))))))) b = link_due b �
 Step (suc (suc (suc (suc (suc (suc (suc (suc (suc (suc zero)))))))))) b = IsTimed b
 Step (suc (suc (suc (suc (suc (suc (suc (suc (suc (suc (suc zero))))))))))) b = SetupsAreStarted b
 Step (suc (suc (suc (suc (suc (suc (suc (suc (suc (suc (suc (suc zero)))))))))))) b = MonitorsAreStarted b
-Step (suc (suc (suc (suc (suc (suc (suc (suc (suc (suc (suc (suc (suc zero))))))))))))) b = RenewalsAreTimed b
-Step (suc (suc (suc (suc (suc (suc (suc (suc (suc (suc (suc (suc (suc (suc zero)))))))))))))) b = RenewalsAreStarted b
-Step (suc (suc (suc (suc (suc (suc (suc (suc (suc (suc (suc (suc (suc (suc (suc zero))))))))))))))) b = (n : ℕ) → CanMove b n → ⊥
-Step (suc (suc (suc (suc (suc (suc (suc (suc (suc (suc (suc (suc (suc (suc (suc (suc zero)))))))))))))))) b = (l : ℕ) → (b.link l).up ≡ true → IsOffered (b.link l)
-Step (suc (suc (suc (suc (suc (suc (suc (suc (suc (suc (suc (suc (suc (suc (suc (suc (suc zero))))))))))))))))) b = (n : ℕ) → IsOpen b n → IsStarted b n ⊎ IsWaiting b n
-Step (suc (suc (suc (suc (suc (suc (suc (suc (suc (suc (suc (suc (suc (suc (suc (suc (suc (suc more)))))))))))))))))) b = ⊥
+Step (suc (suc (suc (suc (suc (suc (suc (suc (suc (suc (suc (suc (suc zero))))))))))))) b = RepeatsAreTimed b
+Step (suc (suc (suc (suc (suc (suc (suc (suc (suc (suc (suc (suc (suc (suc zero)))))))))))))) b = RepeatsAreStarted b
+Step (suc (suc (suc (suc (suc (suc (suc (suc (suc (suc (suc (suc (suc (suc (suc zero))))))))))))))) b = RenewalsAreTimed b
+Step (suc (suc (suc (suc (suc (suc (suc (suc (suc (suc (suc (suc (suc (suc (suc (suc zero)))))))))))))))) b = RenewalsAreStarted b
+Step (suc (suc (suc (suc (suc (suc (suc (suc (suc (suc (suc (suc (suc (suc (suc (suc (suc zero))))))))))))))))) b = (n : ℕ) → CanMove b n → ⊥
+Step (suc (suc (suc (suc (suc (suc (suc (suc (suc (suc (suc (suc (suc (suc (suc (suc (suc (suc zero)))))))))))))))))) b = (l : ℕ) → (b.link l).up ≡ true → IsOffered (b.link l)
+Step (suc (suc (suc (suc (suc (suc (suc (suc (suc (suc (suc (suc (suc (suc (suc (suc (suc (suc (suc zero))))))))))))))))))) b = (n : ℕ) → IsOpen b n → IsStarted b n ⊎ IsWaiting b n
+Step (suc (suc (suc (suc (suc (suc (suc (suc (suc (suc (suc (suc (suc (suc (suc (suc (suc (suc (suc (suc more)))))))))))))))))))) b = ⊥
 
 -- all below this rank is done
 abbrev pub Reached : ℕ → Book → Type 0
@@ -196,7 +200,8 @@ timer_not_done b t ms what (inl (inl may)) h =
     omega (arith, all, some)
 timer_not_done b t ms what (inl (inr may)) h = not_both (rest_due b) h may.due
 timer_not_done b t ms what (inr (inl may)) h = h may.n (asker_moves b t ms what may)
-timer_not_done b t ms what (inr (inr may)) h =
+timer_not_done b t ms what (inr (inr (inr may))) h = not_both (b.link may.l).again.timed may.once (h may.l (λ none. not_none (answer_time b.config) ms none may.within) may.due)
+timer_not_done b t ms what (inr (inr (inl may))) h =
     let all : renewals_asked (b.link may.l) ≤ (b.link may.l).creds.timed = h may.l (λ none. not_none (answer_time b.config) ms none may.within) in
     let some : (b.link may.l).creds.timed < renewals_asked (b.link may.l) = may.asked in
     omega (arith, all, some)
@@ -217,11 +222,15 @@ not_done b (action.Message msg) may h = notice_not_done b b.current (notice.Mess
 not_done b (action.Monitor v) may h = notice_not_done b b.current (notice.Monitor v) may h
 not_done b (action.NeedCreds c l) may h = not_both (source_due (b.link l)) (h.sourced l) may.due
 not_done b (action.Generation g) may h = not_both (generation_due b) h may.due
-not_done b (action.Round who l) may h = absurd may
+not_done b (action.Round owner.Setup on) may h = absurd may
+not_done b (action.Round owner.Auth on) may h = absurd may
+not_done b (action.Round owner.Resub on) may h = absurd may
+not_done b (action.Round owner.Monitor on) may h = absurd may
+not_done b (action.Round (owner.Try n round) on) may h = h n (round_moves b n on may.1)
 not_done b (action.Close l) may h = not_none (ending (b.link l)) may.why (h l) may.ends
 not_done b (action.Created e) may h = creation_not_done b e may h
 not_done b (action.Start l k owner.Setup count len) may h = not_both (is_held_back b (b.link l)) may.free (h l may.k may.due)
-not_done b (action.Start l k owner.Resub count len) may h = absurd may
+not_done b (action.Start l k owner.Resub count len) may h = not_both (is_held_back b (b.link l)) may.free (h l may.due)
 not_done b (action.Start l k owner.Monitor count len) may h = not_both (is_held_back b (b.link l)) may.free (h l may.due)
 not_done b (action.Start l k owner.Auth count len) may h = not_both (is_held_back b (b.link l)) may.free (h l may.credentials may.due)
 not_done b (action.Start l k (owner.Try n round) count len) may h = h n (starter_moves b l k n count len may.1)
@@ -269,20 +278,20 @@ shown b done turns = (
 pub applied : (b : Book) → Sound b → IsApplied b → Reached 11 b
 applied b h done = (done.timed, (done.linked, (done.generated, (done.rested, shown b done.shown (applied_turn b h done)))))
 
--- where setups have started, and MONITOR, and new credentials that have their timers
-pub begun_all : (b : Book) → Sound b → IsBegun b → Reached 15 b
-begun_all b h done = (done.renewed, (done.timed, (done.monitors, (done.setups, applied b h done.applied))))
+-- where setups have started, and MONITOR, what is subscribed again, and new credentials, which have their timers
+pub begun_all : (b : Book) → Sound b → IsBegun b → Reached 17 b
+begun_all b h done = (done.renewed, (done.timed, (done.repeated, (done.repeats_timed, (done.monitors, (done.setups, applied b h done.applied))))))
 
 -- where all messages have started
-pub moved : (b : Book) → Sound b → IsMoved b → Reached 16 b
+pub moved : (b : Book) → Sound b → IsMoved b → Reached 18 b
 moved b h done = (done.moved, begun_all b h done.begun)
 
 -- where all is written
-pub written : (b : Book) → Sound b → IsWritten b → Reached 17 b
+pub written : (b : Book) → Sound b → IsWritten b → Reached 19 b
 written b h done = (done.offered, moved b h done.moved)
 
 -- where the turn is settled
-pub settled : (b : Book) → Sound b → IsSettled b → Reached 18 b
+pub settled : (b : Book) → Sound b → IsSettled b → Reached 20 b
 settled b h done = (done.goes, written b h done.written)
 
 -- where a submission is open, an event came
@@ -408,7 +417,8 @@ timer_reached : (b : Book) (t ms : ℕ) (what : Purpose) (may : MayTimer b t ms 
 timer_reached b t ms what (inl (inl may)) h = (may.linked, (may.generated, (may.rested, shown b may.shown (config_began b may.config h may.told))))
 timer_reached b t ms what (inl (inr may)) h = shown b may.shown (generations_began b h (ap is_some may.set))
 timer_reached b t ms what (inr (inl may)) h = begun_all b h may.begun
-timer_reached b t ms what (inr (inr may)) h = (may.monitors, (may.setups, applied b h may.applied))
+timer_reached b t ms what (inr (inr (inl may))) h = (may.repeated, (may.repeats_timed, (may.monitors, (may.setups, applied b h may.applied))))
+timer_reached b t ms what (inr (inr (inr may))) h = (may.monitors, (may.setups, applied b h may.applied))
 
 -- where an action may stand, all below its rank is done
 pub reached : (b : Book) (a : Action) (may : MayStand b a) → Sound b → Reached (rank b a may) b
@@ -426,13 +436,17 @@ reached b (action.Message msg) may h = notice_reached b b.current (notice.Messag
 reached b (action.Monitor v) may h = notice_reached b b.current (notice.Monitor v) may h
 reached b (action.NeedCreds c l) may h = need_reached b c l may h
 reached b (action.Generation g) may h = (may.rested, shown b may.shown (generations_began b h (due_parts b may.due).0))
-reached b (action.Round who l) may h = absurd may
+reached b (action.Round owner.Setup on) may h = absurd may
+reached b (action.Round owner.Auth on) may h = absurd may
+reached b (action.Round owner.Resub on) may h = absurd may
+reached b (action.Round owner.Monitor on) may h = absurd may
+reached b (action.Round (owner.Try n round) on) may h = begun_all b h (round_begun b n on may.1)
 reached b (action.Close l) may h = (record { answered = may.answered; created = may.created; sourced = may.sourced; pushed = may.pushed }, end_is_begun b l may.why h may.ends)
 reached b (action.Created e) may h = creation_reached b e may h
 reached b (action.Start l k owner.Setup count len) may h = applied b h may.applied
-reached b (action.Start l k owner.Resub count len) may h = absurd may
+reached b (action.Start l k owner.Resub count len) may h = (may.timed, (may.monitors, (may.setups, applied b h may.applied)))
 reached b (action.Start l k owner.Monitor count len) may h = (may.setups, applied b h may.applied)
-reached b (action.Start l k owner.Auth count len) may h = (may.timed, (may.monitors, (may.setups, applied b h may.applied)))
+reached b (action.Start l k owner.Auth count len) may h = (may.timed, (may.repeated, (may.repeats_timed, (may.monitors, (may.setups, applied b h may.applied)))))
 reached b (action.Start l k (owner.Try n round) count len) may h = begun_all b h may.1.begun
 reached b (action.Write l bytes) may h = moved b h may.moved
 reached b (action.Wait owner.Setup kind) may h = absurd may

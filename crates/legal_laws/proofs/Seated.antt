@@ -12,17 +12,18 @@ use Rattle.driver_model.specs.declared.event.EventKind.{EventKind}
 use Rattle.driver_model.specs.declared.event.EventKind.TheVariants as event
 use Rattle.driver_model.specs.declared.outcome.Outcome.{Outcome}
 use Rattle.driver_model.specs.Config.{buffer_size}
-use Rattle.legal_trace.specs.Ledger.{dials, is_ready}
-use Rattle.legal_trace.specs.Story.{Story, has_place, is_room, is_open, is_told, is_awaited, is_no_error, is_unstarted, handed_in, carried, left, holds, clocked, fires, tried, waits, answered}
+use Rattle.legal_trace.specs.Ledger.{dials, is_ready, is_served}
+use Rattle.legal_trace.specs.Story.{Story, has_place, is_room, is_open, is_told, is_awaited, is_no_error, is_unstarted, handed_in, carried, left, holds, clocked, rounds, fires, tried, waits, answered}
 use Rattle.legal_trace.specs.Book.{Book, blank_book, book, entered, entered_each, is_clock_of, after_event, is_unspoken}
 use Rattle.legal_trace.specs.Steps.{configured, queue_size, permits_in, free_permits, is_let_in, is_in_line, line_before, is_outside}
 use Rattle.legal_trace.proofs.Clocks.{timer_keeps}
 use Rattle.legal_trace.specs.Legal.{MayStand, MayAnswer, MayTell, MayTake, MayWait, AllStand, CanMove, link_of}
-use Rattle.legal_trace.proofs.Moves.{lt_test, one_holds, both_hold, inside_has_room, rooms_mean, holds_some, is_timed, tells_mean, takes_mean, holder_is_timed, rester_holds, teller_moves, taker_moves}
+use Rattle.legal_trace.proofs.Moves.{lt_test, one_holds, both_hold, inside_has_room, rooms_mean, holds_some, is_timed, tells_mean, takes_mean, holder_is_timed, rester_holds, teller_moves, taker_moves, mover_is_served}
 use Rattle.legal_laws.proofs.Tales.{open_has_none}
 use Rattle.legal_laws.proofs.InLine.{is_to_start, is_admitted, Follows, Stays, story_apart, to_start_stays, first_holds, second_holds, follows, owed_is_done, to_start_before, shorter}
 use Rattle.legal_laws.proofs.Numbers.{HasStories, mover_is_numbered}
 use Rattle.legal_laws.proofs.Sound.{Sound, stays_sound, blank_is_sound}
+use Rattle.legal_laws.proofs.Rounds.{room_is_served}
 
 -- a submission has its place: fewer stand in line before it than the queue holds, and all before it that are to start on its
 -- link stand there
@@ -191,29 +192,30 @@ holds_like None p q h more = refl
 holds_like (Some k) p q h more = lt_test 0 q (more (lt_from 0 p h))
 
 -- before one that makes a step and holds its permits, all that are to start on its link are admitted
-admitted_before : (b : Book) (n : ℕ) → HoldersInOrder b → n < b.submissions → dials (link_of b n) ≡ false → is_ready (link_of b n) ≡ true → holds_some (permits_in b.config) (b.story n).permits ≡ true
+admitted_before : (b : Book) (n : ℕ) → HoldersInOrder b → n < b.submissions → dials (link_of b n) ≡ false → is_ready (link_of b n) ≡ true → is_served (link_of b n) ≡ true → holds_some (permits_in b.config) (b.story n).permits ≡ true
     → ((m : ℕ) → m < n → CanMove b m → ⊥) → (m : ℕ) → m < n → is_to_start (b.story n).link (b.story m) ≡ true → is_admitted (permits_in b.config) (b.story m) ≡ true
-admitted_before b n holders i d u p first m j t =
+admitted_before b n holders i d u v p first m j t =
     let same : (b.story m).link ≡ (b.story n).link = eq_from (b.story m).link (b.story n).link (both_left ((b.story m).link == (b.story n).link) (is_unstarted (b.story m)) t) in
     let unstarted : is_unstarted (b.story m) ≡ true = both_right ((b.story m).link == (b.story n).link) (is_unstarted (b.story m)) t in
     let dialing : dials (link_of b m) ≡ false = ap (λ x. dials (b.link x)) same ∙ d in
     let up : is_ready (link_of b m) ≡ true = ap (λ x. is_ready (b.link x)) same ∙ u in
+    let served : is_served (link_of b m) ≡ true = ap (λ x. is_served (b.link x)) same ∙ v in
     by_test (is_told (b.story m)) (is_admitted (permits_in b.config) (b.story m) ≡ true)
     (λ told. first_holds (is_told (b.story m)) (is_let_in (permits_in b.config) (b.story m)) told)
     (λ untold.
     let holds : holds_some (permits_in b.config) (b.story m).permits ≡ true = holds_like (permits_in b.config) (b.story n).permits (b.story m).permits p (holders m n j i t untold) in
     second_holds (is_told (b.story m)) (is_let_in (permits_in b.config) (b.story m))
     (both_hold (holds_some (permits_in b.config) (b.story m).permits) (is_timed (b.story m).timeout (b.story m).clock) holds
-    (holder_is_timed b m dialing up untold holds (λ due. first m j (record { unstarted = unstarted; due = due })))))
+    (holder_is_timed b m dialing up served untold holds (λ due. first m j (record { unstarted = unstarted; due = due })))))
 
 -- so one that isn't outside has its place
-inside_seated : (b : Book) (n : ℕ) → HoldersInOrder b → PlacesAreKept b → n < b.submissions → is_unstarted (b.story n) ≡ true → dials (link_of b n) ≡ false → is_ready (link_of b n) ≡ true → is_let_in (permits_in b.config) (b.story n) ≡ true
+inside_seated : (b : Book) (n : ℕ) → HoldersInOrder b → PlacesAreKept b → n < b.submissions → is_unstarted (b.story n) ≡ true → dials (link_of b n) ≡ false → is_ready (link_of b n) ≡ true → is_served (link_of b n) ≡ true → is_let_in (permits_in b.config) (b.story n) ≡ true
     → is_outside b n ≡ false → ((m : ℕ) → m < n → CanMove b m → ⊥) → HasItsPlace b n
-inside_seated b n holders kept i unstarted d u p inside first = elim (inside_has_room b n inside) [
+inside_seated b n holders kept i unstarted d u v p inside first = elim (inside_has_room b n inside) [
   | inl place ↦ kept n i unstarted place
   | inr room ↦ record {
     room = room;
-    ahead = admitted_before b n holders i d u (both_left (holds_some (permits_in b.config) (b.story n).permits) (is_timed (b.story n).timeout (b.story n).clock) p) first;
+    ahead = admitted_before b n holders i d u v (both_left (holds_some (permits_in b.config) (b.story n).permits) (is_timed (b.story n).timeout (b.story n).clock) p) first;
   }
 ]
 
@@ -221,7 +223,7 @@ inside_seated b n holders kept i unstarted d u p inside first = elim (inside_has
 tell_seated : (b : Book) (m : ℕ) (o : Outcome) → Sound b → HoldersInOrder b → PlacesAreKept b → MayTell b m o → HasItsPlace b m
 tell_seated b m o sound holders kept may =
     let t = tells_mean b m may.tells in
-    inside_seated b m holders kept (mover_is_numbered b m sound.stories (teller_moves b m o may)) may.unstarted t.0 t.1 t.2 t.3 may.in_order
+    inside_seated b m holders kept (mover_is_numbered b m sound.stories (teller_moves b m o may)) may.unstarted t.0 t.1 (mover_is_served b m (teller_moves b m o may)) t.2 t.3 may.in_order
 
 -- it was told, so it was said to have a place
 pub told_place : (s : Story) → is_told s ≡ true → has_place s ≡ true
@@ -233,7 +235,7 @@ wait_seated b m wait.Room holders kept may i unstarted e =
     let t = rooms_mean b m may.holds in
     elim t.2 [
       | inl told ↦ inl (told_place (b.story m) told)
-      | inr placed ↦ inr (inside_seated b m holders kept i unstarted t.0 t.1 placed.0 placed.1 (λ k below. may.written.moved.moved k))
+      | inr placed ↦ inr (inside_seated b m holders kept i unstarted t.0 t.1 (room_is_served b m may.holds) placed.0 placed.1 (λ k below. may.written.moved.moved k))
     ]
 wait_seated b m _ holders kept may i unstarted e = absurd (cc e)
 
@@ -266,7 +268,12 @@ seated_kept b (action.Message msg) may sound holders h = kept_by b (action.Messa
 seated_kept b (action.Monitor v) may sound holders h = kept_by b (action.Monitor v) may sound refl (unchanged b (action.Monitor v) (λ n t. t)) h
 seated_kept b (action.NeedCreds c l) may sound holders h = kept_by b (action.NeedCreds c l) may sound refl (unchanged b (action.NeedCreds c l) (λ n t. t)) h
 seated_kept b (action.Generation g) may sound holders h = kept_by b (action.Generation g) may sound refl (unchanged b (action.Generation g) (λ n t. t)) h
-seated_kept b (action.Round who l) may sound holders h = absurd may
+seated_kept b (action.Round owner.Setup on) may sound holders h = absurd may
+seated_kept b (action.Round owner.Auth on) may sound holders h = absurd may
+seated_kept b (action.Round owner.Resub on) may sound holders h = absurd may
+seated_kept b (action.Round owner.Monitor on) may sound holders h = absurd may
+seated_kept b (action.Round (owner.Try m round) on) may sound holders h =
+    kept_by b (action.Round (owner.Try m round) on) may sound refl (unchanged b (action.Round (owner.Try m round) on) (λ n. chosen (λ s. has_place s ≡ true → has_place (b.story n) ≡ true) (m == n) (rounds (b.story n)) (b.story n) (λ e. place_from (b.story n) (rounds (b.story n)) (λ r. absurd (cc r)) (λ t. t)) (λ f t. t))) h
 seated_kept b (action.Close l) may sound holders h = kept_by b (action.Close l) may sound refl (unchanged b (action.Close l) (λ n t. t)) h
 seated_kept b (action.Write l bytes) may sound holders h = kept_by b (action.Write l bytes) may sound refl (unchanged b (action.Write l bytes) (λ n t. t)) h
 seated_kept b (action.Wait owner.Setup kind) may sound holders h = absurd may
@@ -283,7 +290,7 @@ seated_kept b (action.Wait (owner.Try m round) kind) may sound holders h =
     (λ f u p. inl p)) h
 seated_kept b (action.Start l k owner.Setup count len) may sound holders h = kept_by b (action.Start l k owner.Setup count len) may sound refl (unchanged b (action.Start l k owner.Setup count len) (λ n t. t)) h
 seated_kept b (action.Start l k owner.Auth count len) may sound holders h = kept_by b (action.Start l k owner.Auth count len) may sound refl (unchanged b (action.Start l k owner.Auth count len) (λ n t. t)) h
-seated_kept b (action.Start l k owner.Resub count len) may sound holders h = absurd may
+seated_kept b (action.Start l k owner.Resub count len) may sound holders h = kept_by b (action.Start l k owner.Resub count len) may sound refl (unchanged b (action.Start l k owner.Resub count len) (λ n t. t)) h
 seated_kept b (action.Start l k owner.Monitor count len) may sound holders h = kept_by b (action.Start l k owner.Monitor count len) may sound refl (unchanged b (action.Start l k owner.Monitor count len) (λ n t. t)) h
 seated_kept b (action.Start l k (owner.Try m round) count len) may sound holders h =
     kept_by b (action.Start l k (owner.Try m round) count len) may sound refl (unchanged b (action.Start l k (owner.Try m round) count len) (λ n. chosen (λ s. has_place s ≡ true → has_place (b.story n) ≡ true) (m == n) (tried (b.story n) l k) (b.story n) (λ e. place_from (b.story n) (tried (b.story n) l k) (λ r. absurd (cc r)) (λ t. t)) (λ f t. t))) h
@@ -305,7 +312,7 @@ taker_behind b m n i t untold now =
     let x = takes_mean b n now.1 may.takes in
     let same : (b.story m).link ≡ (b.story n).link = eq_from (b.story m).link (b.story n).link (both_left ((b.story m).link == (b.story n).link) (is_unstarted (b.story m)) t) in
     let unstarted : is_unstarted (b.story m) ≡ true = both_right ((b.story m).link == (b.story n).link) (is_unstarted (b.story m)) t in
-    rester_holds b m x.2.0 (ap (λ y. dials (b.link y)) same ∙ x.0) (ap (λ y. is_ready (b.link y)) same ∙ x.1) untold x.2.1 (subst (λ y. 0 < free_permits b y x.2.0) (sym same) x.2.4)
+    rester_holds b m x.2.0 (ap (λ y. dials (b.link y)) same ∙ x.0) (ap (λ y. is_ready (b.link y)) same ∙ x.1) (ap (λ y. is_served (b.link y)) same ∙ mover_is_served b n (taker_moves b n now.0 now.1 may)) untold x.2.1 (subst (λ y. 0 < free_permits b y x.2.0) (sym same) x.2.4)
     (λ due. may.in_order m i (record { unstarted = unstarted; due = due }))
 
 -- whoever holds permits behind an action held some, or takes them now
@@ -350,7 +357,11 @@ gains b (action.Message msg) may n = λ i. inl i
 gains b (action.Monitor v) may n = λ i. inl i
 gains b (action.NeedCreds c l) may n = λ i. inl i
 gains b (action.Generation g) may n = λ i. inl i
-gains b (action.Round who l) may n = absurd may
+gains b (action.Round owner.Setup on) may n = absurd may
+gains b (action.Round owner.Auth on) may n = absurd may
+gains b (action.Round owner.Resub on) may n = absurd may
+gains b (action.Round owner.Monitor on) may n = absurd may
+gains b (action.Round (owner.Try m round) on) may n = chosen (Gains b n) (m == n) (rounds (b.story n)) (b.story n) (λ t i. inl i) (λ f i. inl i)
 gains b (action.Close l) may n = λ i. inl i
 gains b (action.Write l bytes) may n = λ i. inl i
 gains b (action.Wait owner.Setup kind) may n = absurd may
@@ -360,7 +371,7 @@ gains b (action.Wait owner.Monitor kind) may n = absurd may
 gains b (action.Wait (owner.Try m round) kind) may n = chosen (Gains b n) (m == n) (waits (b.story n) kind) (b.story n) (λ t i. inl i) (λ f i. inl i)
 gains b (action.Start l k owner.Setup count len) may n = λ i. inl i
 gains b (action.Start l k owner.Auth count len) may n = λ i. inl i
-gains b (action.Start l k owner.Resub count len) may n = absurd may
+gains b (action.Start l k owner.Resub count len) may n = λ i. inl i
 gains b (action.Start l k owner.Monitor count len) may n = λ i. inl i
 gains b (action.Start l k (owner.Try m round) count len) may n = chosen (Gains b n) (m == n) (tried (b.story n) l k) (b.story n) (λ t i. inl i) (λ f i. inl i)
 gains b (action.Created e) may n = λ i. inl i

@@ -11,8 +11,9 @@ use Rattle.driver_model.specs.declared.event.EventKind.{EventKind}
 use Rattle.driver_model.specs.declared.event.EventKind.TheVariants as event
 use Rattle.driver_model.specs.News.{News, shut, news_of}
 use Rattle.legal_trace.specs.Ledger.{Ledger, End, Ending, by_shutdown, hears, begins, offers, ends, noted, is_set_up, setup_result, error_in, ending, ending_up, ending_by, ending_unready, ending_alive, ending_asked, sources, times}
-use Rattle.legal_trace.specs.Book.{Book, entered, has_generations, message_of, shuts, is_renewal_of}
+use Rattle.legal_trace.specs.Book.{Book, entered, has_generations, message_of, shuts}
 use Rattle.legal_trace.specs.Legal.{MayStand, NoneEnds, current_link, link_due}
+use Rattle.legal_trace.proofs.Clocks.{timer_tells}
 use Rattle.legal_trace.proofs.Ledgers.{mine_keeps, hears_past}
 use Rattle.legal_trace.proofs.Plain.{not_none}
 use Rattle.legal_laws.proofs.Opens.{IsOpening, due_has_no_link}
@@ -96,7 +97,7 @@ pub shut_kept : (b : Book) (a : Action) → MayStand b a → IsOpening b → Shu
 shut_kept b (action.Turn k (cause.Opening config word)) may opening h = h
 shut_kept b (action.Turn k (cause.Event e)) may opening h = turn_heard b k e.kind may.is_for.1.written.moved.begun.applied.shown.ended h
 shut_kept b (action.Connect m host port) may opening h = λ s. absurd (not_both b.shut (connect_is_open b opening may.due) s)
-shut_kept b (action.Timer t ms what) may opening h = λ s l. mine_keeps HearsShut (is_renewal_of l what) (b.link l) times (λ t. h s l) (h s l)
+shut_kept b (action.Timer t ms what) may opening h = λ s l. timer_tells HearsShut (b.link l) l what (λ on k is t. h s l) (λ on is t. h s l) (h s l)
 shut_kept b (action.Took owner.Setup l count) may opening h = absurd may
 shut_kept b (action.Took owner.Auth l count) may opening h = absurd may
 shut_kept b (action.Took owner.Resub l count) may opening h = absurd may
@@ -107,7 +108,7 @@ shut_kept b (action.Message msg) may opening h = λ s l. tell_keeps HearsShut (b
 shut_kept b (action.Monitor v) may opening h = λ s l. tell_keeps HearsShut (b.current == l) (b.link l) (h s l) (h s l)
 shut_kept b (action.NeedCreds c m) may opening h = λ s l. mine_keeps HearsShut (m == l) (b.link l) sources (λ t. h s l) (h s l)
 shut_kept b (action.Generation g) may opening h = h
-shut_kept b (action.Round who m) may opening h = absurd may
+shut_kept b (action.Round who m) may opening h = h
 shut_kept b (action.Close m) may opening h = λ s l. mine_keeps HearsShut (m == l) (b.link l) (ends (b.turns - 1)) (λ t a e. cc) (h s l)
 shut_kept b (action.Write m bytes) may opening h = λ s l. mine_keeps HearsShut (m == l) (b.link l) (offers bytes) (λ t. h s l) (h s l)
 shut_kept b (action.Wait owner.Setup kind) may opening h = absurd may
@@ -117,7 +118,7 @@ shut_kept b (action.Wait owner.Monitor kind) may opening h = absurd may
 shut_kept b (action.Wait (owner.Try n round) kind) may opening h = h
 shut_kept b (action.Start m k owner.Setup count len) may opening h = λ s l. mine_keeps HearsShut (m == l) (b.link l) (begins (message_of b m owner.Setup)) (λ t. h s l) (h s l)
 shut_kept b (action.Start m k owner.Auth count len) may opening h = λ s l. mine_keeps HearsShut (m == l) (b.link l) (begins (message_of b m owner.Auth)) (λ t. h s l) (h s l)
-shut_kept b (action.Start m k owner.Resub count len) may opening h = absurd may
+shut_kept b (action.Start m k owner.Resub count len) may opening h = λ s l. mine_keeps HearsShut (m == l) (b.link l) (begins (message_of b m owner.Resub)) (λ t. h s l) (h s l)
 shut_kept b (action.Start m k owner.Monitor count len) may opening h = λ s l. mine_keeps HearsShut (m == l) (b.link l) (begins (message_of b m owner.Monitor)) (λ t. h s l) (h s l)
 shut_kept b (action.Start m k (owner.Try n round) count len) may opening h = λ s l. mine_keeps HearsShut (m == l) (b.link l) (begins (message_of b m (owner.Try n round))) (λ t. h s l) (h s l)
 shut_kept b (action.Created e) may opening h = h

@@ -12,11 +12,12 @@ use Rattle.legal_laws.proofs.Shaped.{IsShaped, shaped_kept}
 use Rattle.legal_laws.proofs.Told.{NoticesWait, waits_kept}
 use Rattle.legal_laws.proofs.Lives.{Lives, lives_kept, Goes}
 use Rattle.legal_laws.proofs.Goes.{goes_kept}
+use Rattle.legal_laws.proofs.Repeats.{Repeats, repeats_kept}
 
 -- how it opens, and that until the first event nothing happens to links; the numbers of links and submissions; that links which are up have not ended, and are not dealt too many
 -- items; what submissions were answered, and which messages they started; what links hear of a shutdown, that setups take what they are to, and that nothing
--- starts on a link that lacks credentials; that a link of which something waits to be told is up, where it is heard; and that one link is
--- current, to which submissions go that are open
+-- starts on a link that lacks credentials; that a link of which something waits to be told is up, where it is heard; that one link is
+-- current, to which submissions go that are open; and what is subscribed again
 pub record Sound (b : Book) : Type 0 where
   pub opens : IsOpening b
   pub still : StillAtFirst b.turns b.link
@@ -31,6 +32,7 @@ pub record Sound (b : Book) : Type 0 where
   pub waits : NoticesWait b
   pub lives : Lives b
   pub goes : Goes b
+  pub repeats : Repeats b
 
 -- each action that may stand keeps it
 pub stays_sound : (b : Book) (a : Action) → MayStand b a → Sound b → Sound (entered b a)
@@ -48,6 +50,7 @@ stays_sound b a may h = record {
   waits = waits_kept b a may h.still h.waits;
   lives = lives_kept b a may h.opens h.links h.up h.goes h.lives;
   goes = goes_kept b a may h.links h.stories h.lives h.goes;
+  repeats = repeats_kept b a may h.opens h.links h.stories h.goes h.repeats;
 }
 
 -- the blank book has it
@@ -80,6 +83,7 @@ blank_is_sound = record {
     lazy = λ i. absurd (omega (arith, i));
   };
   goes = λ n. record { open_on = λ o. refl; open_in = λ o. absurd (cc o); tries_on = λ t last. absurd (cc last); late_on = λ late. absurd (cc late); behind = omega arith };
+  repeats = record { unasked = λ l e. refl; tried = λ n l k o. absurd (cc o); holds = λ unserved. absurd (cc unserved) };
 }
 
 -- and so do many

@@ -17,7 +17,7 @@ use Rattle.driver_model.specs.declared.event.EventKind.TheVariants as event
 use Rattle.driver_model.specs.declared.outcome.Outcome.{Outcome}
 use Rattle.driver_model.specs.declared.outcome.Outcome.TheVariants as outcome
 use Rattle.legal_trace.specs.Ledger.{Ledger, Line, End, Ending, by_shutdown, by_fault, by_opening, by_attempt, begins, noted_each}
-use Rattle.legal_trace.specs.Story.{Story, Try, is_open, is_no_error, handed_in, left, holds, clocked, fires, tried, waits, answered, last_of, bytes_of}
+use Rattle.legal_trace.specs.Story.{Story, Try, is_open, is_no_error, handed_in, left, holds, clocked, rounds, fires, tried, waits, answered, last_of, bytes_of}
 use Rattle.legal_trace.specs.Owed.{owed, owed_to_try, owed_by, owed_unstarted, owed_waiting}
 use Rattle.legal_trace.specs.Book.{Book, entered, lines_of, message_of, is_clock_of, after_event, is_unspoken}
 use Rattle.legal_trace.specs.Legal.{MayAnswer, MayTell, MayStand, IsOpen}
@@ -138,7 +138,11 @@ once_kept b (action.Message msg) may blank n h = h
 once_kept b (action.Monitor v) may blank n h = h
 once_kept b (action.NeedCreds c l) may blank n h = h
 once_kept b (action.Generation g) may blank n h = h
-once_kept b (action.Round who l) may blank n h = absurd may
+once_kept b (action.Round owner.Setup on) may blank n h = absurd may
+once_kept b (action.Round owner.Auth on) may blank n h = absurd may
+once_kept b (action.Round owner.Resub on) may blank n h = absurd may
+once_kept b (action.Round owner.Monitor on) may blank n h = absurd may
+once_kept b (action.Round (owner.Try m round) on) may blank n h = chosen AnsweredOnce (m == n) (rounds (b.story n)) (b.story n) (λ t. h) (λ f. h)
 once_kept b (action.Close l) may blank n h = h
 once_kept b (action.Write l bytes) may blank n h = h
 once_kept b (action.Wait owner.Setup kind) may blank n h = absurd may
@@ -148,7 +152,7 @@ once_kept b (action.Wait owner.Monitor kind) may blank n h = absurd may
 once_kept b (action.Wait (owner.Try m round) kind) may blank n h = chosen AnsweredOnce (m == n) (waits (b.story n) kind) (b.story n) (λ t. h) (λ f. h)
 once_kept b (action.Start l k owner.Setup count len) may blank n h = h
 once_kept b (action.Start l k owner.Auth count len) may blank n h = h
-once_kept b (action.Start l k owner.Resub count len) may blank n h = absurd may
+once_kept b (action.Start l k owner.Resub count len) may blank n h = h
 once_kept b (action.Start l k owner.Monitor count len) may blank n h = h
 once_kept b (action.Start l k (owner.Try m round) count len) may blank n h = chosen AnsweredOnce (m == n) (tried (b.story n) l k) (b.story n) (λ t. started_once (b.story n) l k h) (λ f. h)
 once_kept b (action.Created e) may blank n h = h
@@ -214,7 +218,11 @@ tries_kept b (action.Message msg) may n h = h
 tries_kept b (action.Monitor v) may n h = h
 tries_kept b (action.NeedCreds c l) may n h = h
 tries_kept b (action.Generation g) may n h = h
-tries_kept b (action.Round who l) may n h = absurd may
+tries_kept b (action.Round owner.Setup on) may n h = absurd may
+tries_kept b (action.Round owner.Auth on) may n h = absurd may
+tries_kept b (action.Round owner.Resub on) may n h = absurd may
+tries_kept b (action.Round owner.Monitor on) may n h = absurd may
+tries_kept b (action.Round (owner.Try m round) on) may n h = chosen (TriesAreStarted (entered b (action.Round (owner.Try m round) on)).link) (m == n) (rounds (b.story n)) (b.story n) (λ t. h) (λ f. h)
 tries_kept b (action.Close l) may n h = h
 tries_kept b (action.Write l bytes) may n h = h
 tries_kept b (action.Wait owner.Setup kind) may n h = absurd may
@@ -224,7 +232,7 @@ tries_kept b (action.Wait owner.Monitor kind) may n h = absurd may
 tries_kept b (action.Wait (owner.Try m round) kind) may n h = chosen (TriesAreStarted (entered b (action.Wait (owner.Try m round) kind)).link) (m == n) (waits (b.story n) kind) (b.story n) (λ t. h) (λ f. h)
 tries_kept b (action.Start l k owner.Setup count len) may n h = h
 tries_kept b (action.Start l k owner.Auth count len) may n h = h
-tries_kept b (action.Start l k owner.Resub count len) may n h = absurd may
+tries_kept b (action.Start l k owner.Resub count len) may n h = h
 tries_kept b (action.Start l k owner.Monitor count len) may n h = h
 tries_kept b (action.Start l k (owner.Try m round) count len) may n h =
     chosen (TriesAreStarted (entered b (action.Start l k (owner.Try m round) count len)).link) (m == n) (tried (b.story n) l k) (b.story n)

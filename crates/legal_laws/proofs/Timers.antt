@@ -13,7 +13,7 @@ use Rattle.driver_model.specs.declared.event.Event.{Event}
 use Rattle.driver_model.specs.declared.event.EventKind.{EventKind}
 use Rattle.driver_model.specs.declared.event.EventKind.TheVariants as event
 use Rattle.driver_model.specs.declared.event.Submission.{Submission}
-use Rattle.legal_trace.specs.Story.{Story, is_open, handed_in, left, holds, clocked, fires, tried, waits, answered}
+use Rattle.legal_trace.specs.Story.{Story, is_open, handed_in, left, holds, clocked, rounds, fires, tried, waits, answered}
 use Rattle.legal_trace.specs.Book.{is_of_connect, is_rest, Book, blank_book, book, entered, entered_each, is_clock_of, after_event, is_unspoken}
 use Rattle.legal_trace.specs.Steps.{permits_in}
 use Rattle.legal_trace.proofs.Clocks.{timer_keeps}
@@ -25,18 +25,20 @@ use Rattle.legal_laws.proofs.InLine.{submissions_grow}
 use Rattle.legal_trace.proofs.Moves.{holds_some, asks_mean}
 use Rattle.driver_model.specs.Config.{permits}
 
+-- a timer is for new credentials of a link, or for what is subscribed again there
+is_of_link : Purpose → Bool
+is_of_link (purpose.Connect l) = false
+is_of_link (purpose.Response who) = false
+is_of_link (purpose.Renewal l k) = true
+is_of_link (purpose.Backoff g) = false
+is_of_link (purpose.Resubscription l) = true
+
 -- of a timer of submission n that may be asked for
 ask_of : (b : Book) (t ms n round : ℕ) → MayTimer b t ms (purpose.Response (owner.Try n round)) → (may : MayTime b t ms (purpose.Response (owner.Try n round))) × (may.n ≡ n)
 ask_of b t ms n round (inl (inl may)) = absurd (let x : false ≡ true = ap is_of_connect may.is_for in cc x)
 ask_of b t ms n round (inl (inr may)) = absurd (let x : false ≡ true = ap is_rest may.is_for in cc x)
-ask_of b t ms n round (inr (inr may)) = absurd (let x : false ≡ true = ap is_renewal may.is_for in cc x)
-  where
-    is_renewal : Purpose → Bool
-    is_renewal (purpose.Connect l) = false
-    is_renewal (purpose.Response who) = false
-    is_renewal (purpose.Renewal l k) = true
-    is_renewal (purpose.Backoff g) = false
-    is_renewal (purpose.Resubscription l) = false
+ask_of b t ms n round (inr (inr (inl may))) = absurd (let x : false ≡ true = ap is_of_link may.is_for in cc x)
+ask_of b t ms n round (inr (inr (inr may))) = absurd (let x : false ≡ true = ap is_of_link may.is_for in cc x)
 ask_of b t ms n round (inr (inl may)) = (may, same_owner may.n n round may.is_for)
   where
     same_owner : (m n round : ℕ) → purpose.Response (owner.Try n round) ≡ purpose.Response (owner.Try m 0) → m ≡ n
@@ -87,7 +89,11 @@ clock_stays b (action.Message msg) n h = h
 clock_stays b (action.Monitor v) n h = h
 clock_stays b (action.NeedCreds c m) n h = h
 clock_stays b (action.Generation g) n h = h
-clock_stays b (action.Round who m) n h = h
+clock_stays b (action.Round owner.Setup on) n h = h
+clock_stays b (action.Round owner.Auth on) n h = h
+clock_stays b (action.Round owner.Resub on) n h = h
+clock_stays b (action.Round owner.Monitor on) n h = h
+clock_stays b (action.Round (owner.Try m round) on) n h = chosen Clocked (m == n) (rounds (b.story n)) (b.story n) (λ e. h) (λ f. h)
 clock_stays b (action.Close m) n h = h
 clock_stays b (action.Write m bytes) n h = h
 clock_stays b (action.Wait owner.Setup kind) n h = h
@@ -164,7 +170,11 @@ timeout_stays b (action.Message msg) n i = refl
 timeout_stays b (action.Monitor v) n i = refl
 timeout_stays b (action.NeedCreds c m) n i = refl
 timeout_stays b (action.Generation g) n i = refl
-timeout_stays b (action.Round who m) n i = refl
+timeout_stays b (action.Round owner.Setup on) n i = refl
+timeout_stays b (action.Round owner.Auth on) n i = refl
+timeout_stays b (action.Round owner.Resub on) n i = refl
+timeout_stays b (action.Round owner.Monitor on) n i = refl
+timeout_stays b (action.Round (owner.Try m round) on) n i = chosen (λ (s : Story). s.timeout ≡ (b.story n).timeout) (m == n) (rounds (b.story n)) (b.story n) (λ e. refl) (λ f. refl)
 timeout_stays b (action.Close m) n i = refl
 timeout_stays b (action.Write m bytes) n i = refl
 timeout_stays b (action.Wait owner.Setup kind) n i = refl

@@ -12,11 +12,13 @@ use Rattle.driver_model.specs.declared.action.Owner.TheVariants as owner
 use Rattle.driver_model.specs.declared.event.EventKind.{EventKind}
 use Rattle.driver_model.specs.declared.event.EventKind.TheVariants as event
 use Rattle.driver_model.specs.News.{News, silence, connected, refused, overdue, took, came, failed, dropped, shut, news_of, authorized, denied, deserted, renewed, unrenewed, late, unrepeated}
-use Rattle.legal_trace.specs.Ledger.{Ledger, Heard, asks, begins, offers, tells, ends, parts, noted, with_news, refused_in, bytes_came, is_over, dials, next_notice, MayNote, sources, awaits_credentials, authorized_by, times, may_renew, renewed_by, unrenewed_by, is_renewal_open, lost_by}
+use Rattle.legal_trace.specs.Ledger.{Ledger, Heard, asks, begins, offers, tells, ends, parts, noted, with_news, refused_in, bytes_came, is_over, dials, next_notice, MayNote, sources, awaits_credentials, authorized_by, times, may_renew, renewed_by, unrenewed_by, is_renewal_open, lost_by, is_repeating, unrepeated_by}
 use Rattle.legal_trace.specs.Story.{Story, is_open, handed_in, left, holds, clocked, fires, tried, waits, answered}
 use Rattle.legal_trace.specs.Managers.{settings_in, is_last}
-use Rattle.legal_trace.specs.Book.{Book, entered, push_line, info_in, message_of, is_clock_of, after_event, is_unspoken, wanted_in, is_renewal_of, hearing_in}
+use Rattle.legal_trace.specs.Book.{Book, entered, push_line, info_in, message_of, is_clock_of, after_event, is_unspoken, wanted_in, hearing_in}
 use Rattle.legal_trace.specs.Legal.{MayStand, MayPush, MayPushBy, is_heard}
+use Rattle.legal_trace.specs.Again.{repeats_in}
+use Rattle.legal_trace.proofs.Clocks.{timer_tells}
 use Rattle.legal_trace.proofs.Ledgers.{mine_keeps}
 use Rattle.legal_trace.proofs.Plain.{not_none}
 use Rattle.legal_trace.proofs.Came.{holds_bytes}
@@ -61,7 +63,7 @@ waits_hears l turn deserted h = h
 waits_hears l turn (renewed c) h = chosen Waits (may_renew l) (renewed_by l c) l (λ t. h) (λ e. h)
 waits_hears l turn unrenewed h = chosen Waits l.up (unrenewed_by l) l (λ t. h) (λ e. h)
 waits_hears l turn (late k) h = chosen Waits (l.up && is_renewal_open l k) (lost_by l) l (λ t. h) (λ e. h)
-waits_hears l turn unrepeated h = h
+waits_hears l turn unrepeated h = chosen Waits (is_repeating l) (unrepeated_by l) l (λ t. h) (λ e. h)
 waits_hears l turn dropped h = h
 waits_hears l turn shut h = h
 
@@ -79,8 +81,8 @@ waits_kept b (action.Turn k (cause.Opening config word)) may still h = λ l hear
     let none : b.turns ≡ 0 = may.is_for in
     absurd (not_none (next_notice (b.link l)) p (ap (λ (hs : List Heard). slice_get hs (b.link l).told) (still (omega (arith, none)) l).mute) next)
 waits_kept b (action.Turn k (cause.Event e)) may still h = λ l heard. waits_hears (b.link l) k (news_of b.timers b.sources l e.kind) (h l heard)
-waits_kept b (action.Connect m host port) may still h = λ l heard. mine_keeps Waits (m == l) (b.link l) (asks (info_in b.config) (wanted_in b.config) (hearing_in b.config) (is_last (settings_in b.config) b.attempt)) (λ t. h l heard) (h l heard)
-waits_kept b (action.Timer t ms what) may still h = λ l heard. mine_keeps Waits (is_renewal_of l what) (b.link l) times (λ t. h l heard) (h l heard)
+waits_kept b (action.Connect m host port) may still h = λ l heard. mine_keeps Waits (m == l) (b.link l) (asks (info_in b.config) (wanted_in b.config) (hearing_in b.config) (is_last (settings_in b.config) b.attempt) (repeats_in (settings_in b.config) b.tracked)) (λ t. h l heard) (h l heard)
+waits_kept b (action.Timer t ms what) may still h = λ l heard. timer_tells Waits (b.link l) l what (λ on k is t. h l heard) (λ on is t. h l heard) (h l heard)
 waits_kept b (action.Took owner.Setup m count) may still h = absurd may
 waits_kept b (action.Took owner.Auth m count) may still h = absurd may
 waits_kept b (action.Took owner.Resub m count) may still h = absurd may
@@ -91,7 +93,7 @@ waits_kept b (action.Message msg) may still h = λ l heard. tell_keeps Waits (b.
 waits_kept b (action.Monitor v) may still h = λ l heard. tell_keeps Waits (b.current == l) (b.link l) (waits_tells (b.link l) (h l heard)) (h l heard)
 waits_kept b (action.NeedCreds c m) may still h = λ l heard. mine_keeps Waits (m == l) (b.link l) sources (λ t. h l heard) (h l heard)
 waits_kept b (action.Generation g) may still h = h
-waits_kept b (action.Round who m) may still h = absurd may
+waits_kept b (action.Round who m) may still h = h
 waits_kept b (action.Close m) may still h = λ l heard. mine_keeps Waits (m == l) (b.link l) (ends (b.turns - 1)) (λ t p next. absurd (not_none (next_notice (b.link l)) p (may.pushed l heard) next)) (h l heard)
 waits_kept b (action.Write m bytes) may still h = λ l heard. mine_keeps Waits (m == l) (b.link l) (offers bytes) (λ t. h l heard) (h l heard)
 waits_kept b (action.Wait owner.Setup kind) may still h = absurd may
@@ -101,7 +103,7 @@ waits_kept b (action.Wait owner.Monitor kind) may still h = absurd may
 waits_kept b (action.Wait (owner.Try n round) kind) may still h = h
 waits_kept b (action.Start m k owner.Setup count len) may still h = λ l heard. mine_keeps Waits (m == l) (b.link l) (begins (message_of b m owner.Setup)) (λ t. h l heard) (h l heard)
 waits_kept b (action.Start m k owner.Auth count len) may still h = λ l heard. mine_keeps Waits (m == l) (b.link l) (begins (message_of b m owner.Auth)) (λ t. h l heard) (h l heard)
-waits_kept b (action.Start m k owner.Resub count len) may still h = absurd may
+waits_kept b (action.Start m k owner.Resub count len) may still h = λ l heard. mine_keeps Waits (m == l) (b.link l) (begins (message_of b m owner.Resub)) (λ t. h l heard) (h l heard)
 waits_kept b (action.Start m k owner.Monitor count len) may still h = λ l heard. mine_keeps Waits (m == l) (b.link l) (begins (message_of b m owner.Monitor)) (λ t. h l heard) (h l heard)
 waits_kept b (action.Start m k (owner.Try n round) count len) may still h = λ l heard. mine_keeps Waits (m == l) (b.link l) (begins (message_of b m (owner.Try n round))) (λ t. h l heard) (h l heard)
 waits_kept b (action.Created e) may still h = h
