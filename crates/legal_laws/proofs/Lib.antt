@@ -57,3 +57,5 @@ pub mod Parted
 pub mod Among
 pub mod Attempts
 pub mod Generations
+pub mod Rounding
+pub mod Resubscribed

@@ -14,4 +14,6 @@ pub mod Reports
 pub mod Drops
 pub mod Pushes
 pub mod Generations
+pub mod Rounds
+pub mod Resubscription
 pub mod Laws

@@ -21,6 +21,8 @@ ghost use Rattle.legal_laws.specs.Laws.{EachTellsMessages, EachTellsReports, Eac
 ghost use Rattle.legal_laws.specs.Values.{ConfirmationsAreNone};
 ghost use Rattle.legal_laws.specs.Laws.{EachTimesRenewals};
 ghost use Rattle.legal_laws.specs.Generations.{ComesBack};
+ghost use Rattle.legal_laws.specs.Rounds.{KeepsRounds};
+ghost use Rattle.legal_laws.specs.Resubscription.{SubscribesAsItWas};
 
 /// Does nothing. Its contract: what a legal trace tells of each link is legal by itself. What the
 /// book of any trace has of a link is what these lines come to.
@@ -199,4 +201,22 @@ pub fn an_end_is_told_once()
 /// waits as long as that and the word of the turn say.
 pub fn a_generation_begins_by_its_causes()
     ensures { OfEachLegal ComesBack }
+{}
+
+/// Does nothing. Its contract: in a legal trace a round begins only where the session comes back, for
+/// a submission that is open and had none since it goes to its link. It begins on that link, which is
+/// the current one and takes requests, and the generation that was current where the submission was
+/// handed in, or the first, is current then. Where the session comes back, the message of an open
+/// submission starts behind its round.
+pub fn a_round_begins_on_the_link_of_its_generation()
+    ensures { OfEachLegal KeepsRounds }
+{}
+
+/// Does nothing. Its contract: in a legal trace what is subscribed is subscribed again only where the
+/// session comes back so, on the current link, once that is ready. The message subscribes exactly what
+/// is subscribed then, after all calls that were confirmed before, and its link carries those commands.
+/// Where it is to be answered within a time, its timer was asked for. It starts once on a link at most;
+/// and until it is answered, or given up, no message of a submission starts there.
+pub fn what_is_subscribed_is_subscribed_again()
+    ensures { OfEachLegal SubscribesAsItWas }
 {}
