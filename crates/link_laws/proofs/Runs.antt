@@ -119,12 +119,12 @@ Sound name r = GoesOn name r ⊎ ((r.over ≡ true) × ((l : Ledger) × IsOver n
 --
 -- where its server isn't put into monitor mode
 plain_live : (name : ℕ → Owner) (h : Hearing) (size boundary : ℕ) → is_watching h ≡ false
-    → IsLive name (noted (noted blank_ledger (asks bare_info false h true)) (hears 1 connected)) (record { link = fresh size boundary; hearing = h; over = false; turn = 1; lines = opening h; settled = []; unstarted = [] })
+    → IsLive name (noted (noted blank_ledger (asks bare_info false h true false)) (hears 1 connected)) (record { link = fresh size boundary; hearing = h; over = false; turn = 1; lines = opening h; settled = []; unstarted = [] })
 plain_live name h size boundary plain = record {
   told = record { told = refl; stands = (refl, (tt, tt)) };
-  lives = record { bare = refl; unasked = refl; watched = unwatched (noted (noted blank_ledger (asks bare_info false h true)) (hears 1 connected)) plain; up = refl; lives = refl; unspoiled = values-empty.2; tame = refl };
+  lives = record { bare = refl; unasked = refl; watched = unwatched (noted (noted blank_ledger (asks bare_info false h true false)) (hears 1 connected)) plain; up = refl; lives = refl; unspoiled = values-empty.2; tame = refl };
   heard_is = refl;
-  tied = connected_tied name (noted blank_ledger (asks bare_info false h true)) (fresh size boundary) 1 (asked_tied name blank_ledger bare_info false h true (fresh size boundary) (fresh_tied name size boundary));
+  tied = connected_tied name (noted blank_ledger (asks bare_info false h true false)) (fresh size boundary) 1 (asked_tied name blank_ledger bare_info false h true false (fresh size boundary) (fresh_tied name size boundary));
   packed = tt;
   cuts = tt;
   none = refl;
