@@ -1,9 +1,9 @@
 -- Where what is told stands among the outcomes: behind those of messages that were full before it came, and before those of messages
 -- that take an item behind it.
-use Rattle.std.proofs.Common.{◌≡◌, ◌≢◌, ◌⊎◌, inl, inr, ℕ, zero, suc, ◌+◌, ◌<◌, ◌≤◌, ◌==◌, Bool, true, false, ◌&&◌, not, List, [], ◌∷◌, ◌++◌, length, take, Option, Some, None, is_some, refl, sym, ◌∙◌, ap, subst, arith, max}
+use Rattle.std.proofs.Common.{◌≡◌, ◌≢◌, ◌⊎◌, inl, inr, ℕ, zero, suc, ◌+◌, ◌<◌, ◌≤◌, ◌==◌, true, false, ◌&&◌, List, [], ◌∷◌, ◌++◌, length, take, Option, Some, None, refl, sym, ◌∙◌, ap, subst, arith}
 use Rattle.std.proofs.lemmas.List.{take-append-le, take_all, length_push}
 use Rattle.std.specs.Prelude.{slice_get}
-use Rattle.containers.proofs.Choices.{by_test, chosen, eq_from, eq_test, le_from, le_test, not_le_from, not_le_test}
+use Rattle.containers.proofs.Choices.{by_test, chosen, eq_test, le_from, le_test, not_le_from, not_le_test}
 use Rattle.redis_error.specs.declared.redis_error.RedisError.TheVariants as error
 use Rattle.driver_model.specs.declared.action.Action.{Action}
 use Rattle.driver_model.specs.declared.action.Action.TheVariants as action
@@ -11,16 +11,14 @@ use Rattle.driver_model.specs.declared.action.Cause.TheVariants as cause
 use Rattle.driver_model.specs.declared.action.Owner.TheVariants as owner
 use Rattle.driver_model.specs.declared.config.Config.{Config}
 use Rattle.driver_model.specs.declared.event.Event.{Event}
-use Rattle.driver_model.specs.declared.event.EventKind.{EventKind}
 use Rattle.driver_model.specs.declared.event.EventKind.TheVariants as event
 use Rattle.driver_model.specs.declared.outcome.Outcome.{Outcome}
 use Rattle.driver_model.specs.declared.hearing.Notice.{Notice}
 use Rattle.driver_model.specs.Hearing.{hears_something}
 use Rattle.driver_model.specs.News.{News, silence, connected, refused, overdue, took, came, failed, dropped, shut, authorized, denied, deserted, renewed, unrenewed, late, unrepeated}
 use Rattle.legal_trace.specs.Ledger.{Ledger, Heard, Line, Start, asks, hears, begins, offers, tells, ends, parts, noted, noted_each, with_news, refused_in, bytes_came, is_over, dials, reach, reached, is_full, is_full_by, next_notice, sources, awaits_credentials, authorized_by, times, may_renew, renewed_by, unrenewed_by, is_renewal_open, lost_by, is_repeating, unrepeated_by, repeats_timed}
-use Rattle.legal_trace.specs.Story.{Story, Try, last_of, is_open, handed_in, left, holds, clocked, rounds, fires, tried, waits, answered}
-use Rattle.legal_trace.specs.Book.{Book, blank_book, book, entered, entered_each, is_clock_of, after_event, is_unspoken, message_of, if_mine, lines_of, lines_of_each, hearing_in}
-use Rattle.legal_trace.proofs.Clocks.{timer_keeps}
+use Rattle.legal_trace.specs.Story.{Try, last_of, waits, answered}
+use Rattle.legal_trace.specs.Book.{Book, blank_book, book, entered, entered_each, message_of, if_mine, lines_of, lines_of_each, hearing_in}
 use Rattle.legal_trace.specs.Legal.{MayStand, MayNotify, MayAnswer, MayTell, AllStand, IsOpen, IsBefore, is_heard, Legal}
 use Rattle.legal_trace.proofs.Books.{stand_front, stand_behind, book_append}
 use Rattle.legal_trace.proofs.Ledgers.{each_keeps, reach_alike, reach_more, takes_one}
@@ -30,15 +28,13 @@ use Rattle.legal_trace.proofs.Plain.{not_none, same_some}
 use Rattle.legal_laws.specs.Notices.{Tells, HasMessage, TellsInOrder}
 use Rattle.legal_laws.proofs.Configured.{config_kept}
 use Rattle.legal_laws.proofs.Heard.{between_at, between_behind, came_grows, InRow, in_row, IsBeyond, beyond_keeps}
-use Rattle.legal_laws.proofs.Held.{not_open}
 use Rattle.legal_laws.proofs.Leaving.{outcome_is_open}
 use Rattle.legal_laws.proofs.Lines.{told_behind}
 use Rattle.legal_laws.proofs.Messages.{StartsNow, message_from}
 use Rattle.legal_laws.proofs.Next.{on_its_link}
-use Rattle.legal_laws.proofs.Numbers.{HasStories, open_is_numbered}
+use Rattle.legal_laws.proofs.Numbers.{open_is_numbered}
 use Rattle.legal_laws.proofs.Notices.{telling}
 use Rattle.legal_laws.proofs.Sound.{Sound, stays_sound, stay_sound, sound_behind}
-use Rattle.legal_laws.proofs.Tales.{last_behind}
 
 -- a message that started takes as many items with those before it, whatever comes
 pub record TakesUpTo (k count : ℕ) (l : Ledger) : Type 0 where

@@ -1,6 +1,6 @@
 -- Links that submissions no longer go to, or don't go to yet: none of them is up, and nothing of them is to be shown.
-use Rattle.std.proofs.Common.{◌≡◌, ◌≢◌, ◌⊎◌, inl, inr, ℕ, ◌-◌, ◌<◌, ◌≤◌, ◌==◌, nat_le, Bool, true, false, ◌&&◌, not, [], ◌+◌, ◌++◌, take, Option, Some, None, is_some, if◌then◌else◌, refl, sym, ◌∙◌, ap, subst, arith}
-use Rattle.containers.proofs.Choices.{by_test, chosen, if_false, left_if, le_from, not_le_from, eq_from, not_both, both_left}
+use Rattle.std.proofs.Common.{◌≡◌, ◌≢◌, ℕ, ◌-◌, ◌≤◌, ◌==◌, nat_le, Bool, true, false, ◌&&◌, not, [], ◌+◌, ◌++◌, take, Some, None, if◌then◌else◌, refl, sym, ◌∙◌, ap, arith}
+use Rattle.containers.proofs.Choices.{by_test, chosen, if_false, left_if, le_from, not_le_from, eq_from, not_both}
 use Rattle.redis_error.specs.declared.redis_error.RedisError.{RedisError}
 use Rattle.redis_error.specs.declared.redis_error.RedisError.TheVariants as error
 use Rattle.driver_model.specs.declared.action.Action.{Action}
@@ -8,9 +8,9 @@ use Rattle.driver_model.specs.declared.action.Action.TheVariants as action
 use Rattle.driver_model.specs.declared.action.Cause.TheVariants as cause
 use Rattle.driver_model.specs.declared.action.Owner.TheVariants as owner
 use Rattle.driver_model.specs.News.{News, silence, connected, refused, overdue, took, came, failed, authorized, denied, deserted, renewed, unrenewed, late, unrepeated, dropped, shut, news_of}
-use Rattle.legal_trace.specs.Ledger.{Ledger, Ending, asks, hears, begins, offers, ends, noted, noted_each, with_news, refused_in, bytes_came, is_over, is_cut, dials, ending, ending_alive, ending_asked, failure_in, sources, times, awaits_credentials, authorized_by, may_renew, renewed_by, unrenewed_by, is_renewal_open, lost_by, is_repeating, unrepeated_by}
+use Rattle.legal_trace.specs.Ledger.{Ledger, asks, hears, begins, offers, ends, noted, with_news, refused_in, bytes_came, is_over, is_cut, dials, ending, ending_alive, ending_asked, failure_in, sources, awaits_credentials, authorized_by, may_renew, renewed_by, unrenewed_by, is_renewal_open, lost_by, is_repeating, unrepeated_by}
 use Rattle.legal_trace.specs.Managers.{settings_in, is_last}
-use Rattle.legal_trace.specs.Book.{Book, entered, if_mine, lines_of, info_in, message_of, wanted_in, hearing_in}
+use Rattle.legal_trace.specs.Book.{Book, entered, info_in, message_of, wanted_in, hearing_in}
 use Rattle.legal_trace.specs.Legal.{MayStand, are_pushes_heard}
 use Rattle.legal_trace.specs.Again.{repeats_in}
 use Rattle.legal_trace.proofs.Clocks.{timer_tells}

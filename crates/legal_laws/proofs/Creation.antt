@@ -13,7 +13,7 @@ use Rattle.driver_model.specs.declared.event.Event.{Event}
 use Rattle.driver_model.specs.declared.outcome.Outcome.{Outcome}
 use Rattle.driver_model.specs.declared.push_info.PushInfo.{PushInfo}
 use Rattle.driver_model.specs.declared.outcome.Outcome.TheVariants as outcome
-use Rattle.legal_trace.specs.Ledger.{Ledger, End, Ending, by_shutdown, by_fault, by_opening, by_attempt, is_over, begins, offers, sources, ends, failure_of, failure_in, is_set_up, setup_due, times}
+use Rattle.legal_trace.specs.Ledger.{End, Ending, by_shutdown, by_fault, by_opening, by_attempt, is_over, begins, offers, sources, ends, failure_of, failure_in, is_set_up, setup_due}
 use Rattle.legal_trace.specs.Story.{Try, bytes_of, last_of}
 use Rattle.legal_trace.specs.Managers.{settings_in, is_lazy}
 use Rattle.legal_trace.specs.Book.{Book, blank_book, book, entered, entered_each, has_generations, message_of, is_rest}

@@ -21,7 +21,7 @@ use Rattle.driver_model.specs.Config.{hearing_of}
 use Rattle.driver_model.specs.Hearing.{Taking, answers, taking, array_taken, as_message, bulk_text, plain_text, hears_messages, is_answer_named, is_watching, message_named, message_of, message_taken, push_taken}
 use Rattle.driver_model.specs.News.{News, silence, connected, refused, overdue, took, came, failed, dropped, shut, news_of, authorized, denied, deserted, renewed, unrenewed, late, unrepeated}
 use Rattle.driver_model.specs.Shape.{need_of}
-use Rattle.legal_trace.specs.Ledger.{Ledger, Start, asks, begins, offers, ends, sources, times, noted, with_news, refused_in, bytes_came, is_over, is_of_setup, is_awaiting, is_set_up, cut, dials, items_came, heard_at, reach, reached, setup_count, taking_of, value_by, value_came, awaits_credentials, authorized_by, may_renew, renewed_by, unrenewed_by, is_renewal_open, lost_by, is_repeating, unrepeated_by}
+use Rattle.legal_trace.specs.Ledger.{Ledger, Start, asks, begins, offers, ends, sources, noted, with_news, refused_in, bytes_came, is_over, is_of_setup, is_awaiting, is_set_up, cut, dials, items_came, heard_at, reach, reached, setup_count, taking_of, value_by, value_came, awaits_credentials, authorized_by, may_renew, renewed_by, unrenewed_by, is_renewal_open, lost_by, is_repeating, unrepeated_by}
 use Rattle.legal_trace.specs.Managers.{settings_in, is_last}
 use Rattle.legal_trace.specs.Book.{Book, blank_book, book, entered, entered_each, hearing_in, info_in, message_of as start_of, wanted_in}
 use Rattle.legal_trace.specs.Legal.{MayStand, AllStand, Legal}

@@ -13,7 +13,7 @@ use Rattle.driver_model.specs.declared.hearing.Hearing.{Hearing}
 use Rattle.driver_model.specs.declared.news.LinkFault.TheVariants as fault
 use Rattle.driver_model.specs.Hearing.{hears_messages}
 use Rattle.driver_model.specs.News.{News, dropped, news_of}
-use Rattle.legal_trace.specs.Ledger.{Ledger, Ending, by_fault, by_opening, asks, hears, begins, offers, ends, sources, times, ending, ending_alive, ending_asked, ending_by, ending_unready, ending_up, error_in, is_over, is_set_up, setup_result, with_news}
+use Rattle.legal_trace.specs.Ledger.{Ledger, Ending, by_fault, by_opening, asks, hears, begins, offers, ends, sources, ending, ending_alive, ending_asked, ending_by, ending_unready, ending_up, error_in, is_over, is_set_up, setup_result, with_news}
 use Rattle.legal_trace.specs.Managers.{settings_in, is_last}
 use Rattle.legal_trace.specs.Book.{Book, blank_book, book, entered, entered_each, hearing_in, info_in, message_of, wanted_in}
 use Rattle.legal_trace.specs.Legal.{MayStand, AllStand, IsSettled, Legal}

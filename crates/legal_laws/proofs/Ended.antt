@@ -1,12 +1,12 @@
 -- How a link ended stays as it was.
-use Rattle.std.proofs.Common.{◌≡◌, ℕ, ◌-◌, ◌==◌, true, false, ◌&&◌, [], ◌++◌, take, Option, Some, None, is_some, if◌then◌else◌, refl, sym, ◌∙◌, ap}
-use Rattle.containers.proofs.Choices.{chosen, eq_from, not_both}
+use Rattle.std.proofs.Common.{◌≡◌, ℕ, ◌-◌, ◌==◌, true, ◌&&◌, [], ◌++◌, take, Option, Some, None, is_some, refl, sym, ◌∙◌, ap}
+use Rattle.containers.proofs.Choices.{chosen, eq_from}
 use Rattle.redis_error.specs.declared.redis_error.RedisError.TheVariants as error
 use Rattle.driver_model.specs.declared.action.Action.{Action}
 use Rattle.driver_model.specs.declared.action.Action.TheVariants as action
 use Rattle.driver_model.specs.declared.action.Cause.TheVariants as cause
 use Rattle.driver_model.specs.News.{News, silence, connected, refused, overdue, took, came, failed, authorized, denied, deserted, renewed, unrenewed, late, unrepeated, dropped, shut, news_of}
-use Rattle.legal_trace.specs.Ledger.{Ledger, End, asks, begins, offers, ends, with_news, refused_in, bytes_came, is_over, dials, ending, sources, times, awaits_credentials, authorized_by, may_renew, renewed_by, unrenewed_by, is_renewal_open, lost_by, is_repeating, unrepeated_by}
+use Rattle.legal_trace.specs.Ledger.{Ledger, End, asks, begins, offers, ends, with_news, refused_in, bytes_came, is_over, dials, ending, sources, awaits_credentials, authorized_by, may_renew, renewed_by, unrenewed_by, is_renewal_open, lost_by, is_repeating, unrepeated_by}
 use Rattle.legal_trace.specs.Managers.{settings_in, is_last}
 use Rattle.legal_trace.specs.Book.{Book, entered, info_in, message_of, wanted_in, hearing_in}
 use Rattle.legal_trace.specs.Legal.{MayStand}

@@ -1,5 +1,5 @@
 -- Whoever's timer fired while it was open starts no message.
-use Rattle.std.proofs.Common.{◌≡◌, ◌⊎◌, inl, inr, ℕ, ◌<◌, ◌≤◌, ◌==◌, true, List, [], ◌∷◌, ◌++◌, Some, None, refl, sym, ◌∙◌, subst, arith, max}
+use Rattle.std.proofs.Common.{◌≡◌, ◌⊎◌, inl, inr, ℕ, ◌<◌, ◌≤◌, ◌==◌, true, List, [], ◌∷◌, ◌++◌, None, refl, sym, ◌∙◌, subst, arith, max}
 use Rattle.std.specs.Prelude.{slice_get}
 use Rattle.containers.proofs.Choices.{by_test, chosen, taken_if, left_if, eq_from, ne_test, not_both}
 use Rattle.driver_model.specs.declared.action.Action.{Action}
@@ -11,7 +11,7 @@ use Rattle.driver_model.specs.declared.event.Event.{Event}
 use Rattle.driver_model.specs.declared.event.EventKind.{EventKind}
 use Rattle.driver_model.specs.declared.event.EventKind.TheVariants as event
 use Rattle.driver_model.specs.declared.outcome.Outcome.{Outcome}
-use Rattle.legal_trace.specs.Story.{Story, is_open, is_unstarted, handed_in, left, holds, clocked, rounds, fires, tried, waits, answered}
+use Rattle.legal_trace.specs.Story.{Story, is_open, is_unstarted, handed_in, left, holds, rounds, fires, tried, waits, answered}
 use Rattle.legal_trace.specs.Book.{Book, blank_book, book, entered, entered_each, is_clock_of, after_event, is_unspoken}
 use Rattle.legal_trace.proofs.Clocks.{timer_keeps}
 use Rattle.legal_trace.specs.Legal.{MayStand, MayAnswer, MayTell, AllStand, IsOpen, IsApplied, Legal}

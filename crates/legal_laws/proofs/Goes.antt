@@ -1,5 +1,5 @@
 -- Submissions that are open go to the current link, also where another one becomes it.
-use Rattle.std.proofs.Common.{◌≡◌, ◌⊎◌, inl, inr, ℕ, ◌+◌, ◌<◌, ◌≤◌, ◌==◌, max, Bool, true, false, ◌&&◌, ◌||◌, not, List, [], ◌∷◌, ◌++◌, length, Option, Some, None, is_some, if◌then◌else◌, refl, sym, ◌∙◌, ap, subst, arith}
+use Rattle.std.proofs.Common.{◌≡◌, inl, inr, ℕ, ◌+◌, ◌≤◌, ◌==◌, max, Bool, true, false, ◌&&◌, ◌||◌, [], Some, None, refl, sym, ◌∙◌, ap, subst, arith}
 use Rattle.std.specs.Prelude.{slice_get}
 use Rattle.containers.proofs.Choices.{by_test, chosen, eq_from, left_if, both_right, not_both}
 use Rattle.driver_model.specs.declared.action.Action.{Action}
@@ -14,7 +14,7 @@ use Rattle.driver_model.specs.declared.outcome.Outcome.{Outcome}
 use Rattle.legal_trace.specs.Ledger.{is_over}
 use Rattle.legal_trace.specs.Story.{Story, Try, blank_story, is_open, handed_in, carried, left, holds, clocked, rounds, fires, tried, waits, answered, last_of}
 use Rattle.legal_trace.specs.Book.{Book, entered, has_generations, if_own, is_clock_of, is_rest, after_event, after_timer, is_unspoken, shuts}
-use Rattle.legal_trace.specs.Legal.{MayStand, MayTimer, MayRest, MayGenerate, MayAnswer, MayTell, IsOpen, current_link, is_attempt, generation_due}
+use Rattle.legal_trace.specs.Legal.{MayStand, MayTimer, MayRest, MayGenerate, IsOpen, current_link, is_attempt}
 use Rattle.legal_trace.proofs.Clocks.{timer_own, timer_rests}
 use Rattle.legal_trace.proofs.Plain.{not_empty, same_some}
 use Rattle.legal_laws.proofs.Lives.{GoesOn, Goes, Lives, attempt_is_over, due_link_is_next, due_parts, generation_moves}

@@ -20,23 +20,21 @@ use Rattle.driver_model.specs.declared.outcome.Outcome.{Outcome}
 use Rattle.driver_model.specs.declared.outcome.Outcome.TheVariants as outcome
 use Rattle.driver_model.specs.declared.outcome.Shape.{Shape}
 use Rattle.driver_model.specs.Shape.{outcome_of, verdict_of}
-use Rattle.resp_value.specs.declared.value.Value.TheVariants.{Nil}
-use Rattle.legal_trace.specs.Ledger.{Ledger, End, Ending, by_shutdown, by_fault, by_opening, by_attempt, is_over, is_full, is_fault, cut, dials, failure_of, failure_in}
+use Rattle.legal_trace.specs.Ledger.{Ledger, End, Ending, by_shutdown, by_fault, by_opening, by_attempt, is_over, is_full, cut, failure_of, failure_in}
 use Rattle.legal_trace.specs.Story.{Story, Try, is_open, bytes_of, shape, last_of}
 use Rattle.legal_trace.specs.Managers.{settings_in, is_lazy}
-use Rattle.legal_trace.specs.Owed.{owed, owed_to_try, owed_to_message, owed_waiting, owed_unstarted, cut_off_if}
+use Rattle.legal_trace.specs.Owed.{owed_to_try, owed_to_message, owed_waiting, owed_unstarted, cut_off_if}
 use Rattle.legal_trace.specs.Book.{Book, entered, faults_in, has_generations, info_in, is_rest}
-use Rattle.legal_trace.specs.Legal.{MayStand, MayTimer, MayRest, MayGenerate, MayConnect, MayAnswer, MayTell, MayShowCreation, IsShown, current_link, is_by_attempt, is_attempt, is_cause, is_lost, is_lost_in, is_caused, generation_due, rest_due, link_due, begins_first, are_pushes_heard}
+use Rattle.legal_trace.specs.Legal.{MayStand, MayTimer, MayRest, MayGenerate, MayConnect, MayAnswer, MayTell, MayShowCreation, IsShown, current_link, is_by_attempt, is_attempt, is_cause, is_lost, is_lost_in, is_caused, generation_due, link_due, begins_first, are_pushes_heard}
 use Rattle.legal_trace.proofs.Clocks.{timer_rests}
 use Rattle.legal_trace.proofs.Ledgers.{UpIsNotOver}
 use Rattle.legal_trace.proofs.Moves.{one_holds}
-use Rattle.legal_trace.proofs.Plain.{not_none, none_from, same_some}
-use Rattle.legal_laws.proofs.Aside.{IsAside, aside_kept, unnumbered_aside}
+use Rattle.legal_trace.proofs.Plain.{not_none, same_some}
+use Rattle.legal_laws.proofs.Aside.{IsAside, aside_kept}
 use Rattle.legal_laws.proofs.Causes.{needs_link, needs_in, verdict_needs_none}
-use Rattle.legal_laws.proofs.Ended.{end_kept, some_end}
+use Rattle.legal_laws.proofs.Ended.{end_kept}
 use Rattle.legal_laws.proofs.Numbers.{HasLinks}
 use Rattle.legal_laws.proofs.Opens.{IsOpening, due_has_no_link}
-use Rattle.legal_laws.proofs.Owes.{owed_story}
 use Rattle.legal_laws.proofs.Quiet.{failed_is_over}
 
 -- a submission goes to the current link while it is open, and is of the current generation, or of the first before that began; its

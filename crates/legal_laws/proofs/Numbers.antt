@@ -15,7 +15,7 @@ use Rattle.driver_model.specs.declared.action.SourceUse.{SourceUse}
 use Rattle.driver_model.specs.declared.action.SourceUse.TheVariants as source
 use Rattle.driver_model.specs.News.{News, silence, connected, refused, overdue, took, came, failed, authorized, denied, deserted, renewed, unrenewed, late, unrepeated, news_of, for_link, of_timer, of_source}
 use Rattle.driver_model.specs.declared.outcome.Outcome.{Outcome}
-use Rattle.legal_trace.specs.Ledger.{Ledger, End, asks, begins, offers, ends, is_over, ending, ending_alive, ending_asked, noted_each, sources, times}
+use Rattle.legal_trace.specs.Ledger.{Ledger, End, asks, begins, offers, ends, is_over, ending, ending_alive, ending_asked, noted_each, sources}
 use Rattle.legal_trace.specs.Story.{Story, blank_story, is_open, is_told, handed_in, carried, left, holds, clocked, rounds, fires, tried, waits, answered}
 use Rattle.legal_trace.specs.Managers.{settings_in, is_last}
 use Rattle.legal_trace.specs.Book.{Book, entered, lines_of, if_mine, if_own, info_in, message_of, is_clock_of, is_rest, after_event, after_timer, submitted_by, is_unspoken, wanted_in, hearing_in}

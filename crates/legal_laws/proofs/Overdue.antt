@@ -11,8 +11,8 @@ use Rattle.driver_model.specs.declared.action.Purpose.{Purpose}
 use Rattle.driver_model.specs.declared.event.EventKind.{EventKind}
 use Rattle.driver_model.specs.declared.event.EventKind.TheVariants as event
 use Rattle.driver_model.specs.News.{news_of}
-use Rattle.legal_trace.specs.Ledger.{Ledger, asks, begins, offers, ends, failure_in, setup_due, sources, times}
-use Rattle.legal_trace.specs.Story.{Story, is_open, handed_in, left, holds, clocked, rounds, fires, tried, waits, answered}
+use Rattle.legal_trace.specs.Ledger.{Ledger, asks, begins, offers, ends, failure_in, setup_due, sources}
+use Rattle.legal_trace.specs.Story.{Story, is_open, handed_in, left, holds, rounds, fires, tried, waits, answered}
 use Rattle.legal_trace.specs.Managers.{settings_in, is_last}
 use Rattle.legal_trace.specs.Book.{Book, blank_book, book, entered, entered_each, has_generations, info_in, wanted_in, hearing_in, message_of, is_clock_of, after_event, is_unspoken}
 use Rattle.legal_trace.proofs.Clocks.{timer_keeps, timer_tells}

@@ -15,7 +15,7 @@ use Rattle.driver_model.specs.declared.push_info.PushInfo.{PushInfo}
 use Rattle.driver_model.specs.declared.news.LinkFault.TheVariants as fault
 use Rattle.driver_model.specs.News.{News, silence, connected, refused, overdue, took, came, failed, dropped, shut, news_of, authorized, denied, deserted, renewed, unrenewed, late, unrepeated}
 use Rattle.driver_model.specs.Push.{is_disconnection}
-use Rattle.legal_trace.specs.Ledger.{Ledger, Line, End, Ending, by_opening, asks, hears, begins, offers, tells, ends, parts, noted, noted_each, with_news, refused_in, bytes_came, is_over, is_fault, is_cut, is_set_up, setup_result, error_in, dials, ending, ending_alive, ending_by, ending_unready, ending_asked, ending_or_shutdown, MayNote, AllNoted, sources, lacks_credentials, awaits_credentials, authorized_by, times, may_renew, renewed_by, unrenewed_by, is_renewal_open, lost_by, is_unreadable, opening_error, is_repeating, unrepeated_by, repeats_timed}
+use Rattle.legal_trace.specs.Ledger.{Ledger, Line, End, Ending, by_opening, asks, hears, begins, offers, tells, ends, parts, noted, noted_each, with_news, refused_in, bytes_came, is_over, is_fault, is_cut, is_set_up, setup_result, error_in, dials, ending, ending_alive, ending_by, ending_unready, ending_asked, ending_or_shutdown, sources, lacks_credentials, awaits_credentials, authorized_by, times, may_renew, renewed_by, unrenewed_by, is_renewal_open, lost_by, is_unreadable, opening_error, is_repeating, unrepeated_by, repeats_timed}
 use Rattle.legal_trace.specs.Managers.{settings_in, is_last}
 use Rattle.legal_trace.specs.Book.{Book, blank_book, book, entered, entered_each, push_line, info_in, message_of, lines_of_each, wanted_in, hearing_in}
 use Rattle.legal_trace.specs.Legal.{MayStand, MayAnswer, MayTell, MayPart, AllStand, are_pushes_heard, Legal}
@@ -26,20 +26,18 @@ use Rattle.legal_trace.proofs.Renewals.{renewal_is_up}
 use Rattle.legal_trace.proofs.Sources.{awaits_up}
 use Rattle.legal_trace.proofs.Endings.{lasting_is_fault}
 use Rattle.legal_laws.proofs.Ended.{end_kept}
-use Rattle.legal_trace.proofs.Ledgers.{each_keeps, mine_keeps, UpIsNotOver, up_keeps, dials_from}
+use Rattle.legal_trace.proofs.Ledgers.{each_keeps, mine_keeps, UpIsNotOver}
 use Rattle.legal_trace.proofs.Moves.{mover_is_up, starter_moves, teller_moves}
-use Rattle.legal_trace.proofs.Plain.{none_from, not_none}
+use Rattle.legal_trace.proofs.Plain.{not_none}
 use Rattle.legal_trace.proofs.Setups.{due_is_up}
 use Rattle.legal_trace.proofs.Came.{holds_bytes}
 use Rattle.legal_laws.specs.Pushes.{Disconnects, IsClosed, TellsEnds}
 use Rattle.legal_laws.proofs.Bounds.{ready_behind, applied_began}
 use Rattle.legal_laws.proofs.Configured.{config_kept}
 use Rattle.legal_laws.proofs.Lines.{told_behind}
-use Rattle.legal_laws.proofs.Links.{each_may}
 use Rattle.legal_laws.proofs.Numbers.{open_is_numbered}
 use Rattle.legal_laws.proofs.Pushed.{push_keeps, tell_keeps}
 use Rattle.legal_laws.proofs.Notices.{parting_of}
-use Rattle.legal_laws.proofs.Quiet.{over_stays}
 use Rattle.legal_laws.proofs.Sound.{Sound, stays_sound, blank_is_sound, sound_behind}
 use Rattle.driver_model.specs.Hearing.{hears_messages, hears_pushes}
 use Rattle.legal_trace.proofs.Watching.{watch_is_up}

@@ -25,10 +25,10 @@ use Rattle.driver_model.specs.declared.outcome.Outcome.{Outcome}
 use Rattle.driver_model.specs.declared.outcome.Outcome.TheVariants as outcome
 use Rattle.driver_model.specs.Push.{is_disconnection}
 use Rattle.legal_trace.specs.Ledger.{Ledger, End, Ending, Line, by_shutdown, by_fault, by_opening, by_attempt, asks, begins, offers, tells, sources, times, repeats_timed, ends, parts, noted, noted_each, is_served}
-use Rattle.legal_trace.specs.Story.{Story, Try, bytes_of, last_of, shape}
+use Rattle.legal_trace.specs.Story.{Story, Try, bytes_of, last_of}
 use Rattle.legal_trace.specs.Managers.{settings_in, is_last}
 use Rattle.legal_trace.specs.Again.{again_message, confirmed, is_subscribed, repeats_in}
-use Rattle.legal_trace.specs.Owed.{owed, owed_by, owed_to_try, owed_unstarted, owed_waiting}
+use Rattle.legal_trace.specs.Owed.{owed, owed_by, owed_to_try, owed_unstarted}
 use Rattle.legal_trace.specs.Book.{Book, entered, hearing_in, if_mine, info_in, is_rest, lines_of, message_of, push_line, timer_lines, wanted_in}
 use Rattle.legal_trace.specs.Legal.{MayStand, MayTimer, MayAnswer, MayTell, IsOpen, current_link}
 use Rattle.legal_trace.proofs.Again.{unwanted_is_served}

@@ -14,7 +14,7 @@ use Rattle.driver_model.specs.declared.hearing.Hearing.{Hearing}
 use Rattle.driver_model.specs.declared.hearing.Hearing.TheVariants as hearing
 use Rattle.driver_model.specs.Hearing.{taking, is_watching}
 use Rattle.driver_model.specs.News.{News, silence, connected, refused, overdue, took, came, failed, dropped, shut, news_of, authorized, denied, deserted, renewed, unrenewed, late, unrepeated}
-use Rattle.legal_trace.specs.Ledger.{Ledger, asks, begins, offers, ends, sources, times, with_news, refused_in, bytes_came, is_answered, is_awaiting, is_over, is_set_up, dials, items_came, heard_at, monitor_of, taking_of, value_by, value_came, awaits_credentials, authorized_by, may_renew, renewed_by, unrenewed_by, is_renewal_open, lost_by, Start, is_of_monitor, monitor_among, monitor_due, is_repeating, unrepeated_by}
+use Rattle.legal_trace.specs.Ledger.{Ledger, asks, begins, offers, ends, sources, with_news, refused_in, bytes_came, is_answered, is_awaiting, is_over, is_set_up, dials, items_came, heard_at, monitor_of, taking_of, value_by, value_came, awaits_credentials, authorized_by, may_renew, renewed_by, unrenewed_by, is_renewal_open, lost_by, Start, is_of_monitor, monitor_among, monitor_due, is_repeating, unrepeated_by}
 use Rattle.legal_trace.specs.Managers.{settings_in, is_last}
 use Rattle.legal_trace.specs.Book.{Book, blank_book, book, entered, entered_each, hearing_in, info_in, message_of, wanted_in, kind_in, submitted_by}
 use Rattle.legal_trace.specs.Legal.{MayStand, AllStand, Legal}

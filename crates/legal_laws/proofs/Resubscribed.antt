@@ -1,28 +1,26 @@
 -- What a legal trace subscribes again on a new link.
-use Rattle.std.proofs.Common.{◌≡◌, ◌≢◌, ℕ, ◌+◌, ◌≤◌, ◌==◌, Bool, true, false, ◌&&◌, not, if◌then◌else◌, List, [], ◌∷◌, ◌++◌, length, Option, Some, None, refl, sym, ◌∙◌, ap, subst, arith}
+use Rattle.std.proofs.Common.{◌≡◌, ℕ, ◌+◌, ◌≤◌, ◌==◌, Bool, true, false, List, [], ◌∷◌, ◌++◌, length, Option, Some, None, refl, sym, ◌∙◌, ap, subst, arith}
 use Rattle.std.proofs.lemmas.Bool.{not-true}
-use Rattle.containers.proofs.Choices.{by_test, chosen, eq_from, eq_test, if_true, left_if, taken_if, both_left}
+use Rattle.containers.proofs.Choices.{by_test, eq_from, eq_test, if_true, left_if, taken_if, both_left}
 use Rattle.manager_config.specs.declared.config.ConnectionManagerConfig.{ConnectionManagerConfig}
 use Rattle.resp_write.specs.Command.{CommandList}
-use Rattle.resp_write.specs.Pack.{pack_pipeline}
 use Rattle.sub_tracker.specs.Subscribed.{Request}
 use Rattle.sub_tracker.specs.Held.{held_after}
-use Rattle.sub_tracker.specs.Pipeline.{resubscription, Resubscribes}
+use Rattle.sub_tracker.specs.Pipeline.{resubscription}
 use Rattle.sub_tracker.proofs.Held.{held_resubscribes}
 use Rattle.driver_model.specs.declared.action.Action.{Action}
 use Rattle.driver_model.specs.declared.action.Action.TheVariants as action
 use Rattle.driver_model.specs.declared.action.Owner.TheVariants as owner
 use Rattle.driver_model.specs.declared.config.Config.{Config}
 use Rattle.driver_model.specs.declared.event.Event.{Event}
-use Rattle.driver_model.specs.Shape.{shape_inside}
-use Rattle.legal_trace.specs.Ledger.{Ledger, Line, Start, asks, hears, begins, offers, tells, sources, times, repeats_timed, ends, parts, noted, noted_each, again_among, again_due, again_of, is_ready, is_served, is_serving}
+use Rattle.legal_trace.specs.Ledger.{Ledger, Line, Start, asks, hears, begins, offers, tells, sources, times, repeats_timed, ends, parts, noted, noted_each, again_among, again_of, is_ready, is_served, is_serving}
 use Rattle.legal_trace.specs.Managers.{settings_in}
 use Rattle.legal_trace.specs.Again.{again_message, is_subscribed, repeats_in}
-use Rattle.legal_trace.specs.Book.{Book, blank_book, book, entered, if_mine, lines_of}
+use Rattle.legal_trace.specs.Book.{Book, blank_book, book, entered, lines_of}
 use Rattle.legal_trace.specs.Legal.{MayStand, MayRepeat, MayStart, AllStand, Legal, link_of}
 use Rattle.legal_trace.proofs.Again.{again_begun, again_is_new, again_is_up, due_repeats, repeating_is_ready}
 use Rattle.legal_trace.proofs.Books.{Grows, book_more, of_each_front}
-use Rattle.legal_trace.proofs.Ledgers.{each_keeps, hears_past, mine_keeps}
+use Rattle.legal_trace.proofs.Ledgers.{each_keeps, hears_past}
 use Rattle.legal_trace.proofs.Moves.{both_hold, mover_is_ready, mover_is_served, starter_moves}
 use Rattle.legal_trace.proofs.Plain.{not_none}
 use Rattle.legal_laws.specs.Resubscription.{SubscribesAgain, SubscribesAsItWas, repeats_by, repeats_on}

@@ -1,5 +1,5 @@
 -- Each round of a legal trace begins on the link of its submission, which is the current one, and messages start behind their rounds.
-use Rattle.std.proofs.Common.{◌≡◌, ◌≢◌, inl, inr, ℕ, zero, suc, ◌<◌, max, Bool, true, false, ◌&&◌, not, List, ◌∷◌, ◌++◌, Option, Some, None, if◌then◌else◌, refl, sym, ◌∙◌, ap, subst, arith}
+use Rattle.std.proofs.Common.{◌≡◌, ◌≢◌, inl, inr, ℕ, zero, suc, ◌<◌, max, Bool, true, false, not, List, ◌∷◌, ◌++◌, Option, Some, None, if◌then◌else◌, refl, sym, ◌∙◌, ap, subst, arith}
 use Rattle.containers.proofs.Choices.{by_test, both_right, not_both}
 use Rattle.driver_model.specs.Shape.{permits_for}
 use Rattle.driver_model.specs.declared.action.Action.{Action}
@@ -13,8 +13,8 @@ use Rattle.driver_model.specs.declared.event.Event.{Event}
 use Rattle.legal_trace.specs.Ledger.{dials, is_ready, is_served, is_serving, is_set_up}
 use Rattle.legal_trace.specs.Story.{Story, is_awaited, is_no_error, is_open, is_told, shape}
 use Rattle.legal_trace.specs.Book.{Book, book, has_generations}
-use Rattle.legal_trace.specs.Steps.{Step, waits, rounds, asks, starts, free_permits, is_held_back, is_outside, next_step, permits_in, starts_or_waits, step_down, step_holding, step_open, step_placed, step_rounding, step_served, step_taking, step_timed, unready_wait}
-use Rattle.legal_trace.specs.Legal.{MayStand, MayRound, MayRoundOn, MayStart, CanMove, IsOpen, Legal, current_link, link_of}
+use Rattle.legal_trace.specs.Steps.{Step, waits, rounds, starts, free_permits, is_held_back, is_outside, permits_in, starts_or_waits, step_down, step_holding, step_open, step_placed, step_rounding, step_served, step_taking, step_timed, unready_wait}
+use Rattle.legal_trace.specs.Legal.{MayStand, MayRound, MayRoundOn, MayStart, CanMove, IsOpen, Legal, link_of}
 use Rattle.legal_trace.proofs.Moves.{both_hold, mover_is_ready, mover_is_served, mover_is_up, open_or_told, rounded_step, rounder_moves}
 use Rattle.legal_laws.specs.Rounds.{BeginsRound, KeepsRounds}
 use Rattle.legal_laws.proofs.Bounds.{next_may}

@@ -13,7 +13,7 @@ use Rattle.driver_model.specs.declared.event.EventKind.TheVariants as event
 use Rattle.driver_model.specs.declared.outcome.Outcome.{Outcome}
 use Rattle.driver_model.specs.Config.{buffer_size}
 use Rattle.legal_trace.specs.Ledger.{dials, is_ready, is_served}
-use Rattle.legal_trace.specs.Story.{Story, has_place, is_room, is_open, is_told, is_awaited, is_no_error, is_unstarted, handed_in, carried, left, holds, clocked, rounds, fires, tried, waits, answered}
+use Rattle.legal_trace.specs.Story.{Story, has_place, is_room, is_open, is_told, is_awaited, is_no_error, is_unstarted, handed_in, carried, left, holds, rounds, fires, tried, waits, answered}
 use Rattle.legal_trace.specs.Book.{Book, blank_book, book, entered, entered_each, is_clock_of, after_event, is_unspoken}
 use Rattle.legal_trace.specs.Steps.{configured, queue_size, permits_in, free_permits, is_let_in, is_in_line, line_before, is_outside}
 use Rattle.legal_trace.proofs.Clocks.{timer_keeps}

@@ -10,7 +10,7 @@ use Rattle.driver_model.specs.declared.action.Action.TheVariants as action
 use Rattle.driver_model.specs.declared.action.Cause.TheVariants as cause
 use Rattle.driver_model.specs.declared.action.Owner.TheVariants as owner
 use Rattle.driver_model.specs.News.{News, silence, connected, refused, overdue, took, came, failed, authorized, denied, deserted, dropped, shut, news_of, renewed, unrenewed, late, unrepeated}
-use Rattle.legal_trace.specs.Ledger.{Ledger, Start, asks, hears, begins, offers, sources, ends, noted, with_news, refused_in, bytes_came, is_over, dials, is_of_setup, is_ready, is_set_up, lacks_credentials, awaits_credentials, authorized_by, setup_after, setup_count, setup_due, setup_steps, times, may_renew, renewed_by, unrenewed_by, is_renewal_open, lost_by, renewal_count, renewal_due, source_due, monitor_due, is_repeating, unrepeated_by, again_due}
+use Rattle.legal_trace.specs.Ledger.{Ledger, Start, asks, hears, begins, offers, sources, ends, noted, with_news, refused_in, bytes_came, is_over, dials, is_of_setup, is_ready, is_set_up, lacks_credentials, awaits_credentials, authorized_by, setup_after, setup_count, setup_due, setup_steps, may_renew, renewed_by, unrenewed_by, is_renewal_open, lost_by, renewal_count, renewal_due, source_due, monitor_due, is_repeating, unrepeated_by, again_due}
 use Rattle.legal_trace.specs.Managers.{settings_in, is_last}
 use Rattle.legal_trace.specs.Book.{Book, entered, info_in, wanted_in, message_of, hearing_in}
 use Rattle.legal_trace.specs.Legal.{MayStand}

@@ -1,7 +1,7 @@
 -- What every link hears of a shutdown.
-use Rattle.std.proofs.Common.{◌≡◌, ℕ, ◌-◌, ◌<◌, ◌≤◌, ◌==◌, nat_lt, Bool, true, false, ◌&&◌, ◌||◌, not, Option, Some, None, is_some, is_none, if◌then◌else◌, refl, sym, ◌∙◌, ap}
+use Rattle.std.proofs.Common.{◌≡◌, ℕ, ◌-◌, ◌==◌, nat_lt, Bool, true, false, ◌&&◌, ◌||◌, not, Option, Some, None, is_some, is_none, if◌then◌else◌, refl, sym, ◌∙◌, ap}
 use Rattle.std.proofs.lemmas.Bool.{not-true}
-use Rattle.containers.proofs.Choices.{by_test, chosen, taken_if, eq_from, lt_from, not_lt_from, not_both, both_right}
+use Rattle.containers.proofs.Choices.{by_test, chosen, taken_if, lt_from, not_lt_from, not_both, both_right}
 use Rattle.redis_error.specs.declared.redis_error.RedisError.{RedisError}
 use Rattle.driver_model.specs.declared.action.Action.{Action}
 use Rattle.driver_model.specs.declared.action.Action.TheVariants as action
@@ -10,7 +10,7 @@ use Rattle.driver_model.specs.declared.action.Owner.TheVariants as owner
 use Rattle.driver_model.specs.declared.event.EventKind.{EventKind}
 use Rattle.driver_model.specs.declared.event.EventKind.TheVariants as event
 use Rattle.driver_model.specs.News.{News, shut, news_of}
-use Rattle.legal_trace.specs.Ledger.{Ledger, End, Ending, by_shutdown, hears, begins, offers, ends, noted, is_set_up, setup_result, error_in, ending, ending_up, ending_by, ending_unready, ending_alive, ending_asked, sources, times}
+use Rattle.legal_trace.specs.Ledger.{Ledger, End, Ending, by_shutdown, hears, begins, offers, ends, noted, is_set_up, setup_result, error_in, ending, ending_up, ending_by, ending_unready, ending_alive, ending_asked, sources}
 use Rattle.legal_trace.specs.Book.{Book, entered, has_generations, message_of, shuts}
 use Rattle.legal_trace.specs.Legal.{MayStand, NoneEnds, current_link, link_due}
 use Rattle.legal_trace.proofs.Clocks.{timer_tells}
