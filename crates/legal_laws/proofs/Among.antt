@@ -57,7 +57,7 @@ takes_hears k count l turn deserted h = h
 takes_hears k count l turn (renewed c) h = chosen (TakesUpTo k count) (may_renew l) (renewed_by l c) l (λ t. record { started = h.started; takes = h.takes }) (λ e. h)
 takes_hears k count l turn unrenewed h = chosen (TakesUpTo k count) l.up (unrenewed_by l) l (λ t. record { started = h.started; takes = h.takes }) (λ e. h)
 takes_hears k count l turn (late i) h = chosen (TakesUpTo k count) (l.up && is_renewal_open l i) (lost_by l) l (λ t. record { started = h.started; takes = h.takes }) (λ e. h)
-takes_hears k count l turn unrepeated h = h
+takes_hears k count l turn unrepeated h = chosen (TakesUpTo k count) (is_repeating l) (unrepeated_by l) l (λ t. record { started = h.started; takes = h.takes }) (λ e. h)
 takes_hears k count l turn dropped h = h
 takes_hears k count l turn shut h = h
 

@@ -12,8 +12,8 @@ use Rattle.driver_model.specs.declared.action.Purpose.{Purpose}
 use Rattle.driver_model.specs.declared.action.Purpose.TheVariants as purpose
 use Rattle.driver_model.specs.declared.news.LinkFault.TheVariants as fault
 use Rattle.driver_model.specs.Hearing.{felt, hears_messages}
-use Rattle.driver_model.specs.News.{News, connected, refused, took, came, authorized, denied, deserted, renewed, unrenewed, late, dropped, news_of}
-use Rattle.legal_trace.specs.Ledger.{Ledger, Line, Ending, by_fault, by_opening, lasting, asks, hears, begins, offers, tells, ends, parts, sources, times, noted, noted_each, with_news, refused_in, bytes_came, is_over, dials, lacks_credentials, awaits_credentials, authorized_by, may_renew, renewed_by, unrenewed_by, is_renewal_open, lost_by, is_set_up, setup_result, error_in, is_unreadable, opening_error, ending, ending_up, ending_unready, ending_asked, ending_alive, ending_by, ending_or_shutdown, repeats_timed}
+use Rattle.driver_model.specs.News.{News, connected, refused, took, came, authorized, denied, deserted, renewed, unrenewed, late, dropped, news_of, unrepeated}
+use Rattle.legal_trace.specs.Ledger.{Ledger, Line, Ending, by_fault, by_opening, lasting, asks, hears, begins, offers, tells, ends, parts, sources, times, noted, noted_each, with_news, refused_in, bytes_came, is_over, dials, lacks_credentials, awaits_credentials, authorized_by, may_renew, renewed_by, unrenewed_by, is_renewal_open, lost_by, is_set_up, setup_result, error_in, is_unreadable, opening_error, ending, ending_up, ending_unready, ending_asked, ending_alive, ending_by, ending_or_shutdown, repeats_timed, is_repeating, unrepeated_by}
 use Rattle.legal_trace.specs.Managers.{settings_in, is_last}
 use Rattle.legal_trace.specs.Book.{Book, blank_book, book, entered, entered_each, has_generations, if_mine, info_in, wanted_in, hearing_in, message_of, is_rest}
 use Rattle.legal_trace.specs.Legal.{MayStand, MayTimer, MayRest, MayGenerate, MayConnect, AllStand, current_link, is_by_attempt, is_attempt}
@@ -89,6 +89,7 @@ hears_try l turn (authorized c) = chosen (SameTry l) (awaits_credentials l) (aut
 hears_try l turn (renewed c) = chosen (SameTry l) (may_renew l) (renewed_by l c) l (λ t. record { asked = refl; last = refl; end = λ e. inl e }) (λ f. same_try l)
 hears_try l turn unrenewed = chosen (SameTry l) l.up (unrenewed_by l) l (λ t. record { asked = refl; last = refl; end = λ e. inl e }) (λ f. same_try l)
 hears_try l turn (late k) = chosen (SameTry l) (l.up && is_renewal_open l k) (lost_by l) l (λ t. record { asked = refl; last = refl; end = λ e. inl e }) (λ f. same_try l)
+hears_try l turn unrepeated = chosen (SameTry l) (is_repeating l) (unrepeated_by l) l (λ t. record { asked = refl; last = refl; end = λ e. inl e }) (λ f. same_try l)
 hears_try l turn _ = same_try l
 
 -- and in a turn of it

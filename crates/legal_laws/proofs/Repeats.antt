@@ -50,7 +50,7 @@ pub record Repeats (b : Book) : Type 0 where
   pub holds : is_served (current_link b) ≡ false → repeats_in (settings_in b.config) b.tracked ≡ true
 
 -- an action asks for a link
-is_connecting : Action → Bool
+abbrev is_connecting : Action → Bool
 is_connecting (action.Connect l host port) = true
 is_connecting _ = false
 
@@ -205,7 +205,7 @@ timer_holds b t ms what may links h unserved = elim (timer_rests b t ms what may
   | inl rest ↦
       let a : Action = action.Timer t ms what in
       let next : (entered b a).current ≡ b.links = taken_if (is_rest what) b.links b.current (ap is_rest rest.is_for) in
-      fresh_holds (entered b a) (repeats_in (settings_in b.config) b.tracked ≡ true) (links_kept b a may links) (λ l. each_keeps WantsNone none_keeps (b.link l) (lines_of b l a) (h.unasked l)) (omega (arith, next)) unserved
+      fresh_holds (entered b a) (repeats_in (settings_in b.config) b.tracked ≡ true) (links_kept b a may links) (λ l. each_keeps WantsNone none_keeps (b.link l) (lines_of b l a) (h.unasked l)) (subst (λ c. b.links ≤ c) (sym next) (omega arith)) unserved
   | inr other ↦ unmoved_holds b (action.Timer t ms what) refl (left_if (is_rest what) b.links b.current other) refl refl h unserved
 ]
 
@@ -223,7 +223,7 @@ holds_kept b (action.Message msg) may opens links goes h unserved = unmoved_hold
 holds_kept b (action.Monitor v) may opens links goes h unserved = unmoved_holds b (action.Monitor v) refl refl refl refl h unserved
 holds_kept b (action.NeedCreds c m) may opens links goes h unserved = unmoved_holds b (action.NeedCreds c m) refl refl refl refl h unserved
 holds_kept b (action.Generation g) may opens links goes h unserved =
-    fresh_holds (entered b (action.Generation g)) (repeats_in (settings_in b.config) b.tracked ≡ true) (links_kept b (action.Generation g) may links) h.unasked (omega arith) unserved
+    fresh_holds (entered b (action.Generation g)) (repeats_in (settings_in b.config) b.tracked ≡ true) (links_kept b (action.Generation g) may links) h.unasked (let all : b.links ≤ b.links = omega arith in all) unserved
 holds_kept b (action.Round who m) may opens links goes h unserved = unmoved_holds b (action.Round who m) refl refl refl refl h unserved
 holds_kept b (action.Close m) may opens links goes h unserved = unmoved_holds b (action.Close m) refl refl refl refl h unserved
 holds_kept b (action.Write m bytes) may opens links goes h unserved = unmoved_holds b (action.Write m bytes) refl refl refl refl h unserved

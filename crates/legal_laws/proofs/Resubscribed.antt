@@ -88,7 +88,7 @@ pub record Repeated (count : ℕ) (l : Ledger) : Type 0 where
   pub few : count ≤ 1
 
 -- an action starts one
-is_repeat : Action → Bool
+abbrev is_repeat : Action → Bool
 is_repeat (action.Start l k owner.Resub count len) = true
 is_repeat _ = false
 
@@ -123,7 +123,7 @@ repeat_repeats b m k need len l count may h =
     if_true (λ (lines : List Line). again_of (noted_each (b.link l) lines) ≡ Some (0 + length (b.link l).starts)) (m == l) (begins (again_message b.tracked) ∷ []) [] t (again_begun (b.link l).starts (again_message b.tracked) 0 new refl) in
     record {
       none = λ e. absurd (not_none (again_of ((entered b a).link l)) (0 + length (b.link l).starts) e begun);
-      few = omega (arith, h.none new, one);
+      few = subst (λ n. count + n ≤ 1) (sym one) (let zero : count ≡ 0 = h.none new in omega (arith, zero));
     })
     (λ f. other_repeats b a l count (left_if (m == l) 1 0 f) h)
 

@@ -83,8 +83,8 @@ hears_shaped : (l : Ledger) (turn : ℕ) (news : News) → IsShaped l → IsShap
 hears_shaped l turn news h = let m = news_shaped l turn news h in record { none = m.none; are = m.are; bare = m.bare; ready = m.ready; second = m.second; came = m.came }
 
 -- with the connect of a link that was not asked for
-asks_shaped : (l : Ledger) (info : RedisConnectionInfo) (wanted : Bool) (hearing : Hearing) (last : Bool) → l.asked ≡ false → IsShaped l → IsShaped (noted l (asks info wanted hearing last again))
-asks_shaped l info wanted hearing last unasked h = record {
+asks_shaped : (l : Ledger) (info : RedisConnectionInfo) (wanted : Bool) (hearing : Hearing) (last again : Bool) → l.asked ≡ false → IsShaped l → IsShaped (noted l (asks info wanted hearing last again))
+asks_shaped l info wanted hearing last again unasked h = record {
   none = λ f. cc f;
   are = subst (SetupsOf info) (sym (h.none unasked)) (λ k s i. absurd (omega (arith, i)));
   bare = λ lacks. h.none unasked;

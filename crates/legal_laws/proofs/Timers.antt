@@ -26,7 +26,7 @@ use Rattle.legal_trace.proofs.Moves.{holds_some, asks_mean}
 use Rattle.driver_model.specs.Config.{permits}
 
 -- a timer is for new credentials of a link, or for what is subscribed again there
-is_of_link : Purpose → Bool
+abbrev is_of_link : Purpose → Bool
 is_of_link (purpose.Connect l) = false
 is_of_link (purpose.Response who) = false
 is_of_link (purpose.Renewal l k) = true
