@@ -6,7 +6,6 @@ use Rattle.redis_error.specs.declared.redis_error.RedisError.TheVariants as erro
 use Rattle.driver_model.specs.declared.action.Action.{Action}
 use Rattle.driver_model.specs.declared.action.Action.TheVariants as action
 use Rattle.driver_model.specs.declared.action.Cause.TheVariants as cause
-use Rattle.driver_model.specs.declared.action.Owner.TheVariants as owner
 use Rattle.driver_model.specs.News.{News, silence, connected, refused, overdue, took, came, failed, authorized, denied, deserted, renewed, unrenewed, late, unrepeated, dropped, shut, news_of}
 use Rattle.legal_trace.specs.Ledger.{Ledger, asks, hears, begins, offers, ends, noted, with_news, refused_in, bytes_came, is_over, is_cut, dials, ending, ending_alive, ending_asked, failure_in, sources, awaits_credentials, authorized_by, may_renew, renewed_by, unrenewed_by, is_renewal_open, lost_by, is_repeating, unrepeated_by}
 use Rattle.legal_trace.specs.Managers.{settings_in, is_last}
