@@ -1,5 +1,5 @@
 -- Managers: traces that can be relied on, and actions that stand where they may not.
-use Rattle.std.proofs.Common.{◌≡◌, ◌≢◌, ℕ, Bool, true, false, List, [], ◌∷◌, ◌++◌, Option, Some, None, codes, pos, refl, sym, ap, ◌∙◌, inl, inr, tt}
+use Rattle.std.proofs.Common.{◌≡◌, ◌≢◌, ℕ, Bool, true, false, List, [], ◌∷◌, Some, None, codes, pos, refl, sym, ap, ◌∙◌, inl, inr, tt}
 use Rattle.std.specs.Fmt.{digits}
 use Rattle.std.specs.Str.Lossy.{utf8_lossy, utf8_valid_len}
 use Rattle.url.proofs.OnLiterals.{url_on_literals}
@@ -21,7 +21,6 @@ use Rattle.driver_model.specs.declared.action.Cause.{Cause}
 use Rattle.driver_model.specs.declared.action.Cause.TheVariants as cause
 use Rattle.driver_model.specs.declared.action.Owner.TheVariants as owner
 use Rattle.driver_model.specs.declared.action.Purpose.TheVariants as purpose
-use Rattle.driver_model.specs.declared.config.Config.{Config}
 use Rattle.driver_model.specs.declared.event.EventKind.TheVariants as event
 use Rattle.driver_model.specs.declared.outcome.Outcome.{Outcome}
 use Rattle.legal_trace.specs.Managers.{settings_in, is_lazy}

@@ -1,5 +1,5 @@
 use Rattle.trace_examples.proofs.Managers.{replaced_once_failed, created_in_vain, longer_each_time, comes_back, repeats_what_is}
-use Rattle.trace_examples.proofs.managers.these_come_back.Goals as goal
+use Rattle.trace_examples.proofs.returning.these_come_back.Goals as goal
 
 pub returns : goal.returns
 returns c = record {
