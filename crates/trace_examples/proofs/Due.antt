@@ -1,5 +1,6 @@
 -- A trace whose steps are tested one by one is legal: each action stands where it may, since it is the next that is due.
-use Rattle.std.proofs.Common.{◌≡◌, ◌⊎◌, ℕ, ◌==◌, nat_lt, Bool, true, false, ◌&&◌, not, List, [], ◌∷◌, length, Option, Some, None, is_some, refl, sym, ap, subst, ◌∙◌, inl, inr}
+use Rattle.std.proofs.Common.{◌≡◌, ◌⊎◌, ℕ, ◌+◌, ◌==◌, nat_lt, Bool, true, false, ◌&&◌, ◌||◌, not, List, [], ◌∷◌, length, Option, Some, None, is_some, refl, sym, ap, subst, ◌∙◌, inl, inr}
+use Rattle.std.specs.Option.{is_none}
 use Rattle.std.proofs.lemmas.Bool.{not-true}
 use Rattle.containers.proofs.Choices.{eq_from, ne_from, lt_from, le_from, both_left, both_right, not_both}
 use Rattle.resp_value.specs.declared.value.Value.TheVariants.{Nil}
