@@ -153,7 +153,8 @@ generation_goes b g may lives goes n = elim (generation_moves b lives may.due) [
 -- a message that starts does so on the link of its submission
 tried_goes : (generation current : ℕ) (shut : Bool) (s : Story) (l k : ℕ) → l ≡ s.link → GoesOn generation current shut s → GoesOn generation current shut (tried s l k)
 tried_goes generation current shut s l k on h = record {
-  open_on = h.open_on; open_in = h.open_in;
+  open_on = h.open_on;
+  open_in = h.open_in;
   tries_on = λ t last. ap (λ (x : Try). x.link) (sym (same_some (record { link = l; message = k }) t (sym (last_behind s.tries (record { link = l; message = k })) ∙ last))) ∙ on;
   late_on = h.late_on;
   behind = h.behind;

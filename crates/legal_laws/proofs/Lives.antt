@@ -73,8 +73,7 @@ due_link_is_unasked : (b : Book) → link_due b ≡ true → has_generations b �
 due_link_is_unasked b due has =
     let all : (nat_lt 0 b.generation && (not (current_link b).asked && (is_none b.rest && not b.shut))) ≡ true =
     sym (taken_if (has_generations b) (nat_lt 0 b.generation && (not (current_link b).asked && (is_none b.rest && not b.shut))) (b.links == 0) has) ∙ due in
-    let more : (not (current_link b).asked && (is_none b.rest && not b.shut)) ≡ true = both_right (nat_lt 0 b.generation) (not (current_link b).asked && (is_none b.rest && not b.shut)) all in
-    (
+    let more : (not (current_link b).asked && (is_none b.rest && not b.shut)) ≡ true = both_right (nat_lt 0 b.generation) (not (current_link b).asked && (is_none b.rest && not b.shut)) all in (
       not-true (current_link b).asked (both_left (not (current_link b).asked) (is_none b.rest && not b.shut) more),
       lt_from 0 b.generation (both_left (nat_lt 0 b.generation) (not (current_link b).asked && (is_none b.rest && not b.shut)) all),
       not-true b.shut (both_right (is_none b.rest) (not b.shut) (both_right (not (current_link b).asked) (is_none b.rest && not b.shut) more)),

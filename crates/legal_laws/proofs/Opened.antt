@@ -46,7 +46,7 @@ opened_before front l k n count len all may =
       answered = well_is_ready (setup_result (b.link l)) (set_is_greeted (b.link l) (ready_is_set (b.link l) ready));
       told = shown_well (creations front) b.created told.counted told.once (may.begun.applied.shown.created.shown l ready)
           (λ e is. let sound = sound_behind front all in let fails = sound.lives.failed (told.fails e is) in let over = failed_is_over (current_link b).end fails.0 fails.1 in
-      none_up_over b sound (ap is_some over.1) l (ready_is_up (b.link l) ready));
+          none_up_over b sound (ap is_some over.1) l (ready_is_up (b.link l) ready));
     }
 
 -- so it is in a legal trace
