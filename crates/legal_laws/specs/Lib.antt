@@ -13,4 +13,5 @@ pub mod Values
 pub mod Reports
 pub mod Drops
 pub mod Pushes
+pub mod Generations
 pub mod Laws

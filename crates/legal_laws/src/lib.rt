@@ -20,6 +20,7 @@ ghost use Rattle.legal_laws.specs.Laws.{EachTellsNotices, EachTellsEnds, EachSta
 ghost use Rattle.legal_laws.specs.Laws.{EachTellsMessages, EachTellsReports, EachEndsDropped};
 ghost use Rattle.legal_laws.specs.Values.{ConfirmationsAreNone};
 ghost use Rattle.legal_laws.specs.Laws.{EachTimesRenewals};
+ghost use Rattle.legal_laws.specs.Generations.{ComesBack};
 
 /// Does nothing. Its contract: what a legal trace tells of each link is legal by itself. What the
 /// book of any trace has of a link is what these lines come to.
@@ -76,10 +77,11 @@ pub fn a_turn_has_five_segments()
     ensures { TurnsAreInOrder }
 {}
 
-/// Does nothing. Its contract: a legal trace shows the creation at most once. Where the opening of
-/// a link failed, and only there, it shows that error. With this error alone, and behind the
-/// creation, each submission of that link is answered that has bytes and no message, came before any
-/// shutdown and doesn't need RESP3 where that isn't spoken; and none of these is left open.
+/// Does nothing. Its contract: a legal trace shows the creation at most once. It shows an error only
+/// where the opening of the last link failed with it, and where the session doesn't come back it shows
+/// that of each link whose opening failed. With this error alone, and there behind the creation, each
+/// submission of that link is answered that has bytes and no message, came before any shutdown and
+/// doesn't need RESP3 where that isn't spoken; and none of these is left open.
 pub fn a_failed_opening_is_told()
     ensures { OfEachLegal TellsOfOpening }
 {}
@@ -186,4 +188,15 @@ pub fn a_monitor_tells_all_behind_its_answer()
 /// end gives. Where somebody hears pushes it tells that of each such link.
 pub fn an_end_is_told_once()
     ensures { EachTellsEnds }
+{}
+
+/// Does nothing. Its contract: in a legal trace a generation begins only where the session comes back,
+/// nothing was shut down and the creation didn't fail, with the next number; and where there was one
+/// before, only once there is a cause in this turn, its link has ended and all its submissions are
+/// answered. Its first link is asked for next. Behind each whole turn none is to begin. One link is
+/// current at a time: each other one has ended, and open submissions go to it and are of its
+/// generation. A generation tries once, and as many times more as the configuration says; between, it
+/// waits as long as that and the word of the turn say.
+pub fn a_generation_begins_by_its_causes()
+    ensures { OfEachLegal ComesBack }
 {}

@@ -1,5 +1,5 @@
 -- The book of a trace: all that it says, by one fold over its actions. Links and submissions go by their numbers.
-use Rattle.std.specs.Prelude.{ℕ, ◌+◌, ◌-◌, ◌==◌, max, Bool, true, false, ◌&&◌, ◌||◌, List, [], ◌∷◌, ◌++◌, Option, Some, None, is_some, slice_get, if◌then◌else◌}
+use Rattle.std.specs.Prelude.{ℕ, ◌+◌, ◌-◌, ◌==◌, max, Bool, true, false, ◌&&◌, ◌||◌, not, List, [], ◌∷◌, ◌++◌, Option, Some, None, is_some, slice_get, if◌then◌else◌}
 use Rattle.driver_model.specs.declared.config.Config.{Config}
 use Rattle.driver_model.specs.declared.action.Action.{Action}
 use Rattle.driver_model.specs.declared.action.Action.TheVariants as action
@@ -23,7 +23,9 @@ use Rattle.driver_model.specs.declared.event.Submission.{Submission}
 use Rattle.driver_model.specs.declared.outcome.Outcome.{Outcome}
 use Rattle.driver_model.specs.declared.outcome.Outcome.TheVariants as outcome
 use Rattle.driver_model.specs.News.{news_of}
-use Rattle.driver_model.specs.Request.{lacks_resp3}
+use Rattle.driver_model.specs.Request.{needs_resp3}
+use Rattle.driver_model.specs.Hearing.{hears_messages}
+use Rattle.connection_info.specs.Protocol.{is_resp3}
 use Rattle.credentials.specs.Credentials.{Credentials}
 use Rattle.redis_error.specs.declared.redis_error.RedisError.{RedisError}
 use Rattle.legal_trace.specs.Ledger.{Ledger, Start, Line, asks, hears, begins, offers, ends, blank_ledger, setup_count, setup_message, monitor_message, renewal_due, renewal_message, noted_each, tells, parts, sources, times, repeats_timed}
@@ -144,9 +146,9 @@ lines_of b n (action.Wait who kind) = []
 lines_of b n (action.Created e) = []
 lines_of b n (action.Outcome m o) = []
 
--- a submission needs RESP3, and servers are told another protocol
+-- a submission needs RESP3, on a connection that servers are told another protocol for, and on which no messages are heard
 abbrev pub is_unspoken : Book → Submission → Bool
-is_unspoken b what = lacks_resp3 (hearing_in b.config) (info_in b.config).protocol what
+is_unspoken b what = needs_resp3 what && (not (hears_messages (hearing_in b.config)) && not (is_resp3 (info_in b.config).protocol))
 
 -- a change of one story alone
 abbrev pub if_own : Bool → Story → Story → Story

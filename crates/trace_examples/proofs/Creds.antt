@@ -34,7 +34,7 @@ use Rattle.trace_examples.specs.Fronts.{EachStands}
 use Rattle.trace_examples.proofs.Bounded.{blank_bounded, bounded_behind}
 use Rattle.trace_examples.proofs.Due.{IsPlace, legal, stands}
 use Rattle.trace_examples.proofs.Settled.{first_and_idle, failed_idle}
-use Rattle.trace_examples.proofs.Stood.{book_of, may_stand, none_is_set, not_lazily}
+use Rattle.trace_examples.proofs.Stood.{book_of, may_stand, none_is_set, created_by_link}
 
 -- h and 6379
 abbrev server : ConnectionInfo
@@ -117,7 +117,7 @@ said_without k count len word events after h =
 pub created_without : NoneBeginsIn sourced needed (action.Created None)
 unfolding digits settings_in is_lazy url_on_literals utf8_lossy utf8_valid_len
 created_without word events after h =
-    let m = not_lazily (book_of (needed sourced word)) refl (may_stand sourced word events (needed sourced word) after (action.Created None) h) in
+    let m = created_by_link (book_of (needed sourced word)) refl (may_stand sourced word events (needed sourced word) after (action.Created None) h) in
     none_is_set (book_of (needed sourced word)) m.l (bounded_behind blank_book (needed sourced word) refl blank_bounded) refl refl m.ready
 
 -- a source that is asked for twice
@@ -150,7 +150,7 @@ failed_before_the_close e word events after h = of_error e (may_stand sourced wo
   where
     of_error : (e : Option RedisError) → MayShowCreation (book_of (deserted_first sourced word)) e → ⊥
     of_error None m =
-        let may = not_lazily (book_of (deserted_first sourced word)) refl m in
+        let may = created_by_link (book_of (deserted_first sourced word)) refl m in
         none_is_set (book_of (deserted_first sourced word)) may.l (bounded_behind blank_book (deserted_first sourced word) refl blank_bounded) refl refl may.ready
     of_error (Some x) m = cc (m.ended 0)
 

@@ -51,7 +51,7 @@ use Rattle.trace_examples.proofs.Due.{IsPlace, legal, stands}
 use Rattle.trace_examples.proofs.Pushes.{at_heard}
 use Rattle.trace_examples.proofs.Server.{at_h}
 use Rattle.trace_examples.proofs.Single.{none_is_some, other_fault}
-use Rattle.trace_examples.proofs.Stood.{book_of, may_stand, answer, none_is_set, not_lazily}
+use Rattle.trace_examples.proofs.Stood.{book_of, may_stand, answer, none_is_set, created_by_link}
 
 -- h and 6379, where this password is said or none
 abbrev server_with : Option (List ℕ) → ConnectionInfo
@@ -363,7 +363,7 @@ watched_in_setup k count len word events after h =
 pub created_before_the_answer : NoneBeginsIn watcher watching (action.Created None)
 unfolding digits settings_in is_lazy url_on_literals utf8_lossy utf8_valid_len
 created_before_the_answer word events after h =
-    let m = not_lazily (book_of (watching watcher word)) refl (may_stand watcher word events (watching watcher word) after (action.Created None) h) in
+    let m = created_by_link (book_of (watching watcher word)) refl (may_stand watcher word events (watching watcher word) after (action.Created None) h) in
     none_is_set (book_of (watching watcher word)) m.l (bounded_behind blank_book (watching watcher word) refl blank_bounded) refl refl m.ready
 
 -- a close by a message

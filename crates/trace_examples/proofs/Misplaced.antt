@@ -33,7 +33,7 @@ use Rattle.legal_trace.proofs.Again.{unwanted_is_served}
 use Rattle.trace_examples.specs.Parts.{turn, command, unawaited, reply, one_nameless, nameless_atomic, nameless_skipped}
 use Rattle.trace_examples.specs.Traces.{opening, taken_in_part, came_up, arrived, started_one, started_unoffered, held_back, spoiled, cut_off, left_untold, left_out, both_left_out, up_in_wait, both_in_wait, first_of_both, ended}
 use Rattle.legal_trace.proofs.Setups.{silent_is_set}
-use Rattle.trace_examples.proofs.Stood.{book_of, may_stand, opens_alone, both_up_silent, both_up_given}
+use Rattle.trace_examples.proofs.Stood.{book_of, created_by_link, may_stand, opens_alone, opens_at_once, both_up_silent, both_up_given}
 use Rattle.trace_examples.proofs.Single.{none_is_some, some_is_none, no_session_has, multiplexed_behind, unwatched, of_multiplexed, of_arrived}
 
 -- whoever starts and wasn't told starts at its place, where its reply is awaited
@@ -231,5 +231,5 @@ took_too_much config word events after h =
 pub created_twice : (config : Config) (word : ℕ) (events : List Event) (after : List Action)
     → Legal config word events (came_up config word ++ action.Created None ∷ after) → ⊥
 created_twice config word events after h =
-    let m = may_stand config word events (came_up config word) after (action.Created None) h in
+    let m = created_by_link (book_of (came_up config word)) (opens_at_once config word events _ h) (may_stand config word events (came_up config word) after (action.Created None) h) in
     cc m.once

@@ -83,16 +83,16 @@ opens_alone config word events after h =
     none_in (Some settings) e = cc e
 
 -- one that doesn't wait so is created where a link is ready
-pub not_lazily : (b : Book) → is_lazy b.config ≡ false → MayShowCreation b None → MayBeCreated b
-not_lazily b lazy (inl may) = may
-not_lazily b lazy (inr may) = absurd (not_both (is_lazy b.config) lazy (ap is_lazy may.told ∙ may.lazy))
+pub created_by_link : (b : Book) → is_lazy b.config ≡ false → MayShowCreation b None → MayBeCreated b
+created_by_link b lazy (inl may) = may
+created_by_link b lazy (inr may) = absurd (not_both (is_lazy b.config) lazy (ap is_lazy may.told ∙ may.lazy))
 
 -- where the creation is shown of one that doesn't wait so, and one link was asked for, this is ready
 created_ready : (config : Config) (word : ℕ) (events : List Event) (front after : List Action) → IsBounded (book_of front) → (book_of front).links ≡ 1 → is_lazy (book_of front).config ≡ false
     → Legal config word events (front ++ action.Created None ∷ after) → is_ready ((book_of front).link 0) ≡ true
 created_ready config word events front after bounded one lazy h =
     let b = book_of front in
-    let m = not_lazily b lazy (may_stand config word events front after (action.Created None) h) in
+    let m = created_by_link b lazy (may_stand config word events front after (action.Created None) h) in
     first_and_idle b (λ l. is_ready (b.link l) ≡ true → is_ready (b.link 0) ≡ true) m.l bounded one (λ r. r)
     (λ idle r. absurd (not_both (b.link m.l).up idle.down (ready_is_up (b.link m.l) r))) m.ready
 

@@ -25,7 +25,7 @@ use Rattle.legal_trace.proofs.Again.{due_repeats, repeating_is_ready}
 use Rattle.legal_trace.proofs.Plain.{same_some}
 use Rattle.trace_examples.proofs.Bounded.{IsBounded, blank_bounded, bounded_behind}
 use Rattle.trace_examples.proofs.Settled.{first_and_idle, failed_idle, idle_unasked}
-use Rattle.trace_examples.proofs.Stood.{book_of, may_stand, answer, none_is_ready, not_lazily, opens_alone, opens_at_once}
+use Rattle.trace_examples.proofs.Stood.{book_of, may_stand, answer, none_is_ready, created_by_link, opens_alone, opens_at_once}
 use Rattle.trace_examples.proofs.Single.{some_is_none, other_fault, multiplexed_behind, of_alone, of_multiplexed}
 
 -- a command that waited, answered with the closed connection
@@ -67,7 +67,7 @@ failed_before_the_close e config word events after h = of_error e (may_stand con
   where
     of_error : (e : Option RedisError) → MayShowCreation (book_of (overdue config word)) e → ⊥
     of_error None m =
-        let may = not_lazily (book_of (overdue config word)) (opens_at_once config word events _ h) m in
+        let may = created_by_link (book_of (overdue config word)) (opens_at_once config word events _ h) m in
         none_is_ready (book_of (overdue config word)) may.l (bounded_behind blank_book (overdue config word) refl blank_bounded) refl refl may.ready
     of_error (Some x) m = cc (m.ended 0)
 
@@ -78,7 +78,7 @@ refused_is_bounded config word = bounded_behind blank_book (connect_refused conf
 -- a connect that failed, shown as one that didn't
 pub created_when_refused : NoneBegins connect_refused (action.Created None)
 created_when_refused config word events after h =
-    let m = not_lazily (book_of (connect_refused config word)) (opens_at_once config word events _ h) (may_stand config word events (connect_refused config word) after (action.Created None) h) in
+    let m = created_by_link (book_of (connect_refused config word)) (opens_at_once config word events _ h) (may_stand config word events (connect_refused config word) after (action.Created None) h) in
     none_is_ready (book_of (connect_refused config word)) m.l (refused_is_bounded config word) refl refl m.ready
 
 -- or with another error

@@ -35,7 +35,7 @@ use Rattle.trace_examples.proofs.Bounded.{blank_bounded, bounded_behind}
 use Rattle.trace_examples.proofs.Due.{stands}
 use Rattle.trace_examples.proofs.Settled.{first_and_idle, failed_idle}
 use Rattle.trace_examples.proofs.Setups.{at_secured, at_users, at_held_users}
-use Rattle.trace_examples.proofs.Stood.{book_of, may_stand, answer, none_is_set, not_lazily, came_up_silent}
+use Rattle.trace_examples.proofs.Stood.{book_of, may_stand, answer, none_is_set, created_by_link, came_up_silent}
 
 -- these fronts stand
 pub setup_fronts_stand : (word : ℕ) → EachStands (setup_fronts word)
@@ -74,7 +74,7 @@ started_before_the_creation l k round count len word events after h =
 pub created_during : NoneBeginsIn secured secret_sent (action.Created None)
 unfolding digits settings_in is_lazy url_on_literals utf8_lossy utf8_valid_len
 created_during word events after h =
-    let m = not_lazily (book_of (secret_sent secured word)) refl (may_stand secured word events (secret_sent secured word) after (action.Created None) h) in
+    let m = created_by_link (book_of (secret_sent secured word)) refl (may_stand secured word events (secret_sent secured word) after (action.Created None) h) in
     none_is_set (book_of (secret_sent secured word)) m.l (bounded_behind blank_book (secret_sent secured word) refl blank_bounded) refl refl m.ready
 
 -- and before it starts, with any configuration that has something said
@@ -91,7 +91,7 @@ said_where_nothing_is config k count len silent word events after h =
 pub created_though_refused : NoneBeginsIn secured password_refused (action.Created None)
 unfolding digits settings_in is_lazy items values left_over max_depth url_on_literals utf8_lossy utf8_valid_len
 created_though_refused word events after h =
-    let m = not_lazily (book_of (password_refused secured word)) refl (may_stand secured word events (password_refused secured word) after (action.Created None) h) in
+    let m = created_by_link (book_of (password_refused secured word)) refl (may_stand secured word events (password_refused secured word) after (action.Created None) h) in
     none_is_set (book_of (password_refused secured word)) m.l (bounded_behind blank_book (password_refused secured word) refl blank_bounded) refl refl m.ready
 
 -- a setup that starts twice
