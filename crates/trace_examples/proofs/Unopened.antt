@@ -22,7 +22,8 @@ use Rattle.trace_examples.specs.Traces.{opening}
 use Rattle.trace_examples.specs.Openings.{timed_opening, connect_refused, refusal_shown, overdue, timed_out}
 use Rattle.trace_examples.specs.Claims.{NoneBegins, NoneBeginsIn}
 use Rattle.legal_trace.proofs.Again.{due_repeats, repeating_is_ready}
-use Rattle.legal_trace.proofs.Plain.{same_some}
+use Rattle.legal_trace.specs.Managers.{settings_in}
+use Rattle.legal_trace.proofs.Plain.{not_none, same_some}
 use Rattle.trace_examples.proofs.Bounded.{IsBounded, blank_bounded, bounded_behind}
 use Rattle.trace_examples.proofs.Settled.{first_and_idle, failed_idle, idle_unasked}
 use Rattle.trace_examples.proofs.Stood.{book_of, may_stand, answer, none_is_ready, created_by_link, opens_alone, opens_at_once}
@@ -105,7 +106,7 @@ timer_unasked config t ms what none word events after h = elim (may_stand config
   | inl (inl m) ↦
       let same : config ≡ m.config = same_some config m.config m.told in
       let both : ◌≡◌ {A = Option ℕ} None (Some ms) = sym none ∙ (ap connect_timeout same ∙ m.bounded) in cc both
-  | inl (inr m) ↦ let x : false ≡ true = m.due in cc x
+  | inl (inr m) ↦ not_none (settings_in (Some config)) m.settings (opens_alone config word events _ h) m.set
   | inr (inl m) ↦ cc m.unstarted
   | inr (inr (inl m)) ↦ unrenewed (book_of (opening config word)) m.l (bounded_behind blank_book (opening config word) refl blank_bounded) refl refl m.asked
   | inr (inr (inr m)) ↦ none_is_ready (book_of (opening config word)) m.l (bounded_behind blank_book (opening config word) refl blank_bounded) refl refl (repeating_is_ready ((book_of (opening config word)).link m.l) (due_repeats ((book_of (opening config word)).link m.l) m.due))
@@ -117,4 +118,4 @@ timer_left_out config number c bounded word events after h = of_cause c (may_sta
   where
     of_cause : (c : Cause) → MayTurn (book_of (opening config word)) number c → ⊥
     of_cause (cause.Opening other draws) m = cc m.is_for
-    of_cause (cause.Event e) m = cc (m.is_for.1.written.moved.begun.applied.timed config refl bounded)
+    of_cause (cause.Event e) m = let x : 0 ≡ 1 = m.is_for.1.written.moved.begun.applied.timed config refl bounded in omega (arith, x)
