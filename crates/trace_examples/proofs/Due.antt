@@ -432,7 +432,7 @@ created_due b = (b.created == 0) && (is_lazy_in b.config || (is_ready (b.link b.
 
 created_stands : (b : Book) → IsBounded b → created_due b ≡ true → MayBeCreated b ⊎ MayBeLazy b
 created_stands b bounded e = either_of (is_lazy_in b.config) (is_ready (b.link b.current) && all_shown b) (both_right (b.created == 0) (is_lazy_in b.config || (is_ready (b.link b.current) && all_shown b)) e)
-    (λ waits. inr (of_config b.config refl waits)) (λ ready. inl (record { l = b.current; ready = search (both_left, both_right); once = once; answered = verdicts_are_shown b bounded (search (both_left, both_right)) }))
+    (of_config b.config refl) (λ ready. record { l = b.current; ready = both_left (is_ready (b.link b.current)) (all_shown b) ready; once = once; answered = verdicts_are_shown b bounded (both_right (is_ready (b.link b.current)) (all_shown b) ready) })
   where
     once : b.created ≡ 0
     once = eq_from b.created 0 (both_left (b.created == 0) (is_lazy_in b.config || (is_ready (b.link b.current) && all_shown b)) e)
@@ -443,7 +443,7 @@ created_stands b bounded e = either_of (is_lazy_in b.config) (is_ready (b.link b
 
     of_config : (c : Option Config) → b.config ≡ c → is_lazy_in c ≡ true → MayBeLazy b
     of_config None same t = cc t
-    of_config (Some config) same t = record { config = config; told = same; sound = none_from (first_fault config) (search (both_left, both_right)); lazy = search (both_left, both_right); once = once }
+    of_config (Some config) same t = record { config = config; told = same; sound = none_from (first_fault config) (both_right (is_lazy (Some config)) (is_none (first_fault config)) t); lazy = both_left (is_lazy (Some config)) (is_none (first_fault config)) t; once = once }
 
 -- what is to start on a link, which isn't held back, and on none before it
 abbrev pub is_first : (Book → ℕ → Bool) → Book → ℕ → Bool
