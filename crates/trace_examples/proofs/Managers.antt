@@ -1,5 +1,5 @@
 -- Managers: traces that can be relied on, and actions that stand where they may not.
-use Rattle.std.proofs.Common.{◌≡◌, ◌≢◌, ℕ, Bool, true, false, List, [], ◌∷◌, Some, None, codes, pos, refl, sym, ap, ◌∙◌, inl, inr}
+use Rattle.std.proofs.Common.{◌≡◌, ◌≢◌, ℕ, Bool, true, false, List, [], ◌∷◌, ◌++◌, length, drop, Some, None, codes, pos, refl, sym, ap, ◌∙◌, subst, inl, inr}
 use Rattle.std.specs.Fmt.{digits}
 use Rattle.std.specs.Str.Lossy.{utf8_lossy, utf8_valid_len}
 use Rattle.url.proofs.OnLiterals.{url_on_literals}
@@ -16,17 +16,20 @@ use Rattle.resp_read.specs.Items.{items}
 use Rattle.sub_tracker.specs.Held.{held_after}
 use Rattle.sub_tracker.specs.Pipeline.{resubscription}
 use Rattle.driver_model.specs.Config.{address, manager_fault, manager_settings, no_manager_words}
+use Rattle.driver_model.specs.declared.action.Action.{Action}
 use Rattle.driver_model.specs.declared.action.Action.TheVariants as action
 use Rattle.driver_model.specs.declared.action.Cause.{Cause}
 use Rattle.driver_model.specs.declared.action.Cause.TheVariants as cause
 use Rattle.driver_model.specs.declared.action.Owner.TheVariants as owner
 use Rattle.driver_model.specs.declared.action.Purpose.TheVariants as purpose
+use Rattle.driver_model.specs.declared.config.Config.{Config}
+use Rattle.driver_model.specs.declared.event.Event.{Event}
 use Rattle.driver_model.specs.declared.event.EventKind.TheVariants as event
 use Rattle.driver_model.specs.declared.outcome.Outcome.{Outcome}
 use Rattle.legal_trace.specs.Managers.{settings_in, is_lazy}
 use Rattle.legal_trace.specs.Events.{is_bad_event}
 use Rattle.legal_trace.specs.Book.{blank_book}
-use Rattle.legal_trace.specs.Legal.{MayTurn}
+use Rattle.legal_trace.specs.Legal.{AllStand, Legal, MayTurn}
 use Rattle.legal_trace.proofs.Books.{stand_front}
 use Rattle.legal_trace.proofs.Plain.{same_some}
 use Rattle.trace_examples.specs.Parts.{patient}
@@ -110,32 +113,36 @@ pub goes_on_without : IsTraceIn resubscribing_in_time running_over over_in_time
 unfolding digits is_bad_event items values left_over is_spoiled max_depth kind_of settings_in is_lazy held_after resubscription url_on_literals utf8_lossy utf8_valid_len
 goes_on_without word = legal resubscribing_in_time word _ _ refl refl (at_repeated_in_time, (refl, (tt, (refl, (refl, (refl, (refl, (at_repeated_in_time, (refl, (refl, (tt, tt)))))))))))
 
--- these fronts stand
+-- the front of a legal trace stands
+front_of : (config : Config) (word : ℕ) (events : List Event) (front whole : List Action) → Legal config word events whole → front ++ drop (length front) whole ≡ whole → AllStand blank_book front
+front_of config word events front whole h same = stand_front blank_book front (drop (length front) whole) (subst (AllStand blank_book) (sym same) h.each)
+
+-- so these fronts do
 pub manager_fronts_stand : (word : ℕ) → EachStands (manager_fronts word)
 unfolding digits is_bad_event items values left_over is_spoiled max_depth kind_of settings_in is_lazy held_after resubscription url_on_literals utf8_lossy utf8_valid_len
 manager_fronts_stand word =
-    let once = (replaced_once_failed word).each in
-    let twice = (created_in_vain word).each in
-    let thrice = (longer_each_time word).each in
-    let back = (comes_back word).each in
-    let left = (repeats_what_is word).each in
-    let without = (goes_on_without word).each in (
-      stand_front blank_book (opened_lazily lazy_once word) _ once,
-      (stand_front blank_book (failed_so lazy_once word) _ once,
-      (stand_front blank_book (begun_next lazy_once word) _ once,
-      (stand_front blank_book (replaced lazy_once word) _ once,
-      (stand_front blank_book (attempt_failed 250 trying_twice word) _ twice,
-      (stand_front blank_book (resting 250 50 trying_twice word) _ twice,
-      (stand_front blank_book (asked_in_vain trying_twice word) _ twice,
-      (stand_front blank_book (failed_again trying_thrice word) _ thrice,
-      (stand_front blank_book (subscribed_c resubscribing word) _ back,
-      (stand_front blank_book (lost resubscribing word) _ back,
-      (stand_front blank_book (set_up_again resubscribing word) _ back,
-      (stand_front blank_book (repeated resubscribing word) _ back,
-      (stand_front blank_book (repeated_well resubscribing word) _ back,
+    let once = replaced_once_failed word in
+    let twice = created_in_vain word in
+    let thrice = longer_each_time word in
+    let back = comes_back word in
+    let left = repeats_what_is word in
+    let without = goes_on_without word in (
+      front_of _ _ _ (opened_lazily lazy_once word) _ once refl,
+      (front_of _ _ _ (failed_so lazy_once word) _ once refl,
+      (front_of _ _ _ (begun_next lazy_once word) _ once refl,
+      (front_of _ _ _ (replaced lazy_once word) _ once refl,
+      (front_of _ _ _ (attempt_failed 250 trying_twice word) _ twice refl,
+      (front_of _ _ _ (resting 250 50 trying_twice word) _ twice refl,
+      (front_of _ _ _ (asked_in_vain trying_twice word) _ twice refl,
+      (front_of _ _ _ (failed_again trying_thrice word) _ thrice refl,
+      (front_of _ _ _ (subscribed_c resubscribing word) _ back refl,
+      (front_of _ _ _ (lost resubscribing word) _ back refl,
+      (front_of _ _ _ (set_up_again resubscribing word) _ back refl,
+      (front_of _ _ _ (repeated resubscribing word) _ back refl,
+      (front_of _ _ _ (repeated_well resubscribing word) _ back refl,
       (stands (replied_there resubscribing word) refl (at_repeated, (refl, (refl, (refl, (refl, (refl, (refl, (refl, (refl, (at_repeated, (refl, (refl, tt)))))))))))),
-      (stand_front blank_book (left_d resubscribing word) _ left,
-      (stand_front blank_book (up_in_time resubscribing_in_time word) _ without, tt))))))))))))))),
+      (front_of _ _ _ (left_d resubscribing word) _ left refl,
+      (front_of _ _ _ (up_in_time resubscribing_in_time word) _ without refl, tt))))))))))))))),
     )
 
 -- a lazy one that begins as it opens
