@@ -14,7 +14,7 @@ use Rattle.legal_trace.specs.Story.{Story, has_place, is_room, is_open, is_told,
 use Rattle.legal_trace.specs.Story.{waits as shown}
 use Rattle.legal_trace.specs.Managers.{settings_in}
 use Rattle.legal_trace.specs.Book.{Book, has_generations}
-use Rattle.legal_trace.specs.Steps.{Step, waits, rounds, takes, asks, tells, starts, nothing, is_due, configured, is_held, is_held_back, renewals_in_line, permits_in, permits_on, permits_held, free_permits, is_let_in, is_in_line, line_before, is_outside, unready_wait, queue_size, starts_or_waits, step_placed, step_timed, step_taking, step_holding, step_rounding, step_open, step_served, step_ready, step_down, next_step}
+use Rattle.legal_trace.specs.Steps.{Step, waits, rounds, takes, asks, tells, starts, is_due, configured, is_held, is_held_back, renewals_in_line, permits_in, permits_on, permits_held, free_permits, is_let_in, is_in_line, line_before, is_outside, unready_wait, queue_size, starts_or_waits, step_placed, step_timed, step_taking, step_holding, step_rounding, step_open, step_served, step_ready, step_down, next_step}
 use Rattle.legal_trace.specs.Legal.{MayTell, MayStart, MayTime, MayRound, MayTake, CanMove, link_of}
 
 -- one of two holds

@@ -1,5 +1,5 @@
 -- What is subscribed, by the calls that were confirmed, and the message that subscribes it again on a new link.
-use Rattle.std.specs.Prelude.{ℕ, ◌==◌, Bool, false, ◌&&◌, not, List, [], ◌∷◌, length, Option, Some, None}
+use Rattle.std.specs.Prelude.{◌==◌, Bool, false, ◌&&◌, not, List, [], ◌∷◌, length, Option, Some, None}
 use Rattle.resp_write.specs.Pack.{pack_pipeline}
 use Rattle.manager_config.specs.declared.config.ConnectionManagerConfig.{ConnectionManagerConfig}
 use Rattle.sub_tracker.specs.Subscribed.{Request}

@@ -1,5 +1,6 @@
 -- A trace whose steps are tested one by one is legal: each action stands where it may, since it is the next that is due.
-use Rattle.std.proofs.Common.{◌≡◌, ◌⊎◌, ℕ, ◌<◌, ◌==◌, nat_lt, nat_le, Bool, true, false, ◌&&◌, not, List, [], ◌∷◌, length, Option, Some, None, is_some, refl, sym, ap, subst, ◌∙◌, inl, inr, arith}
+use Rattle.std.proofs.Common.{◌≡◌, ◌⊎◌, ℕ, ◌+◌, ◌==◌, nat_lt, Bool, true, false, ◌&&◌, ◌||◌, not, List, [], ◌∷◌, length, Option, Some, None, is_some, refl, sym, ap, subst, ◌∙◌, inl, inr}
+use Rattle.std.specs.Option.{is_none}
 use Rattle.std.proofs.lemmas.Bool.{not-true}
 use Rattle.containers.proofs.Choices.{eq_from, ne_from, lt_from, le_from, both_left, both_right, not_both}
 use Rattle.resp_value.specs.declared.value.Value.TheVariants.{Nil}
@@ -34,11 +35,11 @@ use Rattle.legal_trace.specs.Book.{Book, blank_book, book, renewal_in, entered, 
 use Rattle.legal_trace.specs.Steps.{is_held_back, rounds, takes, asks, tells, starts, next_step}
 use Rattle.legal_trace.specs.Owed.{owed}
 use Rattle.legal_trace.specs.Events.{is_bad_event}
-use Rattle.legal_trace.specs.Legal.{IsOpen, IsWaiting, IsBefore, is_heard, are_pushes_heard, link_of, MayNotify, MayPart, MayPushBy, MayTurn, MayConnect, MayGenerate, MayRest, MayTimeConnect, MayTime, MayTimeRenewal, MayTimeRepeat, MayNeed, MayRenew, MayRepeat, MayRound, MayRoundOn, MayTake, MayWatch, MayTimer, answer_time, rest_due, generation_due, link_due, word_of, MayClose, MaySetUp, MayBeCreated, MayBeLazy, MayFail, MayAnswer, MayTell, MayStart, MayWrite, MayWait, MayStand, AllStand, causes, event_causes, Legal}
+use Rattle.legal_trace.specs.Legal.{IsOpen, IsWaiting, IsBefore, is_heard, are_pushes_heard, link_of, MayNotify, MayPart, MayPushBy, MayTurn, MayConnect, MayGenerate, MayRest, MayTimeConnect, MayTime, MayTimeRenewal, MayTimeRepeat, MayNeed, MayRenew, MayRepeat, MayRoundOn, MayTake, MayWatch, MayTimer, answer_time, rest_due, generation_due, link_due, word_of, MayClose, MaySetUp, MayBeCreated, MayBeLazy, MayFail, MayAnswer, MayTell, MayStart, MayWrite, MayWait, MayStand, AllStand, causes, event_causes, Legal}
 use Rattle.legal_trace.proofs.Setups.{due_count}
 use Rattle.trace_examples.proofs.Bounded.{IsBounded, is_numbered, still_bounded, blank_bounded}
 use Rattle.trace_examples.proofs.Checks.{holds_if, held, none_from, is_empty, empty_from, filled_from, each_below, below, same_step, step_from, is_other_wait, other_wait}
-use Rattle.trace_examples.proofs.Settled.{is_quiet, quiet, all_shown, verdicts_are_shown, none_ends, no_end, failure_shown, failures_are_shown, notices_told, notices_are_told, is_parted, end_told, ends_are_told, of_open, effects_shown, shown, is_timed, is_applied, applied, ready_shown, ready_is_shown, sources_asked, sources_are_asked, is_to_set_up, are_set_up, setups_have_started, is_to_watch, are_watched, monitors_have_started, is_repeat_timed, repeats_timed, repeats_are_timed, can_repeat, are_repeated, repeats_have_started, is_renewal_timed, renewals_timed, renewals_are_timed, can_renew, watched_set, set_applied, repeated_watched, repeated_timed, is_begun, has_begun, all_stay, none_before, is_moved, moved, is_offered_up, offered, is_offered, is_written, written, wait_holds, holds, is_waiting, waiting, is_settled, settled}
+use Rattle.trace_examples.proofs.Settled.{is_quiet, quiet, all_shown, verdicts_are_shown, none_ends, no_end, failure_shown, failures_are_shown, notices_told, notices_are_told, is_parted, end_told, ends_are_told, of_open, effects_shown, shown, is_applied, applied, ready_shown, ready_is_shown, sources_asked, sources_are_asked, is_to_set_up, are_set_up, setups_have_started, is_to_watch, are_watched, monitors_have_started, is_repeat_timed, repeats_timed, repeats_are_timed, can_repeat, are_repeated, repeats_have_started, is_renewal_timed, renewals_timed, renewals_are_timed, can_renew, watched_set, set_applied, repeated_watched, repeated_timed, is_begun, has_begun, all_stay, none_before, is_moved, moved, is_offered_up, offered, is_offered, is_written, written, wait_holds, holds, is_waiting, waiting, is_settled, settled}
 
 -- a turn
 abbrev pub turn_due : Book → ℕ → Cause → Bool
@@ -431,7 +432,7 @@ created_due b = (b.created == 0) && (is_lazy_in b.config || (is_ready (b.link b.
 
 created_stands : (b : Book) → IsBounded b → created_due b ≡ true → MayBeCreated b ⊎ MayBeLazy b
 created_stands b bounded e = either_of (is_lazy_in b.config) (is_ready (b.link b.current) && all_shown b) (both_right (b.created == 0) (is_lazy_in b.config || (is_ready (b.link b.current) && all_shown b)) e)
-    (λ waits. inr (of_config b.config refl waits)) (λ ready. inl (record { l = b.current; ready = search (both_left, both_right); once = once; answered = verdicts_are_shown b bounded (search (both_left, both_right)) }))
+    (of_config b.config refl) (λ ready. record { l = b.current; ready = both_left (is_ready (b.link b.current)) (all_shown b) ready; once = once; answered = verdicts_are_shown b bounded (both_right (is_ready (b.link b.current)) (all_shown b) ready) })
   where
     once : b.created ≡ 0
     once = eq_from b.created 0 (both_left (b.created == 0) (is_lazy_in b.config || (is_ready (b.link b.current) && all_shown b)) e)
@@ -442,7 +443,7 @@ created_stands b bounded e = either_of (is_lazy_in b.config) (is_ready (b.link b
 
     of_config : (c : Option Config) → b.config ≡ c → is_lazy_in c ≡ true → MayBeLazy b
     of_config None same t = cc t
-    of_config (Some config) same t = record { config = config; told = same; sound = none_from (first_fault config) (search (both_left, both_right)); lazy = search (both_left, both_right); once = once }
+    of_config (Some config) same t = record { config = config; told = same; sound = none_from (first_fault config) (both_right (is_lazy (Some config)) (is_none (first_fault config)) t); lazy = both_left (is_lazy (Some config)) (is_none (first_fault config)) t; once = once }
 
 -- what is to start on a link, which isn't held back, and on none before it
 abbrev pub is_first : (Book → ℕ → Bool) → Book → ℕ → Bool

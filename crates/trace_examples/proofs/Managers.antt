@@ -1,5 +1,5 @@
 -- Managers: traces that can be relied on, and actions that stand where they may not.
-use Rattle.std.proofs.Common.{◌≡◌, ◌≢◌, ℕ, Bool, true, false, List, [], ◌∷◌, ◌++◌, Option, Some, None, codes, pos, refl, sym, ap, ◌∙◌, inl, inr, tt}
+use Rattle.std.proofs.Common.{◌≡◌, ◌≢◌, ℕ, Bool, true, false, List, [], ◌∷◌, ◌++◌, length, drop, Some, None, codes, pos, refl, sym, ap, ◌∙◌, subst, inl, inr}
 use Rattle.std.specs.Fmt.{digits}
 use Rattle.std.specs.Str.Lossy.{utf8_lossy, utf8_valid_len}
 use Rattle.url.proofs.OnLiterals.{url_on_literals}
@@ -16,23 +16,25 @@ use Rattle.resp_read.specs.Items.{items}
 use Rattle.sub_tracker.specs.Held.{held_after}
 use Rattle.sub_tracker.specs.Pipeline.{resubscription}
 use Rattle.driver_model.specs.Config.{address, manager_fault, manager_settings, no_manager_words}
+use Rattle.driver_model.specs.declared.action.Action.{Action}
 use Rattle.driver_model.specs.declared.action.Action.TheVariants as action
 use Rattle.driver_model.specs.declared.action.Cause.{Cause}
 use Rattle.driver_model.specs.declared.action.Cause.TheVariants as cause
 use Rattle.driver_model.specs.declared.action.Owner.TheVariants as owner
 use Rattle.driver_model.specs.declared.action.Purpose.TheVariants as purpose
 use Rattle.driver_model.specs.declared.config.Config.{Config}
+use Rattle.driver_model.specs.declared.event.Event.{Event}
 use Rattle.driver_model.specs.declared.event.EventKind.TheVariants as event
 use Rattle.driver_model.specs.declared.outcome.Outcome.{Outcome}
 use Rattle.legal_trace.specs.Managers.{settings_in, is_lazy}
 use Rattle.legal_trace.specs.Events.{is_bad_event}
 use Rattle.legal_trace.specs.Book.{blank_book}
-use Rattle.legal_trace.specs.Legal.{MayTurn}
+use Rattle.legal_trace.specs.Legal.{AllStand, Legal, MayTurn}
 use Rattle.legal_trace.proofs.Books.{stand_front}
 use Rattle.legal_trace.proofs.Plain.{same_some}
 use Rattle.trace_examples.specs.Parts.{patient}
 use Rattle.trace_examples.specs.Pushes.{get}
-use Rattle.trace_examples.specs.Managers.{trying, lazy_once, trying_twice, trying_thrice, resubscribing, opened_lazily, failed_so, begun_next, replaced, attempt_failed, resting, asked_in_vain, tried_twice, failed_again, tried_thrice, subscribed_c, lost, set_up_again, repeated, repeated_well, came_back, replied_there, coming_back, left_d, leaving_d, AreLegal, manager_fronts}
+use Rattle.trace_examples.specs.Managers.{trying, lazy_once, trying_twice, trying_thrice, resubscribing, opened_lazily, failed_so, begun_next, replaced, attempt_failed, resting, asked_in_vain, tried_twice, failed_again, tried_thrice, subscribed_c, lost, set_up_again, repeated, repeated_well, came_back, replied_there, coming_back, left_d, leaving_d, resubscribing_in_time, up_in_time, over_in_time, running_over, AreLegal, manager_fronts}
 use Rattle.trace_examples.specs.Claims.{IsTraceIn, NoneBeginsIn}
 use Rattle.trace_examples.specs.Fronts.{EachStands}
 use Rattle.trace_examples.proofs.Due.{IsPlace, legal, stands}
@@ -68,6 +70,16 @@ is_repeated = refl
 at_repeated : IsPlace resubscribing (codes "h") 6379
 at_repeated = record { sound = ap (λ at. manager_fault at repeats) is_repeated; info = server_of RESP3; configured = is_repeated; is = (refl, refl) }
 
+abbrev repeats_in_time : ConnectionManagerConfig
+repeats_in_time = manager_settings (record patient { push = Some true; response = Some (Some 100) }) (record no_manager_words { resub = Some true })
+
+is_repeated_in_time : address resubscribing_in_time ≡ Some (server_of RESP3)
+unfolding url_on_literals utf8_lossy utf8_valid_len
+is_repeated_in_time = refl
+
+at_repeated_in_time : IsPlace resubscribing_in_time (codes "h") 6379
+at_repeated_in_time = record { sound = ap (λ at. manager_fault at repeats_in_time) is_repeated_in_time; info = server_of RESP3; configured = is_repeated_in_time; is = (refl, refl) }
+
 -- a lazy one is created as it opens, asks for its link with its first submission, and comes back once that has failed
 pub replaced_once_failed : IsTraceIn lazy_once (event.Submit (get 97) ∷ event.Refused 0 Refused ∷ []) replaced []
 unfolding digits is_bad_event items values left_over is_spoiled max_depth kind_of settings_in is_lazy held_after resubscription url_on_literals utf8_lossy utf8_valid_len
@@ -95,30 +107,42 @@ unfolding digits is_bad_event items values left_over is_spoiled max_depth kind_o
 repeats_what_is word =
     legal resubscribing word _ _ refl refl (at_repeated, (refl, (refl, (refl, (refl, (refl, (refl, (refl, (refl, (refl, (refl, (refl, (at_repeated, (refl, tt))))))))))))))
 
--- these fronts stand
+-- where that isn't answered in time, requests go on without it
+pub goes_on_without : IsTraceIn resubscribing_in_time running_over over_in_time
+    (action.Round (owner.Try 1 0) (Some 1) ∷ action.Timer 2 100 (purpose.Response (owner.Try 1 0)) ∷ action.Start 1 2 (owner.Try 1 0) 1 20 ∷ [])
+unfolding digits is_bad_event items values left_over is_spoiled max_depth kind_of settings_in is_lazy held_after resubscription url_on_literals utf8_lossy utf8_valid_len
+goes_on_without word = legal resubscribing_in_time word _ _ refl refl (at_repeated_in_time, (refl, (tt, (refl, (refl, (refl, (refl, (at_repeated_in_time, (refl, (refl, (tt, tt)))))))))))
+
+-- the front of a legal trace stands
+front_of : (config : Config) (word : ℕ) (events : List Event) (front whole : List Action) → Legal config word events whole → front ++ drop (length front) whole ≡ whole → AllStand blank_book front
+front_of config word events front whole h same = stand_front blank_book front (drop (length front) whole) (subst (AllStand blank_book) (sym same) h.each)
+
+-- so these fronts do
 pub manager_fronts_stand : (word : ℕ) → EachStands (manager_fronts word)
 unfolding digits is_bad_event items values left_over is_spoiled max_depth kind_of settings_in is_lazy held_after resubscription url_on_literals utf8_lossy utf8_valid_len
 manager_fronts_stand word =
-    let once = (replaced_once_failed word).each in
-    let twice = (created_in_vain word).each in
-    let thrice = (longer_each_time word).each in
-    let back = (comes_back word).each in
-    let left = (repeats_what_is word).each in (
-      stand_front blank_book (opened_lazily lazy_once word) _ once,
-      (stand_front blank_book (failed_so lazy_once word) _ once,
-      (stand_front blank_book (begun_next lazy_once word) _ once,
-      (stand_front blank_book (replaced lazy_once word) _ once,
-      (stand_front blank_book (attempt_failed 250 trying_twice word) _ twice,
-      (stand_front blank_book (resting 250 50 trying_twice word) _ twice,
-      (stand_front blank_book (asked_in_vain trying_twice word) _ twice,
-      (stand_front blank_book (failed_again trying_thrice word) _ thrice,
-      (stand_front blank_book (subscribed_c resubscribing word) _ back,
-      (stand_front blank_book (lost resubscribing word) _ back,
-      (stand_front blank_book (set_up_again resubscribing word) _ back,
-      (stand_front blank_book (repeated resubscribing word) _ back,
-      (stand_front blank_book (repeated_well resubscribing word) _ back,
+    let once = replaced_once_failed word in
+    let twice = created_in_vain word in
+    let thrice = longer_each_time word in
+    let back = comes_back word in
+    let left = repeats_what_is word in
+    let without = goes_on_without word in (
+      front_of _ _ _ (opened_lazily lazy_once word) _ once refl,
+      (front_of _ _ _ (failed_so lazy_once word) _ once refl,
+      (front_of _ _ _ (begun_next lazy_once word) _ once refl,
+      (front_of _ _ _ (replaced lazy_once word) _ once refl,
+      (front_of _ _ _ (attempt_failed 250 trying_twice word) _ twice refl,
+      (front_of _ _ _ (resting 250 50 trying_twice word) _ twice refl,
+      (front_of _ _ _ (asked_in_vain trying_twice word) _ twice refl,
+      (front_of _ _ _ (failed_again trying_thrice word) _ thrice refl,
+      (front_of _ _ _ (subscribed_c resubscribing word) _ back refl,
+      (front_of _ _ _ (lost resubscribing word) _ back refl,
+      (front_of _ _ _ (set_up_again resubscribing word) _ back refl,
+      (front_of _ _ _ (repeated resubscribing word) _ back refl,
+      (front_of _ _ _ (repeated_well resubscribing word) _ back refl,
       (stands (replied_there resubscribing word) refl (at_repeated, (refl, (refl, (refl, (refl, (refl, (refl, (refl, (refl, (at_repeated, (refl, (refl, tt)))))))))))),
-      (stand_front blank_book (left_d resubscribing word) _ left, tt)))))))))))))),
+      (front_of _ _ _ (left_d resubscribing word) _ left refl,
+      (front_of _ _ _ (up_in_time resubscribing_in_time word) _ without refl, tt))))))))))))))),
     )
 
 -- a lazy one that begins as it opens
@@ -211,6 +235,12 @@ repetition_left_out number c word events after h = of_cause c (may_stand resubsc
 pub repeated_otherwise : (k count len : ℕ) → len ≢ 26 → NoneBeginsIn resubscribing left_d (action.Start 1 k owner.Resub count len)
 unfolding digits items values left_over is_spoiled max_depth kind_of settings_in is_lazy held_after resubscription url_on_literals utf8_lossy utf8_valid_len
 repeated_otherwise k count len other word events after h = other (may_stand resubscribing word events (left_d resubscribing word) after (action.Start 1 k owner.Resub count len) h).long_as_its_bytes
+
+-- it before its timer
+pub repeated_untimed : (k count len : ℕ) → NoneBeginsIn resubscribing_in_time up_in_time (action.Start 1 k owner.Resub count len)
+unfolding digits items values left_over is_spoiled max_depth kind_of settings_in is_lazy held_after resubscription url_on_literals utf8_lossy utf8_valid_len
+repeated_untimed k count len word events after h =
+    let x : false ≡ true = (may_stand resubscribing_in_time word events (up_in_time resubscribing_in_time word) after (action.Start 1 k owner.Resub count len) h).timed 1 (λ e. cc e) refl in cc x
 
 -- the round of a request before it is answered
 pub round_too_soon : (round l : ℕ) → NoneBeginsIn resubscribing repeated (action.Round (owner.Try 3 round) (Some l))

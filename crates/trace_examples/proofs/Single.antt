@@ -1,6 +1,6 @@
 -- Books of traces with any configuration: where a command came the session is a multiplexed connection, which hears pushes or
 -- nothing, and where its link was up at once nothing is said to its server.
-use Rattle.std.proofs.Common.{◌≡◌, ℕ, ◌==◌, zero, suc, ℤ, pos, negsuc, Bool, true, false, ◌&&◌, List, ◌∷◌, ◌++◌, Option, Some, None, drop, refl, sym, ap, ◌∙◌, subst}
+use Rattle.std.proofs.Common.{◌≡◌, ℕ, ◌==◌, zero, suc, ℤ, pos, negsuc, Bool, true, false, ◌&&◌, List, [], ◌∷◌, ◌++◌, Option, Some, None, drop, refl, sym, ap, ◌∙◌, subst}
 use Rattle.containers.proofs.Choices.{not_both}
 use Rattle.connection_info.specs.declared.address.RedisConnectionInfo.{RedisConnectionInfo}
 use Rattle.connection_info.specs.declared.protocol.ProtocolVersion.{ProtocolVersion}
@@ -23,25 +23,39 @@ use Rattle.driver_model.specs.Hearing.{is_watching}
 use Rattle.driver_model.specs.Kind.{is_multiplexed}
 use Rattle.driver_model.specs.Request.{has_no_form, is_foreign, is_formless}
 use Rattle.driver_model.specs.Setup.{says_nothing}
+use Rattle.manager_config.specs.declared.config.ConnectionManagerConfig.{ConnectionManagerConfig}
 use Rattle.legal_trace.specs.Events.{is_bad_event}
+use Rattle.legal_trace.specs.Managers.{settings_in, is_last}
+use Rattle.legal_trace.specs.Again.{repeats_in}
 use Rattle.legal_trace.specs.Ledger.{blank_ledger, asks, noted_each}
 use Rattle.legal_trace.specs.Book.{Book, if_mine, kind_in, entered_each}
 use Rattle.legal_trace.specs.Legal.{Legal}
 use Rattle.trace_examples.specs.Parts.{turn}
 use Rattle.trace_examples.specs.Traces.{opening, arrived, came_up}
-use Rattle.trace_examples.proofs.Stood.{IsGiven, IsSilent, book_of, may_stand, came_up_given, came_up_silent}
+use Rattle.trace_examples.proofs.Stood.{IsGiven, IsSilent, book_of, may_stand, opens_alone, came_up_given, came_up_silent}
 
--- the book behind the opening, where this is said to the server of its link, credentials come of sources or don't, and this is heard
-abbrev opened : Config → ℕ → RedisConnectionInfo → Bool → Hearing → Book
-opened config word info wanted hears = record (book_of (opening config word)) { link = λ n. noted_each blank_ledger (if_mine (0 == n) (asks info wanted hears)) }
+-- the book behind the opening, where this is said to the server of its link, credentials come of sources or don't, this is heard, and
+-- the session comes back so, if it does
+abbrev opened : Config → ℕ → RedisConnectionInfo → Bool → Hearing → Option ConnectionManagerConfig → Book
+opened config word info wanted hears settings =
+    record (book_of (opening config word)) { link = λ n. noted_each blank_ledger (if_mine (0 == n) (asks info wanted hears (is_last settings 0) (repeats_in settings []))) }
 
 -- the book of a front that goes on behind it
+abbrev book_as : Config → ℕ → List Action → RedisConnectionInfo → Bool → Hearing → Option ConnectionManagerConfig → Book
+book_as config word front info wanted hears settings = entered_each (opened config word info wanted hears settings) (drop 2 front)
+
+-- where it doesn't come back
 abbrev pub book_from : Config → ℕ → List Action → RedisConnectionInfo → Bool → Hearing → Book
-book_from config word front info wanted hears = entered_each (opened config word info wanted hears) (drop 2 front)
+book_from config word front info wanted hears = book_as config word front info wanted hears None
 
 -- as its configuration says all this
 abbrev pub book_said : Config → ℕ → List Action → Book
-book_said config word front = book_from config word front (told_info config) (wants_credentials config) (hearing_of config)
+book_said config word front = book_as config word front (told_info config) (wants_credentials config) (hearing_of config) (settings_in (Some config))
+
+-- what holds of the book of one that doesn't come back holds of the one that its configuration says
+pub of_alone : (config : Config) (word : ℕ) (front : List Action) (P : Book → Type 0) → settings_in (Some config) ≡ None
+    → P (book_from config word front (told_info config) (wants_credentials config) (hearing_of config)) → P (book_said config word front)
+of_alone config word front P alone h = subst (λ s. P (book_as config word front (told_info config) (wants_credentials config) (hearing_of config) s)) (sym alone) h
 
 -- where a link of publish/subscribe has no such submission, a session that has it is a multiplexed connection
 multiplexed_has : (k : SessionKind) (what : Submission) → is_foreign what ≡ true → has_no_form k what ≡ false → is_multiplexed k ≡ true
@@ -81,12 +95,12 @@ pub unwatched : (config : Config) → is_multiplexed (kind_of config) ≡ true �
 unwatched config is = of_hearing (λ h. is_watching h ≡ false) (kind_of config) (wants_pushes config) is refl refl
 
 -- what holds of both books holds of the one that its configuration says
-pub of_multiplexed : (config : Config) (word : ℕ) (front : List Action) (P : Book → Type 0) → is_multiplexed (kind_of config) ≡ true
+pub of_multiplexed : (config : Config) (word : ℕ) (front : List Action) (P : Book → Type 0) → is_multiplexed (kind_of config) ≡ true → settings_in (Some config) ≡ None
     → P (book_from config word front (told_info config) (wants_credentials config) hearing.Nothing)
     → P (book_from config word front (told_info config) (wants_credentials config) hearing.Pushes)
     → P (book_said config word front)
-of_multiplexed config word front P is none some =
-    of_hearing (λ h. P (book_from config word front (told_info config) (wants_credentials config) h)) (kind_of config) (wants_pushes config) is none some
+of_multiplexed config word front P is alone none some =
+    of_alone config word front P alone (of_hearing (λ h. P (book_from config word front (told_info config) (wants_credentials config) h)) (kind_of config) (wants_pushes config) is none some)
 
 -- nothing is said to a server, where perhaps a user has a name
 abbrev pub silent_as : Option (List ℕ) → RedisConnectionInfo
@@ -116,18 +130,18 @@ unwanted true e = cc e
 unwanted false e = refl
 
 -- so it is of a link that was up at once
-pub of_silent : (config : Config) (word : ℕ) (front : List Action) (P : Book → Type 0) → is_multiplexed (kind_of config) ≡ true → IsSilent config → IsGiven config
+pub of_silent : (config : Config) (word : ℕ) (front : List Action) (P : Book → Type 0) → is_multiplexed (kind_of config) ≡ true → settings_in (Some config) ≡ None → IsSilent config → IsGiven config
     → ((name : Option (List ℕ)) → P (book_from config word front (silent_as name) false hearing.Nothing))
     → ((name : Option (List ℕ)) → P (book_from config word front (silent_as name) false hearing.Pushes))
     → P (book_said config word front)
-of_silent config word front P is silent given none some =
+of_silent config word front P is alone silent given none some =
     let info = told_info config in
     let said : info ≡ silent_as info.username = silent_info info silent in
     let bare : wants_credentials config ≡ false = unwanted (wants_credentials config) given in
     let Q : Hearing → Type 0 = λ h. P (book_from config word front info (wants_credentials config) h) in
     let of : (h : Hearing) → ((name : Option (List ℕ)) → P (book_from config word front (silent_as name) false h)) → Q h = λ h p.
     subst (λ w. P (book_from config word front info w h)) (sym bare) (subst (λ i. P (book_from config word front i false h)) (sym said) (p info.username)) in
-    of_multiplexed config word front P is (of hearing.Nothing none) (of hearing.Pushes some)
+    of_multiplexed config word front P is alone (of hearing.Nothing none) (of hearing.Pushes some)
 
 -- and of one on which such a submission came then
 pub of_arrived : (config : Config) (word : ℕ) (events : List Event) (front after : List Action) (what : Submission) (P : Book → Type 0) → is_foreign what ≡ true
@@ -136,7 +150,7 @@ pub of_arrived : (config : Config) (word : ℕ) (events : List Event) (front aft
     → ((name : Option (List ℕ)) → P (book_from config word front (silent_as name) false hearing.Pushes))
     → P (book_said config word front)
 of_arrived config word events front after what P foreign h none some =
-    of_silent config word front P (multiplexed_behind config word events (came_up config word) after 2 what refl foreign h)
+    of_silent config word front P (multiplexed_behind config word events (came_up config word) after 2 what refl foreign h) (opens_alone config word events _ h)
     (came_up_silent config word events (turn 2 (event.Submit what) ∷ after) h) (came_up_given config word events (turn 2 (event.Submit what) ∷ after) h) none some
 
 -- none is not some, nor is some none

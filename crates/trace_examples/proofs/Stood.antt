@@ -20,7 +20,7 @@ use Rattle.legal_trace.specs.Ledger.{is_ready, is_set_up, is_well}
 use Rattle.legal_trace.specs.Story.{is_awaited}
 use Rattle.legal_trace.specs.Managers.{settings_in, is_lazy}
 use Rattle.legal_trace.specs.Book.{Book, blank_book, entered_each}
-use Rattle.legal_trace.specs.Legal.{IsOpen, MayAnswer, MayStand, Legal}
+use Rattle.legal_trace.specs.Legal.{IsOpen, MayAnswer, MayBeCreated, MayShowCreation, MayStand, Legal}
 use Rattle.legal_trace.proofs.Books.{stand_behind}
 use Rattle.legal_trace.proofs.Moves.{tells_mean, ready_is_up, ready_is_set}
 use Rattle.legal_trace.proofs.Setups.{set_is_given, set_is_said}
@@ -82,16 +82,19 @@ opens_alone config word events after h =
     none_in None e = refl
     none_in (Some settings) e = cc e
 
+-- one that doesn't wait so is created where a link is ready
+pub created_by_link : (b : Book) → is_lazy b.config ≡ false → MayShowCreation b None → MayBeCreated b
+created_by_link b lazy (inl may) = may
+created_by_link b lazy (inr may) = absurd (not_both (is_lazy b.config) lazy (ap is_lazy may.told ∙ may.lazy))
+
 -- where the creation is shown of one that doesn't wait so, and one link was asked for, this is ready
 created_ready : (config : Config) (word : ℕ) (events : List Event) (front after : List Action) → IsBounded (book_of front) → (book_of front).links ≡ 1 → is_lazy (book_of front).config ≡ false
     → Legal config word events (front ++ action.Created None ∷ after) → is_ready ((book_of front).link 0) ≡ true
 created_ready config word events front after bounded one lazy h =
     let b = book_of front in
-    elim (may_stand config word events front after (action.Created None) h) [
-      | inl m ↦ first_and_idle b (λ l. is_ready (b.link l) ≡ true → is_ready (b.link 0) ≡ true) m.l bounded one (λ r. r)
-          (λ idle r. absurd (not_both (b.link m.l).up idle.down (ready_is_up (b.link m.l) r))) m.ready
-      | inr m ↦ absurd (not_both (is_lazy b.config) lazy (ap is_lazy m.told ∙ m.lazy))
-    ]
+    let m = created_by_link b lazy (may_stand config word events front after (action.Created None) h) in
+    first_and_idle b (λ l. is_ready (b.link l) ≡ true → is_ready (b.link 0) ≡ true) m.l bounded one (λ r. r)
+    (λ idle r. absurd (not_both (b.link m.l).up idle.down (ready_is_up (b.link m.l) r))) m.ready
 
 -- where no setup started, and a link is set up, nothing is to be said
 silent_from : (says : Bool) → is_well (if says then Some result.Ready else None) ≡ true → says ≡ true

@@ -49,6 +49,10 @@ trying_thrice = trying false 2
 abbrev pub resubscribing : Config
 resubscribing = manager_to false (codes "redis://h:6379/?protocol=3") (record patient { push = Some true }) (record no_manager_words { resub = Some true })
 
+-- the same, where what the driver says itself, as a request, is to be answered within 100 milliseconds
+abbrev pub resubscribing_in_time : Config
+resubscribing_in_time = manager_to false (codes "redis://h:6379/?protocol=3") (record patient { push = Some true; response = Some (Some 100) }) (record no_manager_words { resub = Some true })
+
 -- an event, and its turn, with this word
 abbrev pub drawn : ℕ → EventKind → Event
 drawn draws kind = record { word = draws; kind = kind }
@@ -218,6 +222,28 @@ leaving_d =
     event.Submit (call_of_d Unsubscribe) ∷ event.Wrote 0 29 ∷ event.Bytes 0 confirmation ∷
     event.Ended 0 ∷ event.Connected 1 ∷ event.Bytes 1 hello_bare ∷ []
 
+-- in time, a channel is subscribed, the link ends, and the next one is set up
+abbrev pub up_in_time : Config → ℕ → List Action
+up_in_time config word =
+    ready config word ++
+    turn 4 (event.Submit call_of_c) ∷ action.Round (owner.Try 0 0) (Some 0) ∷ action.Timer 0 100 (purpose.Response (owner.Try 0 0)) ∷
+    action.Start 0 1 (owner.Try 0 0) 1 26 ∷ action.Write 0 (packed_bytes call_of_c) ∷
+    turn 5 (event.Wrote 0 26) ∷ turn 6 (event.Bytes 0 confirmation) ∷ action.Push 0 subscription ∷ action.Outcome 0 outcome.Done ∷
+    turn 7 (event.Ended 0) ∷ action.Close 0 ∷ action.Push 0 disconnection ∷ action.Generation 2 ∷ connect 1 ∷
+    greeted_on 1 8 ++ turn 9 (event.Bytes 1 hello_bare) ∷ []
+
+-- that is subscribed again, a key is asked for meanwhile, and the time is over
+abbrev pub over_in_time : Config → ℕ → List Action
+over_in_time config word =
+    up_in_time config word ++ action.Timer 1 100 (purpose.Resubscription 1) ∷ action.Start 1 1 owner.Resub 1 26 ∷
+    turn 10 (event.Submit (get 97)) ∷ action.Wait (owner.Try 1 0) wait.Resubscribe ∷ turn 11 (event.Fired 1) ∷ []
+
+-- the events of it
+abbrev pub running_over : List EventKind
+running_over =
+    event.Connected 0 ∷ event.Wrote 0 22 ∷ event.Bytes 0 hello_bare ∷ event.Submit call_of_c ∷ event.Wrote 0 26 ∷ event.Bytes 0 confirmation ∷
+    event.Ended 0 ∷ event.Connected 1 ∷ event.Bytes 1 hello_bare ∷ event.Submit (get 97) ∷ event.Fired 1 ∷ []
+
 -- with this configuration, these actions are a legal trace for these events, whatever the word of the opening
 abbrev pub AreLegal : Config → List Event → (Config → ℕ → List Action) → List Action → Type 0
 AreLegal config events front last = (word : ℕ) → Legal config word events (front config word ++ last)
@@ -228,4 +254,4 @@ manager_fronts word =
     opened_lazily lazy_once word ∷ failed_so lazy_once word ∷ begun_next lazy_once word ∷ replaced lazy_once word ∷
     attempt_failed 250 trying_twice word ∷ resting 250 50 trying_twice word ∷ asked_in_vain trying_twice word ∷ failed_again trying_thrice word ∷
     subscribed_c resubscribing word ∷ lost resubscribing word ∷ set_up_again resubscribing word ∷ repeated resubscribing word ∷
-    repeated_well resubscribing word ∷ replied_there resubscribing word ∷ left_d resubscribing word ∷ []
+    repeated_well resubscribing word ∷ replied_there resubscribing word ∷ left_d resubscribing word ∷ up_in_time resubscribing_in_time word ∷ []

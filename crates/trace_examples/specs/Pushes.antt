@@ -1,5 +1,5 @@
 -- Traces of links on which pushes come.
-use Rattle.std.specs.Prelude.{ℕ, true, List, [], ◌∷◌, ◌++◌, Some, None, codes, pos, false}
+use Rattle.std.specs.Prelude.{ℕ, true, false, List, [], ◌∷◌, ◌++◌, Some, None, codes, pos}
 use Rattle.redis_error.specs.declared.fault_kind.FaultKind.TheVariants.{Reset}
 use Rattle.resp_value.specs.declared.push_kind.PushKind.TheVariants.{Disconnection, Invalidate, Subscribe}
 use Rattle.resp_value.specs.Data.{Data, bulk, int, push, simple, items_of}

@@ -17,6 +17,8 @@ ghost use Rattle.trace_examples.specs.Managers.{tried_thrice, subscribed_c, lost
 ghost use Rattle.trace_examples.specs.Managers.{set_up_again, repeated, repeated_well};
 ghost use Rattle.trace_examples.specs.Managers.{came_back, replied_there, coming_back};
 ghost use Rattle.trace_examples.specs.Managers.{left_d, leaving_d, AreLegal, manager_fronts};
+ghost use Rattle.trace_examples.specs.Managers.{resubscribing_in_time, up_in_time, over_in_time};
+ghost use Rattle.trace_examples.specs.Managers.{running_over};
 ghost use Rattle.trace_examples.specs.Claims.{IsTraceIn, NoneBeginsIn};
 ghost use Rattle.trace_examples.specs.Fronts.{EachStands};
 
@@ -26,7 +28,7 @@ ghost use Rattle.trace_examples.specs.Fronts.{EachStands};
 /// the turn and the number of the attempt say; once the last has failed the creation has, and what
 /// comes then is answered with its error. A manager whose link is lost answers those that started,
 /// asks for the next one, subscribes again what is subscribed at that moment once it is set up, and
-/// then begins the rounds of those that wait.
+/// then begins the rounds of those that wait; it begins them also where that isn't answered in time.
 pub fn these_come_back()
     ensures replaced_once_failed { IsTraceIn lazy_once
         (event.Submit (get 97) ∷ event.Refused 0 Refused ∷ []) replaced [] }
@@ -36,6 +38,9 @@ pub fn these_come_back()
     ensures comes_back { IsTraceIn resubscribing coming_back came_back [] }
     ensures repeats_what_is { IsTraceIn resubscribing leaving_d left_d
         (action.Start 1 1 owner.Resub 1 26 ∷ []) }
+    ensures goes_on_without { IsTraceIn resubscribing_in_time running_over over_in_time
+        (action.Round (owner.Try 1 0) (Some 1) ∷ action.Timer 2 100 (purpose.Response (owner.Try 1 0))
+        ∷ action.Start 1 2 (owner.Try 1 0) 1 20 ∷ []) }
 {}
 
 /// Does nothing. Its contract: no trace that begins so is legal, whatever its events were and
@@ -44,7 +49,8 @@ pub fn these_come_back()
 /// turn; one without a cause, and one where the creation has failed; a wait of another length than
 /// the word gives, or as long as the one before; an attempt while the wait before it goes on; a
 /// generation before those are answered whose link was lost; a turn that begins where what is
-/// subscribed was not subscribed again; a message that subscribes to more or to less; a round before
+/// subscribed was not subscribed again; a message that subscribes to more or to less, or comes before
+/// its timer; a round before
 /// that is answered, or on another link; a request that starts without its round; and an outcome that
 /// a new link gives to a request of an old one. Each action of the fronts stands where it may.
 pub fn nor_do_these_come_back()
@@ -75,6 +81,8 @@ pub fn nor_do_these_come_back()
         → NoneBeginsIn resubscribing set_up_again (action.Turn number c) }
     ensures repeated_otherwise { (k count len : ℕ) → len ≢ 26
         → NoneBeginsIn resubscribing left_d (action.Start 1 k owner.Resub count len) }
+    ensures repeated_untimed { (k count len : ℕ)
+        → NoneBeginsIn resubscribing_in_time up_in_time (action.Start 1 k owner.Resub count len) }
     ensures round_too_soon { (round l : ℕ)
         → NoneBeginsIn resubscribing repeated (action.Round (owner.Try 3 round) (Some l)) }
     ensures round_elsewhere { (round l : ℕ) → l ≢ 1
