@@ -53,3 +53,4 @@ pub mod Parted
 pub mod Among
 pub mod Attempts
 pub mod Generations
+pub mod Late

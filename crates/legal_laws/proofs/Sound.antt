@@ -13,10 +13,11 @@ use Rattle.legal_laws.proofs.Told.{NoticesWait, waits_kept}
 use Rattle.legal_laws.proofs.Lives.{Lives, lives_kept, Goes}
 use Rattle.legal_laws.proofs.Goes.{goes_kept}
 
--- how it opens, and that until the first event nothing happens to links; the numbers of links and submissions; that links which are up have not ended, and are not dealt too many
--- items; what submissions were answered, and which messages they started; what links hear of a shutdown, that setups take what they are to, and that nothing
--- starts on a link that lacks credentials; that a link of which something waits to be told is up, where it is heard; and that one link is
--- current, to which submissions go that are open
+-- how it opens, and that until the first event nothing happens to links; the numbers of links and submissions; that links which
+-- are up have not ended, and are not dealt too many items; what submissions were answered, and which messages they started; what
+-- links hear of a shutdown, that setups take what they are to, and that nothing starts on a link that lacks credentials; that a
+-- link of which something waits to be told is up, where it is heard; and that one link is current, to which submissions go that
+-- are open
 pub record Sound (b : Book) : Type 0 where
   pub opens : IsOpening b
   pub still : StillAtFirst b.turns b.link

@@ -14,4 +14,5 @@ pub mod Reports
 pub mod Drops
 pub mod Pushes
 pub mod Generations
+pub mod Late
 pub mod Laws

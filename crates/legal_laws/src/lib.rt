@@ -21,6 +21,7 @@ ghost use Rattle.legal_laws.specs.Laws.{EachTellsMessages, EachTellsReports, Eac
 ghost use Rattle.legal_laws.specs.Values.{ConfirmationsAreNone};
 ghost use Rattle.legal_laws.specs.Laws.{EachTimesRenewals};
 ghost use Rattle.legal_laws.specs.Generations.{ComesBack};
+ghost use Rattle.legal_laws.specs.Late.{LateIsNothing};
 
 /// Does nothing. Its contract: what a legal trace tells of each link is legal by itself. What the
 /// book of any trace has of a link is what these lines come to.
@@ -199,4 +200,10 @@ pub fn an_end_is_told_once()
 /// waits as long as that and the word of the turn say.
 pub fn a_generation_begins_by_its_causes()
     ensures { OfEachLegal ComesBack }
+{}
+
+/// Does nothing. Its contract: in a legal trace the turn of an event that came of a link which has
+/// ended is announced, and that is all.
+pub fn a_link_that_has_ended_shows_nothing()
+    ensures { OfEachLegal LateIsNothing }
 {}

@@ -97,10 +97,10 @@ abbrev pub unsourced : Bool → Sourced
 unsourced wanted = record { wanted = wanted; asked = false; given = false; renews = false; renewals = []; over = false; timed = 0; lost = false }
 
 -- whether its connect was asked for, what is to be said to its server then, what is heard on it beside replies, and its
--- credentials that come of sources; whether no other attempt follows where its opening fails; whether the connect succeeded and it has not ended; how it ended; its starts in order; the
--- bytes that were taken from it; the bytes of its unanswered offer; what came behind the last whole value, and whether that value
--- ends it; the items dealt; what came once it was set up and is to be told, how much of it was, and whether its end was told as a
--- push; and what it was told by the turn that runs
+-- credentials that come of sources; whether no other attempt follows where its opening fails; whether the connect succeeded and
+-- it has not ended; how it ended; its starts in order; the bytes that were taken from it; the bytes of its unanswered offer; what
+-- came behind the last whole value, and whether that value ends it; the items dealt; what came once it was set up and is to be
+-- told, how much of it was, and whether its end was told as a push; and what it was told by the turn that runs
 pub record Ledger : Type 0 where
   pub asked : Bool
   pub info : RedisConnectionInfo
@@ -508,9 +508,9 @@ abbrev pub ended : Ledger → ℕ → Ledger
 ended l turn = record l { up = false; end = Some (record { turn = turn; why = lasting l.last (ending_or_shutdown (ending l)); oldest = full_count l.starts l.dealt; served = is_ready l }) }
 
 -- a line of what is told of a link: its connect is asked for, this is to be said to its server then, whether credentials are to
--- come of sources, what is heard on it, and whether no other attempt follows where its opening fails; the turn of that number, with this news for it; a message begins; its unwritten
--- bytes are offered; the next notice is told; a source of credentials is asked for; a timer for new credentials is; it is closed, in that turn; its
--- end is told as a push
+-- come of sources, what is heard on it, and whether no other attempt follows where its opening fails; the turn of that number,
+-- with this news for it; a message begins; its unwritten bytes are offered; the next notice is told; a source of credentials is
+-- asked for; a timer for new credentials is; it is closed, in that turn; its end is told as a push
 pub data Line : Type 0 where
   asks : RedisConnectionInfo → Bool → Hearing → Bool → Line
   hears : ℕ → News → Line

@@ -213,9 +213,9 @@ pub record IsWritten (b : Book) : Type 0 where
   pub moved : IsMoved b
   pub offered : (l : ℕ) → (b.link l).up ≡ true → IsOffered (b.link l)
 
--- the wait that is true of a submission without a message: its link's connect isn't asked for, or isn't answered, or the credentials for its setup
--- have not come, or the setup isn't answered; all permits are held; the queue of its link has no place for it; or it has its
--- place, and its link is held back
+-- the wait that is true of a submission without a message: its link's connect isn't asked for, or isn't answered, or the
+-- credentials for its setup have not come, or the setup isn't answered; all permits are held; the queue of its link has no place
+-- for it; or it has its place, and its link is held back
 abbrev pub WaitHolds : Book → ℕ → WaitKind → Type 0
 WaitHolds b n kind = next_step b n ≡ waits kind
 

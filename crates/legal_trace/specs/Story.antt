@@ -14,10 +14,10 @@ pub record Try : Type 0 where
   pub link : ℕ
   pub message : ℕ
 
--- the submission itself, whether it came after everything was shut down, and whether it needs RESP3 and its link's server is
--- told another protocol; the generation that it belongs to, and the link that it goes to; within how many milliseconds it is to be answered, if within any; the
--- permits that it holds; the timer that was asked for it, and whether that fired while it was open; its messages that
--- started, in order; the wait that was shown and stands; its outcomes; and whether its caller has gone
+-- the submission itself, whether it came after everything was shut down, and whether it needs RESP3 and its link's server is told
+-- another protocol; the generation that it belongs to, and the link that it goes to; within how many milliseconds it is to be
+-- answered, if within any; the permits that it holds; the timer that was asked for it, and whether that fired while it was open;
+-- its messages that started, in order; the wait that was shown and stands; its outcomes; and whether its caller has gone
 pub record Story : Type 0 where
   pub submission : Option Submission
   pub late : Bool
