@@ -73,7 +73,7 @@ below_the_next b (action.Start l k (owner.Try n round) count len) t may e = omeg
 below_the_next b _ t may e = omega arith
 
 -- where a turn is settled, nothing but a turn may stand
-only_a_turn : (b : Book) (y : Action) (t : List Action) (may : MayStand b y) → Sound b → IsSettled b → [] ≡ causes (y ∷ t) → ⊥
+pub only_a_turn : (b : Book) (y : Action) (t : List Action) (may : MayStand b y) → Sound b → IsSettled b → [] ≡ causes (y ∷ t) → ⊥
 only_a_turn b y t may h done e = not_done b y may (step_of b (rank b y may) 20 (below_the_next b y t may e) (settled b h done))
 
 -- behind one book there is one way on

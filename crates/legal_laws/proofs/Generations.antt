@@ -51,7 +51,7 @@ shown_behind b g h = record {
 }
 
 -- where the last of four doesn't hold, not all do
-last_fails : (p q r s : Bool) → s ≡ false → (p && (q && (r && s))) ≡ false
+pub last_fails : (p q r s : Bool) → s ≡ false → (p && (q && (r && s))) ≡ false
 last_fails true true true s e = e
 last_fails true true false s e = refl
 last_fails true false r s e = refl
@@ -107,7 +107,7 @@ next_connects b g a more h may next =
     subst (λ x. ConnectsNext b.links (x ∷ more)) (sym it.3) it.4.next))
 
 -- what stands behind an action that stands behind a front
-second_may : (config : Config) (word : ℕ) (events : List Event) (front more : List Action) (first second : Action) → Legal config word events (front ++ first ∷ second ∷ more) → MayStand (entered (book front) first) second
+pub second_may : (config : Config) (word : ℕ) (events : List Event) (front more : List Action) (first second : Action) → Legal config word events (front ++ first ∷ second ∷ more) → MayStand (entered (book front) first) second
 unfolding book
 second_may config word events front more first second h = (stand_behind blank_book front (first ∷ second ∷ more) h.each).1.0
 

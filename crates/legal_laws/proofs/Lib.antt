@@ -59,3 +59,4 @@ pub mod Attempts
 pub mod Generations
 pub mod Rounding
 pub mod Resubscribed
+pub mod Late

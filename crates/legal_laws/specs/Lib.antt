@@ -16,4 +16,5 @@ pub mod Pushes
 pub mod Generations
 pub mod Rounds
 pub mod Resubscription
+pub mod Late
 pub mod Laws

@@ -23,6 +23,7 @@ ghost use Rattle.legal_laws.specs.Laws.{EachTimesRenewals};
 ghost use Rattle.legal_laws.specs.Generations.{ComesBack};
 ghost use Rattle.legal_laws.specs.Rounds.{KeepsRounds};
 ghost use Rattle.legal_laws.specs.Resubscription.{SubscribesAsItWas};
+ghost use Rattle.legal_laws.specs.Late.{LateIsNothing};
 
 /// Does nothing. Its contract: what a legal trace tells of each link is legal by itself. What the
 /// book of any trace has of a link is what these lines come to.
@@ -219,4 +220,10 @@ pub fn a_round_begins_on_the_link_of_its_generation()
 /// and until it is answered, or given up, no message of a submission starts there.
 pub fn what_is_subscribed_is_subscribed_again()
     ensures { OfEachLegal SubscribesAsItWas }
+{}
+
+/// Does nothing. Its contract: in a legal trace the turn of an event that came of a link which has
+/// ended is announced, and that is all.
+pub fn a_link_that_has_ended_shows_nothing()
+    ensures { OfEachLegal LateIsNothing }
 {}
