@@ -71,7 +71,7 @@ started_untold config word events after h =
     untold_starts (book_of (left_untold config word)) 0 refl refl m.1.starts
 
 -- where a session doesn't come back nothing is subscribed again on its link
-alone_is_served : (config : Config) (l : Ledger) → settings_in (Some config) ≡ None → l.again.wanted ≡ repeats_in (settings_in (Some config)) [] → is_served l ≡ true
+pub alone_is_served : (config : Config) (l : Ledger) → settings_in (Some config) ≡ None → l.again.wanted ≡ repeats_in (settings_in (Some config)) [] → is_served l ≡ true
 alone_is_served config l alone said = unwanted_is_served l (said ∙ ap (λ s. repeats_in s []) alone)
 
 -- where the second of two that came before the connect has its place, the first is to make a step

@@ -46,5 +46,5 @@ pub up_in_time : IsTraceIn bounded
     (event.Connected 0 ∷ event.Fired 0 ∷ event.Refused 0 Reset ∷ [])
     timed_opening
     (turn 1 (event.Connected 0) ∷ action.Created None ∷ turn 2 (event.Fired 0) ∷ turn 3 (event.Refused 0 Reset) ∷ [])
-unfolding is_bad_event url_on_literals utf8_lossy utf8_valid_len
+unfolding settings_in is_lazy is_bad_event url_on_literals utf8_lossy utf8_valid_len
 up_in_time word = legal bounded word _ _ refl refl (at_h None, ((refl, refl), tt))

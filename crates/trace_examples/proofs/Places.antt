@@ -27,9 +27,9 @@ use Rattle.trace_examples.specs.Places.{narrow, one_at_a_time, third_held, third
 use Rattle.trace_examples.specs.Fronts.{EachStands}
 use Rattle.trace_examples.specs.Claims.{IsTraceIn, NoneBegins, NoneBeginsIn}
 use Rattle.trace_examples.proofs.Due.{legal, stands}
-use Rattle.trace_examples.proofs.Misplaced.{first_is_due, room_for_one, starts_uncounted}
+use Rattle.trace_examples.proofs.Misplaced.{alone_is_served, first_is_due, room_for_one, starts_uncounted}
 use Rattle.trace_examples.proofs.Server.{at_held}
-use Rattle.trace_examples.proofs.Stood.{book_of, may_stand}
+use Rattle.trace_examples.proofs.Stood.{book_of, may_stand, opens_alone}
 
 -- a command waits for room when its link fails
 pub cut_off_in_wait : IsTraceIn narrow
@@ -154,4 +154,4 @@ second_before_the_first config word events after h =
     let b = book_of (both_in_wait config word (command 72)) in
     let m = may_stand config word events (both_in_wait config word (command 72)) after (action.Start 0 0 (owner.Try 1 0) 1 11) h in
     let s = starts_uncounted b 1 refl refl m.1.starts in
-    m.1.in_order 0 (omega arith) (record { unstarted = refl; due = first_is_due b refl (starts_mean b 1 m.1.starts).1 refl refl s.0 (room_for_one (buffer_size config) (renewals_in_line (b.link 0) + line_before (permits config) b.story 0 1) s.1) })
+    m.1.in_order 0 (omega arith) (record { unstarted = refl; due = first_is_due b refl (starts_mean b 1 m.1.starts).1 (alone_is_served config (b.link 0) (opens_alone config word events _ h) refl) refl refl s.0 (room_for_one (buffer_size config) (renewals_in_line (b.link 0) + line_before (permits config) b.story 0 1) s.1) })
