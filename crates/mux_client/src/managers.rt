@@ -50,7 +50,8 @@ fn managed_words(
     ensures read { OnOk result (ReadsBack client.now) }
     ensures err { IfErr result (RefusesMaking client.now) }
 {
-    let address = address_words(alloc, client.get_connection_info())?;
+    let info = client.get_connection_info();
+    let address = address_words(alloc, info)?;
     Ok(Config::Manager {
         lazy,
         address,

@@ -15,7 +15,7 @@ use Rattle.redis_error.specs.declared.fault_kind.FaultKind.{FaultKind}
 use Rattle.script_text.specs.Numbers.{number, max_u32, max_u64, time_limit}
 use Rattle.script_text.specs.Words.{LineWords}
 use Rattle.script_text.specs.Draws.{is_draw, drawn}
-use Rattle.script_text.specs.EventLine.{Forms, by_first, whole, numbered, wrote, came, authorized, denied, timed, alone, faults, fault_among, failed, commands, packed, pinged, calls, submissions, others, events, drawing, event_of}
+use Rattle.script_text.specs.EventLine.{Forms, by_first, whole, numbered, wrote, came, authorized, denied, timed, alone, faults, fault_among, failed, commands, packed, pinged, calls, requests, submissions, others, events, drawing, event_of}
 use Rattle.containers.proofs.Choices.{chosen}
 use Rattle.text_laws.specs.Fits.{AreBytes, FitsCommands, FitsSubmission, FitsNumber, FitsLimit, FitsKind, FitsEvent, HasForm}
 use Rattle.text_laws.proofs.Held.{mapped, then_read, any_read, number_within}

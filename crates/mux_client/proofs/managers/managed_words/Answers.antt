@@ -6,4 +6,4 @@ use Rattle.mux_client.proofs.managers.managed_words.Goals as goal
 pub returns-clause-keeps : goal.returns-clause-keeps
 returns-clause-keeps c =
     managed_keep c.args.lazy c.args.client.now c.args.config.now _ (search rules)
-    (subst ReadsBack c.get_connection_info.ensures c.in_ok-address.ensures.read)
+    (subst ReadsBack c.get_connection_info-info.ensures c.in_ok-address.ensures.read)
