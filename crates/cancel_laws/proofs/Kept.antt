@@ -51,7 +51,7 @@ use Rattle.shared_session.specs.declared.core_state.Core.{Core}
 use Rattle.shared_session.specs.Turn.{Turning, work_of, heard, counted, submitted, left_by, late_by, fired_by, requested, effect, next_turn}
 use Rattle.cancel_laws.proofs.Counts.{count_on, count_started, count_came}
 use Rattle.cancel_laws.proofs.Requests.{admitted_now}
-use Rattle.driver_model.specs.Kind.{is_single}
+use Rattle.driver_model.specs.Kind.{has_timeouts}
 use Rattle.driver_model.specs.Hearing.{felt, hears_messages, hears_pushes, is_watching}
 use Rattle.driver_model.specs.declared.hearing.Hearing.{Hearing}
 use Rattle.driver_model.specs.declared.hearing.Hearing.TheVariants as hearing
@@ -738,7 +738,7 @@ requested_kept k t a (event.Connected l) h = h
 requested_kept k t a (event.Refused l f) h = h
 requested_kept k t a (event.Fired n) h = fired_kept k t (slice_get t.core.timers n) h
 requested_kept {P = P} k t a (event.Timeout ms) h =
-    chosen (λ (c : Core). P c.single.connection.limit c.single.connection.requests c.single.connection.life c.single.connection.moved t.acts) (is_single t.core.kind) (record t.core { timeout = ms }) t.core (λ y. h) (λ y. h)
+    chosen (λ (c : Core). P c.single.connection.limit c.single.connection.requests c.single.connection.life c.single.connection.moved t.acts) (has_timeouts t.core.kind) (record t.core { timeout = ms }) t.core (λ y. h) (λ y. h)
 requested_kept k t a (event.Creds c auth) h = h
 requested_kept k t a (event.CredsError c text) h = h
 requested_kept k t a (event.CredsEnd c) h = h

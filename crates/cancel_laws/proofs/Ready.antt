@@ -9,7 +9,7 @@ use Rattle.driver_model.specs.declared.event.Event.{Event}
 use Rattle.driver_model.specs.declared.event.EventKind.{EventKind}
 use Rattle.driver_model.specs.declared.event.EventKind.TheVariants as event
 use Rattle.driver_model.specs.Config.{permits}
-use Rattle.driver_model.specs.Kind.{is_single}
+use Rattle.driver_model.specs.Kind.{has_timeouts}
 use Rattle.driver_model.specs.Request.{packed_bytes, lacks_resp3}
 use Rattle.mux_conn.specs.declared.life.Life.{Life}
 use Rattle.mux_conn.specs.declared.request.Pending.{Pending}
@@ -118,7 +118,7 @@ named_requested t (event.Cancel n) h = named_left_by t (slice_get t.core.table n
 named_requested t (event.Connected l) h = h
 named_requested t (event.Refused l f) h = h
 named_requested t (event.Fired n) h = named_fired_by t (slice_get t.core.timers n) h
-named_requested t (event.Timeout ms) h = chosen (λ (c : Core). NamedIn (record t { core = c })) (is_single t.core.kind) (record t.core { timeout = ms }) t.core (λ y. h) (λ y. h)
+named_requested t (event.Timeout ms) h = chosen (λ (c : Core). NamedIn (record t { core = c })) (has_timeouts t.core.kind) (record t.core { timeout = ms }) t.core (λ y. h) (λ y. h)
 named_requested t (event.Creds c auth) h = h
 named_requested t (event.CredsError c text) h = h
 named_requested t (event.CredsEnd c) h = h

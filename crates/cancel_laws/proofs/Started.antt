@@ -3,19 +3,18 @@
 use Rattle.std.proofs.Common.{◌≡◌, ◌≢◌, ℕ, zero, suc, ◌<◌, ◌==◌, Bool, true, false, ◌&&◌, not, List, [], ◌∷◌, Option, Some, None, if◌then◌else◌, refl, sym, ap, ◌∙◌, subst, arith}
 use Rattle.containers.proofs.Choices.{not_le_test}
 use Rattle.std.specs.Prelude.{unwrap_or}
-use Rattle.connection_info.specs.declared.address.ConnectionInfo.{ConnectionInfo}
 use Rattle.connection_info.specs.declared.protocol.ProtocolVersion.{ProtocolVersion}
 use Rattle.connection_info.specs.Protocol.{is_resp3}
-use Rattle.redis_error.specs.declared.config_name.ConfigName.{ConfigName}
 use Rattle.redis_error.specs.declared.config_name.ConfigName.TheVariants as name
 use Rattle.driver_model.specs.declared.config.Config.{Config}
 use Rattle.driver_model.specs.declared.event.Submission.{Submission}
 use Rattle.driver_model.specs.declared.event.Submission.TheVariants.{Cmd, Pipe, Multi, Subscription, Ping}
 use Rattle.resp_write.specs.declared.subscription.SubscriptionAction.{SubscriptionAction}
 use Rattle.connection_setup.specs.Setup.{setup}
-use Rattle.driver_model.specs.Config.{address, buffer_size, buffer_fault, hearing_of, permits, room_fault, fault_in, told_info}
-use Rattle.driver_model.specs.Hearing.{hears_messages, hears_pushes, is_watching}
+use Rattle.driver_model.specs.Config.{buffer_size, buffer_fault, hearing_of, permits, room_fault, told_info}
+use Rattle.driver_model.specs.Hearing.{hears_messages, is_watching}
 use Rattle.driver_model.specs.declared.hearing.Hearing.{Hearing}
+use Rattle.driver_model.proofs.Sound.{unless_refused, is_roomy}
 use Rattle.mux_conn.specs.declared.life.Greeting.TheVariants as greet
 use Rattle.driver_model.specs.Setup.{says_nothing}
 use Rattle.driver_model.specs.Request.{packed_bytes, is_reply_awaited, needs_resp3, lacks_resp3}
@@ -27,12 +26,6 @@ use Rattle.shared_session.specs.Turn.{work_of, with_work, shut_by, counted, move
 use Rattle.shared_session.specs.Replay.{opening_core, IsSound, state_after}
 use Rattle.cancel_laws.specs.Cancels.{connected_at, handed_in_after_connect, SaysNothing, IsFree, HasStarted}
 use Rattle.cancel_laws.proofs.Free.{free_started}
-use Rattle.connection_info.specs.Protocol.{is_resp3}
-
--- what is refused where a test holds isn't refused where it doesn't
-unless_refused : (b : Bool) (what : ConfigName) (rest : Option ConfigName) → (if b then Some what else rest) ≡ None → (b ≡ false) × (rest ≡ None)
-unless_refused true what rest e = cc
-unless_refused false what rest e = (refl, e)
 
 -- a queue that isn't refused holds something
 some_place : (size : ℕ) → buffer_fault size ≡ None → 0 < size
@@ -48,11 +41,6 @@ room_places (Some most) size e = some_place size (unless_refused (most == 0) nam
 room_permits : (lim : Option ℕ) (size : ℕ) → room_fault lim size ≡ None → has_no_permit lim (unwrap_or lim 0) ≡ false
 room_permits None size e = refl
 room_permits (Some most) size e = (unless_refused (most == 0) name.Limit (buffer_fault size) e).0
-
--- so that both are true of a configuration of which nothing is refused
-room_sound : (info : Option ConnectionInfo) (heard : Bool) (lim : Option ℕ) (size : ℕ) → fault_in info heard lim size ≡ None → room_fault lim size ≡ None
-room_sound None heard lim size e = cc
-room_sound (Some info) heard lim size e = (unless_refused (heard && not (is_resp3 info.redis.protocol)) name.Push (room_fault lim size) e).1
 
 -- where the connect leads: the link waits for credentials that are to come of a source, or it is ready where nothing is to be
 -- said and the server isn't put into monitor mode, and else it is set up
@@ -71,7 +59,7 @@ up_at config word draw wants silent watching =
 connected_free : (config : Config) (word draw : ℕ) → IsSound config → SaysNothing config → IsFree (state_after config word (connected_at draw ∷ []))
 unfolding state_after next_turn
 connected_free config word draw sound silent =
-    let fits = room_sound (address config) (hears_pushes (hearing_of config)) (permits config) (buffer_size config) sound in
+    let fits = is_roomy config sound in
     let says = says_nothing (setup (told_info config) true) in
     subst (λ (b : Bool). IsFree (up_at config word draw b says (is_watching (hearing_of config)))) (sym silent.0)
     (subst (λ (b : Bool). IsFree (up_at config word draw false b (is_watching (hearing_of config)))) (sym silent.1)

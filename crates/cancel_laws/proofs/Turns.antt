@@ -12,7 +12,7 @@ use Rattle.driver_model.specs.declared.event.EventKind.TheVariants as event
 use Rattle.driver_model.specs.declared.event.Submission.{Submission}
 use Rattle.driver_model.specs.declared.outcome.Outcome.TheVariants as outcome
 use Rattle.driver_model.specs.News.{news_of}
-use Rattle.driver_model.specs.Kind.{is_single}
+use Rattle.driver_model.specs.Kind.{has_timeouts}
 use Rattle.driver_model.specs.Request.{packed_bytes, shape_of, is_reply_awaited, lacks_resp3}
 use Rattle.mux_conn.specs.declared.act.LinkAct.{LinkAct}
 use Rattle.mux_conn.specs.declared.act.LinkAct.TheVariants as act
@@ -106,8 +106,8 @@ bare_requested n p t (event.Connected m) l h = refl
 bare_requested n p t (event.Refused m f) l h = refl
 bare_requested n p t (event.Fired m) l h = bare_fired n p t (slice_get t.core.timers m) h
 bare_requested n p t (event.Timeout ms) l h =
-    either (λ (c : Core). record (bare_turning n p t) { core = bare_core p c }) (is_single t.core.kind) (record t.core { timeout = ms }) t.core (record (bare_turning n p t) { core = record (bare_core p t.core) { timeout = ms } }) (bare_turning n p t) (λ y. refl) (λ y. refl)
-    ∙ sym (either (λ (c : Core). record (bare_turning n p t) { core = c }) (is_single t.core.kind) (record (bare_core p t.core) { timeout = ms }) (bare_core p t.core) (record (bare_turning n p t) { core = record (bare_core p t.core) { timeout = ms } }) (bare_turning n p t) (λ y. refl) (λ y. refl))
+    either (λ (c : Core). record (bare_turning n p t) { core = bare_core p c }) (has_timeouts t.core.kind) (record t.core { timeout = ms }) t.core (record (bare_turning n p t) { core = record (bare_core p t.core) { timeout = ms } }) (bare_turning n p t) (λ y. refl) (λ y. refl)
+    ∙ sym (either (λ (c : Core). record (bare_turning n p t) { core = c }) (has_timeouts t.core.kind) (record (bare_core p t.core) { timeout = ms }) (bare_core p t.core) (record (bare_turning n p t) { core = record (bare_core p t.core) { timeout = ms } }) (bare_turning n p t) (λ y. refl) (λ y. refl))
 bare_requested n p t (event.Creds c auth) l h = refl
 bare_requested n p t (event.CredsError c text) l h = refl
 bare_requested n p t (event.CredsEnd c) l h = refl
@@ -237,7 +237,7 @@ more_requested n t (event.Fired m) l = more_fired (slice_get t.core.timers m)
     more_fired (Some (purpose.Backoff g)) = l
     more_fired (Some (purpose.Resubscription link)) = l
     more_fired (Some (purpose.Response (owner.Try k round))) = more_late (slice_get t.core.table k)
-more_requested n t (event.Timeout ms) l = chosen (λ (c : Core). n < length c.table) (is_single t.core.kind) (record t.core { timeout = ms }) t.core (λ y. l) (λ y. l)
+more_requested n t (event.Timeout ms) l = chosen (λ (c : Core). n < length c.table) (has_timeouts t.core.kind) (record t.core { timeout = ms }) t.core (λ y. l) (λ y. l)
 more_requested n t (event.Creds c auth) l = l
 more_requested n t (event.CredsError c text) l = l
 more_requested n t (event.CredsEnd c) l = l

@@ -3,14 +3,16 @@ ghost use Rattle.driver_model.specs.Config.{config_of, kind_of, address_words, c
 ghost use Rattle.driver_model.specs.Config.{address, told_info, connect_timeout, response_timeout};
 ghost use Rattle.driver_model.specs.Config.{permits, buffer_size, boundary, wants_pushes};
 ghost use Rattle.driver_model.specs.Config.{hearing_of, wants_credentials};
-ghost use Rattle.driver_model.specs.Config.{first_fault, RefusesConfig};
+ghost use Rattle.driver_model.specs.Config.{manager_of, is_lazy, heard_on};
+ghost use Rattle.driver_model.specs.Config.{fault_in, fault_of, first_fault, RefusesConfig};
 ghost use Rattle.driver_model.specs.Hearing.{hears_pushes};
 
-use crate::config_words::{AddressWords, ConnectionWords};
+use crate::config_words::{AddressWords, ConnectionWords, ManagerWords};
 use crate::hearing::Hearing;
 use crate::kind::SessionKind;
 use connection_info::{ConnectionInfo, OpenError, RedisConnectionInfo};
 use containers::Bytes;
+use manager_config::ConnectionManagerConfig;
 use redis_error::ConfigName;
 use std::alloc::{AllocError, Global};
 
@@ -21,6 +23,13 @@ pub enum Config {
     Single {
         address: AddressWords,
         connection: ConnectionWords,
+    },
+    /// A multiplexed connection that comes back. A lazy one asks for its first link with its first request.
+    Manager {
+        lazy: bool,
+        address: AddressWords,
+        connection: ConnectionWords,
+        manager: ManagerWords,
     },
     /// One link of publish/subscribe: it has no timers, no permits and no credentials of sources, and its queue holds whatever
     /// comes.
@@ -41,6 +50,18 @@ impl Config {
         Config::Single {
             address: AddressWords::new(url),
             connection: ConnectionWords::new(),
+        }
+    }
+
+    /// A connection that comes back, of which nothing but the address is given.
+    pub fn manager(lazy: bool, url: Bytes) -> Config
+        ensures { result ≡ config_of (SessionKind.Manager lazy) url }
+    {
+        Config::Manager {
+            lazy,
+            address: AddressWords::new(url),
+            connection: ConnectionWords::new(),
+            manager: ManagerWords::new(),
         }
     }
 
@@ -77,6 +98,20 @@ impl Config {
                     connection: *connection,
                 })
             }
+            Config::Manager {
+                lazy,
+                address,
+                connection,
+                manager,
+            } => {
+                let address = address.clone(alloc)?;
+                Ok(Config::Manager {
+                    lazy: *lazy,
+                    address,
+                    connection: *connection,
+                    manager: *manager,
+                })
+            }
             Config::PubSub { address } => {
                 let address = address.clone(alloc)?;
                 Ok(Config::PubSub { address })
@@ -97,6 +132,12 @@ impl Config {
                 address: _,
                 connection: _,
             } => SessionKind::Single,
+            Config::Manager {
+                lazy,
+                address: _,
+                connection: _,
+                manager: _,
+            } => SessionKind::Manager { lazy: *lazy },
             Config::PubSub { address: _ } => SessionKind::PubSub,
             Config::Monitor { address: _ } => SessionKind::Monitor,
         }
@@ -110,6 +151,12 @@ impl Config {
             Config::Single {
                 address,
                 connection: _,
+            } => address,
+            Config::Manager {
+                lazy: _,
+                address,
+                connection: _,
+                manager: _,
             } => address,
             Config::PubSub { address } => address,
             Config::Monitor { address } => address,
@@ -125,8 +172,54 @@ impl Config {
                 address: _,
                 connection,
             } => Some(*connection),
+            Config::Manager {
+                lazy: _,
+                address: _,
+                connection,
+                manager: _,
+            } => Some(*connection),
             Config::PubSub { address: _ } => None,
             Config::Monitor { address: _ } => None,
+        }
+    }
+
+    /// How it comes back, where it is a connection that does: by what is given, and else by the defaults.
+    pub fn manager_settings(&self) -> Option<ConnectionManagerConfig>
+        ensures { result ≡ manager_of self.now }
+    {
+        match self {
+            Config::Single {
+                address: _,
+                connection: _,
+            } => None,
+            Config::Manager {
+                lazy: _,
+                address: _,
+                connection,
+                manager,
+            } => Some(manager.settings(connection)),
+            Config::PubSub { address: _ } => None,
+            Config::Monitor { address: _ } => None,
+        }
+    }
+
+    /// Whether it asks for its first link with its first request.
+    pub fn is_lazy(&self) -> bool
+        ensures { result ≡ is_lazy self.now }
+    {
+        match self {
+            Config::Single {
+                address: _,
+                connection: _,
+            } => false,
+            Config::Manager {
+                lazy,
+                address: _,
+                connection: _,
+                manager: _,
+            } => *lazy,
+            Config::PubSub { address: _ } => false,
+            Config::Monitor { address: _ } => false,
         }
     }
 
@@ -190,13 +283,24 @@ impl Config {
         }
     }
 
+    /// What is heard on a multiplexed connection, beside the replies to requests.
+    fn heard_on_connection(&self) -> Hearing
+        ensures { result ≡ heard_on (wants_pushes self.now) }
+    {
+        if self.wants_pushes() {
+            Hearing::Pushes
+        } else {
+            Hearing::Nothing
+        }
+    }
+
     /// What is heard, beside the replies to requests.
     pub fn hearing(&self) -> Hearing
         ensures { result ≡ hearing_of self.now }
     {
         match self.kind() {
-            SessionKind::Single if self.wants_pushes() => Hearing::Pushes,
-            SessionKind::Single => Hearing::Nothing,
+            SessionKind::Single => self.heard_on_connection(),
+            SessionKind::Manager { lazy: _ } => self.heard_on_connection(),
             SessionKind::PubSub => Hearing::Messages,
             SessionKind::Monitor => Hearing::Monitor,
         }
@@ -239,24 +343,45 @@ impl Config {
         })
     }
 
+    /// The name of what is refused first where its address is this one, and nothing comes back: pushes that somebody hears on a
+    /// connection of RESP2, a limit of no permits, and a queue that holds nothing.
+    fn connection_fault(&self, info: &ConnectionInfo) -> Option<ConfigName>
+        ensures { result ≡ fault_in (Some info.now) (hears_pushes (hearing_of self.now)) (permits self.now) (buffer_size self.now) }
+    {
+        if self.hears_pushes() && !info.redis.protocol.supports_resp3() {
+            return Some(ConfigName::Push);
+        }
+        if self.permits() == Some(0) {
+            return Some(ConfigName::Limit);
+        }
+        if self.buffer_size() == 0 {
+            return Some(ConfigName::Buffer);
+        }
+        None
+    }
+
+    /// The name of what is refused first where its address is this one.
+    fn fault_at(&self, info: &ConnectionInfo) -> Option<ConfigName>
+        ensures { result ≡ fault_of (manager_of self.now) (Some info.now) self.now }
+    {
+        match self.manager_settings() {
+            Some(settings) => settings.first_fault(info.redis.protocol),
+            None => self.connection_fault(info),
+        }
+    }
+
     /// The server's address, where nothing of the configuration is refused. Else the name of what is refused first: a URL that
-    /// isn't an address, pushes that somebody hears on a connection of RESP2, a limit of no permits, and a queue that holds
-    /// nothing.
+    /// isn't an address; what is subscribed again where nobody hears pushes, and delays that grow by a fraction without a
+    /// denominator; pushes that somebody hears on a connection of RESP2, a limit of no permits, and a queue that holds nothing.
     pub fn info(&self, alloc: Global) -> Result<ConnectionInfo, OpenError>
         ensures ok { IfOk result (λ info. address self.now ≡ Some info) }
         ensures sound { OnOk result (first_fault self.now ≡ None) }
         ensures err { IfErr result (RefusesConfig self.now) }
     {
         let info = self.address().read(alloc)?;
-        if self.hears_pushes() && !info.redis.protocol.supports_resp3() {
-            return Err(OpenError::Config(ConfigName::Push));
+        match self.fault_at(&info) {
+            Some(fault) => Err(OpenError::Config(fault)),
+            None => Ok(info),
         }
-        if self.permits() == Some(0) {
-            return Err(OpenError::Config(ConfigName::Limit));
-        }
-        if self.buffer_size() == 0 {
-            return Err(OpenError::Config(ConfigName::Buffer));
-        }
-        Ok(info)
     }
 }

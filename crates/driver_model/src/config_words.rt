@@ -1,9 +1,11 @@
 ghost use Rattle.std.specs.Prelude.{◌≡◌, Some, None, IfOk, IfErr};
-ghost use Rattle.driver_model.specs.Config.{address_at, address_in, no_words};
+ghost use Rattle.driver_model.specs.Config.{address_at, address_in, no_words, no_manager_words};
+ghost use Rattle.driver_model.specs.Config.{connection_settings, manager_settings};
 ghost use Rattle.connection_info.specs.Refusal.{RefusesUrl};
 
-use connection_info::{ConnectionInfo, IntoConnectionInfo, OpenError};
+use connection_info::{AsyncConnectionConfig, ConnectionInfo, IntoConnectionInfo, OpenError};
 use containers::Bytes;
+use manager_config::ConnectionManagerConfig;
 use redis_error::ConfigName;
 use std::alloc::{AllocError, Global};
 
@@ -77,6 +79,71 @@ impl ConnectionWords {
             boundary: None,
             push: None,
             creds: None,
+        }
+    }
+
+    /// How a connection of these words behaves: by what is given, and else by the defaults.
+    fn settings(&self) -> AsyncConnectionConfig
+        ensures { result ≡ connection_settings self.now }
+    {
+        let default = AsyncConnectionConfig::new();
+        AsyncConnectionConfig {
+            connection_timeout: self.connect.unwrap_or(default.connection_timeout),
+            response_timeout: self.response.unwrap_or(default.response_timeout),
+            push_sender: self.push.unwrap_or(default.push_sender),
+            credentials_provider: self.creds.unwrap_or(default.credentials_provider),
+            pipeline_buffer_size: self.buffer.unwrap_or(default.pipeline_buffer_size),
+            concurrency_limit: self.limit,
+            write_backpressure_boundary: self
+                .boundary
+                .unwrap_or(default.write_backpressure_boundary),
+        }
+    }
+}
+
+/// How a connection comes back: each of these where it was given.
+#[derive(Clone, Copy, PartialEq, Eq)]
+pub struct ManagerWords {
+    /// How many attempts to connect there are after the first. 6 where nothing is given.
+    pub retries: Option<u32>,
+    /// Below how many milliseconds the delay before the second attempt lies. 100 where nothing is given.
+    pub min: Option<u64>,
+    /// How many milliseconds a delay has at most, `Some(None)` for any number. Any number where nothing is given.
+    pub max: Option<Option<u64>>,
+    /// By what the delays grow from one attempt to the next: a numerator and a denominator of at least one. 2 and 1 where
+    /// nothing is given.
+    pub base: Option<(u32, u32)>,
+    /// Whether a new link subscribes again what was subscribed on the one before. It doesn't where nothing is given. It needs
+    /// `push`.
+    pub resub: Option<bool>,
+}
+
+impl ManagerWords {
+    /// Nothing is given.
+    pub fn new() -> ManagerWords
+        ensures { result ≡ no_manager_words }
+    {
+        ManagerWords {
+            retries: None,
+            min: None,
+            max: None,
+            base: None,
+            resub: None,
+        }
+    }
+
+    /// How a manager of these words behaves, whose connections are of those: by what is given, and else by the defaults.
+    pub(crate) fn settings(&self, connection: &ConnectionWords) -> ConnectionManagerConfig
+        ensures { result ≡ manager_settings connection.now self.now }
+    {
+        let default = ConnectionManagerConfig::new();
+        ConnectionManagerConfig {
+            connection: connection.settings(),
+            min_delay: self.min.unwrap_or(default.min_delay),
+            max_delay: self.max.unwrap_or(default.max_delay),
+            exponent_base: self.base.unwrap_or(default.exponent_base),
+            number_of_retries: self.retries.unwrap_or(default.number_of_retries),
+            automatic_resubscription: self.resub.unwrap_or(default.automatic_resubscription),
         }
     }
 }

@@ -20,7 +20,7 @@ mod verdicts;
 pub use action::{Action, Cause, Owner, Purpose, SourceUse, WaitKind};
 pub use commands::Commands;
 pub use config::Config;
-pub use config_words::{AddressWords, ConnectionWords};
+pub use config_words::{AddressWords, ConnectionWords, ManagerWords};
 pub use event::{Event, EventKind, Submission};
 pub use hearing::{Hearing, Notice};
 pub use kind::SessionKind;

@@ -188,6 +188,8 @@ watched_once config word events trace h front more _ l is watches = absurd watch
 kind_is_monitor : (of_kind : SessionKind) (heard : Bool) → is_watching (kind_hears of_kind heard) ≡ true → of_kind ≡ kind.Monitor
 kind_is_monitor kind.Monitor heard e = refl
 kind_is_monitor kind.PubSub heard e = cc
+kind_is_monitor (kind.Manager lazy) true e = cc
+kind_is_monitor (kind.Manager lazy) false e = cc
 kind_is_monitor kind.Single true e = cc
 kind_is_monitor kind.Single false e = cc
 

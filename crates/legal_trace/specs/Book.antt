@@ -208,7 +208,7 @@ abbrev pub shuts : EventKind → Bool
 shuts event.Shutdown = true
 shuts _ = false
 
--- the time that an event sets, for the requests of a multiplexed connection
+-- the time that an event sets, for the requests of one multiplexed connection
 abbrev pub timeout_after : SessionKind → Option ℕ → EventKind → Option ℕ
 timeout_after kind.Single old (event.Timeout ms) = ms
 timeout_after _ old _ = old

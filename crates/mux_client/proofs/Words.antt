@@ -21,7 +21,7 @@ number_if default value true e = sym (eqb-true value default e)
 number_if default value false e = refl
 
 -- a number is what is given, or else the default
-number_kept : (default value : ℕ) → unwrap_or (number_given default value) default ≡ value
+pub number_kept : (default value : ℕ) → unwrap_or (number_given default value) default ≡ value
 number_kept default value = number_if default value (nat_eq value default) refl
 
 time_if : (default value : ℕ) (b : Bool) → nat_eq value default ≡ b → unwrap_or (if b then None else Some (Some value)) (Some default) ≡ Some value
@@ -29,19 +29,19 @@ time_if default value true e = ap (λ (n : ℕ). Some n) (sym (eqb-true value de
 time_if default value false e = refl
 
 -- and so is a time
-time_kept : (default value : Option ℕ) → unwrap_or (time_given default value) default ≡ value
+pub time_kept : (default value : Option ℕ) → unwrap_or (time_given default value) default ≡ value
 time_kept None None = refl
 time_kept (Some n) None = refl
 time_kept None (Some m) = refl
 time_kept (Some n) (Some m) = time_if n m (nat_eq m n) refl
 
 -- the library is left out where the address leaves it out
-skips_kept : (skips : Bool) → not (unwrap_or (library_given skips) true) ≡ skips
+pub skips_kept : (skips : Bool) → not (unwrap_or (library_given skips) true) ≡ skips
 skips_kept true = refl
 skips_kept false = refl
 
 -- the URL is one of the address
-address_kept : (info : ConnectionInfo) → ReadsBack info → address_in (address_given info) ≡ Some (with_library info)
+pub address_kept : (info : ConnectionInfo) → ReadsBack info → address_in (address_given info) ≡ Some (with_library info)
 address_kept info (is, reads) =
     ap (λ (b : Bool). if b then address_of (url_of info) else None) (is_utf8-from_IsUtf8 (url_of info) is) ∙ reads
 
@@ -62,7 +62,7 @@ hears_kept true = refl
 hears_kept false = refl
 
 -- whether credentials come of sources is what is given, or else they don't
-sources_kept : (provided : Bool) → unwrap_or (creds_given provided) false ≡ provided
+pub sources_kept : (provided : Bool) → unwrap_or (creds_given provided) false ≡ provided
 sources_kept true = refl
 sources_kept false = refl
 

@@ -11,21 +11,21 @@ use driver_model::{AddressWords, Config, ConnectionWords};
 use std::alloc::Global;
 
 /// A time is given where it isn't the default.
-fn time(default: Option<u64>, value: Option<u64>) -> Option<Option<u64>>
+pub fn time(default: Option<u64>, value: Option<u64>) -> Option<Option<u64>>
     ensures { result ≡ time_given default value }
 {
     if value == default { None } else { Some(value) }
 }
 
 /// A number of places is given where it isn't the default.
-fn places(default: u32, value: u32) -> Option<u32>
+pub fn places(default: u32, value: u32) -> Option<u32>
     ensures { result ≡ number_given default value }
 {
     if value == default { None } else { Some(value) }
 }
 
 /// A number of bytes is given where it isn't the default.
-fn room(default: u64, value: u64) -> Option<u64>
+pub fn room(default: u64, value: u64) -> Option<u64>
     ensures { result ≡ number_given default value }
 {
     if value == default { None } else { Some(value) }
@@ -53,7 +53,7 @@ fn library(skips: bool) -> Option<bool>
 }
 
 /// The words of this address.
-fn address_words(alloc: Global, info: &ConnectionInfo) -> Result<AddressWords, OpenError>
+pub fn address_words(alloc: Global, info: &ConnectionInfo) -> Result<AddressWords, OpenError>
     ensures value { IfOk result (λ words. words ≡ address_given info.now) }
     ensures read { OnOk result (ReadsBack info.now) }
     ensures err { IfErr result (RefusesMaking info.now) }
@@ -66,7 +66,7 @@ fn address_words(alloc: Global, info: &ConnectionInfo) -> Result<AddressWords, O
 }
 
 /// The words of a connection that behaves as this configuration says.
-fn connection_words(config: &AsyncConnectionConfig) -> ConnectionWords
+pub fn connection_words(config: &AsyncConnectionConfig) -> ConnectionWords
     ensures { result ≡ connection_given config.now }
 {
     let default = AsyncConnectionConfig::new();

@@ -1,12 +1,13 @@
 ghost use Rattle.std.specs.Prelude.{All, IfSome, ◌<◌, ◌^◌};
 ghost use Rattle.std.specs.Bool.{MatchBool};
 ghost use Rattle.text_laws.specs.Fits.{AreBytes, FitsCommands, FitsSubmission, FitsNumber, FitsKind};
-ghost use Rattle.text_laws.specs.Fits.{FitsEvent, FitsLimit, FitsAddress, FitsConnection, FitsConfig};
+ghost use Rattle.text_laws.specs.Fits.{FitsEvent, FitsLimit, FitsAddress, FitsConnection};
+ghost use Rattle.text_laws.specs.Fits.{FitsFraction, FitsManager, FitsConfig};
 ghost use Rattle.text_laws.specs.Fits.{FitsHistory, HasForm, WithForm, HaveForms};
 
 use containers::{Bytes, Names};
 use driver_model::{
-    AddressWords, Config, ConnectionWords, Event, EventKind, SessionKind, Submission,
+    AddressWords, Config, ConnectionWords, Event, EventKind, ManagerWords, SessionKind, Submission,
 };
 use shared_session::Session;
 use text_laws::a_slice_has_bytes;
@@ -165,6 +166,29 @@ fn connection_fits(words: &ConnectionWords)
     optional_large_number_fits(words.boundary);
 }
 
+/// Does nothing. Its contract: so are the parts of a fraction that may be left out.
+fn fraction_fits(base: Option<(u32, u32)>)
+    ensures { IfSome base FitsFraction }
+{
+    match base {
+        Some((numerator, denominator)) => {
+            number_fits(numerator);
+            number_fits(denominator)
+        }
+        None => {}
+    }
+}
+
+/// Does nothing. Its contract: so are the words of how a connection comes back.
+fn manager_fits(words: &ManagerWords)
+    ensures { FitsManager words.now }
+{
+    optional_number_fits(words.retries);
+    optional_large_number_fits(words.min);
+    limit_fits(words.max);
+    fraction_fits(words.base);
+}
+
 /// Does nothing. Its contract: so is a configuration.
 fn config_fits(config: &Config)
     ensures { FitsConfig config.now }
@@ -176,6 +200,16 @@ fn config_fits(config: &Config)
         } => {
             address_fits(address);
             connection_fits(connection)
+        }
+        Config::Manager {
+            lazy: _,
+            address,
+            connection,
+            manager,
+        } => {
+            address_fits(address);
+            connection_fits(connection);
+            manager_fits(manager)
         }
         Config::PubSub { address } => address_fits(address),
         Config::Monitor { address } => address_fits(address),

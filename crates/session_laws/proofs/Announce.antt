@@ -256,6 +256,7 @@ SetsNoTime event.Shutdown = Unit {0}
 
 -- so that stays
 pub time_still : (is : SessionKind) (old : Option ℕ) (kind : EventKind) → SetsNoTime kind → timeout_after is old kind ≡ old
+time_still (session.Manager lazy) old kind k = refl
 time_still session.PubSub old kind k = refl
 time_still session.Monitor old kind k = refl
 time_still session.Single old (event.Timeout ms) k = absurd k

@@ -47,7 +47,7 @@ use Rattle.shared_session.specs.declared.core_state.Core.{Core}
 use Rattle.shared_session.specs.Turn.{Turning, asked_for, counted, effect, fired_by, heard, late_by, left_by, moved_on, refused_with, requested, submitted, work_of}
 use Rattle.session_laws.proofs.ComeUp.{made_conn}
 use Rattle.driver_model.specs.Hearing.{hears_pushes, hears_messages, is_watching, felt}
-use Rattle.driver_model.specs.Kind.{is_single}
+use Rattle.driver_model.specs.Kind.{has_timeouts}
 use Rattle.mux_conn.specs.declared.life.Greeting.TheVariants as greet
 use Rattle.driver_model.specs.declared.hearing.Hearing.TheVariants as hearing
 
@@ -303,7 +303,7 @@ requested_asked n t (event.Cancel m) h = left_asked n t (slice_get t.core.table 
 requested_asked n t (event.Connected l) h = h
 requested_asked n t (event.Refused l f) h = h
 requested_asked n t (event.Fired m) h = fired_asked n t (slice_get t.core.timers m) h
-requested_asked n t (event.Timeout ms) h = chosen (λ (c : Core). c.single.connection.renewal.asked ≡ n) (is_single t.core.kind) _ t.core (λ s. h) (λ f. h)
+requested_asked n t (event.Timeout ms) h = chosen (λ (c : Core). c.single.connection.renewal.asked ≡ n) (has_timeouts t.core.kind) _ t.core (λ s. h) (λ f. h)
 requested_asked n t (event.Creds c auth) h = h
 requested_asked n t (event.CredsError c text) h = h
 requested_asked n t (event.CredsEnd c) h = h

@@ -55,7 +55,7 @@ use Rattle.session_laws.proofs.Heard.{silent_applied, still_none, tame_between}
 use Rattle.session_laws.proofs.Cancel.{IsSilent, left_creds, left_fit, left_life, left_link, left_others, left_setup, none_more, queued_apart, silenced_wanted, silent_core, silent_ends, silent_numbers, silent_others, still_dials, still_tied, was_ready, was_setting, was_wanting, without_awaited, without_others, without_rises, apart_behind, rising_behind, left_renewal}
 use Rattle.driver_model.specs.declared.kind.SessionKind.{SessionKind}
 use Rattle.driver_model.specs.declared.kind.SessionKind.TheVariants as session
-use Rattle.driver_model.specs.Kind.{is_single}
+use Rattle.driver_model.specs.Kind.{has_timeouts}
 use Rattle.session_laws.proofs.Said.{IsTame, renoticed}
 
 -- a story whose timer fires
@@ -486,16 +486,18 @@ time_applied before c started word ms h good =
     let set = λ (time : Option ℕ) (q : IsSilent b c (event.Timeout ms) time).
     silent_applied before c started word (event.Timeout ms) (silent_core c (event.Timeout ms) time) c.single.connection h good (silent_ends b c (event.Timeout ms) time q (still_none before c started h)) (λ z. absurd (omega arith)) h.moved h.fit
     (still_tied b c started word (event.Timeout ms) time q (λ m. refl) h.sound.tied (tame_between before c started h)) in
-    chosen (λ (x : Core). HasApplied (before ++ turn_of c word (event.Timeout ms) ∷ []) (record { core = x; acts = [] }) started) (is_single c.kind) (silent_core c (event.Timeout ms) ms) (turned c (event.Timeout ms))
-    (λ single. set ms (record { silent = λ m. refl; none = refl; time = single_time (kind_in b.config) b.timeout ms (ap is_single kind_is ∙ single); shut = shut }))
-    (λ other. set c.timeout (record { silent = λ m. refl; none = refl; time = other_time (kind_in b.config) b.timeout ms (ap is_single kind_is ∙ other) ∙ h.sound.tied.numbers.timeout; shut = shut }))
+    chosen (λ (x : Core). HasApplied (before ++ turn_of c word (event.Timeout ms) ∷ []) (record { core = x; acts = [] }) started) (has_timeouts c.kind) (silent_core c (event.Timeout ms) ms) (turned c (event.Timeout ms))
+    (λ single. set ms (record { silent = λ m. refl; none = refl; time = single_time (kind_in b.config) b.timeout ms (ap has_timeouts kind_is ∙ single); shut = shut }))
+    (λ other. set c.timeout (record { silent = λ m. refl; none = refl; time = other_time (kind_in b.config) b.timeout ms (ap has_timeouts kind_is ∙ other) ∙ h.sound.tied.numbers.timeout; shut = shut }))
   where
-    single_time : (is : SessionKind) (old new : Option ℕ) → is_single is ≡ true → timeout_after is old (event.Timeout new) ≡ new
+    single_time : (is : SessionKind) (old new : Option ℕ) → has_timeouts is ≡ true → timeout_after is old (event.Timeout new) ≡ new
     single_time session.Single old new e = refl
+    single_time (session.Manager lazy) old new e = cc
     single_time session.PubSub old new e = cc
     single_time session.Monitor old new e = cc
 
-    other_time : (is : SessionKind) (old new : Option ℕ) → is_single is ≡ false → timeout_after is old (event.Timeout new) ≡ old
+    other_time : (is : SessionKind) (old new : Option ℕ) → has_timeouts is ≡ false → timeout_after is old (event.Timeout new) ≡ old
     other_time session.Single old new e = cc
+    other_time (session.Manager lazy) old new e = refl
     other_time session.PubSub old new e = refl
     other_time session.Monitor old new e = refl

@@ -7,7 +7,7 @@ use Rattle.connection_info.specs.declared.address.ConnectionInfo.{ConnectionInfo
 use Rattle.redis_error.specs.declared.redis_error.RedisError.TheVariants as error
 use Rattle.driver_model.specs.Request.{packed_bytes, lacks_resp3}
 use Rattle.driver_model.specs.Config.{address, connect_timeout}
-use Rattle.driver_model.specs.Kind.{is_single}
+use Rattle.driver_model.specs.Kind.{has_timeouts}
 use Rattle.driver_model.specs.declared.action.Action.{Action}
 use Rattle.driver_model.specs.declared.action.Action.TheVariants as action
 use Rattle.driver_model.specs.declared.action.Cause.TheVariants as cause
@@ -89,7 +89,7 @@ effect_still c (event.Refused l f) = (refl, refl, refl)
 effect_still c (event.Fired n) = fired_still (heard (counted c) (event.Fired n)) (slice_get c.timers n)
 effect_still c (event.Timeout ms) =
     let was = (heard (counted c) (event.Timeout ms)).core in
-    chosen (λ (x : Core). (x.single.link ≡ c.single.link) × (x.timers ≡ c.timers) × (x.sources ≡ c.sources)) (is_single was.kind) (record was { timeout = ms }) was (λ t. (refl, refl, refl)) (λ f. (refl, refl, refl))
+    chosen (λ (x : Core). (x.single.link ≡ c.single.link) × (x.timers ≡ c.timers) × (x.sources ≡ c.sources)) (has_timeouts was.kind) (record was { timeout = ms }) was (λ t. (refl, refl, refl)) (λ f. (refl, refl, refl))
 effect_still c (event.Creds s auth) = (refl, refl, refl)
 effect_still c (event.CredsError s text) = (refl, refl, refl)
 effect_still c (event.CredsEnd s) = (refl, refl, refl)

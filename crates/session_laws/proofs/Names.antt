@@ -270,6 +270,8 @@ asked_unwatched b t p h within = by_test (is_watching (b.link t.link).hearing) _
 watching_kind : (is : SessionKind) (pushes : Bool) → is_watching (Configs.hearing_in is pushes) ≡ true → is ≡ session.Monitor
 watching_kind session.Single true w = cc
 watching_kind session.Single false w = cc
+watching_kind (session.Manager lazy) true w = cc
+watching_kind (session.Manager lazy) false w = cc
 watching_kind session.PubSub pushes w = cc
 watching_kind session.Monitor pushes w = refl
 

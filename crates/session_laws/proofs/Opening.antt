@@ -1,5 +1,5 @@
 -- The opening: the first link is asked for.
-use Rattle.std.proofs.Common.{List, None, Option, Some, [], ap, arith, false, inl, inr, refl, subst, suc, sym, zero, ℕ, ◌+◌, ◌<◌, ◌∙◌, ◌∷◌, ◌≡◌, ◌≢◌, Bool, ◌&&◌, not, true}
+use Rattle.std.proofs.Common.{List, None, Option, Some, [], ap, arith, false, inl, inr, refl, subst, suc, sym, zero, ℕ, ◌+◌, ◌<◌, ◌∙◌, ◌∷◌, ◌≡◌, ◌≢◌, Bool, true}
 use Rattle.std.specs.Prelude.{unwrap_or, ◌==◌, slice_get, if◌then◌else◌}
 use Rattle.containers.proofs.Choices.{chosen, left_if, ne_from, ne_test}
 use Rattle.connection_info.specs.declared.address.ConnectionInfo.{ConnectionInfo}
@@ -10,7 +10,7 @@ use Rattle.driver_model.specs.declared.action.Cause.TheVariants as cause
 use Rattle.driver_model.specs.declared.config.Config.{Config}
 use Rattle.driver_model.specs.declared.config.Config.TheVariants as variant
 use Rattle.driver_model.specs.declared.kind.SessionKind.TheVariants as kind
-use Rattle.driver_model.specs.Config.{address, boundary, kind_of, buffer_fault, buffer_size, connect_timeout, fault_in, response_timeout, room_fault, told_info, hearing_of, hearing_in, permits, wants_credentials}
+use Rattle.driver_model.specs.Config.{address, boundary, kind_of, buffer_fault, buffer_size, connect_timeout, response_timeout, room_fault, told_info, hearing_of, hearing_in, permits, wants_credentials}
 use Rattle.driver_model.specs.declared.action.Action.{Action}
 use Rattle.driver_model.specs.declared.action.Cause.{Cause}
 use Rattle.driver_model.specs.declared.action.Purpose.{Purpose}
@@ -30,9 +30,9 @@ use Rattle.session_laws.proofs.States.{IsFitIn, IsStill}
 use Rattle.session_laws.proofs.Tied.{AreAimed, IsAim, IsUnknown, Tied, TiedLines, TiedNames, TiedNumbers, TiedPermits, TiedTries, TiedWaits, inner, no_link, owner_of, owners_of, setup_owners}
 use Rattle.session_laws.proofs.Waits.{IsQuiet}
 use Rattle.session_laws.proofs.Write.{is_written}
-use Rattle.connection_info.specs.Protocol.{is_resp3}
 use Rattle.mux_conn.specs.Renewals.{no_renewal}
-use Rattle.driver_model.specs.Hearing.{hears_pushes, is_watching}
+use Rattle.driver_model.specs.Hearing.{is_watching}
+use Rattle.driver_model.proofs.Sound.{has_address, is_roomy}
 
 -- what timers the opening has asked for
 abbrev asks_timers : List Purpose → Book → Book
@@ -99,11 +99,6 @@ room_sized (Some k) size =
     same_number : (k l : ℕ) → ◌≡◌ {A = Option ℕ} (Some k) (Some l) → k ≡ l
     same_number k l e = cc
 
--- behind the address
-sized : (info : ConnectionInfo) (heard : Bool) (limit : Option ℕ) (size : ℕ) → fault_in (Some info) heard limit size ≡ None → IsSized limit size
-sized info heard limit size =
-    chosen (λ (x : Option ConfigName). x ≡ None → IsSized limit size) (heard && not (is_resp3 info.redis.protocol)) (Some name.Push) (room_fault limit size) (λ t e. absurd (no_fault name.Push e)) (λ n e. room_sized limit size e)
-
 -- no multiplexed connection is put into monitor mode
 single_unwatched : (pushes : Bool) → is_watching (hearing_in kind.Single pushes) ≡ true → ⊥
 single_unwatched true w = cc w
@@ -112,6 +107,7 @@ single_unwatched false w = cc w
 -- and where the server is, no credentials come of sources
 unwanted_where_watched : (config : Config) → is_watching (hearing_of config) ≡ true → wants_credentials config ≡ false
 unwanted_where_watched (variant.Single address connection) w = absurd (single_unwatched (unwrap_or connection.push false) w)
+unwanted_where_watched (variant.Manager lazy address connection manager) w = absurd (single_unwatched (unwrap_or connection.push false) w)
 unwanted_where_watched (variant.PubSub address) w = refl
 unwanted_where_watched (variant.Monitor address) w = refl
 
@@ -257,12 +253,8 @@ opened_between config word info timeout sound at some is =
 
 -- and after that of a sound configuration
 pub opening_between : (config : Config) (word : ℕ) → IsSound config → IsBetween (opening_actions config word) (opening_core config word)
-opening_between config word sound = by_address (address config) refl sound
+opening_between config word sound = by_address (address config) refl
   where
-    heard : Bool
-    heard = hears_pushes (hearing_of config)
-
-    by_address : (x : Option ConnectionInfo) → address config ≡ x → fault_in x heard (permits config) (buffer_size config) ≡ None
-        → IsBetween (action.Turn 0 (cause.Opening config word) ∷ connect_asked x (connect_timeout config)) (opening_core config word)
-    by_address None at none = cc
-    by_address (Some info) at none = opened_between config word info (connect_timeout config) sound at (sized info heard (permits config) (buffer_size config) none) refl
+    by_address : (x : Option ConnectionInfo) → address config ≡ x → IsBetween (action.Turn 0 (cause.Opening config word) ∷ connect_asked x (connect_timeout config)) (opening_core config word)
+    by_address None at = absurd (has_address config sound at)
+    by_address (Some info) at = opened_between config word info (connect_timeout config) sound at (room_sized (permits config) (buffer_size config) (is_roomy config sound)) refl

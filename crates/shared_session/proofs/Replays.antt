@@ -14,7 +14,7 @@ use Rattle.driver_model.specs.declared.event.EventKind.{EventKind}
 use Rattle.driver_model.specs.declared.event.EventKind.TheVariants as event
 use Rattle.driver_model.specs.declared.event.Submission.{Submission}
 use Rattle.driver_model.specs.Config.{address, connect_timeout}
-use Rattle.driver_model.specs.Kind.{is_single}
+use Rattle.driver_model.specs.Kind.{has_timeouts}
 use Rattle.driver_model.specs.Request.{packed_bytes, lacks_resp3}
 use Rattle.mux_conn.specs.declared.request.Pending.{Pending}
 use Rattle.mux_conn.specs.declared.act.LinkAct.{LinkAct}
@@ -136,7 +136,7 @@ requested_turns t (event.Cancel n) = left_turns t (slice_get t.core.table n)
 requested_turns t (event.Connected l) = refl
 requested_turns t (event.Refused l f) = refl
 requested_turns t (event.Fired n) = fired_turns t (slice_get t.core.timers n)
-requested_turns t (event.Timeout ms) = chosen (λ (c : Core). c.turns ≡ t.core.turns) (is_single t.core.kind) (record t.core { timeout = ms }) t.core (λ y. refl) (λ y. refl)
+requested_turns t (event.Timeout ms) = chosen (λ (c : Core). c.turns ≡ t.core.turns) (has_timeouts t.core.kind) (record t.core { timeout = ms }) t.core (λ y. refl) (λ y. refl)
 requested_turns t (event.Creds c auth) = refl
 requested_turns t (event.CredsError c text) = refl
 requested_turns t (event.CredsEnd c) = refl

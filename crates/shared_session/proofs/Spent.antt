@@ -8,7 +8,7 @@ use Rattle.driver_model.specs.declared.action.Purpose.{Purpose}
 use Rattle.driver_model.specs.declared.action.Purpose.TheVariants as purpose
 use Rattle.driver_model.specs.declared.event.EventKind.TheVariants as event
 use Rattle.driver_model.specs.declared.event.Submission.{Submission}
-use Rattle.driver_model.specs.Kind.{is_single}
+use Rattle.driver_model.specs.Kind.{has_timeouts}
 use Rattle.driver_model.specs.Request.{packed_bytes, lacks_resp3}
 use Rattle.mux_conn.specs.declared.act.LinkAct.{LinkAct}
 use Rattle.mux_conn.specs.declared.request.Pending.{Pending}
@@ -89,7 +89,7 @@ submitted_numbers t what =
 
 timed_numbers : (t : Turning) (ms : Option ℕ) → SameNumbers (record t { core = timed_by t.core ms }) t
 timed_numbers t ms =
-    chosen (λ (c : Core). SameNumbers (record t { core = c }) t) (is_single t.core.kind) (record t.core { timeout = ms }) t.core
+    chosen (λ (c : Core). SameNumbers (record t { core = c }) t) (has_timeouts t.core.kind) (record t.core { timeout = ms }) t.core
     (λ _. record { link = refl; timers = refl; sources = refl }) (λ _. record { link = refl; timers = refl; sources = refl })
 
 requested_numbers : (t : Turning) (kind : EventKind) → SameNumbers (requested t kind) t

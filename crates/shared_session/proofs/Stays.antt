@@ -11,7 +11,7 @@ use Rattle.driver_model.specs.declared.event.Event.{Event}
 use Rattle.driver_model.specs.declared.event.EventKind.{EventKind}
 use Rattle.driver_model.specs.declared.event.EventKind.TheVariants as event
 use Rattle.driver_model.specs.declared.event.Submission.{Submission}
-use Rattle.driver_model.specs.Kind.{is_single}
+use Rattle.driver_model.specs.Kind.{has_timeouts}
 use Rattle.driver_model.specs.Request.{packed_bytes, lacks_resp3}
 use Rattle.mux_conn.specs.declared.request.Pending.{Pending}
 use Rattle.shared_session.specs.declared.core_state.Core.{Core}
@@ -48,7 +48,7 @@ fired_kind t (Some (purpose.Resubscription l)) = refl
 fired_kind t (Some (purpose.Response (owner.Try n round))) = late_kind t (slice_get t.core.table n)
 
 timed_kind : (c : Core) (ms : Option ℕ) → (timed_by c ms).kind ≡ c.kind
-timed_kind c ms = chosen (λ (x : Core). x.kind ≡ c.kind) (is_single c.kind) (record c { timeout = ms }) c (λ _. refl) (λ _. refl)
+timed_kind c ms = chosen (λ (x : Core). x.kind ≡ c.kind) (has_timeouts c.kind) (record c { timeout = ms }) c (λ _. refl) (λ _. refl)
 
 requested_kind : (t : Turning) (kind : EventKind) → (requested t kind).core.kind ≡ t.core.kind
 requested_kind t (event.Submit what) = submitted_kind t what

@@ -15,7 +15,7 @@ use Rattle.driver_model.specs.declared.event.EventKind.{EventKind}
 use Rattle.driver_model.specs.declared.event.EventKind.TheVariants as event
 use Rattle.driver_model.specs.declared.event.Submission.{Submission}
 use Rattle.driver_model.specs.declared.outcome.Outcome.TheVariants as outcome
-use Rattle.driver_model.specs.Kind.{is_single}
+use Rattle.driver_model.specs.Kind.{has_timeouts}
 use Rattle.driver_model.specs.News.{news_of}
 use Rattle.driver_model.specs.Request.{packed_bytes, shape_of, is_reply_awaited, lacks_resp3, has_no_form}
 use Rattle.mux_conn.specs.declared.act.LinkAct.{LinkAct}
@@ -122,9 +122,9 @@ fired_by t (Some (purpose.Backoff g)) = t
 fired_by t (Some (purpose.Resubscription l)) = t
 fired_by t (Some (purpose.Response (owner.Try n round))) = late_by t (slice_get t.core.table n)
 
--- a new time for the requests of a multiplexed connection
+-- a new time for the requests of one multiplexed connection
 abbrev pub timed_by : Core → Option ℕ → Core
-timed_by c ms = if is_single c.kind then record c { timeout = ms } else c
+timed_by c ms = if has_timeouts c.kind then record c { timeout = ms } else c
 
 -- what an event is to the submissions
 abbrev pub requested : Turning → EventKind → Turning

@@ -266,11 +266,11 @@ impl Core {
         }
     }
 
-    /// A new time for the requests that are handed in from now on: those of a multiplexed connection have one.
+    /// A new time for the requests that are handed in from now on: those of one multiplexed connection have one.
     fn set_timeout(&mut self, ms: Option<u64>)
         ensures { self.new ≡ timed_by self.old ms }
     {
-        if self.kind.is_single() {
+        if self.kind.has_timeouts() {
             self.timeout = ms;
         }
     }

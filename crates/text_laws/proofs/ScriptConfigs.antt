@@ -7,11 +7,11 @@ use Rattle.driver_model.specs.declared.config.Config.{Config}
 use Rattle.driver_model.specs.declared.kind.SessionKind.{SessionKind}
 use Rattle.driver_model.specs.declared.kind.SessionKind.TheVariants as kind
 use Rattle.script_text.specs.Words.{LineWords, cut_at}
-use Rattle.script_text.specs.Numbers.{number, max_u32, max_u64, time_limit}
+use Rattle.script_text.specs.Numbers.{number, max_u32, max_u64, time_limit, fraction_by, fraction}
 use Rattle.script_text.specs.Draws.{drawn}
 use Rattle.script_text.specs.EventLine.{whole}
-use Rattle.script_text.specs.ConfigLine.{value_of, values, only, connection_with, config_with, session, kind_named, named_session, config_of, opening_of}
-use Rattle.text_laws.specs.Fits.{IsByte, AreBytes, FitsLimit, FitsNumber, FitsConnection, FitsConfig}
+use Rattle.script_text.specs.ConfigLine.{value_of, values, only, connection_with, manager_with, config_with, session, kind_named, named_session, config_of, opening_of}
+use Rattle.text_laws.specs.Fits.{IsByte, AreBytes, FitsLimit, FitsNumber, FitsConnection, FitsFraction, FitsManager, FitsConfig}
 use Rattle.text_laws.proofs.Held.{mapped, then_read, if_read, any_read, number_within}
 use Rattle.text_laws.proofs.ScriptEvents.{IsByteLine, FitsDrawn, drawn_fits, by_form, whole_fits, time_fits}
 
@@ -66,8 +66,36 @@ connection_fits words = record {
   boundary = given_fits max_u64 (2 ^ 64) (omega arith) (only (values (codes "boundary") words));
 }
 
+-- a number of 32 bits
+below_two : (o : Option ℕ) → IfSome o (λ n. n ≤ max_u32) → IfSome o (λ n. n < 2 ^ 32)
+below_two None within = tt
+below_two (Some n) within = omega (arith, within)
+
+-- two of them are a fraction
+parts_fit : (parts : List ℕ × List ℕ) → IfSome (fraction_by parts) FitsFraction
+parts_fit parts =
+    then_read (λ n. n < 2 ^ 32) FitsFraction (λ above. option_map (λ below. (above, below)) (number max_u32 parts.1))
+    (λ above small. mapped (λ n. n < 2 ^ 32) FitsFraction (λ below. (above, below)) (λ below less. (small, less)) (number max_u32 parts.1) (below_two (number max_u32 parts.1) (number_within max_u32 parts.1)))
+    (number max_u32 parts.0) (below_two (number max_u32 parts.0) (number_within max_u32 parts.0))
+
+fraction_fits : (value : List ℕ) → IfSome (fraction value) FitsFraction
+fraction_fits value = then_read (λ _. Unit {0}) FitsFraction fraction_by (λ parts any. parts_fit parts) (cut_at 47 value) (any_read (cut_at 47 value))
+
+base_fits : (value : Option (List ℕ)) → IfSome (option_and_then fraction value) FitsFraction
+base_fits None = tt
+base_fits (Some value) = fraction_fits value
+
+manager_fits : (words : List (List ℕ)) → FitsManager (manager_with words)
+manager_fits words = record {
+  retries = given_fits max_u32 (2 ^ 32) (omega arith) (only (values (codes "retries") words));
+  min = given_fits max_u64 (2 ^ 64) (omega arith) (only (values (codes "min") words));
+  max = limit_fits (only (values (codes "max") words));
+  base = base_fits (only (values (codes "base") words));
+}
+
 with_url : (k : SessionKind) (words : List (List ℕ)) (url : List ℕ) → AreBytes url → FitsConfig (config_with k words url)
 with_url kind.Single words url small = (small, connection_fits words)
+with_url (kind.Manager lazy) words url small = (small, connection_fits words, manager_fits words)
 with_url kind.PubSub words url small = small
 with_url kind.Monitor words url small = small
 

@@ -199,10 +199,14 @@ pinged_fits [] small = (tt, refl)
 pinged_fits (message ∷ []) small = (All-head AreBytes message [] small, refl)
 pinged_fits (message ∷ next ∷ more) small = tt
 
-submissions_fit : (session : SessionKind) → AllRead (SaidSubmission session) (submissions session)
-submissions_fit kind.Single =
+requests_fit : AllRead (SaidSubmission kind.Single) requests
+requests_fit =
     let said = SaidSubmission kind.Single in
     (whole_fits said _ (λ args each. (each, refl)), (whole_fits said _ (λ args each. (each, refl)), (commands_fit, (commands_fit, (packed_fits, calls_fit kind.Single (λ what names is. is))))))
+
+submissions_fit : (session : SessionKind) → AllRead (SaidSubmission session) (submissions session)
+submissions_fit kind.Single = requests_fit
+submissions_fit (kind.Manager lazy) = requests_fit
 submissions_fit kind.PubSub = (whole_fits (SaidSubmission kind.PubSub) pinged pinged_fits, calls_fit kind.PubSub (λ what names is. is))
 submissions_fit kind.Monitor = tt
 

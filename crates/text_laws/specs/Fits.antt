@@ -5,6 +5,7 @@ use Rattle.driver_model.specs.declared.config.Config.{Config}
 use Rattle.driver_model.specs.declared.config.Config.TheVariants as config
 use Rattle.driver_model.specs.declared.config_words.AddressWords.{AddressWords}
 use Rattle.driver_model.specs.declared.config_words.ConnectionWords.{ConnectionWords}
+use Rattle.driver_model.specs.declared.config_words.ManagerWords.{ManagerWords}
 use Rattle.driver_model.specs.declared.kind.SessionKind.{SessionKind}
 use Rattle.driver_model.specs.Config.{kind_of}
 use Rattle.driver_model.specs.declared.event.Event.{Event}
@@ -81,9 +82,21 @@ pub record FitsConnection (words : ConnectionWords) : Type 0 where
   pub buffer : FitsNumber (2 ^ 32) words.buffer
   pub boundary : FitsNumber (2 ^ 64) words.boundary
 
+-- a numerator and a denominator that their type holds
+abbrev pub FitsFraction : ℕ × ℕ → Type 0
+FitsFraction base = (base.0 < 2 ^ 32) × (base.1 < 2 ^ 32)
+
+-- the words of how a connection comes back that their type holds
+pub record FitsManager (words : ManagerWords) : Type 0 where
+  pub retries : FitsNumber (2 ^ 32) words.retries
+  pub min : FitsNumber (2 ^ 64) words.min
+  pub max : FitsLimit words.max
+  pub base : IfSome words.base FitsFraction
+
 -- a configuration that its type holds
 abbrev pub FitsConfig : Config → Type 0
 FitsConfig (config.Single address connection) = FitsAddress address × FitsConnection connection
+FitsConfig (config.Manager lazy address connection manager) = FitsAddress address × FitsConnection connection × FitsManager manager
 FitsConfig (config.PubSub address) = FitsAddress address
 FitsConfig (config.Monitor address) = FitsAddress address
 

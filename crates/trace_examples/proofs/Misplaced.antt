@@ -31,7 +31,7 @@ use Rattle.trace_examples.specs.Parts.{turn, command, unawaited, reply, one_name
 use Rattle.trace_examples.specs.Traces.{opening, taken_in_part, came_up, arrived, started_one, started_unoffered, held_back, spoiled, cut_off, left_untold, left_out, both_left_out, up_in_wait, both_in_wait, first_of_both, ended}
 use Rattle.legal_trace.proofs.Setups.{silent_is_set}
 use Rattle.trace_examples.proofs.Stood.{book_of, may_stand, both_up_silent, both_up_given}
-use Rattle.trace_examples.proofs.Single.{none_is_some, some_is_none, no_session_has, single_behind, unwatched, of_single, of_arrived}
+use Rattle.trace_examples.proofs.Single.{none_is_some, some_is_none, no_session_has, multiplexed_behind, unwatched, of_multiplexed, of_arrived}
 
 -- whoever starts and wasn't told starts at its place, where its reply is awaited
 untold_starts : (b : Book) (n : ℕ) → is_told (b.story n) ≡ false → is_awaited (b.story n) ≡ false → next_step b n ≡ starts → ⊥
@@ -78,7 +78,7 @@ unfolding digits
 told_out_of_order config word events after h =
     let b = book_of (both_in_wait config word (unawaited 72)) in
     elim (may_stand config word events (both_in_wait config word (unawaited 72)) after (action.Outcome 1 (outcome.One Nil)) h) [
-      | inl answer ↦ of_single config word (both_in_wait config word (unawaited 72)) (λ b. owed b 1 ≡ Some (outcome.One Nil) → ⊥) (single_behind config word events (opening config word) _ 1 (command 71) refl refl h) (none_is_some (outcome.One Nil)) (none_is_some (outcome.One Nil)) answer.owes
+      | inl answer ↦ of_multiplexed config word (both_in_wait config word (unawaited 72)) (λ b. owed b 1 ≡ Some (outcome.One Nil) → ⊥) (multiplexed_behind config word events (opening config word) _ 1 (command 71) refl refl h) (none_is_some (outcome.One Nil)) (none_is_some (outcome.One Nil)) answer.owes
       | inr tell ↦
           let t = tells_uncounted b 1 refl tell.tells in
           tell.in_order 0 (omega arith) (record { unstarted = refl; due = first_is_due b refl (tells_mean b 1 tell.tells).1 refl refl t.0 (room_for_one (buffer_size config) (renewals_in_line (b.link 0) + line_before (permits config) b.story 0 1) t.1) })
@@ -90,7 +90,7 @@ pub told_before_the_creation : (config : Config) (word : ℕ) (events : List Eve
 unfolding digits
 told_before_the_creation config word events after h =
     elim (may_stand config word events (up_in_wait config word (unawaited 71)) after (action.Outcome 0 (outcome.One Nil)) h) [
-      | inl answer ↦ of_single config word (up_in_wait config word (unawaited 71)) (λ b. owed b 0 ≡ Some (outcome.One Nil) → ⊥) (single_behind config word events (opening config word) _ 1 (unawaited 71) refl refl h) (none_is_some (outcome.One Nil)) (none_is_some (outcome.One Nil)) answer.owes
+      | inl answer ↦ of_multiplexed config word (up_in_wait config word (unawaited 71)) (λ b. owed b 0 ≡ Some (outcome.One Nil) → ⊥) (multiplexed_behind config word events (opening config word) _ 1 (unawaited 71) refl refl h) (none_is_some (outcome.One Nil)) (none_is_some (outcome.One Nil)) answer.owes
       | inr tell ↦ tell.begun.applied.created.shown 0 (tells_mean (book_of (up_in_wait config word (unawaited 71))) 0 tell.tells).1 refl
     ]
 
@@ -131,10 +131,10 @@ offered_before_a_start config word events after bytes free h =
     let first = may_stand config word events (both_in_wait config word (command 72)) (action.Write 0 bytes ∷ after) (action.Start 0 0 (owner.Try 0 0) 1 11) h in
     let s = starts_uncounted (book_of (both_in_wait config word (command 72))) 0 refl refl first.1.starts in
     let b = book_of (first_of_both config word) in
-    let single = single_behind config word events (opening config word) _ 1 (command 71) refl refl h in
+    let multiplexed = multiplexed_behind config word events (opening config word) _ 1 (command 71) refl refl h in
     let silent = both_up_silent config word events (command 72) (action.Start 0 0 (owner.Try 0 0) 1 11 ∷ action.Write 0 bytes ∷ after) h in
     let given = both_up_given config word events (command 72) (action.Start 0 0 (owner.Try 0 0) 1 11 ∷ action.Write 0 bytes ∷ after) h in
-    m.moved.moved 1 (record { unstarted = refl; due = free_is_due b 1 refl (silent_is_set (link_of b 1) (unwatched config single) given silent) (not_le_test (boundary config) 11 free) refl (ap (λ x. is_none x || false) s.0) s.1 })
+    m.moved.moved 1 (record { unstarted = refl; due = free_is_due b 1 refl (silent_is_set (link_of b 1) (unwatched config multiplexed) given silent) (not_le_test (boundary config) 11 free) refl (ap (λ x. is_none x || false) s.0) s.1 })
 
 -- bytes that are offered twice
 pub offered_twice : (config : Config) (word : ℕ) (events : List Event) (after : List Action)

@@ -25,14 +25,14 @@ use Rattle.trace_examples.proofs.Bounded.{IsBounded, blank_bounded, bounded_behi
 use Rattle.trace_examples.proofs.Misplaced.{same_config}
 use Rattle.trace_examples.proofs.Settled.{first_and_idle, failed_idle, idle_unasked}
 use Rattle.trace_examples.proofs.Stood.{book_of, may_stand, answer, none_is_ready}
-use Rattle.trace_examples.proofs.Single.{some_is_none, other_fault, single_behind, of_single}
+use Rattle.trace_examples.proofs.Single.{some_is_none, other_fault, multiplexed_behind, of_multiplexed}
 
 -- a command that waited, answered with the closed connection
 pub closed_in_place : NoneBegins timed_out (action.Outcome 0 (outcome.Fault error.Closed))
 unfolding digits
 closed_in_place config word events after h =
-    let single = single_behind config word events (timed_opening config word) _ 1 (command 71) refl refl h in
-    of_single config word (timed_out config word) (λ b. owed b 0 ≡ Some (outcome.Fault error.Closed) → ⊥) single (other_fault (error.Io TimedOut) error.Closed (λ e. cc e)) (other_fault (error.Io TimedOut) error.Closed (λ e. cc e))
+    let multiplexed = multiplexed_behind config word events (timed_opening config word) _ 1 (command 71) refl refl h in
+    of_multiplexed config word (timed_out config word) (λ b. owed b 0 ≡ Some (outcome.Fault error.Closed) → ⊥) multiplexed (other_fault (error.Io TimedOut) error.Closed (λ e. cc e)) (other_fault (error.Io TimedOut) error.Closed (λ e. cc e))
     (answer config word events (timed_out config word) after 0 (outcome.Fault error.Closed) refl h).owes
 
 -- an outcome before it was shown that the connect failed
@@ -47,9 +47,9 @@ pub second_before_the_first : (o : Outcome) → NoneBegins refusal_shown (action
 unfolding digits
 second_before_the_first o config word events after h =
     let m = answer config word events (refusal_shown config word) after 1 o refl h in
-    let single = single_behind config word events (opening config word) _ 1 (command 71) refl refl h in
+    let multiplexed = multiplexed_behind config word events (opening config word) _ 1 (command 71) refl refl h in
     let hit : Outcome = outcome.Fault (error.Io Reset) in
-    of_single config word (refusal_shown config word) (λ b. owed b 0 ≡ None → ⊥) single (some_is_none hit) (some_is_none hit) (m.in_order 0 (omega arith) refl refl)
+    of_multiplexed config word (refusal_shown config word) (λ b. owed b 0 ≡ None → ⊥) multiplexed (some_is_none hit) (some_is_none hit) (m.in_order 0 (omega arith) refl refl)
 
 -- a failed creation, and a second one of any sort
 pub shown_again : (e : Option RedisError) → NoneBegins refusal_shown (action.Created e)

@@ -10,6 +10,7 @@ use Rattle.driver_model.specs.declared.config.Config.{Config}
 use Rattle.driver_model.specs.declared.config.Config.TheVariants as config
 use Rattle.driver_model.specs.declared.config_words.AddressWords.{AddressWords}
 use Rattle.driver_model.specs.declared.config_words.ConnectionWords.{ConnectionWords}
+use Rattle.driver_model.specs.declared.config_words.ManagerWords.{ManagerWords}
 use Rattle.driver_model.specs.declared.kind.SessionKind.{SessionKind}
 use Rattle.driver_model.specs.declared.kind.SessionKind.TheVariants as kind
 use Rattle.driver_model.specs.declared.msg.Msg.{Msg}
@@ -118,6 +119,45 @@ lib_words None = []
 lib_words (Some true) = codes "lib=on" ∷ []
 lib_words (Some false) = codes "lib=off" ∷ []
 
+-- how many attempts to connect there are after the first, where it is given
+abbrev pub retries_words : Option ℕ → List (List ℕ)
+retries_words None = []
+retries_words (Some count) = (codes "retries=" ++ decimal count) ∷ []
+
+-- below how many milliseconds the first delay lies, where it is given
+abbrev pub min_words : Option ℕ → List (List ℕ)
+min_words None = []
+min_words (Some ms) = (codes "min=" ++ decimal ms) ∷ []
+
+-- how many milliseconds a delay has at most, where it is given
+abbrev pub max_words : Option (Option ℕ) → List (List ℕ)
+max_words None = []
+max_words (Some None) = codes "max=none" ∷ []
+max_words (Some (Some ms)) = (codes "max=" ++ decimal ms) ∷ []
+
+-- a fraction: its numerator, `/` and its denominator
+abbrev pub fraction_word : ℕ × ℕ → List ℕ
+fraction_word base = decimal base.0 ++ byte "/" ∷ decimal base.1
+
+-- by what delays grow, where it is given
+abbrev pub base_words : Option (ℕ × ℕ) → List (List ℕ)
+base_words None = []
+base_words (Some base) = (codes "base=" ++ fraction_word base) ∷ []
+
+-- whether what was subscribed is subscribed again, where it is given
+abbrev pub resub_words : Option Bool → List (List ℕ)
+resub_words None = []
+resub_words (Some true) = codes "resub=on" ∷ []
+resub_words (Some false) = codes "resub=off" ∷ []
+
+-- what is given of the delays
+abbrev pub delay_words : ManagerWords → List (List ℕ)
+delay_words m = min_words m.min ++ max_words m.max ++ base_words m.base
+
+-- how a connection comes back: what is given of the attempts, of the delays between them, and of what is subscribed again
+abbrev pub manager_words : ManagerWords → List (List ℕ)
+manager_words m = retries_words m.retries ++ delay_words m ++ resub_words m.resub
+
 -- what is given of the times
 abbrev pub times_words : ConnectionWords → List (List ℕ)
 times_words c = connect_words c.connect ++ response_words c.response
@@ -137,12 +177,17 @@ setting_words c = times_words c ++ numbers_words c ++ switch_words c
 -- the word of what a session is
 abbrev pub kind_word : SessionKind → List ℕ
 kind_word kind.Single = codes "single"
+kind_word (kind.Manager false) = codes "manager"
+kind_word (kind.Manager true) = codes "lazy"
 kind_word kind.PubSub = codes "pubsub"
 kind_word kind.Monitor = codes "monitor"
 
--- what a session is, and what is given of it: the address first, and last whether its server is told which library speaks
+-- what a session is, and what is given of it: the address first, behind how its connection behaves whether its server is told
+-- which library speaks, and last how it comes back
 abbrev pub session_words : Config → List (List ℕ)
 session_words (config.Single address connection) = kind_word kind.Single ∷ url address ∷ (setting_words connection ++ lib_words address.lib)
+session_words (config.Manager lazy address connection manager) =
+    kind_word (kind.Manager lazy) ∷ url address ∷ (setting_words connection ++ lib_words address.lib ++ manager_words manager)
 session_words (config.PubSub address) = kind_word kind.PubSub ∷ url address ∷ lib_words address.lib
 session_words (config.Monitor address) = kind_word kind.Monitor ∷ url address ∷ lib_words address.lib
 

@@ -177,6 +177,18 @@ impl Writer {
                 self.settings(connection)?;
                 self.lib(address.lib)
             }
+            Config::Manager {
+                lazy,
+                address,
+                connection,
+                manager,
+            } => {
+                self.kind(SessionKind::Manager { lazy: *lazy })?;
+                self.url(address)?;
+                self.settings(connection)?;
+                self.lib(address.lib)?;
+                self.manager(manager)
+            }
             Config::PubSub { address } => {
                 self.kind(SessionKind::PubSub)?;
                 self.url(address)?;

@@ -65,6 +65,8 @@ impl Writer {
     {
         match kind {
             SessionKind::Single => self.literal(b"single"),
+            SessionKind::Manager { lazy: false } => self.literal(b"manager"),
+            SessionKind::Manager { lazy: true } => self.literal(b"lazy"),
             SessionKind::PubSub => self.literal(b"pubsub"),
             SessionKind::Monitor => self.literal(b"monitor"),
         }

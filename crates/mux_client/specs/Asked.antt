@@ -1,11 +1,13 @@
--- What sessions at one address are asked with.
+-- What sessions over managers at one address are asked with.
 use Rattle.std.specs.Prelude.{pos, true, false, codes, Some, None}
 use Rattle.connection_info.specs.declared.address.ConnectionInfo.{ConnectionInfo}
 use Rattle.connection_info.specs.declared.protocol.ProtocolVersion.TheVariants.{RESP2}
 use Rattle.manager_config.specs.declared.config.ConnectionManagerConfig.{ConnectionManagerConfig}
-use Rattle.manager_config.specs.declared.settings.ManagerKind.TheVariants.{Manager, Lazy}
-use Rattle.manager_config.specs.declared.settings.ManagerSettings.{ManagerSettings}
 use Rattle.manager_config.specs.Config.{default_manager}
+use Rattle.driver_model.specs.declared.config_words.AddressWords.{AddressWords}
+use Rattle.driver_model.specs.declared.config_words.ConnectionWords.{ConnectionWords}
+use Rattle.driver_model.specs.declared.config_words.ManagerWords.{ManagerWords}
+use Rattle.driver_model.specs.Config.{address_at}
 
 -- an address, whose server is told nothing but the library's name
 abbrev pub plain : ConnectionInfo
@@ -20,24 +22,8 @@ abbrev pub nameless : ConnectionInfo
 nameless = record plain { redis = record plain.redis { skip_set_lib_name = true } }
 
 -- the words that give nothing but the address
-abbrev pub bare : ManagerSettings
-bare = record {
-  kind = Manager;
-  url = codes "redis://h:6379";
-  connect = None;
-  response = None;
-  buffer = None;
-  limit = None;
-  boundary = None;
-  push = None;
-  creds = None;
-  lib = None;
-  retries = None;
-  min = None;
-  max = None;
-  base = None;
-  resub = None;
-}
+abbrev pub bare : AddressWords
+bare = address_at (codes "redis://h:6379")
 
 -- a manager of which two settings aren't the default
 abbrev pub quick : ConnectionManagerConfig
@@ -62,19 +48,20 @@ changed = record {
   automatic_resubscription = true;
 }
 
--- the words of that manager, where the library's name is left out
-abbrev pub of_changed : ManagerSettings
-of_changed = record {
-  kind = Lazy;
-  url = codes "redis://h:6379";
+-- the words of that manager's connections, and of how it comes back
+abbrev pub changed_connection : ConnectionWords
+changed_connection = record {
   connect = Some (Some 11);
   response = Some None;
-  buffer = Some 12;
   limit = Some 13;
+  buffer = Some 12;
   boundary = Some 14;
   push = Some true;
   creds = Some true;
-  lib = Some false;
+}
+
+abbrev pub changed_manager : ManagerWords
+changed_manager = record {
   retries = Some 9;
   min = Some 5;
   max = Some (Some 70);

@@ -1,6 +1,6 @@
 use Rattle.std.proofs.Common.{refl}
 use Rattle.std.specs.Fmt.{digits}
-use Rattle.manager_config.proofs.laws.sessions_are_asked_with_these_words.Goals as goal
+use Rattle.mux_client.proofs.examples.sessions_are_asked_with_these_words.Goals as goal
 
 pub returns-clause-default : goal.returns-clause-default
 unfolding digits
