@@ -42,6 +42,7 @@ no_turn l t c act.Close = tt
 no_turn l t c (act.Write bytes) = tt
 no_turn l t c (act.Wait n kind) = tt
 no_turn l t c act.NeedCreds = tt
+no_turn l t c act.NeedRenewals = tt
 no_turn l t c (act.Start message n need len) = tt
 no_turn l t c (act.Outcome n o) = tt
 
