@@ -1,4 +1,6 @@
 pub mod Within
+pub mod Quiet
+pub mod Comebacks
 pub mod Spent
 pub mod Replays
 pub mod Stays

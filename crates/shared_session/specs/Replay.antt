@@ -55,14 +55,14 @@ abbrev pub unused : MultiplexedConnection → MultiplexedConnection
 unused c = record (afresh c) { told = true }
 
 -- it comes back so, if it does: the first generation begins as it opens, or with the first request
-abbrev pub as_managed : Option ConnectionManagerConfig → Bool → Option ConnectionInfo → Core → Core
-as_managed None lazy at c = c
-as_managed (Some settings) lazy None c = c
-as_managed (Some settings) false (Some info) c = record c {
+abbrev pub as_managed : Option ConnectionManagerConfig → Option ConnectionInfo → Bool → Core → Core
+as_managed None at lazy c = c
+as_managed (Some settings) None lazy c = c
+as_managed (Some settings) (Some info) false c = record c {
   manager = Some (generations_at settings info 1);
   single = record c.single { connection = first_dialled settings c.single.connection };
 }
-as_managed (Some settings) true (Some info) c = record c {
+as_managed (Some settings) (Some info) true c = record c {
   manager = Some (generations_at settings info 0);
   links = first_link;
   timers = [];
@@ -71,7 +71,7 @@ as_managed (Some settings) true (Some info) c = record c {
 
 -- after turn 0
 abbrev pub opening_core : Config → ℕ → Core
-opening_core config word = as_managed (manager_of config) (is_lazy config) (address config) (single_core config)
+opening_core config word = as_managed (manager_of config) (address config) (is_lazy config) (single_core config)
 
 -- the timer of the opening is asked for
 abbrev pub timer_asked : Option ℕ → List Action

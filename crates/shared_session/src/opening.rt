@@ -71,7 +71,7 @@ impl Core {
         info: ConnectionInfo,
     ) -> Result<(), AllocError>
         ensures { OnOk result (
-            self.new ≡ as_managed (Some settings) false (Some info) self.old
+            self.new ≡ as_managed (Some settings) (Some info) false self.old
             ) }
     {
         let generations = Generations::new(settings, info, 1);
@@ -88,7 +88,7 @@ impl Core {
         info: ConnectionInfo,
     ) -> Result<(), AllocError>
         ensures { OnOk result (
-            self.new ≡ as_managed (Some settings) true (Some info) self.old
+            self.new ≡ as_managed (Some settings) (Some info) true self.old
             ) }
     {
         self.manager = Some(Generations::new(settings, info, 0));
@@ -107,7 +107,7 @@ impl Core {
         lazy: bool,
         info: &ConnectionInfo,
     ) -> Result<(), AllocError>
-        ensures { OnOk result (self.new ≡ as_managed manager lazy (Some info.now) self.old) }
+        ensures { OnOk result (self.new ≡ as_managed manager (Some info.now) lazy self.old) }
     {
         let Some(settings) = manager else {
             return Ok(());
