@@ -55,7 +55,7 @@ still info life requests = connection_with info life requests [] [] []
 
 -- a session over a connection, before its turn of that number, with these requests of its submissions
 abbrev pub session_with : ℕ → List (Option Pending) → MultiplexedConnection → Core
-session_with turns table connection = record { kind = kind.Single; turns = turns; links = 1; shut = false; timeout = None; timers = []; sources = []; table = table; single = record { link = 0; connection = connection } }
+session_with turns table connection = record { kind = kind.Single; manager = None; turns = turns; links = 1; shut = false; timeout = None; timers = []; sources = []; table = table; single = record { link = 0; connection = connection } }
 
 -- a session whose link is up
 abbrev pub up : RedisConnectionInfo → ℕ → List (Option Pending) → List Request → LinkState → Core

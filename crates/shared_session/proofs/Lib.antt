@@ -3,5 +3,6 @@ pub mod Quiet
 pub mod Comebacks
 pub mod Spent
 pub mod Replays
+pub mod Effects
 pub mod Stays
 pub mod Threads

@@ -100,13 +100,16 @@ run_on_kind : (c : Core) (es : List Event) → (run_on c es).kind ≡ c.kind
 run_on_kind c [] = refl
 run_on_kind c (e ∷ es) = run_on_kind (next_turn c e.kind).core es ∙ turn_kind c e.kind
 
--- so where a history leads it is what it was opened as
 opened_kind : (manager : Option ConnectionManagerConfig) (at : Option ConnectionInfo) (lazy : Bool) (c : Core) → (as_managed manager at lazy c).kind ≡ c.kind
 opened_kind None at lazy c = refl
 opened_kind (Some s) None lazy c = refl
 opened_kind (Some s) (Some info) false c = refl
 opened_kind (Some s) (Some info) true c = refl
 
+pub opening_kind : (config : Config) (word : ℕ) → (opening_core config word).kind ≡ kind_of config
+opening_kind config word = opened_kind (manager_of config) (address config) (is_lazy config) (single_core config)
+
+-- so where a history leads it is what it was opened as
 pub state_kind : (config : Config) (word : ℕ) (es : List Event) → (state_after config word es).kind ≡ kind_of config
 unfolding state_after
-state_kind config word es = run_on_kind (opening_core config word) es ∙ opened_kind (manager_of config) (address config) (is_lazy config) (single_core config)
+state_kind config word es = run_on_kind (opening_core config word) es ∙ opening_kind config word
