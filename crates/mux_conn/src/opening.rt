@@ -34,7 +34,6 @@ impl MultiplexedConnection {
         ensures failure { self.new.failure ≡ self.old.failure }
     {
         let info = self.address.clone(alloc)?;
-        self.refresh(alloc)?;
         self.free = self.limit.unwrap_or(0);
         self.info = info;
         self.renewal = Renewal::new(alloc, self.renewal.wanted, self.renewal.within);
@@ -42,6 +41,7 @@ impl MultiplexedConnection {
         self.opened = false;
         self.admitted = Queue::new(alloc);
         self.moved = Queue::new(alloc);
+        self.refresh(alloc)?;
         Ok(())
     }
 
