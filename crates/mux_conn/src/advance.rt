@@ -407,7 +407,8 @@ impl MultiplexedConnection {
         Ok(())
     }
 
-    /// A request that still waits for the connection, or for a permit, is let in. On a link that has ended it is answered.
+    /// A request that still waits for the connection, or for a permit, is let in, once its round has begun. On a link that has
+    /// ended it is answered.
     fn admit(
         &mut self,
         alloc: Global,
@@ -432,6 +433,7 @@ impl MultiplexedConnection {
             self.answer(u64::from(request.number), Outcome::Fault(error), out)?;
             return Ok(());
         }
+        self.begin_round(request.number, out)?;
         self.let_in(&request, out)?;
         self.seat_or_put_behind(alloc, request, out)
     }
@@ -463,7 +465,8 @@ impl MultiplexedConnection {
         Ok(())
     }
 
-    /// New credentials are told, and every request is moved as far as it can go.
+    /// New credentials are told, and every request is moved as far as it can go. Those that go on waiting for a permit begin their
+    /// rounds.
     pub(crate) fn pass(
         &mut self,
         alloc: Global,
@@ -489,7 +492,12 @@ impl MultiplexedConnection {
             Ok(()) => {}
             Err(error) => return Err(error),
         }
-        self.admit_all(alloc, out)
+        match self.admit_all(alloc, out) {
+            Ok(()) => {}
+            Err(error) => return Err(error),
+        }
+        self.begin_rounds(out)?;
+        Ok(())
     }
 }
 

@@ -165,6 +165,7 @@ whole_effect t kind = moved_on (effect t kind)
 abbrev pub timer_of : ℕ → LinkAct → List Purpose
 timer_of l (act.Timer n ms) = purpose.Response (owner.Try n 0) ∷ []
 timer_of l (act.RenewalTimer k ms) = purpose.Renewal l k ∷ []
+timer_of l (act.Round n) = []
 timer_of l (act.Took n count) = []
 timer_of l (act.Created e) = []
 timer_of l act.NeedCreds = []
@@ -195,6 +196,7 @@ use_after l (suc n) = source.Renewal l
 abbrev pub source_of : ℕ → ℕ → LinkAct → List SourceUse
 source_of l n act.NeedCreds = use_after l n ∷ []
 source_of l n (act.Created e) = []
+source_of l n (act.Round m) = []
 source_of l n (act.Took m count) = []
 source_of l n (act.Timer m ms) = []
 source_of l n (act.RenewalTimer k ms) = []
@@ -231,6 +233,7 @@ next_turn c kind = numbered (whole_effect (counted c) kind)
 -- what an act of the connection of link l shows, where so many timers, and so many sources, were asked for before
 abbrev pub shown : ℕ → ℕ → ℕ → LinkAct → Action
 shown l t c (act.Created e) = action.Created e
+shown l t c (act.Round n) = action.Round (owner.Try n 0) (Some l)
 shown l t c (act.Took n count) = action.Took (owner.Try n 0) l count
 shown l t c (act.Timer n ms) = action.Timer t ms (purpose.Response (owner.Try n 0))
 shown l t c (act.RenewalTimer k ms) = action.Timer t ms (purpose.Renewal l k)

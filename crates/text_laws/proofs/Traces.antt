@@ -30,6 +30,7 @@ use Rattle.text_laws.proofs.Turns.{cause_line, turns_told}
 no_causes : (l t c : ℕ) (acts : List LinkAct) → causes (shown_each l t c acts) ≡ []
 no_causes l t c [] = refl
 no_causes l t c (act.Created error ∷ more) = no_causes l (t + 0) (c + 0) more
+no_causes l t c (act.Round n ∷ more) = no_causes l (t + 0) (c + 0) more
 no_causes l t c (act.Took n count ∷ more) = no_causes l (t + 0) (c + 0) more
 no_causes l t c (act.Timer n ms ∷ more) = no_causes l (t + 1) (c + 0) more
 no_causes l t c (act.RenewalTimer k ms ∷ more) = no_causes l (t + 1) (c + 0) more
