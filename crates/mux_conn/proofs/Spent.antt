@@ -21,9 +21,9 @@ use Rattle.driver_model.specs.declared.action.WaitKind.{WaitKind}
 use Rattle.driver_model.specs.News.{News}
 use Rattle.mux_conn.specs.Effects.{applied}
 use Rattle.mux_conn.specs.Passes.{shown_each, greeted_each, started, started_at, placed_at, told_at_place, seated, moved_up, moved_up_each, moved_up_all, still_admitted}
-use Rattle.mux_conn.specs.Passes.{permits_taken, took, took_shown, timer_asked, let_in, holding, put_behind, seated_or_behind, round_begun, rounds_of, rounds_begun, admitted_at, admitted, admitted_each, admitted_all, still_waiting, passed}
+use Rattle.mux_conn.specs.Passes.{permits_taken, took, took_shown, timer_asked, let_in, holding, put_behind, seated_or_behind, round_begun, rounds_of, rounds_begun, admitted_at, admitted, admitted_each, admitted_all, still_waiting, moved_all, passed}
 use Rattle.mux_conn.specs.Renewals.{renewed}
-use Rattle.mux_conn.proofs.Kept.{shown_same, greeted_same, passed_kept, flushed_kept}
+use Rattle.mux_conn.proofs.Kept.{shown_same, greeted_same, begun_kept, moved_kept, flushed_kept}
 use Rattle.mux_conn.specs.Turn.{written, written_at, moved_wait, fresh_wait, wait_shown, moved_each_shown, fresh_each_shown, moved_shown, fresh_shown, flushed, stepped}
 
 -- how many messages have started
@@ -183,37 +183,37 @@ uses_more : (w v : Work) → count w ≤ count v → v.conn.renewal.asked ≡ w.
 uses_more w v l e h =
     ap (λ (n : ℕ). runs_out v || nat_le (2 ^ 32) n) e ∙ or_more (runs_out w) (runs_out v) (nat_le (2 ^ 32) w.conn.renewal.asked) (past (count w) (count v) l) h
 
--- those that are let in run out before rounds begin
-pub spent_third : (w : Work) → is_spent_in (admitted_all (moved_up_all (started (renewed w)))).conn.life ≡ true → uses_up (passed w) ≡ true
-spent_third w h =
-    let v = admitted_all (moved_up_all (started (renewed w))) in
-    either_left (runs_out (passed w)) (renewals_run_out (passed w)) (ap (λ n. nat_le (2 ^ 32) n) (begun_count v) ∙ h)
-
 -- those that take a place run out before the others are admitted
-pub spent_second : (w : Work) → is_spent_in (moved_up_all (started (renewed w))).conn.life ≡ true → uses_up (passed w) ≡ true
+pub spent_second : (w : Work) → is_spent_in (moved_up_all (started (renewed w))).conn.life ≡ true → uses_up (moved_all w) ≡ true
 spent_second w h =
     let v = moved_up_all (started (renewed w)) in
-    spent_third w (past (count v) (count (admitted_all v)) (admitted_each_rises (still_waiting v []) v.conn.waiting) h)
+    either_left (runs_out (moved_all w)) (renewals_run_out (moved_all w)) (past (count v) (count (admitted_all v)) (admitted_each_rises (still_waiting v []) v.conn.waiting) h)
 
 -- starts run out before requests are moved
-pub spent_first : (w : Work) → is_spent_in (started (renewed w)).conn.life ≡ true → uses_up (passed w) ≡ true
+pub spent_first : (w : Work) → is_spent_in (started (renewed w)).conn.life ≡ true → uses_up (moved_all w) ≡ true
 spent_first w h =
     let v = started (renewed w) in
     spent_second w (past (count v) (count (moved_up_all v)) (moved_up_each_rises (still_admitted v []) v.conn.admitted) h)
 
--- a pass gives no smaller numbers than new credentials do
-passed_rises : (w : Work) → count (renewed w) ≤ count (passed w)
-passed_rises w =
+-- to move requests gives no smaller numbers than new credentials do
+moved_rises : (w : Work) → count (renewed w) ≤ count (moved_all w)
+moved_rises w =
     let s = started (renewed w) in
     let m = moved_up_all s in
     let up : count s ≤ count m = moved_up_each_rises (still_admitted s []) s.conn.admitted in
-    let all : count m ≤ count (admitted_all m) = admitted_each_rises (still_waiting m []) m.conn.waiting in
-    let same = begun_count (admitted_all m) in
-    omega (arith, started_rises (renewed w), up, all, same)
+    let all : count m ≤ count (moved_all w) = admitted_each_rises (still_waiting m []) m.conn.waiting in
+    omega (arith, started_rises (renewed w), up, all)
 
 -- what new credentials use up is used up when requests were moved
-pub spent_renewed : (w : Work) → uses_up (renewed w) ≡ true → uses_up (passed w) ≡ true
-spent_renewed w h = uses_more (renewed w) (passed w) (passed_rises w) (ap (λ (r : Renewal). r.asked) (passed_kept w)) h
+pub spent_renewed : (w : Work) → uses_up (renewed w) ≡ true → uses_up (moved_all w) ≡ true
+spent_renewed w h = uses_more (renewed w) (moved_all w) (moved_rises w) (ap (λ (r : Renewal). r.asked) (moved_kept w)) h
+
+-- what is used up when requests were moved is used up when rounds have begun
+pub spent_moved : (w : Work) → uses_up (moved_all w) ≡ true → uses_up (passed w) ≡ true
+spent_moved w h =
+    let v = moved_all w in
+    let same = begun_count v in
+    uses_more v (rounds_begun v) (omega (arith, same)) (ap (λ (r : Renewal). r.asked) (begun_kept v)) h
 
 wait_count : (w : Work) (p : ℕ) (kind : Option WaitKind) → count (wait_shown w p kind) ≡ count w
 wait_count w p None = refl

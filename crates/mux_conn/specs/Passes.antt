@@ -169,9 +169,13 @@ abbrev pub rounds_begun : Work → Work
 rounds_begun w = if w.conn.rounds && is_ready w.conn.life then rounds_of w w.conn.fresh else w
 
 -- new credentials are told, what waits in the queue starts, then those that wait for a place are moved, and then those that
--- wait for the connection; those that go on waiting for a permit begin their rounds
+-- wait for the connection
+abbrev pub moved_all : Work → Work
+moved_all w = admitted_all (moved_up_all (started (renewed w)))
+
+-- every request is moved as far as it can go, and those that go on waiting for a permit begin their rounds
 abbrev pub passed : Work → Work
-passed w = rounds_begun (admitted_all (moved_up_all (started (renewed w))))
+passed w = rounds_begun (moved_all w)
 
 -- it is the entry of request p
 abbrev pub has_number : ℕ → Waiting → Bool

@@ -234,7 +234,7 @@ impl MultiplexedConnection {
     ghost use Rattle.mux_conn.specs.Requests.{answered};
     ghost use Rattle.mux_conn.specs.Passes.{placed_at, seated, moved_up};
     ghost use Rattle.mux_conn.specs.Passes.{moved_up_all, put_behind, seated_or_behind, admitted};
-    ghost use Rattle.mux_conn.specs.Passes.{admitted_all, passed};
+    ghost use Rattle.mux_conn.specs.Passes.{admitted_all, moved_all, passed};
     ghost use Rattle.mux_conn.specs.Connection.{work_with, admits_none, has_room, runs_out, uses_up};
 
     /// A request takes its place in the queue.
@@ -465,18 +465,13 @@ impl MultiplexedConnection {
         Ok(())
     }
 
-    /// New credentials are told, and every request is moved as far as it can go. Those that go on waiting for a permit begin their
-    /// rounds.
-    pub(crate) fn pass(
-        &mut self,
-        alloc: Global,
-        out: &mut Vec<LinkAct>,
-    ) -> Result<(), ConnectionError>
+    /// New credentials are told, and every request is moved as far as it can go.
+    fn move_all(&mut self, alloc: Global, out: &mut Vec<LinkAct>) -> Result<(), ConnectionError>
         ensures work { OnOk result (
-            work_with self.new out.new.items ≡ passed (work_with self.old out.old.items)
+            work_with self.new out.new.items ≡ moved_all (work_with self.old out.old.items)
             ) }
         ensures spent { IsErrOf result ConnectionError.Spent
-            → uses_up (passed (work_with self.old out.old.items)) ≡ true }
+            → uses_up (moved_all (work_with self.old out.old.items)) ≡ true }
         ensures count { length self.new.requests ≡ length self.old.requests }
         ensures failure { self.new.failure ≡ self.old.failure }
     {
@@ -492,7 +487,24 @@ impl MultiplexedConnection {
             Ok(()) => {}
             Err(error) => return Err(error),
         }
-        match self.admit_all(alloc, out) {
+        self.admit_all(alloc, out)
+    }
+
+    /// Every request is moved as far as it can go, and those that go on waiting for a permit begin their rounds.
+    pub(crate) fn pass(
+        &mut self,
+        alloc: Global,
+        out: &mut Vec<LinkAct>,
+    ) -> Result<(), ConnectionError>
+        ensures work { OnOk result (
+            work_with self.new out.new.items ≡ passed (work_with self.old out.old.items)
+            ) }
+        ensures spent { IsErrOf result ConnectionError.Spent
+            → uses_up (passed (work_with self.old out.old.items)) ≡ true }
+        ensures count { length self.new.requests ≡ length self.old.requests }
+        ensures failure { self.new.failure ≡ self.old.failure }
+    {
+        match self.move_all(alloc, out) {
             Ok(()) => {}
             Err(error) => return Err(error),
         }

@@ -7,7 +7,7 @@ use std::alloc::AllocError;
 
 impl MultiplexedConnection {
     ghost use Rattle.mux_conn.specs.Connection.{work_with};
-    ghost use Rattle.mux_conn.specs.Passes.{round_begun, rounds_begun};
+    ghost use Rattle.mux_conn.specs.Passes.{round_begun, rounds_of, rounds_begun};
 
     /// The round of a request begins, where rounds are shown and it waits without one.
     pub(crate) fn begin_round(
@@ -43,6 +43,19 @@ impl MultiplexedConnection {
         if !self.rounds || !self.life.is_ready() {
             return Ok(());
         }
+        self.begin_each(out)?;
+        Ok(())
+    }
+
+    /// The rounds of all begin whose waits are to be shown, where they wait.
+    fn begin_each(&mut self, out: &mut Vec<LinkAct>) -> Result<(), AllocError>
+        ensures work { OnOk result (
+            work_with self.new out.new.items
+            ≡ rounds_of (work_with self.old out.old.items) self.old.fresh
+            ) }
+        ensures count { length self.new.requests ≡ length self.old.requests }
+        ensures failure { self.new.failure ≡ self.old.failure }
+    {
         let len = self.fresh.len();
         for index in 0..len {
             let number = *self.fresh.at(index);

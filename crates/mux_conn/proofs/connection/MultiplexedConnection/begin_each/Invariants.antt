@@ -1,6 +1,6 @@
 use Rattle.std.proofs.Common.{◌≡◌, drop, length}
 use Rattle.mux_conn.specs.Passes.{rounds_of}
-use Rattle.mux_conn.proofs.connection.MultiplexedConnection.begin_rounds.Given as goal
+use Rattle.mux_conn.proofs.connection.MultiplexedConnection.begin_each.Given as goal
 
 -- those that are left begin their rounds as all do
 abbrev pub invariant-loop-index : goal.invariant-loop-index

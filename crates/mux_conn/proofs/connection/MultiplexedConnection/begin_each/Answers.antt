@@ -3,7 +3,7 @@ use Rattle.std.specs.Prelude.{slice_get, Some}
 use Rattle.std.proofs.lemmas.Option.{get_or_from_slice_get}
 use Rattle.mux_conn.specs.Connection.{Work}
 use Rattle.mux_conn.proofs.Begun.{round_fresh, one_begun, all_begun}
-use Rattle.mux_conn.proofs.connection.MultiplexedConnection.begin_rounds.Goals as goal
+use Rattle.mux_conn.proofs.connection.MultiplexedConnection.begin_each.Goals as goal
 
 pub loop-index-preserved : goal.loop-index-preserved
 loop-index-preserved c =
@@ -21,3 +21,9 @@ loop-index-preserved c =
       count = c.in_ok-begin_round.ensures.count ∙ inv.count;
       failure = c.in_ok-begin_round.ensures.failure ∙ inv.failure;
     }
+
+pub returns-clause-work : goal.returns-clause-work
+returns-clause-work c =
+    let inv = c.loop-index.invariant in
+    let w : Work = record { conn = c.loop-index.self; acts = c.loop-index.out.items } in
+    all_begun w _ c.args.self.now.fresh c.loop-index.index (omega (arith, inv.len_is)) inv.work
