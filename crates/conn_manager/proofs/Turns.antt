@@ -129,6 +129,7 @@ starting_goes m message p need len = chosen (Goes m) (p == resubscription_name) 
 
 notes : (m : ConnectionManager) (draw : ℕ) (a : LinkAct) → Goes m (noted m draw a)
 notes m draw (link_act.Created e) = opens m draw e
+notes m draw (link_act.Round p) = itself m
 notes m draw (link_act.Took p count) = says m _
 notes m draw (link_act.Timer p ms) = says m _
 notes m draw (link_act.RenewalTimer k ms) = says m _

@@ -143,6 +143,7 @@ impl ConnectionManager {
         let link = self.link();
         match act {
             LinkAct::Created { error } => self.open(alloc, draw, error),
+            LinkAct::Round { request: _ } => Ok(()),
             LinkAct::Took { request, count } => self.say(ManagerAct::Took {
                 request: Pending { number: request },
                 count,

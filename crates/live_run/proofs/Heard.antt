@@ -31,6 +31,7 @@ use Rattle.live_run.proofs.Standing.{IsKnown, IsKnownLink, Knows, known_grown, n
 -- no act of a connection begins a turn
 pub no_turn : (l t c : ℕ) (x : LinkAct) → IsNoTurn (shown l t c x)
 no_turn l t c (act.Created e) = tt
+no_turn l t c (act.Round n) = tt
 no_turn l t c (act.Took n count) = tt
 no_turn l t c (act.Timer n ms) = tt
 no_turn l t c (act.RenewalTimer k ms) = tt

@@ -13,6 +13,7 @@ pending p = record { number = p }
 
 abbrev pub shown : LinkAct → ConnectionAct
 shown (link_act.Created e) = act.Created e
+shown (link_act.Round p) = act.Round (pending p)
 shown (link_act.Took p count) = act.Took (pending p) count
 shown (link_act.Timer p ms) = act.Timer (timer.Response (pending p)) ms
 shown (link_act.RenewalTimer k ms) = act.Timer (timer.Renewal k) ms
@@ -36,6 +37,7 @@ shown_each (a ∷ more) = shown a ∷ shown_each more
 
 abbrev pub kept : List (Option Outcome) → LinkAct → List (Option Outcome)
 kept os (link_act.Created e) = os
+kept os (link_act.Round p) = os
 kept os (link_act.Took p count) = os
 kept os (link_act.Timer p ms) = os
 kept os (link_act.RenewalTimer k ms) = os

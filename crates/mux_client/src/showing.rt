@@ -41,6 +41,9 @@ fn show(act: LinkAct, outcomes: &mut Seq<Option<Outcome>>) -> ConnectionAct
 {
     match act {
         LinkAct::Created { error } => ConnectionAct::Created { error },
+        LinkAct::Round { request } => ConnectionAct::Round {
+            request: pending(request),
+        },
         LinkAct::Took { request, count } => ConnectionAct::Took {
             request: pending(request),
             count,

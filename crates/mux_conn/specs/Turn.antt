@@ -33,6 +33,7 @@ dialing size boundary limit hears info renewal = record {
   last = true;
   told = false;
   opened = false;
+  rounds = false;
   requests = [];
   waiting = [];
   admitted = [];

@@ -10,6 +10,10 @@ pub enum LinkAct {
     Created {
         error: Option<RedisError>,
     },
+    /// The round of a request begins.
+    Round {
+        request: u32,
+    },
     /// A request takes so many permits.
     Took {
         request: u32,

@@ -40,6 +40,8 @@ pub struct MultiplexedConnection {
     pub told: bool,
     /// Whether its link was set up, so that its end is no failed opening.
     pub opened: bool,
+    /// Whether the rounds of requests are shown.
+    pub rounds: bool,
     pub requests: Seq<Request>,
     pub waiting: Queue<Waiting>,
     pub admitted: Queue<Waiting>,
@@ -68,6 +70,7 @@ impl Drop for MultiplexedConnection {
             last: _,
             told: _,
             opened: _,
+            rounds: _,
             requests,
             waiting,
             admitted,
@@ -94,7 +97,7 @@ impl Drop for MultiplexedConnection {
 }
 
 impl MultiplexedConnection {
-    ghost use Rattle.mux_conn.specs.Requests.{is_open_at, is_waiting_at, is_admitted_at};
+    ghost use Rattle.mux_conn.specs.Requests.{is_open_at, is_waiting_at, is_unbegun_at, is_admitted_at};
     ghost use Rattle.mux_conn.specs.Requests.{is_placed_at, name_at, permits_at, closed, answered};
     ghost use Rattle.mux_conn.specs.Requests.{asked, progressed};
     ghost use Rattle.mux_conn.specs.Connection.{work_with, started_in, is_used_up, admits_none};
@@ -131,6 +134,7 @@ impl MultiplexedConnection {
             last: true,
             told: false,
             opened: false,
+            rounds: false,
             requests: Seq::new(alloc),
             waiting: Queue::new(alloc),
             admitted: Queue::new(alloc),
@@ -192,13 +196,14 @@ impl MultiplexedConnection {
         }
         match self.requests.at(number as usize).progress {
             Progress::Waiting => true,
+            Progress::Begun => true,
             Progress::Admitted => true,
             Progress::Placed => true,
             Progress::Closed => false,
         }
     }
 
-    /// Whether a request waits for the connection.
+    /// Whether a request waits for the connection, or for a permit of it.
     pub fn is_waiting(&self, number: u32) -> bool
         ensures value { result ≡ is_waiting_at self.now.requests number }
         ensures there { result ≡ true → number < length self.now.requests }
@@ -208,6 +213,24 @@ impl MultiplexedConnection {
         }
         match self.requests.at(number as usize).progress {
             Progress::Waiting => true,
+            Progress::Begun => true,
+            Progress::Admitted => false,
+            Progress::Placed => false,
+            Progress::Closed => false,
+        }
+    }
+
+    /// Whether a request waits, and its round hasn't begun.
+    pub(crate) fn is_unbegun(&self, number: u32) -> bool
+        ensures value { result ≡ is_unbegun_at self.now.requests number }
+        ensures there { result ≡ true → number < length self.now.requests }
+    {
+        if number as usize >= self.requests.len() {
+            return false;
+        }
+        match self.requests.at(number as usize).progress {
+            Progress::Waiting => true,
+            Progress::Begun => false,
             Progress::Admitted => false,
             Progress::Placed => false,
             Progress::Closed => false,
@@ -224,6 +247,7 @@ impl MultiplexedConnection {
         }
         match self.requests.at(number as usize).progress {
             Progress::Waiting => false,
+            Progress::Begun => false,
             Progress::Admitted => true,
             Progress::Placed => false,
             Progress::Closed => false,
@@ -239,6 +263,7 @@ impl MultiplexedConnection {
         }
         match self.requests.at(number as usize).progress {
             Progress::Waiting => false,
+            Progress::Begun => false,
             Progress::Admitted => false,
             Progress::Placed => true,
             Progress::Closed => false,

@@ -15,6 +15,7 @@ mod opening;
 mod reading;
 mod renewal;
 mod request;
+mod rounds;
 mod step;
 
 pub use act::LinkAct;

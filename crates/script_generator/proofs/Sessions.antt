@@ -38,6 +38,7 @@ connection_with info life requests waiting fresh moved = record {
   last = true;
   told = true;
   opened = true;
+  rounds = false;
   requests = requests;
   waiting = waiting;
   admitted = [];

@@ -76,6 +76,7 @@ told_shown : (link : ℕ) (acts : List LinkAct) (os : List (Option Outcome)) (ti
 told_shown link [] os t c = refl
 told_shown link (act.Outcome n o ∷ more) os t c = told_shown link more _ _ _
 told_shown link (act.Created e ∷ more) os t c = told_shown link more os _ _
+told_shown link (act.Round n ∷ more) os t c = told_shown link more os _ _
 told_shown link (act.Took n count ∷ more) os t c = told_shown link more os _ _
 told_shown link (act.Timer n ms ∷ more) os t c = told_shown link more os _ _
 told_shown link (act.RenewalTimer k ms ∷ more) os t c = told_shown link more os _ _

@@ -46,13 +46,13 @@ single_core config = record {
   single = record { link = first_link; connection = dialing (buffer_size config) (boundary config) (permits config) (hearing_of config) (told_info config) (no_renewal (wants_credentials config) (response_timeout config)) };
 }
 
--- on this connection a first generation begins, of a manager that behaves so
+-- on this connection a first generation begins, of a manager that behaves so: the rounds of its requests are shown
 abbrev pub first_dialled : ConnectionManagerConfig → MultiplexedConnection → MultiplexedConnection
-first_dialled settings c = dialled c (is_last settings 0)
+first_dialled settings c = dialled (record c { rounds = true }) (is_last settings 0)
 
--- no link is asked for before a request, and its creation is told
+-- no link is asked for before a request, and its creation is told; the rounds of its requests are shown
 abbrev pub unused : MultiplexedConnection → MultiplexedConnection
-unused c = record (afresh c) { told = true }
+unused c = record (afresh c) { rounds = true; told = true }
 
 -- it comes back so, if it does: the first generation begins as it opens, or with the first request
 abbrev pub as_managed : Option ConnectionManagerConfig → Option ConnectionInfo → Bool → Core → Core

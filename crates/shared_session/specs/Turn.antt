@@ -168,6 +168,7 @@ whole_effect t kind = moved_on (effect t kind)
 abbrev pub timer_of : ℕ → LinkAct → List Purpose
 timer_of l (act.Timer n ms) = purpose.Response (owner.Try n 0) ∷ []
 timer_of l (act.RenewalTimer k ms) = purpose.Renewal l k ∷ []
+timer_of l (act.Round n) = []
 timer_of l (act.Took n count) = []
 timer_of l (act.Created e) = []
 timer_of l act.NeedCreds = []
@@ -194,6 +195,7 @@ abbrev pub source_of : ℕ → LinkAct → List SourceUse
 source_of l act.NeedCreds = source.Setup l ∷ []
 source_of l act.NeedRenewals = source.Renewal l ∷ []
 source_of l (act.Created e) = []
+source_of l (act.Round m) = []
 source_of l (act.Took m count) = []
 source_of l (act.Timer m ms) = []
 source_of l (act.RenewalTimer k ms) = []
@@ -277,6 +279,7 @@ last_acts c kind = last_as (is_some c.manager) (passed_by (counted c) kind) (has
 -- what an act of the connection of link l shows, where so many timers, and so many sources, were asked for before
 abbrev pub shown : ℕ → ℕ → ℕ → LinkAct → Action
 shown l t c (act.Created e) = action.Created e
+shown l t c (act.Round n) = action.Round (owner.Try n 0) (Some l)
 shown l t c (act.Took n count) = action.Took (owner.Try n 0) l count
 shown l t c (act.Timer n ms) = action.Timer t ms (purpose.Response (owner.Try n 0))
 shown l t c (act.RenewalTimer k ms) = action.Timer t ms (purpose.Renewal l k)

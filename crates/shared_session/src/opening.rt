@@ -77,6 +77,7 @@ impl Core {
         let generations = Generations::new(settings, info, 1);
         let last = generations.is_last();
         self.manager = Some(generations);
+        self.single.connection.rounds = true;
         self.single.connection.dial(alloc, last)
     }
 
@@ -95,6 +96,7 @@ impl Core {
         self.links = u64::from(FIRST_LINK);
         self.timers = Seq::new(alloc);
         self.single.connection.start_afresh(alloc)?;
+        self.single.connection.rounds = true;
         self.single.connection.told = true;
         Ok(())
     }

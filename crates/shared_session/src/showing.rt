@@ -78,6 +78,10 @@ fn action_of(link: u32, timer: u64, source: u64, act: LinkAct) -> Action
 {
     match act {
         LinkAct::Created { error } => Action::Created { error },
+        LinkAct::Round { request } => Action::Round {
+            owner: try_of(request),
+            link: Some(link),
+        },
         LinkAct::Took { request, count } => Action::Took {
             owner: try_of(request),
             link,

@@ -34,6 +34,7 @@ IsNoTurn _ = Unit {0}
 -- what a connection shows begins none
 no_turn : (l t c : ℕ) (x : LinkAct) → IsNoTurn (shown l t c x)
 no_turn l t c (act.Created error) = tt
+no_turn l t c (act.Round n) = tt
 no_turn l t c (act.Took n count) = tt
 no_turn l t c (act.Timer n ms) = tt
 no_turn l t c (act.RenewalTimer k ms) = tt
