@@ -19,12 +19,14 @@ pub record IsKept (u c : Core) : Type 0 where
   pub turns : u.turns ≡ c.turns
   pub table : u.table ≡ c.table
   pub sources : u.sources ≡ c.sources
+  pub requests : u.single.connection.requests ≡ c.single.connection.requests
+  pub failure : u.single.connection.failure ≡ c.single.connection.failure
 
 pub came_kept : (c : Core) (what : Comeback) → IsKept (came_back c what) c
-came_kept c comeback.Stays = record { kind = refl; turns = refl; table = refl; sources = refl }
-came_kept c (comeback.Rests n a t) = record { kind = refl; turns = refl; table = refl; sources = refl }
-came_kept c (comeback.Dials l None t) = record { kind = refl; turns = refl; table = refl; sources = refl }
-came_kept c (comeback.Dials l (Some n) t) = record { kind = refl; turns = refl; table = refl; sources = refl }
+came_kept c comeback.Stays = record { kind = refl; turns = refl; table = refl; sources = refl; requests = refl; failure = refl }
+came_kept c (comeback.Rests n a t) = record { kind = refl; turns = refl; table = refl; sources = refl; requests = refl; failure = refl }
+came_kept c (comeback.Dials l None t) = record { kind = refl; turns = refl; table = refl; sources = refl; requests = refl; failure = refl }
+came_kept c (comeback.Dials l (Some n) t) = record { kind = refl; turns = refl; table = refl; sources = refl; requests = refl; failure = refl }
 
 -- a manager stays one, that behaves so
 same_some : (m : Option Generations) (f : Generations → Generations) → is_some (option_map f m) ≡ is_some m

@@ -4,5 +4,6 @@ pub mod Comebacks
 pub mod Spent
 pub mod Replays
 pub mod Effects
+pub mod Made
 pub mod Stays
 pub mod Threads

@@ -68,7 +68,7 @@ used_out : (c : Core) → is_used_up c.single.connection ≡ true → has_run_ou
 unfolding has_run_out
 used_out c h = or_second (nat_le (2 ^ 32) c.links) _ (or_true (is_used_up c.single.connection) _ h)
 
-none_spent : (failure : Option ConnectionError) (e : ConnectionError) → failure ≡ None → failure ≡ Some e → ⊥
+pub none_spent : (failure : Option ConnectionError) (e : ConnectionError) → failure ≡ None → failure ≡ Some e → ⊥
 none_spent failure e none some = let no : ◌≡◌ {A = Option ConnectionError} None (Some e) = sym none ∙ some in cc
 
 -- of a connection that hasn't failed
