@@ -16,12 +16,15 @@ pub unless_refused : (b : Bool) (what : ConfigName) (rest : Option ConfigName) �
 unless_refused true what rest e = cc
 unless_refused false what rest e = (refl, e)
 
--- some permit, and some place in the queue
-roomy : (limit : Option ℕ) (size : ℕ) → limit ≢ Some 0 → 0 < size → room_fault limit size ≡ None
-roomy None size some places = ap (λ b. if b then Some name.Buffer else None) (ne_eqb size 0 (λ e. omega (arith, e, places)))
-roomy (Some limit) size some places =
-    ap (λ b. if b then Some name.Limit else buffer_fault size) (ne_eqb limit 0 (λ e. some (ap Some e)))
-    ∙ roomy None size (λ e. cc) places
+-- some place in the queue
+has_places : (size : ℕ) → 0 < size → buffer_fault size ≡ None
+has_places size places = ap (λ b. if b then Some name.Buffer else None) (ne_eqb size 0 (λ e. omega (arith, e, places)))
+
+-- and some permit
+has_room : (limit : Option ℕ) (size : ℕ) → limit ≢ Some 0 → 0 < size → room_fault limit size ≡ None
+has_room None size some places = has_places size places
+has_room (Some limit) size some places =
+    ap (λ b. if b then Some name.Limit else buffer_fault size) (ne_eqb limit 0 (λ e. some (ap Some e))) ∙ has_places size places
 
 -- behind an address, of what doesn't come back
 room_in : (at : Option ConnectionInfo) (heard : Bool) (limit : Option ℕ) (size : ℕ) → fault_in at heard limit size ≡ None → room_fault limit size ≡ None
@@ -38,7 +41,7 @@ room_of : (at : Option ConnectionInfo) (settings : ConnectionManagerConfig) → 
 room_of None settings e = cc
 room_of (Some info) settings e =
     let is = taken info.redis.protocol settings (first_none _ _ e) in
-    roomy settings.connection.concurrency_limit settings.connection.pipeline_buffer_size is.has_permits is.has_places
+    has_room settings.connection.concurrency_limit settings.connection.pipeline_buffer_size is.has_permits is.has_places
 
 -- there are permits and places
 pub is_roomy : (c : Config) → first_fault c ≡ None → room_fault (permits c) (buffer_size c) ≡ None

@@ -1,5 +1,5 @@
 ghost use Rattle.std.specs.Prelude.{◌≡◌};
-ghost use Rattle.driver_model.specs.Kind.{has_timeouts, is_multiplexed};
+ghost use Rattle.driver_model.specs.Kind.{has_timeouts};
 
 /// What a session is.
 #[derive(Clone, Copy, PartialEq, Eq)]
@@ -20,17 +20,5 @@ impl SessionKind {
         ensures { result ≡ has_timeouts self }
     {
         matches!(self, SessionKind::Single)
-    }
-
-    /// Whether it is a multiplexed connection, one that comes back or not.
-    pub fn is_multiplexed(self) -> bool
-        ensures { result ≡ is_multiplexed self }
-    {
-        match self {
-            SessionKind::Single => true,
-            SessionKind::Manager { lazy: _ } => true,
-            SessionKind::PubSub => false,
-            SessionKind::Monitor => false,
-        }
     }
 }

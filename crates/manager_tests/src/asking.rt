@@ -1,6 +1,6 @@
+use conn_manager::ManagerGetters;
 use connection_info::{Client, ConnectionInfo, OpenError, ProtocolVersion, RedisConnectionInfo};
 use containers::Bytes;
-use conn_manager::ManagerGetters;
 use driver_model::{AddressWords, Config, ManagerWords};
 use manager_config::ConnectionManagerConfig;
 use redis_error::ConfigName;

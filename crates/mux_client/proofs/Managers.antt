@@ -8,9 +8,9 @@ use Rattle.connection_info.specs.Written.{ReadsBack}
 use Rattle.manager_config.specs.declared.config.ConnectionManagerConfig.{ConnectionManagerConfig}
 use Rattle.manager_config.specs.Config.{default_manager}
 use Rattle.driver_model.specs.declared.config.Config.{Config}
-use Rattle.driver_model.specs.Config.{told_of, manager_settings}
+use Rattle.driver_model.specs.Config.{manager_settings}
 use Rattle.mux_client.specs.Makers.{push_given, connection_given}
-use Rattle.mux_client.specs.Managers.{is_same_fraction, fraction_given, again_given, manager_given, managed_of, server_of, KeepsManager}
+use Rattle.mux_client.specs.Managers.{is_same_fraction, fraction_given, again_given, manager_given, managed_of, with_told, server_of, KeepsManager}
 use Rattle.mux_client.proofs.Words.{address_kept, number_kept, time_kept, skips_kept, sources_kept}
 
 fraction_if : (default value : ℕ × ℕ) (b : Bool) → is_same_fraction value default ≡ b → unwrap_or (if b then None else Some value) default ≡ value
@@ -53,7 +53,7 @@ settings_kept c = λ i. record {
 
 server_kept : (lazy : Bool) (info : ConnectionInfo) (c : ConnectionManagerConfig) → ReadsBack info → server_of (managed_of lazy info c) ≡ Some info
 server_kept lazy info c back =
-    ap (option_map (λ (at : ConnectionInfo). record at { redis = told_of (managed_of lazy info c) at })) (address_kept info back)
+    ap (option_map (with_told (managed_of lazy info c))) (address_kept info back)
     ∙ ap (λ (skips : Bool). Some (record info { redis = record info.redis { skip_set_lib_name = skips } })) (skips_kept info.redis.skip_set_lib_name)
 
 -- words that are these keep it

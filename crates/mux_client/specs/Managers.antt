@@ -37,9 +37,13 @@ manager_given c = record {
 abbrev pub managed_of : Bool → ConnectionInfo → ConnectionManagerConfig → Config
 managed_of lazy info c = config.Manager lazy (address_given info) (connection_given c.connection) (manager_given c)
 
+-- this address, with what these words have said to its server
+abbrev pub with_told : Config → ConnectionInfo → ConnectionInfo
+with_told words info = record info { redis = told_of words info }
+
 -- the server of a session of these words, with what is said to it
 abbrev pub server_of : Config → Option ConnectionInfo
-server_of words = option_map (λ info. record info { redis = told_of words info }) (address words)
+server_of words = option_map (with_told words) (address words)
 
 -- a session of these words connects as it begins or for its first request, to this address, says to its server what the address
 -- has, and behaves so

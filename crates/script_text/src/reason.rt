@@ -181,7 +181,8 @@ impl ConfigReason {
             ConfigReason::Name => {
                 b"the first line is config single url=URL, with connect=MS, response=MS (MS or none), buffer=COUNT, limit=COUNT, boundary=BYTES, push=on or push=off, creds=on or creds=off, and lib=on or lib=off where wanted; or config manager url=URL or config lazy url=URL, with these and retries=COUNT, min=MS, max=MS (MS or none), base=NUMBER/NUMBER, and resub=on or resub=off where wanted; or config pubsub url=URL or config monitor url=URL, with lib=on or lib=off where wanted"
             }
-            ConfigReason::Kind => b"only single, manager, lazy, pubsub and monitor are supported yet",
+            ConfigReason::Kind =>
+                b"only single, manager, lazy, pubsub and monitor are supported yet",
             ConfigReason::Setting => {
                 b"a setting is KEY=VALUE, with url, connect, response, buffer, limit, boundary, push, creds or lib"
             }

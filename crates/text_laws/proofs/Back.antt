@@ -599,21 +599,20 @@ ReadBack c = config_of (record { words = config_words c; more = [] }) ≡ Some c
 connection_back : (at : AddressWords) (c : ConnectionWords) → FitsConnection c → ReadBack (variant.Single at c)
 unfolding url config_of
 connection_back at c fits =
-    let lib = at.lib in
-    ap (config_found single_by at.url) (ap (found_in []) (sym (append-nil (setting_words c ++ lib_words lib))) ∙ connection_found [] c lib [])
-    ∙ ap (config_by single_by at.url) (readings_back c lib no_manager_words fits (record { retries = tt; min = tt; max = tt; base = tt }))
+    ap (config_found single_by at.url) (ap (found_in []) (sym (append-nil (setting_words c ++ lib_words at.lib))) ∙ connection_found [] c at.lib [])
+    ∙ ap (config_by single_by at.url) (readings_back c at.lib no_manager_words fits (record { retries = tt; min = tt; max = tt; base = tt }))
+
+-- what is found in the words behind the address of one that comes back
+managed_found : (c : ConnectionWords) (lib : Option Bool) (m : ManagerWords) → found_in retry_keys (setting_words c ++ lib_words lib ++ manager_words m) ≡ found_of retry_keys c lib (found_again m (found_in retry_keys []))
+managed_found c lib m = connection_found retry_keys c lib (manager_words m) ∙ ap (found_of retry_keys c lib) (manager_found m)
 
 -- one that comes back
 manager_back : (lazy : Bool) (at : AddressWords) (c : ConnectionWords) (m : ManagerWords) → FitsConnection c → FitsManager m → ReadBack (variant.Manager lazy at c m)
 unfolding url config_of
-manager_back lazy at c m fits more = by_name lazy
-  where
-    lib = at.lib
-    found : found_in retry_keys (setting_words c ++ lib_words lib ++ manager_words m) ≡ found_of retry_keys c lib (found_again m (found_in retry_keys []))
-    found = connection_found retry_keys c lib (manager_words m) ∙ ap (found_of retry_keys c lib) (manager_found m)
-    by_name : (lazy : Bool) → ReadBack (variant.Manager lazy at c m)
-    by_name true = ap (config_found (managed_by true) at.url) found ∙ ap (config_by (managed_by true) at.url) (readings_back c lib m fits more)
-    by_name false = ap (config_found (managed_by false) at.url) found ∙ ap (config_by (managed_by false) at.url) (readings_back c lib m fits more)
+manager_back true at c m fits more =
+    ap (config_found (managed_by true) at.url) (managed_found c at.lib m) ∙ ap (config_by (managed_by true) at.url) (readings_back c at.lib m fits more)
+manager_back false at c m fits more =
+    ap (config_found (managed_by false) at.url) (managed_found c at.lib m) ∙ ap (config_by (managed_by false) at.url) (readings_back c at.lib m fits more)
 
 -- a link of publish/subscribe
 pubsub_back : (address : List ℕ) (lib : Option Bool) → ReadBack (variant.PubSub (record { url = address; lib = lib }))
