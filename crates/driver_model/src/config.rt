@@ -389,7 +389,10 @@ impl Config {
 
 /// The name of what is refused first of a manager that behaves so on a connection of this protocol: one that subscribes again what is
 /// subscribed isn't served, where nothing else is refused of it.
-fn manager_fault(settings: &ConnectionManagerConfig, protocol: ProtocolVersion) -> Option<ConfigName>
+fn manager_fault(
+    settings: &ConnectionManagerConfig,
+    protocol: ProtocolVersion,
+) -> Option<ConfigName>
     ensures { result ≡ manager_fault_on protocol settings.now }
 {
     match settings.first_fault(protocol) {

@@ -222,6 +222,7 @@ pub showable : (c : Core) (what : Comeback) → IsCounted c → Suits c.manager 
 showable c comeback.Stays few suits links timers = tt
 showable c (comeback.Rests n a t) few suits links timers = omega (arith, rests_timer c.manager c n a t suits, length-append c.timers _, timers)
 showable c (comeback.Dials l None t) few suits links timers = (λ k e. no_number k e, λ ms e. timer_asked c.timers l t ms (bound_of c.manager) e (suits_timer c.manager c l None t suits) timers)
-showable c (comeback.Dials l (Some n) t) few suits links timers =
-    (λ k e. same_number n k e (omega (arith, begun_number c.manager c l n t few suits, links)),
-    λ ms e. timer_asked c.timers l t ms (bound_of (begun c n).manager) (begun_bound c.manager n ∙ e) (suits_timer c.manager c l (Some n) t suits) timers)
+showable c (comeback.Dials l (Some n) t) few suits links timers = (
+  λ k e. same_number n k e (omega (arith, begun_number c.manager c l n t few suits, links)),
+  λ ms e. timer_asked c.timers l t ms (bound_of (begun c n).manager) (begun_bound c.manager n ∙ e) (suits_timer c.manager c l (Some n) t suits) timers,
+)

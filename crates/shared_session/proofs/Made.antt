@@ -43,19 +43,19 @@ effects_made c d e acts last what old mid new made own rest first second =
     let begin = shown_each c.single.link (length c.timers) (length c.sources) (next_turn c e.kind).acts in
     let back = return_shown (next_turn c e.kind).core e.word (comeback_by c e.kind) (last_acts c e.kind) in
     let all : new ≡ old ++ (begin ++ back) =
-        second ∙ ap (λ (xs : List Action). xs ++ return_shown d e.word what last) (first ∙ ap (λ (t : Turning). old ++ shown_each c.single.link (length c.timers) (length c.sources) t.acts) made)
-        ∙ ap (λ (t : Turning). (old ++ begin) ++ return_shown t.core e.word what last) made
-        ∙ ap (λ w. (old ++ begin) ++ return_shown (next_turn c e.kind).core e.word w last) own
-        ∙ ap (λ (xs : List LinkAct). (old ++ begin) ++ return_shown (next_turn c e.kind).core e.word (comeback_by c e.kind) xs) rest
-        ∙ append_assoc old begin back in
+    second ∙ ap (λ (xs : List Action). xs ++ return_shown d e.word what last) (first ∙ ap (λ (t : Turning). old ++ shown_each c.single.link (length c.timers) (length c.sources) t.acts) made)
+    ∙ ap (λ (t : Turning). (old ++ begin) ++ return_shown t.core e.word what last) made
+    ∙ ap (λ w. (old ++ begin) ++ return_shown (next_turn c e.kind).core e.word w last) own
+    ∙ ap (λ (xs : List LinkAct). (old ++ begin) ++ return_shown (next_turn c e.kind).core e.word (comeback_by c e.kind) xs) rest
+    ∙ append_assoc old begin back in
     by_test (is_some c.manager) (new ≡ old ++ effects_of c e)
     (λ managed. all ∙ ap (λ (xs : List Action). old ++ xs) (sym (taken_if (is_some c.manager) (begin ++ back) begin managed)))
     (λ plain. all
-        ∙ ap (λ (w : Comeback). old ++ (begin ++ return_shown (next_turn c e.kind).core e.word w (last_acts c e.kind))) (plain_stays c e.kind plain)
-        ∙ ap (λ (xs : List LinkAct). old ++ (begin ++ return_shown (next_turn c e.kind).core e.word comeback.Stays xs)) (plain_last c e.kind plain)
-        ∙ ap (λ (xs : List Action). old ++ (begin ++ xs)) (nothing_shown (next_turn c e.kind).core e.word)
-        ∙ ap (λ (xs : List Action). old ++ xs) (append-nil begin)
-        ∙ ap (λ (xs : List Action). old ++ xs) (sym (left_if (is_some c.manager) (begin ++ back) begin plain)))
+    ∙ ap (λ (w : Comeback). old ++ (begin ++ return_shown (next_turn c e.kind).core e.word w (last_acts c e.kind))) (plain_stays c e.kind plain)
+    ∙ ap (λ (xs : List LinkAct). old ++ (begin ++ return_shown (next_turn c e.kind).core e.word comeback.Stays xs)) (plain_last c e.kind plain)
+    ∙ ap (λ (xs : List Action). old ++ (begin ++ xs)) (nothing_shown (next_turn c e.kind).core e.word)
+    ∙ ap (λ (xs : List Action). old ++ xs) (append-nil begin)
+    ∙ ap (λ (xs : List Action). old ++ xs) (sym (left_if (is_some c.manager) (begin ++ back) begin plain)))
 
 -- the last acts have no numbers, and tell no outcomes
 pub last_timers : (c d : Core) (kind : EventKind) (last : List LinkAct) → last ≡ last_acts c kind → has_run_out d ≡ false → length d.timers + length (timers_of d.single.link last) < 2 ^ 32

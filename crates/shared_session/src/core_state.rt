@@ -330,8 +330,7 @@ impl Core {
             EventKind::Refused { link, fault: _ } => self.is_no_link(*link),
             EventKind::Fired { timer } => *timer as usize >= self.timers.len(),
             EventKind::Wrote { link, count } => {
-                self.is_no_link(*link)
-                    || (*link == self.single.link && self.takes_too_much(*count))
+                self.is_no_link(*link) || (*link == self.single.link && self.takes_too_much(*count))
             }
             EventKind::Bytes { link, piece: _ } => self.is_no_link(*link),
             EventKind::Ended { link } => self.is_no_link(*link),

@@ -142,7 +142,7 @@ impl Core {
         let connection = &self.single.connection;
         let resp3 = connection.info.protocol.supports_resp3();
         let caused = has_cause(connection.opened, acts);
-        has_ended(&connection.life) && (!over && connection.opened && resp3 || caused)
+        has_ended(&connection.life) && ((!over && connection.opened && resp3) || caused)
     }
 
     /// Whether the next generation is to begin.

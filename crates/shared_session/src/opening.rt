@@ -173,7 +173,11 @@ fn show_connect(
 
 /// What the opening shows behind its first action, where this is the address: the connect, behind the beginning of a generation
 /// where the session comes back; or at once that it is created, where it waits for its first request.
-fn show_beginning(config: &Config, info: ConnectionInfo, out: &mut Vec<Action>) -> Result<(), AllocError>
+fn show_beginning(
+    config: &Config,
+    info: ConnectionInfo,
+    out: &mut Vec<Action>,
+) -> Result<(), AllocError>
     ensures { OnOk result (
         out.new.items
         ≡ out.old.items

@@ -331,7 +331,14 @@ impl Session {
         }
         self.failure = Failure::NoMemory;
         let mut done = self.done.take(alloc);
-        match make_turn(alloc, &mut self.core, &event, &mut self.rooms, &mut done, out) {
+        match make_turn(
+            alloc,
+            &mut self.core,
+            &event,
+            &mut self.rooms,
+            &mut done,
+            out,
+        ) {
             Ok(()) => {}
             Err(ConnectionError::Spent) => {
                 out.truncate(before);
