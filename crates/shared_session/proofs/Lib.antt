@@ -6,4 +6,5 @@ pub mod Replays
 pub mod Effects
 pub mod Made
 pub mod Stays
+pub mod Plain
 pub mod Threads

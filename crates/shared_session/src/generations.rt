@@ -1,4 +1,4 @@
-ghost use Rattle.std.specs.Prelude.{◌≡◌, ◌<◌, ◌≤◌, ◌-◌, ◌^◌, ◌++◌, [], None, Some, OnOk, IsErrOf, option_map};
+ghost use Rattle.std.specs.Prelude.{◌≡◌, ◌<◌, ◌-◌, ◌^◌, ◌++◌, OnOk, option_map};
 ghost use Rattle.shared_session.specs.Generations.{fails_creation, creation_fails, has_ended};
 ghost use Rattle.shared_session.specs.Generations.{is_cause, is_cause_in, shows_cause, has_cause};
 ghost use Rattle.shared_session.specs.Generations.{bound_of, is_last_of, connect_purposes};
@@ -129,7 +129,6 @@ impl Generations {
 
 impl Core {
     ghost use Rattle.mux_conn.specs.Effects.{afresh};
-    ghost use Rattle.mux_conn.specs.declared.errors.ConnectionError.{ConnectionError};
     ghost use Rattle.shared_session.specs.Generations.{wakes_in, heeding, is_caused, is_due, rests};
     ghost use Rattle.shared_session.specs.Generations.{comeback_of, comeback_in, failed_behind, rested};
     ghost use Rattle.shared_session.specs.Generations.{begun_with, begun, dialling, came_back};
