@@ -3,6 +3,7 @@ use Rattle.std.proofs.Common.{◌≡◌, ℕ, ◌+◌, ◌-◌, ◌^◌, ◌<◌
 use Rattle.std.specs.Prelude.{is_some, option_map}
 use Rattle.std.proofs.Math.Nat.{le_refl}
 use Rattle.containers.proofs.Choices.{chosen, taken_if, lt_from, both_right}
+use Rattle.manager_config.specs.declared.config.ConnectionManagerConfig.{ConnectionManagerConfig}
 use Rattle.driver_model.specs.declared.action.Purpose.{Purpose}
 use Rattle.driver_model.specs.declared.event.EventKind.{EventKind}
 use Rattle.mux_conn.specs.declared.act.LinkAct.{LinkAct}
@@ -86,13 +87,13 @@ own_settings c kind acts what =
 
 pub same_bound : (m n : Option Generations) → SameSettings m n → bound_of m ≡ bound_of n
 same_bound None None s = refl
-same_bound (Some g) (Some h) s = ap (λ x. x.connection.connection_timeout) s
+same_bound (Some g) (Some h) s = ap (λ (x : ConnectionManagerConfig). x.connection.connection_timeout) s
 same_bound None (Some h) s = absurd s
 same_bound (Some g) None s = absurd s
 
 pub same_fraction : (m n : Option Generations) → SameSettings m n → HasFraction n → HasFraction m
 same_fraction None None s f = tt
-same_fraction (Some g) (Some h) s f = subst (λ x. 0 < x.exponent_base.1) (sym s) f
+same_fraction (Some g) (Some h) s f = subst (λ (x : ConnectionManagerConfig). 0 < x.exponent_base.1) (sym s) f
 same_fraction None (Some h) s f = absurd s
 same_fraction (Some g) None s f = absurd s
 
@@ -133,15 +134,15 @@ counted_heeding c kind acts few = heeded_few c.manager kind acts c.single.link c
 
 rested_few : (m : Option Generations) (c : Core) (n a t : ℕ) → AreFew m c.single.link c.links → Suits m c (comeback.Rests n a t) → AreFew (option_map (λ g. failed_behind g a t) m) c.links c.links
 rested_few None c n a t few suits = absurd suits
-rested_few (Some g) c n a t few suits = (le_refl c.links, few.1.0, omega (arith, few.1.1, suits.0, suits.1.0))
+rested_few (Some g) c n a t few suits = (le_refl c.links, few.1, omega (arith, few.2, suits.0, suits.1))
 
 dialled_few : (m : Option Generations) (c : Core) (l t : ℕ) → AreFew m c.single.link c.links → Suits m c (comeback.Dials l None t) → AreFew m l (c.links + 1)
 dialled_few None c l t few suits = absurd suits
-dialled_few (Some g) c l t few suits = (omega (arith, suits.0), omega (arith, few.1.0), omega (arith, suits.0, few.0, few.1.1))
+dialled_few (Some g) c l t few suits = (omega (arith, suits.0), omega (arith, few.1), omega (arith, suits.0, few.0, few.2))
 
 begun_few : (m : Option Generations) (c : Core) (l n t : ℕ) → AreFew m c.single.link c.links → Suits m c (comeback.Dials l (Some n) t) → AreFew (option_map (λ g. begun_with g n) m) l (c.links + 1)
 begun_few None c l n t few suits = absurd suits
-begun_few (Some g) c l n t few suits = (omega (arith, suits.0), omega (arith, few.1.0, suits.1.1), omega arith)
+begun_few (Some g) c l n t few suits = (omega (arith, suits.0), omega (arith, few.1, suits.2), omega arith)
 
 pub counted_came : (c : Core) (what : Comeback) → IsCounted c → Suits c.manager c what → IsCounted (came_back c what)
 counted_came c comeback.Stays few suits = few
@@ -151,7 +152,7 @@ counted_came c (comeback.Dials l (Some n) t) few suits = begun_few c.manager c l
 
 restable_few : (m : Option Generations) (c : Core) (n a t : ℕ) → AreFew m c.single.link c.links → c.links < 2 ^ 32 → Suits m c (comeback.Rests n a t) → a < 2 ^ 32 - 1
 restable_few None c n a t few links suits = absurd suits
-restable_few (Some g) c n a t few links suits = omega (arith, few.1.1, suits.0, suits.1.0, links)
+restable_few (Some g) c n a t few links suits = omega (arith, few.2, suits.0, suits.1, links)
 
 -- the attempt that failed isn't the last one that has a number
 pub restable : (c : Core) (what : Comeback) → IsCounted c → c.links < 2 ^ 32 → Suits c.manager c what → IsRestable what
@@ -168,7 +169,7 @@ pub number_few : (m : Option Generations) (g : Generations) (link links : ℕ) �
 number_few None g link links e few l = cc
 number_few (Some h) g link links e few l =
     let same : h.number ≡ g.number = ap (λ (x : Option Generations). numbered_in x) e in
-    omega (arith, same, few.1.0, l)
+    omega (arith, same, few.1, l)
 
 -- no timer is lost
 pub more_timers : (c : Core) (what : Comeback) → length c.timers ≤ length (came_back c what).timers
@@ -205,17 +206,17 @@ same_number n k e l = let same : n ≡ k = ap (λ (x : Option ℕ). held x) e in
 
 begun_number : (m : Option Generations) (c : Core) (l n t : ℕ) → AreFew m c.single.link c.links → Suits m c (comeback.Dials l (Some n) t) → n ≤ c.links + 1
 begun_number None c l n t few suits = absurd suits
-begun_number (Some g) c l n t few suits = omega (arith, few.1.0, suits.1.1)
+begun_number (Some g) c l n t few suits = omega (arith, few.1, suits.2)
 
 suits_timer : (m : Option Generations) (c : Core) (l : ℕ) (n : Option ℕ) (t : ℕ) → Suits m c (comeback.Dials l n t) → t ≡ length c.timers
 suits_timer None c l None t suits = absurd suits
 suits_timer None c l (Some n) t suits = absurd suits
 suits_timer (Some g) c l None t suits = suits.1
-suits_timer (Some g) c l (Some n) t suits = suits.1.0
+suits_timer (Some g) c l (Some n) t suits = suits.1
 
 rests_timer : (m : Option Generations) (c : Core) (n a t : ℕ) → Suits m c (comeback.Rests n a t) → t ≡ length c.timers
 rests_timer None c n a t suits = absurd suits
-rests_timer (Some g) c n a t suits = suits.1.1
+rests_timer (Some g) c n a t suits = suits.2
 
 -- what is shown of it has numbers
 pub showable : (c : Core) (what : Comeback) → IsCounted c → Suits c.manager c what → (came_back c what).links < 2 ^ 32 → length (came_back c what).timers < 2 ^ 32 → IsShowable (bound_of c.manager) what

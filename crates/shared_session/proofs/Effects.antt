@@ -48,7 +48,7 @@ module _ (Q : Action → Type 0) (h : IsTrueOfEffects Q) where
   each_own (Some g) word comeback.Stays = tt
   each_own (Some g) word (comeback.Rests n a t) = (h.timer t _ _, tt)
   each_own (Some g) word (comeback.Dials l None t) = (h.connect l g.info.host g.info.port, each_timed l t g.settings.connection.connection_timeout)
-  each_own (Some g) word (comeback.Dials l (Some n) t) = (h.generation n, h.connect l g.info.host g.info.port, each_timed l t g.settings.connection.connection_timeout)
+  each_own (Some g) word (comeback.Dials l (Some n) t) = (h.generation n, (h.connect l g.info.host g.info.port, each_timed l t g.settings.connection.connection_timeout))
 
   each_return : (c : Core) (word : ℕ) (what : Comeback) (acts : List LinkAct) → EachIs Q (return_shown c word what acts)
   each_return c word what acts =
@@ -66,7 +66,7 @@ module _ (Q : Action → Type 0) (h : IsTrueOfEffects Q) where
   each_asked : (info : Option ConnectionInfo) (timeout : Option ℕ) → EachIs Q (connect_asked info timeout)
   each_asked None timeout = tt
   each_asked (Some info) None = (h.connect _ info.host info.port, tt)
-  each_asked (Some info) (Some ms) = (h.connect _ info.host info.port, h.timer _ ms _, tt)
+  each_asked (Some info) (Some ms) = (h.connect _ info.host info.port, (h.timer _ ms _, tt))
 
   -- and of what the opening shows behind its first action
   pub each_begun : (manager : Option ConnectionManagerConfig) (lazy : Bool) (info : Option ConnectionInfo) (timeout : Option ℕ) → EachIs Q (begun_as manager lazy (connect_asked info timeout))
