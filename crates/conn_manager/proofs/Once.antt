@@ -151,10 +151,12 @@ starts_keep m message p need len = chosen (Keeps m) (p == resubscription_name) _
 
 noted_keeps : (m : ConnectionManager) (draw : ℕ) (a : LinkAct) → Keeps m (noted m draw a)
 noted_keeps m draw (link_act.Created e) = opened_keeps m draw e
+noted_keeps m draw (link_act.Round p) = itself m
 noted_keeps m draw (link_act.Took p count) = generations_keep m _
 noted_keeps m draw (link_act.Timer p ms) = generations_keep m _
 noted_keeps m draw (link_act.RenewalTimer k ms) = generations_keep m _
 noted_keeps m draw link_act.NeedCreds = generations_keep m _
+noted_keeps m draw link_act.NeedRenewals = generations_keep m _
 noted_keeps m draw (link_act.Push info) = generations_keep m _
 noted_keeps m draw (link_act.Message msg) = itself m
 noted_keeps m draw (link_act.Monitor v) = itself m

@@ -129,10 +129,12 @@ starting_goes m message p need len = chosen (Goes m) (p == resubscription_name) 
 
 notes : (m : ConnectionManager) (draw : ℕ) (a : LinkAct) → Goes m (noted m draw a)
 notes m draw (link_act.Created e) = opens m draw e
+notes m draw (link_act.Round p) = itself m
 notes m draw (link_act.Took p count) = says m _
 notes m draw (link_act.Timer p ms) = says m _
 notes m draw (link_act.RenewalTimer k ms) = says m _
 notes m draw link_act.NeedCreds = says m _
+notes m draw link_act.NeedRenewals = says m _
 notes m draw (link_act.Push info) = says m _
 notes m draw (link_act.Message msg) = itself m
 notes m draw (link_act.Monitor v) = itself m

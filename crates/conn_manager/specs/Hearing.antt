@@ -59,13 +59,16 @@ starts m message p need len =
     let link = link_of m.generations in
     if p == resubscription_name then said m (act.Resubscribe link message need len) else said m (act.Start link message (pending p) need len)
 
--- an act of the connection; messages of publish/subscribe and what a server in monitor mode tells don't come on its links
+-- an act of the connection; messages of publish/subscribe and what a server in monitor mode tells don't come on its links, and rounds
+-- are shown as requests are handed to them
 abbrev pub noted : ConnectionManager → ℕ → LinkAct → ConnectionManager
 noted m draw (link_act.Created e) = opened m draw e
+noted m draw (link_act.Round p) = m
 noted m draw (link_act.Took p count) = said m (act.Took (pending p) count)
 noted m draw (link_act.Timer p ms) = said m (act.Timer (timer.Response (pending p)) ms)
 noted m draw (link_act.RenewalTimer k ms) = said m (act.Timer (timer.Renewal (link_of m.generations) k) ms)
 noted m draw link_act.NeedCreds = said m (act.NeedCreds (link_of m.generations))
+noted m draw link_act.NeedRenewals = said m (act.NeedCreds (link_of m.generations))
 noted m draw (link_act.Push info) = said m (act.Push (link_of m.generations) info)
 noted m draw (link_act.Message msg) = m
 noted m draw (link_act.Monitor v) = m

@@ -143,6 +143,7 @@ impl ConnectionManager {
         let link = self.link();
         match act {
             LinkAct::Created { error } => self.open(alloc, draw, error),
+            LinkAct::Round { request: _ } => Ok(()),
             LinkAct::Took { request, count } => self.say(ManagerAct::Took {
                 request: Pending { number: request },
                 count,
@@ -153,6 +154,7 @@ impl ConnectionManager {
                 ms,
             }),
             LinkAct::NeedCreds => self.say(ManagerAct::NeedCreds { link }),
+            LinkAct::NeedRenewals => self.say(ManagerAct::NeedCreds { link }),
             LinkAct::Push { info } => self.say(ManagerAct::Push { link, info }),
             LinkAct::Message { msg } => {
                 drop(msg);

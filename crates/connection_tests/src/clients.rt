@@ -114,6 +114,7 @@ fn name(act: &ConnectionAct) -> &'static str {
         ConnectionAct::Created { error: None } => "created",
         ConnectionAct::Created { error: Some(_) } => "failed",
         ConnectionAct::Timer { timer, ms: _ } => timer_name(timer),
+        ConnectionAct::Round { request: _ } => "round",
         ConnectionAct::Took { .. } => "took",
         ConnectionAct::NeedCreds => "need-creds",
         ConnectionAct::Push { info: _ } => "push",

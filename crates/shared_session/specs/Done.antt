@@ -9,10 +9,12 @@ use Rattle.shared_session.specs.declared.showing.Done.{Done}
 abbrev pub done_by : LinkAct → List Done
 done_by (act.Outcome n o) = record { submission = n; outcome = o } ∷ []
 done_by (act.Created e) = []
+done_by (act.Round n) = []
 done_by (act.Took n count) = []
 done_by (act.Timer n ms) = []
 done_by (act.RenewalTimer k ms) = []
 done_by act.NeedCreds = []
+done_by act.NeedRenewals = []
 done_by (act.Renewed message need len) = []
 done_by (act.SetUp message need len) = []
 done_by (act.Push info) = []
