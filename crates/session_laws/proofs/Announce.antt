@@ -1,7 +1,7 @@
 -- A turn of an event: where it may stand, and what its link and the others hear.
 use Rattle.std.proofs.Common.{◌≡◌, ◌≢◌, ◌⊎◌, inl, inr, ℕ, zero, suc, ◌+◌, ◌<◌, ◌≤◌, ◌==◌, nat_lt, nat_le, false, ◌&&◌, ◌||◌, not, is_some, List, [], ◌∷◌, ◌++◌, length, slice_get, Some, refl, sym, ap, ◌∙◌, subst, arith, length-take, None, Option, if◌then◌else◌, true}
 use Rattle.std.proofs.lemmas.List.{append-nil}
-use Rattle.containers.proofs.Choices.{by_test, chosen, taken_if, left_if, eq_test, ne_test, not_le_from, or_left}
+use Rattle.containers.proofs.Choices.{by_test, chosen, taken_if, left_if, eq_from, eq_test, ne_from, ne_test, not_le_from}
 use Rattle.redis_error.specs.declared.redis_error.RedisError.TheVariants as error
 use Rattle.driver_model.specs.declared.action.Action.{Action}
 use Rattle.driver_model.specs.declared.action.Owner.{Owner}
@@ -15,7 +15,7 @@ use Rattle.driver_model.specs.declared.action.Cause.TheVariants as cause
 use Rattle.driver_model.specs.declared.event.EventKind.{EventKind}
 use Rattle.driver_model.specs.declared.event.EventKind.TheVariants as event
 use Rattle.driver_model.specs.declared.news.LinkFault.TheVariants as fault
-use Rattle.driver_model.specs.News.{News, silence, connected, took, came, failed, authorized, denied, deserted, shut, for_link, news_of, refused, overdue, of_timer, renewed, unrenewed, late, unrepeated, of_source, dropped}
+use Rattle.driver_model.specs.News.{News, silence, connected, took, came, failed, authorized, denied, deserted, shut, for_link, news_of, refused, overdue, of_timer, renewed, unrenewed, late, unrepeated, is_source_of, of_source, renews, dropped}
 use Rattle.driver_model.specs.declared.outcome.Outcome.TheVariants as outcome
 use Rattle.link_core.specs.Link.{LinkState}
 use Rattle.link_laws.proofs.TiedLink.{TiedLink}
@@ -30,10 +30,11 @@ use Rattle.legal_trace.specs.Story.{Story, fires}
 use Rattle.legal_trace.specs.Book.{Book, book, entered, is_clock_of, hearing_in, timeout_after, kind_in}
 use Rattle.legal_trace.specs.Events.{is_bad_event}
 use Rattle.legal_trace.specs.Legal.{MayTurn}
-use Rattle.session_laws.proofs.Tied.{AreAimed, AreUses, IsAim, owners_of, owners_each, setup_owners, Inner, inner, link_in, carried, whole_link, IsUnknown, TiedCreds, TiedLife, TiedSetup, TiedTries, TiedLines, AreQueued, TiedWaits, Tied, Sound, no_opening, has_ended, TiedNotices, TiedRenewal, sources_asked_in, HasGreetedAlone, is_reading}
+use Rattle.session_laws.proofs.Tied.{AreAimed, AreUses, IsAim, owners_of, owners_each, setup_owners, Inner, inner, link_in, carried, whole_link, AreAside, TiedCreds, TiedLife, TiedSetup, TiedTries, TiedLines, AreQueued, TiedWaits, Tied, Sound, no_opening, has_ended, TiedNotices, TiedRenewal, sources_asked_in, HasGreetedAlone, is_reading}
 use Rattle.session_laws.proofs.States.{Between}
 use Rattle.session_laws.proofs.Entered.{book_more, sound_more}
 use Rattle.session_laws.proofs.Answer.{some_end}
+use Rattle.session_laws.proofs.Aside.{aside_heard}
 use Rattle.session_laws.proofs.Kept.{tied_by}
 use Rattle.session_laws.proofs.Settle.{seen, trace_of_acts, Holds}
 use Rattle.session_laws.proofs.Names.{get_more}
@@ -80,13 +81,14 @@ same_badness b c started (event.Wrote l count) h =
     ap (λ k. nat_le k l || (not (is_over (b.link l)) && nat_lt (length (b.link l).offer) count)) h.numbers.links
     ∙ by_test (nat_le c.links l) _
     (λ t. (λ i. t i || (not (is_over (b.link l)) && nat_lt (length (b.link l).offer) count)) ∙ sym (λ i. t i || ((l == c.single.link) && exceeds_offer c.single.connection.life count)))
-    (λ f.
-    let same : l ≡ c.single.link = h.numbers.only l (not_le_from c.links l f) in
-    ap (λ x. nat_le c.links l || x) (
-    ap (λ m. not (is_over (b.link m)) && nat_lt (length (b.link m).offer) count) same
+    (λ f. ap (λ x. nat_le c.links l || x) (by_test (l == c.single.link) _
+    (λ same.
+    ap (λ m. not (is_over (b.link m)) && nat_lt (length (b.link m).offer) count) (eq_from l c.single.link same)
     ∙ too_much (b.link c.single.link) b.created c.single.connection.life c.single.connection.requests count h.life h.link
-    ∙ sym (ap (λ x. x && exceeds_offer c.single.connection.life count) (eq_test l c.single.link same))
-    ))
+    ∙ sym (ap (λ x. x && exceeds_offer c.single.connection.life count) same))
+    (λ other.
+    ap (λ x. not x && nat_lt (length (b.link l).offer) count) ((h.others l (ne_from l c.single.link other)).over (not_le_from c.links l f))
+    ∙ sym (ap (λ x. x && exceeds_offer c.single.connection.life count) other))))
 
 -- the turn may stand
 abbrev pub turn_of : Core → ℕ → EventKind → Action
@@ -103,77 +105,54 @@ may_turn before c started word kind h good =
 
 -- what is heard
 --
--- the other links hear nothing but the shutdown
-elsewhere_of : (c : Core) (l m : ℕ) (n : News) → ((k : ℕ) → k < c.links → k ≡ c.single.link) → is_no_link c l ≡ false → m ≢ c.single.link → for_link (l == m) n ≡ silence
-elsewhere_of c l m n only here other = left_if (l == m) n silence (ne_test l m (λ e. other (sym e ∙ only l (not_le_from c.links l here))))
+-- news that are no successful connect are none for one link alone
+else_news : (mine : Bool) (n : News) → n ≢ connected → for_link mine n ≢ connected
+else_news mine n other = chosen (λ (x : News). x ≢ connected) mine n silence (λ t. other) (λ f e. cc)
 
--- what another link sees of a timer
-elsewhere_fired : (link count m n : ℕ) (timers : List Purpose) → AreAimed timers link count → m ≢ link → of_timer m (slice_get timers n) ≡ silence
-elsewhere_fired link count m n timers aims other = by_timer (slice_get timers n) refl
-  where
-    by_timer : (x : Option Purpose) → slice_get timers n ≡ x → of_timer m x ≡ silence
-    by_timer None e = refl
-    by_timer (Some (purpose.Connect l)) e = left_if (l == m) overdue silence (ne_test l m (λ same. other (sym same ∙ aims n (purpose.Connect l) e)))
-    by_timer (Some (purpose.Response who)) e = refl
-    by_timer (Some (purpose.Renewal l k)) e = left_if (l == m) (late k) silence (ne_test l m (λ same. other (sym same ∙ aims n (purpose.Renewal l k) e)))
-    by_timer (Some (purpose.Backoff g)) e = refl
-    by_timer (Some (purpose.Resubscription l)) e = absurd (aims n (purpose.Resubscription l) e)
+-- nor do a timer
+timer_news : (m : ℕ) (x : Option Purpose) → of_timer m x ≢ connected
+timer_news m None e = cc
+timer_news m (Some (purpose.Connect l)) e = else_news (l == m) overdue (λ z. cc) e
+timer_news m (Some (purpose.Response who)) e = cc
+timer_news m (Some (purpose.Renewal l k)) e = else_news (l == m) (late k) (λ z. cc) e
+timer_news m (Some (purpose.Backoff g)) e = cc
+timer_news m (Some (purpose.Resubscription l)) e = else_news (l == m) unrepeated (λ z. cc) e
 
--- nor of a source of credentials
-elsewhere_given : (link m n : ℕ) (sources : List SourceUse) (first later : News) → AreUses sources link → m ≢ link → of_source m (slice_get sources n) first later ≡ silence
-elsewhere_given link m n sources first later uses other = by_source (slice_get sources n) refl
-  where
-    apart : (link == m) ≡ false
-    apart = ne_test link m (λ same. other (sym same))
+-- and a source of credentials bring one
+source_news : (m : ℕ) (x : Option SourceUse) (first later : News) → first ≢ connected → later ≢ connected → of_source m x first later ≢ connected
+source_news m x first later one other =
+    chosen (λ (y : News). y ≢ connected) (is_source_of m x) first (for_link (renews m x) later) (λ t. one) (λ f. else_news (renews m x) later other)
 
-    by_use : (k : ℕ) → of_source m (Some (use_after link k)) first later ≡ silence
-    by_use zero = ap (λ b. if b then first else silence) apart
-    by_use (suc k) = ap (λ b. if b then later else silence) apart
-
-    by_source : (x : Option SourceUse) → slice_get sources n ≡ x → of_source m x first later ≡ silence
-    by_source None e = refl
-    by_source (Some what) e = ap (λ (x : SourceUse). of_source m (Some x) first later) (uses n what e) ∙ by_use n
-
--- whatever the event is
-elsewhere : (c : Core) (m : ℕ) (kind : EventKind) → ((k : ℕ) → k < c.links → k ≡ c.single.link) → AreAimed c.timers c.single.link (length c.table) → AreUses c.sources c.single.link → is_bad c kind ≡ false → m ≢ c.single.link → (news_of c.timers c.sources m kind ≡ silence) ⊎ ((news_of c.timers c.sources m kind ≡ shut) ⊎ (news_of c.timers c.sources m kind ≡ dropped))
+-- a link that was never asked for hears of no successful connect
+far_news : (c : Core) (m : ℕ) (kind : EventKind) → is_bad c kind ≡ false → c.links ≤ m → news_of c.timers c.sources m kind ≢ connected
 unfolding is_bad
-elsewhere c m (event.Submit what) only aims uses good other = inl refl
-elsewhere c m (event.Cancel n) only aims uses good other = inl refl
-elsewhere c m (event.Connected l) only aims uses good other = inl (elsewhere_of c l m connected only good other)
-elsewhere c m (event.Refused l f) only aims uses good other = inl (elsewhere_of c l m (refused f) only good other)
-elsewhere c m (event.Fired n) only aims uses good other = inl (elsewhere_fired c.single.link (length c.table) m n c.timers aims other)
-elsewhere c m (event.Wrote l count) only aims uses good other = inl (elsewhere_of c l m (took count) only (or_left (is_no_link c l) _ good) other)
-elsewhere c m (event.Bytes l piece) only aims uses good other = inl (elsewhere_of c l m (came piece) only good other)
-elsewhere c m (event.Ended l) only aims uses good other = inl (elsewhere_of c l m (failed fault.Ended) only good other)
-elsewhere c m (event.ReadFault l kind) only aims uses good other = inl (elsewhere_of c l m (failed (fault.Io kind)) only good other)
-elsewhere c m (event.WriteFault l kind) only aims uses good other = inl (elsewhere_of c l m (failed (fault.Io kind)) only good other)
-elsewhere c m (event.Creds n auth) only aims uses good other = inl (elsewhere_given c.single.link m n c.sources (authorized auth) (renewed auth) uses other)
-elsewhere c m (event.CredsError n text) only aims uses good other = inl (elsewhere_given c.single.link m n c.sources (denied text) silence uses other)
-elsewhere c m (event.CredsEnd n) only aims uses good other = inl (elsewhere_given c.single.link m n c.sources deserted unrenewed uses other)
-elsewhere c m (event.Timeout ms) only aims uses good other = inl refl
-elsewhere c m event.DropStream only aims uses good other = inr (inr refl)
-elsewhere c m event.Shutdown only aims uses good other = inr (inl refl)
+far_news c m (event.Submit what) good past e = cc
+far_news c m (event.Cancel n) good past e = cc
+far_news c m (event.Connected l) good past e =
+    let here : l < c.links = not_le_from c.links l good in
+    let none : for_link (l == m) connected ≡ silence = left_if (l == m) connected silence (ne_test l m (λ same. omega arith)) in
+    let no : silence ≡ connected = sym none ∙ e in
+    cc
+far_news c m (event.Refused l f) good past e = else_news (l == m) (refused f) (λ z. cc) e
+far_news c m (event.Fired n) good past e = timer_news m (slice_get c.timers n) e
+far_news c m (event.Wrote l count) good past e = else_news (l == m) (took count) (λ z. cc) e
+far_news c m (event.Bytes l piece) good past e = else_news (l == m) (came piece) (λ z. cc) e
+far_news c m (event.Ended l) good past e = else_news (l == m) (failed fault.Ended) (λ z. cc) e
+far_news c m (event.ReadFault l kind) good past e = else_news (l == m) (failed (fault.Io kind)) (λ z. cc) e
+far_news c m (event.WriteFault l kind) good past e = else_news (l == m) (failed (fault.Io kind)) (λ z. cc) e
+far_news c m (event.Creds n auth) good past e = source_news m (slice_get c.sources n) (authorized auth) (renewed auth) (λ z. cc) (λ z. cc) e
+far_news c m (event.CredsError n text) good past e = source_news m (slice_get c.sources n) (denied text) silence (λ z. cc) (λ z. cc) e
+far_news c m (event.CredsEnd n) good past e = source_news m (slice_get c.sources n) deserted unrenewed (λ z. cc) (λ z. cc) e
+far_news c m (event.Timeout ms) good past e = cc
+far_news c m event.DropStream good past e = cc
+far_news c m event.Shutdown good past e = cc
 
--- and stay unknown
-unknown_heard : (l : Ledger) (turn : ℕ) (n : News) → (n ≡ silence) ⊎ ((n ≡ shut) ⊎ (n ≡ dropped)) → IsUnknown l → IsUnknown (noted l (hears turn n))
-unknown_heard l turn n (inl e) h = subst (λ (x : News). IsUnknown (noted l (hears turn x))) (sym e) (record { asked = h.asked; up = h.up; end = h.end; starts = h.starts; notices = h.notices })
-unknown_heard l turn n (inr (inl e)) h = subst (λ (x : News). IsUnknown (noted l (hears turn x))) (sym e) (record { asked = h.asked; up = h.up; end = h.end; starts = h.starts; notices = h.notices })
-unknown_heard l turn n (inr (inr e)) h = subst (λ (x : News). IsUnknown (noted l (hears turn x))) (sym e) (record { asked = h.asked; up = h.up; end = h.end; starts = h.starts; notices = h.notices })
-
--- so all other links stay unknown
-pub others_heard : (b : Book) (c : Core) (started : List ℕ) (kind : EventKind) → Tied b (inner c started) → is_bad c kind ≡ false → (m : ℕ) → m ≢ c.single.link → IsUnknown (noted (b.link m) (hears c.turns (news_of b.timers b.sources m kind)))
-others_heard b c started kind h good m other =
+-- so all other links stay aside, also where the creation is shown with it
+pub others_heard : (b : Book) (c : Core) (started : List ℕ) (kind : EventKind) (next : ℕ) → Tied b (inner c started) → is_bad c kind ≡ false → (b.created ≢ 0 → next ≢ 0)
+    → AreAside c.single.link c.links (λ m. noted (b.link m) (hears c.turns (news_of b.timers b.sources m kind))) c.single.connection.hears c.single.connection.renewal.within next
+others_heard b c started kind next h good shown m other =
     let same : news_of b.timers b.sources m kind ≡ news_of c.timers c.sources m kind = λ i. news_of (h.numbers.timers i) (h.numbers.sources i) m kind in
-    unknown_heard (b.link m) c.turns (news_of b.timers b.sources m kind)
-    (subst (λ (n : News). (n ≡ silence) ⊎ ((n ≡ shut) ⊎ (n ≡ dropped))) (sym same) (elsewhere c m kind h.numbers.only h.numbers.aims h.numbers.uses good other)) (h.others m other)
-
--- the event that names a link names the connection's
-pub own_news : (c : Core) (l : ℕ) (n : News) → ((k : ℕ) → k < c.links → k ≡ c.single.link) → is_no_link c l ≡ false → for_link (l == c.single.link) n ≡ n
-own_news c l n only here = taken_if (l == c.single.link) n silence (eq_test l c.single.link (only l (not_le_from c.links l here)))
-
--- a timer of a connect that was asked for is one for it
-pub own_timer : (c : Core) (n l : ℕ) → AreAimed c.timers c.single.link (length c.table) → slice_get c.timers n ≡ Some (purpose.Connect l) → of_timer c.single.link (slice_get c.timers n) ≡ overdue
-own_timer c n l aims is = ap (of_timer c.single.link) is ∙ taken_if (l == c.single.link) overdue silence (eq_test l c.single.link (aims n (purpose.Connect l) is))
+    aside_heard (b.link m) c.turns next (news_of b.timers b.sources m kind) (λ past e. far_news c m kind good past (sym same ∙ e)) shown (h.others m other)
 
 -- the first source that was asked for is one for its setup, and any other for its renewals
 pub own_source : (c : Core) (n : ℕ) (what : SourceUse) (first later : News) → AreUses c.sources c.single.link → slice_get c.sources n ≡ Some what → of_source c.single.link (slice_get c.sources n) first later ≡ (if n == 0 then first else later)
@@ -386,7 +365,7 @@ quiet_still b c started h w = let q = h.numbers.quiet w in (q.unwanted, q.unrene
 -- the session tied to a book with these ledgers, and with these sources of credentials, where new credentials came to this
 pub heard_tied_as : (b : Book) (c : Core) (started : List ℕ) (word created : ℕ) (kind : EventKind) (info : RedisConnectionInfo) (renewal : Renewal) (life : Life) (fresh pending : List ℕ) (untold : List Heard) (links : ℕ → Ledger) (l : Ledger) (asked uses : List SourceUse) → Tied b (inner c started)
     → renewal.within ≡ c.single.connection.renewal.within → StaysQuiet c renewal
-    → ((m : ℕ) → m ≢ c.single.link → IsUnknown (links m)) → links c.single.link ≡ l → asked ≡ uses → AreUses uses c.single.link → length uses ≡ sources_asked_in l.creds → ComesAs b c l created info renewal life fresh pending untold started
+    → AreAside c.single.link c.links links c.single.connection.hears renewal.within created → links c.single.link ≡ l → asked ≡ uses → AreUses uses c.single.link → length uses ≡ sources_asked_in l.creds → ComesAs b c l created info renewal life fresh pending untold started
     → Tied (record (heard_book b c.turns word kind) { created = created; link = links; sources = asked }) (record (seen (turned c kind) [] (renews_as c info renewal life fresh) pending started) { untold = untold; sources = uses })
 heard_tied_as b c started word created kind info renewal life fresh pending untold links l asked uses h within quiet others is sourced used counted k =
     let after = record (heard_book b c.turns word kind) { created = created; link = links; sources = asked } in
@@ -409,7 +388,7 @@ heard_tied_as b c started word created kind info renewal life fresh pending unto
         kind_is = h.numbers.kind_is;
         quiet = λ w. record { none = (h.numbers.quiet w).none; unwanted = (quiet w).0; unrenewed = (quiet w).1 };
         one = h.numbers.one;
-        only = h.numbers.only;
+        few_links = h.numbers.few_links;
       };
       others = others;
       notices = k.notices;
@@ -431,7 +410,7 @@ heard_tied_as b c started word created kind info renewal life fresh pending unto
 
 -- where they are as they were
 pub heard_tied_by : (b : Book) (c : Core) (started : List ℕ) (word created : ℕ) (kind : EventKind) (info : RedisConnectionInfo) (life : Life) (fresh pending : List ℕ) (untold : List Heard) (links : ℕ → Ledger) (l : Ledger) (asked uses : List SourceUse) → Tied b (inner c started)
-    → ((m : ℕ) → m ≢ c.single.link → IsUnknown (links m)) → links c.single.link ≡ l → asked ≡ uses → AreUses uses c.single.link → length uses ≡ sources_asked_in l.creds → ComesTo b c l created info life fresh pending untold started
+    → AreAside c.single.link c.links links c.single.connection.hears c.single.connection.renewal.within created → links c.single.link ≡ l → asked ≡ uses → AreUses uses c.single.link → length uses ≡ sources_asked_in l.creds → ComesTo b c l created info life fresh pending untold started
     → Tied (record (heard_book b c.turns word kind) { created = created; link = links; sources = asked }) (record (seen (turned c kind) [] (comes_as c info life fresh) pending started) { untold = untold; sources = uses })
 heard_tied_by b c started word created kind info life fresh pending untold links l asked uses h others is sourced used counted k =
     heard_tied_as b c started word created kind info c.single.connection.renewal life fresh pending untold links l asked uses h refl (quiet_still b c started h) others is sourced used counted k
@@ -498,19 +477,20 @@ pub counted_on : (sources : List SourceUse) (c : Sourced) → length sources ≡
 counted_on sources c h = ap (λ (ss : List SourceUse). length ss) (append-nil sources) ∙ h
 
 -- by what its link hears, where new credentials came to this
-pub heard_tied_new : (b : Book) (c : Core) (started : List ℕ) (word created : ℕ) (kind : EventKind) (info : RedisConnectionInfo) (renewal : Renewal) (life : Life) (fresh pending : List ℕ) (untold : List Heard) (l : Ledger) → Tied b (inner c started) → renewal.within ≡ c.single.connection.renewal.within → StaysQuiet c renewal → is_bad c kind ≡ false
+pub heard_tied_new : (b : Book) (c : Core) (started : List ℕ) (word created : ℕ) (kind : EventKind) (info : RedisConnectionInfo) (renewal : Renewal) (life : Life) (fresh pending : List ℕ) (untold : List Heard) (l : Ledger) → Tied b (inner c started) → renewal.within ≡ c.single.connection.renewal.within → StaysQuiet c renewal → is_bad c kind ≡ false → (b.created ≢ 0 → created ≢ 0)
     → noted (b.link c.single.link) (hears c.turns (news_of b.timers b.sources c.single.link kind)) ≡ l → ComesAs b c l created info renewal life fresh pending untold started
     → Tied (record (heard_book b c.turns word kind) { created = created }) (record (seen (turned c kind) [] (renews_as c info renewal life fresh) pending started) { untold = untold })
-heard_tied_new b c started word created kind info renewal life fresh pending untold l h within quiet good is k =
-    heard_tied_as b c started word created kind info renewal life fresh pending untold (heard_book b c.turns word kind).link l b.sources (c.sources ++ []) h within quiet (others_heard b c started kind h good) is
+heard_tied_new b c started word created kind info renewal life fresh pending untold l h within quiet good shown is k =
+    heard_tied_as b c started word created kind info renewal life fresh pending untold (heard_book b c.turns word kind).link l b.sources (c.sources ++ []) h within quiet
+    (subst (λ o. AreAside c.single.link c.links (heard_book b c.turns word kind).link c.single.connection.hears o created) (sym within) (others_heard b c started kind created h good shown)) is
     (h.numbers.sources ∙ sym (append-nil c.sources)) (uses_on c.sources c.single.link h.numbers.uses)
     (counted_on c.sources l.creds (h.count ∙ sym (sources_hear (b.link c.single.link) c.turns (news_of b.timers b.sources c.single.link kind)) ∙ ap (λ (x : Ledger). sources_asked_in x.creds) is)) k
 
 -- where they are as they were
-pub heard_tied : (b : Book) (c : Core) (started : List ℕ) (word created : ℕ) (kind : EventKind) (info : RedisConnectionInfo) (life : Life) (fresh pending : List ℕ) (untold : List Heard) (l : Ledger) → Tied b (inner c started) → is_bad c kind ≡ false
+pub heard_tied : (b : Book) (c : Core) (started : List ℕ) (word created : ℕ) (kind : EventKind) (info : RedisConnectionInfo) (life : Life) (fresh pending : List ℕ) (untold : List Heard) (l : Ledger) → Tied b (inner c started) → is_bad c kind ≡ false → (b.created ≢ 0 → created ≢ 0)
     → noted (b.link c.single.link) (hears c.turns (news_of b.timers b.sources c.single.link kind)) ≡ l → ComesTo b c l created info life fresh pending untold started
     → Tied (record (heard_book b c.turns word kind) { created = created }) (record (seen (turned c kind) [] (comes_as c info life fresh) pending started) { untold = untold })
-heard_tied b c started word created kind info life fresh pending untold l h good is k = heard_tied_new b c started word created kind info c.single.connection.renewal life fresh pending untold l h refl (quiet_still b c started h) good is k
+heard_tied b c started word created kind info life fresh pending untold l h good shown is k = heard_tied_new b c started word created kind info c.single.connection.renewal life fresh pending untold l h refl (quiet_still b c started h) good shown is k
 
 -- the trace begins
 --

@@ -24,9 +24,10 @@ use Rattle.legal_trace.specs.Book.{Book, entered}
 use Rattle.legal_trace.specs.Owed.{owed, owed_to_try, owed_to_message, owed_unstarted, unstarted_error}
 use Rattle.legal_trace.specs.Legal.{NoneEnds, VerdictsAreShown, MayAnswer, FailuresAreShown, EndsAreTold, IsBefore, is_heard}
 use Rattle.session_laws.proofs.Numbers.{IsIn, in_either, in_right, in_left, Rising, rising_in, requests_in, request_in}
-use Rattle.session_laws.proofs.Tied.{Inner, link_in, queue_ids, IsUnknown, TiedLife, TiedNames, IsEntry, AreQueued, TiedLines, Tied, relined, has_ended, numbers_kept}
+use Rattle.session_laws.proofs.Tied.{Inner, link_in, queue_ids, TiedLife, TiedNames, IsEntry, AreQueued, TiedLines, Tied, relined, has_ended, numbers_kept}
 use Rattle.session_laws.proofs.Said.{carried_tied, sources_asked}
 use Rattle.session_laws.proofs.Names.{name_within, open_within, earlier_name, owners_with, length_with, names_with, with_other, with_then, request_not}
+use Rattle.session_laws.proofs.Aside.{aside_ends, not_up_ends, over_not_asked}
 use Rattle.session_laws.proofs.InLine.{kept_ids, line_of, IsInLine, awaited_in, first_is_apart}
 use Rattle.session_laws.proofs.Behind.{open_unanswered, told_answered}
 use Rattle.session_laws.proofs.Closing.{Closes, closed_other, late_closed, with_closed, story_closed, tries_closed, packs_closed, queue_closed, waits_closed, kept_other, IsUntried, told_closed}
@@ -56,26 +57,10 @@ may_answer b t p o h e owes before pushed after =
       after_sources = λ over. sources_asked b t h;
     }
 
--- what isn't up need not end where it isn't asked for, or is over
-pub not_up_ends : (l : Ledger) → l.up ≡ false → (l.asked && not (is_over l)) ≡ false → ending l ≡ None
-not_up_ends l down no_dial = left_if l.up (ending_alive l) _ down ∙ left_if (l.asked && not (is_over l)) (ending_asked l l.heard) None no_dial
-
--- nor what was never asked for
-pub unknown_ends : (l : Ledger) → IsUnknown l → ending l ≡ None
-unknown_ends l h = not_up_ends l h.up (ap (λ a. a && not (is_over l)) h.asked)
-
 -- an end that owes something is one
 pub some_end : (x : Option End) (o : Outcome) → owed_unstarted x ≡ Some o → is_some x ≡ true
 some_end None o owes = cc
 some_end (Some e) o owes = refl
-
--- what is over is not waited for
-pub over_not_asked : (l : Ledger) → is_over l ≡ true → (l.asked && not (is_over l)) ≡ false
-over_not_asked l over = ap (λ o. l.asked && not o) over ∙ none_of l.asked
-  where
-    none_of : (a : Bool) → (a && false) ≡ false
-    none_of true = refl
-    none_of false = refl
 
 -- a connection that has ended has a link that is over
 ended_over : (l : Ledger) (created : ℕ) (life : Life) → has_ended life ≡ true → TiedLife l created life → is_over l ≡ true
@@ -98,7 +83,7 @@ pub after_end : (b : Book) (t : Inner) → Tied b t → has_ended t.life ≡ tru
 after_end b t h over = (
   (λ m. by_test (m == t.link) _
       (λ same. let e = eq_from m t.link same in subst (λ n. ending (b.link n) ≡ None) (sym e) (ended_ends (b.link t.link) b.created t.life over h.life))
-      (λ other. unknown_ends (b.link m) (h.others m (ne_from m t.link other)))),
+      (λ other. aside_ends (b.link m) (h.others m (ne_from m t.link other)))),
   (λ n asked alive.
       let q = open_request b t n h asked in
       let r = request_story b t q.number h (open_within t.requests q.number q.open_at) in

@@ -24,6 +24,7 @@ use Rattle.shared_session.specs.Turn.{Turning, heard, refused_with, asked_for, p
 use Rattle.legal_trace.specs.Story.{Story, is_no_error, is_told, is_awaited}
 use Rattle.legal_trace.specs.Book.{Book, blank_book, book, entered, current, is_unspoken, kind_in}
 use Rattle.legal_trace.specs.Legal.{AllStand, NoneEnds, MayAnswer}
+use Rattle.session_laws.proofs.Aside.{aside_silent}
 use Rattle.session_laws.proofs.Renewals.{renewal_alike}
 use Rattle.session_laws.proofs.Numbers.{IsIn, in_left, in_right, Rising, rising_next, requests_in, request_in}
 use Rattle.session_laws.proofs.Tied.{carried, inner, link_in, queue_ids, waiting_ids, whole_link, IsOf, IsRequest, IsPacked, IsKept, TiedLines, TiedWaits, Tied, no_opening}
@@ -249,9 +250,9 @@ asked_tied b c started word what h tame form few no_fresh up speaks some =
         kind_is = h.numbers.kind_is;
         quiet = λ w. absurd (submits_unwatched b (inner c started) what h form w);
         one = h.numbers.one;
-        only = h.numbers.only;
+        few_links = h.numbers.few_links;
       };
-      others = λ m other. let u = h.others m other in record { asked = u.asked; up = u.up; end = u.end; starts = u.starts; notices = u.notices };
+      others = λ m other. aside_silent (b.link m) c.turns (h.others m other);
       notices = renoticed tame h.notices;
       life = told_life ledger b.created conn.life silence h.life;
       creds = h.creds;

@@ -34,9 +34,10 @@ use Rattle.legal_trace.specs.Story.{Story, is_open, is_told, left}
 use Rattle.legal_trace.specs.Book.{Book, after_event, book, entered, if_own, shuts, submitted_by, timeout_after, kind_in}
 use Rattle.mux_conn.specs.Renewals.{renewal_id}
 use Rattle.mux_conn.specs.declared.renewal.Renewal.{Renewal}
+use Rattle.session_laws.proofs.Aside.{aside_silent}
 use Rattle.session_laws.proofs.Renewals.{renewal_alike}
 use Rattle.session_laws.proofs.Numbers.{IsIn, in_left, in_right, in_either, Rising, rising_from, rising_in, rising_right, rising_tail, requests_in, request_in, request_of, request_other, requests_first}
-use Rattle.session_laws.proofs.Tied.{carried, inner, no_link, link_in, owner_of, queue_ids, whole_link, IsQueued, IsEntry, AreQueued, TiedCreds, TiedLife, TiedStory, TiedNames, TiedNumbers, TiedPermits, TiedLines, TiedSetup, IsUnknown, Tied, no_opening, has_ended, TiedRenewal, greeter}
+use Rattle.session_laws.proofs.Tied.{carried, inner, no_link, link_in, owner_of, queue_ids, whole_link, IsQueued, IsEntry, AreQueued, TiedCreds, TiedLife, TiedStory, TiedNames, TiedNumbers, TiedPermits, TiedLines, TiedSetup, IsAside, Tied, no_opening, has_ended, TiedRenewal, greeter}
 use Rattle.session_laws.proofs.States.{IsFit, IsFitIn, Between, HasApplied}
 use Rattle.session_laws.proofs.Names.{name_within, open_within, name_of_some, owners_with, length_with, names_with, with_other, with_then, request_not}
 use Rattle.session_laws.proofs.InLine.{row_ids, kept_ids, chosen_in, awaited_in, wanted_in}
@@ -430,12 +431,12 @@ silent_numbers b c started word kind timeout story free life requests pending q 
   kind_is = h.numbers.kind_is;
   quiet = h.numbers.quiet;
   one = h.numbers.one;
-  only = h.numbers.only;
+  few_links = h.numbers.few_links;
 }
 
--- all other links stay unknown
-pub silent_others : (b : Book) (c : Core) (kind : EventKind) (timeout : Option ℕ) (m : ℕ) → IsSilent b c kind timeout → IsUnknown (b.link m) → IsUnknown (noted (b.link m) (hears c.turns (news_of b.timers b.sources m kind)))
-silent_others b c kind timeout m q u = subst (λ (x : News). IsUnknown (noted (b.link m) (hears c.turns x))) (sym (q.silent m)) (record { asked = u.asked; up = u.up; end = u.end; starts = u.starts; notices = u.notices })
+-- all other links stay aside
+pub silent_others : {links created : ℕ} {heard : Hearing} {within : Option ℕ} (b : Book) (c : Core) (kind : EventKind) (timeout : Option ℕ) (m : ℕ) → IsSilent b c kind timeout → IsAside links m (b.link m) heard within created → IsAside links m (noted (b.link m) (hears c.turns (news_of b.timers b.sources m kind))) heard within created
+silent_others {links = links} {created = created} {heard = heard} {within = within} b c kind timeout m q u = subst (λ (x : News). IsAside links m (noted (b.link m) (hears c.turns x)) heard within created) (sym (q.silent m)) (aside_silent (b.link m) c.turns u)
 
 -- no link must end
 pub silent_ends : (b : Book) (c : Core) (kind : EventKind) (timeout : Option ℕ) → IsSilent b c kind timeout → NoneEnds b → (m : ℕ) → ending (noted (b.link m) (hears c.turns (news_of b.timers b.sources m kind))) ≡ None
@@ -497,7 +498,7 @@ gone_tied b c started word p n h tame o named =
     subst (λ m. Tied (entered b (turn_of c word (event.Cancel m))) (seen (turned c (event.Cancel m)) [] (record (closed_conn conn p) { life = cancelled_in conn.life p }) [] started)) named
     (record {
       numbers = silent_numbers b c started word (event.Cancel own) c.timeout after free (cancelled_in conn.life p) requests [] (leave_silent b c word own started h) h;
-      others = λ m other. let u = h.others m other in record { asked = u.asked; up = u.up; end = u.end; starts = u.starts; notices = u.notices };
+      others = λ m other. aside_silent (b.link m) c.turns (h.others m other);
       notices = renoticed tame h.notices;
       life = left_life ledger b.created conn.life p h.life;
       creds = left_creds ledger.creds conn.renewal.wanted conn.life p h.creds;

@@ -36,7 +36,8 @@ use Rattle.session_laws.proofs.States.{HasApplied}
 use Rattle.session_laws.proofs.InLine.{kept_ids, kept_in, line_of, IsInLine, awaited_rises, awaited_in}
 use Rattle.session_laws.proofs.Owes.{in_time, none_owed, in_line, later_unstarted, owed_none_started, settled_owed, notices_told, lives}
 use Rattle.session_laws.proofs.Kept.{mine_noted, others_kept, tied_by}
-use Rattle.session_laws.proofs.Answer.{unknown_ends, after_end}
+use Rattle.session_laws.proofs.Answer.{after_end}
+use Rattle.session_laws.proofs.Aside.{aside_ends, others_created}
 use Rattle.session_laws.proofs.Settle.{book_of_more, seen, trace_of_acts, Holds, IsAnswering, answering, IsDue, IsDueError, settled_holds, failed_holds, Leaves, leaves_on, settled_leaves, failed_leaves, Parts, sound_told, replied_each, replied_keeps, renewal_over}
 use Rattle.containers.proofs.Choices.{not_both, chosen}
 use Rattle.driver_model.specs.declared.push_info.PushInfo.{PushInfo}
@@ -56,7 +57,7 @@ pub may_close : (b : Book) (t : Inner) (why : Ending) → Tied b t → t.pending
 may_close b t why h none told n must = record {
   why = why;
   ends = must;
-  in_order = λ m less. unknown_ends (b.link m) (h.others m (λ e. omega arith));
+  in_order = λ m less. aside_ends (b.link m) (h.others m (λ e. omega arith));
   answered = λ m asked alive. none_owed b t h none n m asked;
   created = ready_shown b t h;
   sourced = sources_asked b t h;
@@ -111,14 +112,14 @@ ends_failed l turn created why must shown e fails = shown e (sym (ap (λ w. fail
 
 -- the session is tied to the book with the end of the link; the creation may be shown with it
 pub close_tied : (b : Book) (t : Inner) (created : ℕ) (why : Ending) (e : RedisError) (parting : Bool) (pending : List ℕ) → pending ≡ requests_in (wanted (link_in t.life).row) ++ awaited_ids (link_in t.life).queue → ending (b.link t.link) ≡ Some why → unstarted_error why ≡ e
-    → ((f : RedisError) → failure_of why ≡ Some f → created ≢ 0) → (hears_pushes t.hears ≡ true → parting ≡ false → is_fault why ≡ false) → has_ended t.life ≡ false → Tied b (record t { pending = []; untold = []; parting = false })
+    → ((f : RedisError) → failure_of why ≡ Some f → created ≢ 0) → (hears_pushes t.hears ≡ true → parting ≡ false → is_fault why ≡ false) → has_ended t.life ≡ false → (b.created ≢ 0 → created ≢ 0) → Tied b (record t { pending = []; untold = []; parting = false })
     → Tied (record (entered b (action.Close t.link)) { created = created }) (record t { life = Ended e; pending = pending; untold = []; parting = parting })
-close_tied b t created why e parting pending ids must is shown mild up h =
+close_tied b t created why e parting pending ids must is shown mild up on h =
     let turn = b.turns - 1 in
     let after = record (entered b (action.Close t.link)) { created = created } in
     tied_by after (record t { life = Ended e; pending = pending; untold = []; parting = parting }) (noted (b.link t.link) (ends turn)) (mine_noted (b.link t.link) t.link (ends turn)) (record {
-      numbers = record { turns = h.numbers.turns; links = h.numbers.links; timers = h.numbers.timers; sources = h.numbers.sources; uses = h.numbers.uses; aims = h.numbers.aims; timed = h.numbers.timed; submissions = h.numbers.submissions; timeout = h.numbers.timeout; shut = h.numbers.shut; within = h.numbers.within; few = h.numbers.few; settings = record { size_is = h.numbers.settings.size_is; bound_is = h.numbers.settings.bound_is; limit_is = h.numbers.settings.limit_is; some = h.numbers.settings.some; limited = h.numbers.settings.limited }; kind_is = h.numbers.kind_is; quiet = h.numbers.quiet; one = h.numbers.one; only = h.numbers.only };
-      others = others_kept b t.link (ends turn) h.others;
+      numbers = record { turns = h.numbers.turns; links = h.numbers.links; timers = h.numbers.timers; sources = h.numbers.sources; uses = h.numbers.uses; aims = h.numbers.aims; timed = h.numbers.timed; submissions = h.numbers.submissions; timeout = h.numbers.timeout; shut = h.numbers.shut; within = h.numbers.within; few = h.numbers.few; settings = record { size_is = h.numbers.settings.size_is; bound_is = h.numbers.settings.bound_is; limit_is = h.numbers.settings.limit_is; some = h.numbers.settings.some; limited = h.numbers.settings.limited }; kind_is = h.numbers.kind_is; quiet = h.numbers.quiet; one = h.numbers.one; few_links = h.numbers.few_links };
+      others = others_created t.link created _ on (others_kept b t.link (ends turn) h.others);
       notices = record {
         heard_is = h.notices.heard_is;
         hearing_is = h.notices.hearing_is;
@@ -359,7 +360,7 @@ cut_holds before f w row queue why parting started h alive closes opened mild mu
     let link_is : (book (trace_of_acts before f (cut_short w).acts)).link f.single.link ≡ noted (b.link f.single.link) (ends (b.turns - 1)) = ap (λ (x : Book). x.link f.single.link) (book_of_more before f w.acts act.Close) ∙ mine_noted (b.link f.single.link) f.single.link (ends (b.turns - 1)) in
     record {
       holds = sound_told before f w.acts act.Close (record w.conn { life = Ended error.Closed }) [] parting ns started h.stands (may_close b t why h.tied refl refl alive must.0)
-          (close_tied b t b.created why error.Closed parting ns ids must.0 closes (λ e fails. absurd (no_failure e (sym opened ∙ fails))) mild alive h.tied);
+          (close_tied b t b.created why error.Closed parting ns ids must.0 closes (λ e fails. absurd (no_failure e (sym opened ∙ fails))) mild alive (λ some. some) h.tied);
       over = refl;
       line = close_in_line w.conn.requests link w.conn.admitted w.conn.waiting ns ids (in_line b t h.tied alive);
       early = λ p o. ap (λ (x : Book). (x.story (name_at w.conn.requests p)).overdue) (book_of_more before f w.acts act.Close) ∙ are_in_time b t h.tied refl p o;
@@ -413,7 +414,7 @@ parts_may b t e h over hears due cut =
       ended = cut;
       once = h.notices.due due;
       bare = refl;
-      in_order = λ m less other. absurd (not_both (is_cut (b.link m).end) (ap is_cut (h.others m (λ same. absurd (omega arith))).end) other);
+      in_order = λ m less other. (h.others m (λ same. absurd (omega arith))).parts hears other;
       closed = a.0;
       answered = a.1;
       sourced = sources_asked b t h;

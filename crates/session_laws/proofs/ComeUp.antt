@@ -292,7 +292,7 @@ makes_ready before c started word kind n info link untold h good k is other earl
         let t = record (seen f [] (comes_as c info (Ready link) ns) [] started) { untold = untold } in
         let same : readied c.single.connection.renewal.wanted l ≡ l = ap (λ (x : Bool). readied x l) w in
         let comes = readied_comes b c started n info link untold false h0 h.fit h.fresh other early facts (facts.wanted_is ∙ w) (λ none. cc) in
-        let tied : Tied (entered now shown) t = heard_tied b c started word (b.created + 1) kind info (Ready link) ns [] untold l h0 good own comes in
+        let tied : Tied (entered now shown) t = heard_tied b c started word (b.created + 1) kind info (Ready link) ns [] untold l h0 good (λ some none. absurd (omega arith)) own comes in
         record {
           holds = sound_more front shown t all (subst MayBeCreated (sym book_is) may) (subst (λ (x : Book). Tied (entered x shown) t) (sym book_is) tied);
           ledger = ap (λ (x : Book). x.link mine) (book_more front shown ∙ ap (λ (x : Book). entered x shown) book_is) ∙ own ∙ sym same;
@@ -312,7 +312,7 @@ makes_ready before c started word kind n info link untold h good k is other earl
         let uses = c.sources ++ use_after mine count ∷ [] in
         let what = use_for created mine in
         let what_is : what ≡ use_after mine count = ap (λ (x : Ledger). if x.creds.asked then source.Renewal mine else source.Setup mine) own ∙ second_use l.creds mine count asked renews (next ∙ h0.count ∙ sym (sources_hear (b.link mine) c.turns n)) in
-        let others = others_heard b c started kind h0 good in
+        let others = others_heard b c started kind (b.created + 1) h0 good (λ some none. absurd (omega arith)) in
         let links : ℕ → Ledger = λ m. noted_each (now.link m) (if_mine (mine == m) sources) in
         let after = noted l sources in
         let ledger_is : links mine ≡ after = mine_noted (now.link mine) mine sources ∙ ap (λ (y : Ledger). noted y sources) own in
@@ -326,7 +326,7 @@ makes_ready before c started word kind n info link untold h good k is other earl
         let need : MayNeed created count mine = record {
           due = ap source_due own ∙ (λ i. facts.made.up i && wanted i && (not (asked i) || (facts.made.said.well i && not (renews i))));
           next = next ∙ ap length (sym h0.numbers.sources);
-          in_order = λ m less. down_sourced (now.link m) (others m (λ one. omega arith)).up;
+          in_order = λ m less. down_sourced (now.link m) (others m (λ one. omega arith)).down;
           answered = unstarted_owed b created c started h0 (early_started (b.link mine) started c.single.connection.life early.unready early.alive h0.setup.said) (λ m. refl) (ap (λ (y : Ledger). y.end) own ∙ facts.made.alive);
           created = λ m ready none. absurd (let no : b.created + 1 ≡ 0 = none in omega (arith, no));
         } in

@@ -27,6 +27,7 @@ use Rattle.shared_session.specs.Turn.{with_work, is_bad, use_after}
 use Rattle.legal_trace.specs.Ledger.{Ledger, hears, lacks_credentials, noted, noted_each, ending, ending_alive, is_over, by_opening, ends, dials, refused_in, failure_in, failure_of, ending_or_shutdown, source_due, sources, is_set_up, ending_asked}
 use Rattle.legal_trace.specs.Book.{Book, blank_book, book, entered, if_mine, use_for}
 use Rattle.legal_trace.specs.Legal.{AllStand, MayNeed}
+use Rattle.session_laws.proofs.Aside.{unfailed}
 use Rattle.session_laws.proofs.Tied.{AreQueued, AreSought, HasSaid, inner, no_link, link_in, carried, whole_link, owner_of, Tied, TiedLife, TiedLines, has_ended, sources_asked_in}
 use Rattle.session_laws.proofs.Creds.{down_sourced}
 use Rattle.session_laws.proofs.Said.{ending_wanting, ready_heard, setting_heard, setup_hears, dropped_end}
@@ -155,7 +156,7 @@ connected_wants before c started word kind h good k is e wants =
     let ungiven : l.creds.given ≡ false = ap (λ (x : Ledger). x.creds.given) same ∙ sought.1 in
     let lacks : lacks_credentials l ≡ true = (λ i. wanted_is i && not (ungiven i)) in
     let own : now.link mine ≡ l = ap (heard_by b c) (book_news b c started kind connected h0 is) in
-    let others = others_heard b c started kind h0 good in
+    let others = others_heard b c started kind b.created h0 good (λ some. some) in
     let links : ℕ → Ledger = λ m. noted_each (now.link m) (if_mine (mine == m) sources) in
     let after = noted l sources in
     let asked : links mine ≡ after = mine_noted (now.link mine) mine sources ∙ ap (λ (y : Ledger). noted y sources) own in
@@ -185,9 +186,9 @@ connected_wants before c started word kind h good k is e wants =
     let may : MayNeed now (length c.sources) mine = record {
       due = ap source_due own ∙ (λ i. u.up i && wanted_is i && (not (unasked i) || (is_set_up l && not l.creds.renews)));
       next = ap length (sym h0.numbers.sources);
-      in_order = λ m less. down_sourced (now.link m) (others m (λ one. omega arith)).up;
+      in_order = λ m less. down_sourced (now.link m) (others m (λ one. omega arith)).down;
       answered = unstarted_owed b now c started h0 u.none (λ m. refl) (ap (λ (y : Ledger). y.end) own ∙ u.alive);
-      created = unready_shown now mine l own others (lacking_unset l lacks).unset;
+      created = unready_shown now mine l own (λ m other. (others m other).down) (lacking_unset l lacks).unset;
     } in
     let book_is : book front ≡ now = book_more before (turn_of c word kind) ∙ heard_is b c.turns word kind (book_kind b c kind h0.numbers.timers k) in
     let all : AllStand blank_book front = all_stand-append before (turn_of c word kind ∷ []) h.sound.stands (may_turn before c started word kind h good, tt) in
@@ -263,7 +264,7 @@ refused_fails before c started word kind f h good k is e =
     let over : l ≡ record (refused_in l0 c.turns (error.Io f)) { heard = refused f } = refused_is l0 c.turns b.created f lived in
     let own_ledger : now.link c.single.link ≡ l = ap (heard_by b c) (book_news b c started kind (refused f) h0 is) in
     let said = setup_hears l0 c.turns (refused f) conn.info started conn.life tt h0.setup in
-    let tied : Tied (entered now (action.Created (Some (error.Io f)))) t = heard_tied b c started word (b.created + 1) kind conn.info life conn.fresh [] [] l h0 good own_ledger
+    let tied : Tied (entered now (action.Created (Some (error.Io f)))) t = heard_tied b c started word (b.created + 1) kind conn.info life conn.fresh [] [] l h0 good (λ some none. absurd (omega arith)) own_ledger
     (record {
       starts = heard_starts l0 c.turns (refused f);
       lived = subst (λ (x : Ledger). TiedLife x (b.created + 1) life) (sym over) (lived.1, refl, λ x fails z. absurd (omega arith));
@@ -281,6 +282,7 @@ refused_fails before c started word kind f h good k is e =
       stands = all_stand-append before (turn_of c word kind ∷ []) h.sound.stands (may_turn before c started word kind h good, tt);
       fails = ap (λ (x : Book). failure_in (x.link c.single.link).end) book_is ∙ ap (λ (x : Ledger). failure_in x.end) (own_ledger ∙ over);
       unshown = ap (λ (x : Book). x.created) book_is ∙ lived.3;
+      first = λ m less. ap (λ (x : Book). failure_in (x.link m).end) book_is ∙ unfailed (now.link m) (others_heard b c started kind b.created h0 good (λ some. some) m (λ same. omega arith)) lived.3;
       tied = subst (λ (x : Book). Tied (entered x (action.Created (Some (error.Io f)))) t) (sym book_is) tied;
     }
 
@@ -345,7 +347,7 @@ closing_fails before c started word kind n x plain asks h good k is e =
     let asked : (l0.asked && not (is_over l0)) ≡ true = (λ i. lived0.0 i && not (is_some (lived0.2 i))) in
     let must : ending l ≡ Some why = ap ending (begins.ledger ∙ plain_is l0 c.turns n plain) ∙ left_if l0.up (ending_alive (record l0 { heard = n })) _ lived0.1 ∙ taken_if (l0.asked && not (is_over l0)) (ending_asked (record l0 { heard = n }) n) None asked ∙ asks in
     let now = entered b (action.Close c.single.link) in
-    let tied = close_tied b t (b.created + 1) why x false [] (ap (λ (y : Life). requests_in (wanted (link_in y).row) ++ awaited_ids (link_in y).queue) (sym e)) must refl (λ y fails z. absurd (omega arith)) (λ heard done. refl) (ap has_ended e) begins.holds.tied in
+    let tied = close_tied b t (b.created + 1) why x false [] (ap (λ (y : Life). requests_in (wanted (link_in y).row) ++ awaited_ids (link_in y).queue) (sym e)) must refl (λ y fails z. absurd (omega arith)) (λ heard done. refl) (ap has_ended e) (λ some none. absurd (omega arith)) begins.holds.tied in
     let trace = trace_of_acts front f (act.Close ∷ []) in
     let shown : trace ≡ trace_of_acts front f [] ++ action.Close c.single.link ∷ [] = shown_more front c.single.link (length f.timers) (length f.sources) [] act.Close in
     let book_is : book trace ≡ now = book_of_more front f [] act.Close in
@@ -355,6 +357,7 @@ closing_fails before c started word kind n x plain asks h good k is e =
           ∙ ap (λ (y : Ledger). failure_in y.end) (mine_noted l c.single.link (ends (b.turns - 1)))
           ∙ ap (λ w. failure_of (ending_or_shutdown w)) must;
       unshown = ap (λ (y : Book). y.created) book_is ∙ lived.3;
+      first = λ m less. ap (λ (y : Book). failure_in (y.link m).end) book_is ∙ unfailed _ (others_kept b c.single.link (ends (b.turns - 1)) begins.holds.tied.others m (λ same. omega arith)) lived.3;
       tied = subst (λ (y : Book). Tied (entered y (action.Created (Some x))) (seen f (act.Close ∷ []) (record conn { life = Ended x }) [] started)) (sym book_is) tied;
     }
 

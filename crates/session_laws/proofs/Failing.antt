@@ -26,14 +26,15 @@ use Rattle.legal_trace.specs.Book.{Book, blank_book, book, entered, if_mine, hea
 use Rattle.legal_trace.specs.Owed.{owed_to_try, owed_unstarted, unstarted_error}
 use Rattle.legal_trace.specs.Legal.{AllStand, FailuresAreShown, MayClose, MayFail, NoneEnds, ReadyIsShown, VerdictsAreShown}
 use Rattle.session_laws.proofs.Numbers.{IsIn}
-use Rattle.session_laws.proofs.Tied.{AreSetups, IsUnknown, inner, link_in, no_link, TiedLines, Tied}
+use Rattle.session_laws.proofs.Tied.{AreSetups, inner, link_in, no_link, TiedLines, Tied}
 use Rattle.session_laws.proofs.States.{Between, HasApplied}
 use Rattle.session_laws.proofs.Entered.{all_stand-append, shown_more}
 use Rattle.session_laws.proofs.Creds.{down_sourced}
 use Rattle.session_laws.proofs.Names.{get_some, name_of_some, open_within}
 use Rattle.session_laws.proofs.Owes.{in_time, not_empty, open_request, request_story, get_behind}
 use Rattle.session_laws.proofs.Kept.{mine_noted, others_kept}
-use Rattle.session_laws.proofs.Answer.{after_end, unknown_ends}
+use Rattle.session_laws.proofs.Answer.{after_end}
+use Rattle.session_laws.proofs.Aside.{aside_ends, others_created, unfailed}
 use Rattle.session_laws.proofs.Settle.{seen, sound_act, trace_of_acts, Holds, book_of_more}
 use Rattle.session_laws.proofs.Close.{ended_applied, ended_waits, waiting_ends, waiting_leaves}
 use Rattle.session_laws.proofs.Announce.{turn_of, turned, IsNewsKind, first_book, heard_book, heard_is, heard_starts, heard_tied_by, may_turn, others_heard, uses_on, counted_on, sources_hear, timed_hear}
@@ -50,6 +51,7 @@ pub record IsFailing (trace : List Action) (f : Core) (acts : List LinkAct) (con
   pub stands : AllStand blank_book trace
   pub fails : failure_in ((book trace).link f.single.link).end ≡ Some e
   pub unshown : (book trace).created ≡ 0
+  pub first : (m : ℕ) → m < f.single.link → failure_in ((book trace).link m).end ≡ None
   pub tied : Tied (entered (book trace) (action.Created (Some e))) (seen f acts (record conn { life = Ended e }) [] started)
 
 -- it may be shown
@@ -57,7 +59,7 @@ failing_may : (trace : List Action) (f : Core) (acts : List LinkAct) (conn : Mul
 failing_may trace f acts conn e started h = record {
   l = f.single.link;
   fails = h.fails;
-  in_order = λ m less. ap failure_in (h.tied.others m (λ same. omega arith)).end;
+  in_order = h.first;
   once = h.unshown;
   ended = over.0;
   answered = over.1;
@@ -101,10 +103,10 @@ unstarted_owed b now c started h none same alive n asked on =
     ∙ ap (λ ts. owed_to_try now (now.story n) (last_of ts)) untried ∙ ap (λ m. owed_unstarted (now.link m).end) (ap (λ (x : Story). x.link) is ∙ q.on) ∙ ap owed_unstarted alive
 
 -- a link that isn't set up isn't ready, nor is any other
-pub unready_shown : (now : Book) (link : ℕ) (l : Ledger) → now.link link ≡ l → ((m : ℕ) → m ≢ link → IsUnknown (now.link m)) → is_set_up l ≡ false → ReadyIsShown now
+pub unready_shown : (now : Book) (link : ℕ) (l : Ledger) → now.link link ≡ l → ((m : ℕ) → m ≢ link → (now.link m).up ≡ false) → is_set_up l ≡ false → ReadyIsShown now
 unready_shown now link l own others unready m ready = by_test (m == link) _
     (λ same. absurd (not_both (is_set_up l) unready (ap is_set_up (sym own) ∙ both_right (now.link link).up (is_set_up (now.link link)) (subst (λ i. is_ready (now.link i) ≡ true) (eq_from m link same) ready))))
-    (λ other. absurd (not_both (now.link m).up (others m (ne_from m link other)).up (both_left (now.link m).up (is_set_up (now.link m)) ready)))
+    (λ other. absurd (not_both (now.link m).up (others m (ne_from m link other)) (both_left (now.link m).up (is_set_up (now.link m)) ready)))
 
 -- a link that isn't set up, and whose opening fails with this error
 pub record Fails (l : Ledger) (info : RedisConnectionInfo) (wants : Bool) (heard mine : Hearing) (x : RedisError) : Type 0 where
@@ -139,12 +141,12 @@ setup_fails before c started word kind n x h good k is u fails =
     let line = ends (now.turns - 1) in
     let close = action.Close c.single.link in
     let own : now.link c.single.link ≡ l = ap (heard_by b c) (book_news b c started kind n h0 is) in
-    let others = others_heard b c started kind h0 good in
+    let others = others_heard b c started kind b.created h0 good (λ some. some) in
     let links : ℕ → Ledger = λ m. noted_each (now.link m) (if_mine (c.single.link == m) line) in
     let closed : links c.single.link ≡ noted l line = mine_noted (now.link c.single.link) c.single.link line ∙ ap (λ (y : Ledger). noted y line) own in
     let t = seen f (act.Close ∷ []) (record conn { life = Ended x }) [] started in
     let tied : Tied (entered (entered now close) (action.Created (Some x))) t = heard_tied_by b c started word (b.created + 1) kind conn.info (Ended x) conn.fresh [] [] links (noted l line) b.sources (c.sources ++ []) h0
-    (others_kept now c.single.link line others) closed (h0.numbers.sources ∙ sym (append-nil c.sources)) (uses_on c.sources c.single.link h0.numbers.uses)
+    (others_created c.single.link (b.created + 1) _ (λ some none. absurd (omega arith)) (others_kept now c.single.link line others)) closed (h0.numbers.sources ∙ sym (append-nil c.sources)) (uses_on c.sources c.single.link h0.numbers.uses)
     (counted_on c.sources (noted l line).creds (h0.count ∙ sym (sources_hear l0 c.turns n)))
     (record {
       starts = heard_starts l0 c.turns n;
@@ -175,20 +177,21 @@ setup_fails before c started word kind n x h good k is u fails =
     let may : MayClose now c.single.link = record {
       why = by_opening x;
       ends = ap ending own ∙ fails.must;
-      in_order = λ m less. unknown_ends (now.link m) (others m (λ same. omega arith));
+      in_order = λ m less. aside_ends (now.link m) (others m (λ same. omega arith));
       answered = unstarted_owed b now c started h0 u.none (λ m. refl) (ap (λ (y : Ledger). y.end) own ∙ fails.alive);
-      created = unready_shown now c.single.link l own others fails.unready;
+      created = unready_shown now c.single.link l own (λ m other. (others m other).down) fails.unready;
       sourced = λ m. by_test (m == c.single.link) _
           (λ same. subst (λ i. source_due (now.link i) ≡ false) (sym (eq_from m c.single.link same)) (ap source_due own ∙ fails.sourced))
-          (λ other. down_sourced (now.link m) (others m (ne_from m c.single.link other)).up);
+          (λ other. down_sourced (now.link m) (others m (ne_from m c.single.link other)).down);
       pushed = λ m heard. by_test (m == c.single.link) _
           (λ same. subst (λ i. next_notice (now.link i) ≡ None) (sym (eq_from m c.single.link same)) (ap next_notice own ∙ get_behind l.told l.notices (fails.notices.untold_is (ap hears_something (sym fails.notices.heard_is) ∙ heard))))
-          (λ other. ap (λ (hs : List Heard). slice_get hs (now.link m).told) (others m (ne_from m c.single.link other)).notices);
+          (λ other. (others m (ne_from m c.single.link other)).told (ap hears_something (sym fails.notices.heard_is) ∙ heard));
     } in
     record {
       stands = subst (AllStand blank_book) (sym shown) (all_stand-append (trace_of_acts front f []) (close ∷ []) all (subst (λ (y : Book). MayClose y c.single.link) (sym first) may, tt));
       fails = ap (λ (y : Book). failure_in (y.link c.single.link).end) book_is ∙ ap (λ (y : Ledger). failure_in y.end) closed ∙ ap (λ w. failure_of (ending_or_shutdown w)) fails.must;
       unshown = ap (λ (y : Book). y.created) book_is ∙ u.unshown;
+      first = λ m less. ap (λ (y : Book). failure_in (y.link m).end) book_is ∙ unfailed (links m) (others_kept now c.single.link line others m (λ same. omega arith)) u.unshown;
       tied = subst (λ (y : Book). Tied (entered y (action.Created (Some x))) t) (sym book_is) tied;
     }
 

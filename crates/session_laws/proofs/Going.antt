@@ -63,7 +63,7 @@ applied_up b t h none told up ended = record { answered = none_owed b t h none u
 pub setups_started : (b : Book) (t : Inner) → Tied b t → ((link : LinkState) (greeting : Greeting) → t.life ≡ SettingUp link greeting → (setup_due (b.link t.link) ≡ None) ⊎ (is_held_back b (b.link t.link) ≡ true)) → SetupsAreStarted b
 setups_started b t h mine m k due = by_test (m == t.link) _
     (λ same. subst (λ n. is_held_back b (b.link n) ≡ true) (sym (eq_from m t.link same)) (by_life t.life refl (subst (λ n. setup_due (b.link n) ≡ Some k) (eq_from m t.link same) due)))
-    (λ other. absurd (undue (b.link m) (down_undue (b.link m) (h.others m (ne_from m t.link other)).up) due))
+    (λ other. absurd (undue (b.link m) (down_undue (b.link m) (h.others m (ne_from m t.link other)).down) due))
   where
     undue : (l : Ledger) → setup_due l ≡ None → setup_due l ≡ Some k → ⊥
     undue l none some = let no : ◌≡◌ {A = Option ℕ} None (Some k) = sym none ∙ some in cc
@@ -85,7 +85,7 @@ setups_started b t h mine m k due = by_test (m == t.link) _
 pub monitors_started : (b : Book) (t : Inner) → Tied b t → ((link : LinkState) → t.life ≡ SettingUp link greet.Monitor → (monitor_due (b.link t.link) ≡ true → ⊥) ⊎ (is_held_back b (b.link t.link) ≡ true)) → MonitorsAreStarted b
 monitors_started b t h mine m due = by_test (m == t.link) _
     (λ same. subst (λ n. is_held_back b (b.link n) ≡ true) (sym (eq_from m t.link same)) (by_life t.life refl (subst (λ n. monitor_due (b.link n) ≡ true) (eq_from m t.link same) due)))
-    (λ other. absurd (not_both (b.link m).up (h.others m (ne_from m t.link other)).up (watch_is_up (b.link m) due)))
+    (λ other. absurd (not_both (b.link m).up (h.others m (ne_from m t.link other)).down (watch_is_up (b.link m) due)))
   where
     ungreeted : (l : Ledger) → IsUndecided (setup_result l) → monitor_due l ≡ true → ⊥
     ungreeted l open_is d = not_both (is_greeted l) open_is.unwell (watch_is_greeted l d)
@@ -115,11 +115,7 @@ undue_asked l none =
 pub renewals_timed : (b : Book) (t : Inner) → Tied b t → ((link : LinkState) → t.life ≡ Ready link → is_renewal_due t.renewal ≡ true → t.renewal.pending ≡ true) → RenewalsAreTimed b
 renewals_timed b t h asked m some = by_test (m == t.link) _
     (λ same. subst (λ n. renewals_asked (b.link n) ≤ (b.link n).creds.timed) (sym (eq_from m t.link same)) (by_life t.life refl))
-    (λ other.
-    let u = h.others m (ne_from m t.link other) in
-    let k = undue_asked (b.link m) (down_renewed_due (b.link m) u.up) in
-    let none : renewal_count (b.link m).starts ≡ 0 = ap renewal_count u.starts in
-    omega arith)
+    (λ other. (h.others m (ne_from m t.link other)).timed (λ none. some (h.numbers.within ∙ none)))
   where
     l : Ledger
     l = b.link t.link
@@ -154,7 +150,7 @@ renewals_timed b t h asked m some = by_test (m == t.link) _
 renewals_started : (b : Book) (t : Inner) → Tied b t → ((link : LinkState) → t.life ≡ Ready link → link.boundary ≡ t.bound) → HasRenewed t.renewal t.life → RenewalsAreStarted b
 renewals_started b t h bound renewed m c due = by_test (m == t.link) _
     (λ same. subst (λ n. is_held_back b (b.link n) ≡ true) (sym (eq_from m t.link same)) (by_life t.life refl (subst (λ n. renewal_due (b.link n) ≡ Some c) (eq_from m t.link same) due)))
-    (λ other. absurd (no_due (b.link m) (down_renewed_due (b.link m) (h.others m (ne_from m t.link other)).up) due))
+    (λ other. absurd (no_due (b.link m) (down_renewed_due (b.link m) (h.others m (ne_from m t.link other)).down) due))
   where
     no_due : (l : Ledger) → renewal_due l ≡ None → renewal_due l ≡ Some c → ⊥
     no_due l none some = let no : ◌≡◌ {A = Option Credentials} None (Some c) = sym none ∙ some in cc

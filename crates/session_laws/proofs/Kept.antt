@@ -1,8 +1,9 @@
 -- What one action of a turn leaves as it is.
-use Rattle.std.proofs.Common.{Bool, List, [], ap, length, refl, slice_get, subst, sym, ℕ, ◌<◌, ◌∙◌, ◌∷◌, ◌≡◌, ◌≢◌, false}
+use Rattle.std.proofs.Common.{Bool, List, Option, [], ap, length, refl, slice_get, subst, sym, ℕ, ◌<◌, ◌∙◌, ◌∷◌, ◌≡◌, ◌≢◌, false}
 use Rattle.std.specs.List.{AllByRecursion}
 use Rattle.std.specs.Prelude.{◌==◌}
 use Rattle.containers.proofs.Choices.{chosen, eq_from, eq_test, if_false, ne_test, taken_if}
+use Rattle.driver_model.specs.declared.hearing.Hearing.{Hearing}
 use Rattle.driver_model.specs.declared.outcome.Shape.{Shape}
 use Rattle.link_core.specs.declared.message.Queued.{Queued}
 use Rattle.link_laws.proofs.TiedLink.{TiedLink}
@@ -14,12 +15,12 @@ use Rattle.legal_trace.specs.Ledger.{Ledger, Line, noted, noted_each}
 use Rattle.legal_trace.specs.Story.{Story, awaited_in, packed_in, shape_in, tried}
 use Rattle.session_laws.proofs.Names.{name_placed}
 use Rattle.session_laws.proofs.Owes.{request_story}
-use Rattle.session_laws.proofs.Tied.{AreLate, AreQueued, Inner, IsOf, IsPacked, IsQueued, IsRequest, IsUnknown, Tied, TiedCreds, TiedLife, TiedLines, TiedNames, TiedNumbers, TiedPermits, TiedNotices, TiedSetup, TiedStory, TiedTries, TiedWaits, carried, has_ended, link_in, whole_link, TiedRenewal, sources_asked_in, is_reading}
+use Rattle.session_laws.proofs.Tied.{AreAside, AreLate, AreQueued, Inner, IsAside, IsOf, IsPacked, IsQueued, IsRequest, Tied, TiedCreds, TiedLife, TiedLines, TiedNames, TiedNumbers, TiedPermits, TiedNotices, TiedSetup, TiedStory, TiedTries, TiedWaits, carried, has_ended, link_in, whole_link, TiedRenewal, sources_asked_in, is_reading}
 
 -- a session and the ledger of its link, which is that of the book
 pub record TiedBy (b : Book) (t : Inner) (l : Ledger) : Type 0 where
   pub numbers : TiedNumbers b t
-  pub others : (m : ℕ) → m ≢ t.link → IsUnknown (b.link m)
+  pub others : AreAside t.link t.links b.link t.hears t.renewal.within b.created
   pub notices : TiedNotices (hearing_in b.config) t.hears l.hearing l.notices l.told l.end l.parted l.strange (is_reading l) t.untold t.parting
   pub life : TiedLife l b.created t.life
   pub creds : TiedCreds l.creds t.renewal.wanted t.life
@@ -63,8 +64,9 @@ pub mine_noted : (l : Ledger) (n : ℕ) (line : Line) → noted_each l (if_mine 
 mine_noted l n line = ap (noted_each l) (taken_if (n == n) (line ∷ []) [] (eq_test n n refl))
 
 -- all other links stay as they are
-pub others_kept : (b : Book) (n : ℕ) (line : Line) → ((m : ℕ) → m ≢ n → IsUnknown (b.link m)) → (m : ℕ) → m ≢ n → IsUnknown (noted_each (b.link m) (if_mine (n == m) line))
-others_kept b n line h m other = if_false (λ (ls : List Line). IsUnknown (noted_each (b.link m) ls)) (n == m) (line ∷ []) [] (ne_test n m (λ e. other (sym e))) (h m other)
+pub others_kept : {links created : ℕ} {heard : Hearing} {within : Option ℕ} (b : Book) (n : ℕ) (line : Line) → AreAside n links b.link heard within created → AreAside n links (λ m. noted_each (b.link m) (if_mine (n == m) line)) heard within created
+others_kept {links = links} {created = created} {heard = heard} {within = within} b n line h m other =
+    if_false (λ (ls : List Line). IsAside links m (noted_each (b.link m) ls) heard within created) (n == m) (line ∷ []) [] (ne_test n m (λ e. other (sym e))) (h m other)
 
 -- one request's story changes
 pub one_changed : (b : Book) (t : Inner) (p : ℕ) (g : Story → Story) → Tied b t → p < length t.requests

@@ -499,7 +499,7 @@ ask_tied b t p number ms w alone h =
       kind_is = k.kind_is;
       quiet = k.quiet;
       one = k.one;
-      only = k.only;
+      few_links = k.few_links;
     }) h
 
 -- a request is let in by its connection

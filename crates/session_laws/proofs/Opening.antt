@@ -27,12 +27,13 @@ use Rattle.legal_trace.specs.Story.{blank_story}
 use Rattle.session_laws.proofs.Going.{is_moved}
 use Rattle.session_laws.proofs.Settled.{IsBetween, is_settled}
 use Rattle.session_laws.proofs.States.{IsFitIn, IsStill}
-use Rattle.session_laws.proofs.Tied.{AreAimed, IsAim, IsUnknown, Tied, TiedLines, TiedNames, TiedNumbers, TiedPermits, TiedTries, TiedWaits, inner, no_link, owner_of, owners_of, setup_owners}
+use Rattle.session_laws.proofs.Tied.{AreAimed, IsAim, IsAside, Tied, TiedLines, TiedNames, TiedNumbers, TiedPermits, TiedTries, TiedWaits, inner, no_link, owner_of, owners_of, setup_owners}
 use Rattle.session_laws.proofs.Waits.{IsQuiet}
 use Rattle.session_laws.proofs.Write.{is_written}
 use Rattle.connection_info.specs.Protocol.{is_resp3}
 use Rattle.mux_conn.specs.Renewals.{no_renewal}
 use Rattle.driver_model.specs.Hearing.{hears_pushes, is_watching}
+use Rattle.driver_model.specs.declared.hearing.Hearing.{Hearing}
 
 -- what timers the opening has asked for
 abbrev asks_timers : List Purpose → Book → Book
@@ -72,7 +73,7 @@ bounded_timers (Some ms) some none = cc
 -- the timers are for the first link
 first_aims : (timeout : Option ℕ) → AreAimed (connect_timers timeout) first_link 0
 first_aims None k what e = cc
-first_aims (Some ms) zero what e = let same : purpose.Connect first_link ≡ what = cc in subst (λ w. IsAim w first_link 0) same refl
+first_aims (Some ms) zero what e = let same : purpose.Connect first_link ≡ what = cc in subst (λ w. IsAim w first_link 0) same (omega arith)
 first_aims (Some ms) (suc k) what e = cc
 
 -- a connection that never has a permit is refused, and a queue that holds nothing
@@ -134,7 +135,7 @@ opening_numbers config word info timeout some is = record {
   kind_is = refl;
   quiet = λ w. record { none = refl; unwanted = unwanted_where_watched config w; unrenewed = refl };
   one = refl;
-  only = λ m less. omega arith;
+  few_links = omega arith;
 }
 
 -- its lines
@@ -178,11 +179,24 @@ opening_names = record { few = omega arith; named = λ p r e. cc; kept = λ n p 
 opening_tries : (l : Ledger) → l.starts ≡ [] → TiedTries l (λ n. blank_story) [] first_link []
 opening_tries l none = record { greeted = λ w. record { none = refl; greets = λ k s e. (let no : ◌≡◌ {A = Option Start} None (Some s) = sym (ap (λ (ss : List Start). slice_get ss k) none) ∙ e in cc) }; owners = λ plain. ap owners_of none ∙ ap (λ (ss : List Start). setup_owners (setup_count ss) []) (sym none); shapes = λ k p s w e i. cc; tried = λ k p w e. cc; untried = λ p r e out. cc }
 
+-- no link but the first was asked for
+blank_aside : (m : ℕ) (heard : Hearing) (within : Option ℕ) → m ≢ first_link → IsAside (first_link + 1) m blank_ledger heard within 0
+blank_aside m heard within other = record {
+  down = refl;
+  over = λ less. absurd (other (omega arith));
+  unknown = λ past. refl;
+  told = λ y. refl;
+  parts = λ y cut. cc;
+  shown = λ e fails. cc;
+  timed = λ some. omega arith;
+  few = omega arith;
+}
+
 -- the session is tied to it
 opening_tied : (config : Config) (word : ℕ) (info : ConnectionInfo) (timeout : Option ℕ) → IsSized (permits config) (buffer_size config) → connect_timeout config ≡ timeout → Tied (opened config word info (connect_timers timeout)) (inner (opened_core config (connect_timers timeout)) [])
 opening_tied config word info timeout some is = record {
   numbers = opening_numbers config word info timeout some is;
-  others = λ m other. subst IsUnknown (sym (opened_link config word info (connect_timers timeout) m other)) (record { asked = refl; up = refl; end = refl; starts = refl; notices = refl });
+  others = λ m other. subst (λ (x : Ledger). IsAside (first_link + 1) m x (hearing_of config) (response_timeout config) 0) (sym (opened_link config word info (connect_timers timeout) m other)) (blank_aside m (hearing_of config) (response_timeout config) other);
   notices = record { heard_is = refl; hearing_is = refl; within = λ y. omega arith; untold_is = λ y. refl; parts = λ y d z. cc; alive = λ z. refl; due = λ z. cc; tame = λ z r. refl };
   life = (refl, refl, refl, refl);
   creds = record { wanted_is = refl; sought = (refl, refl, refl) };

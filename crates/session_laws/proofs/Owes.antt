@@ -263,7 +263,7 @@ failure_shown l created (Ended e) h = h.2
 pub failures_shown : (b : Book) (t : Inner) → Tied b t → FailuresAreShown b
 failures_shown b t h m = by_test (m == t.link) (FailureIsShown (b.link m).end b.created)
     (λ same. subst (λ k. FailureIsShown (b.link k).end b.created) (sym (eq_from m t.link same)) (failure_shown (b.link t.link) b.created t.life h.life))
-    (λ other. alive_failure (b.link m).end b.created (h.others m (ne_from m t.link other)).end)
+    (λ other. (h.others m (ne_from m t.link other)).shown)
 
 -- a link was asked for, and where it is ready, or its opening failed, the creation was shown
 pub created_is : (b : Book) (t : Inner) → Tied b t → IsCreated b
@@ -284,13 +284,13 @@ get_behind (suc n) (h ∷ hs) e = get_behind n hs e
 pub notices_told : (b : Book) (t : Inner) → Tied b t → t.untold ≡ [] → NoticesAreTold b
 notices_told b t h none m heard = by_test (m == t.link) _
     (λ same. subst (λ k. next_notice (b.link k) ≡ None) (sym (eq_from m t.link same)) (get_behind (b.link t.link).told (b.link t.link).notices (h.notices.untold_is (ap hears_something (sym h.notices.heard_is) ∙ heard) ∙ none)))
-    (λ other. ap (λ (hs : List Heard). slice_get hs (b.link m).told) (h.others m (ne_from m t.link other)).notices)
+    (λ other. (h.others m (ne_from m t.link other)).told (ap hears_something (sym h.notices.heard_is) ∙ heard))
 
 -- and so was the end of each link, where none is
 pub ends_told : (b : Book) (t : Inner) → Tied b t → t.parting ≡ false → EndsAreTold b
 ends_told b t h none m heard cut = by_test (m == t.link) _
     (λ same. let e = eq_from m t.link same in subst (λ k. (b.link k).parted ≡ true) (sym e) (h.notices.parts (ap hears_pushes (sym h.notices.heard_is) ∙ heard) none (subst (λ k. is_cut (b.link k).end ≡ true) e cut)))
-    (λ other. absurd (not_both (is_cut (b.link m).end) (ap is_cut (h.others m (ne_from m t.link other)).end) cut))
+    (λ other. (h.others m (ne_from m t.link other)).parts (ap hears_pushes (sym h.notices.heard_is) ∙ heard) cut)
 
 -- the entries of a row are started one after another
 row_places : (b : Book) (t : Inner) (k j : ℕ) (row : List Entry) → Tied b t → k ≡ setup_count (b.link t.link).starts + j → AllByRecursion (IsEntry t.requests) row → OpenFrom (owner_of t.requests) (b.link t.link) k row → AtPlaces t.started j (row_ids row)

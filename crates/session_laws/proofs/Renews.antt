@@ -47,22 +47,22 @@ use Rattle.session_laws.proofs.Settle.{Holds, book_of_more, renewal_tied, seen, 
 use Rattle.session_laws.proofs.Start.{not_setting, on_link, owners-append, owners_each-append, owners_length, setup_owners-append}
 use Rattle.session_laws.proofs.Starts.{begins_ends_none}
 use Rattle.session_laws.proofs.States.{IsFit}
-use Rattle.session_laws.proofs.Tied.{AreAimed, AreRenewed, Inner, IsAim, IsEntry, IsUnknown, Tied, TiedRenewal, TiedTries, numbers_kept, owner_of, owners_each, queue_ids, setup_owners, timed_of}
+use Rattle.session_laws.proofs.Tied.{AreAimed, AreRenewed, Inner, IsAim, IsEntry, Tied, TiedRenewal, TiedTries, numbers_kept, owner_of, owners_each, queue_ids, setup_owners, timed_of}
 use Rattle.session_laws.proofs.Took.{queue_waits}
 use Rattle.mux_conn.specs.declared.life.Greeting.TheVariants as greet
 use Rattle.driver_model.specs.Hearing.{is_watching}
 
 -- their timer
 --
--- a link that was never asked for has no new credentials to tell
-unknown_asked : (b : Book) (m : ℕ) → IsUnknown (b.link m) → renewals_asked (b.link m) ≡ 0
-unknown_asked b m u = undue_asked (b.link m) (down_renewed_due (b.link m) u.up) ∙ ap renewal_count u.starts
+-- where a time is set, there is one
+time_is_set : (within : Option ℕ) (ms : ℕ) → within ≡ Some ms → within ≢ None
+time_is_set within ms e none = let no : ◌≡◌ {A = Option ℕ} None (Some ms) = sym none ∙ e in cc
 
 -- a timer more for the link
 aims_renewed : (timers : List Purpose) (link count number : ℕ) → AreAimed timers link count → AreAimed (timers ++ purpose.Renewal link number ∷ []) link count
-aims_renewed timers link count number h k what e = elim (get_more timers (purpose.Renewal link number) k what e) [
+aims_renewed timers link count number h k what e = let own : link ≤ link = omega arith in elim (get_more timers (purpose.Renewal link number) k what e) [
   | inl i ↦ h k what i
-  | inr x ↦ subst (λ w. IsAim w link count) x.1 refl
+  | inr x ↦ subst (λ w. IsAim w link count) x.1 own
 ]
 
 -- where the time is set, as many timers were asked for as new credentials were to be told
@@ -87,7 +87,7 @@ may_time_renewal b t link number ms counted none due within h ended =
       l = t.link;
       within = h.numbers.within ∙ within;
       asked = omega (arith, timed, one, unasked, h.renewal.asked_is);
-      in_order = λ m less. let none_asked = unknown_asked b m (h.others m (λ e. omega (arith, e))) in omega arith;
+      in_order = λ m less. (h.others m (λ e. omega (arith, e))).timed (time_is_set r.within ms within);
       next = counted ∙ ap length (sym h.numbers.timers);
       is_for = ap (purpose.Renewal t.link) (sym timed);
     }
@@ -118,7 +118,7 @@ time_tied b t link number ms none due within h =
         kind_is = k.kind_is;
         quiet = λ w. let q = h.numbers.quiet w in record { none = q.none; unwanted = q.unwanted; unrenewed = q.unrenewed };
         one = k.one;
-        only = k.only;
+        few_links = k.few_links;
       };
       others = others_kept b t.link times h.others;
       notices = h.notices;
@@ -202,7 +202,7 @@ may_renew b t link c cs due pending waits fit free h ended =
       credentials = c;
       due = due_first l t.renewal c cs h.life.1 h.renewal due waits;
       free = held_by b was (owner_of t.requests) link h.numbers fit.bound_is (h.link refl) ∙ free;
-      in_order = λ m other less some. absurd (none_due m other (down_renewed_due (b.link m) (h.others m (λ e. omega (arith, e))).up) some);
+      in_order = λ m other less some. absurd (none_due m other (down_renewed_due (b.link m) (h.others m (λ e. omega (arith, e))).down) some);
       next = (h.link refl).started;
       needs_its_items = refl;
       long_as_its_bytes = refl;
@@ -243,7 +243,7 @@ auth_tied b t link c cs due pending waits h =
         kind_is = k.kind_is;
         quiet = λ w. absurd (plain w);
         one = k.one;
-        only = k.only;
+        few_links = k.few_links;
       };
       others = others_kept b t.link (begins (message_of b t.link owner.Auth)) h.others;
       notices = h.notices;

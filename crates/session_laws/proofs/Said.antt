@@ -377,7 +377,7 @@ ready_by l created info started (Ended e) h c s r = absurd (not_both l.up h.0 (b
 pub ready_shown : (b : Book) (t : Inner) → Tied b t → ReadyIsShown b
 ready_shown b t h m ready = by_test (m == t.link) _
     (λ same. ready_by (b.link t.link) b.created t.info t.started t.life h.life h.creds.sought h.setup (subst (λ k. is_ready (b.link k) ≡ true) (eq_from m t.link same) ready))
-    (λ other. absurd (not_both (b.link m).up (h.others m (ne_from m t.link other)).up (both_left (b.link m).up (is_set_up (b.link m)) ready)))
+    (λ other. absurd (not_both (b.link m).up (h.others m (ne_from m t.link other)).down (both_left (b.link m).up (is_set_up (b.link m)) ready)))
 
 -- every source was asked for that is to be
 --
@@ -393,4 +393,4 @@ life_sourced l created started (Ended e) h s said = down_sourced l h.0
 pub sources_asked : (b : Book) (t : Inner) → Tied b t → SourcesAreAsked b
 sources_asked b t h m = by_test (m == t.link) _
     (λ same. subst (λ k. source_due (b.link k) ≡ false) (sym (eq_from m t.link same)) (life_sourced (b.link t.link) b.created t.started t.life h.life h.creds.sought h.setup.said))
-    (λ other. down_sourced (b.link m) (h.others m (ne_from m t.link other)).up)
+    (λ other. down_sourced (b.link m) (h.others m (ne_from m t.link other)).down)

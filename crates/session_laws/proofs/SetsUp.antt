@@ -178,7 +178,7 @@ set_up_may b t link greeting due fit free h ended =
       k = c;
       due = taken_if l.up (setup_after l c) None h.life.1 ∙ due;
       free = held_by b was (λ (p : ℕ). greeter greeting) (with_queue link (q ∷ [])) h.numbers fit.bound_is (h.link refl) ∙ free;
-      in_order = λ m i less e. absurd (let no : ◌≡◌ {A = Option ℕ} None (Some i) = sym (down_undue (b.link m) (h.others m (λ same. absurd (omega arith))).up) ∙ e in cc);
+      in_order = λ m i less e. absurd (let no : ◌≡◌ {A = Option ℕ} None (Some i) = sym (down_undue (b.link m) (h.others m (λ same. absurd (omega arith))).down) ∙ e in cc);
       next = (h.link refl).started;
       needs_its_items = refl;
       long_as_its_bytes = refl;

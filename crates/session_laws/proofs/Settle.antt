@@ -276,7 +276,7 @@ renewal_tied b t r within wanted waiting tied h = record {
     kind_is = h.numbers.kind_is;
     quiet = λ w. let q = h.numbers.quiet w in record { none = q.none; unwanted = wanted ∙ q.unwanted; unrenewed = waiting ∙ q.unrenewed };
     one = h.numbers.one;
-    only = h.numbers.only;
+    few_links = h.numbers.few_links;
   };
   others = h.others;
   notices = h.notices;

@@ -46,7 +46,7 @@ use Rattle.mux_conn.specs.Effects.{setup_queued, setup_id}
 use Rattle.mux_conn.specs.Requests.{name_at, permits_at, is_open_at, is_waiting_at, is_admitted_at, is_placed_at}
 use Rattle.shared_session.specs.declared.core_state.Core.{Core}
 use Rattle.shared_session.specs.Turn.{use_after}
-use Rattle.legal_trace.specs.Ledger.{Ledger, Heard, Sourced, Start, End, cut, failure_in, is_cut, is_done, is_full, is_greeted, is_of_renewal, is_set_up, is_taken, last_renewal, monitor_of, renewal_count, setup_count, setup_steps, setup_after}
+use Rattle.legal_trace.specs.Ledger.{Ledger, Heard, Sourced, Start, End, blank_ledger, cut, failure_in, is_cut, is_done, is_full, is_greeted, is_of_renewal, is_over, is_set_up, is_taken, last_renewal, monitor_of, next_notice, renewal_count, renewals_asked, setup_count, setup_steps, setup_after}
 use Rattle.legal_trace.specs.Story.{Story, blank_story, is_open, is_told, bytes_of, shape, is_awaited}
 use Rattle.legal_trace.specs.Book.{Book, blank_book, book, hearing_in, kind_in}
 use Rattle.legal_trace.specs.Steps.{configured, queue_size, permits_in, permits_held, is_let_in}
@@ -162,14 +162,14 @@ abbrev pub setup_owners : ℕ → List Owner → List Owner
 setup_owners zero more = more
 setup_owners (suc n) more = owner.Setup ∷ setup_owners n more
 
--- a timer is for this link, or for one of so many submissions
+-- a timer is for this link or one before it, or for one of so many submissions
 abbrev pub IsAim : Purpose → ℕ → ℕ → Type 0
-IsAim (purpose.Connect l) link count = l ≡ link
+IsAim (purpose.Connect l) link count = l ≤ link
 IsAim (purpose.Response owner.Setup) link count = ⊥
 IsAim (purpose.Response owner.Auth) link count = ⊥
 IsAim (purpose.Response owner.Resub) link count = ⊥
 IsAim (purpose.Response owner.Monitor) link count = ⊥
-IsAim (purpose.Renewal l k) link count = l ≡ link
+IsAim (purpose.Renewal l k) link count = l ≤ link
 IsAim (purpose.Backoff g) link count = ⊥
 IsAim (purpose.Resubscription l) link count = ⊥
 IsAim (purpose.Response (owner.Try n round)) link count = (n < count) × (round ≡ 0)
@@ -217,15 +217,32 @@ pub record TiedNumbers (b : Book) (t : Inner) : Type 0 where
   pub kind_is : kind_in b.config ≡ t.kind
   pub quiet : is_watching t.hears ≡ true → IsBare t.table t.renewal
   pub one : t.links ≡ t.link + 1
-  pub only : (m : ℕ) → m < t.links → m ≡ t.link
+  pub few_links : t.links < 2 ^ 32
 
--- a link that was never asked for
-pub record IsUnknown (l : Ledger) : Type 0 where
-  pub asked : l.asked ≡ false
-  pub up : l.up ≡ false
-  pub end : l.end ≡ None
-  pub starts : l.starts ≡ []
-  pub notices : l.notices ≡ []
+-- where the opening failed, this was shown
+abbrev pub FailureIsShown : Option End → ℕ → Type 0
+FailureIsShown end created = (e : RedisError) → failure_in end ≡ Some e → created ≢ 0
+
+-- a link that was never asked for: it has heard of turns alone
+abbrev pub IsUnknown : Ledger → Type 0
+IsUnknown l = l ≡ record blank_ledger { heard = l.heard }
+
+-- link m, another than the connection's, isn't up. It is over where it is one of so many that were asked for, and else unknown;
+-- nothing of it is still to be told, its failure was shown, if its opening failed, and a timer was asked for all of its new
+-- credentials, where they are to be answered within a time
+pub record IsAside (links m : ℕ) (l : Ledger) (hears : Hearing) (within : Option ℕ) (created : ℕ) : Type 0 where
+  pub down : l.up ≡ false
+  pub over : m < links → is_over l ≡ true
+  pub unknown : links ≤ m → IsUnknown l
+  pub told : hears_something hears ≡ true → next_notice l ≡ None
+  pub parts : hears_pushes hears ≡ true → is_cut l.end ≡ true → l.parted ≡ true
+  pub shown : FailureIsShown l.end created
+  pub timed : within ≢ None → renewals_asked l ≤ l.creds.timed
+  pub few : renewals_asked l < 2 ^ 32
+
+-- all links but this one are
+abbrev pub AreAside : ℕ → ℕ → (ℕ → Ledger) → Hearing → Option ℕ → ℕ → Type 0
+AreAside link links ledgers hears within created = (m : ℕ) → m ≢ link → IsAside links m (ledgers m) hears within created
 
 -- these are bytes that came
 abbrev pub brings_bytes : News → Bool
@@ -248,10 +265,6 @@ pub record TiedNotices (heard hears hearing : Hearing) (notices : List Heard) (t
   pub alive : end ≡ None → parted ≡ false
   pub due : parting ≡ true → parted ≡ false
   pub tame : end ≡ None → reading ≡ false → strange ≡ false
-
--- where the opening failed, this was shown
-abbrev pub FailureIsShown : Option End → ℕ → Type 0
-FailureIsShown end created = (e : RedisError) → failure_in end ≡ Some e → created ≢ 0
 
 -- how far the link has come; where it has ended, a submission without a message gets this error
 abbrev pub TiedLife : Ledger → ℕ → Life → Type 0
@@ -576,7 +589,7 @@ AreLate story requests pending = (p : ℕ) → is_open_at requests p ≡ true �
 
 pub record Tied (b : Book) (t : Inner) : Type 0 where
   pub numbers : TiedNumbers b t
-  pub others : (m : ℕ) → m ≢ t.link → IsUnknown (b.link m)
+  pub others : AreAside t.link t.links b.link t.hears t.renewal.within b.created
   pub notices : TiedNotices (hearing_in b.config) t.hears (b.link t.link).hearing (b.link t.link).notices (b.link t.link).told (b.link t.link).end (b.link t.link).parted (b.link t.link).strange (is_reading (b.link t.link)) t.untold t.parting
   pub life : TiedLife (b.link t.link) b.created t.life
   pub creds : TiedCreds (b.link t.link).creds t.renewal.wanted t.life
@@ -658,7 +671,7 @@ numbers_kept b link story t life free requests waiting admitted fresh moved lett
   kind_is = h.kind_is;
   quiet = h.quiet;
   one = h.one;
-  only = h.only;
+  few_links = h.few_links;
 }
 
 -- requests move between those that wait for the connection, those that wait for a place, those whose wait isn't shown yet,
