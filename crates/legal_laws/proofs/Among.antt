@@ -65,7 +65,7 @@ takes_hears k count l turn shut h = h
 
 -- and with any line
 takes_keeps : (k count : ℕ) (l : Ledger) (x : Line) → TakesUpTo k count l → TakesUpTo k count (noted l x)
-takes_keeps k count l (asks info wanted hearing) h = record { started = h.started; takes = h.takes }
+takes_keeps k count l (asks info wanted hearing last) h = record { started = h.started; takes = h.takes }
 takes_keeps k count l (hears turn news) h = let m = takes_hears k count l turn news h in record { started = m.started; takes = m.takes }
 takes_keeps k count l (begins s) h = record {
   started = let i : k < length l.starts = h.started in let e = length_push l.starts s in omega arith;
@@ -207,7 +207,7 @@ dealt_hears count l turn shut i = i
 
 -- nor by any line
 dealt_keeps : (count : ℕ) (l : Ledger) (x : Line) → count ≤ length l.dealt → count ≤ length (noted l x).dealt
-dealt_keeps count l (asks info wanted hearing) i = i
+dealt_keeps count l (asks info wanted hearing last) i = i
 dealt_keeps count l (hears turn news) i = dealt_hears count l turn news i
 dealt_keeps count l (begins s) i = i
 dealt_keeps count l (offers bytes) i = i

@@ -357,11 +357,11 @@ accounts_kept b (action.Turn k (cause.Event e)) l c asked new may sound h =
       early = λ i. ap (λ (x : List Credentials). new ++ x) (unsaid b c e.kind may.is_for.2 i) ∙ (append-nil new ∙ h.early i);
     })
 accounts_kept b (action.Connect m host port) l c asked new may sound h = goes_on b (action.Connect m host port) l c asked new refl
-    (mine_keeps (HasOf asked c new) (m == l) (b.link l) (asks (info_in b.config) (wanted_in b.config) (hearing_in b.config))
+    (mine_keeps (HasOf asked c new) (m == l) (b.link l) (asks (info_in b.config) (wanted_in b.config) (hearing_in b.config) (is_last (settings_in b.config) b.attempt))
     (λ t.
     let same : m ≡ l = eq_from m l t in
     let next : m ≡ b.links = may.next in
-    connect_has (b.link l) c asked new true (sound.links.unasked l (omega (arith, same, next))).0 h.link (noted (b.link l) (asks (info_in b.config) (wanted_in b.config) (hearing_in b.config))) refl refl) h.link) h
+    connect_has (b.link l) c asked new true (sound.links.unasked l (omega (arith, same, next))).0 h.link (noted (b.link l) (asks (info_in b.config) (wanted_in b.config) (hearing_in b.config) (is_last (settings_in b.config) b.attempt))) refl refl) h.link) h
 accounts_kept b (action.Timer t ms what) l c asked new may sound h = goes_on b (action.Timer t ms what) l c asked new refl
     (mine_keeps (HasOf asked c new) (is_renewal_of l what) (b.link l) times (λ e. record { counted = h.link.counted; unasked = h.link.unasked; lives = h.link.lives; has = h.link.has }) h.link) h
 accounts_kept b (action.Took who m count) l c asked new may sound h = goes_on b (action.Took who m count) l c asked new refl h.link h

@@ -228,9 +228,9 @@ other_sorted l s other ready h = record {
 sorted_kept : (b : Book) (l : ℕ) (a : Action) → MayStand b a → Sound b → Sound (entered b a) → IsSorted (b.link l) → IsSorted ((entered b a).link l)
 sorted_kept b l (action.Turn k (cause.Opening config word)) may s after h = h
 sorted_kept b l (action.Turn k (cause.Event e)) may s after h = λ m. let x = news_sorted (b.link l) k (news_of b.timers b.sources l e.kind) (s.few l) (s.shaped l).are h m in record { first = x.first; undealt = x.undealt }
-sorted_kept b l (action.Connect m host port) may s after h = mine_keeps IsSorted (m == l) (b.link l) (asks (info_in b.config) (wanted_in b.config) (hearing_in b.config))
+sorted_kept b l (action.Connect m host port) may s after h = mine_keeps IsSorted (m == l) (b.link l) (asks (info_in b.config) (wanted_in b.config) (hearing_in b.config) (is_last (settings_in b.config) b.attempt))
     (λ t heard. let same : m ≡ l = eq_from m l t in let next : m ≡ b.links = may.next in
-    bare_sorted (noted (b.link l) (asks (info_in b.config) (wanted_in b.config) (hearing_in b.config))) (s.few l) ((s.shaped l).none (s.links.unasked l (omega (arith, same, next))).0)) h
+    bare_sorted (noted (b.link l) (asks (info_in b.config) (wanted_in b.config) (hearing_in b.config) (is_last (settings_in b.config) b.attempt))) (s.few l) ((s.shaped l).none (s.links.unasked l (omega (arith, same, next))).0)) h
 sorted_kept b l (action.Timer t ms what) may s after h = mine_keeps IsSorted (is_renewal_of l what) (b.link l) times (λ e m. sorted_alike (b.link l) (h m) _ refl refl (λ f. f)) h
 sorted_kept b l (action.Took who m count) may s after h = h
 sorted_kept b l (action.Push m info) may s after h = push_keeps IsSorted (m == l) info.kind (b.link l) (λ m. sorted_alike (b.link l) (h m) _ refl refl (λ f. f)) (λ m. sorted_alike (b.link l) (h m) _ refl refl (λ f. f)) h

@@ -77,7 +77,7 @@ dropped_kept b l (action.Turn k (cause.Event e)) may s h =
       messages = ap hears_messages (hears_past (b.link l) k news).hearing ∙ h.messages;
       gone = inl (over_hears (b.link l) k news over);
     }
-dropped_kept b l (action.Connect m host port) may s h = mine_keeps IsDropped (m == l) (b.link l) (asks (info_in b.config) (wanted_in b.config) (hearing_in b.config))
+dropped_kept b l (action.Connect m host port) may s h = mine_keeps IsDropped (m == l) (b.link l) (asks (info_in b.config) (wanted_in b.config) (hearing_in b.config) (is_last (settings_in b.config) b.attempt))
     (λ t. let same : m ≡ l = eq_from m l t in let next : m ≡ b.links = may.next in absurd (not_both (b.link l).asked (s.links.unasked l (omega (arith, same, next))).0 h.asked)) h
 dropped_kept b l (action.Timer t ms what) may s h = mine_keeps IsDropped (is_renewal_of l what) (b.link l) times (λ e. record { asked = h.asked; messages = h.messages; gone = h.gone }) h
 dropped_kept b l (action.Took who m count) may s h = h

@@ -207,7 +207,7 @@ turn_gives b k e l given = elim (hears_given (b.link l) k (news_of b.timers b.so
 gives_by : (b : Book) (a : Action) (l : ℕ) → GivenBy b a l
 gives_by b (action.Turn k (cause.Opening config word)) l e = inl (e, refl)
 gives_by b (action.Turn k (cause.Event event)) l e = turn_gives b k event l e
-gives_by b (action.Connect m host port) l e = inl (mine_keeps (WereGiven (b.link l)) (m == l) (b.link l) (asks (info_in b.config) (wanted_in b.config) (hearing_in b.config)) (λ t new. absurd (cc new)) (λ old. (old, refl)) e)
+gives_by b (action.Connect m host port) l e = inl (mine_keeps (WereGiven (b.link l)) (m == l) (b.link l) (asks (info_in b.config) (wanted_in b.config) (hearing_in b.config) (is_last (settings_in b.config) b.attempt)) (λ t new. absurd (cc new)) (λ old. (old, refl)) e)
 gives_by b (action.Timer t ms what) l e = inl (mine_keeps (WereGiven (b.link l)) (is_renewal_of l what) (b.link l) times (λ t old. (old, refl)) (λ old. (old, refl)) e)
 gives_by b (action.Took who m count) l e = inl (e, refl)
 gives_by b (action.Push m info) l e = inl (push_keeps (WereGiven (b.link l)) (m == l) info.kind (b.link l) (λ old. (old, refl)) (λ old. (old, refl)) (λ old. (old, refl)) e)
@@ -314,7 +314,7 @@ want_kept b (action.Turn k (cause.Opening config word)) may sound h l =
     let unasked : (b.link l).asked ≡ false = (sound.links.unasked l (omega arith)).0 in
     λ asked. absurd (not_both (b.link l).asked unasked asked)
 want_kept b (action.Turn k (cause.Event e)) may sound h l = turn_wanted (wanted_in b.config) (b.link l) k (news_of b.timers b.sources l e.kind) (h l)
-want_kept b (action.Connect m host port) may sound h l = mine_keeps (Wants (wanted_in b.config)) (m == l) (b.link l) (asks (info_in b.config) (wanted_in b.config) (hearing_in b.config)) (λ t asked. refl) (h l)
+want_kept b (action.Connect m host port) may sound h l = mine_keeps (Wants (wanted_in b.config)) (m == l) (b.link l) (asks (info_in b.config) (wanted_in b.config) (hearing_in b.config) (is_last (settings_in b.config) b.attempt)) (λ t asked. refl) (h l)
 want_kept b (action.Timer t ms what) may sound h l = mine_keeps (Wants (wanted_in b.config)) (is_renewal_of l what) (b.link l) times (λ t. h l) (h l)
 want_kept b (action.Took who m count) may sound h l = h l
 want_kept b (action.Push m info) may sound h l = push_keeps (Wants (wanted_in b.config)) (m == l) info.kind (b.link l) (h l) (h l) (h l)

@@ -110,7 +110,7 @@ rises_hears l turn shut h = h.rise
 
 -- and with any line
 rises_keeps : (l : Ledger) (x : Line) → InRow l → Rises (noted l x)
-rises_keeps l (asks info wanted hearing) h = h.rise
+rises_keeps l (asks info wanted hearing last) h = h.rise
 rises_keeps l (hears turn news) h = rises_hears l turn news h
 rises_keeps l (begins s) h = h.rise
 rises_keeps l (offers bytes) h = h.rise
@@ -176,7 +176,7 @@ beyond_hears count l turn shut h = h
 
 -- and with any line
 pub beyond_keeps : (count : ℕ) (l : Ledger) (x : Line) → IsBeyond count l → IsBeyond count (noted l x)
-beyond_keeps count l (asks info wanted hearing) h = record { dealt = h.dealt; waits = h.waits }
+beyond_keeps count l (asks info wanted hearing last) h = record { dealt = h.dealt; waits = h.waits }
 beyond_keeps count l (hears turn news) h = let k = beyond_hears count l turn news h in record { dealt = k.dealt; waits = k.waits }
 beyond_keeps count l (begins s) h = record { dealt = h.dealt; waits = h.waits }
 beyond_keeps count l (offers bytes) h = record { dealt = h.dealt; waits = h.waits }

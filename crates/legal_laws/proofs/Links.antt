@@ -107,7 +107,7 @@ timer_may b l t ms what (inr (inr may)) e = subst (λ j. MayNote (b.link j) time
 pub lines_may : (b : Book) (l : ℕ) (a : Action) → MayStand b a → Sound b → AllNoted (b.link l) (lines_of b l a)
 lines_may b l (action.Turn k (cause.Opening config word)) may h = tt
 lines_may b l (action.Turn k (cause.Event e)) may h = (within b l e.kind may.is_for.2 h, tt)
-lines_may b l (action.Connect m host port) may h = may_mine (m == l) (b.link l) (asks (info_in b.config) (wanted_in b.config) (hearing_in b.config)) (connects_new b l m may.next h)
+lines_may b l (action.Connect m host port) may h = may_mine (m == l) (b.link l) (asks (info_in b.config) (wanted_in b.config) (hearing_in b.config) (is_last (settings_in b.config) b.attempt)) (connects_new b l m may.next h)
 lines_may b l (action.Timer t ms what) may h = may_mine (is_renewal_of l what) (b.link l) times (timer_may b l t ms what may)
 lines_may b l (action.Took owner.Setup m count) may h = absurd may
 lines_may b l (action.Took owner.Auth m count) may h = absurd may

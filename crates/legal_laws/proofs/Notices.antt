@@ -140,7 +140,7 @@ step_tells b l (action.Message msg) may = current_told b l (notice.Message msg) 
 step_tells b l (action.Monitor v) may = current_told b l (notice.Monitor v) (action.Monitor v) refl refl may
 step_tells b l (action.Turn k (cause.Opening config word)) may = no_notice b l (action.Turn k (cause.Opening config word)) refl (same_notices (b.link l) (b.link l) refl refl)
 step_tells b l (action.Turn k (cause.Event e)) may = no_notice b l (action.Turn k (cause.Event e)) refl (hears_on (b.link l) k (news_of b.timers b.sources l e.kind))
-step_tells b l (action.Connect m host port) may = no_notice b l (action.Connect m host port) refl (mine_keeps (GoesOn (b.link l)) (m == l) (b.link l) (asks (info_in b.config) (wanted_in b.config) (hearing_in b.config)) (λ t. same_notices (b.link l) _ refl refl) (same_notices (b.link l) (b.link l) refl refl))
+step_tells b l (action.Connect m host port) may = no_notice b l (action.Connect m host port) refl (mine_keeps (GoesOn (b.link l)) (m == l) (b.link l) (asks (info_in b.config) (wanted_in b.config) (hearing_in b.config) (is_last (settings_in b.config) b.attempt)) (λ t. same_notices (b.link l) _ refl refl) (same_notices (b.link l) (b.link l) refl refl))
 step_tells b l (action.Timer t ms what) may = no_notice b l (action.Timer t ms what) refl (mine_keeps (GoesOn (b.link l)) (is_renewal_of l what) (b.link l) times (λ t. same_notices (b.link l) _ refl refl) (same_notices (b.link l) (b.link l) refl refl))
 step_tells b l (action.Took who m count) may = no_notice b l (action.Took who m count) refl (same_notices (b.link l) (b.link l) refl refl)
 step_tells b l (action.NeedCreds c m) may = no_notice b l (action.NeedCreds c m) refl (mine_keeps (GoesOn (b.link l)) (m == l) (b.link l) sources (λ t. same_notices (b.link l) _ refl refl) (same_notices (b.link l) (b.link l) refl refl))

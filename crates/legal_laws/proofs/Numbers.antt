@@ -88,7 +88,7 @@ unasked_kept b l (action.Turn k (cause.Event e)) may i h = unasked_hears (b.link
 unasked_kept b l (action.Connect m host port) may i h =
     let e : m ≡ b.links = may.next in
     let other : (m == l) ≡ false = ne_test m l (omega arith) in
-    mine_keeps IsUnasked (m == l) (b.link l) (asks (info_in b.config) (wanted_in b.config) (hearing_in b.config)) (λ t. absurd (not_both (m == l) other t)) h
+    mine_keeps IsUnasked (m == l) (b.link l) (asks (info_in b.config) (wanted_in b.config) (hearing_in b.config) (is_last (settings_in b.config) b.attempt)) (λ t. absurd (not_both (m == l) other t)) h
 unasked_kept b l (action.Timer t ms what) may i h = mine_keeps IsUnasked (is_renewal_of l what) (b.link l) times (λ t. h) h
 unasked_kept b l (action.Took who m count) may i h = h
 unasked_kept b l (action.Push m info) may i h = push_keeps IsUnasked (m == l) info.kind (b.link l) h h h
@@ -136,9 +136,9 @@ asked_kept b l (action.Turn k (cause.Opening config word)) may h i = asked_stays
 asked_kept b l (action.Turn k (cause.Event e)) may h i = asked_stays b l (action.Turn k (cause.Event e)) (h.asked l i)
 asked_kept b l (action.Connect m host port) may h i =
     let e : m ≡ b.links = may.next in
-    by_test (m == l) (IsAsked (noted_each (b.link l) (if_mine (m == l) (asks (info_in b.config) (wanted_in b.config) (hearing_in b.config)))))
-    (λ t. subst (λ (x : Bool). IsAsked (noted_each (b.link l) (if_mine x (asks (info_in b.config) (wanted_in b.config) (hearing_in b.config))))) (sym t) refl)
-    (λ f. let other : m ≢ l = ne_from m l f in mine_keeps IsAsked (m == l) (b.link l) (asks (info_in b.config) (wanted_in b.config) (hearing_in b.config)) (λ t. refl) (h.asked l (omega arith)))
+    by_test (m == l) (IsAsked (noted_each (b.link l) (if_mine (m == l) (asks (info_in b.config) (wanted_in b.config) (hearing_in b.config) (is_last (settings_in b.config) b.attempt)))))
+    (λ t. subst (λ (x : Bool). IsAsked (noted_each (b.link l) (if_mine x (asks (info_in b.config) (wanted_in b.config) (hearing_in b.config) (is_last (settings_in b.config) b.attempt))))) (sym t) refl)
+    (λ f. let other : m ≢ l = ne_from m l f in mine_keeps IsAsked (m == l) (b.link l) (asks (info_in b.config) (wanted_in b.config) (hearing_in b.config) (is_last (settings_in b.config) b.attempt)) (λ t. refl) (h.asked l (omega arith)))
 asked_kept b l (action.Timer t ms what) may h i = asked_stays b l (action.Timer t ms what) (h.asked l i)
 asked_kept b l (action.Took owner.Setup m count) may h i = absurd may
 asked_kept b l (action.Took owner.Auth m count) may h i = absurd may

@@ -108,7 +108,7 @@ still_stays l h =
 pub still_kept : (b : Book) (a : Action) → MayStand b a → StillAtFirst b.turns b.link → StillAtFirst (entered b a).turns (entered b a).link
 still_kept b (action.Turn k (cause.Opening config word)) may h = λ i. h (omega arith)
 still_kept b (action.Turn k (cause.Event e)) may h = λ i. let later : b.turns ≢ 0 = may.is_for.0 in absurd (omega arith)
-still_kept b (action.Connect m host port) may h = λ i l. mine_keeps IsStill (m == l) (b.link l) (asks (info_in b.config) (wanted_in b.config) (hearing_in b.config)) (λ t. record { down = (h i l).down; lives = (h i l).lives; untold = (h i l).untold; mute = (h i l).mute }) (h i l)
+still_kept b (action.Connect m host port) may h = λ i l. mine_keeps IsStill (m == l) (b.link l) (asks (info_in b.config) (wanted_in b.config) (hearing_in b.config) (is_last (settings_in b.config) b.attempt)) (λ t. record { down = (h i l).down; lives = (h i l).lives; untold = (h i l).untold; mute = (h i l).mute }) (h i l)
 still_kept b (action.Timer t ms what) may h = λ i l. mine_keeps IsStill (is_renewal_of l what) (b.link l) times (λ t. record { down = (h i l).down; lives = (h i l).lives; untold = (h i l).untold; mute = (h i l).mute }) (h i l)
 still_kept b (action.Took owner.Setup l count) may h = absurd may
 still_kept b (action.Took owner.Auth l count) may h = absurd may

@@ -81,7 +81,7 @@ WasParted l = l.parted ≡ true
 
 -- so it stays
 parted_keeps : (l : Ledger) (x : Line) → WasParted l → WasParted (noted l x)
-parted_keeps l (asks info wanted hearing) h = h
+parted_keeps l (asks info wanted hearing last) h = h
 parted_keeps l (hears turn news) h = hears_parted l turn news ∙ h
 parted_keeps l (begins s) h = h
 parted_keeps l (offers bytes) h = h
@@ -110,7 +110,7 @@ parted_by b l (action.Push m info) not_yet then_is =
     (λ e. absurd (not_both (b.link l).parted not_yet e)) then_is
 parted_by b l (action.Turn k (cause.Opening config word)) not_yet then_is = absurd (not_both (b.link l).parted not_yet then_is)
 parted_by b l (action.Turn k (cause.Event e)) not_yet then_is = absurd (not_both (b.link l).parted not_yet (sym (hears_parted (b.link l) k (news_of b.timers b.sources l e.kind)) ∙ then_is))
-parted_by b l (action.Connect m host port) not_yet then_is = absurd (not_both (b.link l).parted not_yet (mine_keeps (λ (x : Ledger). WasParted x → WasParted (b.link l)) (m == l) (b.link l) (asks (info_in b.config) (wanted_in b.config) (hearing_in b.config)) (λ t e. e) (λ e. e) then_is))
+parted_by b l (action.Connect m host port) not_yet then_is = absurd (not_both (b.link l).parted not_yet (mine_keeps (λ (x : Ledger). WasParted x → WasParted (b.link l)) (m == l) (b.link l) (asks (info_in b.config) (wanted_in b.config) (hearing_in b.config) (is_last (settings_in b.config) b.attempt)) (λ t e. e) (λ e. e) then_is))
 parted_by b l (action.Timer t ms what) not_yet then_is = absurd (not_both (b.link l).parted not_yet (mine_keeps (λ (x : Ledger). WasParted x → WasParted (b.link l)) (is_renewal_of l what) (b.link l) times (λ t e. e) (λ e. e) then_is))
 parted_by b l (action.Took who m count) not_yet then_is = absurd (not_both (b.link l).parted not_yet then_is)
 parted_by b l (action.NeedCreds c m) not_yet then_is = absurd (not_both (b.link l).parted not_yet (mine_keeps (λ (x : Ledger). WasParted x → WasParted (b.link l)) (m == l) (b.link l) sources (λ t e. e) (λ e. e) then_is))
@@ -161,7 +161,7 @@ cut_by b l (action.Message msg) not_yet then_is = absurd (not_both (is_cut (b.li
 cut_by b l (action.Monitor v) not_yet then_is = absurd (not_both (is_cut (b.link l).end) not_yet (tell_keeps (λ (x : Ledger). IsCut x → IsCut (b.link l)) (current b == l) (b.link l) (λ e. e) (λ e. e) then_is))
 cut_by b l (action.Turn k (cause.Opening config word)) not_yet then_is = absurd (not_both (is_cut (b.link l).end) not_yet then_is)
 cut_by b l (action.Turn k (cause.Event e)) not_yet then_is = absurd (not_both (is_cut (b.link l).end) not_yet (hears_cut (b.link l) k (news_of b.timers b.sources l e.kind) then_is))
-cut_by b l (action.Connect m host port) not_yet then_is = absurd (not_both (is_cut (b.link l).end) not_yet (mine_keeps (λ (x : Ledger). IsCut x → IsCut (b.link l)) (m == l) (b.link l) (asks (info_in b.config) (wanted_in b.config) (hearing_in b.config)) (λ t e. e) (λ e. e) then_is))
+cut_by b l (action.Connect m host port) not_yet then_is = absurd (not_both (is_cut (b.link l).end) not_yet (mine_keeps (λ (x : Ledger). IsCut x → IsCut (b.link l)) (m == l) (b.link l) (asks (info_in b.config) (wanted_in b.config) (hearing_in b.config) (is_last (settings_in b.config) b.attempt)) (λ t e. e) (λ e. e) then_is))
 cut_by b l (action.Timer t ms what) not_yet then_is = absurd (not_both (is_cut (b.link l).end) not_yet (mine_keeps (λ (x : Ledger). IsCut x → IsCut (b.link l)) (is_renewal_of l what) (b.link l) times (λ t e. e) (λ e. e) then_is))
 cut_by b l (action.Took who m count) not_yet then_is = absurd (not_both (is_cut (b.link l).end) not_yet then_is)
 cut_by b l (action.Write m bytes) not_yet then_is = absurd (not_both (is_cut (b.link l).end) not_yet (mine_keeps (λ (x : Ledger). IsCut x → IsCut (b.link l)) (m == l) (b.link l) (offers bytes) (λ t e. e) (λ e. e) then_is))
@@ -263,7 +263,7 @@ hears_set l turn shut up h = h
 set_kept : (b : Book) (l : ℕ) (a : Action) → MayStand b a → Sound b → CutIsSet (b.link l) → CutIsSet ((entered b a).link l)
 set_kept b l (action.Turn k (cause.Opening config word)) may s h = h
 set_kept b l (action.Turn k (cause.Event e)) may s h = hears_set (b.link l) k (news_of b.timers b.sources l e.kind) (s.up l) h
-set_kept b l (action.Connect m host port) may s h = mine_keeps CutIsSet (m == l) (b.link l) (asks (info_in b.config) (wanted_in b.config) (hearing_in b.config))
+set_kept b l (action.Connect m host port) may s h = mine_keeps CutIsSet (m == l) (b.link l) (asks (info_in b.config) (wanted_in b.config) (hearing_in b.config) (is_last (settings_in b.config) b.attempt))
     (λ t cut. let e : m ≡ l = eq_from m l t in let next : m ≡ b.links = may.next in absurd (lives_uncut (b.link l) (s.links.unasked l (omega (arith, e, next))).2 cut)) h
 set_kept b l (action.Timer t ms what) may s h = mine_keeps CutIsSet (is_renewal_of l what) (b.link l) times (λ t. h) h
 set_kept b l (action.Took owner.Setup m count) may s h = absurd may
@@ -330,7 +330,7 @@ end_hears end l turn shut h = h
 
 -- nor any line that may stand
 end_noted : (end : End) (l : Ledger) (x : Line) → MayNote l x → UpIsNotOver l → EndedAs end l → EndedAs end (noted l x)
-end_noted end l (asks info wanted hearing) may up h = h
+end_noted end l (asks info wanted hearing last) may up h = h
 end_noted end l (hears turn news) may up h = end_hears end l turn news h
 end_noted end l (begins s) may up h = h
 end_noted end l (offers bytes) may up h = h

@@ -158,7 +158,7 @@ failed_hears e l turn shut h = h
 
 -- with any line that may stand
 failed_noted : (e : RedisError) (l : Ledger) (x : Line) → MayNote l x → UpIsNotOver l → FailedWith e l → FailedWith e (noted l x)
-failed_noted e l (asks info wanted hearing) may up h = h
+failed_noted e l (asks info wanted hearing last) may up h = h
 failed_noted e l (hears turn news) may up h = failed_hears e l turn news h
 failed_noted e l (begins s) may up h = h
 failed_noted e l (offers bytes) may up h = h

@@ -161,11 +161,11 @@ renew_told l c due h = subst (λ o. TellsWell (noted l (begins (renewal_in o))))
 told_kept : (b : Book) (a : Action) (l : ℕ) → MayStand b a → Sound b → TellsWell (b.link l) → TellsWell ((entered b a).link l)
 told_kept b (action.Turn k (cause.Opening config word)) l may sound h = h
 told_kept b (action.Turn k (cause.Event e)) l may sound h = hears_told (b.link l) k (news_of b.timers b.sources l e.kind) h
-told_kept b (action.Connect m host port) l may sound h = mine_keeps TellsWell (m == l) (b.link l) (asks (info_in b.config) (wanted_in b.config) (hearing_in b.config))
+told_kept b (action.Connect m host port) l may sound h = mine_keeps TellsWell (m == l) (b.link l) (asks (info_in b.config) (wanted_in b.config) (hearing_in b.config) (is_last (settings_in b.config) b.attempt))
     (λ t.
     let same : m ≡ l = eq_from m l t in
     let next : m ≡ b.links = may.next in
-    none_told (noted (b.link l) (asks (info_in b.config) (wanted_in b.config) (hearing_in b.config))) ((sound.shaped l).none (sound.links.unasked l (omega (arith, same, next))).0)) h
+    none_told (noted (b.link l) (asks (info_in b.config) (wanted_in b.config) (hearing_in b.config) (is_last (settings_in b.config) b.attempt))) ((sound.shaped l).none (sound.links.unasked l (omega (arith, same, next))).0)) h
 told_kept b (action.Timer t ms what) l may sound h = mine_keeps TellsWell (is_renewal_of l what) (b.link l) times (λ e. same_told (b.link l) (noted (b.link l) times) refl refl refl h) h
 told_kept b (action.Took who m count) l may sound h = h
 told_kept b (action.Push m info) l may sound h = push_keeps TellsWell (m == l) info.kind (b.link l) (same_told (b.link l) _ refl refl refl h) (same_told (b.link l) _ refl refl refl h) h

@@ -117,7 +117,7 @@ news_done ds l turn shut are h = h
 done_kept : (b : Book) (l : ℕ) (ds : List Data) (a : Action) → MayStand b a → Sound b → IsDone ds (b.link l) → IsDone ds ((entered b a).link l)
 done_kept b l ds (action.Turn k (cause.Opening config word)) may s h = h
 done_kept b l ds (action.Turn k (cause.Event e)) may s h = let m = news_done ds (b.link l) k (news_of b.timers b.sources l e.kind) (s.shaped l).are h in record { asked = m.asked; watching = m.watching; ready = m.ready; dealt = m.dealt }
-done_kept b l ds (action.Connect m host port) may s h = mine_keeps (IsDone ds) (m == l) (b.link l) (asks (info_in b.config) (wanted_in b.config) (hearing_in b.config))
+done_kept b l ds (action.Connect m host port) may s h = mine_keeps (IsDone ds) (m == l) (b.link l) (asks (info_in b.config) (wanted_in b.config) (hearing_in b.config) (is_last (settings_in b.config) b.attempt))
     (λ t. let same : m ≡ l = eq_from m l t in let next : m ≡ b.links = may.next in absurd (not_both (b.link l).asked (s.links.unasked l (omega (arith, same, next))).0 h.asked)) h
 done_kept b l ds (action.Timer t ms what) may s h = mine_keeps (IsDone ds) (is_renewal_of l what) (b.link l) times (λ e. record { asked = h.asked; watching = h.watching; ready = h.ready; dealt = h.dealt }) h
 done_kept b l ds (action.Took who m count) may s h = h

@@ -79,7 +79,7 @@ hears_shaped : (l : Ledger) (turn : ℕ) (news : News) → IsShaped l → IsShap
 hears_shaped l turn news h = let m = news_shaped l turn news h in record { none = m.none; are = m.are; bare = m.bare; ready = m.ready; second = m.second; came = m.came }
 
 -- with the connect of a link that was not asked for
-asks_shaped : (l : Ledger) (info : RedisConnectionInfo) (wanted : Bool) (hearing : Hearing) → l.asked ≡ false → IsShaped l → IsShaped (noted l (asks info wanted hearing))
+asks_shaped : (l : Ledger) (info : RedisConnectionInfo) (wanted : Bool) (hearing : Hearing) → l.asked ≡ false → IsShaped l → IsShaped (noted l (asks info wanted hearing last))
 asks_shaped l info wanted hearing unasked h = record {
   none = λ f. cc f;
   are = subst (SetupsOf info) (sym (h.none unasked)) (λ k s i. absurd (omega (arith, i)));
@@ -134,7 +134,7 @@ begins_shaped l s other asked given h = record {
 pub shaped_kept : (b : Book) (a : Action) (l : ℕ) → MayStand b a → HasLinks b → IsShaped (b.link l) → IsShaped ((entered b a).link l)
 shaped_kept b (action.Turn k (cause.Opening config word)) l may links h = h
 shaped_kept b (action.Turn k (cause.Event e)) l may links h = hears_shaped (b.link l) k (news_of b.timers b.sources l e.kind) h
-shaped_kept b (action.Connect m host port) l may links h = mine_keeps IsShaped (m == l) (b.link l) (asks (info_in b.config) (wanted_in b.config) (hearing_in b.config))
+shaped_kept b (action.Connect m host port) l may links h = mine_keeps IsShaped (m == l) (b.link l) (asks (info_in b.config) (wanted_in b.config) (hearing_in b.config) (is_last (settings_in b.config) b.attempt))
     (λ t. let same : m ≡ l = eq_from m l t in let next : m ≡ b.links = may.next in asks_shaped (b.link l) (info_in b.config) (wanted_in b.config) (hearing_in b.config) (links.unasked l (omega (arith, same, next))).0 h) h
 shaped_kept b (action.Timer t ms what) l may links h = mine_keeps IsShaped (is_renewal_of l what) (b.link l) times (λ t. record { none = h.none; are = h.are; bare = h.bare; ready = h.ready; second = h.second; came = h.came }) h
 shaped_kept b (action.Took owner.Setup m count) l may links h = absurd may

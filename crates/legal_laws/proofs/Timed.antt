@@ -121,11 +121,11 @@ timers_kept b (action.Turn k (cause.Event e)) l count may sound h =
     let news : News = news_of b.timers b.sources l e.kind in
     no_more count (noted (b.link l) (hears k news)) (same_timers count (with_news (b.link l) k news) (noted (b.link l) (hears k news)) refl refl (news_timers count (b.link l) k news h))
 timers_kept b (action.Connect m host port) l count may sound h = no_more count _
-    (mine_keeps (HasTimers count) (m == l) (b.link l) (asks (info_in b.config) (wanted_in b.config) (hearing_in b.config))
+    (mine_keeps (HasTimers count) (m == l) (b.link l) (asks (info_in b.config) (wanted_in b.config) (hearing_in b.config) (is_last (settings_in b.config) b.attempt))
     (λ t.
     let same : m ≡ l = eq_from m l t in
     let next : m ≡ b.links = may.next in
-    connect_timers count (b.link l) (noted (b.link l) (asks (info_in b.config) (wanted_in b.config) (hearing_in b.config))) (sound.links.unasked l (omega (arith, same, next))).0 refl h) h)
+    connect_timers count (b.link l) (noted (b.link l) (asks (info_in b.config) (wanted_in b.config) (hearing_in b.config) (is_last (settings_in b.config) b.attempt))) (sound.links.unasked l (omega (arith, same, next))).0 refl h) h)
 timers_kept b (action.Timer t ms (purpose.Connect m)) l count may sound h = no_more count (b.link l) h
 timers_kept b (action.Timer t ms (purpose.Response who)) l count may sound h = no_more count (b.link l) h
 timers_kept b (action.Timer t ms (purpose.Backoff g)) l count may sound h = no_more count (b.link l) h

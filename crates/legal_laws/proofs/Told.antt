@@ -78,7 +78,7 @@ waits_kept b (action.Turn k (cause.Opening config word)) may still h = λ l hear
     let none : b.turns ≡ 0 = may.is_for in
     absurd (not_none (next_notice (b.link l)) p (ap (λ (hs : List Heard). slice_get hs (b.link l).told) (still (omega (arith, none)) l).mute) next)
 waits_kept b (action.Turn k (cause.Event e)) may still h = λ l heard. waits_hears (b.link l) k (news_of b.timers b.sources l e.kind) (h l heard)
-waits_kept b (action.Connect m host port) may still h = λ l heard. mine_keeps Waits (m == l) (b.link l) (asks (info_in b.config) (wanted_in b.config) (hearing_in b.config)) (λ t. h l heard) (h l heard)
+waits_kept b (action.Connect m host port) may still h = λ l heard. mine_keeps Waits (m == l) (b.link l) (asks (info_in b.config) (wanted_in b.config) (hearing_in b.config) (is_last (settings_in b.config) b.attempt)) (λ t. h l heard) (h l heard)
 waits_kept b (action.Timer t ms what) may still h = λ l heard. mine_keeps Waits (is_renewal_of l what) (b.link l) times (λ t. h l heard) (h l heard)
 waits_kept b (action.Took owner.Setup m count) may still h = absurd may
 waits_kept b (action.Took owner.Auth m count) may still h = absurd may

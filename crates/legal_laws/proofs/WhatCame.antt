@@ -77,7 +77,7 @@ hears_well : (wanted : Hearing) (l : Ledger) (turn : ℕ) (news : News) (vs : Li
 hears_well wanted l turn news vs down h = let m = news_well wanted l turn news vs down h in record { says = m.says; hears = m.hears; none = m.none }
 
 -- with the connect of a link that was not asked for
-asks_well : (b : Book) (l : Ledger) (vs : List Data) → l.asked ≡ false → HeardWell (hearing_in b.config) l vs → HeardWell (hearing_in b.config) (noted l (asks (info_in b.config) (wanted_in b.config) (hearing_in b.config))) (vs ++ [])
+asks_well : (b : Book) (l : Ledger) (vs : List Data) → l.asked ≡ false → HeardWell (hearing_in b.config) l vs → HeardWell (hearing_in b.config) (noted l (asks (info_in b.config) (wanted_in b.config) (hearing_in b.config) (is_last (settings_in b.config) b.attempt))) (vs ++ [])
 asks_well b l vs unasked h =
     let nothing : vs ≡ [] = h.none unasked in
     record {
@@ -101,7 +101,7 @@ step_well b l vs (action.Turn k (cause.Opening config word)) may s h =
       none = λ e. append-nil vs ∙ h.none e;
     }
 step_well b l vs (action.Turn k (cause.Event e)) may s h = hears_well (hearing_in b.config) (b.link l) k (news_of b.timers b.sources l e.kind) vs (unasked_is_down b l s.links) h
-step_well b l vs (action.Connect m host port) may s h = mine_keeps (λ x. HeardWell (hearing_in b.config) x (vs ++ [])) (m == l) (b.link l) (asks (info_in b.config) (wanted_in b.config) (hearing_in b.config))
+step_well b l vs (action.Connect m host port) may s h = mine_keeps (λ x. HeardWell (hearing_in b.config) x (vs ++ [])) (m == l) (b.link l) (asks (info_in b.config) (wanted_in b.config) (hearing_in b.config) (is_last (settings_in b.config) b.attempt))
     (λ t. let same : m ≡ l = eq_from m l t in let next : m ≡ b.links = may.next in asks_well b (b.link l) vs (s.links.unasked l (omega (arith, same, next))).0 h) (same_heard (hearing_in b.config) (b.link l) (b.link l) vs refl refl refl h)
 step_well b l vs (action.Timer t ms what) may s h = mine_keeps (λ x. HeardWell (hearing_in b.config) x (vs ++ [])) (is_renewal_of l what) (b.link l) times (λ e. same_heard (hearing_in b.config) (b.link l) _ vs refl refl refl h) (same_heard (hearing_in b.config) (b.link l) (b.link l) vs refl refl refl h)
 step_well b l vs (action.Took who m count) may s h = same_heard (hearing_in b.config) (b.link l) (b.link l) vs refl refl refl h

@@ -73,7 +73,7 @@ up_hears l turn shut h = h
 
 -- nor does any line
 pub up_keeps : (l : Ledger) (x : Line) → UpIsNotOver l → UpIsNotOver (noted l x)
-up_keeps l (asks info wanted hearing) h = h
+up_keeps l (asks info wanted hearing last) h = h
 up_keeps l (hears turn news) h = up_hears l turn news h
 up_keeps l (begins s) h = h
 up_keeps l (offers bytes) h = h
@@ -119,7 +119,7 @@ hears_past l turn shut = same_past l
 
 -- each line leaves it so
 pub asked_keeps : (l : Ledger) (x : Line) → IsAsked l → IsAsked (noted l x)
-asked_keeps l (asks info wanted hearing) h = refl
+asked_keeps l (asks info wanted hearing last) h = refl
 asked_keeps l (hears turn news) h = subst (λ (b : Bool). b ≡ true) (sym (hears_past l turn news).asked) h
 asked_keeps l (begins s) h = h
 asked_keeps l (offers bytes) h = h
@@ -135,7 +135,7 @@ HasStarted k l = k < length l.starts
 
 -- each line leaves these
 pub started_keeps : (k : ℕ) (l : Ledger) (x : Line) → HasStarted k l → HasStarted k (noted l x)
-started_keeps k l (asks info wanted hearing) h = h
+started_keeps k l (asks info wanted hearing last) h = h
 started_keeps k l (hears turn news) h = subst (λ (ss : List Start). k < length ss) (sym (hears_past l turn news).starts) h
 started_keeps k l (begins s) h = let e : length (l.starts ++ s ∷ []) ≡ length l.starts + 1 = length-append l.starts (s ∷ []) in omega arith
 started_keeps k l (offers bytes) h = h
@@ -240,7 +240,7 @@ few_hears l turn shut h = h
 
 -- and with any line
 pub few_keeps : (l : Ledger) (x : Line) → FewAreDealt l → FewAreDealt (noted l x)
-few_keeps l (asks info wanted hearing) h = h
+few_keeps l (asks info wanted hearing last) h = h
 few_keeps l (hears turn news) h = few_hears l turn news h
 few_keeps l (begins s) h = let e : reach (l.starts ++ s ∷ []) l.dealt ≡ reach l.starts l.dealt + need_of s.shape = reach_more l.starts s l.dealt in omega arith
 few_keeps l (offers bytes) h = h

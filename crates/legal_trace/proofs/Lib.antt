@@ -1,6 +1,7 @@
 pub mod Plain
 pub mod Came
 pub mod Ledgers
+pub mod Managers
 pub mod Books
 pub mod Moves
 pub mod Monitors

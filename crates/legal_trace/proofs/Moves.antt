@@ -13,7 +13,7 @@ use Rattle.legal_trace.specs.Ledger.{Ledger, dials, is_ready, is_set_up, lacks_c
 use Rattle.legal_trace.specs.Story.{Story, has_place, is_room, is_open, is_told, is_awaited, is_unstarted, shape}
 use Rattle.legal_trace.specs.Story.{waits as shown}
 use Rattle.legal_trace.specs.Book.{Book}
-use Rattle.legal_trace.specs.Steps.{Step, waits, takes, asks, tells, starts, nothing, is_due, configured, is_held, is_held_back, renewals_in_line, permits_in, permits_on, permits_held, free_permits, is_let_in, is_in_line, line_before, is_outside, unready_wait, queue_size, starts_or_waits, step_placed, step_timed, step_taking, step_holding, step_open, step_ready, next_step}
+use Rattle.legal_trace.specs.Steps.{Step, waits, takes, asks, tells, starts, nothing, is_due, configured, is_held, is_held_back, renewals_in_line, permits_in, permits_on, permits_held, free_permits, is_let_in, is_in_line, line_before, is_outside, unready_wait, queue_size, starts_or_waits, step_placed, step_timed, step_taking, step_holding, step_open, step_ready, step_down, next_step}
 use Rattle.legal_trace.specs.Legal.{MayTell, MayStart, MayTime, MayTake, CanMove, link_of}
 
 -- one of two holds
@@ -41,7 +41,7 @@ step_of config s line held l =
     else if l.up then (if is_set_up l then step_open (is_told s) (is_held (configured boundary config) l)
     (step_holding (permits_in config) s.permits (λ limit. step_taking (limit - held) (permits_for (shape s) limit))
     (step_timed s.timeout s.clock (step_placed (is_outside_of config s line l) (is_awaited s) (is_held (configured boundary config) l)))) else waits (unready_wait l))
-    else nothing
+    else step_down l.asked
 
 -- where the same stand in line, as many do
 pub line_alike : (limit : Option ℕ) (story other : ℕ → Story) → ((l k : ℕ) → is_in_line limit l (story k) ≡ is_in_line limit l (other k)) → (l n : ℕ) → line_before limit story l n ≡ line_before limit other l n
@@ -59,15 +59,16 @@ abbrev pub up_step : Book → ℕ → Step
 up_step b n = step_ready b n (b.story n)
 
 -- a step that is due is made on a link that is up, and set up
-due_ready : (dialing up set : Bool) (unready : WaitKind) (step : Step) → is_due (if dialing then waits wait.Connect else if up then (if set then step else waits unready) else nothing) ≡ true → (up && set) ≡ true
-due_ready true up set unready step e = cc
-due_ready false true true unready step e = refl
-due_ready false true false unready step e = cc
-due_ready false false set unready step e = cc
+due_ready : (dialing up set asked : Bool) (unready : WaitKind) (step : Step) → is_due (if dialing then waits wait.Connect else if up then (if set then step else waits unready) else step_down asked) ≡ true → (up && set) ≡ true
+due_ready true up set asked unready step e = cc
+due_ready false true true asked unready step e = refl
+due_ready false true false asked unready step e = cc
+due_ready false false set true unready step e = cc
+due_ready false false set false unready step e = cc
 
 -- so the link of who makes a step is ready
 pub mover_is_ready : (b : Book) (n : ℕ) → CanMove b n → is_ready (link_of b n) ≡ true
-mover_is_ready b n moves = due_ready (dials (link_of b n)) (link_of b n).up (is_set_up (link_of b n)) (unready_wait (link_of b n)) (up_step b n) moves.due
+mover_is_ready b n moves = due_ready (dials (link_of b n)) (link_of b n).up (is_set_up (link_of b n)) (link_of b n).asked (unready_wait (link_of b n)) (up_step b n) moves.due
 
 -- a link that is ready is up
 pub ready_is_up : (l : Ledger) → is_ready l ≡ true → l.up ≡ true
@@ -101,26 +102,28 @@ taker_moves b n l count may = record { unstarted = may.unstarted; due = ap is_du
 pub asker_moves : (b : Book) (t ms : ℕ) (what : Purpose) (may : MayTime b t ms what) → CanMove b may.n
 asker_moves b t ms what may = record { unstarted = may.unstarted; due = ap is_due may.asks }
 
--- who waits, waits for the connect, or on a link that is up
-waits_up : (dialing up set : Bool) (unready : WaitKind) (step : Step) (kind : WaitKind) → (if dialing then waits wait.Connect else if up then (if set then step else waits unready) else nothing) ≡ waits kind → (dialing ≡ true) ⊎ (up ≡ true)
-waits_up true up set unready step kind e = inl refl
-waits_up false true set unready step kind e = inr refl
-waits_up false false set unready step kind e = cc
+-- who waits, waits for the connect, or on a link that is up, or until it is asked for
+waits_up : (dialing up set asked : Bool) (unready : WaitKind) (step : Step) (kind : WaitKind) → (if dialing then waits wait.Connect else if up then (if set then step else waits unready) else step_down asked) ≡ waits kind → (dialing ≡ true) ⊎ ((up ≡ true) ⊎ (asked ≡ false))
+waits_up true up set asked unready step kind e = inl refl
+waits_up false true set asked unready step kind e = inr (inl refl)
+waits_up false false set true unready step kind e = absurd (cc e)
+waits_up false false set false unready step kind e = inr (inr refl)
 
--- so the link of who waits isn't answered, or is up
-pub waits_on_a_link : (b : Book) (n : ℕ) (kind : WaitKind) → next_step b n ≡ waits kind → (dials (link_of b n) ≡ true) ⊎ ((link_of b n).up ≡ true)
-waits_on_a_link b n kind e = waits_up (dials (link_of b n)) (link_of b n).up (is_set_up (link_of b n)) (unready_wait (link_of b n)) (up_step b n) kind e
+-- so the link of who waits isn't answered, or is up, or isn't asked for
+pub waits_on_a_link : (b : Book) (n : ℕ) (kind : WaitKind) → next_step b n ≡ waits kind → (dials (link_of b n) ≡ true) ⊎ (((link_of b n).up ≡ true) ⊎ ((link_of b n).asked ≡ false))
+waits_on_a_link b n kind e = waits_up (dials (link_of b n)) (link_of b n).up (is_set_up (link_of b n)) (link_of b n).asked (unready_wait (link_of b n)) (up_step b n) kind e
 
 -- one kind of wait is true at a time
 pub same_kind : (s : Step) (kind other : WaitKind) → s ≡ waits kind → s ≡ waits other → kind ≡ other
 same_kind s kind other e f = cc
 
 -- a step that is no wait is made on a link that is ready
-ready_of : (dialing up set : Bool) (unready : WaitKind) (step s : Step) → is_due s ≡ true → (if dialing then waits wait.Connect else if up then (if set then step else waits unready) else nothing) ≡ s → (dialing ≡ false) × ((up && set) ≡ true) × (step ≡ s)
-ready_of true up set unready step s due e = absurd (let x : false ≡ true = ap is_due e ∙ due in cc x)
-ready_of false true true unready step s due e = (refl, refl, e)
-ready_of false true false unready step s due e = absurd (let x : false ≡ true = ap is_due e ∙ due in cc x)
-ready_of false false set unready step s due e = absurd (let x : false ≡ true = ap is_due e ∙ due in cc x)
+ready_of : (dialing up set asked : Bool) (unready : WaitKind) (step s : Step) → is_due s ≡ true → (if dialing then waits wait.Connect else if up then (if set then step else waits unready) else step_down asked) ≡ s → (dialing ≡ false) × ((up && set) ≡ true) × (step ≡ s)
+ready_of true up set asked unready step s due e = absurd (let x : false ≡ true = ap is_due e ∙ due in cc x)
+ready_of false true true asked unready step s due e = (refl, refl, e)
+ready_of false true false asked unready step s due e = absurd (let x : false ≡ true = ap is_due e ∙ due in cc x)
+ready_of false false set true unready step s due e = absurd (let x : false ≡ true = ap is_due e ∙ due in cc x)
+ready_of false false set false unready step s due e = absurd (let x : false ≡ true = ap is_due e ∙ due in cc x)
 
 -- what is less is tested so
 pub lt_test : (a b : ℕ) → a < b → nat_lt a b ≡ true
@@ -220,7 +223,7 @@ pub starts_mean : (b : Book) (n : ℕ) → next_step b n ≡ starts
     → (dials (link_of b n) ≡ false) × (is_ready (link_of b n) ≡ true) × (is_held_back b (link_of b n) ≡ false)
     × ((is_told (b.story n) ≡ true) ⊎ ((is_let_in (permits_in b.config) (b.story n) ≡ true) × (is_outside b n ≡ false)))
 starts_mean b n e =
-    let r = ready_of (dials (link_of b n)) (link_of b n).up (is_set_up (link_of b n)) (unready_wait (link_of b n)) (up_step b n) starts refl e in
+    let r = ready_of (dials (link_of b n)) (link_of b n).up (is_set_up (link_of b n)) (link_of b n).asked (unready_wait (link_of b n)) (up_step b n) starts refl e in
     elim (open_next (is_told (b.story n)) (is_held_back b (link_of b n)) (untold_step b n) starts r.2) [
       | inl told ↦ (r.0, r.1, told_starts (is_held_back b (link_of b n)) told.1, inl told.0)
       | inr not_told ↦
@@ -233,7 +236,7 @@ starts_mean b n e =
 pub tells_mean : (b : Book) (n : ℕ) → next_step b n ≡ tells
     → (dials (link_of b n) ≡ false) × (is_ready (link_of b n) ≡ true) × (is_let_in (permits_in b.config) (b.story n) ≡ true) × (is_outside b n ≡ false) × (is_awaited (b.story n) ≡ false)
 tells_mean b n e =
-    let r = ready_of (dials (link_of b n)) (link_of b n).up (is_set_up (link_of b n)) (unready_wait (link_of b n)) (up_step b n) tells refl e in
+    let r = ready_of (dials (link_of b n)) (link_of b n).up (is_set_up (link_of b n)) (link_of b n).asked (unready_wait (link_of b n)) (up_step b n) tells refl e in
     elim (open_next (is_told (b.story n)) (is_held_back b (link_of b n)) (untold_step b n) tells r.2) [
       | inl told ↦ absurd (told_tells (is_held_back b (link_of b n)) told.1)
       | inr not_told ↦
@@ -280,7 +283,7 @@ pub takes_mean : (b : Book) (n count : ℕ) → next_step b n ≡ takes count
     → (dials (link_of b n) ≡ false) × (is_ready (link_of b n) ≡ true)
     × ((limit : ℕ) × (permits_in b.config ≡ Some limit) × ((b.story n).permits ≡ 0) × (count ≤ free_permits b (b.story n).link limit) × (0 < free_permits b (b.story n).link limit))
 takes_mean b n count e =
-    let r = ready_of (dials (link_of b n)) (link_of b n).up (is_set_up (link_of b n)) (unready_wait (link_of b n)) (up_step b n) (takes count) refl e in
+    let r = ready_of (dials (link_of b n)) (link_of b n).up (is_set_up (link_of b n)) (link_of b n).asked (unready_wait (link_of b n)) (up_step b n) (takes count) refl e in
     elim (open_next (is_told (b.story n)) (is_held_back b (link_of b n)) (untold_step b n) (takes count) r.2) [
       | inl told ↦ absurd (told_takes (is_held_back b (link_of b n)) count told.1)
       | inr not_told ↦ (r.0, r.1, holding_takes (permits_in b.config) (b.story n).permits (free_permits b (b.story n).link) (permits_for (shape (b.story n))) (b.story n).timeout (b.story n).clock (is_outside b n) (is_awaited (b.story n)) (is_held_back b (link_of b n)) count not_told.1)
@@ -301,7 +304,7 @@ timed_asks (Some time) (Some t) outside awaited held ms e = absurd (placed_asks 
 pub asks_mean : (b : Book) (n ms : ℕ) → next_step b n ≡ asks ms
     → (holds_some (permits_in b.config) (b.story n).permits ≡ true) × ((b.story n).timeout ≡ Some ms) × ((b.story n).clock ≡ None)
 asks_mean b n ms e =
-    let r = ready_of (dials (link_of b n)) (link_of b n).up (is_set_up (link_of b n)) (unready_wait (link_of b n)) (up_step b n) (asks ms) refl e in
+    let r = ready_of (dials (link_of b n)) (link_of b n).up (is_set_up (link_of b n)) (link_of b n).asked (unready_wait (link_of b n)) (up_step b n) (asks ms) refl e in
     elim (open_next (is_told (b.story n)) (is_held_back b (link_of b n)) (untold_step b n) (asks ms) r.2) [
       | inl told ↦ absurd (told_asks (is_held_back b (link_of b n)) ms told.1)
       | inr not_told ↦
@@ -330,11 +333,11 @@ holding_due (Some limit) zero taking next h = absurd (cc h)
 holding_due (Some limit) (suc held) taking next h = refl
 
 -- so is what is done on a link that is ready
-ready_due : (dialing up set : Bool) (unready : WaitKind) (step : Step) → dialing ≡ false → (up && set) ≡ true → is_due (if dialing then waits wait.Connect else if up then (if set then step else waits unready) else nothing) ≡ is_due step
-ready_due true up set unready step d u = absurd (cc d)
-ready_due false true true unready step d u = refl
-ready_due false true false unready step d u = absurd (cc u)
-ready_due false false set unready step d u = absurd (cc u)
+ready_due : (dialing up set asked : Bool) (unready : WaitKind) (step : Step) → dialing ≡ false → (up && set) ≡ true → is_due (if dialing then waits wait.Connect else if up then (if set then step else waits unready) else step_down asked) ≡ is_due step
+ready_due true up set asked unready step d u = absurd (cc d)
+ready_due false true true asked unready step d u = refl
+ready_due false true false asked unready step d u = absurd (cc u)
+ready_due false false set asked unready step d u = absurd (cc u)
 
 -- whoever was told does so where the link isn't held back
 told_due : (told held : Bool) (next : Step) → told ≡ true → held ≡ false → is_due (step_open told held next) ≡ true
@@ -349,11 +352,11 @@ untold_due false held next t = refl
 
 -- whoever was told makes a step on a link that is ready and isn't held back
 pub told_is_due : (b : Book) (n : ℕ) → dials (link_of b n) ≡ false → is_ready (link_of b n) ≡ true → is_held_back b (link_of b n) ≡ false → is_told (b.story n) ≡ true → is_due (next_step b n) ≡ true
-told_is_due b n d u h t = ready_due (dials (link_of b n)) (link_of b n).up (is_set_up (link_of b n)) (unready_wait (link_of b n)) (up_step b n) d u ∙ told_due (is_told (b.story n)) (is_held_back b (link_of b n)) (untold_step b n) t h
+told_is_due b n d u h t = ready_due (dials (link_of b n)) (link_of b n).up (is_set_up (link_of b n)) (link_of b n).asked (unready_wait (link_of b n)) (up_step b n) d u ∙ told_due (is_told (b.story n)) (is_held_back b (link_of b n)) (untold_step b n) t h
 
 -- what is due of who wasn't told
 untold_is_due : (b : Book) (n : ℕ) → dials (link_of b n) ≡ false → is_ready (link_of b n) ≡ true → is_told (b.story n) ≡ false → is_due (untold_step b n) ≡ true → is_due (next_step b n) ≡ true
-untold_is_due b n d u t due = ready_due (dials (link_of b n)) (link_of b n).up (is_set_up (link_of b n)) (unready_wait (link_of b n)) (up_step b n) d u ∙ (untold_due (is_told (b.story n)) (is_held_back b (link_of b n)) (untold_step b n) t ∙ due)
+untold_is_due b n d u t due = ready_due (dials (link_of b n)) (link_of b n).up (is_set_up (link_of b n)) (link_of b n).asked (unready_wait (link_of b n)) (up_step b n) d u ∙ (untold_due (is_told (b.story n)) (is_held_back b (link_of b n)) (untold_step b n) t ∙ due)
 
 -- and so does who holds its permits and has a place
 pub free_is_due : (b : Book) (n : ℕ) → dials (link_of b n) ≡ false → is_ready (link_of b n) ≡ true → is_held_back b (link_of b n) ≡ false → is_told (b.story n) ≡ false
@@ -402,7 +405,7 @@ awaited_at_its_place false false held e = absurd (cc e)
 -- so it is in a book, too
 pub placed_is_awaited : (b : Book) (n : ℕ) → is_told (b.story n) ≡ false → next_step b n ≡ starts → is_awaited (b.story n) ≡ true
 placed_is_awaited b n untold e =
-    let r = ready_of (dials (link_of b n)) (link_of b n).up (is_set_up (link_of b n)) (unready_wait (link_of b n)) (up_step b n) starts refl e in
+    let r = ready_of (dials (link_of b n)) (link_of b n).up (is_set_up (link_of b n)) (link_of b n).asked (unready_wait (link_of b n)) (up_step b n) starts refl e in
     elim (open_next (is_told (b.story n)) (is_held_back b (link_of b n)) (untold_step b n) starts r.2) [
       | inl told ↦ absurd (not_both (is_told (b.story n)) untold told.0)
       | inr not_told ↦ awaited_at_its_place (is_outside b n) (is_awaited (b.story n)) (is_held_back b (link_of b n)) (past_timer b n starts (inl refl) not_told.1).1
@@ -413,12 +416,13 @@ unready_not_room : (l : Ledger) → unready_wait l ≡ wait.Room → ⊥
 unready_not_room l e = chosen (λ kind. kind ≡ wait.Room → ⊥) (lacks_credentials l) wait.Creds wait.Setup (λ t x. cc x) (λ f x. cc x) e
 
 -- who waits for room does so on a link that is ready
-room_of : (dialing up set : Bool) (unready : WaitKind) (step : Step) → (unready ≡ wait.Room → ⊥)
-    → (if dialing then waits wait.Connect else if up then (if set then step else waits unready) else nothing) ≡ waits wait.Room → (dialing ≡ false) × ((up && set) ≡ true) × (step ≡ waits wait.Room)
-room_of true up set unready step other e = absurd (cc e)
-room_of false true true unready step other e = (refl, refl, e)
-room_of false true false unready step other e = absurd (other (same_kind (waits unready) unready wait.Room refl e))
-room_of false false set unready step other e = absurd (cc e)
+room_of : (dialing up set asked : Bool) (unready : WaitKind) (step : Step) → (unready ≡ wait.Room → ⊥)
+    → (if dialing then waits wait.Connect else if up then (if set then step else waits unready) else step_down asked) ≡ waits wait.Room → (dialing ≡ false) × ((up && set) ≡ true) × (step ≡ waits wait.Room)
+room_of true up set asked unready step other e = absurd (cc e)
+room_of false true true asked unready step other e = (refl, refl, e)
+room_of false true false asked unready step other e = absurd (other (same_kind (waits unready) unready wait.Room refl e))
+room_of false false set true unready step other e = absurd (cc e)
+room_of false false set false unready step other e = absurd (cc e)
 
 -- whoever takes permits, or waits for one, doesn't wait for room
 taking_no_room : (free most : ℕ) → step_taking free most ≡ waits wait.Room → ⊥
@@ -438,7 +442,7 @@ rooms_mean b n e =
     let held : Bool = is_held_back b (link_of b n) in
     let placed : Step = step_placed (is_outside b n) (is_awaited (b.story n)) held in
     let taking : ℕ → Step = λ limit. step_taking (free_permits b (b.story n).link limit) (permits_for (shape (b.story n)) limit) in
-    let r = room_of (dials (link_of b n)) (link_of b n).up (is_set_up (link_of b n)) (unready_wait (link_of b n)) (up_step b n) (unready_not_room (link_of b n)) e in
+    let r = room_of (dials (link_of b n)) (link_of b n).up (is_set_up (link_of b n)) (link_of b n).asked (unready_wait (link_of b n)) (up_step b n) (unready_not_room (link_of b n)) e in
     elim (open_next (is_told (b.story n)) held (untold_step b n) (waits wait.Room) r.2) [
       | inl told ↦ (r.0, r.1, inl told.0)
       | inr not_told ↦
@@ -496,12 +500,12 @@ open_alike true held next other s alike e = e
 open_alike false held next other s alike e = alike e
 
 -- and on any link
-ready_alike : (dialing up set : Bool) (unready : WaitKind) (next other s : Step) → (next ≡ s → other ≡ s)
-    → (if dialing then waits wait.Connect else if up then (if set then next else waits unready) else nothing) ≡ s → (if dialing then waits wait.Connect else if up then (if set then other else waits unready) else nothing) ≡ s
-ready_alike true up set unready next other s alike e = e
-ready_alike false true true unready next other s alike e = alike e
-ready_alike false true false unready next other s alike e = e
-ready_alike false false set unready next other s alike e = e
+ready_alike : (dialing up set asked : Bool) (unready : WaitKind) (next other s : Step) → (next ≡ s → other ≡ s)
+    → (if dialing then waits wait.Connect else if up then (if set then next else waits unready) else step_down asked) ≡ s → (if dialing then waits wait.Connect else if up then (if set then other else waits unready) else step_down asked) ≡ s
+ready_alike true up set asked unready next other s alike e = e
+ready_alike false true true asked unready next other s alike e = alike e
+ready_alike false true false asked unready next other s alike e = e
+ready_alike false false set asked unready next other s alike e = e
 
 -- a place that is kept, or found full, stays so where the wait for it is shown
 shown_fits : (old told full : Bool) (kind : WaitKind) → Fits (not (old || told) && full) (not (is_room (Some kind) || told) && full) kind
@@ -517,7 +521,7 @@ shown_alike config s line held l kind e =
     let taking : ℕ → Step = λ limit. step_taking (limit - held) (permits_for (shape s) limit) in
     let placed : Step = step_placed (is_outside_of config s line l) (is_awaited s) back in
     let after : Step = step_placed (is_outside_of config (shown s kind) line l) (is_awaited s) back in
-    ready_alike (dials l) l.up (is_set_up l) (unready_wait l)
+    ready_alike (dials l) l.up (is_set_up l) l.asked (unready_wait l)
     (step_open (is_told s) back (step_holding (permits_in config) s.permits taking (step_timed s.timeout s.clock placed)))
     (step_open (is_told s) back (step_holding (permits_in config) s.permits taking (step_timed s.timeout s.clock after))) (waits kind)
     (open_alike (is_told s) back (step_holding (permits_in config) s.permits taking (step_timed s.timeout s.clock placed)) (step_holding (permits_in config) s.permits taking (step_timed s.timeout s.clock after)) (waits kind)

@@ -37,30 +37,43 @@ pub record Start : Type 0 where
   pub shape : Shape
   pub bytes : List ℕ
 
--- why a link ends: everything is shut down, or a fault, or its opening failed with this error
+-- why a link ends: everything is shut down, or a fault, or its opening failed with this error, or so did an attempt that another
+-- one follows
 pub data Ending : Type 0 where
   by_shutdown : Ending
   by_fault : LinkFault → Ending
   by_opening : RedisError → Ending
+  by_attempt : RedisError → Ending
+
+-- where another attempt follows, a failed opening is a failed attempt
+abbrev pub lasting : Bool → Ending → Ending
+lasting true why = why
+lasting false by_shutdown = by_shutdown
+lasting false (by_fault f) = by_fault f
+lasting false (by_opening e) = by_attempt e
+lasting false (by_attempt e) = by_attempt e
 
 -- the error that it is, where the opening failed
 abbrev pub failure_of : Ending → Option RedisError
 failure_of by_shutdown = None
 failure_of (by_fault f) = None
 failure_of (by_opening e) = Some e
+failure_of (by_attempt e) = None
 
 -- whether it is a fault of the link, once it was set up
 abbrev pub is_fault : Ending → Bool
 is_fault by_shutdown = false
 is_fault (by_fault f) = true
 is_fault (by_opening e) = false
+is_fault (by_attempt e) = false
 
 -- how a link ended: in which turn, why, and how many of its messages, from the first on, were full then, which is the number
--- of the oldest that was not
+-- of the oldest that was not; and whether it took requests until then
 pub record End : Type 0 where
   pub turn : ℕ
   pub why : Ending
   pub oldest : ℕ
+  pub served : Bool
 
 -- what came on a link that was set up and is to be told: how many items had been dealt before it, and what is told
 pub record Heard : Type 0 where
@@ -84,7 +97,7 @@ abbrev pub unsourced : Bool → Sourced
 unsourced wanted = record { wanted = wanted; asked = false; given = false; renews = false; renewals = []; over = false; timed = 0; lost = false }
 
 -- whether its connect was asked for, what is to be said to its server then, what is heard on it beside replies, and its
--- credentials that come of sources; whether the connect succeeded and it has not ended; how it ended; its starts in order; the
+-- credentials that come of sources; whether no other attempt follows where its opening fails; whether the connect succeeded and it has not ended; how it ended; its starts in order; the
 -- bytes that were taken from it; the bytes of its unanswered offer; what came behind the last whole value, and whether that value
 -- ends it; the items dealt; what came once it was set up and is to be told, how much of it was, and whether its end was told as a
 -- push; and what it was told by the turn that runs
@@ -93,6 +106,7 @@ pub record Ledger : Type 0 where
   pub info : RedisConnectionInfo
   pub hearing : Hearing
   pub creds : Sourced
+  pub last : Bool
   pub up : Bool
   pub end : Option End
   pub starts : List Start
@@ -107,7 +121,7 @@ pub record Ledger : Type 0 where
   pub heard : News
 
 abbrev pub blank_ledger : Ledger
-blank_ledger = record { asked = false; info = bare_info; hearing = hearing.Nothing; creds = unsourced false; up = false; end = None; starts = []; taken = []; offer = []; rest = []; strange = false; dealt = []; notices = []; told = 0; parted = false; heard = silence }
+blank_ledger = record { asked = false; info = bare_info; hearing = hearing.Nothing; creds = unsourced false; last = true; up = false; end = None; starts = []; taken = []; offer = []; rest = []; strange = false; dealt = []; notices = []; told = 0; parted = false; heard = silence }
 
 abbrev pub is_over : Ledger → Bool
 is_over l = is_some l.end
@@ -252,9 +266,9 @@ bytes_came l piece = values_came (record l { rest = left_over (l.rest ++ piece) 
 abbrev pub dials : Ledger → Bool
 dials l = l.asked && not l.up && not (is_over l)
 
--- a link whose connect failed in this turn: it ends by that alone
+-- a link whose connect failed in this turn: it ends by that alone, and took no requests
 abbrev pub refused_in : Ledger → ℕ → RedisError → Ledger
-refused_in l turn e = record l { end = Some (record { turn = turn; why = by_opening e; oldest = 0 }) }
+refused_in l turn e = record l { end = Some (record { turn = turn; why = lasting l.last (by_opening e); oldest = 0; served = false }) }
 
 -- the first credentials come, for which its setup waits: they are said to its server
 abbrev pub authorized_by : Ledger → Credentials → Ledger
@@ -491,14 +505,14 @@ full_count (s ∷ ss) dealt = if nat_le (need_in s.shape dealt) (length dealt) t
 
 -- the link ends
 abbrev pub ended : Ledger → ℕ → Ledger
-ended l turn = record l { up = false; end = Some (record { turn = turn; why = ending_or_shutdown (ending l); oldest = full_count l.starts l.dealt }) }
+ended l turn = record l { up = false; end = Some (record { turn = turn; why = lasting l.last (ending_or_shutdown (ending l)); oldest = full_count l.starts l.dealt; served = is_ready l }) }
 
 -- a line of what is told of a link: its connect is asked for, this is to be said to its server then, whether credentials are to
--- come of sources, and what is heard on it; the turn of that number, with this news for it; a message begins; its unwritten
+-- come of sources, what is heard on it, and whether no other attempt follows where its opening fails; the turn of that number, with this news for it; a message begins; its unwritten
 -- bytes are offered; the next notice is told; a source of credentials is asked for; a timer for new credentials is; it is closed, in that turn; its
 -- end is told as a push
 pub data Line : Type 0 where
-  asks : RedisConnectionInfo → Bool → Hearing → Line
+  asks : RedisConnectionInfo → Bool → Hearing → Bool → Line
   hears : ℕ → News → Line
   begins : Start → Line
   offers : List ℕ → Line
@@ -510,7 +524,7 @@ pub data Line : Type 0 where
 
 -- what one more line makes of it
 abbrev pub noted : Ledger → Line → Ledger
-noted l (asks info wanted hears_what) = record l { asked = true; info = info; hearing = hears_what; creds = unsourced wanted }
+noted l (asks info wanted hears_what last) = record l { asked = true; info = info; hearing = hears_what; creds = unsourced wanted; last = last }
 noted l (hears turn news) = record (with_news l turn news) { heard = news }
 noted l (begins s) = record l { starts = l.starts ++ s ∷ [] }
 noted l (offers bytes) = record l { offer = bytes }
@@ -568,7 +582,7 @@ is_cut (Some end) = is_fault end.why
 -- that is to be, and a timer for credentials that were to be told; it ends where something must end it; and that a fault ended
 -- it is told once
 abbrev pub MayNote : Ledger → Line → Type 0
-MayNote l (asks info wanted hears_what) = l.asked ≡ false
+MayNote l (asks info wanted hears_what last) = l.asked ≡ false
 MayNote l (hears turn news) = IsWithin l news
 MayNote l (begins s) = (l.up ≡ true) × (s.bytes ≢ [])
 MayNote l (offers bytes) = (l.up ≡ true) × (l.offer ≡ []) × (bytes ≡ unwritten l) × (bytes ≢ [])

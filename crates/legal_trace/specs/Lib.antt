@@ -1,5 +1,6 @@
 pub mod Ledger
 pub mod Story
+pub mod Managers
 pub mod Book
 pub mod Steps
 pub mod Owed

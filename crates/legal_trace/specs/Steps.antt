@@ -132,6 +132,11 @@ step_ready b n s =
     (step_holding (permits_in b.config) s.permits (λ limit. step_taking (free_permits b s.link limit) (permits_for (shape s) limit))
     (step_timed s.timeout s.clock (step_placed (is_outside b n) (is_awaited s) held)))
 
+-- and on one that isn't up: nothing where it has ended, and until it is asked for the submission waits for that
+abbrev pub step_down : Bool → Step
+step_down true = nothing
+step_down false = waits wait.Backoff
+
 -- the next step of submission n
 abbrev pub next_step : Book → ℕ → Step
 next_step b n =
@@ -139,4 +144,4 @@ next_step b n =
     let l = b.link s.link in
     if dials l then waits wait.Connect
     else if l.up then (if is_set_up l then step_ready b n s else waits (unready_wait l))
-    else nothing
+    else step_down l.asked

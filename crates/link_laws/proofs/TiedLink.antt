@@ -137,7 +137,7 @@ pub late_tied : (name : ℕ → Owner) (l : Ledger) (s : LinkState) (turn k : �
 late_tied name l s turn k h = creds_tied name l s (l.up && is_renewal_open l k) (lost_by l).creds (late k) h
 
 -- its connect is asked for
-pub asked_tied : (name : ℕ → Owner) (l : Ledger) (info : RedisConnectionInfo) (wanted : Bool) (what : Hearing) (s : LinkState) → TiedLink name l s → TiedLink name (noted l (asks info wanted what)) s
+pub asked_tied : (name : ℕ → Owner) (l : Ledger) (info : RedisConnectionInfo) (wanted : Bool) (what : Hearing) (s : LinkState) → TiedLink name l s → TiedLink name (noted l (asks info wanted what last)) s
 asked_tied name l info wanted what s h =
     let m : Ledger = record l { info = info; creds = unsourced wanted } in
     let k = said_tied name l s info (unsourced wanted) l.heard h in
@@ -177,7 +177,7 @@ unheard_tied name l s turn deserted f h = told_tied name l s l.asked l.up desert
 unheard_tied name l s turn (renewed c) f h = renewed_tied name l s turn c h
 unheard_tied name l s turn unrenewed f h = unrenewed_tied name l s turn h
 unheard_tied name l s turn (late k) f h = late_tied name l s turn k h
-unheard_tied name l s turn unrepeated f h = silent_tied name l s turn h
+unheard_tied name l s turn unrepeated f h = told_tied name l s l.asked l.up unrepeated h
 unheard_tied name l s turn dropped f h = told_tied name l s l.asked l.up dropped h
 unheard_tied name l s turn shut f h = told_tied name l s l.asked l.up shut h
 
