@@ -23,7 +23,7 @@ use Rattle.mux_conn.specs.declared.request.Progress.TheVariants as progress
 use Rattle.mux_conn.specs.declared.request.Request.{Request}
 use Rattle.legal_trace.specs.Book.{Book}
 use Rattle.legal_trace.specs.Ledger.{Ledger, dials, is_over, is_set_up, lacks_credentials}
-use Rattle.legal_trace.specs.Steps.{Step, asks, free_permits, is_held, is_held_back, is_in_line, is_let_in, is_outside, line_before, next_step, nothing, permits_in, queue_size, renewals_in_line, starts_or_waits, step_holding, step_open, step_placed, step_ready, step_taking, step_timed, takes, tells, unready_wait, waits}
+use Rattle.legal_trace.specs.Steps.{Step, asks, free_permits, is_held, is_held_back, is_in_line, is_let_in, is_outside, line_before, next_step, nothing, permits_in, queue_size, renewals_in_line, starts_or_waits, step_holding, step_open, step_placed, step_ready, step_taking, step_timed, takes, tells, unready_wait, waits, step_down}
 use Rattle.legal_trace.specs.Story.{Story, has_place, is_awaited, is_room, is_told, is_unstarted, shape}
 use Rattle.session_laws.proofs.Behind.{nil_told, open_untold}
 use Rattle.session_laws.proofs.Creds.{has_credentials, wanting_lacks}
@@ -231,7 +231,7 @@ up_step b n up well =
     let l = b.link s.link in
     let step = step_ready b n s in
     let other : Step = if is_set_up l then step else waits (unready_wait l) in
-    left_if (dials l) (waits wait.Connect) (if l.up then other else nothing) (up_dials l up) ∙ taken_if l.up other nothing up ∙ taken_if (is_set_up l) step (waits (unready_wait l)) well
+    left_if (dials l) (waits wait.Connect) (if l.up then other else step_down l.asked) (up_dials l up) ∙ taken_if l.up other (step_down l.asked) up ∙ taken_if (is_set_up l) step (waits (unready_wait l)) well
 
 -- and where it isn't set up, the submission waits for that, or for credentials
 unready_step : (b : Book) (n : ℕ) → (b.link (b.story n).link).up ≡ true → is_set_up (b.link (b.story n).link) ≡ false → next_step b n ≡ waits (unready_wait (b.link (b.story n).link))
@@ -240,7 +240,7 @@ unready_step b n up unwell =
     let l = b.link s.link in
     let step = step_ready b n s in
     let other : Step = if is_set_up l then step else waits (unready_wait l) in
-    left_if (dials l) (waits wait.Connect) (if l.up then other else nothing) (up_dials l up) ∙ taken_if l.up other nothing up ∙ left_if (is_set_up l) step (waits (unready_wait l)) unwell
+    left_if (dials l) (waits wait.Connect) (if l.up then other else step_down l.asked) (up_dials l up) ∙ taken_if l.up other (step_down l.asked) up ∙ left_if (is_set_up l) step (waits (unready_wait l)) unwell
 
 -- the book has a link held back where the link is, by what it is tied by
 pub held_by : (b : Book) (t : Inner) (name : ℕ → Owner) (link : LinkState) → TiedNumbers b t → link.boundary ≡ t.bound → TiedLink name (b.link t.link) link → is_held_back b (b.link t.link) ≡ holds_back link

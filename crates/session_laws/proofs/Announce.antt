@@ -1,5 +1,5 @@
 -- A turn of an event: where it may stand, and what its link and the others hear.
-use Rattle.std.proofs.Common.{◌≡◌, ◌≢◌, ◌⊎◌, inl, inr, ℕ, zero, suc, ◌+◌, ◌<◌, ◌≤◌, ◌==◌, nat_lt, nat_le, false, ◌&&◌, ◌||◌, not, is_some, List, [], ◌∷◌, ◌++◌, length, slice_get, Some, refl, sym, ap, ◌∙◌, subst, arith, length-take, None, Option, if◌then◌else◌, true}
+use Rattle.std.proofs.Common.{◌≡◌, ◌≢◌, ◌⊎◌, inl, inr, ℕ, zero, suc, ◌+◌, ◌<◌, ◌≤◌, ◌==◌, nat_lt, nat_le, false, ◌&&◌, ◌||◌, not, is_some, List, [], ◌∷◌, ◌++◌, length, slice_get, Some, refl, sym, ap, ◌∙◌, subst, arith, length-take, None, Option, if◌then◌else◌, true, Bool}
 use Rattle.std.proofs.lemmas.List.{append-nil}
 use Rattle.containers.proofs.Choices.{by_test, chosen, taken_if, left_if, eq_from, eq_test, ne_from, ne_test, not_le_from}
 use Rattle.redis_error.specs.declared.redis_error.RedisError.TheVariants as error
@@ -25,12 +25,12 @@ use Rattle.mux_conn.specs.declared.life.Life.TheVariants.{Dialing, Wanting, Sett
 use Rattle.mux_conn.specs.declared.request.Request.{Request}
 use Rattle.shared_session.specs.declared.core_state.Core.{Core}
 use Rattle.shared_session.specs.Turn.{is_shutdown, shut_by, exceeds_offer, is_no_link, is_bad, use_after}
-use Rattle.legal_trace.specs.Ledger.{Ledger, Start, setup_count, authorized_by, awaits_credentials, hears, noted, is_over, bytes_came, dials, refused_in, Heard, is_renewal_open, lost_by, may_renew, renewed_by, unrenewed_by, Sourced}
+use Rattle.legal_trace.specs.Ledger.{Ledger, Start, setup_count, authorized_by, with_news, awaits_credentials, hears, noted, is_over, bytes_came, dials, refused_in, Heard, is_renewal_open, lost_by, may_renew, renewed_by, unrenewed_by, Sourced}
 use Rattle.legal_trace.specs.Story.{Story, fires}
-use Rattle.legal_trace.specs.Book.{Book, book, entered, is_clock_of, hearing_in, timeout_after, kind_in}
+use Rattle.legal_trace.specs.Book.{Book, book, entered, is_clock_of, hearing_in, rest_after, timeout_after, kind_in}
 use Rattle.legal_trace.specs.Events.{is_bad_event}
 use Rattle.legal_trace.specs.Legal.{MayTurn}
-use Rattle.session_laws.proofs.Tied.{AreAimed, AreUses, IsAim, owners_of, owners_each, setup_owners, Inner, inner, link_in, carried, whole_link, AreAside, TiedCreds, TiedLife, TiedSetup, TiedTries, TiedLines, AreQueued, TiedWaits, Tied, Sound, no_opening, has_ended, TiedNotices, TiedRenewal, sources_asked_in, HasGreetedAlone, is_reading}
+use Rattle.session_laws.proofs.Tied.{AreAimed, AreUses, IsAim, owners_of, owners_each, setup_owners, Inner, inner, link_in, carried, whole_link, AreAside, TiedCreds, TiedLife, TiedSetup, TiedTries, TiedLines, AreQueued, TiedWaits, Tied, Sound, has_ended, TiedNotices, TiedRenewal, sources_asked_in, HasGreetedAlone, is_reading}
 use Rattle.session_laws.proofs.States.{Between}
 use Rattle.session_laws.proofs.Entered.{book_more, sound_more}
 use Rattle.session_laws.proofs.Answer.{some_end}
@@ -211,6 +211,8 @@ heard_book b number word kind = record b {
   turns = b.turns + 1;
   running = Some (cause.Event (record { word = word; kind = kind }));
   shut = b.shut || is_shutdown kind;
+  rest = rest_after b.rest kind;
+  errors = [];
   link = λ m. noted (b.link m) (hears number (news_of b.timers b.sources m kind));
 }
 
@@ -363,12 +365,12 @@ pub quiet_still : (b : Book) (c : Core) (started : List ℕ) → Tied b (inner c
 quiet_still b c started h w = let q = h.numbers.quiet w in (q.unwanted, q.unrenewed)
 
 -- the session tied to a book with these ledgers, and with these sources of credentials, where new credentials came to this
-pub heard_tied_as : (b : Book) (c : Core) (started : List ℕ) (word created : ℕ) (kind : EventKind) (info : RedisConnectionInfo) (renewal : Renewal) (life : Life) (fresh pending : List ℕ) (untold : List Heard) (links : ℕ → Ledger) (l : Ledger) (asked uses : List SourceUse) → Tied b (inner c started)
-    → renewal.within ≡ c.single.connection.renewal.within → StaysQuiet c renewal
+pub heard_tied_as : (b : Book) (c : Core) (started : List ℕ) (word created : ℕ) (failed : Bool) (kind : EventKind) (info : RedisConnectionInfo) (renewal : Renewal) (life : Life) (fresh pending : List ℕ) (untold : List Heard) (links : ℕ → Ledger) (l : Ledger) (asked uses : List SourceUse) → Tied b (inner c started)
+    → renewal.within ≡ c.single.connection.renewal.within → StaysQuiet c renewal → info.protocol ≡ c.single.connection.info.protocol
     → AreAside c.single.link c.links links c.single.connection.hears renewal.within created → links c.single.link ≡ l → asked ≡ uses → AreUses uses c.single.link → length uses ≡ sources_asked_in l.creds → ComesAs b c l created info renewal life fresh pending untold started
-    → Tied (record (heard_book b c.turns word kind) { created = created; link = links; sources = asked }) (record (seen (turned c kind) [] (renews_as c info renewal life fresh) pending started) { untold = untold; sources = uses })
-heard_tied_as b c started word created kind info renewal life fresh pending untold links l asked uses h within quiet others is sourced used counted k =
-    let after = record (heard_book b c.turns word kind) { created = created; link = links; sources = asked } in
+    → Tied (record (heard_book b c.turns word kind) { created = created; failed = failed; link = links; sources = asked }) (record (seen (turned c kind) [] (renews_as c info renewal life fresh) pending started) { untold = untold; sources = uses })
+heard_tied_as b c started word created failed kind info renewal life fresh pending untold links l asked uses h within quiet same others is sourced used counted k =
+    let after = record (heard_book b c.turns word kind) { created = created; failed = failed; link = links; sources = asked } in
     let t = record (seen (turned c kind) [] (renews_as c info renewal life fresh) pending started) { untold = untold; sources = uses } in
     tied_by after t l is (record {
       numbers = record {
@@ -378,7 +380,7 @@ heard_tied_as b c started word created kind info renewal life fresh pending unto
         sources = sourced;
         uses = used;
         aims = aims_on c.timers c.single.link (length c.table) h.numbers.aims;
-        timed = λ config other opens bounded none. no_opening _ config other opens;
+        timed = h.numbers.timed;
         submissions = h.numbers.submissions;
         timeout = h.numbers.timeout;
         shut = ap (λ s. s || is_shutdown kind) h.numbers.shut;
@@ -387,6 +389,10 @@ heard_tied_as b c started word created kind info renewal life fresh pending unto
         settings = record { size_is = h.numbers.settings.size_is; bound_is = h.numbers.settings.bound_is; limit_is = h.numbers.settings.limit_is; some = h.numbers.settings.some; limited = h.numbers.settings.limited };
         kind_is = h.numbers.kind_is;
         quiet = λ w. record { none = (h.numbers.quiet w).none; unwanted = (quiet w).0; unrenewed = (quiet w).1 };
+        plain = h.numbers.plain;
+        eager = h.numbers.eager;
+        current_is = h.numbers.current_is;
+        speaks = h.numbers.speaks ∙ sym same;
         one = h.numbers.one;
         few_links = h.numbers.few_links;
       };
@@ -409,11 +415,11 @@ heard_tied_as b c started word created kind info renewal life fresh pending unto
     })
 
 -- where they are as they were
-pub heard_tied_by : (b : Book) (c : Core) (started : List ℕ) (word created : ℕ) (kind : EventKind) (info : RedisConnectionInfo) (life : Life) (fresh pending : List ℕ) (untold : List Heard) (links : ℕ → Ledger) (l : Ledger) (asked uses : List SourceUse) → Tied b (inner c started)
+pub heard_tied_by : (b : Book) (c : Core) (started : List ℕ) (word created : ℕ) (failed : Bool) (kind : EventKind) (info : RedisConnectionInfo) (life : Life) (fresh pending : List ℕ) (untold : List Heard) (links : ℕ → Ledger) (l : Ledger) (asked uses : List SourceUse) → Tied b (inner c started) → info.protocol ≡ c.single.connection.info.protocol
     → AreAside c.single.link c.links links c.single.connection.hears c.single.connection.renewal.within created → links c.single.link ≡ l → asked ≡ uses → AreUses uses c.single.link → length uses ≡ sources_asked_in l.creds → ComesTo b c l created info life fresh pending untold started
-    → Tied (record (heard_book b c.turns word kind) { created = created; link = links; sources = asked }) (record (seen (turned c kind) [] (comes_as c info life fresh) pending started) { untold = untold; sources = uses })
-heard_tied_by b c started word created kind info life fresh pending untold links l asked uses h others is sourced used counted k =
-    heard_tied_as b c started word created kind info c.single.connection.renewal life fresh pending untold links l asked uses h refl (quiet_still b c started h) others is sourced used counted k
+    → Tied (record (heard_book b c.turns word kind) { created = created; failed = failed; link = links; sources = asked }) (record (seen (turned c kind) [] (comes_as c info life fresh) pending started) { untold = untold; sources = uses })
+heard_tied_by b c started word created failed kind info life fresh pending untold links l asked uses h same others is sourced used counted k =
+    heard_tied_as b c started word created failed kind info c.single.connection.renewal life fresh pending untold links l asked uses h refl (quiet_still b c started h) same others is sourced used counted k
 
 -- news ask for no source
 pub sources_hear : (l : Ledger) (turn : ℕ) (n : News) → sources_asked_in (noted l (hears turn n)).creds ≡ sources_asked_in l.creds
@@ -472,25 +478,62 @@ renews_hear l turn unrepeated = refl
 renews_hear l turn dropped = refl
 renews_hear l turn shut = refl
 
+-- what news leave of a link: that it was asked for, whether another attempt follows, and what protocol its server is told
+pub record KeepsAsked (l m : Ledger) : Type 0 where
+  pub asked : m.asked ≡ l.asked
+  pub last : m.last ≡ l.last
+  pub protocol : m.info.protocol ≡ l.info.protocol
+
+same_asked : (l : Ledger) → KeepsAsked l l
+same_asked l = record { asked = refl; last = refl; protocol = refl }
+
+pub asked_hear : (l : Ledger) (turn : ℕ) (n : News) → KeepsAsked l (noted l (hears turn n))
+asked_hear l turn n = record { asked = (by_news n).asked; last = (by_news n).last; protocol = (by_news n).protocol }
+  where
+    by_news : (n : News) → KeepsAsked l (with_news l turn n)
+    by_news silence = same_asked l
+    by_news overdue = same_asked l
+    by_news connected = chosen (KeepsAsked l) (is_over l) l (record l { up = true }) (λ t. same_asked l) (λ f. record { asked = refl; last = refl; protocol = refl })
+    by_news (refused f) = chosen (KeepsAsked l) (dials l) (refused_in l turn (error.Io f)) l (λ t. record { asked = refl; last = refl; protocol = refl }) (λ d. same_asked l)
+    by_news (took count) = chosen (KeepsAsked l) l.up _ l (λ t. record { asked = refl; last = refl; protocol = refl }) (λ f. same_asked l)
+    by_news (came piece) = chosen (KeepsAsked l) l.up (bytes_came l piece) l (λ t. holds_bytes (KeepsAsked l) l piece (λ rest strange told more. record { asked = refl; last = refl; protocol = refl })) (λ f. same_asked l)
+    by_news (failed f) = same_asked l
+    by_news (authorized c) = chosen (KeepsAsked l) (awaits_credentials l) (authorized_by l c) l (λ t. record { asked = refl; last = refl; protocol = refl }) (λ f. same_asked l)
+    by_news (denied text) = same_asked l
+    by_news deserted = same_asked l
+    by_news (renewed c) = chosen (KeepsAsked l) (may_renew l) (renewed_by l c) l (λ t. record { asked = refl; last = refl; protocol = refl }) (λ f. same_asked l)
+    by_news unrenewed = chosen (KeepsAsked l) l.up (unrenewed_by l) l (λ t. record { asked = refl; last = refl; protocol = refl }) (λ f. same_asked l)
+    by_news (late k) = chosen (KeepsAsked l) (l.up && is_renewal_open l k) (lost_by l) l (λ t. record { asked = refl; last = refl; protocol = refl }) (λ f. same_asked l)
+    by_news unrepeated = same_asked l
+    by_news dropped = same_asked l
+    by_news shut = same_asked l
+
+-- so the session says the same protocol to its server
+pub protocol_still : (b : Book) (c : Core) (started : List ℕ) (kind : EventKind) (info : RedisConnectionInfo) (l : Ledger) → Tied b (inner c started) → noted (b.link c.single.link) (hears c.turns (news_of b.timers b.sources c.single.link kind)) ≡ l → l.info ≡ info
+    → info.protocol ≡ c.single.connection.info.protocol
+protocol_still b c started kind info l h is told =
+    let n = news_of b.timers b.sources c.single.link kind in
+    sym (ap (λ (x : RedisConnectionInfo). x.protocol) told) ∙ sym (ap (λ (x : Ledger). x.info.protocol) is) ∙ (asked_hear (b.link c.single.link) c.turns n).protocol ∙ ap (λ (x : RedisConnectionInfo). x.protocol) h.setup.info_is
+
 -- with none more there are as many
 pub counted_on : (sources : List SourceUse) (c : Sourced) → length sources ≡ sources_asked_in c → length (sources ++ []) ≡ sources_asked_in c
 counted_on sources c h = ap (λ (ss : List SourceUse). length ss) (append-nil sources) ∙ h
 
 -- by what its link hears, where new credentials came to this
-pub heard_tied_new : (b : Book) (c : Core) (started : List ℕ) (word created : ℕ) (kind : EventKind) (info : RedisConnectionInfo) (renewal : Renewal) (life : Life) (fresh pending : List ℕ) (untold : List Heard) (l : Ledger) → Tied b (inner c started) → renewal.within ≡ c.single.connection.renewal.within → StaysQuiet c renewal → is_bad c kind ≡ false → (b.created ≢ 0 → created ≢ 0)
+pub heard_tied_new : (b : Book) (c : Core) (started : List ℕ) (word created : ℕ) (failed : Bool) (kind : EventKind) (info : RedisConnectionInfo) (renewal : Renewal) (life : Life) (fresh pending : List ℕ) (untold : List Heard) (l : Ledger) → Tied b (inner c started) → renewal.within ≡ c.single.connection.renewal.within → StaysQuiet c renewal → is_bad c kind ≡ false → (b.created ≢ 0 → created ≢ 0)
     → noted (b.link c.single.link) (hears c.turns (news_of b.timers b.sources c.single.link kind)) ≡ l → ComesAs b c l created info renewal life fresh pending untold started
-    → Tied (record (heard_book b c.turns word kind) { created = created }) (record (seen (turned c kind) [] (renews_as c info renewal life fresh) pending started) { untold = untold })
-heard_tied_new b c started word created kind info renewal life fresh pending untold l h within quiet good shown is k =
-    heard_tied_as b c started word created kind info renewal life fresh pending untold (heard_book b c.turns word kind).link l b.sources (c.sources ++ []) h within quiet
+    → Tied (record (heard_book b c.turns word kind) { created = created; failed = failed }) (record (seen (turned c kind) [] (renews_as c info renewal life fresh) pending started) { untold = untold })
+heard_tied_new b c started word created failed kind info renewal life fresh pending untold l h within quiet good shown is k =
+    heard_tied_as b c started word created failed kind info renewal life fresh pending untold (heard_book b c.turns word kind).link l b.sources (c.sources ++ []) h within quiet (protocol_still b c started kind info l h is k.said.info_is)
     (subst (λ o. AreAside c.single.link c.links (heard_book b c.turns word kind).link c.single.connection.hears o created) (sym within) (others_heard b c started kind created h good shown)) is
     (h.numbers.sources ∙ sym (append-nil c.sources)) (uses_on c.sources c.single.link h.numbers.uses)
     (counted_on c.sources l.creds (h.count ∙ sym (sources_hear (b.link c.single.link) c.turns (news_of b.timers b.sources c.single.link kind)) ∙ ap (λ (x : Ledger). sources_asked_in x.creds) is)) k
 
 -- where they are as they were
-pub heard_tied : (b : Book) (c : Core) (started : List ℕ) (word created : ℕ) (kind : EventKind) (info : RedisConnectionInfo) (life : Life) (fresh pending : List ℕ) (untold : List Heard) (l : Ledger) → Tied b (inner c started) → is_bad c kind ≡ false → (b.created ≢ 0 → created ≢ 0)
+pub heard_tied : (b : Book) (c : Core) (started : List ℕ) (word created : ℕ) (failed : Bool) (kind : EventKind) (info : RedisConnectionInfo) (life : Life) (fresh pending : List ℕ) (untold : List Heard) (l : Ledger) → Tied b (inner c started) → is_bad c kind ≡ false → (b.created ≢ 0 → created ≢ 0)
     → noted (b.link c.single.link) (hears c.turns (news_of b.timers b.sources c.single.link kind)) ≡ l → ComesTo b c l created info life fresh pending untold started
-    → Tied (record (heard_book b c.turns word kind) { created = created }) (record (seen (turned c kind) [] (comes_as c info life fresh) pending started) { untold = untold })
-heard_tied b c started word created kind info life fresh pending untold l h good shown is k = heard_tied_new b c started word created kind info c.single.connection.renewal life fresh pending untold l h refl (quiet_still b c started h) good shown is k
+    → Tied (record (heard_book b c.turns word kind) { created = created; failed = failed }) (record (seen (turned c kind) [] (comes_as c info life fresh) pending started) { untold = untold })
+heard_tied b c started word created failed kind info life fresh pending untold l h good shown is k = heard_tied_new b c started word created failed kind info c.single.connection.renewal life fresh pending untold l h refl (quiet_still b c started h) good shown is k
 
 -- the trace begins
 --

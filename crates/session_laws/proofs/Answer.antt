@@ -18,10 +18,10 @@ use Rattle.mux_conn.specs.declared.request.Progress.TheVariants as progress
 use Rattle.mux_conn.specs.declared.request.Request.{Request}
 use Rattle.mux_conn.specs.declared.request.Waiting.{Waiting}
 use Rattle.mux_conn.specs.Requests.{is_open as is_open_progress, is_placed, is_open_at, name_at, permits_at, with_permits, given_back}
-use Rattle.legal_trace.specs.Ledger.{End, Heard, ending_alive, ending_asked, Ledger, is_over, ending, next_notice}
+use Rattle.legal_trace.specs.Ledger.{End, Heard, ending_alive, ending_asked, Ledger, is_over, ending, next_notice, Ending, by_shutdown, by_fault, by_opening, by_attempt}
 use Rattle.legal_trace.specs.Story.{Story, Try, last_of, is_no_error, is_open, packed_in, shape_in, bytes_of, answered}
 use Rattle.legal_trace.specs.Book.{Book, entered}
-use Rattle.legal_trace.specs.Owed.{owed, owed_to_try, owed_to_message, owed_unstarted, unstarted_error}
+use Rattle.legal_trace.specs.Owed.{owed, owed_by, owed_to_try, owed_to_message, owed_unstarted, owed_waiting}
 use Rattle.legal_trace.specs.Legal.{NoneEnds, VerdictsAreShown, MayAnswer, FailuresAreShown, EndsAreTold, IsBefore, is_heard}
 use Rattle.session_laws.proofs.Numbers.{IsIn, in_either, in_right, in_left, Rising, rising_in, requests_in, request_in}
 use Rattle.session_laws.proofs.Tied.{Inner, link_in, queue_ids, TiedLife, TiedNames, IsEntry, AreQueued, TiedLines, Tied, relined, has_ended, numbers_kept}
@@ -123,7 +123,7 @@ owed_still b n o m =
     (λ f. alike (b.story m) refl refl refl refl refl refl)
   where
     by_try : (s : Story) (x : Option Try) → s.link ≡ (b.story m).link → s.submission ≡ (b.story m).submission → owed_to_try (entered b (action.Outcome n o)) s x ≡ owed_to_try b (b.story m) x
-    by_try s None link what = ap (λ l. owed_unstarted (b.link l).end) link
+    by_try s None link what = ap (λ l. owed_waiting b.shut (b.link l)) link
     by_try s (Some t) link what = ap (λ w. owed_to_message (b.link t.link) t.message (shape_in w)) what
 
     alike : (s : Story) → s.late ≡ (b.story m).late → s.unspoken ≡ (b.story m).unspoken → s.overdue ≡ (b.story m).overdue → s.link ≡ (b.story m).link → s.submission ≡ (b.story m).submission → s.tries ≡ (b.story m).tries → owed_in (entered b (action.Outcome n o)) s ≡ owed_in b (b.story m)
@@ -208,7 +208,7 @@ answer_apart b t p pending o l apart told h =
     let known : n < b.submissions = (let within = name_within t.table t.requests p h.names l in let e = h.numbers.submissions in omega arith) in
     let own : (entered b (action.Outcome n o)).story n ≡ closed n = taken_if (n == n) (closed n) (b.story n) (eq_test n n refl) in
     record {
-      numbers = numbers_kept b b.link (entered b (action.Outcome n o)).story now t.life (given_back t.limit t.free (permits_at t.requests p)) (with_permits t.requests p progress.Closed 0) t.waiting t.admitted t.fresh t.moved t.letting pending t.started h.numbers;
+      numbers = numbers_kept b b.link (entered b (action.Outcome n o)).story (entered b (action.Outcome n o)).errors now t.life (given_back t.limit t.free (permits_at t.requests p)) (with_permits t.requests p progress.Closed 0) t.waiting t.admitted t.fresh t.moved t.letting pending t.started h.numbers;
       others = h.others;
       notices = h.notices;
       life = h.life;
@@ -241,7 +241,17 @@ fault_is e o is = let same : outcome.Fault e ≡ o = cc in subst (λ (x : Outcom
 -- by the end of its link
 end_is : (x : Option End) (o : Outcome) → owed_unstarted x ≡ Some o → is_no_error (o ∷ []) ≡ false
 end_is None o e = cc
-end_is (Some end) o e = fault_is (unstarted_error end.why) o e
+end_is (Some end) o e = by_why end.why e
+  where
+    by_why : (why : Ending) → owed_by why ≡ Some o → is_no_error (o ∷ []) ≡ false
+    by_why by_shutdown e = fault_is error.Closed o e
+    by_why (by_fault f) e = fault_is error.Closed o e
+    by_why (by_opening x) e = fault_is x o e
+    by_why (by_attempt x) e = cc
+
+-- also where everything is shut down
+waiting_is : (shut : Bool) (l : Ledger) (o : Outcome) → owed_waiting shut l ≡ Some o → is_no_error (o ∷ []) ≡ false
+waiting_is shut l o = chosen (λ (x : Option Outcome). x ≡ Some o → is_no_error (o ∷ []) ≡ false) (shut && not l.asked) (Some (outcome.Fault error.Closed)) (owed_unstarted l.end) (λ t. fault_is error.Closed o) (λ f. end_is l.end o)
 
 -- whatever it is
 owed_fault : (b : Book) (n : ℕ) (o : Outcome) → (b.story n).tries ≡ [] → owed b n ≡ Some o → is_no_error (o ∷ []) ≡ false
@@ -259,7 +269,7 @@ owed_fault b n o none e =
     (λ t. fault_is error.EmptyCommand o)
     (λ g. chosen IsFault (b.story n).overdue (Some (outcome.Fault (error.Io kinds.TimedOut))) by_try
     (λ t. fault_is (error.Io kinds.TimedOut) o)
-    (λ h is. end_is (b.link (b.story n).link).end o (ap (λ ts. owed_to_try b (b.story n) (last_of ts)) (sym none) ∙ is)))))
+    (λ h is. waiting_is b.shut (b.link (b.story n).link) o (ap (λ ts. owed_to_try b (b.story n) (last_of ts)) (sym none) ∙ is)))))
     e
 
 -- so an open submission that is answered with what it is owed was not told at its place, or has started

@@ -22,12 +22,12 @@ use Rattle.mux_conn.specs.Requests.{is_open as is_open_progress, is_waiting, is_
 use Rattle.shared_session.specs.declared.core_state.Core.{Core}
 use Rattle.shared_session.specs.Turn.{Turning, heard, refused_with, asked_for, pending, effect, counted, is_bad}
 use Rattle.legal_trace.specs.Story.{Story, is_no_error, is_told, is_awaited}
-use Rattle.legal_trace.specs.Book.{Book, blank_book, book, entered, current, is_unspoken, kind_in}
+use Rattle.legal_trace.specs.Book.{Book, blank_book, book, entered, is_unspoken, kind_in}
 use Rattle.legal_trace.specs.Legal.{AllStand, NoneEnds, MayAnswer}
 use Rattle.session_laws.proofs.Aside.{aside_silent}
 use Rattle.session_laws.proofs.Renewals.{renewal_alike}
 use Rattle.session_laws.proofs.Numbers.{IsIn, in_left, in_right, Rising, rising_next, requests_in, request_in}
-use Rattle.session_laws.proofs.Tied.{carried, inner, link_in, queue_ids, waiting_ids, whole_link, IsOf, IsRequest, IsPacked, IsKept, TiedLines, TiedWaits, Tied, no_opening}
+use Rattle.session_laws.proofs.Tied.{carried, inner, link_in, queue_ids, waiting_ids, whole_link, IsOf, IsRequest, IsPacked, IsKept, TiedLines, TiedWaits, Tied}
 use Rattle.session_laws.proofs.States.{Between, HasApplied}
 use Rattle.session_laws.proofs.Entered.{all_stand-append, book_more, sound_more}
 use Rattle.session_laws.proofs.Names.{there_within, names_asked, submits_unwatched}
@@ -38,7 +38,7 @@ use Rattle.session_laws.proofs.Heard.{told_life, silent_no_end, silent_applied, 
 use Rattle.session_laws.proofs.Said.{setup_on, IsTame, renoticed}
 use Rattle.session_laws.proofs.Further.{one_longer, there_longer, before_or_new, further_story, tries_longer, queue_longer, packs_longer, entries_longer, link_longer, told_longer, IsNext, waits_longer, permits_longer, late_longer}
 use Rattle.session_laws.proofs.InLine.{kept_ids, awaited_in}
-use Rattle.session_laws.proofs.Submit.{stories_with, new_story, story_is_new, others_before, within_line, IsErrorOf, may_refuse, core_refused, refused_tied}
+use Rattle.session_laws.proofs.Submit.{stories_with, new_story, story_is_new, others_before, within_line, IsErrorOf, may_refuse, core_refused, refused_tied, or_none}
 
 -- a submission that isn't bad has a form
 formed : (c : Core) (what : Submission) → is_bad c (event.Submit what) ≡ false → has_no_form c.kind what ≡ false
@@ -240,7 +240,7 @@ asked_tied b c started word what h tame form few no_fresh up speaks some =
         sources = h.numbers.sources ∙ sym (append-nil c.sources);
         uses = uses_on c.sources c.single.link h.numbers.uses;
         aims = aims_on c.timers c.single.link (length (c.table ++ next ∷ [])) (aims_longer c.timers c.single.link (length c.table) (length (c.table ++ next ∷ [])) (omega (arith, length-append c.table (next ∷ []))) h.numbers.aims);
-        timed = λ config other opens bounded none. no_opening _ config other opens;
+        timed = h.numbers.timed;
         submissions = (let k = h.numbers.submissions in omega (arith, length-append c.table (next ∷ [])));
         timeout = time_still (kind_in b.config) b.timeout (event.Submit what) tt ∙ h.numbers.timeout;
         shut = ap (λ s. s || false) h.numbers.shut;
@@ -249,6 +249,10 @@ asked_tied b c started word what h tame form few no_fresh up speaks some =
         settings = record { size_is = h.numbers.settings.size_is; bound_is = h.numbers.settings.bound_is; limit_is = h.numbers.settings.limit_is; some = h.numbers.settings.some; limited = h.numbers.settings.limited };
         kind_is = h.numbers.kind_is;
         quiet = λ w. absurd (submits_unwatched b (inner c started) what h form w);
+        plain = h.numbers.plain;
+        eager = h.numbers.eager;
+        current_is = h.numbers.current_is;
+        speaks = h.numbers.speaks;
         one = h.numbers.one;
         few_links = h.numbers.few_links;
       };
@@ -267,7 +271,7 @@ asked_tied b c started word what h tame form few no_fresh up speaks some =
             handed_in = refl;
             in_time = up;
             spoken = speaks;
-            on = (let e = h.numbers.links in let one = h.numbers.one in omega arith);
+            on = h.numbers.current_is;
             some = some;
             open_is = sym (last_open c);
             permits_is = sym (last_free c);
@@ -295,11 +299,6 @@ asked_applied before c started word what h few good up speaks some =
 
 -- one or the other
 --
--- nothing more is shut
-or_none : (a : Bool) → (a || false) ≡ a
-or_none true = refl
-or_none false = refl
-
 -- what has a length is not empty
 some_bytes : (bytes : List ℕ) → (length bytes == 0) ≡ false → bytes ≢ []
 some_bytes bytes f e = not_both (length bytes == 0) f (ap (λ (bs : List ℕ). length bs == 0) e)
@@ -307,10 +306,9 @@ some_bytes bytes f e = not_both (length bytes == 0) f (ap (λ (bs : List ℕ). l
 -- what the session says to the server is what the book tells of the link that a submission goes to
 lacks_as_told : (b : Book) (c : Core) (started : List ℕ) (what : Submission) → Tied b (inner c started) → lacks_resp3 c.single.connection.hears c.single.connection.info.protocol what ≡ is_unspoken b what
 lacks_as_told b c started what h =
-    let on : c.single.link ≡ current b = (let e = h.numbers.links in let one = h.numbers.one in omega arith) in
-    let says = sym h.setup.info_is ∙ ap (λ m. (b.link m).info) on in
-    let hears = sym h.notices.hearing_is ∙ ap (λ m. (b.link m).hearing) on in
-    λ i. lacks_resp3 (hears i) (says i).protocol what
+    let says = sym h.numbers.speaks in
+    let hears = sym h.notices.heard_is in
+    λ i. lacks_resp3 (hears i) (says i) what
 
 -- a submission, whichever it is
 pub submit_applied : (before : List Action) (c : Core) (started : List ℕ) (word : ℕ) (what : Submission) → Between before c started → length c.table < 2 ^ 32 → is_bad c (event.Submit what) ≡ false

@@ -37,7 +37,7 @@ use Rattle.mux_conn.specs.declared.renewal.Renewal.{Renewal}
 use Rattle.session_laws.proofs.Aside.{aside_silent}
 use Rattle.session_laws.proofs.Renewals.{renewal_alike}
 use Rattle.session_laws.proofs.Numbers.{IsIn, in_left, in_right, in_either, Rising, rising_from, rising_in, rising_right, rising_tail, requests_in, request_in, request_of, request_other, requests_first}
-use Rattle.session_laws.proofs.Tied.{carried, inner, no_link, link_in, owner_of, queue_ids, whole_link, IsQueued, IsEntry, AreQueued, TiedCreds, TiedLife, TiedStory, TiedNames, TiedNumbers, TiedPermits, TiedLines, TiedSetup, IsAside, Tied, no_opening, has_ended, TiedRenewal, greeter}
+use Rattle.session_laws.proofs.Tied.{carried, inner, no_link, link_in, owner_of, queue_ids, whole_link, IsQueued, IsEntry, AreQueued, TiedCreds, TiedLife, TiedStory, TiedNames, TiedNumbers, TiedPermits, TiedLines, TiedSetup, IsAside, Tied, has_ended, TiedRenewal, greeter}
 use Rattle.session_laws.proofs.States.{IsFit, IsFitIn, Between, HasApplied}
 use Rattle.session_laws.proofs.Names.{name_within, open_within, name_of_some, owners_with, length_with, names_with, with_other, with_then, request_not}
 use Rattle.session_laws.proofs.InLine.{row_ids, kept_ids, chosen_in, awaited_in, wanted_in}
@@ -421,7 +421,7 @@ silent_numbers b c started word kind timeout story free life requests pending q 
   sources = h.numbers.sources ∙ sym (append-nil c.sources);
   uses = uses_on c.sources c.single.link h.numbers.uses;
   aims = aims_on c.timers c.single.link (length c.table) h.numbers.aims;
-  timed = λ config other opens bounded none. no_opening _ config other opens;
+  timed = h.numbers.timed;
   submissions = (let e = h.numbers.submissions in let none = q.none in omega arith);
   timeout = q.time;
   shut = q.shut;
@@ -430,6 +430,10 @@ silent_numbers b c started word kind timeout story free life requests pending q 
   settings = record { size_is = h.numbers.settings.size_is; bound_is = h.numbers.settings.bound_is; limit_is = h.numbers.settings.limit_is; some = h.numbers.settings.some; limited = h.numbers.settings.limited };
   kind_is = h.numbers.kind_is;
   quiet = h.numbers.quiet;
+  plain = h.numbers.plain;
+  eager = h.numbers.eager;
+  current_is = h.numbers.current_is;
+  speaks = h.numbers.speaks;
   one = h.numbers.one;
   few_links = h.numbers.few_links;
 }

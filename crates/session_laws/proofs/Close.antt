@@ -24,17 +24,17 @@ use Rattle.mux_conn.specs.Requests.{is_open_at, name_at}
 use Rattle.mux_conn.specs.Effects.{waiting_failed, nobody_waits, failed_each, settled_each, ended, all_answered, cut_short, parted, noticed}
 use Rattle.shared_session.specs.declared.core_state.Core.{Core}
 use Rattle.shared_session.specs.Turn.{with_work}
-use Rattle.legal_trace.specs.Ledger.{Ledger, Ending, ends, noted, ending, ending_or_shutdown, failure_of, is_fault, is_cut, parts, by_fault}
+use Rattle.legal_trace.specs.Ledger.{Ledger, Ending, ends, noted, ending, ending_or_shutdown, failure_of, is_fault, is_cut, parts, by_fault, lasting}
 use Rattle.legal_trace.specs.Story.{Story}
 use Rattle.legal_trace.specs.Book.{Book, book, entered}
-use Rattle.legal_trace.specs.Owed.{owed, owed_unstarted, unstarted_error}
+use Rattle.legal_trace.specs.Owed.{owed, owed_by, owed_unstarted}
 use Rattle.legal_trace.specs.Legal.{MayClose, MayPart}
 use Rattle.session_laws.proofs.Numbers.{IsIn, in_left, in_right, Rising, rising_in, rising_within, rising_right, rising_tail, requests_in, requests_in-append, all_requests}
 use Rattle.session_laws.proofs.Tied.{Inner, no_link, link_in, owner_of, queue_ids, waiting_ids, IsKept, TiedLines, TiedWaits, Tied, relined, FailureIsShown, TiedLife, has_ended}
 use Rattle.session_laws.proofs.Said.{ready_shown, sources_asked}
 use Rattle.session_laws.proofs.States.{HasApplied}
 use Rattle.session_laws.proofs.InLine.{kept_ids, kept_in, line_of, IsInLine, awaited_rises, awaited_in}
-use Rattle.session_laws.proofs.Owes.{in_time, none_owed, in_line, later_unstarted, owed_none_started, settled_owed, notices_told, lives}
+use Rattle.session_laws.proofs.Owes.{in_time, none_owed, in_line, later_unstarted, owed_none_started, settled_owed, notices_told, lives, is_asked, is_last_one}
 use Rattle.session_laws.proofs.Kept.{mine_noted, others_kept, tied_by}
 use Rattle.session_laws.proofs.Answer.{after_end}
 use Rattle.session_laws.proofs.Aside.{aside_ends, others_created}
@@ -102,35 +102,40 @@ ended_waits story requests life e fresh moved h = record {
   no_room = λ p i r. absurd r;
 }
 
+-- where no attempt follows it ends so
+pub ends_so : (l : Ledger) (why : Ending) → l.last ≡ true → ending l ≡ Some why → lasting l.last (ending_or_shutdown (ending l)) ≡ why
+ends_so l why last must = λ i. lasting (last i) (ending_or_shutdown (must i))
+
 -- what a submission without a message is owed then
-ends_owed : (l : Ledger) (turn : ℕ) (why : Ending) (e : RedisError) → ending l ≡ Some why → unstarted_error why ≡ e → owed_unstarted (noted l (ends turn)).end ≡ Some (outcome.Fault e)
-ends_owed l turn why e must is = ap (λ w. Some (outcome.Fault (unstarted_error (ending_or_shutdown w)))) must ∙ ap (λ x. Some (outcome.Fault x)) is
+ends_owed : (l : Ledger) (turn : ℕ) (why : Ending) (e : RedisError) → l.last ≡ true → ending l ≡ Some why → owed_by why ≡ Some (outcome.Fault e) → owed_unstarted (noted l (ends turn)).end ≡ Some (outcome.Fault e)
+ends_owed l turn why e last must is = ap owed_by (ends_so l why last must) ∙ is
 
 -- and what its failure is
-ends_failed : (l : Ledger) (turn created : ℕ) (why : Ending) → ending l ≡ Some why → ((e : RedisError) → failure_of why ≡ Some e → created ≢ 0) → FailureIsShown (noted l (ends turn)).end created
-ends_failed l turn created why must shown e fails = shown e (sym (ap (λ w. failure_of (ending_or_shutdown w)) must) ∙ fails)
+ends_failed : (l : Ledger) (turn created : ℕ) (why : Ending) → l.last ≡ true → ending l ≡ Some why → ((e : RedisError) → failure_of why ≡ Some e → created ≢ 0) → FailureIsShown (noted l (ends turn)).end created
+ends_failed l turn created why last must shown e fails = shown e (sym (ap failure_of (ends_so l why last must)) ∙ fails)
 
 -- the session is tied to the book with the end of the link; the creation may be shown with it
-pub close_tied : (b : Book) (t : Inner) (created : ℕ) (why : Ending) (e : RedisError) (parting : Bool) (pending : List ℕ) → pending ≡ requests_in (wanted (link_in t.life).row) ++ awaited_ids (link_in t.life).queue → ending (b.link t.link) ≡ Some why → unstarted_error why ≡ e
+pub close_tied : (b : Book) (t : Inner) (created : ℕ) (failed : Bool) (why : Ending) (e : RedisError) (parting : Bool) (pending : List ℕ) → pending ≡ requests_in (wanted (link_in t.life).row) ++ awaited_ids (link_in t.life).queue → ending (b.link t.link) ≡ Some why → owed_by why ≡ Some (outcome.Fault e)
     → ((f : RedisError) → failure_of why ≡ Some f → created ≢ 0) → (hears_pushes t.hears ≡ true → parting ≡ false → is_fault why ≡ false) → has_ended t.life ≡ false → (b.created ≢ 0 → created ≢ 0) → Tied b (record t { pending = []; untold = []; parting = false })
-    → Tied (record (entered b (action.Close t.link)) { created = created }) (record t { life = Ended e; pending = pending; untold = []; parting = parting })
-close_tied b t created why e parting pending ids must is shown mild up on h =
+    → Tied (record (entered b (action.Close t.link)) { created = created; failed = failed }) (record t { life = Ended e; pending = pending; untold = []; parting = parting })
+close_tied b t created failed why e parting pending ids must is shown mild up on h =
     let turn = b.turns - 1 in
-    let after = record (entered b (action.Close t.link)) { created = created } in
+    let after = record (entered b (action.Close t.link)) { created = created; failed = failed } in
+    let last = is_last_one (b.link t.link) b.created t.life h.life up in
     tied_by after (record t { life = Ended e; pending = pending; untold = []; parting = parting }) (noted (b.link t.link) (ends turn)) (mine_noted (b.link t.link) t.link (ends turn)) (record {
-      numbers = record { turns = h.numbers.turns; links = h.numbers.links; timers = h.numbers.timers; sources = h.numbers.sources; uses = h.numbers.uses; aims = h.numbers.aims; timed = h.numbers.timed; submissions = h.numbers.submissions; timeout = h.numbers.timeout; shut = h.numbers.shut; within = h.numbers.within; few = h.numbers.few; settings = record { size_is = h.numbers.settings.size_is; bound_is = h.numbers.settings.bound_is; limit_is = h.numbers.settings.limit_is; some = h.numbers.settings.some; limited = h.numbers.settings.limited }; kind_is = h.numbers.kind_is; quiet = h.numbers.quiet; one = h.numbers.one; few_links = h.numbers.few_links };
+      numbers = record { turns = h.numbers.turns; links = h.numbers.links; timers = h.numbers.timers; sources = h.numbers.sources; uses = h.numbers.uses; aims = h.numbers.aims; timed = h.numbers.timed; submissions = h.numbers.submissions; timeout = h.numbers.timeout; shut = h.numbers.shut; within = h.numbers.within; few = h.numbers.few; settings = record { size_is = h.numbers.settings.size_is; bound_is = h.numbers.settings.bound_is; limit_is = h.numbers.settings.limit_is; some = h.numbers.settings.some; limited = h.numbers.settings.limited }; kind_is = h.numbers.kind_is; quiet = h.numbers.quiet; plain = h.numbers.plain; eager = h.numbers.eager; current_is = h.numbers.current_is; speaks = h.numbers.speaks; one = h.numbers.one; few_links = h.numbers.few_links };
       others = others_created t.link created _ on (others_kept b t.link (ends turn) h.others);
       notices = record {
         heard_is = h.notices.heard_is;
         hearing_is = h.notices.hearing_is;
         within = h.notices.within;
         untold_is = h.notices.untold_is;
-        parts = λ heard done cut. absurd (not_both (is_fault why) (mild heard done) (sym (ap (λ w. is_fault (ending_or_shutdown w)) must) ∙ cut));
+        parts = λ heard done cut. absurd (not_both (is_fault why) (mild heard done) (sym (ap is_fault (ends_so (b.link t.link) why last must)) ∙ cut));
         alive = λ none. cc;
         due = λ parted. h.notices.alive (lives (b.link t.link) b.created t.life h.life up);
         tame = λ none r. cc;
       };
-      life = (refl, ends_owed (b.link t.link) turn why e must is, ends_failed (b.link t.link) turn created why must shown);
+      life = (refl, ends_owed (b.link t.link) turn why e last must is, ends_failed (b.link t.link) turn created why last must shown, is_asked (b.link t.link) b.created t.life h.life);
       creds = record { wanted_is = h.creds.wanted_is; sought = tt };
       count = h.count;
       renewal = renewal_ended (b.link t.link) (noted (b.link t.link) (ends turn)) t.renewal t.life refl refl h.renewal;
@@ -345,7 +350,7 @@ no_failure : (e : RedisError) → ◌≡◌ {A = Option RedisError} None (Some e
 no_failure e is = cc
 
 -- so is a link that must end; where a fault ends it that somebody hears, this is still to be told
-pub cut_holds : (before : List Action) (f : Core) (w : Work) (row queue : List Settled) (why : Ending) (parting : Bool) (started : List ℕ) → Holds before f w [] started → has_ended w.conn.life ≡ false → unstarted_error why ≡ error.Closed → failure_of why ≡ None
+pub cut_holds : (before : List Action) (f : Core) (w : Work) (row queue : List Settled) (why : Ending) (parting : Bool) (started : List ℕ) → Holds before f w [] started → has_ended w.conn.life ≡ false → owed_by why ≡ Some (outcome.Fault error.Closed) → failure_of why ≡ None
     → (hears_pushes w.conn.hears ≡ true → parting ≡ false → is_fault why ≡ false)
     → (let b = book (trace_of_acts before f w.acts) in let l = b.link f.single.link in
     (ending l ≡ Some why) × SettlesAll (owner_of w.conn.requests) (noted l (ends (b.turns - 1))) (link_in w.conn.life) row queue)
@@ -360,7 +365,7 @@ cut_holds before f w row queue why parting started h alive closes opened mild mu
     let link_is : (book (trace_of_acts before f (cut_short w).acts)).link f.single.link ≡ noted (b.link f.single.link) (ends (b.turns - 1)) = ap (λ (x : Book). x.link f.single.link) (book_of_more before f w.acts act.Close) ∙ mine_noted (b.link f.single.link) f.single.link (ends (b.turns - 1)) in
     record {
       holds = sound_told before f w.acts act.Close (record w.conn { life = Ended error.Closed }) [] parting ns started h.stands (may_close b t why h.tied refl refl alive must.0)
-          (close_tied b t b.created why error.Closed parting ns ids must.0 closes (λ e fails. absurd (no_failure e (sym opened ∙ fails))) mild alive (λ some. some) h.tied);
+          (close_tied b t b.created b.failed why error.Closed parting ns ids must.0 closes (λ e fails. absurd (no_failure e (sym opened ∙ fails))) mild alive (λ some. some) h.tied);
       over = refl;
       line = close_in_line w.conn.requests link w.conn.admitted w.conn.waiting ns ids (in_line b t h.tied alive);
       early = λ p o. ap (λ (x : Book). (x.story (name_at w.conn.requests p)).overdue) (book_of_more before f w.acts act.Close) ∙ are_in_time b t h.tied refl p o;
@@ -398,7 +403,7 @@ all_ends before f w ids row queue started h =
     }) settled
 
 -- so a link ends that need not be told to have
-pub ended_holds : (before : List Action) (f : Core) (w : Work) (row queue : List Settled) (why : Ending) (started : List ℕ) → Holds before f w [] started → has_ended w.conn.life ≡ false → unstarted_error why ≡ error.Closed → failure_of why ≡ None → is_fault why ≡ false
+pub ended_holds : (before : List Action) (f : Core) (w : Work) (row queue : List Settled) (why : Ending) (started : List ℕ) → Holds before f w [] started → has_ended w.conn.life ≡ false → owed_by why ≡ Some (outcome.Fault error.Closed) → failure_of why ≡ None → is_fault why ≡ false
     → (let b = book (trace_of_acts before f w.acts) in let l = b.link f.single.link in
     (ending l ≡ Some why) × SettlesAll (owner_of w.conn.requests) (noted l (ends (b.turns - 1))) (link_in w.conn.life) row queue)
     → HasEnded before f (ended w (row ++ queue)) error.Closed started

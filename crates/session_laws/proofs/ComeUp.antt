@@ -43,7 +43,7 @@ use Rattle.session_laws.proofs.Entered.{all_stand-append, book_more, sound_more,
 use Rattle.session_laws.proofs.Settle.{Tells, seen, trace_of_acts}
 use Rattle.session_laws.proofs.InLine.{kept_ids}
 use Rattle.session_laws.proofs.Numbers.{IsIn, Rising, rising_right, requests_in}
-use Rattle.session_laws.proofs.Announce.{IsNewsKind, comes_as, heard_book, heard_is, heard_starts, heard_tied, may_turn, turn_of, turned, ComesTo, heard_tied_by, others_heard, renews_hear, sources_hear, uses_more}
+use Rattle.session_laws.proofs.Announce.{IsNewsKind, comes_as, heard_book, heard_is, heard_starts, heard_tied, may_turn, turn_of, turned, ComesTo, heard_tied_by, others_heard, renews_hear, sources_hear, uses_more, protocol_still}
 use Rattle.session_laws.proofs.Heard.{book_kind, book_news, fresh_applied, heard_by, none_ends, none_hears}
 use Rattle.session_laws.proofs.Ahead.{waiting_open}
 use Rattle.session_laws.proofs.Renewals.{early_renewal, renewed_first}
@@ -135,6 +135,7 @@ pub record IsMade (l : Ledger) (created : ℕ) (requests : List Request) (link :
   pub asked : l.asked ≡ true
   pub up : l.up ≡ true
   pub alive : l.end ≡ None
+  pub last : l.last ≡ true
   pub unshown : created ≡ 0
   pub said : IsSetUp l
   pub tied : TiedLink (owner_of requests) l link
@@ -194,7 +195,7 @@ readied_comes b c started n info link untold more h0 fit no_fresh other early fa
     let said = setup_recredited l asked renews l.creds.renewals l.creds.over l.creds.timed l.creds.lost info started link (record { info_is = facts.info_is; sent = facts.sent; said = made.said }) in
     record {
       starts = heard_starts (b.link c.single.link) c.turns n;
-      lived = (made.asked, made.up, made.alive, λ z. absurd (omega arith));
+      lived = (made.asked, made.up, made.alive, λ z. absurd (omega arith), made.last);
       creds = record {
         wanted_is = facts.wanted_is;
         sought = (
@@ -229,7 +230,7 @@ may_be_created b c started word kind n info link untold h0 early own facts = rec
   l = c.single.link;
   ready = ap is_ready_link own ∙ (λ i. facts.made.up i && facts.made.said.well i);
   once = facts.made.unshown;
-  answered = unstarted_owed b (heard_book b c.turns word kind) c started h0 (early_started (b.link c.single.link) started c.single.connection.life early.unready early.alive h0.setup.said) (λ m. refl) (ap (λ (y : Ledger). y.end) own ∙ facts.made.alive);
+  answered = unstarted_owed b (heard_book b c.turns word kind) c started h0 (early_started (b.link c.single.link) started c.single.connection.life early.unready early.alive h0.setup.said) (λ m. refl) (ap (λ (y : Ledger). y.asked) own ∙ facts.made.asked) (ap (λ (y : Ledger). y.end) own ∙ facts.made.alive);
 }
 
 -- the second source is for its renewals
@@ -292,9 +293,9 @@ makes_ready before c started word kind n info link untold h good k is other earl
         let t = record (seen f [] (comes_as c info (Ready link) ns) [] started) { untold = untold } in
         let same : readied c.single.connection.renewal.wanted l ≡ l = ap (λ (x : Bool). readied x l) w in
         let comes = readied_comes b c started n info link untold false h0 h.fit h.fresh other early facts (facts.wanted_is ∙ w) (λ none. cc) in
-        let tied : Tied (entered now shown) t = heard_tied b c started word (b.created + 1) kind info (Ready link) ns [] untold l h0 good (λ some none. absurd (omega arith)) own comes in
+        let tied : Tied (entered now shown) t = heard_tied b c started word (b.created + 1) (b.failed || false) kind info (Ready link) ns [] untold l h0 good (λ some none. absurd (omega arith)) own comes in
         record {
-          holds = sound_more front shown t all (subst MayBeCreated (sym book_is) may) (subst (λ (x : Book). Tied (entered x shown) t) (sym book_is) tied);
+          holds = sound_more front shown t all (inl (subst MayBeCreated (sym book_is) may)) (subst (λ (x : Book). Tied (entered x shown) t) (sym book_is) tied);
           ledger = ap (λ (x : Book). x.link mine) (book_more front shown ∙ ap (λ (x : Book). entered x shown) book_is) ∙ own ∙ sym same;
         }
 
@@ -321,13 +322,13 @@ makes_ready before c started word kind n info link untold h good k is other earl
         let counted : length uses ≡ sources_asked_in after.creds =
         length_push c.sources (use_after mine count) ∙ ap (λ m. m + 1) (h0.count ∙ sym (sources_hear (b.link mine) c.turns n) ∙ (λ i. (if asked i then 1 else 0) + (if renews i then 1 else 0))) ∙ ap (λ (x : Bool). 1 + (if x then 1 else 0)) (sym asked) in
         let tied : Tied (entered created needs) t =
-        heard_tied_by b c started word (b.created + 1) kind info (Ready link) ns [] untold links after (b.sources ++ what ∷ []) uses h0 (others_kept now mine sources others) ledger_is
+        heard_tied_by b c started word (b.created + 1) (b.failed || false) kind info (Ready link) ns [] untold links after (b.sources ++ what ∷ []) uses h0 (protocol_still b c started kind info l h0 own facts.info_is) (others_kept now mine sources others) ledger_is
         (λ i. h0.numbers.sources i ++ what_is i ∷ []) (subst (λ m. AreUses (c.sources ++ use_after mine m ∷ []) mine) (sym next) (uses_more c.sources mine h0.numbers.uses)) counted comes in
         let need : MayNeed created count mine = record {
           due = ap source_due own ∙ (λ i. facts.made.up i && wanted i && (not (asked i) || (facts.made.said.well i && not (renews i))));
           next = next ∙ ap length (sym h0.numbers.sources);
           in_order = λ m less. down_sourced (now.link m) (others m (λ one. omega arith)).down;
-          answered = unstarted_owed b created c started h0 (early_started (b.link mine) started c.single.connection.life early.unready early.alive h0.setup.said) (λ m. refl) (ap (λ (y : Ledger). y.end) own ∙ facts.made.alive);
+          answered = unstarted_owed b created c started h0 (early_started (b.link mine) started c.single.connection.life early.unready early.alive h0.setup.said) (λ m. refl) (ap (λ (y : Ledger). y.asked) own ∙ facts.made.asked) (ap (λ (y : Ledger). y.end) own ∙ facts.made.alive);
           created = λ m ready none. absurd (let no : b.created + 1 ≡ 0 = none in omega (arith, no));
         } in
         let both = shown ∷ needs ∷ [] in
@@ -335,7 +336,7 @@ makes_ready before c started word kind n info link untold h good k is other earl
         let same : readied c.single.connection.renewal.wanted l ≡ after = ap (λ (x : Bool). readied x l) w in
         record {
           holds = record {
-            stands = all_stand-append front both all (subst MayBeCreated (sym book_is) may, (subst (λ (x : Book). MayNeed (entered x shown) count mine) (sym book_is) need, tt));
+            stands = all_stand-append front both all (inl (subst MayBeCreated (sym book_is) may), (subst (λ (x : Book). MayNeed (entered x shown) count mine) (sym book_is) need, tt));
             tied = subst (λ (x : Book). Tied x t) (sym last) tied;
           };
           ledger = ap (λ (x : Book). x.link mine) last ∙ ledger_is ∙ sym same;
@@ -387,6 +388,7 @@ pub record IsUpNow (l : Ledger) (created : ℕ) (c : MultiplexedConnection) (inf
   pub asked : l.asked ≡ true
   pub up : l.up ≡ true
   pub alive : l.end ≡ None
+  pub last : l.last ≡ true
   pub unshown : created ≡ 0
   pub info_is : l.info ≡ info
   pub wanted_is : l.creds.wanted ≡ c.renewal.wanted
@@ -414,7 +416,7 @@ comes_ready before c started word kind n info link h good k is other early u has
     let more = c.single.connection.renewal.wanted in
     let silent : says_nothing (setup_steps l 0) ≡ true = says_same l info u.info_is ∙ nothing in
     let said : IsSetUp l = record { well = silent_is_set l (ap is_watching notices.hearing_is ∙ plain) (has_credentials l.creds has) silent; none = λ t. ap setup_count u.starts } in
-    let made : IsMade l (book before).created conn.requests link = record { asked = u.asked; up = u.up; alive = u.alive; unshown = u.unshown; said = said; tied = u.tied (owner_of conn.requests); queue = u.queue; row = u.row } in
+    let made : IsMade l (book before).created conn.requests link = record { asked = u.asked; up = u.up; alive = u.alive; last = u.last; unshown = u.unshown; said = said; tied = u.tied (owner_of conn.requests); queue = u.queue; row = u.row } in
     ready_applied (before ++ turn_of c word kind ∷ []) (turned c kind) conn link (readied more l) started (λ z. absurd (omega arith)) h.moved u.fit (ends_where_set (readied more l) u.up (well_readied more l ∙ said.well) ∙ calm more)
     (makes_ready before c started word kind n info link [] h good k is other early (record { info_is = u.info_is; sent = u.sent; wanted_is = u.wanted_is; has = has; made = made; notices = notices }))
 
@@ -458,7 +460,7 @@ comes_to_say before c started word kind n info link h good k is other early u ha
     fresh_applied before c started word kind n info life (numbers_of conn.waiting) h good k is
     (record {
       starts = heard_starts (b.link c.single.link) c.turns n;
-      lived = (u.asked, u.up, u.alive, u.unshown);
+      lived = (u.asked, u.up, u.alive, u.unshown, u.last);
       creds = record { wanted_is = u.wanted_is; sought = (has, renews_hear (b.link c.single.link) c.turns n ∙ early_sources (b.link c.single.link).creds conn.life early.unready early.alive h0.creds.sought) };
       renewal_is = none_hears (b.link c.single.link) c.turns n conn.renewal other (early_renewal (b.link c.single.link) conn.renewal conn.life early.unready early.alive h0.renewal);
       said = record { info_is = u.info_is; sent = u.sent; said = (u.none, said) };
@@ -537,7 +539,7 @@ comes_to_watch before c started word kind n info link h good k is other early u 
     fresh_applied before c started word kind n info life conn.fresh h good k is
     (record {
       starts = heard_starts (b.link c.single.link) c.turns n;
-      lived = (u.asked, u.up, u.alive, u.unshown);
+      lived = (u.asked, u.up, u.alive, u.unshown, u.last);
       creds = record { wanted_is = u.wanted_is; sought = (has, renews_hear (b.link c.single.link) c.turns n ∙ early_sources (b.link c.single.link).creds conn.life early.unready early.alive h0.creds.sought) };
       renewal_is = none_hears (b.link c.single.link) c.turns n conn.renewal other (early_renewal (b.link c.single.link) conn.renewal conn.life early.unready early.alive h0.renewal);
       said = record { info_is = u.info_is; sent = u.sent; said = (u.none, said) };

@@ -1,7 +1,7 @@
 -- A session whose event has had its own effect, while requests are moved.
 use Rattle.std.proofs.Common.{◌+◌, ◌≤◌, List, None, Option, Some, [], ap, arith, false, inl, inr, length, refl, subst, sym, true, ℕ, ◌++◌, ◌<◌, ◌∙◌, ◌∷◌, ◌≡◌, ◌⊎◌}
-use Rattle.std.specs.Prelude.{if◌then◌else◌, is_some, ◌==◌}
-use Rattle.containers.proofs.Choices.{by_test, chosen, eq_from, left_if, ne_from, not_both}
+use Rattle.std.specs.Prelude.{if◌then◌else◌, is_some, ◌==◌, Bool, not, ◌&&◌}
+use Rattle.containers.proofs.Choices.{by_test, chosen, eq_from, left_if, ne_from, not_both, ne_test}
 use Rattle.redis_error.specs.declared.redis_error.RedisError.{RedisError}
 use Rattle.credentials.specs.Credentials.{Credentials}
 use Rattle.driver_model.specs.declared.action.Action.{Action}
@@ -15,10 +15,10 @@ use Rattle.mux_conn.specs.declared.renewal.Renewal.{Renewal}
 use Rattle.mux_conn.specs.declared.life.Greeting.{Greeting}
 use Rattle.mux_conn.specs.declared.life.Life.{Life}
 use Rattle.mux_conn.specs.declared.life.Life.TheVariants.{Dialing, Ended, Ready, SettingUp, Wanting}
-use Rattle.legal_trace.specs.Book.{Book, blank_book, book, entered, if_mine}
+use Rattle.legal_trace.specs.Book.{Book, blank_book, book, entered, if_mine, has_generations}
 use Rattle.legal_trace.specs.Ledger.{Ledger, Line, dials, ending, is_set_up, lacks_credentials, noted, noted_each, renewal_count, renewal_due, renewals_asked, setup_count, setup_due, setup_steps, monitor_due, is_greeted, setup_result}
-use Rattle.legal_trace.specs.Legal.{AllStand, CanMove, IsApplied, IsBegun, IsFirstToMove, IsMoved, MayStand, NoneEnds, RenewalsAreStarted, RenewalsAreTimed, SetupsAreStarted, MonitorsAreStarted}
-use Rattle.legal_trace.specs.Steps.{Step, is_due, is_held_back, next_step, nothing, starts_or_waits, step_ready, unready_wait, waits}
+use Rattle.legal_trace.specs.Legal.{AllStand, CanMove, IsApplied, IsBegun, IsFirstToMove, IsMoved, MayStand, NoneEnds, RenewalsAreStarted, RenewalsAreTimed, SetupsAreStarted, MonitorsAreStarted, IsShown, begins_first, current_link, is_attempt, is_caused}
+use Rattle.legal_trace.specs.Steps.{Step, is_due, is_held_back, next_step, starts_or_waits, step_down, step_ready, unready_wait, waits}
 use Rattle.session_laws.proofs.Ahead.{HasSeats, IsRunning, creds_step, full_step, held_by, permit_step, queue_step, ready_alive, running_of, setup_step}
 use Rattle.session_laws.proofs.Behind.{alive_behind}
 use Rattle.session_laws.proofs.Creds.{lacking_undue, wanting_lacks, lacking_undecided}
@@ -55,9 +55,19 @@ going_more trace a t stands may tied none renewed = record {
   renewed = renewed;
 }
 
+-- what is shown is all that the event does, since no generation follows, and the link was asked for
+shown_applied : (b : Book) (t : Inner) → Tied b t → IsShown b → IsApplied b
+shown_applied b t h shown = record {
+  shown = shown;
+  rested = ap (λ g. g && is_attempt (current_link b).end) h.numbers.plain;
+  generated = ap (λ g. g && (not b.failed && (not b.shut && (if b.generation == 0 then begins_first b else is_caused b)))) h.numbers.plain;
+  linked = left_if (has_generations b) _ (b.links == 0) h.numbers.plain ∙ ne_test b.links 0 (λ none. let links = h.numbers.links in let one = h.numbers.one in omega arith);
+  timed = h.numbers.timed;
+}
+
 -- the event has had its effect, while nothing is to be answered and the link has not ended
 pub applied_up : (b : Book) (t : Inner) → Tied b t → t.pending ≡ [] → IsToldIn t → has_ended t.life ≡ false → NoneEnds b → IsApplied b
-applied_up b t h none told up ended = record { answered = none_owed b t h none up; ended = ended; created = created_is b t h; pushed = notices_told b t h told.0; parted = ends_told b t h told.1; sourced = sources_asked b t h; timed = h.numbers.timed }
+applied_up b t h none told up ended = shown_applied b t h (record { answered = none_owed b t h none up; ended = ended; created = created_is b t h; pushed = notices_told b t h told.0; parted = ends_told b t h told.1; sourced = sources_asked b t h })
 
 -- each setup has started that is to start, but where its link is held back, where it is so of the link of the session
 pub setups_started : (b : Book) (t : Inner) → Tied b t → ((link : LinkState) (greeting : Greeting) → t.life ≡ SettingUp link greeting → (setup_due (b.link t.link) ≡ None) ⊎ (is_held_back b (b.link t.link) ≡ true)) → SetupsAreStarted b
@@ -179,15 +189,14 @@ begun_up b t h r told ended renewed = record {
 
 -- or none waits
 pub applied_over : (b : Book) (t : Inner) (e : RedisError) → Tied b t → t.pending ≡ [] → IsToldIn t → t.life ≡ Ended e → kept_ids t.admitted t.waiting ≡ [] → NoneEnds b → IsApplied b
-applied_over b t e h none told over empty ended = record {
+applied_over b t e h none told over empty ended = shown_applied b t h (record {
   answered = λ n o. absurd (none_open b t e n h none over empty o);
   ended = ended;
   created = created_is b t h;
   pushed = notices_told b t h told.0;
   parted = ends_told b t h told.1;
   sourced = sources_asked b t h;
-  timed = h.numbers.timed;
-}
+})
 
 -- a line of one link that ends none
 pub none_ends_kept : (b : Book) (n : ℕ) (line : Line) → ((l : Ledger) → ending l ≡ None → ending (noted l line) ≡ None) → NoneEnds b → (m : ℕ) → ending (noted_each (b.link m) (if_mine (n == m) line)) ≡ None
@@ -254,7 +263,11 @@ down_stays b n down =
     let s = b.story n in
     let l = b.link s.link in
     let step : Step = if is_set_up l then step_ready b n s else waits (unready_wait l) in
-    chosen (λ (x : Step). is_due x ≡ false) (dials l) (waits wait.Connect) (if l.up then step else nothing) (λ t. refl) (λ f. ap is_due (left_if l.up step nothing down))
+    chosen (λ (x : Step). is_due x ≡ false) (dials l) (waits wait.Connect) (if l.up then step else step_down l.asked) (λ t. refl) (λ f. ap is_due (left_if l.up step (step_down l.asked) down) ∙ none_due_down l.asked)
+  where
+    none_due_down : (asked : Bool) → is_due (step_down asked) ≡ false
+    none_due_down true = refl
+    none_due_down false = refl
 
 -- as each submission that is still to start is for it
 down_moves_none : (b : Book) (t : Inner) → Tied b t → (b.link t.link).up ≡ false → (n : ℕ) → CanMove b n → ⊥

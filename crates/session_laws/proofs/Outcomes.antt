@@ -1,6 +1,7 @@
 -- What the outcome actions of a trace say is what its book says.
 use Rattle.driver_model.specs.declared.action.Purpose.{Purpose}
 use Rattle.legal_trace.specs.Book.{entered, is_unspoken}
+use Rattle.std.specs.Prelude.{max}
 use Rattle.std.proofs.Common.{List, None, Option, Some, [], ap, arith, inl, inr, is_some, length, length-set, nat_le, not, refl, slice_get, slice_set, subst, suc, sym, true, zero, ℕ, ◌++◌, ◌+◌, ◌<◌, ◌∙◌, ◌∷◌, ◌≡◌, ◌≤◌}
 use Rattle.std.proofs.lemmas.List.{length_push}
 use Rattle.std.specs.Prelude.{◌&&◌, ◌==◌}
@@ -16,7 +17,7 @@ use Rattle.driver_model.specs.declared.event.EventKind.TheVariants as event
 use Rattle.driver_model.specs.declared.event.Submission.{Submission}
 use Rattle.driver_model.specs.declared.outcome.Outcome.{Outcome}
 use Rattle.shared_session.specs.Replay.{if_placed, outcome_at, outcomes_in, told, told_each, with_room}
-use Rattle.legal_trace.specs.Book.{Book, blank_book, book, current, entered_each, is_clock_of}
+use Rattle.legal_trace.specs.Book.{Book, blank_book, book, entered_each, is_clock_of}
 use Rattle.legal_trace.specs.Legal.{AllStand, IsOpen, MayStand}
 use Rattle.legal_trace.specs.Story.{Story, answered, clocked, fires, handed_in, holds, is_open, left, tried, waits}
 use Rattle.session_laws.specs.Outcomes.{last_outcome}
@@ -81,9 +82,9 @@ submit_outcomes : (os : List (Option Outcome)) (b : Book) (number word : ℕ) (w
 submit_outcomes os b number word what h = record {
   long = length_push os None ∙ ap (λ n. n + 1) h.long;
   last = λ n. room_at os n ∙ h.last n
-      ∙ chosen (λ (s : Story). last_outcome (b.story n).outcomes ≡ last_outcome s.outcomes) (b.submissions == n) (handed_in (b.story n) what b.shut (is_unspoken b what) (current b) b.timeout) (b.story n) (λ t. refl) (λ f. refl);
+      ∙ chosen (λ (s : Story). last_outcome (b.story n).outcomes ≡ last_outcome s.outcomes) (b.submissions == n) (handed_in (b.story n) what b.shut (is_unspoken b what) (max 1 b.generation) b.current b.timeout) (b.story n) (λ t. refl) (λ f. refl);
   later = λ n l.
-      chosen (λ (s : Story). (s.submission ≡ None) × (s.outcomes ≡ [])) (b.submissions == n) (handed_in (b.story n) what b.shut (is_unspoken b what) (current b) b.timeout) (b.story n)
+      chosen (λ (s : Story). (s.submission ≡ None) × (s.outcomes ≡ [])) (b.submissions == n) (handed_in (b.story n) what b.shut (is_unspoken b what) (max 1 b.generation) b.current b.timeout) (b.story n)
       (λ t. absurd (let same = eq_from b.submissions n t in omega arith))
       (λ f. h.later n (omega arith));
 }

@@ -1,5 +1,5 @@
 -- What submissions are owed, by the requests that they are.
-use Rattle.std.proofs.Common.{◌≡◌, ◌≢◌, inl, inr, ℕ, zero, suc, ◌+◌, ◌<◌, ◌==◌, Bool, true, false, ◌&&◌, not, is_some, length-append, List, [], ◌∷◌, ◌++◌, length, Option, Some, None, slice_get, refl, sym, ap, ◌∙◌, subst, arith, drop}
+use Rattle.std.proofs.Common.{◌≡◌, ◌≢◌, inl, inr, ℕ, zero, suc, ◌+◌, ◌<◌, ◌==◌, Bool, true, false, ◌&&◌, not, is_some, length-append, List, [], ◌∷◌, ◌++◌, length, Option, Some, None, slice_get, refl, sym, ap, ◌∙◌, subst, arith, drop, if◌then◌else◌}
 use Rattle.std.specs.List.{AllByRecursion}
 use Rattle.std.proofs.lemmas.List.{nil_from_length}
 use Rattle.containers.proofs.Choices.{by_test, left_if, eq_from, ne_from, ne_test, not_both, taken_if, eq_test}
@@ -23,7 +23,8 @@ use Rattle.mux_conn.specs.Requests.{name_at, is_open_at}
 use Rattle.legal_trace.specs.Ledger.{full_count, Ledger, Heard, Start, End, failure_in, is_cut, is_of_setup, next_notice, setup_count}
 use Rattle.legal_trace.specs.Story.{Story, bytes_of, shape, last_of, is_open}
 use Rattle.legal_trace.specs.Book.{Book}
-use Rattle.legal_trace.specs.Owed.{owed, owed_to_message, owed_unstarted, owed_to_try}
+use Rattle.legal_trace.specs.Owed.{owed, owed_to_message, owed_unstarted, owed_to_try, owed_waiting}
+use Rattle.legal_trace.specs.Managers.{is_lazy}
 use Rattle.legal_trace.specs.Legal.{IsOpen, NoneIsOwed, IsCreated, FailuresAreShown, NoticesAreTold, EndsAreTold}
 use Rattle.session_laws.proofs.Numbers.{Rising, IsIn, in_either, rising_in, rising_left, rising_right, rising_apart, requests_in, request_in, request_of}
 use Rattle.session_laws.proofs.Said.{ready_shown}
@@ -151,6 +152,27 @@ owed_started b t p k of_shape h l in_time place =
     ∙ ap (λ ts. owed_to_try b (b.story n) (last_of ts)) (h.tries.tried e.0 p l e.2 ∙ ap (λ m. record { link = t.link; message = m } ∷ []) (sym e.1))
     ∙ ap (owed_to_message (b.link t.link) k) same
 
+-- a link was asked for, however far it has come
+pub is_asked : (l : Ledger) (created : ℕ) (life : Life) → TiedLife l created life → l.asked ≡ true
+is_asked l created Dialing h = h.0
+is_asked l created (Wanting link) h = h.0
+is_asked l created (SettingUp link greeting) h = h.0
+is_asked l created (Ready link) h = h.0
+is_asked l created (Ended e) h = h.3
+
+-- and until it ends no attempt follows
+pub is_last_one : (l : Ledger) (created : ℕ) (life : Life) → TiedLife l created life → has_ended life ≡ false → l.last ≡ true
+is_last_one l created Dialing h n = h.4
+is_last_one l created (Wanting link) h n = h.4
+is_last_one l created (SettingUp link greeting) h n = h.4
+is_last_one l created (Ready link) h n = h.4
+is_last_one l created (Ended e) h n = cc
+
+-- of a link that was asked for it is owed what the end says
+pub owed_asked : (shut : Bool) (l : Ledger) → l.asked ≡ true → owed_waiting shut l ≡ owed_unstarted l.end
+owed_asked true l e = ap (λ a. if not a then Some (outcome.Fault error.Closed) else owed_unstarted l.end) e
+owed_asked false l e = refl
+
 -- where it has none
 pub owed_none_started : (b : Book) (t : Inner) (p : ℕ) → Tied b t → p < length t.requests → (b.story (name_at t.requests p)).overdue ≡ false → (IsIn p t.started → ⊥) → owed b (name_at t.requests p) ≡ owed_unstarted (b.link t.link).end
 owed_none_started b t p h l in_time not_started =
@@ -159,7 +181,7 @@ owed_none_started b t p h l in_time not_started =
     let g = get_some t.requests p l in
     let named : n ≡ g.0.name = name_of_some t.requests p g.0 g.1 in
     let untried : (b.story n).tries ≡ [] = ap (λ m. (b.story m).tries) named ∙ h.tries.untried p g.0 g.1 not_started in
-    owed_by_try b n r.in_time r.spoken r.some in_time ∙ ap (λ ts. owed_to_try b (b.story n) (last_of ts)) untried ∙ ap (λ m. owed_unstarted (b.link m).end) r.on
+    owed_by_try b n r.in_time r.spoken r.some in_time ∙ ap (λ ts. owed_to_try b (b.story n) (last_of ts)) untried ∙ ap (λ m. owed_waiting b.shut (b.link m)) r.on ∙ owed_asked b.shut (b.link t.link) (is_asked (b.link t.link) b.created t.life h.life)
 
 -- what a link has settled is what its submissions are owed
 pub settled_owed : (b : Book) (t : Inner) (s : Settled) → Tied b t → s.id < length t.requests → (b.story (name_at t.requests s.id)).overdue ≡ false → IsOwed (owner_of t.requests) (b.link t.link) s → owed b (name_at t.requests s.id) ≡ Some (outcome_of s.verdict)
@@ -265,12 +287,12 @@ failures_shown b t h m = by_test (m == t.link) (FailureIsShown (b.link m).end b.
     (λ same. subst (λ k. FailureIsShown (b.link k).end b.created) (sym (eq_from m t.link same)) (failure_shown (b.link t.link) b.created t.life h.life))
     (λ other. (h.others m (ne_from m t.link other)).shown)
 
--- a link was asked for, and where it is ready, or its opening failed, the creation was shown
+-- where a link is ready, or its opening failed, the creation was shown
 pub created_is : (b : Book) (t : Inner) → Tied b t → IsCreated b
 created_is b t h = record {
-  asked = λ e. let asked = h.numbers.links in let one = h.numbers.one in omega arith;
   shown = ready_shown b t h;
   failed = failures_shown b t h;
+  lazy = λ is. absurd (not_both (is_lazy b.config) h.numbers.eager is);
 }
 
 -- nothing comes behind all of a list

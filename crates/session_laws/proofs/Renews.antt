@@ -99,7 +99,7 @@ time_tied b t link number ms none due within h =
     let l = b.link t.link in
     let r = t.renewal in
     let what = purpose.Renewal t.link r.asked in
-    let k = numbers_kept b b.link b.story (on_link t link) (Ready link) t.free t.requests t.waiting t.admitted t.fresh t.moved t.letting [] t.started h.numbers in
+    let k = numbers_kept b b.link b.story b.errors (on_link t link) (Ready link) t.free t.requests t.waiting t.admitted t.fresh t.moved t.letting [] t.started h.numbers in
     tied_by (entered b (action.Timer number ms what)) (record (on_link t link) { timers = t.timers ++ what ∷ []; renewal = asked_next r }) (noted l times) (mine_noted l t.link times) (record {
       numbers = record {
         turns = k.turns;
@@ -108,7 +108,7 @@ time_tied b t link number ms none due within h =
         sources = k.sources;
         uses = k.uses;
         aims = aims_renewed t.timers t.link (length t.table) r.asked h.numbers.aims;
-        timed = λ config word opens bounded nothing. some_more b.timers what nothing;
+        timed = k.timed;
         submissions = k.submissions;
         timeout = k.timeout;
         shut = k.shut;
@@ -117,6 +117,10 @@ time_tied b t link number ms none due within h =
         settings = record { size_is = k.settings.size_is; bound_is = k.settings.bound_is; limit_is = k.settings.limit_is; some = k.settings.some; limited = k.settings.limited };
         kind_is = k.kind_is;
         quiet = λ w. let q = h.numbers.quiet w in record { none = q.none; unwanted = q.unwanted; unrenewed = q.unrenewed };
+        plain = k.plain;
+        eager = k.eager;
+        current_is = k.current_is;
+        speaks = k.speaks;
         one = k.one;
         few_links = k.few_links;
       };
@@ -224,7 +228,7 @@ auth_tied b t link c cs due pending waits h =
     let plain : is_watching t.hears ≡ true → ⊥ = λ w. (let no : [] ≡ c ∷ cs = sym (h.numbers.quiet w).unrenewed ∙ waits in cc) in
     let unwatched : is_watching l.hearing ≡ false = by_test (is_watching l.hearing) _ (λ w. absurd (plain (ap is_watching (sym h.notices.hearing_is) ∙ w))) (λ f. f) in
     let few : length t.requests ≤ renewal_id = omega (arith, h.names.few, h.numbers.few) in
-    let k = numbers_kept b b.link b.story (on_link t link) (Ready (begun link q)) t.free t.requests t.waiting t.admitted t.fresh t.moved t.letting [] (t.started ++ renewal_id ∷ []) h.numbers in
+    let k = numbers_kept b b.link b.story b.errors (on_link t link) (Ready (begun link q)) t.free t.requests t.waiting t.admitted t.fresh t.moved t.letting [] (t.started ++ renewal_id ∷ []) h.numbers in
     tied_by (entered b (auth_action t link c)) (after_auth t link c cs) (noted l (begins s)) (mine_noted l t.link (begins (message_of b t.link owner.Auth)) ∙ ap (λ x. noted l (begins x)) told) (record {
       numbers = record {
         turns = k.turns;
@@ -242,6 +246,10 @@ auth_tied b t link c cs due pending waits h =
         settings = record { size_is = k.settings.size_is; bound_is = k.settings.bound_is; limit_is = k.settings.limit_is; some = k.settings.some; limited = k.settings.limited };
         kind_is = k.kind_is;
         quiet = λ w. absurd (plain w);
+        plain = k.plain;
+        eager = k.eager;
+        current_is = k.current_is;
+        speaks = k.speaks;
         one = k.one;
         few_links = k.few_links;
       };

@@ -275,6 +275,10 @@ renewal_tied b t r within wanted waiting tied h = record {
     settings = record { size_is = h.numbers.settings.size_is; bound_is = h.numbers.settings.bound_is; limit_is = h.numbers.settings.limit_is; some = h.numbers.settings.some; limited = h.numbers.settings.limited };
     kind_is = h.numbers.kind_is;
     quiet = λ w. let q = h.numbers.quiet w in record { none = q.none; unwanted = wanted ∙ q.unwanted; unrenewed = waiting ∙ q.unrenewed };
+    plain = h.numbers.plain;
+    eager = h.numbers.eager;
+    current_is = h.numbers.current_is;
+    speaks = h.numbers.speaks;
     one = h.numbers.one;
     few_links = h.numbers.few_links;
   };

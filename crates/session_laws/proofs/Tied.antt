@@ -48,7 +48,8 @@ use Rattle.shared_session.specs.declared.core_state.Core.{Core}
 use Rattle.shared_session.specs.Turn.{use_after}
 use Rattle.legal_trace.specs.Ledger.{Ledger, Heard, Sourced, Start, End, blank_ledger, cut, failure_in, is_cut, is_done, is_full, is_greeted, is_of_renewal, is_over, is_set_up, is_taken, last_renewal, monitor_of, next_notice, renewal_count, renewals_asked, setup_count, setup_steps, setup_after}
 use Rattle.legal_trace.specs.Story.{Story, blank_story, is_open, is_told, bytes_of, shape, is_awaited}
-use Rattle.legal_trace.specs.Book.{Book, blank_book, book, hearing_in, kind_in}
+use Rattle.legal_trace.specs.Book.{Book, blank_book, book, has_generations, hearing_in, info_in, kind_in}
+use Rattle.legal_trace.specs.Managers.{is_lazy}
 use Rattle.legal_trace.specs.Steps.{configured, queue_size, permits_in, permits_held, is_let_in}
 use Rattle.legal_trace.specs.Legal.{AllStand, IsTimed, answer_time}
 use Rattle.legal_trace.specs.Owed.{owed_unstarted}
@@ -197,7 +198,8 @@ pub record IsBare (table : List (Option Pending)) (r : Renewal) : Type 0 where
   pub unwanted : r.wanted ≡ false
   pub unrenewed : r.waiting ≡ []
 
--- the numbers that the session gives are those of the book, and so is what it is; its connection's link is the only one; all timers are for it or
+-- the numbers that the session gives are those of the book, and so is what it is, which has no generations, and what its servers are told; its connection's link is the one that
+-- submissions go to; all timers are for it or
 -- for a submission, all sources of credentials are for it, and the opening has asked for its timer; what is told to its server is
 -- to be answered within the configured time; and no more numbers were given to submissions than there are
 pub record TiedNumbers (b : Book) (t : Inner) : Type 0 where
@@ -216,6 +218,10 @@ pub record TiedNumbers (b : Book) (t : Inner) : Type 0 where
   pub settings : IsConfigured b t.size t.bound t.limit
   pub kind_is : kind_in b.config ≡ t.kind
   pub quiet : is_watching t.hears ≡ true → IsBare t.table t.renewal
+  pub plain : has_generations b ≡ false
+  pub eager : is_lazy b.config ≡ false
+  pub current_is : b.current ≡ t.link
+  pub speaks : (info_in b.config).protocol ≡ t.info.protocol
   pub one : t.links ≡ t.link + 1
   pub few_links : t.links < 2 ^ 32
 
@@ -266,13 +272,14 @@ pub record TiedNotices (heard hears hearing : Hearing) (notices : List Heard) (t
   pub due : parting ≡ true → parted ≡ false
   pub tame : end ≡ None → reading ≡ false → strange ≡ false
 
--- how far the link has come; where it has ended, a submission without a message gets this error
+-- how far the link has come, which was asked for, and after which no attempt follows; where it has ended, a submission without a
+-- message gets this error
 abbrev pub TiedLife : Ledger → ℕ → Life → Type 0
-TiedLife l created Dialing = (l.asked ≡ true) × (l.up ≡ false) × (l.end ≡ None) × (created ≡ 0)
-TiedLife l created (Wanting link) = (l.asked ≡ true) × (l.up ≡ true) × (l.end ≡ None) × (created ≡ 0)
-TiedLife l created (SettingUp link greeting) = (l.asked ≡ true) × (l.up ≡ true) × (l.end ≡ None) × (created ≡ 0)
-TiedLife l created (Ready link) = (l.asked ≡ true) × (l.up ≡ true) × (l.end ≡ None) × (created ≢ 0)
-TiedLife l created (Ended e) = (l.up ≡ false) × (owed_unstarted l.end ≡ Some (outcome.Fault e)) × FailureIsShown l.end created
+TiedLife l created Dialing = (l.asked ≡ true) × (l.up ≡ false) × (l.end ≡ None) × (created ≡ 0) × (l.last ≡ true)
+TiedLife l created (Wanting link) = (l.asked ≡ true) × (l.up ≡ true) × (l.end ≡ None) × (created ≡ 0) × (l.last ≡ true)
+TiedLife l created (SettingUp link greeting) = (l.asked ≡ true) × (l.up ≡ true) × (l.end ≡ None) × (created ≡ 0) × (l.last ≡ true)
+TiedLife l created (Ready link) = (l.asked ≡ true) × (l.up ≡ true) × (l.end ≡ None) × (created ≢ 0) × (l.last ≡ true)
+TiedLife l created (Ended e) = (l.up ≡ false) × (owed_unstarted l.end ≡ Some (outcome.Fault e)) × FailureIsShown l.end created × (l.asked ≡ true)
 
 -- the credentials of a link come of no source, or they have come
 abbrev pub HasCredentials : Sourced → Type 0
@@ -647,14 +654,10 @@ inner c started = record {
   started = started;
 }
 
--- a turn of an event isn't the opening
-pub no_opening : (e : Event) (config : Config) (word : ℕ) → ◌≡◌ {A = Option Cause} (Some (cause.Event e)) (Some (cause.Opening config word)) → ⊥
-no_opening e config word is = cc
-
 -- the numbers, where only links, stories and the connection change
-pub numbers_kept : (b : Book) (link : ℕ → Ledger) (story : ℕ → Story) (t : Inner) (life : Life) (free : ℕ) (requests : List Request) (waiting admitted : List Waiting) (fresh moved letting pending started : List ℕ) → TiedNumbers b t
-    → TiedNumbers (record b { link = link; story = story }) (record t { life = life; free = free; requests = requests; waiting = waiting; admitted = admitted; fresh = fresh; moved = moved; letting = letting; pending = pending; started = started })
-numbers_kept b link story t life free requests waiting admitted fresh moved letting pending started h = record {
+pub numbers_kept : (b : Book) (link : ℕ → Ledger) (story : ℕ → Story) (errors : List RedisError) (t : Inner) (life : Life) (free : ℕ) (requests : List Request) (waiting admitted : List Waiting) (fresh moved letting pending started : List ℕ) → TiedNumbers b t
+    → TiedNumbers (record b { link = link; story = story; errors = errors }) (record t { life = life; free = free; requests = requests; waiting = waiting; admitted = admitted; fresh = fresh; moved = moved; letting = letting; pending = pending; started = started })
+numbers_kept b link story errors t life free requests waiting admitted fresh moved letting pending started h = record {
   turns = h.turns;
   links = h.links;
   timers = h.timers;
@@ -670,6 +673,10 @@ numbers_kept b link story t life free requests waiting admitted fresh moved lett
   settings = record { size_is = h.settings.size_is; bound_is = h.settings.bound_is; limit_is = h.settings.limit_is; some = h.settings.some; limited = h.settings.limited };
   kind_is = h.kind_is;
   quiet = h.quiet;
+  plain = h.plain;
+  eager = h.eager;
+  current_is = h.current_is;
+  speaks = h.speaks;
   one = h.one;
   few_links = h.few_links;
 }
@@ -681,7 +688,7 @@ pub relined : (b : Book) (t : Inner) (waiting admitted : List Waiting) (fresh mo
     → TiedLines b.story t.requests (link_in t.life) waiting admitted pending t.started → TiedWaits b.story t.requests t.life fresh moved → AreLate b.story t.requests pending
     → Tied b (record t { waiting = waiting; admitted = admitted; fresh = fresh; moved = moved; pending = pending })
 relined b t waiting admitted fresh moved pending h lines waits late = record {
-  numbers = numbers_kept b b.link b.story t t.life t.free t.requests waiting admitted fresh moved t.letting pending t.started h.numbers;
+  numbers = numbers_kept b b.link b.story b.errors t t.life t.free t.requests waiting admitted fresh moved t.letting pending t.started h.numbers;
   others = h.others;
   notices = h.notices;
   life = h.life;
