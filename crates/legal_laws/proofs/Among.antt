@@ -1,6 +1,6 @@
 -- Where what is told stands among the outcomes: behind those of messages that were full before it came, and before those of messages
 -- that take an item behind it.
-use Rattle.std.proofs.Common.{◌≡◌, ◌≢◌, ◌⊎◌, inl, inr, ℕ, zero, suc, ◌+◌, ◌<◌, ◌≤◌, ◌==◌, Bool, true, false, ◌&&◌, not, List, [], ◌∷◌, ◌++◌, length, take, Option, Some, None, is_some, refl, sym, ◌∙◌, ap, subst, arith}
+use Rattle.std.proofs.Common.{◌≡◌, ◌≢◌, ◌⊎◌, inl, inr, ℕ, zero, suc, ◌+◌, ◌<◌, ◌≤◌, ◌==◌, Bool, true, false, ◌&&◌, not, List, [], ◌∷◌, ◌++◌, length, take, Option, Some, None, is_some, refl, sym, ◌∙◌, ap, subst, arith, max}
 use Rattle.std.proofs.lemmas.List.{take-append-le, take_all, length_push}
 use Rattle.std.specs.Prelude.{slice_get}
 use Rattle.containers.proofs.Choices.{by_test, chosen, eq_from, eq_test, le_from, le_test, not_le_from, not_le_test}
@@ -19,7 +19,7 @@ use Rattle.driver_model.specs.Hearing.{hears_something}
 use Rattle.driver_model.specs.News.{News, silence, connected, refused, overdue, took, came, failed, dropped, shut, authorized, denied, deserted, renewed, unrenewed, late, unrepeated}
 use Rattle.legal_trace.specs.Ledger.{Ledger, Heard, Line, Start, asks, hears, begins, offers, tells, ends, parts, noted, noted_each, with_news, refused_in, bytes_came, is_over, dials, reach, reached, is_full, is_full_by, next_notice, sources, awaits_credentials, authorized_by, times, may_renew, renewed_by, unrenewed_by, is_renewal_open, lost_by}
 use Rattle.legal_trace.specs.Story.{Story, Try, last_of, is_open, handed_in, left, holds, clocked, fires, tried, waits, answered}
-use Rattle.legal_trace.specs.Book.{Book, blank_book, book, entered, entered_each, current, is_clock_of, after_event, is_unspoken, message_of, if_mine, lines_of, lines_of_each, hearing_in}
+use Rattle.legal_trace.specs.Book.{Book, blank_book, book, entered, entered_each, is_clock_of, after_event, is_unspoken, message_of, if_mine, lines_of, lines_of_each, hearing_in}
 use Rattle.legal_trace.specs.Legal.{MayStand, MayNotify, MayAnswer, MayTell, AllStand, IsOpen, IsBefore, is_heard, Legal}
 use Rattle.legal_trace.proofs.Books.{stand_front, stand_behind, book_append}
 use Rattle.legal_trace.proofs.Ledgers.{each_keeps, reach_alike, reach_more, takes_one}
@@ -95,7 +95,7 @@ gone false q e = cc e
 
 -- so it is behind an event
 event_from : (b : Book) (a : Action) (l n k : ℕ) (kind : EventKind) → HasStories b → IsFrom b a l n k (after_event b n kind)
-event_from b a l n k (event.Submit what) blank = chosen (IsFrom b a l n k) (b.submissions == n) (handed_in (b.story n) what b.shut (is_unspoken b what) (current b) b.timeout) (b.story n)
+event_from b a l n k (event.Submit what) blank = chosen (IsFrom b a l n k) (b.submissions == n) (handed_in (b.story n) what b.shut (is_unspoken b what) (max 1 b.generation) b.current b.timeout) (b.story n)
     (λ t o h. absurd (let e : b.submissions ≡ n = eq_from b.submissions n t in
     not_none (last_of (b.story n).tries) (record { link = l; message = k }) (ap (λ (s : Story). last_of s.tries) (blank n (omega (arith, e)))) h))
     (λ f o h. inl (o, h))

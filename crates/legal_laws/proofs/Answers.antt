@@ -31,7 +31,7 @@ at_most_one config word events trace h n = ((sound_behind trace h.each).once n).
 
 -- once everything was shut down and the turn is settled, no link is there to wait for
 no_link_left : (b : Book) → Sound b → IsSettled b → b.shut ≡ true → (l : ℕ) → (b.link l).asked ≡ true → (b.link l).end ≡ None → ⊥
-no_link_left b h settled shut l asked end = none_left b settled.written.moved.begun.applied.ended h.shut shut l asked end
+no_link_left b h settled shut l asked end = none_left b settled.written.moved.begun.applied.shown.ended h.shut shut l asked end
 
 -- nor one that is up
 no_link_up : (b : Book) → Sound b → IsSettled b → b.shut ≡ true → (l : ℕ) → (b.link l).up ≡ true → ⊥
@@ -94,7 +94,7 @@ unspoken_owed b n unspoken early = left_if (b.story n).late _ _ early ∙ taken_
 -- so nothing else is answered
 unspoken_answer : (b : Book) (n : ℕ) (o : Outcome) → MayAnswer b n o ⊎ MayTell b n o → (b.story n).unspoken ≡ true → (b.story n).late ≡ false → o ≡ outcome.Fault error.Resp3Required
 unspoken_answer b n o (inl may) unspoken early = same_some o (outcome.Fault error.Resp3Required) (sym may.owes ∙ unspoken_owed b n unspoken early)
-unspoken_answer b n o (inr told) unspoken early = absurd (not_none (owed b n) (outcome.Fault error.Resp3Required) (told.begun.applied.answered n told.asked) (unspoken_owed b n unspoken early))
+unspoken_answer b n o (inr told) unspoken early = absurd (not_none (owed b n) (outcome.Fault error.Resp3Required) (told.begun.applied.shown.answered n told.asked) (unspoken_owed b n unspoken early))
 
 -- in a legal trace
 pub unspoken_refused : (config : Config) (word : ℕ) (events : List Event) (trace : List Action) → Legal config word events trace → RefusesUnspoken trace

@@ -17,7 +17,8 @@ use Rattle.driver_model.specs.declared.event.EventKind.TheVariants as event
 use Rattle.driver_model.specs.declared.news.LinkFault.TheVariants as fault
 use Rattle.driver_model.specs.News.{News, silence, connected, refused, overdue, took, came, failed, authorized, denied, deserted, renewed, unrenewed, late, unrepeated, dropped, shut, news_of, for_link, of_timer, of_source, renews}
 use Rattle.legal_trace.specs.Ledger.{Ledger, End, Sourced, asks, hears, begins, offers, sources, times, ends, noted, noted_each, with_news, refused_in, bytes_came, is_over, is_ready, is_set_up, dials, awaits_credentials, authorized_by, may_renew, renewed_by, unrenewed_by, is_renewal_open, lost_by, source_due}
-use Rattle.legal_trace.specs.Book.{Book, blank_book, book, entered, if_mine, info_in, wanted_in, message_of, use_for, is_renewal_of, hearing_in, current}
+use Rattle.legal_trace.specs.Managers.{settings_in, is_last}
+use Rattle.legal_trace.specs.Book.{Book, blank_book, book, entered, if_mine, info_in, wanted_in, message_of, use_for, is_renewal_of, hearing_in}
 use Rattle.legal_trace.specs.Events.{is_bad_event}
 use Rattle.legal_trace.specs.Legal.{MayStand, MayNeed, AllStand}
 use Rattle.legal_trace.proofs.Books.{Grows, book_more, of_each_front}
@@ -366,8 +367,8 @@ accounts_kept b (action.Timer t ms what) l c asked new may sound h = goes_on b (
     (mine_keeps (HasOf asked c new) (is_renewal_of l what) (b.link l) times (λ e. record { counted = h.link.counted; unasked = h.link.unasked; lives = h.link.lives; has = h.link.has }) h.link) h
 accounts_kept b (action.Took who m count) l c asked new may sound h = goes_on b (action.Took who m count) l c asked new refl h.link h
 accounts_kept b (action.Push m info) l c asked new may sound h = goes_on b (action.Push m info) l c asked new refl (push_keeps (HasOf asked c new) (m == l) info.kind (b.link l) h.link h.link h.link) h
-accounts_kept b (action.Message msg) l c asked new may sound h = goes_on b (action.Message msg) l c asked new refl (tell_keeps (HasOf asked c new) (current b == l) (b.link l) h.link h.link) h
-accounts_kept b (action.Monitor v) l c asked new may sound h = goes_on b (action.Monitor v) l c asked new refl (tell_keeps (HasOf asked c new) (current b == l) (b.link l) h.link h.link) h
+accounts_kept b (action.Message msg) l c asked new may sound h = goes_on b (action.Message msg) l c asked new refl (tell_keeps (HasOf asked c new) (b.current == l) (b.link l) h.link h.link) h
+accounts_kept b (action.Monitor v) l c asked new may sound h = goes_on b (action.Monitor v) l c asked new refl (tell_keeps (HasOf asked c new) (b.current == l) (b.link l) h.link h.link) h
 accounts_kept b (action.NeedCreds d m) l c asked new may sound h = need_accounts b d m l c asked new may sound h
 accounts_kept b (action.Generation g) l c asked new may sound h = absurd may
 accounts_kept b (action.Round who m) l c asked new may sound h = absurd may

@@ -15,7 +15,7 @@ use Rattle.driver_model.specs.declared.push_info.PushInfo.{PushInfo}
 use Rattle.driver_model.specs.declared.outcome.Outcome.TheVariants as outcome
 use Rattle.legal_trace.specs.Ledger.{Ledger, End, Ending, by_shutdown, by_fault, by_opening, begins, offers, sources, ends, failure_of, failure_in, is_set_up, setup_due, times}
 use Rattle.legal_trace.specs.Story.{Try, bytes_of, last_of}
-use Rattle.legal_trace.specs.Book.{Book, blank_book, book, entered, entered_each, lines_of, message_of, is_renewal_of, current}
+use Rattle.legal_trace.specs.Book.{Book, blank_book, book, entered, entered_each, lines_of, message_of, is_renewal_of}
 use Rattle.legal_trace.specs.Owed.{owed, owed_to_try, owed_unstarted, unstarted_error}
 use Rattle.legal_trace.specs.Legal.{MayStand, MayAnswer, MayTell, MaySetUp, MayBeCreated, MayFail, MayShowCreation, AllStand, link_of, Legal}
 use Rattle.legal_trace.proofs.Books.{stand_front, stand_behind}
@@ -181,12 +181,12 @@ start_shows_none b m k n round count len = unchanged b (action.Start m k (owner.
 -- a message
 message_shows_none : (b : Book) (msg : Msg) → ShowsNone b (action.Message msg)
 message_shows_none b msg = unchanged b (action.Message msg) refl refl
-    (λ shown l may h q. tell_keeps (IsQuiet shown) (current b == l) (b.link l) (record { quiet = q.quiet; tells = q.tells }) q)
+    (λ shown l may h q. tell_keeps (IsQuiet shown) (b.current == l) (b.link l) (record { quiet = q.quiet; tells = q.tells }) q)
 
 -- what a monitor reports
 report_shows_none : (b : Book) (v : Value) → ShowsNone b (action.Monitor v)
 report_shows_none b v = unchanged b (action.Monitor v) refl refl
-    (λ shown l may h q. tell_keeps (IsQuiet shown) (current b == l) (b.link l) (record { quiet = q.quiet; tells = q.tells }) q)
+    (λ shown l may h q. tell_keeps (IsQuiet shown) (b.current == l) (b.link l) (record { quiet = q.quiet; tells = q.tells }) q)
 
 -- MONITOR
 watch_shows_none : (b : Book) (m k count len : ℕ) → ShowsNone b (action.Start m k owner.Monitor count len)

@@ -22,7 +22,8 @@ use Rattle.driver_model.specs.Hearing.{Taking, answers, taking, array_taken, as_
 use Rattle.driver_model.specs.News.{News, silence, connected, refused, overdue, took, came, failed, dropped, shut, news_of, authorized, denied, deserted, renewed, unrenewed, late, unrepeated}
 use Rattle.driver_model.specs.Shape.{need_of}
 use Rattle.legal_trace.specs.Ledger.{Ledger, Start, asks, begins, offers, ends, sources, times, noted, with_news, refused_in, bytes_came, is_over, is_of_setup, is_awaiting, is_set_up, cut, dials, items_came, heard_at, reach, reached, setup_count, taking_of, value_by, value_came, awaits_credentials, authorized_by, may_renew, renewed_by, unrenewed_by, is_renewal_open, lost_by}
-use Rattle.legal_trace.specs.Book.{Book, blank_book, book, entered, entered_each, current, hearing_in, info_in, message_of as start_of, wanted_in, is_renewal_of}
+use Rattle.legal_trace.specs.Managers.{settings_in, is_last}
+use Rattle.legal_trace.specs.Book.{Book, blank_book, book, entered, entered_each, hearing_in, info_in, message_of as start_of, wanted_in, is_renewal_of}
 use Rattle.legal_trace.specs.Legal.{MayStand, AllStand, Legal}
 use Rattle.legal_trace.proofs.Books.{stand_front}
 use Rattle.legal_trace.proofs.Came.{ValueKeeps, holds_came, value_is, bytes_keep, holds_bytes}
@@ -234,8 +235,8 @@ sorted_kept b l (action.Connect m host port) may s after h = mine_keeps IsSorted
 sorted_kept b l (action.Timer t ms what) may s after h = mine_keeps IsSorted (is_renewal_of l what) (b.link l) times (λ e m. sorted_alike (b.link l) (h m) _ refl refl (λ f. f)) h
 sorted_kept b l (action.Took who m count) may s after h = h
 sorted_kept b l (action.Push m info) may s after h = push_keeps IsSorted (m == l) info.kind (b.link l) (λ m. sorted_alike (b.link l) (h m) _ refl refl (λ f. f)) (λ m. sorted_alike (b.link l) (h m) _ refl refl (λ f. f)) h
-sorted_kept b l (action.Message msg) may s after h = tell_keeps IsSorted (current b == l) (b.link l) (λ m. sorted_alike (b.link l) (h m) _ refl refl (λ f. f)) h
-sorted_kept b l (action.Monitor v) may s after h = tell_keeps IsSorted (current b == l) (b.link l) (λ m. sorted_alike (b.link l) (h m) _ refl refl (λ f. f)) h
+sorted_kept b l (action.Message msg) may s after h = tell_keeps IsSorted (b.current == l) (b.link l) (λ m. sorted_alike (b.link l) (h m) _ refl refl (λ f. f)) h
+sorted_kept b l (action.Monitor v) may s after h = tell_keeps IsSorted (b.current == l) (b.link l) (λ m. sorted_alike (b.link l) (h m) _ refl refl (λ f. f)) h
 sorted_kept b l (action.NeedCreds c m) may s after h = mine_keeps IsSorted (m == l) (b.link l) sources (λ t m. sorted_alike (b.link l) (h m) _ refl refl (λ f. f)) h
 sorted_kept b l (action.Generation g) may s after h = absurd may
 sorted_kept b l (action.Round who m) may s after h = absurd may

@@ -1,5 +1,5 @@
 -- Whoever's timer fired while it was open starts no message.
-use Rattle.std.proofs.Common.{◌≡◌, ◌⊎◌, inl, inr, ℕ, ◌<◌, ◌≤◌, ◌==◌, true, List, [], ◌∷◌, ◌++◌, Some, None, refl, sym, ◌∙◌, subst, arith}
+use Rattle.std.proofs.Common.{◌≡◌, ◌⊎◌, inl, inr, ℕ, ◌<◌, ◌≤◌, ◌==◌, true, List, [], ◌∷◌, ◌++◌, Some, None, refl, sym, ◌∙◌, subst, arith, max}
 use Rattle.std.specs.Prelude.{slice_get}
 use Rattle.containers.proofs.Choices.{by_test, chosen, taken_if, left_if, eq_from, ne_test, not_both}
 use Rattle.driver_model.specs.declared.action.Action.{Action}
@@ -12,7 +12,7 @@ use Rattle.driver_model.specs.declared.event.EventKind.{EventKind}
 use Rattle.driver_model.specs.declared.event.EventKind.TheVariants as event
 use Rattle.driver_model.specs.declared.outcome.Outcome.{Outcome}
 use Rattle.legal_trace.specs.Story.{Story, is_open, is_unstarted, handed_in, left, holds, clocked, fires, tried, waits, answered}
-use Rattle.legal_trace.specs.Book.{Book, blank_book, book, entered, entered_each, current, is_clock_of, after_event, is_unspoken}
+use Rattle.legal_trace.specs.Book.{Book, blank_book, book, entered, entered_each, is_clock_of, after_event, is_unspoken}
 use Rattle.legal_trace.specs.Legal.{MayStand, MayAnswer, MayTell, AllStand, IsOpen, IsApplied, Legal}
 use Rattle.legal_trace.proofs.Books.{stand_front, stand_behind}
 use Rattle.legal_trace.proofs.Plain.{not_empty}
@@ -35,7 +35,7 @@ not_over b n done u h = let over = h u in not_both (b.story n).overdue (nothing_
 
 -- so it is behind an event
 event_over : (b : Book) (n : ℕ) (kind : EventKind) → n < b.submissions → IsOver (b.story n) → IsOver (after_event b n kind)
-event_over b n (event.Submit what) i h = subst IsOver (sym (left_if (b.submissions == n) (handed_in (b.story n) what b.shut (is_unspoken b what) (current b) b.timeout) (b.story n) (ne_test b.submissions n (omega arith)))) h
+event_over b n (event.Submit what) i h = subst IsOver (sym (left_if (b.submissions == n) (handed_in (b.story n) what b.shut (is_unspoken b what) (max 1 b.generation) b.current b.timeout) (b.story n) (ne_test b.submissions n (omega arith)))) h
 event_over b n (event.Cancel m) i h = chosen IsOver (m == n) (left (b.story n)) (b.story n)
     (λ t. by_test (is_open (b.story n)) (IsOver (left (b.story n))) (λ o u. absurd (leaver_is_done (b.story n) o u))
     (λ o. subst IsOver (sym (left_if (is_open (b.story n)) (record (b.story n) { cancelled = true; permits = 0; waiting = None }) (b.story n) o)) h)) (λ f. h)

@@ -20,7 +20,8 @@ use Rattle.driver_model.specs.declared.event.EventKind.TheVariants as event
 use Rattle.driver_model.specs.declared.news.LinkFault.TheVariants as fault
 use Rattle.driver_model.specs.News.{News, silence, connected, refused, overdue, took, came, failed, authorized, denied, deserted, renewed, unrenewed, late, unrepeated, dropped, shut, news_of, for_link, of_timer, of_source, is_source_of, renews}
 use Rattle.legal_trace.specs.Ledger.{Ledger, asks, hears, begins, offers, sources, ends, noted, with_news, refused_in, bytes_came, is_over, dials, lacks_credentials, awaits_credentials, authorized_by, times, may_renew, renewed_by, unrenewed_by, is_renewal_open, lost_by}
-use Rattle.legal_trace.specs.Book.{Book, blank_book, book, entered, info_in, wanted_in, message_of, use_for, is_renewal_of, hearing_in, current}
+use Rattle.legal_trace.specs.Managers.{settings_in, is_last}
+use Rattle.legal_trace.specs.Book.{Book, blank_book, book, entered, info_in, wanted_in, message_of, use_for, is_renewal_of, hearing_in}
 use Rattle.legal_trace.specs.Legal.{MayStand, AllStand, Legal}
 use Rattle.legal_trace.proofs.Books.{Grows, book_more, of_each_front, stand_front}
 use Rattle.legal_trace.proofs.Ledgers.{mine_keeps, hears_past}
@@ -211,8 +212,8 @@ gives_by b (action.Connect m host port) l e = inl (mine_keeps (WereGiven (b.link
 gives_by b (action.Timer t ms what) l e = inl (mine_keeps (WereGiven (b.link l)) (is_renewal_of l what) (b.link l) times (λ t old. (old, refl)) (λ old. (old, refl)) e)
 gives_by b (action.Took who m count) l e = inl (e, refl)
 gives_by b (action.Push m info) l e = inl (push_keeps (WereGiven (b.link l)) (m == l) info.kind (b.link l) (λ old. (old, refl)) (λ old. (old, refl)) (λ old. (old, refl)) e)
-gives_by b (action.Message msg) l e = inl (tell_keeps (WereGiven (b.link l)) (current b == l) (b.link l) (λ old. (old, refl)) (λ old. (old, refl)) e)
-gives_by b (action.Monitor v) l e = inl (tell_keeps (WereGiven (b.link l)) (current b == l) (b.link l) (λ old. (old, refl)) (λ old. (old, refl)) e)
+gives_by b (action.Message msg) l e = inl (tell_keeps (WereGiven (b.link l)) (b.current == l) (b.link l) (λ old. (old, refl)) (λ old. (old, refl)) e)
+gives_by b (action.Monitor v) l e = inl (tell_keeps (WereGiven (b.link l)) (b.current == l) (b.link l) (λ old. (old, refl)) (λ old. (old, refl)) e)
 gives_by b (action.NeedCreds c m) l e = inl (mine_keeps (WereGiven (b.link l)) (m == l) (b.link l) sources (λ t old. (old, refl)) (λ old. (old, refl)) e)
 gives_by b (action.Generation g) l e = inl (e, refl)
 gives_by b (action.Round who m) l e = inl (e, refl)
@@ -318,8 +319,8 @@ want_kept b (action.Connect m host port) may sound h l = mine_keeps (Wants (want
 want_kept b (action.Timer t ms what) may sound h l = mine_keeps (Wants (wanted_in b.config)) (is_renewal_of l what) (b.link l) times (λ t. h l) (h l)
 want_kept b (action.Took who m count) may sound h l = h l
 want_kept b (action.Push m info) may sound h l = push_keeps (Wants (wanted_in b.config)) (m == l) info.kind (b.link l) (h l) (h l) (h l)
-want_kept b (action.Message msg) may sound h l = tell_keeps (Wants (wanted_in b.config)) (current b == l) (b.link l) (h l) (h l)
-want_kept b (action.Monitor v) may sound h l = tell_keeps (Wants (wanted_in b.config)) (current b == l) (b.link l) (h l) (h l)
+want_kept b (action.Message msg) may sound h l = tell_keeps (Wants (wanted_in b.config)) (b.current == l) (b.link l) (h l) (h l)
+want_kept b (action.Monitor v) may sound h l = tell_keeps (Wants (wanted_in b.config)) (b.current == l) (b.link l) (h l) (h l)
 want_kept b (action.NeedCreds c m) may sound h l = mine_keeps (Wants (wanted_in b.config)) (m == l) (b.link l) sources (λ t. h l) (h l)
 want_kept b (action.Generation g) may sound h l = absurd may
 want_kept b (action.Round who m) may sound h l = absurd may

@@ -50,7 +50,7 @@ starter_owed : (b : Book) (l k n round count len : ℕ) → MayStart b l k n cou
 starter_owed b l k n round count len may h o =
     owed_by_last b (entered b (starting l k n round count len)) (b.story n) (tried (b.story n) l k) refl refl refl refl
     (subst (λ (x : Option Try). owed_to_try (entered b (starting l k n round count len)) (tried (b.story n) l k) x ≡ None) (sym (last_behind (b.story n).tries (record { link = l; message = k }))) (new_message b l k n round count len may h))
-    (may.begun.applied.answered n o)
+    (may.begun.applied.shown.answered n o)
 
 -- and any other
 others_owed : (b : Book) (l k : ℕ) (who : Owner) (count len : ℕ) → Sound b → (n : ℕ) → owed_story b (b.story n) ≡ None → owed_story (entered b (action.Start l k who count len)) (b.story n) ≡ None
@@ -66,7 +66,7 @@ start_owes : (b : Book) (l k m round count len : ℕ) → MayStart b l k m count
 start_owes b l k m round count len may h n =
     chosen (λ (s : Story). is_open s ≡ true → owed_story (entered b (starting l k m round count len)) s ≡ None) (m == n) (tried (b.story n) l k) (b.story n)
     (λ t. subst (λ j. is_open (tried (b.story j) l k) ≡ true → owed_story (entered b (starting l k m round count len)) (tried (b.story j) l k) ≡ None) (eq_from m n t) (starter_owed b l k m round count len may h))
-    (λ f o. others_owed b l k (owner.Try m round) count len h n (may.begun.applied.answered n o))
+    (λ f o. others_owed b l k (owner.Try m round) count len h n (may.begun.applied.shown.answered n o))
 
 -- a link that is ready and doesn't end doesn't where a request's message starts
 ready_begins : (l : Ledger) (s : Start) → is_of_setup s.owner ≡ false → is_ready l ≡ true → ending l ≡ None → ending (record l { starts = l.starts ++ s ∷ [] }) ≡ None
@@ -91,16 +91,16 @@ pub start_applied : (b : Book) (l k m round count len : ℕ) → MayStart b l k 
 start_applied b l k m round count len may h = record {
   answered = start_owes b l k m round count len may h;
   ended = λ j. mine_keeps (λ x. ending x ≡ None) (l == j) (b.link j) (begins (message_of b l (owner.Try m round)))
-      (λ t. ready_begins (b.link j) (message_of b l (owner.Try m round)) refl (subst (λ i. is_ready (b.link i) ≡ true) (eq_from l j t) (starts_ready b l k m count len may)) (may.begun.applied.ended j)) (may.begun.applied.ended j);
+      (λ t. ready_begins (b.link j) (message_of b l (owner.Try m round)) refl (subst (λ i. is_ready (b.link i) ≡ true) (eq_from l j t) (starts_ready b l k m count len may)) (may.begun.applied.shown.ended j)) (may.begun.applied.shown.ended j);
   created = record {
-    asked = may.begun.applied.created.asked;
-    shown = λ j. mine_keeps (λ (x : Ledger). is_ready x ≡ true → b.created ≢ 0) (l == j) (b.link j) (begins (message_of b l (owner.Try m round))) (λ t ready. may.begun.applied.created.shown l (starts_ready b l k m count len may)) (may.begun.applied.created.shown j);
-    failed = λ j e. mine_keeps (λ (x : Ledger). failure_in x.end ≡ Some e → b.created ≢ 0) (l == j) (b.link j) (begins (message_of b l (owner.Try m round))) (λ t. may.begun.applied.created.failed j e) (may.begun.applied.created.failed j e);
+    asked = may.begun.applied.shown.created.asked;
+    shown = λ j. mine_keeps (λ (x : Ledger). is_ready x ≡ true → b.created ≢ 0) (l == j) (b.link j) (begins (message_of b l (owner.Try m round))) (λ t ready. may.begun.applied.shown.created.shown l (starts_ready b l k m count len may)) (may.begun.applied.shown.created.shown j);
+    failed = λ j e. mine_keeps (λ (x : Ledger). failure_in x.end ≡ Some e → b.created ≢ 0) (l == j) (b.link j) (begins (message_of b l (owner.Try m round))) (λ t. may.begun.applied.shown.created.failed j e) (may.begun.applied.shown.created.failed j e);
   };
-  pushed = λ j heard. mine_keeps (λ x. next_notice x ≡ None) (l == j) (b.link j) (begins (message_of b l (owner.Try m round))) (λ t. may.begun.applied.pushed j heard) (may.begun.applied.pushed j heard);
-  parted = λ j heard. mine_keeps IsToldOver (l == j) (b.link j) (begins (message_of b l (owner.Try m round))) (λ t. may.begun.applied.parted j heard) (may.begun.applied.parted j heard);
+  pushed = λ j heard. mine_keeps (λ x. next_notice x ≡ None) (l == j) (b.link j) (begins (message_of b l (owner.Try m round))) (λ t. may.begun.applied.shown.pushed j heard) (may.begun.applied.shown.pushed j heard);
+  parted = λ j heard. mine_keeps IsToldOver (l == j) (b.link j) (begins (message_of b l (owner.Try m round))) (λ t. may.begun.applied.shown.parted j heard) (may.begun.applied.shown.parted j heard);
   sourced = λ j. mine_keeps (λ x. source_due x ≡ false) (l == j) (b.link j) (begins (message_of b l (owner.Try m round)))
-      (λ t. set_sources (b.link j) (message_of b l (owner.Try m round)) refl (ready_is_set (b.link j) (subst (λ i. is_ready (b.link i) ≡ true) (eq_from l j t) (starts_ready b l k m count len may))) (may.begun.applied.sourced j)) (may.begun.applied.sourced j);
+      (λ t. set_sources (b.link j) (message_of b l (owner.Try m round)) refl (ready_is_set (b.link j) (subst (λ i. is_ready (b.link i) ≡ true) (eq_from l j t) (starts_ready b l k m count len may))) (may.begun.applied.shown.sourced j)) (may.begun.applied.shown.sourced j);
   timed = may.begun.applied.timed;
 }
 
@@ -111,18 +111,18 @@ renew_applied b l k count len may h =
     let ready : is_ready (b.link l) ≡ true = up_and_set (b.link l) (renewal_is_up (b.link l) may.credentials may.due) set in
     let s : Start = message_of b l owner.Auth in
     record {
-      answered = λ n o. others_owed b l k owner.Auth count len h n (may.applied.answered n o);
+      answered = λ n o. others_owed b l k owner.Auth count len h n (may.applied.shown.answered n o);
       ended = λ j. mine_keeps (λ x. ending x ≡ None) (l == j) (b.link j) (begins s)
-          (λ t. ready_begins (b.link j) s refl (subst (λ i. is_ready (b.link i) ≡ true) (eq_from l j t) ready) (may.applied.ended j)) (may.applied.ended j);
+          (λ t. ready_begins (b.link j) s refl (subst (λ i. is_ready (b.link i) ≡ true) (eq_from l j t) ready) (may.applied.shown.ended j)) (may.applied.shown.ended j);
       created = record {
-        asked = may.applied.created.asked;
-        shown = λ j. mine_keeps (λ (x : Ledger). is_ready x ≡ true → b.created ≢ 0) (l == j) (b.link j) (begins s) (λ t other. may.applied.created.shown l ready) (may.applied.created.shown j);
-        failed = λ j e. mine_keeps (λ (x : Ledger). failure_in x.end ≡ Some e → b.created ≢ 0) (l == j) (b.link j) (begins s) (λ t. may.applied.created.failed j e) (may.applied.created.failed j e);
+        asked = may.applied.shown.created.asked;
+        shown = λ j. mine_keeps (λ (x : Ledger). is_ready x ≡ true → b.created ≢ 0) (l == j) (b.link j) (begins s) (λ t other. may.applied.shown.created.shown l ready) (may.applied.shown.created.shown j);
+        failed = λ j e. mine_keeps (λ (x : Ledger). failure_in x.end ≡ Some e → b.created ≢ 0) (l == j) (b.link j) (begins s) (λ t. may.applied.shown.created.failed j e) (may.applied.shown.created.failed j e);
       };
-      pushed = λ j heard. mine_keeps (λ x. next_notice x ≡ None) (l == j) (b.link j) (begins s) (λ t. may.applied.pushed j heard) (may.applied.pushed j heard);
-      parted = λ j heard. mine_keeps IsToldOver (l == j) (b.link j) (begins s) (λ t. may.applied.parted j heard) (may.applied.parted j heard);
+      pushed = λ j heard. mine_keeps (λ x. next_notice x ≡ None) (l == j) (b.link j) (begins s) (λ t. may.applied.shown.pushed j heard) (may.applied.shown.pushed j heard);
+      parted = λ j heard. mine_keeps IsToldOver (l == j) (b.link j) (begins s) (λ t. may.applied.shown.parted j heard) (may.applied.shown.parted j heard);
       sourced = λ j. mine_keeps (λ x. source_due x ≡ false) (l == j) (b.link j) (begins s)
-          (λ t. set_sources (b.link j) s refl (ready_is_set (b.link j) (subst (λ i. is_ready (b.link i) ≡ true) (eq_from l j t) ready)) (may.applied.sourced j)) (may.applied.sourced j);
+          (λ t. set_sources (b.link j) s refl (ready_is_set (b.link j) (subst (λ i. is_ready (b.link i) ≡ true) (eq_from l j t) ready)) (may.applied.shown.sourced j)) (may.applied.shown.sourced j);
       timed = may.applied.timed;
     }
 
@@ -135,42 +135,42 @@ setup_unset b l k count len may h =
 -- a setup leaves the event applied
 pub setup_applied : (b : Book) (l k count len : ℕ) → MaySetUp b l k count len → Sound b → IsApplied (entered b (action.Start l k owner.Setup count len))
 setup_applied b l k count len may h = record {
-  answered = λ n o. others_owed b l k owner.Setup count len h n (may.applied.answered n o);
+  answered = λ n o. others_owed b l k owner.Setup count len h n (may.applied.shown.answered n o);
   ended = λ j. mine_keeps (λ x. ending x ≡ None) (l == j) (b.link j) (begins (message_of b l owner.Setup))
-      (λ t. subst (λ i. ending (record (b.link i) { starts = (b.link i).starts ++ message_of b l owner.Setup ∷ [] }) ≡ None) (eq_from l j t) (setup_stays (b.link l) (message_of b l owner.Setup) may.k refl may.due (h.few l) (may.applied.ended l))) (may.applied.ended j);
+      (λ t. subst (λ i. ending (record (b.link i) { starts = (b.link i).starts ++ message_of b l owner.Setup ∷ [] }) ≡ None) (eq_from l j t) (setup_stays (b.link l) (message_of b l owner.Setup) may.k refl may.due (h.few l) (may.applied.shown.ended l))) (may.applied.shown.ended j);
   created = record {
-    asked = may.applied.created.asked;
+    asked = may.applied.shown.created.asked;
     shown = λ j. mine_keeps (λ (x : Ledger). is_ready x ≡ true → b.created ≢ 0) (l == j) (b.link j) (begins (message_of b l owner.Setup))
         (λ t. subst (λ i. is_ready (record (b.link i) { starts = (b.link i).starts ++ message_of b l owner.Setup ∷ [] }) ≡ true → b.created ≢ 0) (eq_from l j t)
-        (λ ready. absurd (not_both (is_set_up (record (b.link l) { starts = (b.link l).starts ++ message_of b l owner.Setup ∷ [] })) (setup_unset b l k count len may h) (ready_is_set (record (b.link l) { starts = (b.link l).starts ++ message_of b l owner.Setup ∷ [] }) ready)))) (may.applied.created.shown j);
-    failed = λ j e. mine_keeps (λ (x : Ledger). failure_in x.end ≡ Some e → b.created ≢ 0) (l == j) (b.link j) (begins (message_of b l owner.Setup)) (λ t. may.applied.created.failed j e) (may.applied.created.failed j e);
+        (λ ready. absurd (not_both (is_set_up (record (b.link l) { starts = (b.link l).starts ++ message_of b l owner.Setup ∷ [] })) (setup_unset b l k count len may h) (ready_is_set (record (b.link l) { starts = (b.link l).starts ++ message_of b l owner.Setup ∷ [] }) ready)))) (may.applied.shown.created.shown j);
+    failed = λ j e. mine_keeps (λ (x : Ledger). failure_in x.end ≡ Some e → b.created ≢ 0) (l == j) (b.link j) (begins (message_of b l owner.Setup)) (λ t. may.applied.shown.created.failed j e) (may.applied.shown.created.failed j e);
   };
-  pushed = λ j heard. mine_keeps (λ x. next_notice x ≡ None) (l == j) (b.link j) (begins (message_of b l owner.Setup)) (λ t. may.applied.pushed j heard) (may.applied.pushed j heard);
-  parted = λ j heard. mine_keeps IsToldOver (l == j) (b.link j) (begins (message_of b l owner.Setup)) (λ t. may.applied.parted j heard) (may.applied.parted j heard);
+  pushed = λ j heard. mine_keeps (λ x. next_notice x ≡ None) (l == j) (b.link j) (begins (message_of b l owner.Setup)) (λ t. may.applied.shown.pushed j heard) (may.applied.shown.pushed j heard);
+  parted = λ j heard. mine_keeps IsToldOver (l == j) (b.link j) (begins (message_of b l owner.Setup)) (λ t. may.applied.shown.parted j heard) (may.applied.shown.parted j heard);
   sourced = λ j. mine_keeps (λ x. source_due x ≡ false) (l == j) (b.link j) (begins (message_of b l owner.Setup))
       (λ t. subst (λ i. source_due (record (b.link i) { starts = (b.link i).starts ++ message_of b l owner.Setup ∷ [] }) ≡ false) (eq_from l j t)
-      (source_begins (b.link l) (message_of b l owner.Setup) (setup_unset b l k count len may h ∙ sym (due_is_unset (b.link l) may.k may.due)) (may.applied.sourced l))) (may.applied.sourced j);
+      (source_begins (b.link l) (message_of b l owner.Setup) (setup_unset b l k count len may h ∙ sym (due_is_unset (b.link l) may.k may.due)) (may.applied.shown.sourced l))) (may.applied.shown.sourced j);
   timed = may.applied.timed;
 }
 
 -- and so does MONITOR
 pub watch_applied : (b : Book) (l k count len : ℕ) → MayWatch b l k count len → Sound b → IsApplied (entered b (action.Start l k owner.Monitor count len))
 watch_applied b l k count len may h = record {
-  answered = λ n o. others_owed b l k owner.Monitor count len h n (may.applied.answered n o);
+  answered = λ n o. others_owed b l k owner.Monitor count len h n (may.applied.shown.answered n o);
   ended = λ j. mine_keeps (λ x. ending x ≡ None) (l == j) (b.link j) (begins (message_of b l owner.Monitor))
-      (λ t. subst (λ i. ending (record (b.link i) { starts = (b.link i).starts ++ message_of b l owner.Monitor ∷ [] }) ≡ None) (eq_from l j t) (watch_stays (b.link l) (message_of b l owner.Monitor) refl may.due (h.few l) (may.applied.ended l))) (may.applied.ended j);
+      (λ t. subst (λ i. ending (record (b.link i) { starts = (b.link i).starts ++ message_of b l owner.Monitor ∷ [] }) ≡ None) (eq_from l j t) (watch_stays (b.link l) (message_of b l owner.Monitor) refl may.due (h.few l) (may.applied.shown.ended l))) (may.applied.shown.ended j);
   created = record {
-    asked = may.applied.created.asked;
+    asked = may.applied.shown.created.asked;
     shown = λ j. mine_keeps (λ (x : Ledger). is_ready x ≡ true → b.created ≢ 0) (l == j) (b.link j) (begins (message_of b l owner.Monitor))
         (λ t. subst (λ i. is_ready (record (b.link i) { starts = (b.link i).starts ++ message_of b l owner.Monitor ∷ [] }) ≡ true → b.created ≢ 0) (eq_from l j t)
-        (λ ready. absurd (not_both (is_set_up (record (b.link l) { starts = (b.link l).starts ++ message_of b l owner.Monitor ∷ [] })) (watching_is_unset (b.link l) (message_of b l owner.Monitor) refl may.due (h.few l)) (ready_is_set (record (b.link l) { starts = (b.link l).starts ++ message_of b l owner.Monitor ∷ [] }) ready)))) (may.applied.created.shown j);
-    failed = λ j e. mine_keeps (λ (x : Ledger). failure_in x.end ≡ Some e → b.created ≢ 0) (l == j) (b.link j) (begins (message_of b l owner.Monitor)) (λ t. may.applied.created.failed j e) (may.applied.created.failed j e);
+        (λ ready. absurd (not_both (is_set_up (record (b.link l) { starts = (b.link l).starts ++ message_of b l owner.Monitor ∷ [] })) (watching_is_unset (b.link l) (message_of b l owner.Monitor) refl may.due (h.few l)) (ready_is_set (record (b.link l) { starts = (b.link l).starts ++ message_of b l owner.Monitor ∷ [] }) ready)))) (may.applied.shown.created.shown j);
+    failed = λ j e. mine_keeps (λ (x : Ledger). failure_in x.end ≡ Some e → b.created ≢ 0) (l == j) (b.link j) (begins (message_of b l owner.Monitor)) (λ t. may.applied.shown.created.failed j e) (may.applied.shown.created.failed j e);
   };
-  pushed = λ j heard. mine_keeps (λ x. next_notice x ≡ None) (l == j) (b.link j) (begins (message_of b l owner.Monitor)) (λ t. may.applied.pushed j heard) (may.applied.pushed j heard);
-  parted = λ j heard. mine_keeps IsToldOver (l == j) (b.link j) (begins (message_of b l owner.Monitor)) (λ t. may.applied.parted j heard) (may.applied.parted j heard);
+  pushed = λ j heard. mine_keeps (λ x. next_notice x ≡ None) (l == j) (b.link j) (begins (message_of b l owner.Monitor)) (λ t. may.applied.shown.pushed j heard) (may.applied.shown.pushed j heard);
+  parted = λ j heard. mine_keeps IsToldOver (l == j) (b.link j) (begins (message_of b l owner.Monitor)) (λ t. may.applied.shown.parted j heard) (may.applied.shown.parted j heard);
   sourced = λ j. mine_keeps (λ x. source_due x ≡ false) (l == j) (b.link j) (begins (message_of b l owner.Monitor))
       (λ t. subst (λ i. source_due (record (b.link i) { starts = (b.link i).starts ++ message_of b l owner.Monitor ∷ [] }) ≡ false) (eq_from l j t)
-      (source_begins (b.link l) (message_of b l owner.Monitor) (watching_is_unset (b.link l) (message_of b l owner.Monitor) refl may.due (h.few l) ∙ sym (watch_is_unset (b.link l) may.due)) (may.applied.sourced l))) (may.applied.sourced j);
+      (source_begins (b.link l) (message_of b l owner.Monitor) (watching_is_unset (b.link l) (message_of b l owner.Monitor) refl may.due (h.few l) ∙ sym (watch_is_unset (b.link l) may.due)) (may.applied.shown.sourced l))) (may.applied.shown.sourced j);
   timed = may.applied.timed;
 }
 
@@ -183,12 +183,12 @@ pub tell_applied : (b : Book) (m : ℕ) (o : Outcome) → MayTell b m o → IsAp
 tell_applied b m o may = record {
   answered = λ n. chosen (λ (s : Story). is_open s ≡ true → owed_story (entered b (action.Outcome m o)) s ≡ None) (m == n) (answered (b.story n) o) (b.story n)
       (λ t open_still. absurd (not_open (b.story n) o open_still))
-      (λ f open_still. owed_again b (entered b (action.Outcome m o)) (b.story n) (λ e. e, λ t last e. e) (may.begun.applied.answered n open_still));
-  ended = may.begun.applied.ended;
-  created = record { asked = may.begun.applied.created.asked; shown = may.begun.applied.created.shown; failed = may.begun.applied.created.failed };
-  pushed = may.begun.applied.pushed;
-  parted = may.begun.applied.parted;
-  sourced = may.begun.applied.sourced;
+      (λ f open_still. owed_again b (entered b (action.Outcome m o)) (b.story n) (λ e. e, λ t last e. e) (may.begun.applied.shown.answered n open_still));
+  ended = may.begun.applied.shown.ended;
+  created = record { asked = may.begun.applied.shown.created.asked; shown = may.begun.applied.shown.created.shown; failed = may.begun.applied.shown.created.failed };
+  pushed = may.begun.applied.shown.pushed;
+  parted = may.begun.applied.shown.parted;
+  sourced = may.begun.applied.shown.sourced;
   timed = may.begun.applied.timed;
 }
 

@@ -1,5 +1,5 @@
 -- Who is to start on a link behind an action was so before it, and who was admitted to its line stays in it.
-use Rattle.std.proofs.Common.{◌≡◌, ◌⊎◌, inl, inr, ℕ, zero, suc, ◌<◌, ◌≤◌, ◌==◌, Bool, true, false, ◌&&◌, ◌||◌, not, List, [], ◌∷◌, ◌++◌, length, Option, None, Some, is_none, is_some, nat_lt, if◌then◌else◌, refl, sym, ◌∙◌, ap, subst, arith}
+use Rattle.std.proofs.Common.{◌≡◌, ◌⊎◌, inl, inr, ℕ, zero, suc, ◌<◌, ◌≤◌, ◌==◌, Bool, true, false, ◌&&◌, ◌||◌, not, List, [], ◌∷◌, ◌++◌, length, Option, None, Some, is_none, is_some, nat_lt, if◌then◌else◌, refl, sym, ◌∙◌, ap, subst, arith, max}
 use Rattle.std.specs.Prelude.{slice_get}
 use Rattle.containers.proofs.Choices.{by_test, chosen, left_if, eq_from, ne_from, eq_test, ne_test, not_both, both_left, both_right}
 use Rattle.driver_model.specs.declared.action.Action.{Action}
@@ -10,7 +10,7 @@ use Rattle.driver_model.specs.declared.event.EventKind.{EventKind}
 use Rattle.driver_model.specs.declared.event.EventKind.TheVariants as event
 use Rattle.driver_model.specs.declared.outcome.Outcome.{Outcome}
 use Rattle.legal_trace.specs.Story.{Story, is_open, is_told, is_awaited, is_no_error, is_unstarted, handed_in, left, holds, clocked, fires, tried, waits, answered}
-use Rattle.legal_trace.specs.Book.{Book, entered, entered_each, current, is_clock_of, after_event, is_unspoken}
+use Rattle.legal_trace.specs.Book.{Book, entered, entered_each, is_clock_of, after_event, is_unspoken}
 use Rattle.legal_trace.specs.Steps.{permits_in, is_let_in, is_in_line, line_before}
 use Rattle.legal_trace.specs.Legal.{MayStand, MayAnswer, MayTell, MayTake, MayStart, AllStand}
 use Rattle.legal_trace.proofs.Plain.{not_empty}
@@ -144,7 +144,7 @@ answered_follows b n o (inr may) =
 
 -- behind an event
 event_follows : (b : Book) (n : ℕ) (kind : EventKind) → n < b.submissions → Follows (permits_in b.config) (b.story n) (after_event b n kind)
-event_follows b n (event.Submit what) i = subst (Follows (permits_in b.config) (b.story n)) (sym (left_if (b.submissions == n) (handed_in (b.story n) what b.shut (is_unspoken b what) (current b) b.timeout) (b.story n) (ne_test b.submissions n (omega arith)))) (same_story (permits_in b.config) (b.story n))
+event_follows b n (event.Submit what) i = subst (Follows (permits_in b.config) (b.story n)) (sym (left_if (b.submissions == n) (handed_in (b.story n) what b.shut (is_unspoken b what) (max 1 b.generation) b.current b.timeout) (b.story n) (ne_test b.submissions n (omega arith)))) (same_story (permits_in b.config) (b.story n))
 event_follows b n (event.Cancel m) i = chosen (Follows (permits_in b.config) (b.story n)) (m == n) (left (b.story n)) (b.story n) (λ t. left_follows (permits_in b.config) (b.story n)) (λ f. same_story (permits_in b.config) (b.story n))
 event_follows b n (event.Fired t) i = chosen (Follows (permits_in b.config) (b.story n)) (is_clock_of n (slice_get b.timers t)) (fires (b.story n)) (b.story n) (λ e. fires_follows (permits_in b.config) (b.story n)) (λ f. same_story (permits_in b.config) (b.story n))
 event_follows b n (event.Connected l) i = same_story (permits_in b.config) (b.story n)

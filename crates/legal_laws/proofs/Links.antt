@@ -18,7 +18,8 @@ use Rattle.driver_model.specs.declared.action.SourceUse.TheVariants as source
 use Rattle.driver_model.specs.News.{News, silence, connected, refused, overdue, took, came, failed, authorized, denied, deserted, renewed, unrenewed, late, unrepeated, news_of, of_timer, of_source}
 use Rattle.legal_trace.specs.Ledger.{Ledger, Line, asks, begins, offers, ends, is_over, IsWithin, MayNote, AllNoted, sources, times, tells}
 use Rattle.legal_trace.specs.Story.{is_awaited, is_no_error, bytes_of}
-use Rattle.legal_trace.specs.Book.{Book, blank_book, entered, lines_of, lines_of_each, if_mine, push_line, info_in, message_of, wanted_in, is_renewal_of, hearing_in, current}
+use Rattle.legal_trace.specs.Managers.{settings_in, is_last}
+use Rattle.legal_trace.specs.Book.{Book, blank_book, entered, lines_of, lines_of_each, if_mine, push_line, info_in, message_of, wanted_in, is_renewal_of, hearing_in}
 use Rattle.legal_trace.specs.Events.{is_bad_event, is_no_link}
 use Rattle.legal_trace.specs.Legal.{MayStand, MayStart, AllStand, Legal, MayTimer}
 use Rattle.legal_laws.specs.Links.{LinksAreLegal, TakesInOrder, lines_for}
@@ -89,7 +90,7 @@ within b l (event.Cancel n) good h = tt
 -- a message that may start has bytes
 pub starts_with_bytes : (b : Book) (l k n count len : ℕ) → MayStart b l k n count len → Sound b → bytes_of (b.story n) ≢ []
 starts_with_bytes b l k n count len may h = elim (open_or_told (b.story n) may.unstarted) [
-  | inl o ↦ has_bytes b (b.story n) (may.begun.applied.answered n o)
+  | inl o ↦ has_bytes b (b.story n) (may.begun.applied.shown.answered n o)
   | inr told ↦ (h.once n).told (both_right (not (is_awaited (b.story n))) (is_no_error (b.story n).outcomes) told) (has_no_tries (b.story n) may.unstarted)
 ]
 
@@ -115,8 +116,8 @@ lines_may b l (action.Took owner.Resub m count) may h = absurd may
 lines_may b l (action.Took owner.Monitor m count) may h = absurd may
 lines_may b l (action.Took (owner.Try n round) m count) may h = tt
 lines_may b l (action.Push m info) may h = may_mine (m == l) (b.link l) (push_line info.kind) (λ t. subst (λ j. MayNote (b.link j) (push_line info.kind)) (eq_from m l t) (push_may b m info may))
-lines_may b l (action.Message msg) may h = may_mine (current b == l) (b.link l) tells (λ t. subst (λ j. MayNote (b.link j) tells) (eq_from (current b) l t) (ap is_some may.next))
-lines_may b l (action.Monitor v) may h = may_mine (current b == l) (b.link l) tells (λ t. subst (λ j. MayNote (b.link j) tells) (eq_from (current b) l t) (ap is_some may.next))
+lines_may b l (action.Message msg) may h = may_mine (b.current == l) (b.link l) tells (λ t. subst (λ j. MayNote (b.link j) tells) (eq_from b.current l t) (ap is_some may.next))
+lines_may b l (action.Monitor v) may h = may_mine (b.current == l) (b.link l) tells (λ t. subst (λ j. MayNote (b.link j) tells) (eq_from b.current l t) (ap is_some may.next))
 lines_may b l (action.NeedCreds c m) may h = may_mine (m == l) (b.link l) sources (λ t. subst (λ j. MayNote (b.link j) sources) (eq_from m l t) may.due)
 lines_may b l (action.Generation g) may h = absurd may
 lines_may b l (action.Round who m) may h = absurd may

@@ -27,7 +27,7 @@ use Rattle.driver_model.specs.declared.push_info.PushInfo.{PushInfo}
 use Rattle.legal_trace.specs.Ledger.{Heard, IsOffered, is_over, is_cut, unwritten, ending, failure_in, next_notice, setup_due, setup_message, source_due, renewal_due, renewal_message, renewals_asked, monitor_due, monitor_message}
 use Rattle.legal_trace.specs.Story.{shape, bytes_of}
 use Rattle.legal_trace.specs.Owed.{owed}
-use Rattle.legal_trace.specs.Book.{Book, book, current}
+use Rattle.legal_trace.specs.Book.{Book, book}
 use Rattle.legal_trace.specs.Steps.{Step, waits, takes, asks, tells, starts, nothing, is_held_back, next_step}
 use Rattle.legal_trace.specs.Legal.{MayStand, MayConnect, MayTimeConnect, MayTime, MayTake, MayTimer, MayNeed, MayNotify, MayWatch, MayPart, MayPushBy, MayClose, MayBeCreated, MayFail, MayShowCreation, MayAnswer, MayTell, MayStart, MaySetUp, MayWrite, MayWait, IsOpen, IsWaiting, link_of, CanMove, MayTimeRenewal, MayRenew}
 use Rattle.legal_laws.specs.Next.{BothAnnounce, OneIsNext, OneIsNextBehind}
@@ -367,8 +367,8 @@ of_rank b (action.Took owner.Monitor l count) may = absurd may
 of_rank b (action.Took (owner.Try n round) l count) may = subst (λ r. IsMoving b (action.Took (owner.Try n r) l count)) (sym may.0) (take_moving b n l count may.1)
 of_rank b (action.Outcome n o) may = outcome_of_rank b n o may
 of_rank b (action.Push l info) may = push_of_rank b l info (is_disconnection info.kind) refl may
-of_rank b (action.Message msg) may = inr (inr (inl (current b, notice.Message msg, refl, may)))
-of_rank b (action.Monitor v) may = inr (inr (inl (current b, notice.Monitor v, refl, may)))
+of_rank b (action.Message msg) may = inr (inr (inl (b.current, notice.Message msg, refl, may)))
+of_rank b (action.Monitor v) may = inr (inr (inl (b.current, notice.Monitor v, refl, may)))
 of_rank b (action.NeedCreds c l) may = inr (inr (inr (c, l, refl, may)))
 of_rank b (action.Generation g) may = absurd may
 of_rank b (action.Round who l) may = absurd may
@@ -487,8 +487,8 @@ beside b (action.Took owner.Monitor l count) y p h q = absurd p
 beside b (action.Took (owner.Try n round) l count) y p h q = subst (λ r. AreOne (action.Took (owner.Try n r) l count) y) (sym p.0) (inl (one_moving b (action.Took (owner.Try n 0) l count) y (take_moving b n l count p.1) q))
 beside b (action.Outcome n o) y p h q = beside_outcome b n o y p h q
 beside b (action.Push l info) y p h q = beside_push b l info y (is_disconnection info.kind) h refl p q
-beside b (action.Message msg) y p h q = beside_telling b (current b) (notice.Message msg) y h p q
-beside b (action.Monitor v) y p h q = beside_telling b (current b) (notice.Monitor v) y h p q
+beside b (action.Message msg) y p h q = beside_telling b b.current (notice.Message msg) y h p q
+beside b (action.Monitor v) y p h q = beside_telling b b.current (notice.Monitor v) y h p q
 beside b (action.NeedCreds c l) y p h q = beside_need b c l y p q
 beside b (action.Generation g) y p h q = absurd p
 beside b (action.Round who l) y p h q = absurd p

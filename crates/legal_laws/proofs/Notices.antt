@@ -17,7 +17,8 @@ use Rattle.driver_model.specs.declared.hearing.Notice.TheVariants as notice
 use Rattle.driver_model.specs.News.{News, silence, connected, refused, overdue, took, came, failed, dropped, shut, news_of, authorized, denied, deserted, renewed, unrenewed, late, unrepeated}
 use Rattle.driver_model.specs.Push.{is_disconnection}
 use Rattle.legal_trace.specs.Ledger.{Ledger, Heard, asks, hears, begins, offers, tells, ends, parts, noted, noted_each, refused_in, bytes_came, is_over, dials, next_notice, sources, awaits_credentials, authorized_by, times, may_renew, renewed_by, unrenewed_by, is_renewal_open, lost_by}
-use Rattle.legal_trace.specs.Book.{Book, blank_book, book, entered, entered_each, if_mine, push_line, info_in, message_of, wanted_in, is_renewal_of, hearing_in, current}
+use Rattle.legal_trace.specs.Managers.{settings_in, is_last}
+use Rattle.legal_trace.specs.Book.{Book, blank_book, book, entered, entered_each, if_mine, push_line, info_in, message_of, wanted_in, is_renewal_of, hearing_in}
 use Rattle.legal_trace.specs.Legal.{MayStand, MayNotify, MayPart, MayPush, MayPushBy, AllStand, IsSettled, is_heard, Legal}
 use Rattle.legal_trace.proofs.Books.{stand_front}
 use Rattle.legal_trace.proofs.Ledgers.{mine_keeps}
@@ -116,12 +117,12 @@ push_told b l m info may mine real =
     (subst (λ j. MayNotify b j (notice.Push info)) (eq_from m l mine) (noting_of b m info real may))
 
 -- what tells it of the link that submissions go to does one of the two
-current_told : (b : Book) (l : ℕ) (n : Notice) (a : Action) → told_by b l a ≡ (if current b == l then n ∷ [] else []) → (entered b a).link l ≡ noted_each (b.link l) (if_mine (current b == l) tells)
-    → MayNotify b (current b) n → TellsNothing b l a ⊎ TellsNext b l a
-current_told b l n a told e may = by_test (current b == l) (TellsNothing b l a ⊎ TellsNext b l a)
-    (λ t. inr (next_told b l n a (told ∙ taken_if (current b == l) (n ∷ []) [] t) (e ∙ ap (λ mine. noted_each (b.link l) (if_mine mine tells)) t) (subst (λ j. MayNotify b j n) (eq_from (current b) l t) may)))
+current_told : (b : Book) (l : ℕ) (n : Notice) (a : Action) → told_by b l a ≡ (if b.current == l then n ∷ [] else []) → (entered b a).link l ≡ noted_each (b.link l) (if_mine (b.current == l) tells)
+    → MayNotify b b.current n → TellsNothing b l a ⊎ TellsNext b l a
+current_told b l n a told e may = by_test (b.current == l) (TellsNothing b l a ⊎ TellsNext b l a)
+    (λ t. inr (next_told b l n a (told ∙ taken_if (b.current == l) (n ∷ []) [] t) (e ∙ ap (λ mine. noted_each (b.link l) (if_mine mine tells)) t) (subst (λ j. MayNotify b j n) (eq_from b.current l t) may)))
     (λ f. inl (record {
-      none = told ∙ left_if (current b == l) (n ∷ []) [] f;
+      none = told ∙ left_if (b.current == l) (n ∷ []) [] f;
       goes = same_notices (b.link l) ((entered b a).link l) (ap (λ (x : Ledger). x.told) (e ∙ ap (λ mine. noted_each (b.link l) (if_mine mine tells)) f)) (ap (λ (x : Ledger). x.notices) (e ∙ ap (λ mine. noted_each (b.link l) (if_mine mine tells)) f));
     }))
 

@@ -1,5 +1,5 @@
 -- Links and submissions are numbered in order.
-use Rattle.std.proofs.Common.{◌≡◌, ◌≢◌, ◌⊎◌, inl, inr, ℕ, ◌+◌, ◌-◌, ◌<◌, ◌≤◌, ◌==◌, nat_le, Bool, true, false, ◌&&◌, not, Option, Some, None, if◌then◌else◌, refl, sym, ap, ◌∙◌, subst, arith}
+use Rattle.std.proofs.Common.{◌≡◌, ◌≢◌, ◌⊎◌, inl, inr, ℕ, ◌+◌, ◌-◌, ◌<◌, ◌≤◌, ◌==◌, nat_le, Bool, true, false, ◌&&◌, not, Option, Some, None, if◌then◌else◌, refl, sym, ap, ◌∙◌, subst, arith, max}
 use Rattle.std.specs.Prelude.{slice_get}
 use Rattle.containers.proofs.Choices.{by_test, chosen, eq_from, left_if, le_from, not_le_from, ne_test, ne_from, not_both}
 use Rattle.driver_model.specs.declared.action.Action.{Action}
@@ -17,7 +17,8 @@ use Rattle.driver_model.specs.News.{News, silence, connected, refused, overdue, 
 use Rattle.driver_model.specs.declared.outcome.Outcome.{Outcome}
 use Rattle.legal_trace.specs.Ledger.{Ledger, End, asks, begins, offers, ends, is_over, ending, ending_alive, ending_asked, noted_each, sources, times}
 use Rattle.legal_trace.specs.Story.{Story, blank_story, is_open, is_told, handed_in, left, holds, clocked, fires, tried, waits, answered}
-use Rattle.legal_trace.specs.Book.{Book, entered, lines_of, if_mine, info_in, message_of, current, is_clock_of, after_event, submitted_by, is_unspoken, wanted_in, is_renewal_of, hearing_in}
+use Rattle.legal_trace.specs.Managers.{settings_in, is_last}
+use Rattle.legal_trace.specs.Book.{Book, entered, lines_of, if_mine, info_in, message_of, is_clock_of, after_event, submitted_by, is_unspoken, wanted_in, is_renewal_of, hearing_in}
 use Rattle.legal_trace.specs.Events.{is_bad_event}
 use Rattle.legal_trace.specs.Legal.{MayAnswer, MayTell, MayTimer, MayStand, IsOpen, CanMove}
 use Rattle.legal_trace.proofs.Ledgers.{each_keeps, mine_keeps, IsAsked, asked_keeps, IsUnasked, unasked_hears}
@@ -92,8 +93,8 @@ unasked_kept b l (action.Connect m host port) may i h =
 unasked_kept b l (action.Timer t ms what) may i h = mine_keeps IsUnasked (is_renewal_of l what) (b.link l) times (λ t. h) h
 unasked_kept b l (action.Took who m count) may i h = h
 unasked_kept b l (action.Push m info) may i h = push_keeps IsUnasked (m == l) info.kind (b.link l) h h h
-unasked_kept b l (action.Message msg) may i h = tell_keeps IsUnasked (current b == l) (b.link l) h h
-unasked_kept b l (action.Monitor v) may i h = tell_keeps IsUnasked (current b == l) (b.link l) h h
+unasked_kept b l (action.Message msg) may i h = tell_keeps IsUnasked (b.current == l) (b.link l) h h
+unasked_kept b l (action.Monitor v) may i h = tell_keeps IsUnasked (b.current == l) (b.link l) h h
 unasked_kept b l (action.NeedCreds c m) may i h = mine_keeps IsUnasked (m == l) (b.link l) sources (λ t. h) h
 unasked_kept b l (action.Generation g) may i h = absurd may
 unasked_kept b l (action.Round who m) may i h = absurd may
@@ -230,7 +231,7 @@ timer_leaves_blank b t ms what n (inr (inl may)) h i = ap (λ x. if is_clock_of 
 -- an event that isn't bad is nothing to a submission that was not handed in
 event_leaves_blank : (b : Book) (n : ℕ) (kind : EventKind) → is_bad_event b kind ≡ false → HasStories b → b.submissions + submitted_by kind ≤ n → after_event b n kind ≡ blank_story
 unfolding is_bad_event
-event_leaves_blank b n (event.Submit what) good h i = left_if (b.submissions == n) (handed_in (b.story n) what b.shut (is_unspoken b what) (current b) b.timeout) (b.story n) (ne_test b.submissions n (omega arith)) ∙ h n (omega arith)
+event_leaves_blank b n (event.Submit what) good h i = left_if (b.submissions == n) (handed_in (b.story n) what b.shut (is_unspoken b what) (max 1 b.generation) b.current b.timeout) (b.story n) (ne_test b.submissions n (omega arith)) ∙ h n (omega arith)
 event_leaves_blank b n (event.Cancel m) good h i = others_blank b m n (left (b.story n)) h (omega arith) (not_le_from b.submissions m good)
 event_leaves_blank b n (event.Connected l) good h i = h n (omega arith)
 event_leaves_blank b n (event.Refused l f) good h i = h n (omega arith)

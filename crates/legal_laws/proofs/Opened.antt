@@ -44,7 +44,7 @@ opened_before front l k n count len all may =
     let told = told_behind front all in
     record {
       answered = well_is_ready (setup_result (b.link l)) (set_is_greeted (b.link l) (ready_is_set (b.link l) ready));
-      told = shown_well (creations front) b.created told.counted told.once (may.begun.applied.created.shown l ready)
+      told = shown_well (creations front) b.created told.counted told.once (may.begun.applied.shown.created.shown l ready)
           (λ e is. let cause = told.caused e is in let over = failed_is_over (b.link cause.0).end e cause.1 in none_over b l cause.0 over.0 (sound_behind front all) (ready_is_up (b.link l) ready) over.1);
     }
 

@@ -9,7 +9,8 @@ use Rattle.driver_model.specs.declared.action.Owner.TheVariants as owner
 use Rattle.driver_model.specs.declared.config.Config.{Config}
 use Rattle.driver_model.specs.News.{News, silence}
 use Rattle.legal_trace.specs.Ledger.{Ledger, Ending, asks, begins, offers, is_over, ending, ending_alive, ending_asked, sources, times}
-use Rattle.legal_trace.specs.Book.{Book, entered, info_in, message_of, wanted_in, is_renewal_of, hearing_in, current}
+use Rattle.legal_trace.specs.Managers.{settings_in, is_last}
+use Rattle.legal_trace.specs.Book.{Book, entered, info_in, message_of, wanted_in, is_renewal_of, hearing_in}
 use Rattle.legal_trace.specs.Legal.{MayStand}
 use Rattle.legal_trace.proofs.Ledgers.{mine_keeps}
 use Rattle.legal_trace.proofs.Plain.{not_none}
@@ -45,9 +46,9 @@ opening_kept b (action.Turn k (cause.Event event)) may h = record {
   no_links = λ e. absurd (omega arith);
   not_running = λ e. absurd (omega arith);
   first = λ config word e. absurd (cc e);
-  no_submissions = λ e. absurd (may.is_for.1.written.moved.begun.applied.created.asked e);
+  no_submissions = λ e. absurd (may.is_for.1.written.moved.begun.applied.shown.created.asked e);
   none_yet = λ i. let later : b.turns ≢ 0 = may.is_for.0 in absurd (omega arith);
-  not_shut = λ e. absurd (may.is_for.1.written.moved.begun.applied.created.asked e);
+  not_shut = λ e. absurd (may.is_for.1.written.moved.begun.applied.shown.created.asked e);
   one_link = h.one_link;
 }
 opening_kept b (action.Connect l host port) may h = record {
@@ -116,8 +117,8 @@ still_kept b (action.Took owner.Resub l count) may h = absurd may
 still_kept b (action.Took owner.Monitor l count) may h = absurd may
 still_kept b (action.Took (owner.Try n round) l count) may h = h
 still_kept b (action.Push m info) may h = λ i l. push_keeps IsStill (m == l) info.kind (b.link l) (record { down = (h i l).down; lives = (h i l).lives; untold = (h i l).untold; mute = (h i l).mute }) (record { down = (h i l).down; lives = (h i l).lives; untold = (h i l).untold; mute = (h i l).mute }) (h i l)
-still_kept b (action.Message msg) may h = λ i l. tell_keeps IsStill (current b == l) (b.link l) (record { down = (h i l).down; lives = (h i l).lives; untold = (h i l).untold; mute = (h i l).mute }) (h i l)
-still_kept b (action.Monitor v) may h = λ i l. tell_keeps IsStill (current b == l) (b.link l) (record { down = (h i l).down; lives = (h i l).lives; untold = (h i l).untold; mute = (h i l).mute }) (h i l)
+still_kept b (action.Message msg) may h = λ i l. tell_keeps IsStill (b.current == l) (b.link l) (record { down = (h i l).down; lives = (h i l).lives; untold = (h i l).untold; mute = (h i l).mute }) (h i l)
+still_kept b (action.Monitor v) may h = λ i l. tell_keeps IsStill (b.current == l) (b.link l) (record { down = (h i l).down; lives = (h i l).lives; untold = (h i l).untold; mute = (h i l).mute }) (h i l)
 still_kept b (action.NeedCreds c m) may h = λ i l. mine_keeps IsStill (m == l) (b.link l) sources (λ t. record { down = (h i l).down; lives = (h i l).lives; untold = (h i l).untold; mute = (h i l).mute }) (h i l)
 still_kept b (action.Generation g) may h = absurd may
 still_kept b (action.Round who m) may h = absurd may

@@ -1,5 +1,5 @@
 -- Timers of submissions run only on links whose opening didn't fail.
-use Rattle.std.proofs.Common.{◌≡◌, ◌⊎◌, inl, inr, ℕ, zero, suc, ◌-◌, ◌<◌, ◌≤◌, ◌==◌, true, false, List, [], ◌∷◌, ◌++◌, Some, None, sym, ◌∙◌, ap, subst, refl, arith}
+use Rattle.std.proofs.Common.{◌≡◌, ◌⊎◌, inl, inr, ℕ, zero, suc, ◌-◌, ◌<◌, ◌≤◌, ◌==◌, true, false, List, [], ◌∷◌, ◌++◌, Some, None, sym, ◌∙◌, ap, subst, refl, arith, max}
 use Rattle.std.specs.Prelude.{slice_get}
 use Rattle.containers.proofs.Choices.{chosen, eq_from, not_both}
 use Rattle.redis_error.specs.declared.redis_error.RedisError.{RedisError}
@@ -12,7 +12,7 @@ use Rattle.driver_model.specs.declared.event.EventKind.{EventKind}
 use Rattle.driver_model.specs.declared.event.EventKind.TheVariants as event
 use Rattle.legal_trace.specs.Ledger.{begins, offers, ends, failure_in, setup_due, sources, times}
 use Rattle.legal_trace.specs.Story.{Story, is_open, handed_in, left, holds, clocked, fires, tried, waits, answered}
-use Rattle.legal_trace.specs.Book.{Book, blank_book, book, entered, entered_each, message_of, current, is_clock_of, after_event, is_unspoken, is_renewal_of}
+use Rattle.legal_trace.specs.Book.{Book, blank_book, book, entered, entered_each, message_of, is_clock_of, after_event, is_unspoken, is_renewal_of}
 use Rattle.legal_trace.specs.Legal.{MayTimer, MayTime, MayStand, AllStand, link_of}
 use Rattle.legal_trace.proofs.Ledgers.{mine_keeps}
 use Rattle.legal_laws.proofs.InLine.{follows, submissions_grow}
@@ -58,8 +58,8 @@ quiet_stays b (action.Took owner.Resub m count) may h some l q = absurd may
 quiet_stays b (action.Took owner.Monitor m count) may h some l q = absurd may
 quiet_stays b (action.Took (owner.Try n round) m count) may h some l q = q
 quiet_stays b (action.Push m info) may h some l q = push_keeps (IsQuiet []) (m == l) info.kind (b.link l) (record { quiet = q.quiet; tells = q.tells }) (record { quiet = q.quiet; tells = q.tells }) q
-quiet_stays b (action.Message msg) may h some l q = tell_keeps (IsQuiet []) (current b == l) (b.link l) (record { quiet = q.quiet; tells = q.tells }) q
-quiet_stays b (action.Monitor v) may h some l q = tell_keeps (IsQuiet []) (current b == l) (b.link l) (record { quiet = q.quiet; tells = q.tells }) q
+quiet_stays b (action.Message msg) may h some l q = tell_keeps (IsQuiet []) (b.current == l) (b.link l) (record { quiet = q.quiet; tells = q.tells }) q
+quiet_stays b (action.Monitor v) may h some l q = tell_keeps (IsQuiet []) (b.current == l) (b.link l) (record { quiet = q.quiet; tells = q.tells }) q
 quiet_stays b (action.NeedCreds c m) may h some l q = mine_keeps (IsQuiet []) (m == l) (b.link l) sources (λ t. record { quiet = q.quiet; tells = q.tells }) q
 quiet_stays b (action.Generation g) may h some l q = absurd may
 quiet_stays b (action.Round who m) may h some l q = absurd may
@@ -141,7 +141,7 @@ WasOver b n s = s.overdue ≡ true → ((b.story n).overdue ≡ true) ⊎ HasClo
 
 -- so it is behind an event
 event_over : (b : Book) (n : ℕ) (kind : EventKind) → WasOver b n (after_event b n kind)
-event_over b n (event.Submit what) = chosen (WasOver b n) (b.submissions == n) (handed_in (b.story n) what b.shut (is_unspoken b what) (current b) b.timeout) (b.story n) (λ t e. inl e) (λ f e. inl e)
+event_over b n (event.Submit what) = chosen (WasOver b n) (b.submissions == n) (handed_in (b.story n) what b.shut (is_unspoken b what) (max 1 b.generation) b.current b.timeout) (b.story n) (λ t e. inl e) (λ f e. inl e)
 event_over b n (event.Cancel m) = chosen (WasOver b n) (m == n) (left (b.story n)) (b.story n)
     (λ t. chosen (WasOver b n) (is_open (b.story n)) (record (b.story n) { cancelled = true; permits = 0; waiting = None }) (b.story n) (λ o e. inl e) (λ o e. inl e)) (λ f e. inl e)
 event_over b n (event.Fired t) = chosen (WasOver b n) (is_clock_of n (slice_get b.timers t)) (fires (b.story n)) (b.story n) (λ c e. inr (clock_at n b.timers t c)) (λ f e. inl e)

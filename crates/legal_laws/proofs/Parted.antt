@@ -16,7 +16,8 @@ use Rattle.driver_model.specs.declared.news.LinkFault.TheVariants as fault
 use Rattle.driver_model.specs.News.{News, silence, connected, refused, overdue, took, came, failed, dropped, shut, news_of, authorized, denied, deserted, renewed, unrenewed, late, unrepeated}
 use Rattle.driver_model.specs.Push.{is_disconnection}
 use Rattle.legal_trace.specs.Ledger.{Ledger, Line, End, Ending, by_opening, asks, hears, begins, offers, tells, ends, parts, noted, noted_each, with_news, refused_in, bytes_came, is_over, is_fault, is_cut, is_set_up, setup_result, error_in, dials, ending, ending_alive, ending_by, ending_unready, ending_asked, ending_or_shutdown, MayNote, AllNoted, sources, lacks_credentials, awaits_credentials, authorized_by, times, may_renew, renewed_by, unrenewed_by, is_renewal_open, lost_by, is_unreadable, opening_error}
-use Rattle.legal_trace.specs.Book.{Book, blank_book, book, entered, entered_each, push_line, info_in, message_of, lines_of_each, wanted_in, is_renewal_of, hearing_in, current}
+use Rattle.legal_trace.specs.Managers.{settings_in, is_last}
+use Rattle.legal_trace.specs.Book.{Book, blank_book, book, entered, entered_each, push_line, info_in, message_of, lines_of_each, wanted_in, is_renewal_of, hearing_in}
 use Rattle.legal_trace.specs.Legal.{MayStand, MayAnswer, MayTell, MayPart, AllStand, are_pushes_heard, Legal}
 use Rattle.legal_trace.proofs.Books.{stand_front, stand_behind}
 use Rattle.legal_trace.proofs.Renewals.{renewal_is_up}
@@ -120,8 +121,8 @@ parted_by b l (action.Close m) not_yet then_is = absurd (not_both (b.link l).par
 parted_by b l (action.Write m bytes) not_yet then_is = absurd (not_both (b.link l).parted not_yet (mine_keeps (λ (x : Ledger). WasParted x → WasParted (b.link l)) (m == l) (b.link l) (offers bytes) (λ t e. e) (λ e. e) then_is))
 parted_by b l (action.Wait who kind) not_yet then_is = absurd (not_both (b.link l).parted not_yet then_is)
 parted_by b l (action.Start m k who count len) not_yet then_is = absurd (not_both (b.link l).parted not_yet (mine_keeps (λ (x : Ledger). WasParted x → WasParted (b.link l)) (m == l) (b.link l) (begins (message_of b m who)) (λ t e. e) (λ e. e) then_is))
-parted_by b l (action.Message msg) not_yet then_is = absurd (not_both (b.link l).parted not_yet (tell_keeps (λ (x : Ledger). WasParted x → WasParted (b.link l)) (current b == l) (b.link l) (λ e. e) (λ e. e) then_is))
-parted_by b l (action.Monitor v) not_yet then_is = absurd (not_both (b.link l).parted not_yet (tell_keeps (λ (x : Ledger). WasParted x → WasParted (b.link l)) (current b == l) (b.link l) (λ e. e) (λ e. e) then_is))
+parted_by b l (action.Message msg) not_yet then_is = absurd (not_both (b.link l).parted not_yet (tell_keeps (λ (x : Ledger). WasParted x → WasParted (b.link l)) (b.current == l) (b.link l) (λ e. e) (λ e. e) then_is))
+parted_by b l (action.Monitor v) not_yet then_is = absurd (not_both (b.link l).parted not_yet (tell_keeps (λ (x : Ledger). WasParted x → WasParted (b.link l)) (b.current == l) (b.link l) (λ e. e) (λ e. e) then_is))
 parted_by b l (action.Created e) not_yet then_is = absurd (not_both (b.link l).parted not_yet then_is)
 parted_by b l (action.Outcome n o) not_yet then_is = absurd (not_both (b.link l).parted not_yet then_is)
 
@@ -157,8 +158,8 @@ cut_by b l (action.Close m) not_yet then_is =
     mine_keeps (λ (x : Ledger). IsCut x → action.Close m ≡ action.Close l) (m == l) (b.link l) (ends (b.turns - 1))
     (λ t e. ap action.Close (eq_from m l t)) (λ e. absurd (not_both (is_cut (b.link l).end) not_yet e)) then_is
 cut_by b l (action.Push m info) not_yet then_is = absurd (not_both (is_cut (b.link l).end) not_yet (push_keeps (λ (x : Ledger). IsCut x → IsCut (b.link l)) (m == l) info.kind (b.link l) (λ e. e) (λ e. e) (λ e. e) then_is))
-cut_by b l (action.Message msg) not_yet then_is = absurd (not_both (is_cut (b.link l).end) not_yet (tell_keeps (λ (x : Ledger). IsCut x → IsCut (b.link l)) (current b == l) (b.link l) (λ e. e) (λ e. e) then_is))
-cut_by b l (action.Monitor v) not_yet then_is = absurd (not_both (is_cut (b.link l).end) not_yet (tell_keeps (λ (x : Ledger). IsCut x → IsCut (b.link l)) (current b == l) (b.link l) (λ e. e) (λ e. e) then_is))
+cut_by b l (action.Message msg) not_yet then_is = absurd (not_both (is_cut (b.link l).end) not_yet (tell_keeps (λ (x : Ledger). IsCut x → IsCut (b.link l)) (b.current == l) (b.link l) (λ e. e) (λ e. e) then_is))
+cut_by b l (action.Monitor v) not_yet then_is = absurd (not_both (is_cut (b.link l).end) not_yet (tell_keeps (λ (x : Ledger). IsCut x → IsCut (b.link l)) (b.current == l) (b.link l) (λ e. e) (λ e. e) then_is))
 cut_by b l (action.Turn k (cause.Opening config word)) not_yet then_is = absurd (not_both (is_cut (b.link l).end) not_yet then_is)
 cut_by b l (action.Turn k (cause.Event e)) not_yet then_is = absurd (not_both (is_cut (b.link l).end) not_yet (hears_cut (b.link l) k (news_of b.timers b.sources l e.kind) then_is))
 cut_by b l (action.Connect m host port) not_yet then_is = absurd (not_both (is_cut (b.link l).end) not_yet (mine_keeps (λ (x : Ledger). IsCut x → IsCut (b.link l)) (m == l) (b.link l) (asks (info_in b.config) (wanted_in b.config) (hearing_in b.config) (is_last (settings_in b.config) b.attempt)) (λ t e. e) (λ e. e) then_is))
@@ -272,8 +273,8 @@ set_kept b l (action.Took owner.Resub m count) may s h = absurd may
 set_kept b l (action.Took owner.Monitor m count) may s h = absurd may
 set_kept b l (action.Took (owner.Try n round) m count) may s h = h
 set_kept b l (action.Push m info) may s h = push_keeps CutIsSet (m == l) info.kind (b.link l) h h h
-set_kept b l (action.Message msg) may s h = tell_keeps CutIsSet (current b == l) (b.link l) h h
-set_kept b l (action.Monitor v) may s h = tell_keeps CutIsSet (current b == l) (b.link l) h h
+set_kept b l (action.Message msg) may s h = tell_keeps CutIsSet (b.current == l) (b.link l) h h
+set_kept b l (action.Monitor v) may s h = tell_keeps CutIsSet (b.current == l) (b.link l) h h
 set_kept b l (action.NeedCreds c m) may s h = mine_keeps CutIsSet (m == l) (b.link l) sources (λ t. h) h
 set_kept b l (action.Generation g) may s h = absurd may
 set_kept b l (action.Round who m) may s h = absurd may

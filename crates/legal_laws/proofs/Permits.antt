@@ -1,5 +1,5 @@
 -- Submissions never hold more permits than there are.
-use Rattle.std.proofs.Common.{◌≡◌, ◌≢◌, ℕ, zero, suc, ◌+◌, ◌-◌, ◌<◌, ◌≤◌, ◌==◌, nat_lt, nat_le, true, List, [], ◌∷◌, ◌++◌, Some, None, refl, sym, ◌∙◌, ap, subst, arith}
+use Rattle.std.proofs.Common.{◌≡◌, ◌≢◌, ℕ, zero, suc, ◌+◌, ◌-◌, ◌<◌, ◌≤◌, ◌==◌, nat_lt, nat_le, true, List, [], ◌∷◌, ◌++◌, Some, None, refl, sym, ◌∙◌, ap, subst, arith, max}
 use Rattle.std.specs.Prelude.{slice_get}
 use Rattle.containers.proofs.Choices.{by_test, chosen, taken_if, left_if, eq_from, ne_from, lt_from, not_lt_from, le_from, not_le_from}
 use Rattle.driver_model.specs.declared.action.Action.{Action}
@@ -12,7 +12,7 @@ use Rattle.driver_model.specs.declared.event.Event.{Event}
 use Rattle.driver_model.specs.declared.event.EventKind.{EventKind}
 use Rattle.driver_model.specs.declared.event.EventKind.TheVariants as event
 use Rattle.legal_trace.specs.Story.{Story, is_open, handed_in, left, holds, clocked, fires, tried, waits, answered}
-use Rattle.legal_trace.specs.Book.{Book, blank_book, book, entered, entered_each, current, is_clock_of, after_event, is_unspoken}
+use Rattle.legal_trace.specs.Book.{Book, blank_book, book, entered, entered_each, is_clock_of, after_event, is_unspoken}
 use Rattle.legal_trace.specs.Steps.{permits_in, permits_on, permits_held}
 use Rattle.legal_trace.specs.Legal.{MayTake, MayStand, AllStand, Legal}
 use Rattle.legal_trace.proofs.Books.{stand_front}
@@ -91,7 +91,7 @@ kept_by b a may sound same less h limit l counted =
 
 -- an event gives none
 event_less : (b : Book) (n : ℕ) (kind : EventKind) → (after_event b n kind).permits ≤ (b.story n).permits
-event_less b n (event.Submit what) = chosen (λ (s : Story). s.permits ≤ (b.story n).permits) (b.submissions == n) (handed_in (b.story n) what b.shut (is_unspoken b what) (current b) b.timeout) (b.story n) (λ t. omega arith) (λ f. omega arith)
+event_less b n (event.Submit what) = chosen (λ (s : Story). s.permits ≤ (b.story n).permits) (b.submissions == n) (handed_in (b.story n) what b.shut (is_unspoken b what) (max 1 b.generation) b.current b.timeout) (b.story n) (λ t. omega arith) (λ f. omega arith)
 event_less b n (event.Cancel m) = chosen (λ (s : Story). s.permits ≤ (b.story n).permits) (m == n) (left (b.story n)) (b.story n)
     (λ t. chosen (λ (s : Story). s.permits ≤ (b.story n).permits) (is_open (b.story n)) (record (b.story n) { cancelled = true; permits = 0; waiting = None }) (b.story n) (λ o. omega arith) (λ o. omega arith)) (λ f. omega arith)
 event_less b n (event.Fired t) = chosen (λ (s : Story). s.permits ≤ (b.story n).permits) (is_clock_of n (slice_get b.timers t)) (fires (b.story n)) (b.story n)

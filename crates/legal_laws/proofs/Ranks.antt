@@ -14,7 +14,7 @@ use Rattle.driver_model.specs.Push.{is_disconnection}
 use Rattle.driver_model.specs.declared.push_info.PushInfo.{PushInfo}
 use Rattle.legal_trace.specs.Ledger.{End, Ending, by_shutdown, by_fault, by_opening, failure_of, failure_in, is_fault, is_cut, is_over, IsOffered, ending, next_notice, source_due, renewals_asked}
 use Rattle.legal_trace.specs.Story.{Try, last_of}
-use Rattle.legal_trace.specs.Book.{Book, current}
+use Rattle.legal_trace.specs.Book.{Book}
 use Rattle.legal_trace.specs.Steps.{is_held_back, next_step}
 use Rattle.legal_trace.specs.Legal.{MayStand, MayTimer, MayNeed, MayAnswer, MayTell, MayWrite, MayWait, MayShowCreation, MayPushBy, MayNotify, IsOpen, link_of, NoneIsOwed, VerdictsAreShown, NoneEnds, FailuresAreShown, ReadyIsShown, NoticesAreTold, SourcesAreAsked, EndsAreTold, SetupsAreStarted, MonitorsAreStarted, IsTimed, IsApplied, IsBegun, IsMoved, IsWritten, IsSettled, IsStarted, IsWaiting, CanMove, RenewalsAreTimed, RenewalsAreStarted, answer_time}
 use Rattle.legal_trace.proofs.Moves.{teller_moves, starter_moves, taker_moves, asker_moves, same_kind, ready_is_up}
@@ -196,8 +196,8 @@ not_done b (action.Took owner.Monitor l count) may h = absurd may
 not_done b (action.Took (owner.Try n round) l count) may h = h n (taker_moves b n l count may.1)
 not_done b (action.Outcome n o) may h = outcome_not_done b n o may h
 not_done b (action.Push l info) may h = push_not_done b l info (is_disconnection info.kind) may h
-not_done b (action.Message msg) may h = notice_not_done b (current b) (notice.Message msg) may h
-not_done b (action.Monitor v) may h = notice_not_done b (current b) (notice.Monitor v) may h
+not_done b (action.Message msg) may h = notice_not_done b b.current (notice.Message msg) may h
+not_done b (action.Monitor v) may h = notice_not_done b b.current (notice.Monitor v) may h
 not_done b (action.NeedCreds c l) may h = not_both (source_due (b.link l)) (h.sourced l) may.due
 not_done b (action.Generation g) may h = absurd may
 not_done b (action.Round who l) may h = absurd may
@@ -384,8 +384,8 @@ reached b (action.Took owner.Resub l count) may h = absurd may
 reached b (action.Took owner.Monitor l count) may h = absurd may
 reached b (action.Took (owner.Try n round) l count) may h = begun_all b h may.1.begun
 reached b (action.Push l info) may h = push_reached b l info (is_disconnection info.kind) may h
-reached b (action.Message msg) may h = notice_reached b (current b) (notice.Message msg) may h
-reached b (action.Monitor v) may h = notice_reached b (current b) (notice.Monitor v) may h
+reached b (action.Message msg) may h = notice_reached b b.current (notice.Message msg) may h
+reached b (action.Monitor v) may h = notice_reached b b.current (notice.Monitor v) may h
 reached b (action.NeedCreds c l) may h = need_reached b c l may h
 reached b (action.Generation g) may h = absurd may
 reached b (action.Round who l) may h = absurd may

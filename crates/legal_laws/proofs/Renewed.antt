@@ -12,7 +12,8 @@ use Rattle.driver_model.specs.declared.action.Cause.TheVariants as cause
 use Rattle.driver_model.specs.declared.action.Owner.TheVariants as owner
 use Rattle.driver_model.specs.News.{News, silence, connected, refused, overdue, took, came, failed, authorized, denied, deserted, renewed, unrenewed, late, unrepeated, dropped, shut, news_of}
 use Rattle.legal_trace.specs.Ledger.{Ledger, Start, asks, hears, begins, offers, sources, times, ends, noted, with_news, refused_in, bytes_came, is_over, dials, awaits_credentials, authorized_by, may_renew, renewed_by, unrenewed_by, is_renewal_open, lost_by, is_of_renewal, is_taken, renewal_count, renewal_due, renewal_message, Heard}
-use Rattle.legal_trace.specs.Book.{Book, blank_book, book, entered, entered_each, info_in, wanted_in, message_of, renewal_in, is_renewal_of, hearing_in, current}
+use Rattle.legal_trace.specs.Managers.{settings_in, is_last}
+use Rattle.legal_trace.specs.Book.{Book, blank_book, book, entered, entered_each, info_in, wanted_in, message_of, renewal_in, is_renewal_of, hearing_in}
 use Rattle.legal_trace.specs.Legal.{MayStand, AllStand}
 use Rattle.legal_trace.proofs.Ledgers.{mine_keeps}
 use Rattle.legal_trace.proofs.Plain.{item_behind, item_stays, not_none, item_within}
@@ -169,8 +170,8 @@ told_kept b (action.Connect m host port) l may sound h = mine_keeps TellsWell (m
 told_kept b (action.Timer t ms what) l may sound h = mine_keeps TellsWell (is_renewal_of l what) (b.link l) times (λ e. same_told (b.link l) (noted (b.link l) times) refl refl refl h) h
 told_kept b (action.Took who m count) l may sound h = h
 told_kept b (action.Push m info) l may sound h = push_keeps TellsWell (m == l) info.kind (b.link l) (same_told (b.link l) _ refl refl refl h) (same_told (b.link l) _ refl refl refl h) h
-told_kept b (action.Message msg) l may sound h = tell_keeps TellsWell (current b == l) (b.link l) (same_told (b.link l) _ refl refl refl h) h
-told_kept b (action.Monitor v) l may sound h = tell_keeps TellsWell (current b == l) (b.link l) (same_told (b.link l) _ refl refl refl h) h
+told_kept b (action.Message msg) l may sound h = tell_keeps TellsWell (b.current == l) (b.link l) (same_told (b.link l) _ refl refl refl h) h
+told_kept b (action.Monitor v) l may sound h = tell_keeps TellsWell (b.current == l) (b.link l) (same_told (b.link l) _ refl refl refl h) h
 told_kept b (action.NeedCreds c m) l may sound h = mine_keeps TellsWell (m == l) (b.link l) sources (λ t. same_told (b.link l) (noted (b.link l) sources) refl refl refl h) h
 told_kept b (action.Generation g) l may sound h = absurd may
 told_kept b (action.Round who m) l may sound h = absurd may

@@ -15,7 +15,8 @@ use Rattle.driver_model.specs.declared.hearing.Hearing.TheVariants as hearing
 use Rattle.driver_model.specs.Hearing.{taking, is_watching}
 use Rattle.driver_model.specs.News.{News, silence, connected, refused, overdue, took, came, failed, dropped, shut, news_of, authorized, denied, deserted, renewed, unrenewed, late, unrepeated}
 use Rattle.legal_trace.specs.Ledger.{Ledger, asks, begins, offers, ends, sources, times, with_news, refused_in, bytes_came, is_answered, is_awaiting, is_over, is_set_up, dials, items_came, heard_at, monitor_of, taking_of, value_by, value_came, awaits_credentials, authorized_by, may_renew, renewed_by, unrenewed_by, is_renewal_open, lost_by, Start, is_of_monitor, monitor_among, monitor_due}
-use Rattle.legal_trace.specs.Book.{Book, blank_book, book, entered, entered_each, current, hearing_in, info_in, message_of, wanted_in, is_renewal_of, kind_in, submitted_by}
+use Rattle.legal_trace.specs.Managers.{settings_in, is_last}
+use Rattle.legal_trace.specs.Book.{Book, blank_book, book, entered, entered_each, hearing_in, info_in, message_of, wanted_in, is_renewal_of, kind_in, submitted_by}
 use Rattle.legal_trace.specs.Legal.{MayStand, AllStand, Legal}
 use Rattle.legal_trace.proofs.Books.{stand_front, stand_behind, book_append}
 use Rattle.legal_trace.proofs.Came.{ValueKeeps, bytes_keep, holds_came, value_is}
@@ -122,8 +123,8 @@ done_kept b l ds (action.Connect m host port) may s h = mine_keeps (IsDone ds) (
 done_kept b l ds (action.Timer t ms what) may s h = mine_keeps (IsDone ds) (is_renewal_of l what) (b.link l) times (λ e. record { asked = h.asked; watching = h.watching; ready = h.ready; dealt = h.dealt }) h
 done_kept b l ds (action.Took who m count) may s h = h
 done_kept b l ds (action.Push m info) may s h = push_keeps (IsDone ds) (m == l) info.kind (b.link l) (record { asked = h.asked; watching = h.watching; ready = h.ready; dealt = h.dealt }) (record { asked = h.asked; watching = h.watching; ready = h.ready; dealt = h.dealt }) h
-done_kept b l ds (action.Message msg) may s h = tell_keeps (IsDone ds) (current b == l) (b.link l) (record { asked = h.asked; watching = h.watching; ready = h.ready; dealt = h.dealt }) h
-done_kept b l ds (action.Monitor v) may s h = tell_keeps (IsDone ds) (current b == l) (b.link l) (record { asked = h.asked; watching = h.watching; ready = h.ready; dealt = h.dealt }) h
+done_kept b l ds (action.Message msg) may s h = tell_keeps (IsDone ds) (b.current == l) (b.link l) (record { asked = h.asked; watching = h.watching; ready = h.ready; dealt = h.dealt }) h
+done_kept b l ds (action.Monitor v) may s h = tell_keeps (IsDone ds) (b.current == l) (b.link l) (record { asked = h.asked; watching = h.watching; ready = h.ready; dealt = h.dealt }) h
 done_kept b l ds (action.NeedCreds c m) may s h = mine_keeps (IsDone ds) (m == l) (b.link l) sources (λ t. record { asked = h.asked; watching = h.watching; ready = h.ready; dealt = h.dealt }) h
 done_kept b l ds (action.Generation g) may s h = absurd may
 done_kept b l ds (action.Round who m) may s h = absurd may

@@ -1,5 +1,5 @@
 -- Whoever was told, or was shown to wait for room, has a place until its message starts.
-use Rattle.std.proofs.Common.{◌≡◌, ◌⊎◌, inl, inr, ℕ, ◌<◌, ◌≤◌, ◌==◌, nat_lt, true, false, ◌&&◌, not, List, [], ◌∷◌, Option, None, Some, refl, sym, ◌∙◌, ap, subst, arith}
+use Rattle.std.proofs.Common.{◌≡◌, ◌⊎◌, inl, inr, ℕ, ◌<◌, ◌≤◌, ◌==◌, nat_lt, true, false, ◌&&◌, not, List, [], ◌∷◌, Option, None, Some, refl, sym, ◌∙◌, ap, subst, arith, max}
 use Rattle.std.specs.Prelude.{slice_get}
 use Rattle.containers.proofs.Choices.{by_test, chosen, left_if, eq_from, ne_test, lt_from, not_lt_from, not_both, both_left, both_right}
 use Rattle.driver_model.specs.declared.action.Action.{Action}
@@ -14,7 +14,7 @@ use Rattle.driver_model.specs.declared.outcome.Outcome.{Outcome}
 use Rattle.driver_model.specs.Config.{buffer_size}
 use Rattle.legal_trace.specs.Ledger.{dials, is_ready}
 use Rattle.legal_trace.specs.Story.{Story, has_place, is_room, is_open, is_told, is_awaited, is_no_error, is_unstarted, handed_in, left, holds, clocked, fires, tried, waits, answered}
-use Rattle.legal_trace.specs.Book.{Book, blank_book, book, entered, entered_each, current, is_clock_of, after_event, is_unspoken}
+use Rattle.legal_trace.specs.Book.{Book, blank_book, book, entered, entered_each, is_clock_of, after_event, is_unspoken}
 use Rattle.legal_trace.specs.Steps.{configured, queue_size, permits_in, free_permits, is_let_in, is_in_line, line_before, is_outside}
 use Rattle.legal_trace.specs.Legal.{MayStand, MayAnswer, MayTell, MayTake, MayWait, AllStand, CanMove, link_of}
 use Rattle.legal_trace.proofs.Moves.{lt_test, one_holds, both_hold, inside_has_room, rooms_mean, holds_some, is_timed, tells_mean, takes_mean, holder_is_timed, rester_holds, teller_moves, taker_moves}
@@ -83,7 +83,7 @@ kept_by b a may same gives h n i u t = place_stays b a may n i same (elim (gives
 
 -- an event answers none
 event_outcomes : (b : Book) (n : ℕ) (kind : EventKind) → (after_event b n kind).outcomes ≡ (b.story n).outcomes
-event_outcomes b n (event.Submit what) = chosen (λ (s : Story). s.outcomes ≡ (b.story n).outcomes) (b.submissions == n) (handed_in (b.story n) what b.shut (is_unspoken b what) (current b) b.timeout) (b.story n) (λ t. refl) (λ f. refl)
+event_outcomes b n (event.Submit what) = chosen (λ (s : Story). s.outcomes ≡ (b.story n).outcomes) (b.submissions == n) (handed_in (b.story n) what b.shut (is_unspoken b what) (max 1 b.generation) b.current b.timeout) (b.story n) (λ t. refl) (λ f. refl)
 event_outcomes b n (event.Cancel m) = chosen (λ (s : Story). s.outcomes ≡ (b.story n).outcomes) (m == n) (left (b.story n)) (b.story n)
     (λ t. chosen (λ (s : Story). s.outcomes ≡ (b.story n).outcomes) (is_open (b.story n)) (record (b.story n) { cancelled = true; permits = 0; waiting = None }) (b.story n) (λ o. refl) (λ o. refl)) (λ f. refl)
 event_outcomes b n (event.Connected l) = refl
@@ -104,7 +104,7 @@ event_outcomes b n event.Shutdown = refl
 
 -- nor does it tell one
 event_told : (b : Book) (n : ℕ) (kind : EventKind) → n < b.submissions → is_told (after_event b n kind) ≡ true → is_told (b.story n) ≡ true
-event_told b n (event.Submit what) i t = subst (λ s. is_told s ≡ true) (left_if (b.submissions == n) (handed_in (b.story n) what b.shut (is_unspoken b what) (current b) b.timeout) (b.story n) (ne_test b.submissions n (omega arith))) t
+event_told b n (event.Submit what) i t = subst (λ s. is_told s ≡ true) (left_if (b.submissions == n) (handed_in (b.story n) what b.shut (is_unspoken b what) (max 1 b.generation) b.current b.timeout) (b.story n) (ne_test b.submissions n (omega arith))) t
 event_told b n (event.Cancel m) i t = chosen (λ s. is_told s ≡ true → is_told (b.story n) ≡ true) (m == n) (left (b.story n)) (b.story n)
     (λ e. chosen (λ s. is_told s ≡ true → is_told (b.story n) ≡ true) (is_open (b.story n)) (record (b.story n) { cancelled = true; permits = 0; waiting = None }) (b.story n) (λ o u. u) (λ o u. u)) (λ f u. u) t
 event_told b n (event.Connected l) i t = t
@@ -125,7 +125,7 @@ event_told b n event.Shutdown i t = t
 
 -- who waits for room behind an event did before
 event_rooms : (b : Book) (n : ℕ) (kind : EventKind) → is_room (after_event b n kind).waiting ≡ true → is_room (b.story n).waiting ≡ true
-event_rooms b n (event.Submit what) t = chosen (λ (s : Story). is_room s.waiting ≡ true → is_room (b.story n).waiting ≡ true) (b.submissions == n) (handed_in (b.story n) what b.shut (is_unspoken b what) (current b) b.timeout) (b.story n) (λ e u. u) (λ f u. u) t
+event_rooms b n (event.Submit what) t = chosen (λ (s : Story). is_room s.waiting ≡ true → is_room (b.story n).waiting ≡ true) (b.submissions == n) (handed_in (b.story n) what b.shut (is_unspoken b what) (max 1 b.generation) b.current b.timeout) (b.story n) (λ e u. u) (λ f u. u) t
 event_rooms b n (event.Cancel m) t = chosen (λ (s : Story). is_room s.waiting ≡ true → is_room (b.story n).waiting ≡ true) (m == n) (left (b.story n)) (b.story n)
     (λ e. chosen (λ (s : Story). is_room s.waiting ≡ true → is_room (b.story n).waiting ≡ true) (is_open (b.story n)) (record (b.story n) { cancelled = true; permits = 0; waiting = None }) (b.story n) (λ o u. absurd (cc u)) (λ o u. u)) (λ f u. u) t
 event_rooms b n (event.Connected l) t = t
@@ -297,7 +297,7 @@ Gains b n s = 0 < s.permits → (0 < (b.story n).permits) ⊎ TakesNow b n
 
 -- an event gives none
 event_gains : (b : Book) (n : ℕ) (kind : EventKind) → Gains b n (after_event b n kind)
-event_gains b n (event.Submit what) = chosen (Gains b n) (b.submissions == n) (handed_in (b.story n) what b.shut (is_unspoken b what) (current b) b.timeout) (b.story n) (λ t i. inl i) (λ f i. inl i)
+event_gains b n (event.Submit what) = chosen (Gains b n) (b.submissions == n) (handed_in (b.story n) what b.shut (is_unspoken b what) (max 1 b.generation) b.current b.timeout) (b.story n) (λ t i. inl i) (λ f i. inl i)
 event_gains b n (event.Cancel m) = chosen (Gains b n) (m == n) (left (b.story n)) (b.story n)
     (λ t. chosen (Gains b n) (is_open (b.story n)) (record (b.story n) { cancelled = true; permits = 0; waiting = None }) (b.story n) (λ o i. absurd (omega (arith, i))) (λ o i. inl i)) (λ f i. inl i)
 event_gains b n (event.Fired t) = chosen (Gains b n) (is_clock_of n (slice_get b.timers t)) (fires (b.story n)) (b.story n)

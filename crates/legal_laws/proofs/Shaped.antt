@@ -11,7 +11,8 @@ use Rattle.driver_model.specs.declared.action.Cause.TheVariants as cause
 use Rattle.driver_model.specs.declared.action.Owner.TheVariants as owner
 use Rattle.driver_model.specs.News.{News, silence, connected, refused, overdue, took, came, failed, authorized, denied, deserted, dropped, shut, news_of, renewed, unrenewed, late, unrepeated}
 use Rattle.legal_trace.specs.Ledger.{Ledger, Start, asks, hears, begins, offers, sources, ends, noted, with_news, refused_in, bytes_came, is_over, dials, is_of_setup, is_ready, is_set_up, lacks_credentials, awaits_credentials, authorized_by, setup_after, setup_count, setup_due, setup_steps, times, may_renew, renewed_by, unrenewed_by, is_renewal_open, lost_by, renewal_count, renewal_due, source_due, monitor_due}
-use Rattle.legal_trace.specs.Book.{Book, entered, info_in, wanted_in, message_of, is_renewal_of, hearing_in, current}
+use Rattle.legal_trace.specs.Managers.{settings_in, is_last}
+use Rattle.legal_trace.specs.Book.{Book, entered, info_in, wanted_in, message_of, is_renewal_of, hearing_in}
 use Rattle.legal_trace.specs.Legal.{MayStand}
 use Rattle.legal_trace.proofs.Ledgers.{mine_keeps}
 use Rattle.legal_trace.proofs.Moves.{mover_is_ready, ready_is_set, ready_is_up, starter_moves}
@@ -143,8 +144,8 @@ shaped_kept b (action.Took owner.Resub m count) l may links h = absurd may
 shaped_kept b (action.Took owner.Monitor m count) l may links h = absurd may
 shaped_kept b (action.Took (owner.Try n round) m count) l may links h = h
 shaped_kept b (action.Push m info) l may links h = push_keeps IsShaped (m == l) info.kind (b.link l) (record { none = h.none; are = h.are; bare = h.bare; ready = h.ready; second = h.second; came = h.came }) (record { none = h.none; are = h.are; bare = h.bare; ready = h.ready; second = h.second; came = h.came }) h
-shaped_kept b (action.Message msg) l may links h = tell_keeps IsShaped (current b == l) (b.link l) (record { none = h.none; are = h.are; bare = h.bare; ready = h.ready; second = h.second; came = h.came }) h
-shaped_kept b (action.Monitor v) l may links h = tell_keeps IsShaped (current b == l) (b.link l) (record { none = h.none; are = h.are; bare = h.bare; ready = h.ready; second = h.second; came = h.came }) h
+shaped_kept b (action.Message msg) l may links h = tell_keeps IsShaped (b.current == l) (b.link l) (record { none = h.none; are = h.are; bare = h.bare; ready = h.ready; second = h.second; came = h.came }) h
+shaped_kept b (action.Monitor v) l may links h = tell_keeps IsShaped (b.current == l) (b.link l) (record { none = h.none; are = h.are; bare = h.bare; ready = h.ready; second = h.second; came = h.came }) h
 shaped_kept b (action.NeedCreds c m) l may links h = mine_keeps IsShaped (m == l) (b.link l) sources
     (λ t. source_shaped (b.link l) (subst (λ j. source_due (b.link j) ≡ true) (eq_from m l t) may.due) h) h
 shaped_kept b (action.Generation g) l may links h = absurd may

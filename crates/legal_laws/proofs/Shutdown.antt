@@ -10,7 +10,7 @@ use Rattle.driver_model.specs.declared.event.EventKind.{EventKind}
 use Rattle.driver_model.specs.declared.event.EventKind.TheVariants as event
 use Rattle.driver_model.specs.News.{News, shut, news_of}
 use Rattle.legal_trace.specs.Ledger.{Ledger, End, Ending, by_shutdown, hears, begins, offers, ends, noted, is_set_up, setup_result, error_in, ending, ending_up, ending_by, ending_unready, ending_alive, ending_asked, sources, times}
-use Rattle.legal_trace.specs.Book.{Book, entered, message_of, shuts, is_renewal_of, current}
+use Rattle.legal_trace.specs.Book.{Book, entered, message_of, shuts, is_renewal_of}
 use Rattle.legal_trace.specs.Legal.{MayStand, NoneEnds}
 use Rattle.legal_trace.proofs.Ledgers.{mine_keeps, hears_past}
 use Rattle.legal_trace.proofs.Plain.{not_none}
@@ -83,7 +83,7 @@ turn_heard b turn (event.WriteFault m kind) none h = λ s l. still_none b turn (
 -- it stays so
 pub shut_kept : (b : Book) (a : Action) → MayStand b a → IsOpening b → ShutIsHeard b.shut b.link → ShutIsHeard (entered b a).shut (entered b a).link
 shut_kept b (action.Turn k (cause.Opening config word)) may opening h = h
-shut_kept b (action.Turn k (cause.Event e)) may opening h = turn_heard b k e.kind may.is_for.1.written.moved.begun.applied.ended h
+shut_kept b (action.Turn k (cause.Event e)) may opening h = turn_heard b k e.kind may.is_for.1.written.moved.begun.applied.shown.ended h
 shut_kept b (action.Connect m host port) may opening h = λ s. absurd (not_both b.shut (opening.not_shut may.first) s)
 shut_kept b (action.Timer t ms what) may opening h = λ s l. mine_keeps HearsShut (is_renewal_of l what) (b.link l) times (λ t. h s l) (h s l)
 shut_kept b (action.Took owner.Setup l count) may opening h = absurd may
@@ -92,8 +92,8 @@ shut_kept b (action.Took owner.Resub l count) may opening h = absurd may
 shut_kept b (action.Took owner.Monitor l count) may opening h = absurd may
 shut_kept b (action.Took (owner.Try n round) l count) may opening h = h
 shut_kept b (action.Push m info) may opening h = λ s l. push_keeps HearsShut (m == l) info.kind (b.link l) (h s l) (h s l) (h s l)
-shut_kept b (action.Message msg) may opening h = λ s l. tell_keeps HearsShut (current b == l) (b.link l) (h s l) (h s l)
-shut_kept b (action.Monitor v) may opening h = λ s l. tell_keeps HearsShut (current b == l) (b.link l) (h s l) (h s l)
+shut_kept b (action.Message msg) may opening h = λ s l. tell_keeps HearsShut (b.current == l) (b.link l) (h s l) (h s l)
+shut_kept b (action.Monitor v) may opening h = λ s l. tell_keeps HearsShut (b.current == l) (b.link l) (h s l) (h s l)
 shut_kept b (action.NeedCreds c m) may opening h = λ s l. mine_keeps HearsShut (m == l) (b.link l) sources (λ t. h s l) (h s l)
 shut_kept b (action.Generation g) may opening h = absurd may
 shut_kept b (action.Round who m) may opening h = absurd may

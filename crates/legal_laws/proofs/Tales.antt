@@ -1,5 +1,5 @@
 -- What each submission of a legal trace was answered, and which messages it started.
-use Rattle.std.proofs.Common.{◌≡◌, ◌≢◌, ◌⊎◌, inl, inr, ℕ, ◌+◌, ◌≤◌, ◌==◌, Bool, true, false, List, [], ◌∷◌, ◌++◌, length, Option, Some, None, if◌then◌else◌, refl, sym, ◌∙◌, subst, ap, arith, length-append}
+use Rattle.std.proofs.Common.{◌≡◌, ◌≢◌, ◌⊎◌, inl, inr, ℕ, ◌+◌, ◌≤◌, ◌==◌, Bool, true, false, List, [], ◌∷◌, ◌++◌, length, Option, Some, None, if◌then◌else◌, refl, sym, ◌∙◌, subst, ap, arith, length-append, max}
 use Rattle.std.specs.Prelude.{slice_get}
 use Rattle.std.proofs.lemmas.List.{nil_from_length}
 use Rattle.std.proofs.lemmas.Bool.Decides.{nat_tests}
@@ -19,7 +19,7 @@ use Rattle.driver_model.specs.declared.outcome.Outcome.TheVariants as outcome
 use Rattle.legal_trace.specs.Ledger.{Ledger, Line, End, begins, noted_each}
 use Rattle.legal_trace.specs.Story.{Story, Try, is_open, is_no_error, handed_in, left, holds, clocked, fires, tried, waits, answered, last_of, bytes_of}
 use Rattle.legal_trace.specs.Owed.{owed, owed_to_try, owed_unstarted, unstarted_error}
-use Rattle.legal_trace.specs.Book.{Book, entered, lines_of, message_of, current, is_clock_of, after_event, is_unspoken}
+use Rattle.legal_trace.specs.Book.{Book, entered, lines_of, message_of, is_clock_of, after_event, is_unspoken}
 use Rattle.legal_trace.specs.Legal.{MayAnswer, MayTell, MayStand, IsOpen}
 use Rattle.legal_trace.proofs.Ledgers.{each_keeps, HasStarted, started_keeps}
 use Rattle.legal_laws.proofs.Owes.{has_bytes}
@@ -78,12 +78,12 @@ first_outcome b n o asked bytes =
 -- so with each outcome that may stand
 outcome_once : (b : Book) (n : ℕ) (o : Outcome) → MayAnswer b n o ⊎ MayTell b n o → AnsweredOnce (answered (b.story n) o)
 outcome_once b n o (inl owes) = first_outcome b n o owes.asked (λ t e. absurd (unstarted_gets_a_fault b n o t owes.owes e))
-outcome_once b n o (inr told) = first_outcome b n o told.asked (λ t e. has_bytes b (b.story n) (told.begun.applied.answered n told.asked))
+outcome_once b n o (inr told) = first_outcome b n o told.asked (λ t e. has_bytes b (b.story n) (told.begun.applied.shown.answered n told.asked))
 
 -- events answer none
 event_once : (b : Book) (n : ℕ) (kind : EventKind) → HasStories b → AnsweredOnce (b.story n) → AnsweredOnce (after_event b n kind)
 event_once b n (event.Submit what) blank h =
-    chosen AnsweredOnce (b.submissions == n) (handed_in (b.story n) what b.shut (is_unspoken b what) (current b) b.timeout) (b.story n)
+    chosen AnsweredOnce (b.submissions == n) (handed_in (b.story n) what b.shut (is_unspoken b what) (max 1 b.generation) b.current b.timeout) (b.story n)
     (λ t. let e : b.submissions ≡ n = eq_from b.submissions n t in unanswered (b.story n).outcomes (b.story n).tries (packed_bytes what) (ap (λ (s : Story). s.outcomes) (blank n (omega arith))))
     (λ f. h)
 event_once b n (event.Cancel m) blank h = chosen AnsweredOnce (m == n) (left (b.story n)) (b.story n) (λ t. chosen AnsweredOnce (is_open (b.story n)) (record (b.story n) { cancelled = true; permits = 0; waiting = None }) (b.story n) (λ o. h) (λ o. h)) (λ f. h)
@@ -165,7 +165,7 @@ starts_next b l k n count len round next t e =
 
 -- events start none
 event_tries : (b : Book) (n : ℕ) (kind : EventKind) (link : ℕ → Ledger) → TriesAreStarted link (b.story n) → TriesAreStarted link (after_event b n kind)
-event_tries b n (event.Submit what) link h = chosen (TriesAreStarted link) (b.submissions == n) (handed_in (b.story n) what b.shut (is_unspoken b what) (current b) b.timeout) (b.story n) (λ t. h) (λ f. h)
+event_tries b n (event.Submit what) link h = chosen (TriesAreStarted link) (b.submissions == n) (handed_in (b.story n) what b.shut (is_unspoken b what) (max 1 b.generation) b.current b.timeout) (b.story n) (λ t. h) (λ f. h)
 event_tries b n (event.Cancel m) link h = chosen (TriesAreStarted link) (m == n) (left (b.story n)) (b.story n) (λ t. chosen (TriesAreStarted link) (is_open (b.story n)) (record (b.story n) { cancelled = true; permits = 0; waiting = None }) (b.story n) (λ o. h) (λ o. h)) (λ f. h)
 event_tries b n (event.Connected l) link h = h
 event_tries b n (event.Refused l f) link h = h

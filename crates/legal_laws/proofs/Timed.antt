@@ -13,7 +13,8 @@ use Rattle.driver_model.specs.declared.config.Config.{Config}
 use Rattle.driver_model.specs.declared.event.Event.{Event}
 use Rattle.driver_model.specs.News.{News, silence, connected, refused, overdue, took, came, failed, authorized, denied, deserted, renewed, unrenewed, late, unrepeated, dropped, shut, news_of}
 use Rattle.legal_trace.specs.Ledger.{Ledger, asks, hears, begins, offers, sources, times, ends, noted, noted_each, with_news, refused_in, bytes_came, is_over, dials, awaits_credentials, authorized_by, may_renew, renewed_by, unrenewed_by, is_renewal_open, lost_by, renewal_count, renewal_due, renewals_asked}
-use Rattle.legal_trace.specs.Book.{Book, blank_book, book, entered, if_mine, info_in, wanted_in, message_of, is_renewal_of, hearing_in, current}
+use Rattle.legal_trace.specs.Managers.{settings_in, is_last}
+use Rattle.legal_trace.specs.Book.{Book, blank_book, book, entered, if_mine, info_in, wanted_in, message_of, is_renewal_of, hearing_in}
 use Rattle.legal_trace.specs.Steps.{renewals_in_line}
 use Rattle.legal_trace.specs.Legal.{MayStand, MayTimer, MayTimeRenewal, AllStand, IsApplied, answer_time, Legal}
 use Rattle.legal_trace.proofs.Books.{Grows, book_more, of_each_front, stand_front}
@@ -139,9 +140,9 @@ timers_kept b (action.Took who m n) l count may sound h = no_more count (b.link 
 timers_kept b (action.Push m info) l count may sound h = no_more count _
     (push_keeps (HasTimers count) (m == l) info.kind (b.link l) (same_timers count (b.link l) _ refl refl h) (same_timers count (b.link l) _ refl refl h) h)
 timers_kept b (action.Message msg) l count may sound h = no_more count _
-    (tell_keeps (HasTimers count) (current b == l) (b.link l) (same_timers count (b.link l) _ refl refl h) h)
+    (tell_keeps (HasTimers count) (b.current == l) (b.link l) (same_timers count (b.link l) _ refl refl h) h)
 timers_kept b (action.Monitor v) l count may sound h = no_more count _
-    (tell_keeps (HasTimers count) (current b == l) (b.link l) (same_timers count (b.link l) _ refl refl h) h)
+    (tell_keeps (HasTimers count) (b.current == l) (b.link l) (same_timers count (b.link l) _ refl refl h) h)
 timers_kept b (action.NeedCreds c m) l count may sound h = no_more count _ (mine_keeps (HasTimers count) (m == l) (b.link l) sources (λ t. same_timers count (b.link l) (noted (b.link l) sources) refl refl h) h)
 timers_kept b (action.Generation g) l count may sound h = absurd may
 timers_kept b (action.Round who m) l count may sound h = absurd may

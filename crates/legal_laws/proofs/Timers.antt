@@ -1,5 +1,5 @@
 -- The timers of submissions: one at most for each, of the time that was in force where it was handed in, once it holds its permits.
-use Rattle.std.proofs.Common.{◌≡◌, ◌⊎◌, inl, inr, ℕ, ◌<◌, ◌≤◌, ◌==◌, Bool, true, false, List, [], ◌∷◌, ◌++◌, Option, Some, None, is_some, refl, sym, ◌∙◌, ap, subst, arith}
+use Rattle.std.proofs.Common.{◌≡◌, ◌⊎◌, inl, inr, ℕ, ◌<◌, ◌≤◌, ◌==◌, Bool, true, false, List, [], ◌∷◌, ◌++◌, Option, Some, None, is_some, refl, sym, ◌∙◌, ap, subst, arith, max}
 use Rattle.std.specs.Prelude.{slice_get}
 use Rattle.containers.proofs.Choices.{chosen, if_true, left_if, eq_test, ne_test, lt_from}
 use Rattle.driver_model.specs.declared.action.Action.{Action}
@@ -14,7 +14,7 @@ use Rattle.driver_model.specs.declared.event.EventKind.{EventKind}
 use Rattle.driver_model.specs.declared.event.EventKind.TheVariants as event
 use Rattle.driver_model.specs.declared.event.Submission.{Submission}
 use Rattle.legal_trace.specs.Story.{Story, is_open, handed_in, left, holds, clocked, fires, tried, waits, answered}
-use Rattle.legal_trace.specs.Book.{Book, blank_book, book, entered, entered_each, current, is_clock_of, after_event, is_unspoken}
+use Rattle.legal_trace.specs.Book.{Book, blank_book, book, entered, entered_each, is_clock_of, after_event, is_unspoken}
 use Rattle.legal_trace.specs.Steps.{permits_in}
 use Rattle.legal_trace.specs.Legal.{MayTimer, MayTime, MayStand, AllStand, Legal}
 use Rattle.legal_trace.proofs.Books.{stand_behind}
@@ -59,7 +59,7 @@ Clocked s = is_some s.clock ≡ true
 
 -- so it does with an event
 event_clocked : (b : Book) (n : ℕ) (kind : EventKind) → Clocked (b.story n) → Clocked (after_event b n kind)
-event_clocked b n (event.Submit what) h = chosen Clocked (b.submissions == n) (handed_in (b.story n) what b.shut (is_unspoken b what) (current b) b.timeout) (b.story n) (λ t. h) (λ f. h)
+event_clocked b n (event.Submit what) h = chosen Clocked (b.submissions == n) (handed_in (b.story n) what b.shut (is_unspoken b what) (max 1 b.generation) b.current b.timeout) (b.story n) (λ t. h) (λ f. h)
 event_clocked b n (event.Cancel m) h = chosen Clocked (m == n) (left (b.story n)) (b.story n) (λ t. chosen Clocked (is_open (b.story n)) (record (b.story n) { cancelled = true; permits = 0; waiting = None }) (b.story n) (λ o. h) (λ o. h)) (λ f. h)
 event_clocked b n (event.Fired t) h = chosen Clocked (is_clock_of n (slice_get b.timers t)) (fires (b.story n)) (b.story n) (λ e. chosen Clocked (is_open (b.story n)) (record (b.story n) { overdue = true }) (b.story n) (λ o. h) (λ o. h)) (λ f. h)
 event_clocked b n (event.Connected l) h = h
@@ -134,7 +134,7 @@ once_behind b middle more a c n all first second =
 
 -- a submission keeps the time within which it is to be answered
 event_timeout : (b : Book) (n : ℕ) (kind : EventKind) → n < b.submissions → (after_event b n kind).timeout ≡ (b.story n).timeout
-event_timeout b n (event.Submit what) i = ap (λ (s : Story). s.timeout) (left_if (b.submissions == n) (handed_in (b.story n) what b.shut (is_unspoken b what) (current b) b.timeout) (b.story n) (ne_test b.submissions n (omega arith)))
+event_timeout b n (event.Submit what) i = ap (λ (s : Story). s.timeout) (left_if (b.submissions == n) (handed_in (b.story n) what b.shut (is_unspoken b what) (max 1 b.generation) b.current b.timeout) (b.story n) (ne_test b.submissions n (omega arith)))
 event_timeout b n (event.Cancel m) i = chosen (λ (s : Story). s.timeout ≡ (b.story n).timeout) (m == n) (left (b.story n)) (b.story n)
     (λ t. chosen (λ (s : Story). s.timeout ≡ (b.story n).timeout) (is_open (b.story n)) (record (b.story n) { cancelled = true; permits = 0; waiting = None }) (b.story n) (λ o. refl) (λ o. refl)) (λ f. refl)
 event_timeout b n (event.Fired t) i = chosen (λ (s : Story). s.timeout ≡ (b.story n).timeout) (is_clock_of n (slice_get b.timers t)) (fires (b.story n)) (b.story n)
@@ -193,7 +193,7 @@ each_timeout b (a ∷ more) n i = let grows : b.submissions ≤ (entered b a).su
 -- what is handed in is to be answered within the time in force
 handed_in_force : (b : Book) (kind : EventKind) (s : Submission) → kind ≡ event.Submit s → (after_event b b.submissions kind).timeout ≡ b.timeout
 handed_in_force b kind s e = subst (λ k. (after_event b b.submissions k).timeout ≡ b.timeout) (sym e)
-    (if_true (λ (x : Story). x.timeout ≡ b.timeout) (b.submissions == b.submissions) (handed_in (b.story b.submissions) s b.shut (is_unspoken b s) (current b) b.timeout) (b.story b.submissions) (eq_test b.submissions b.submissions refl) refl)
+    (if_true (λ (x : Story). x.timeout ≡ b.timeout) (b.submissions == b.submissions) (handed_in (b.story b.submissions) s b.shut (is_unspoken b s) (max 1 b.generation) b.current b.timeout) (b.story b.submissions) (eq_test b.submissions b.submissions refl) refl)
 
 -- and numbered
 handed_in_numbered : (b : Book) (k : ℕ) (e : Event) (s : Submission) → e.kind ≡ event.Submit s → b.submissions < (entered b (action.Turn k (cause.Event e))).submissions

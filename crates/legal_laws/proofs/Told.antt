@@ -1,5 +1,5 @@
 -- What a push that is told does to ledgers, and where pushes wait that aren't told.
-use Rattle.std.proofs.Common.{◌≡◌, ℕ, zero, suc, ◌+◌, ◌≤◌, ◌==◌, ◌-◌, Bool, true, false, ◌&&◌, List, [], ◌∷◌, ◌++◌, take, Option, Some, None, is_some, if◌then◌else◌, refl, ap, subst, arith}
+use Rattle.std.proofs.Common.{◌≡◌, ℕ, zero, suc, ◌+◌, ◌≤◌, ◌==◌, ◌-◌, Bool, true, false, ◌&&◌, List, [], ◌∷◌, ◌++◌, take, Option, Some, None, is_some, if◌then◌else◌, refl, ap, subst, arith, max}
 use Rattle.std.specs.Prelude.{slice_get}
 use Rattle.containers.proofs.Choices.{chosen}
 use Rattle.redis_error.specs.declared.redis_error.RedisError.TheVariants as error
@@ -14,7 +14,8 @@ use Rattle.driver_model.specs.declared.event.EventKind.TheVariants as event
 use Rattle.driver_model.specs.News.{News, silence, connected, refused, overdue, took, came, failed, dropped, shut, news_of, authorized, denied, deserted, renewed, unrenewed, late, unrepeated}
 use Rattle.legal_trace.specs.Ledger.{Ledger, Heard, asks, begins, offers, tells, ends, parts, noted, with_news, refused_in, bytes_came, is_over, dials, next_notice, MayNote, sources, awaits_credentials, authorized_by, times, may_renew, renewed_by, unrenewed_by, is_renewal_open, lost_by}
 use Rattle.legal_trace.specs.Story.{Story, is_open, handed_in, left, holds, clocked, fires, tried, waits, answered}
-use Rattle.legal_trace.specs.Book.{Book, entered, push_line, info_in, message_of, current, is_clock_of, after_event, is_unspoken, wanted_in, is_renewal_of, hearing_in}
+use Rattle.legal_trace.specs.Managers.{settings_in, is_last}
+use Rattle.legal_trace.specs.Book.{Book, entered, push_line, info_in, message_of, is_clock_of, after_event, is_unspoken, wanted_in, is_renewal_of, hearing_in}
 use Rattle.legal_trace.specs.Legal.{MayStand, MayPush, MayPushBy, is_heard}
 use Rattle.legal_trace.proofs.Ledgers.{mine_keeps}
 use Rattle.legal_trace.proofs.Plain.{not_none}
@@ -86,8 +87,8 @@ waits_kept b (action.Took owner.Resub m count) may still h = absurd may
 waits_kept b (action.Took owner.Monitor m count) may still h = absurd may
 waits_kept b (action.Took (owner.Try n round) m count) may still h = h
 waits_kept b (action.Push m info) may still h = λ l heard. push_keeps Waits (m == l) info.kind (b.link l) (waits_tells (b.link l) (h l heard)) (h l heard) (h l heard)
-waits_kept b (action.Message msg) may still h = λ l heard. tell_keeps Waits (current b == l) (b.link l) (waits_tells (b.link l) (h l heard)) (h l heard)
-waits_kept b (action.Monitor v) may still h = λ l heard. tell_keeps Waits (current b == l) (b.link l) (waits_tells (b.link l) (h l heard)) (h l heard)
+waits_kept b (action.Message msg) may still h = λ l heard. tell_keeps Waits (b.current == l) (b.link l) (waits_tells (b.link l) (h l heard)) (h l heard)
+waits_kept b (action.Monitor v) may still h = λ l heard. tell_keeps Waits (b.current == l) (b.link l) (waits_tells (b.link l) (h l heard)) (h l heard)
 waits_kept b (action.NeedCreds c m) may still h = λ l heard. mine_keeps Waits (m == l) (b.link l) sources (λ t. h l heard) (h l heard)
 waits_kept b (action.Generation g) may still h = absurd may
 waits_kept b (action.Round who m) may still h = absurd may
@@ -116,7 +117,7 @@ OnFirst s = s.link ≡ 0
 
 -- so it does behind an event
 event_goes : (b : Book) (n : ℕ) (kind : EventKind) → b.links ≤ 1 → OnFirst (b.story n) → OnFirst (after_event b n kind)
-event_goes b n (event.Submit what) one h = chosen OnFirst (b.submissions == n) (handed_in (b.story n) what b.shut (is_unspoken b what) (current b) b.timeout) (b.story n) (λ t. omega (arith, one)) (λ f. h)
+event_goes b n (event.Submit what) one h = chosen OnFirst (b.submissions == n) (handed_in (b.story n) what b.shut (is_unspoken b what) (max 1 b.generation) b.current b.timeout) (b.story n) (λ t. omega (arith, one)) (λ f. h)
 event_goes b n (event.Cancel m) one h = chosen OnFirst (m == n) (left (b.story n)) (b.story n) (λ t. chosen OnFirst (is_open (b.story n)) (record (b.story n) { cancelled = true; permits = 0; waiting = None }) (b.story n) (λ o. h) (λ o. h)) (λ f. h)
 event_goes b n (event.Fired t) one h = chosen OnFirst (is_clock_of n (slice_get b.timers t)) (fires (b.story n)) (b.story n) (λ e. chosen OnFirst (is_open (b.story n)) (record (b.story n) { overdue = true }) (b.story n) (λ o. h) (λ o. h)) (λ f. h)
 event_goes b n (event.Connected l) one h = h

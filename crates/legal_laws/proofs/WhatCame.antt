@@ -11,7 +11,8 @@ use Rattle.driver_model.specs.declared.action.Cause.TheVariants as cause
 use Rattle.driver_model.specs.declared.hearing.Hearing.{Hearing}
 use Rattle.driver_model.specs.News.{News, silence, connected, refused, overdue, took, came, failed, dropped, shut, news_of, authorized, denied, deserted, renewed, unrenewed, late, unrepeated}
 use Rattle.legal_trace.specs.Ledger.{Ledger, asks, hears, begins, offers, ends, sources, times, noted, with_news, refused_in, bytes_came, is_over, dials, awaits_credentials, authorized_by, may_renew, renewed_by, unrenewed_by, is_renewal_open, lost_by}
-use Rattle.legal_trace.specs.Book.{Book, blank_book, book, entered, entered_each, current, hearing_in, info_in, message_of, wanted_in, is_renewal_of}
+use Rattle.legal_trace.specs.Managers.{settings_in, is_last}
+use Rattle.legal_trace.specs.Book.{Book, blank_book, book, entered, entered_each, hearing_in, info_in, message_of, wanted_in, is_renewal_of}
 use Rattle.legal_trace.specs.Legal.{MayStand, AllStand}
 use Rattle.legal_trace.proofs.Came.{holds_bytes}
 use Rattle.legal_trace.proofs.Ledgers.{mine_keeps}
@@ -106,8 +107,8 @@ step_well b l vs (action.Connect m host port) may s h = mine_keeps (λ x. HeardW
 step_well b l vs (action.Timer t ms what) may s h = mine_keeps (λ x. HeardWell (hearing_in b.config) x (vs ++ [])) (is_renewal_of l what) (b.link l) times (λ e. same_heard (hearing_in b.config) (b.link l) _ vs refl refl refl h) (same_heard (hearing_in b.config) (b.link l) (b.link l) vs refl refl refl h)
 step_well b l vs (action.Took who m count) may s h = same_heard (hearing_in b.config) (b.link l) (b.link l) vs refl refl refl h
 step_well b l vs (action.Push m info) may s h = push_keeps (λ x. HeardWell (hearing_in b.config) x (vs ++ [])) (m == l) info.kind (b.link l) (same_heard (hearing_in b.config) (b.link l) _ vs refl refl refl h) (same_heard (hearing_in b.config) (b.link l) _ vs refl refl refl h) (same_heard (hearing_in b.config) (b.link l) (b.link l) vs refl refl refl h)
-step_well b l vs (action.Message msg) may s h = tell_keeps (λ x. HeardWell (hearing_in b.config) x (vs ++ [])) (current b == l) (b.link l) (same_heard (hearing_in b.config) (b.link l) _ vs refl refl refl h) (same_heard (hearing_in b.config) (b.link l) (b.link l) vs refl refl refl h)
-step_well b l vs (action.Monitor v) may s h = tell_keeps (λ x. HeardWell (hearing_in b.config) x (vs ++ [])) (current b == l) (b.link l) (same_heard (hearing_in b.config) (b.link l) _ vs refl refl refl h) (same_heard (hearing_in b.config) (b.link l) (b.link l) vs refl refl refl h)
+step_well b l vs (action.Message msg) may s h = tell_keeps (λ x. HeardWell (hearing_in b.config) x (vs ++ [])) (b.current == l) (b.link l) (same_heard (hearing_in b.config) (b.link l) _ vs refl refl refl h) (same_heard (hearing_in b.config) (b.link l) (b.link l) vs refl refl refl h)
+step_well b l vs (action.Monitor v) may s h = tell_keeps (λ x. HeardWell (hearing_in b.config) x (vs ++ [])) (b.current == l) (b.link l) (same_heard (hearing_in b.config) (b.link l) _ vs refl refl refl h) (same_heard (hearing_in b.config) (b.link l) (b.link l) vs refl refl refl h)
 step_well b l vs (action.NeedCreds c m) may s h = mine_keeps (λ x. HeardWell (hearing_in b.config) x (vs ++ [])) (m == l) (b.link l) sources (λ t. same_heard (hearing_in b.config) (b.link l) _ vs refl refl refl h) (same_heard (hearing_in b.config) (b.link l) (b.link l) vs refl refl refl h)
 step_well b l vs (action.Generation g) may s h = absurd may
 step_well b l vs (action.Round who m) may s h = absurd may

@@ -2,6 +2,7 @@ pub mod Plain
 pub mod Came
 pub mod Ledgers
 pub mod Managers
+pub mod Clocks
 pub mod Books
 pub mod Moves
 pub mod Monitors

@@ -92,9 +92,9 @@ is_unstarted s = (length s.tries == 0) && (is_open s || is_told s)
 abbrev pub handed_in : Story → Submission → Bool → Bool → ℕ → ℕ → Option ℕ → Story
 handed_in s what late unspoken generation link timeout = record s { submission = Some what; late = late; unspoken = unspoken; generation = generation; link = link; timeout = timeout }
 
--- it goes to the next link
+-- it goes to the next link, where it begins anew: it holds no permits, and its wait is to be shown
 abbrev pub carried : Story → ℕ → Story
-carried s link = record s { link = link }
+carried s link = record s { link = link; permits = 0; waiting = None }
 
 -- its caller goes: while it is open, this ends it, and its permits are free
 abbrev pub left : Story → Story
