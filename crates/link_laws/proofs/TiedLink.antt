@@ -137,8 +137,8 @@ pub late_tied : (name : ℕ → Owner) (l : Ledger) (s : LinkState) (turn k : �
 late_tied name l s turn k h = creds_tied name l s (l.up && is_renewal_open l k) (lost_by l).creds (late k) h
 
 -- its connect is asked for
-pub asked_tied : (name : ℕ → Owner) (l : Ledger) (info : RedisConnectionInfo) (wanted : Bool) (what : Hearing) (s : LinkState) → TiedLink name l s → TiedLink name (noted l (asks info wanted what last)) s
-asked_tied name l info wanted what s h =
+pub asked_tied : (name : ℕ → Owner) (l : Ledger) (info : RedisConnectionInfo) (wanted : Bool) (what : Hearing) (last : Bool) (s : LinkState) → TiedLink name l s → TiedLink name (noted l (asks info wanted what last)) s
+asked_tied name l info wanted what last s h =
     let m : Ledger = record l { info = info; creds = unsourced wanted } in
     let k = said_tied name l s info (unsourced wanted) l.heard h in
     record { sent = k.sent; offer = k.offer; bound = k.bound; rest = k.rest; broken = k.broken; started = k.started; within = k.within; bytes = k.bytes; row = k.row }
