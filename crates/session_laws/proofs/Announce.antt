@@ -340,7 +340,7 @@ pub record ComesAs (b : Book) (c : Core) (l : Ledger) (created : ℕ) (info : Re
   pub said : TiedSetup l info started life
   pub linked : has_ended life ≡ false → TiedLink (carried life c.single.connection.requests) l (whole_link life)
   pub lines : TiedLines b.story c.single.connection.requests (link_in life) c.single.connection.waiting c.single.connection.admitted pending started
-  pub told : has_ended life ≡ false → AreQueued b.story c.single.connection.requests (link_in life)
+  pub told : has_ended life ≡ false → AreQueued b.story c.single.connection.requests c.single.link (link_in life)
   pub waits : TiedWaits b.story c.single.connection.requests life fresh c.single.connection.moved
   pub notices : TiedNotices (hearing_in b.config) c.single.connection.hears l.hearing l.notices l.told l.end l.parted l.strange (is_reading l) untold false
 

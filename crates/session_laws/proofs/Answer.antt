@@ -52,8 +52,8 @@ may_answer b t p o h e owes before pushed after =
           let q = open_request b t m h asked in
           let k = open_within t.requests q.number q.open_at in
           ap (owed b) (sym q.named) ∙ before q.number (earlier_name t.table t.requests q.number p h.names k l (subst (λ n. n < name_at t.requests p) (sym q.named) less)) q.open_at;
-      after_notices = λ heard push next. pushed heard push (subst (λ n. next_notice (b.link n) ≡ Some push) r.on next);
-      after_closes = λ over. after (subst (λ n. is_over (b.link n) ≡ true) r.on over);
+      after_notices = λ heard push next. pushed heard push (subst (λ n. next_notice (b.link n) ≡ Some push) (r.on e) next);
+      after_closes = λ over. after (subst (λ n. is_over (b.link n) ≡ true) (r.on e) over);
       after_sources = λ over. sources_asked b t h;
     }
 
@@ -87,7 +87,7 @@ after_end b t h over = (
   (λ n asked alive.
       let q = open_request b t n h asked in
       let r = request_story b t q.number h (open_within t.requests q.number q.open_at) in
-      let on : (b.story n).link ≡ t.link = ap (λ m. (b.story m).link) (sym q.named) ∙ r.on in
+      let on : (b.story n).link ≡ t.link = ap (λ m. (b.story m).link) (sym q.named) ∙ r.on q.open_at in
       absurd (not_both (is_over (b.link t.link)) (subst (λ m. is_over (b.link m) ≡ false) on alive) (ended_over (b.link t.link) b.created t.life over h.life))),
   failures_shown b t h,
 )
@@ -192,10 +192,11 @@ abbrev pub closed_in : Inner → ℕ → List ℕ → Inner
 closed_in t p pending = record t { requests = with_permits t.requests p progress.Closed 0; free = given_back t.limit t.free (permits_at t.requests p); pending = pending }
 
 -- one that is to be answered is, and is neither in the row nor in the queue; who is told and has not started is there
-pub answer_apart : (b : Book) (t : Inner) (p : ℕ) (pending : List ℕ) (o : Outcome) → p < length t.requests → (IsIn p (wanted (link_in t.life).row ++ queue_ids (link_in t.life).queue) → ⊥)
-    → (has_ended t.life ≡ false → AreQueued (entered b (action.Outcome (name_at t.requests p) o)).story (with_permits t.requests p progress.Closed 0) (link_in t.life)) → Tied b (record t { pending = p ∷ pending })
+pub answer_apart : (b : Book) (t : Inner) (p : ℕ) (pending : List ℕ) (o : Outcome) → is_open_at t.requests p ≡ true → (IsIn p (wanted (link_in t.life).row ++ queue_ids (link_in t.life).queue) → ⊥)
+    → (has_ended t.life ≡ false → AreQueued (entered b (action.Outcome (name_at t.requests p) o)).story (with_permits t.requests p progress.Closed 0) t.link (link_in t.life)) → Tied b (record t { pending = p ∷ pending })
     → Tied (entered b (action.Outcome (name_at t.requests p) o)) (closed_in t p pending)
-answer_apart b t p pending o l apart told h =
+answer_apart b t p pending o open_is apart told h =
+    let l = open_within t.requests p open_is in
     let closed : ℕ → Story = λ n. answered (b.story n) o in
     let c : (n : ℕ) → Closes (b.story n) (closed n) = λ n. answer_closes (b.story n) o in
     let link = link_in t.life in
@@ -227,8 +228,8 @@ answer_apart b t p pending o l apart told h =
           let j = awaited_in q link.queue i in
           let k = rising_in 0 (requests_in t.started ++ (queue ++ kept)) (length t.requests) q h.lines.line (in_right q (requests_in t.started) (queue ++ kept) (in_left q queue kept j)) in
           ((λ same. apart (in_right p rows queue (subst (λ m. IsIn m queue) (sym same) j))), k.1, i)) h.waits;
-      permits = permits_closed b.story (entered b (action.Outcome n o)).story t.table b.submissions t.requests t.link t.limit t.free t.letting p h.names l known r.on r.permits_is (λ m other. closed_other b.story t.requests p closed m other)
-          (ap (λ (s : Story). s.permits) own) (ap (λ (s : Story). s.link) own ∙ r.on) h.permits;
+      permits = permits_closed b.story (entered b (action.Outcome n o)).story t.table b.submissions t.requests t.link t.limit t.free t.letting p h.names l known (r.on open_is) r.permits_is (λ m other. closed_other b.story t.requests p closed m other)
+          (ap (λ (s : Story). s.permits) own) (ap (λ (s : Story). s.link) own ∙ r.on open_is) h.permits;
       late = late_closed t.table b.story t.requests p closed (p ∷ pending) pending h.names l (λ q other i. elim i [ inl same ↦ absurd (other same) | inr j ↦ j ]) h.late;
     }
 
@@ -293,8 +294,8 @@ answer_tied b t p pending o e owes r h =
       | inl j ↦ in_left p (requests_in (wanted link.row)) (queue_ids link.queue) (request_in p (wanted link.row) (request_not b (record t { pending = p ∷ pending }) p h l) j)
       | inr j ↦ in_right p (requests_in (wanted link.row)) (queue_ids link.queue) j
     ] in
-    answer_apart b t p pending o l (λ i. first_is_apart 0 p (pending ++ line_of link t.admitted t.waiting) (length t.requests) r (in_right p pending (line_of link t.admitted t.waiting) (front_in p (requests_in (wanted link.row)) (queue_ids link.queue) (kept_ids t.admitted t.waiting) (asked_in i))))
-    (λ up. told_closed b.story t.requests p (λ n. answered (b.story n) o) link link (λ u. absurd (owed_untold b (name_at t.requests p) o asked owes u)) (λ q is i. i) (h.told up)) h
+    answer_apart b t p pending o e (λ i. first_is_apart 0 p (pending ++ line_of link t.admitted t.waiting) (length t.requests) r (in_right p pending (line_of link t.admitted t.waiting) (front_in p (requests_in (wanted link.row)) (queue_ids link.queue) (kept_ids t.admitted t.waiting) (asked_in i))))
+    (λ up. told_closed b.story t.requests t.link p (λ n. answered (b.story n) o) link link (λ u. absurd (owed_untold b (name_at t.requests p) o asked owes u)) (λ n. refl) (λ q is i. i) (λ q i. i) (h.told up)) h
 
 -- one that isn't open is answered with nothing shown
 pub skip_tied : (b : Book) (t : Inner) (p : ℕ) (pending : List ℕ) → is_open_at t.requests p ≡ false → Tied b (record t { pending = p ∷ pending }) → Tied b (record t { pending = pending })

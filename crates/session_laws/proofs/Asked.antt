@@ -271,7 +271,7 @@ asked_tied b c started word what h tame form few no_fresh up speaks some =
             handed_in = refl;
             in_time = up;
             spoken = speaks;
-            on = h.numbers.current_is;
+            on = λ o. h.numbers.current_is;
             some = some;
             open_is = sym (last_open c);
             permits_is = sym (last_free c);
@@ -282,7 +282,8 @@ asked_tied b c started word what h tame form few no_fresh up speaks some =
           (λ p r i past. ap (λ (s : Story). s.tries) (own_at p r i past))
           (record { owners = h.tries.owners; greeted = h.tries.greeted; shapes = h.tries.shapes; tried = h.tries.tried; untried = h.tries.untried });
       lines = asked_lines b c started what h;
-      told = λ up. told_longer c.table b.story after conn.requests (more_requests c) (link_in conn.life) same longer (λ u. absurd (new_untold (is_awaited (new_story b what)) (ap is_told (sym (story_is_new b c started what h)) ∙ u.0))) (h.told up);
+      told = λ up. told_longer c.table b.story after conn.requests (more_requests c) c.single.link (link_in conn.life) h.names same longer (λ u. absurd (new_untold (is_awaited (new_story b what)) (ap is_told (sym (story_is_new b c started what h)) ∙ u.0)))
+          (λ p i. within_line conn.requests (requests_in started) queue last p h.lines.line (in_right p (requests_in started) (queue ++ last) (in_left p queue last i))) (h.told up);
       waits = asked_waits b c started what h no_fresh;
       permits = permits_longer c.table b.story after b.submissions conn.requests (more_requests c) c.single.link conn.limit conn.free (conn.fresh ++ n ∷ []) h.names same longer h.numbers.submissions (ap (λ (s : Story). s.permits) (story_is_new b c started what h))
           (asked_next b c started what h no_fresh) h.permits;

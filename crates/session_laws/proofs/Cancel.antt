@@ -147,6 +147,13 @@ without_awaited (x ∷ xs) p q other i =
     (λ t. elim (in_either q own (awaited_ids xs) i) [ inl j ↦ absurd (other (sym (eq_from x.id p (both_left (x.id == p) x.awaited t)) ∙ chosen_in x.awaited q x.id j)) | inr j ↦ j ])
     (λ f. elim (in_either q own (awaited_ids xs) i) [ inl j ↦ in_left q own (awaited_ids (without xs p)) j | inr j ↦ in_right q own (awaited_ids (without xs p)) (without_awaited xs p q other j) ])
 
+-- and what is in it then was
+pub without_in : (queue : List Queued) (p q : ℕ) → IsIn q (queue_ids (without queue p)) → IsIn q (queue_ids queue)
+without_in [] p q i = i
+without_in (x ∷ xs) p q i = chosen (λ (ys : List Queued). IsIn q (queue_ids ys) → IsIn q (queue_ids (x ∷ xs))) (x.id == p) xs (x ∷ without xs p)
+    (λ t j. inr j)
+    (λ f j. elim j [ inl same ↦ inl same | inr k ↦ inr (without_in xs p q k) ]) i
+
 -- what it holds then it held before
 pub without_was : (queue : List Queued) (p q : ℕ) → IsIn q (awaited_ids (without queue p)) → IsIn q (awaited_ids queue)
 without_was [] p q i = i
@@ -319,7 +326,7 @@ was_setting (Ended y) p x u e = cc
 left_lines_in : (table : List (Option Pending)) (story : ℕ → Story) (requests : List Request) (life : Life) (waiting admitted : List Waiting) (p : ℕ) (started : List ℕ) (closed : ℕ → Story) → TiedNames table requests → p < length requests
     → p ≢ renewal_id → is_open (story (name_at requests p)) ≡ true → ((n : ℕ) → Closes (story n) (closed n))
     → (has_ended life ≡ false → Rising 0 (requests_in (row_ids (link_in life).row) ++ (queue_ids (link_in life).queue ++ kept_ids admitted waiting)) (length requests)) → TiedLines story requests (link_in life) waiting admitted [] started
-    → TiedLines (with_closed story requests p closed) (with_permits requests p progress.Closed 0) (link_in (cancelled_in life p)) waiting admitted [] started
+    → TiedLines (with_closed story requests p closed) (with_permits requests p progress.Closed 0) number (link_in (cancelled_in life p)) waiting admitted [] started
 left_lines_in table story requests life waiting admitted p started closed names l other asked c r h = by_life life r h
   where
     -- a link without messages stays as it is
@@ -329,7 +336,7 @@ left_lines_in table story requests life waiting admitted p started closed names 
         record { line = k.line; queued = k.queued; entries = k.entries; packs = k.packs; packed_in = k.packed_in; there = k.there }
 
     by_life : (x : Life) → (has_ended x ≡ false → Rising 0 (requests_in (row_ids (link_in x).row) ++ (queue_ids (link_in x).queue ++ kept_ids admitted waiting)) (length requests)) → TiedLines story requests (link_in x) waiting admitted [] started
-        → TiedLines (with_closed story requests p closed) (with_permits requests p progress.Closed 0) (link_in (cancelled_in x p)) waiting admitted [] started
+        → TiedLines (with_closed story requests p closed) (with_permits requests p progress.Closed 0) number (link_in (cancelled_in x p)) waiting admitted [] started
     by_life (Ready link) r h = left_lines table story requests link waiting admitted p started closed names l other asked c (r refl) h
     by_life Dialing r h = bare h
     by_life (Wanting link) r h = bare h
@@ -337,9 +344,9 @@ left_lines_in table story requests life waiting admitted p started closed names 
     by_life (Ended e) r h = bare h
 
 -- who was told is none that leaves, and is in the queue still
-left_told : (story : ℕ → Story) (requests : List Request) (life : Life) (p : ℕ) → is_open (story (name_at requests p)) ≡ true → (has_ended life ≡ false → AreQueued story requests (link_in life))
-    → has_ended (cancelled_in life p) ≡ false → AreQueued (with_closed story requests p (λ n. left (story n))) (with_permits requests p progress.Closed 0) (link_in (cancelled_in life p))
-left_told story requests life p asked h = by_life life h
+left_told : (story : ℕ → Story) (requests : List Request) (number : ℕ) (life : Life) (p : ℕ) → is_open (story (name_at requests p)) ≡ true → (has_ended life ≡ false → AreQueued story requests number (link_in life))
+    → has_ended (cancelled_in life p) ≡ false → AreQueued (with_closed story requests p (λ n. left (story n))) (with_permits requests p progress.Closed 0) number (link_in (cancelled_in life p))
+left_told story requests number life p asked h = by_life life h
   where
     own : (let n = name_at requests p in IsUntried (left (story n)) → IsUntried (story n))
     own = let s = story (name_at requests p) in chosen (λ (x : Story). IsUntried x → IsUntried s) (is_open s) (record s { cancelled = true; permits = 0; waiting = None }) s (λ t u. (u.0, u.1)) (λ f u. u)
@@ -347,11 +354,11 @@ left_told story requests life p asked h = by_life life h
     other : (q : ℕ) → is_told (story (name_at requests q)) ≡ true → p ≢ q
     other q is same = not_both (is_told (story (name_at requests q))) (subst (λ n. is_told (story (name_at requests n)) ≡ false) same (open_untold (story (name_at requests p)) asked)) is
 
-    by_life : (x : Life) → (has_ended x ≡ false → AreQueued story requests (link_in x)) → has_ended (cancelled_in x p) ≡ false → AreQueued (with_closed story requests p (λ n. left (story n))) (with_permits requests p progress.Closed 0) (link_in (cancelled_in x p))
-    by_life (Ready link) g n = told_closed story requests p (λ m. left (story m)) link (cancelled link p) own (λ q is i. without_others link.queue p q (other q is) i) (g refl)
-    by_life Dialing g n = told_closed story requests p (λ m. left (story m)) no_link no_link own (λ q is i. i) (g refl)
-    by_life (Wanting link) g n = told_closed story requests p (λ m. left (story m)) no_link no_link own (λ q is i. i) (g refl)
-    by_life (SettingUp link greeting) g n = told_closed story requests p (λ m. left (story m)) no_link no_link own (λ q is i. i) (g refl)
+    by_life : (x : Life) → (has_ended x ≡ false → AreQueued story requests number (link_in x)) → has_ended (cancelled_in x p) ≡ false → AreQueued (with_closed story requests p (λ n. left (story n))) (with_permits requests p progress.Closed 0) number (link_in (cancelled_in x p))
+    by_life (Ready link) g n = told_closed story requests number p (λ m. left (story m)) link (cancelled link p) own (λ n. leave_link (story n)) (λ q is i. without_others link.queue p q (other q is) i) (λ q i. without_in link.queue p q i) (g refl)
+    by_life Dialing g n = told_closed story requests number p (λ m. left (story m)) no_link no_link own (λ n. leave_link (story n)) (λ q is i. i) (λ q i. i) (g refl)
+    by_life (Wanting link) g n = told_closed story requests number p (λ m. left (story m)) no_link no_link own (λ n. leave_link (story n)) (λ q is i. i) (λ q i. i) (g refl)
+    by_life (SettingUp link greeting) g n = told_closed story requests number p (λ m. left (story m)) no_link no_link own (λ n. leave_link (story n)) (λ q is i. i) (λ q i. i) (g refl)
     by_life (Ended e) g n = cc
 
 -- those that are awaited in the queue then are others
@@ -514,11 +521,11 @@ gone_tied b c started word p n h tame o named =
       story = λ m. story_closed b.story c.table conn.requests c.single.link p closed m h.names l (leave_frees (b.story own) asked) (k m) (h.story m);
       tries = tries_closed (record ledger { heard = silence }) b.story conn.requests c.single.link p closed started k (record { owners = h.tries.owners; greeted = h.tries.greeted; shapes = h.tries.shapes; tried = h.tries.tried; untried = h.tries.untried });
       lines = left_lines_in c.table b.story conn.requests conn.life conn.waiting conn.admitted p started closed h.names l (request_not b (inner c started) p h l) asked k (λ up. row_in_line b (inner c started) h up) h.lines;
-      told = left_told b.story conn.requests conn.life p asked h.told;
+      told = left_told b.story conn.requests c.single.link conn.life p asked h.told;
       waits = waits_closed c.table b.story conn.requests p closed conn.life (cancelled_in conn.life p) conn.fresh conn.moved h.names l (still_dials conn.life p) (was_wanting conn.life p) (was_setting conn.life p) (was_ready conn.life p) (left_others conn.requests conn.life (kept_ids conn.admitted conn.waiting) p 0 line) h.waits;
       permits = subst (λ m. TiedPermits after m requests c.single.link conn.limit free []) (none_more b.submissions)
-          (permits_closed b.story after c.table b.submissions conn.requests c.single.link conn.limit conn.free [] p h.names l known r.on r.permits_is (λ m other. closed_other b.story conn.requests p closed m other)
-          (ap (λ (s : Story). s.permits) is ∙ leave_frees (b.story own) asked) (ap (λ (s : Story). s.link) is ∙ leave_link (b.story own) ∙ r.on) h.permits);
+          (permits_closed b.story after c.table b.submissions conn.requests c.single.link conn.limit conn.free [] p h.names l known (r.on o) r.permits_is (λ m other. closed_other b.story conn.requests p closed m other)
+          (ap (λ (s : Story). s.permits) is ∙ leave_frees (b.story own) asked) (ap (λ (s : Story). s.link) is ∙ leave_link (b.story own) ∙ r.on o) h.permits);
       late = late_closed c.table b.story conn.requests p closed [] [] h.names l (λ q other i. i) h.late;
     })
 

@@ -185,20 +185,16 @@ pub pending_due : (b : Book) (t : Inner) (ss : List Settled) → Tied b t → Ar
 pending_due b t ss h early all = due_each b t ss h early all
 
 -- those that wait are due the error of the end
-waiting_due : (b : Book) (t : Inner) (e : RedisError) (qs : List Waiting) → Tied b t → AreInTime b.story t.requests → owed_unstarted (b.link t.link).end ≡ Some (outcome.Fault e) → ((n : ℕ) → IsIn n (waiting_ids qs) → (n < length t.requests) × (IsIn n t.started → ⊥)) → AllByRecursion (IsDueError (owed b) (name_at t.requests) (is_open_at t.requests) e) qs
+waiting_due : (b : Book) (t : Inner) (e : RedisError) (qs : List Waiting) → Tied b t → AreInTime b.story t.requests → owed_unstarted (b.link t.link).end ≡ Some (outcome.Fault e) → ((n : ℕ) → IsIn n (waiting_ids qs) → IsIn n t.started → ⊥) → AllByRecursion (IsDueError (owed b) (name_at t.requests) (is_open_at t.requests) e) qs
 waiting_due b t e [] h early over all = tt
 waiting_due b t e (q ∷ qs) h early over all = (
-  (λ o. let k = all q.number (inl refl) in owed_none_started b t q.number h k.0 (early q.number o) k.1 ∙ over),
+  (λ o. owed_none_started b t q.number h o (early q.number o) (all q.number (inl refl)) ∙ over),
   waiting_due b t e qs h early over (λ n i. all n (inr i)),
 )
 
--- who has no place is within, and has not started
-kept_unstarted : (b : Book) (t : Inner) (n : ℕ) → Tied b t → IsIn n (kept_ids t.admitted t.waiting) → (n < length t.requests) × (IsIn n t.started → ⊥)
-kept_unstarted b t n h i =
-    let queue = queue_ids (link_in t.life).queue in
-    let later = queue ++ kept_ids t.admitted t.waiting in
-    let j = in_right n queue (kept_ids t.admitted t.waiting) i in
-    ((let k = rising_in 0 (requests_in t.started ++ later) (length t.requests) n h.lines.line (in_right n (requests_in t.started) later j) in k.1), later_unstarted b t n h j)
+-- who has no place has not started
+kept_unstarted : (b : Book) (t : Inner) (n : ℕ) → Tied b t → IsIn n (kept_ids t.admitted t.waiting) → IsIn n t.started → ⊥
+kept_unstarted b t n h i = later_unstarted b t n h (in_right n (queue_ids (link_in t.life).queue) (kept_ids t.admitted t.waiting) i)
 
 -- all that wait for a place are due it, and all that wait for the connection
 pub record AreDue (owes : ℕ → Option Outcome) (name : ℕ → ℕ) (was : ℕ → Bool) (e : RedisError) (admitted waiting : List Waiting) : Type 0 where
@@ -322,7 +318,7 @@ queue_due : (b : Book) (t : Inner) (ids : List ℕ) (ss : List Settled) → Tied
     → AllByRecursion (IsDue (owed b) (name_at t.requests) (is_open_at t.requests)) ss
 queue_due b t ids [] h early over unstarted all = tt
 queue_due b t ids (s ∷ ss) h early over unstarted all = (
-  (λ o. owed_none_started b t s.id h (open_within t.requests s.id o) (early s.id o) (unstarted s.id all.0.1) ∙ over ∙ ap Some (sym all.0.0)),
+  (λ o. owed_none_started b t s.id h o (early s.id o) (unstarted s.id all.0.1) ∙ over ∙ ap Some (sym all.0.0)),
   queue_due b t ids ss h early over unstarted all.1,
 )
 

@@ -218,7 +218,10 @@ readied_comes b c started n info link untold more h0 fit no_fresh other early fa
       said = said;
       linked = λ z. said_tied (owner_of conn.requests) l link l.info (readied more l).creds l.heard made.tied;
       lines = bare_lines b.story conn.requests link conn.waiting conn.admitted started made.queue made.row (subst (λ (x : LinkState). TiedLines b.story conn.requests x conn.waiting conn.admitted [] started) early.bare h0.lines);
-      told = λ z m told none. absurd (let q = subst (λ (x : LinkState). AreQueued b.story conn.requests x) early.bare (h0.told early.alive) m told none in q.3);
+      told = λ z. record {
+        told = λ m told none on. absurd (let q = (subst (λ (x : LinkState). AreQueued b.story conn.requests c.single.link x) early.bare (h0.told early.alive)).told m told none on in q.3);
+        here = λ p i. absurd (subst (λ (qs : List Queued). IsIn p (queue_ids qs)) made.queue i);
+      };
       waits = fresh_waits b (inner c started) conn.life (Ready link) h0 refl nobody no_fresh refl early.bare early.unready early.alive early.other made.queue;
       notices = facts.notices;
     }
@@ -466,7 +469,7 @@ comes_to_say before c started word kind n info link h good k is other early u ha
       said = record { info_is = u.info_is; sent = u.sent; said = (u.none, said) };
       linked = λ z. enqueued_tied _ l link q (u.tied _);
       lines = subst (λ (x : LinkState). TiedLines b.story conn.requests x conn.waiting conn.admitted [] started) early.bare h0.lines;
-      told = λ z. subst (λ (x : LinkState). AreQueued b.story conn.requests x) early.bare (h0.told early.alive);
+      told = λ z. subst (λ (x : LinkState). AreQueued b.story conn.requests c.single.link x) early.bare (h0.told early.alive);
       waits = fresh_waits b (inner c started) conn.life life h0 refl nobody h.fresh refl early.bare early.unready early.alive early.other refl;
       notices = notices;
     })
@@ -545,7 +548,7 @@ comes_to_watch before c started word kind n info link h good k is other early u 
       said = record { info_is = u.info_is; sent = u.sent; said = (u.none, said) };
       linked = λ z. enqueued_tied _ l link watch_queued (u.tied _);
       lines = subst (λ (x : LinkState). TiedLines b.story conn.requests x conn.waiting conn.admitted [] started) early.bare h0.lines;
-      told = λ z. subst (λ (x : LinkState). AreQueued b.story conn.requests x) early.bare (h0.told early.alive);
+      told = λ z. subst (λ (x : LinkState). AreQueued b.story conn.requests c.single.link x) early.bare (h0.told early.alive);
       waits = none_wait b.story conn.requests conn.life next greet.Monitor conn.fresh conn.moved (none_asked b (inner c started) h0 watches) h0.waits;
       notices = notices;
     })

@@ -181,7 +181,7 @@ connected_wants before c started word kind h good k is e wants =
       said = record { info_is = u.info_is; sent = u.sent; said = (u.starts, u.none, refl, refl) };
       linked = λ z. sourced_tied _ l link (u.tied _);
       lines = subst (λ (x : LinkState). TiedLines b.story conn.requests x conn.waiting conn.admitted [] started) early.bare h0.lines;
-      told = λ z. subst (λ (x : LinkState). AreQueued b.story conn.requests x) early.bare (h0.told early.alive);
+      told = λ z. subst (λ (x : LinkState). AreQueued b.story conn.requests c.single.link x) early.bare (h0.told early.alive);
       waits = fresh_waits b (inner c started) conn.life life h0 refl nobody h.fresh refl early.bare early.unready early.alive early.other refl;
       notices = pushes_still before c started connected h (inl tt);
     }) in

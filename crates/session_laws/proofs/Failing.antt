@@ -98,9 +98,9 @@ unstarted_owed b now c started h none same there alive n asked on =
     let spoken : (now.story n).unspoken ≡ false = ap (λ (x : Story). x.unspoken) is ∙ q.spoken in
     let some : bytes_of (now.story n) ≢ [] = λ e. q.some (ap bytes_of (sym is) ∙ e) in
     let punctual : (now.story n).overdue ≡ false = ap (λ (x : Story). x.overdue) is ∙ in_time b t p h r.open_at (λ i. i) in
-    let untried : (now.story n).tries ≡ [] = ap (λ (x : Story). x.tries) is ∙ ap (λ m. (b.story m).tries) (name_of_some t.requests p g.0 g.1) ∙ h.tries.untried p g.0 g.1 (λ i. subst (IsIn p) none i) in
+    let untried : (now.story n).tries ≡ [] = ap (λ (x : Story). x.tries) is ∙ ap (λ m. (b.story m).tries) (name_of_some t.requests p g.0 g.1) ∙ h.tries.untried p g.0 g.1 (λ i. subst (IsIn p) none i) (sym (ap (λ m. (b.story m).link) (name_of_some t.requests p g.0 g.1)) ∙ q.on r.open_at) in
     left_if (now.story n).late _ _ early ∙ left_if (now.story n).unspoken _ _ spoken ∙ left_if (length (bytes_of (now.story n)) == 0) _ _ (not_empty (bytes_of (now.story n)) some) ∙ left_if (now.story n).overdue _ (owed_to_try now (now.story n) (last_of (now.story n).tries)) punctual
-    ∙ ap (λ ts. owed_to_try now (now.story n) (last_of ts)) untried ∙ ap (λ m. owed_waiting now.shut (now.link m)) (ap (λ (x : Story). x.link) is ∙ q.on) ∙ owed_asked now.shut (now.link c.single.link) there ∙ ap owed_unstarted alive
+    ∙ ap (λ ts. owed_to_try now (now.story n) (last_of ts)) untried ∙ ap (λ m. owed_waiting now.shut (now.link m)) (ap (λ (x : Story). x.link) is ∙ q.on r.open_at) ∙ owed_asked now.shut (now.link c.single.link) there ∙ ap owed_unstarted alive
 
 -- a link that isn't set up isn't ready, nor is any other
 pub unready_shown : (now : Book) (link : ℕ) (l : Ledger) → now.link link ≡ l → ((m : ℕ) → m ≢ link → (now.link m).up ≡ false) → is_set_up l ≡ false → ReadyIsShown now

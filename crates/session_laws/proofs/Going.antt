@@ -215,9 +215,31 @@ later_in t n l =
     let kept = kept_ids t.admitted t.waiting in
     elim l.later [ inl i ↦ in_left l.p queue kept i | inr w ↦ in_right l.p queue kept (kept_in t.requests t.waiting t.admitted l.p w) ]
 
+-- one whose link isn't up makes no step
+down_stays : (b : Book) (n : ℕ) → (b.link (b.story n).link).up ≡ false → is_due (next_step b n) ≡ false
+down_stays b n down =
+    let s = b.story n in
+    let l = b.link s.link in
+    let step : Step = if is_set_up l then step_ready b n s else waits (unready_wait l) in
+    chosen (λ (x : Step). is_due x ≡ false) (dials l) (waits wait.Connect) (if l.up then step else step_down l.asked) (λ t. refl) (λ f. ap is_due (left_if l.up step (step_down l.asked) down) ∙ none_due_down l.asked)
+  where
+    none_due_down : (asked : Bool) → is_due (step_down asked) ≡ false
+    none_due_down true = refl
+    none_due_down false = refl
+
+-- so the link of one that makes a step is up
+moves_up : (b : Book) (n : ℕ) → CanMove b n → (b.link (b.story n).link).up ≡ true
+moves_up b n m = by_test (b.link (b.story n).link).up _ (λ up. up) (λ down. absurd (not_both (is_due (next_step b n)) (down_stays b n down) m.due))
+
+-- and is the connection's
+moves_here : (b : Book) (t : Inner) (n : ℕ) → Tied b t → CanMove b n → (b.story n).link ≡ t.link
+moves_here b t n h m =
+    let l = (b.story n).link in
+    by_test (l == t.link) _ (λ same. eq_from l t.link same) (λ other. absurd (not_both (b.link l).up (h.others l (ne_from l t.link other)).down (moves_up b n m)))
+
 -- one that makes a step is still to start
 pub moves_later : (b : Book) (t : Inner) (n : ℕ) → Tied b t → IsRunning t → CanMove b n → IsLater t n
-moves_later b t n h r m = later_of b t n h r.settled (ready_alive t.life r.up) m.unstarted
+moves_later b t n h r m = later_of b t n h r.settled (ready_alive t.life r.up) (moves_here b t n h m) m.unstarted
 
 -- the first of the queue is the first that makes a step
 pub first_in_queue : (b : Book) (t : Inner) (q : ℕ) (rest : List ℕ) → Tied b t → IsRunning t → queue_ids (link_in t.life).queue ≡ q ∷ rest → IsFirstToMove b (name_at t.requests q)
@@ -257,23 +279,9 @@ first_behind b t q rest h r still first n before m =
 
 -- every step that may be made was made
 --
--- a link that isn't up moves none
-down_stays : (b : Book) (n : ℕ) → (b.link (b.story n).link).up ≡ false → is_due (next_step b n) ≡ false
-down_stays b n down =
-    let s = b.story n in
-    let l = b.link s.link in
-    let step : Step = if is_set_up l then step_ready b n s else waits (unready_wait l) in
-    chosen (λ (x : Step). is_due x ≡ false) (dials l) (waits wait.Connect) (if l.up then step else step_down l.asked) (λ t. refl) (λ f. ap is_due (left_if l.up step (step_down l.asked) down) ∙ none_due_down l.asked)
-  where
-    none_due_down : (asked : Bool) → is_due (step_down asked) ≡ false
-    none_due_down true = refl
-    none_due_down false = refl
-
--- as each submission that is still to start is for it
+-- nothing of a link that isn't up does
 down_moves_none : (b : Book) (t : Inner) → Tied b t → (b.link t.link).up ≡ false → (n : ℕ) → CanMove b n → ⊥
-down_moves_none b t h down n m =
-    let a = alive_behind b t n h (unstarted_alive (b.story n) m.unstarted) in
-    not_both (is_due (next_step b n)) (down_stays b n (ap (λ l. (b.link l).up) a.is.on ∙ down)) m.due
+down_moves_none b t h down n m = not_both (b.link t.link).up down (subst (λ l. (b.link l).up ≡ true) (moves_here b t n h m) (moves_up b n m))
 
 -- a link whose connect isn't answered isn't up
 dialing_down : (l : Ledger) (created : ℕ) (life : Life) → life ≡ Dialing → TiedLife l created life → l.up ≡ false
@@ -287,13 +295,13 @@ dialing_down l created (Ended x) e h = cc
 wanting_moves_none : (b : Book) (t : Inner) (link : LinkState) → Tied b t → t.life ≡ Wanting link → (n : ℕ) → CanMove b n → ⊥
 wanting_moves_none b t link h e n m =
     let a = alive_behind b t n h (unstarted_alive (b.story n) m.unstarted) in
-    not_both (is_due (next_step b n)) (ap (λ k. is_due (next_step b k)) (sym a.name) ∙ ap is_due (creds_step b t a.p link h e a.within)) m.due
+    not_both (is_due (next_step b n)) (ap (λ k. is_due (next_step b k)) (sym a.name) ∙ ap is_due (creds_step b t a.p link h e (ap (λ k. (b.story k).link) a.name ∙ moves_here b t n h m))) m.due
 
 -- nor does one on a link that isn't set up
 setting_moves_none : (b : Book) (t : Inner) (link : LinkState) (greeting : Greeting) → Tied b t → t.life ≡ SettingUp link greeting → (n : ℕ) → CanMove b n → ⊥
 setting_moves_none b t link greeting h e n m =
     let a = alive_behind b t n h (unstarted_alive (b.story n) m.unstarted) in
-    not_both (is_due (next_step b n)) (ap (λ k. is_due (next_step b k)) (sym a.name) ∙ ap is_due (setup_step b t a.p link greeting h e a.within)) m.due
+    not_both (is_due (next_step b n)) (ap (λ k. is_due (next_step b k)) (sym a.name) ∙ ap is_due (setup_step b t a.p link greeting h e (ap (λ k. (b.story k).link) a.name ∙ moves_here b t n h m))) m.due
 
 -- what gives no number is nothing
 pub none_given : (o : Option ℕ) → ((k : ℕ) → o ≡ Some k → ⊥) → o ≡ None

@@ -62,7 +62,7 @@ pub record Leads (b : Book) (c : Core) (n : News) (life : Life) (pending started
   pub said : TiedSetup (heard_by b c n) c.single.connection.info started life
   pub linked : has_ended life ≡ false → TiedLink (carried life c.single.connection.requests) (heard_by b c n) (whole_link life)
   pub lines : TiedLines b.story c.single.connection.requests (link_in life) c.single.connection.waiting c.single.connection.admitted pending started
-  pub told : has_ended life ≡ false → AreQueued b.story c.single.connection.requests (link_in life)
+  pub told : has_ended life ≡ false → AreQueued b.story c.single.connection.requests c.single.link (link_in life)
   pub waits : TiedWaits b.story c.single.connection.requests life c.single.connection.fresh c.single.connection.moved
   pub notices : PushesOf (hearing_in b.config) c.single.connection.hears (heard_by b c n)
 

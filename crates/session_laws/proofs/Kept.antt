@@ -32,7 +32,7 @@ pub record TiedBy (b : Book) (t : Inner) (l : Ledger) : Type 0 where
   pub story : (n : ℕ) → TiedStory (b.story n) t.requests t.link (slice_get t.table n)
   pub tries : TiedTries l b.story t.requests t.link t.started
   pub lines : TiedLines b.story t.requests (link_in t.life) t.waiting t.admitted t.pending t.started
-  pub told : has_ended t.life ≡ false → AreQueued b.story t.requests (link_in t.life)
+  pub told : has_ended t.life ≡ false → AreQueued b.story t.requests t.link (link_in t.life)
   pub waits : TiedWaits b.story t.requests t.life t.fresh t.moved
   pub permits : TiedPermits b.story b.submissions t.requests t.link t.limit t.free t.letting
   pub late : AreLate b.story t.requests t.pending
@@ -124,11 +124,11 @@ queued_same f g requests (q ∷ qs) same told all = (
 )
 
 -- of the same tries, by the same places
-pub tries_same : (l : Ledger) (f g : ℕ → Story) (requests : List Request) (link : ℕ) (started : List ℕ) → SameSubmissions f g → ((n : ℕ) → (f n).tries ≡ (g n).tries) → TiedTries l f requests link started → TiedTries l g requests link started
-tries_same l f g requests link started same tried h = record {
+pub tries_same : (l : Ledger) (f g : ℕ → Story) (requests : List Request) (link : ℕ) (started : List ℕ) → SameSubmissions f g → ((n : ℕ) → (f n).tries ≡ (g n).tries) → ((n : ℕ) → (f n).link ≡ (g n).link) → TiedTries l f requests link started → TiedTries l g requests link started
+tries_same l f g requests link started same tried linked h = record {
   owners = h.owners;
   greeted = h.greeted;
   shapes = λ k p s l i j. h.shapes k p s l i j ∙ ap shape_in (same (name_at requests p));
   tried = λ k p l i. sym (tried (name_at requests p)) ∙ h.tried k p l i;
-  untried = λ p r i out. sym (tried r.name) ∙ h.untried p r i out;
+  untried = λ p r i out on. sym (tried r.name) ∙ h.untried p r i out (linked r.name ∙ on);
 }

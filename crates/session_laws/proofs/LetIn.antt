@@ -44,7 +44,7 @@ use Rattle.session_laws.proofs.InLine.{first_is_least, kept_ids}
 use Rattle.session_laws.proofs.Kept.{of_same, tries_same}
 use Rattle.session_laws.proofs.Names.{earlier_name, get_more, length_with, name_placed, name_of_some, name_with, name_within, names_with, owners_with, permits_other, permits_with, same_name, there_within, was_with, with_other, with_same}
 use Rattle.session_laws.proofs.Numbers.{IsIn, Rising, in_right, rising_in, rising_right, requests_in}
-use Rattle.session_laws.proofs.Owes.{request_story}
+use Rattle.session_laws.proofs.Owes.{request_story, open_on}
 use Rattle.session_laws.proofs.Permits.{held_changed, held_same, on_this}
 use Rattle.session_laws.proofs.Closing.{one_of}
 use Rattle.session_laws.proofs.Said.{carried_tied}
@@ -146,7 +146,7 @@ story_let f g table requests link p count n names w eased has h = by_entry (slic
           handed_in = k.submission ∙ s.handed_in;
           in_time = k.late ∙ s.in_time;
           spoken = k.unspoken ∙ s.spoken;
-          on = k.link ∙ s.on;
+          on = λ o. k.link ∙ s.on (sym (test_kept is_open_progress requests p count q.number w) ∙ o);
           some = λ none. s.some (ap (λ x. packed_in x) (sym k.submission) ∙ none);
           open_is = eased_open (f n) (g n) k ∙ s.open_is ∙ sym (test_kept is_open_progress requests p count q.number w);
           permits_is = permits_now q.number e s;
@@ -212,10 +212,13 @@ lines_let f g requests link waiting admitted pending started p count w eased h =
 }
 
 -- who was told
-told_let : (f g : ℕ → Story) (requests : List Request) (link : LinkState) (p count : ℕ) → ((n : ℕ) → IsEased (f n) (g n)) → AreQueued f requests link → AreQueued g (with_permits requests p progress.Waiting count) link
-told_let f g requests link p count eased h n is none =
-    let k = h n (sym (eased_told (f n) (g n) (eased n)) ∙ is) (sym (eased n).tries ∙ none) in
-    (k.0, subst (λ m. k.0 < m) (sym (length_with requests p progress.Waiting count)) k.1, name_with requests p progress.Waiting count k.0 ∙ k.2, k.3)
+told_let : (f g : ℕ → Story) (requests : List Request) (number : ℕ) (link : LinkState) (p count : ℕ) → ((n : ℕ) → IsEased (f n) (g n)) → AreQueued f requests number link → AreQueued g (with_permits requests p progress.Waiting count) number link
+told_let f g requests number link p count eased h = record {
+  told = λ n is none on.
+      let k = h.told n (sym (eased_told (f n) (g n) (eased n)) ∙ is) (sym (eased n).tries ∙ none) (sym (eased n).link ∙ on) in
+      (k.0, subst (λ m. k.0 < m) (sym (length_with requests p progress.Waiting count)) k.1, name_with requests p progress.Waiting count k.0 ∙ k.2, k.3);
+  here = λ q i. ap (λ n. (g n).link) (name_with requests p progress.Waiting count q) ∙ (eased (name_at requests q)).link ∙ h.here q i;
+}
 
 -- what is shown of waits
 waits_let : (f g : ℕ → Story) (requests : List Request) (life : Life) (fresh moved : List ℕ) (p count : ℕ) → is_waiting_at requests p ≡ true → ((n : ℕ) → IsEased (f n) (g n)) → TiedWaits f requests life fresh moved
@@ -248,7 +251,7 @@ waits_let f g requests life fresh moved p count w eased h =
 -- the tries
 tries_let : (l : Ledger) (f g : ℕ → Story) (requests : List Request) (link : ℕ) (started : List ℕ) (p count : ℕ) → ((n : ℕ) → IsEased (f n) (g n)) → TiedTries l f requests link started → TiedTries l g (with_permits requests p progress.Waiting count) link started
 tries_let l f g requests link started p count eased before =
-    let h = tries_same l f g requests link started (λ n. sym (eased n).submission) (λ n. sym (eased n).tries) before in
+    let h = tries_same l f g requests link started (λ n. sym (eased n).submission) (λ n. sym (eased n).tries) (λ n. sym (eased n).link) before in
     let still = name_with requests p progress.Waiting count in
     let within : (m : ℕ) → m < length (with_permits requests p progress.Waiting count) → m < length requests = λ m l. subst (λ x. m < x) (length_with requests p progress.Waiting count) l in
     record {
@@ -256,7 +259,7 @@ tries_let l f g requests link started p count eased before =
       greeted = h.greeted;
       shapes = λ k m s l i j. h.shapes k m s (within m l) i j ∙ ap (λ n. shape (g n)) (sym (still m));
       tried = λ k m l i. ap (λ n. (g n).tries) (still m) ∙ h.tried k m (within m l) i;
-      untried = λ m r i out. let x = was_with requests p progress.Waiting count m r i in ap (λ n. (g n).tries) (sym x.2) ∙ h.untried m x.0 x.1 out;
+      untried = λ m r i out on. let x = was_with requests p progress.Waiting count m r i in ap (λ n. (g n).tries) (sym x.2) ∙ h.untried m x.0 x.1 out (ap (λ n. (g n).link) x.2 ∙ on);
     }
   where
     owners_let : (ms : List ℕ) → owners_each (with_permits requests p progress.Waiting count) ms ≡ owners_each requests ms
@@ -309,7 +312,7 @@ let_tied b t p count free g noted timers w alone eased has sum numbers h = recor
   story = λ n. story_let b.story g t.table t.requests t.link p count n h.names w eased has (h.story n);
   tries = tries_let (b.link t.link) b.story g t.requests t.link t.started p count eased.each h.tries;
   lines = lines_let b.story g t.requests (link_in t.life) t.waiting t.admitted t.pending t.started p count w eased.each h.lines;
-  told = λ e. told_let b.story g t.requests (link_in t.life) p count eased.each (h.told e);
+  told = λ e. told_let b.story g t.requests t.link (link_in t.life) p count eased.each (h.told e);
   waits = waits_let b.story g t.requests t.life t.fresh t.moved p count w eased.each h.waits;
   permits = permits_eased b.story g t.table b.submissions t.requests t.link t.limit t.free free t.letting p count h.names w alone eased sum h.permits;
   late = λ m o e. h.late m (sym (test_kept is_open_progress t.requests p count m w) ∙ o)
@@ -398,7 +401,7 @@ may_take b t link q qs k o alone e some h ends =
       takes = take_step b t p k h (opening_running t link q qs o) o.is_waiting (λ i. subst (IsIn p) alone i) e some
           ∙ ap (λ x. takes (min t.free (permits_for x k))) (sym (opening_packed b t link q qs o h).is_of.shape_is);
       in_order = opening_first b t link q qs o h;
-      on_its_link = sym (request_story b t p h within).on;
+      on_its_link = sym (open_on b t p h (waiting_open t.requests p o.is_waiting));
     }
 
 -- one story changes
@@ -418,14 +421,15 @@ take_tied b t p count w alone most h =
     let eased = eased_at b.story n (λ s. holds s count) (λ m. record { submission = refl; late = refl; unspoken = refl; link = refl; timeout = refl; overdue = refl; tries = refl; waiting = refl; outcomes = refl; cancelled = refl }) in
     let own : g n ≡ holds (b.story n) count = taken_if (n == n) (holds (b.story n) count) (b.story n) (eq_test n n refl) in
     let r = request_story b t p h within in
+    let on = r.on (waiting_open t.requests p w) in
     let none = h.permits.none p w (λ i. subst (IsIn p) alone i) in
     let known : n < b.submissions = (let l = name_within t.table t.requests p h.names within in let e = h.numbers.submissions in omega arith) in
     let_tied b t p count (t.free - count) g b.timers t.timers w (λ m i. absurd (subst (IsIn m) alone i)) eased (ap (λ (s : Story). s.permits) own)
     (λ k e.
     let was = h.permits.counted k e in
     let change = held_changed b.story g t.link b.submissions n known (λ m o. ap (permits_on t.link) (eased.others m (λ x. o (sym x)))) in
-    let before = on_this t.link (b.story n) r.on ∙ r.permits_is ∙ none.0 in
-    let after = on_this t.link (g n) (ap (λ (s : Story). s.link) own ∙ r.on) ∙ ap (λ (s : Story). s.permits) own in
+    let before = on_this t.link (b.story n) on ∙ r.permits_is ∙ none.0 in
+    let after = on_this t.link (g n) (ap (λ (s : Story). s.link) own ∙ on) ∙ ap (λ (s : Story). s.permits) own in
     omega arith)
     (numbers_kept b b.link g b.errors t t.life (t.free - count) (with_permits t.requests p progress.Waiting count) t.waiting t.admitted t.fresh t.moved (p ∷ []) t.pending t.started h.numbers) h
 

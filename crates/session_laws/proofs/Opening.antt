@@ -191,7 +191,7 @@ opening_names = record { few = omega arith; named = λ p r e. cc; kept = λ n p 
 
 -- its tries
 opening_tries : (l : Ledger) → l.starts ≡ [] → TiedTries l (λ n. blank_story) [] first_link []
-opening_tries l none = record { greeted = λ w. record { none = refl; greets = λ k s e. (let no : ◌≡◌ {A = Option Start} None (Some s) = sym (ap (λ (ss : List Start). slice_get ss k) none) ∙ e in cc) }; owners = λ plain. ap owners_of none ∙ ap (λ (ss : List Start). setup_owners (setup_count ss) []) (sym none); shapes = λ k p s w e i. cc; tried = λ k p w e. cc; untried = λ p r e out. cc }
+opening_tries l none = record { greeted = λ w. record { none = refl; greets = λ k s e. (let no : ◌≡◌ {A = Option Start} None (Some s) = sym (ap (λ (ss : List Start). slice_get ss k) none) ∙ e in cc) }; owners = λ plain. ap owners_of none ∙ ap (λ (ss : List Start). setup_owners (setup_count ss) []) (sym none); shapes = λ k p s w e i. cc; tried = λ k p w e. cc; untried = λ p r e out on. cc }
 
 -- no link but the first was asked for
 blank_aside : (m : ℕ) (heard : Hearing) (within : Option ℕ) → m ≢ first_link → IsAside (first_link + 1) m blank_ledger heard within 0
@@ -222,7 +222,7 @@ opening_tied config word info timeout some is = record {
   story = λ n. refl;
   tries = opening_tries ((opened config word info (connect_timers timeout)).link first_link) refl;
   lines = opening_lines;
-  told = λ e n is none. cc;
+  told = λ e. record { told = λ n is none on. cc; here = λ p i. absurd i };
   waits = opening_waits;
   permits = opening_permits (permits config);
   late = λ p o e. cc;

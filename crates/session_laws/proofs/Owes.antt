@@ -173,15 +173,31 @@ pub owed_asked : (shut : Bool) (l : Ledger) → l.asked ≡ true → owed_waitin
 owed_asked true l e = ap (λ a. if not a then Some (outcome.Fault error.Closed) else owed_unstarted l.end) e
 owed_asked false l e = refl
 
--- where it has none
-pub owed_none_started : (b : Book) (t : Inner) (p : ℕ) → Tied b t → p < length t.requests → (b.story (name_at t.requests p)).overdue ≡ false → (IsIn p t.started → ⊥) → owed b (name_at t.requests p) ≡ owed_unstarted (b.link t.link).end
-owed_none_started b t p h l in_time not_started =
+-- an open request goes to the link of the connection
+pub open_on : (b : Book) (t : Inner) (p : ℕ) → Tied b t → is_open_at t.requests p ≡ true → (b.story (name_at t.requests p)).link ≡ t.link
+open_on b t p h o = (request_story b t p h (open_within t.requests p o)).on o
+
+-- and so does what is in the queue
+pub queue_on : (b : Book) (t : Inner) (p : ℕ) → Tied b t → IsIn p (queue_ids (link_in t.life).queue) → (b.story (name_at t.requests p)).link ≡ t.link
+queue_on b t p h i = by_test (has_ended t.life) _ (λ over. absurd (none_over t.life over i)) (λ up. (h.told up).here p i)
+  where
+    none_over : (life : Life) → has_ended life ≡ true → IsIn p (queue_ids (link_in life).queue) → ⊥
+    none_over Dialing over j = j
+    none_over (Wanting link) over j = j
+    none_over (SettingUp link greeting) over j = j
+    none_over (Ready link) over j = cc
+    none_over (Ended e) over j = j
+
+-- what it is owed where it has none
+pub owed_none_started : (b : Book) (t : Inner) (p : ℕ) → Tied b t → is_open_at t.requests p ≡ true → (b.story (name_at t.requests p)).overdue ≡ false → (IsIn p t.started → ⊥) → owed b (name_at t.requests p) ≡ owed_unstarted (b.link t.link).end
+owed_none_started b t p h o in_time not_started =
+    let l = open_within t.requests p o in
     let n = name_at t.requests p in
     let r = request_story b t p h l in
     let g = get_some t.requests p l in
     let named : n ≡ g.0.name = name_of_some t.requests p g.0 g.1 in
-    let untried : (b.story n).tries ≡ [] = ap (λ m. (b.story m).tries) named ∙ h.tries.untried p g.0 g.1 not_started in
-    owed_by_try b n r.in_time r.spoken r.some in_time ∙ ap (λ ts. owed_to_try b (b.story n) (last_of ts)) untried ∙ ap (λ m. owed_waiting b.shut (b.link m)) r.on ∙ owed_asked b.shut (b.link t.link) (is_asked (b.link t.link) b.created t.life h.life)
+    let untried : (b.story n).tries ≡ [] = ap (λ m. (b.story m).tries) named ∙ h.tries.untried p g.0 g.1 not_started (sym (ap (λ m. (b.story m).link) named) ∙ r.on o) in
+    owed_by_try b n r.in_time r.spoken r.some in_time ∙ ap (λ ts. owed_to_try b (b.story n) (last_of ts)) untried ∙ ap (λ m. owed_waiting b.shut (b.link m)) (r.on o) ∙ owed_asked b.shut (b.link t.link) (is_asked (b.link t.link) b.created t.life h.life)
 
 -- what a link has settled is what its submissions are owed
 pub settled_owed : (b : Book) (t : Inner) (s : Settled) → Tied b t → s.id < length t.requests → (b.story (name_at t.requests s.id)).overdue ≡ false → IsOwed (owner_of t.requests) (b.link t.link) s → owed b (name_at t.requests s.id) ≡ Some (outcome_of s.verdict)
@@ -236,14 +252,14 @@ row_unowed b t p h n l in_time i =
     owed_started b t p w.number w.entry.shape h l in_time place ∙ open_unowed (owner_of t.requests) ledger w.number w.entry alive w.open_as
 
 -- nor to one that waits
-later_unowed : (b : Book) (t : Inner) (p : ℕ) → Tied b t → has_ended t.life ≡ false → p < length t.requests → (b.story (name_at t.requests p)).overdue ≡ false → IsIn p (queue_ids (link_in t.life).queue ++ kept_ids t.admitted t.waiting) → owed b (name_at t.requests p) ≡ None
-later_unowed b t p h n l in_time i = owed_none_started b t p h l in_time (later_unstarted b t p h i) ∙ ap owed_unstarted (lives (b.link t.link) b.created t.life h.life n)
+later_unowed : (b : Book) (t : Inner) (p : ℕ) → Tied b t → has_ended t.life ≡ false → is_open_at t.requests p ≡ true → (b.story (name_at t.requests p)).overdue ≡ false → IsIn p (queue_ids (link_in t.life).queue ++ kept_ids t.admitted t.waiting) → owed b (name_at t.requests p) ≡ None
+later_unowed b t p h n o in_time i = owed_none_started b t p h o in_time (later_unstarted b t p h i) ∙ ap owed_unstarted (lives (b.link t.link) b.created t.life h.life n)
 
 -- and so to none of the line
-pub line_unowed : (b : Book) (t : Inner) (p : ℕ) → Tied b t → has_ended t.life ≡ false → p < length t.requests → (b.story (name_at t.requests p)).overdue ≡ false → IsIn p (line_of (link_in t.life) t.admitted t.waiting) → owed b (name_at t.requests p) ≡ None
-line_unowed b t p h n l in_time i = elim (in_either p (requests_in (wanted (link_in t.life).row)) (queue_ids (link_in t.life).queue ++ kept_ids t.admitted t.waiting) i) [
-  | inl j ↦ row_unowed b t p h n l in_time (wanted_in p (link_in t.life).row (request_of p (wanted (link_in t.life).row) j))
-  | inr j ↦ later_unowed b t p h n l in_time j
+pub line_unowed : (b : Book) (t : Inner) (p : ℕ) → Tied b t → has_ended t.life ≡ false → is_open_at t.requests p ≡ true → (b.story (name_at t.requests p)).overdue ≡ false → IsIn p (line_of (link_in t.life) t.admitted t.waiting) → owed b (name_at t.requests p) ≡ None
+line_unowed b t p h n o in_time i = elim (in_either p (requests_in (wanted (link_in t.life).row)) (queue_ids (link_in t.life).queue ++ kept_ids t.admitted t.waiting) i) [
+  | inl j ↦ row_unowed b t p h n (open_within t.requests p o) in_time (wanted_in p (link_in t.life).row (request_of p (wanted (link_in t.life).row) j))
+  | inr j ↦ later_unowed b t p h n o in_time j
 ]
 
 -- an open request that is not to be answered is in time
@@ -256,7 +272,7 @@ none_owed b t h none n m o =
     let r = open_request b t m h o in
     let i = open_in_line b.story t.requests (link_in t.life) t.waiting t.admitted t.pending t.started r.number h.lines r.open_at in
     let j = subst (λ ns. IsIn r.number (ns ++ line_of (link_in t.life) t.admitted t.waiting)) none i in
-    ap (owed b) (sym r.named) ∙ line_unowed b t r.number h n (open_within t.requests r.number r.open_at) (in_time b t r.number h r.open_at (λ k. subst (IsIn r.number) none k)) j
+    ap (owed b) (sym r.named) ∙ line_unowed b t r.number h n r.open_at (in_time b t r.number h r.open_at (λ k. subst (IsIn r.number) none k)) j
 
 -- on a link that has ended, where none waits, none is open
 pub none_open : (b : Book) (t : Inner) (e : RedisError) (n : ℕ) → Tied b t → t.pending ≡ [] → t.life ≡ Ended e → kept_ids t.admitted t.waiting ≡ [] → IsOpen b n → ⊥

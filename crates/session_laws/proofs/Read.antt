@@ -219,7 +219,7 @@ read_begins before c started word kind piece link untold h good k is e it r came
       said = record { info_is = said.info_is; sent = said.sent; said = r.well };
       linked = λ n. r.tied;
       lines = read_lines b.story conn.requests conn.hears link piece conn.waiting conn.admitted started lines;
-      told = λ n. subst (λ (x : Life). AreQueued b.story conn.requests (link_in x)) e (h0.told (ap has_ended e));
+      told = λ n. subst (λ (x : Life). AreQueued b.story conn.requests c.single.link (link_in x)) e (h0.told (ap has_ended e));
       waits = queue_waits b.story conn.requests link read conn.fresh conn.moved (λ p i. i) (subst (λ (x : Life). TiedWaits b.story conn.requests x conn.fresh conn.moved) e h0.waits);
       notices = heard_notices l piece it (hearing_in b.config) conn.hears r.heard untold u.up r.notices came_so h0.notices;
     }) in

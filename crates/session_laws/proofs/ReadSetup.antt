@@ -238,7 +238,7 @@ setup_read_as before c started word kind piece link greeting g h good k is e = b
           said = subst (λ (y : Ledger). TiedSetup y info started (SettingUp next now)) (sym same) (record { info_is = h.sound.tied.setup.info_is; sent = h.sound.tied.setup.sent; said = (s.none, said) });
           linked = λ z. subst (λ (y : Ledger). TiedLink (λ p. greeter now) y next) (sym same) tied_next;
           lines = subst (λ (x : Life). TiedLines b.story conn.requests (link_in x) conn.waiting conn.admitted [] started) e h.sound.tied.lines;
-          told = λ z. subst (λ (x : Life). AreQueued b.story conn.requests (link_in x)) e (h.sound.tied.told (ap has_ended e));
+          told = λ z. subst (λ (x : Life). AreQueued b.story conn.requests c.single.link (link_in x)) e (h.sound.tied.told (ap has_ended e));
           waits = setting_waits b.story conn.requests link next greeting now conn.fresh conn.moved (subst (λ (x : Life). TiedWaits b.story conn.requests x conn.fresh conn.moved) e h.sound.tied.waits);
           notices = subst (λ (y : Ledger). PushesOf (hearing_in b.config) conn.hears y) (sym same) (quiet r);
         })

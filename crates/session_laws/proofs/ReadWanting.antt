@@ -122,7 +122,7 @@ wanting_reads before c started word kind piece link h good k is e it =
           said = subst (λ (y : Ledger). TiedSetup y c.single.connection.info started (Wanting read)) (sym same) (record { info_is = h.sound.tied.setup.info_is; sent = h.sound.tied.setup.sent; said = (s.starts, s.none, s.queue, row) });
           linked = λ z. subst (λ (y : Ledger). TiedLink name y read) (sym same) quiet.of.tied;
           lines = subst (λ (x : Life). TiedLines b.story c.single.connection.requests (link_in x) c.single.connection.waiting c.single.connection.admitted [] started) e h.sound.tied.lines;
-          told = λ z. subst (λ (x : Life). AreQueued b.story c.single.connection.requests (link_in x)) e (h.sound.tied.told (ap has_ended e));
+          told = λ z. subst (λ (x : Life). AreQueued b.story c.single.connection.requests c.single.link (link_in x)) e (h.sound.tied.told (ap has_ended e));
           waits = wanting_waits b.story c.single.connection.requests link read c.single.connection.fresh c.single.connection.moved (subst (λ (x : Life). TiedWaits b.story c.single.connection.requests x c.single.connection.fresh c.single.connection.moved) e h.sound.tied.waits);
           notices = subst (λ (y : Ledger). PushesOf (hearing_in b.config) c.single.connection.hears y) (sym same) notices;
         })

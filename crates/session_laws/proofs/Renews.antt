@@ -173,7 +173,7 @@ tries_told l story requests link started s few owned plain h =
         | inl a ↦ h.tried j m inside a ∙ ap (λ y. record { link = link; message = y + j } ∷ []) (sym same)
         | inr a ↦ absurd (let k = a.1 in omega (arith, k, inside, few))
       ];
-      untried = λ m r i out. h.untried m r i (λ j. out (in_left m started (renewal_id ∷ []) j));
+      untried = λ m r i out on. h.untried m r i (λ j. out (in_left m started (renewal_id ∷ []) j)) on;
     }
   where
     past : (j m : ℕ) → slice_get started j ≡ Some m → setup_count l.starts + j ≡ length l.starts → ⊥

@@ -43,13 +43,12 @@ start_may b t link q qs fit seats free h ended renewed =
     let was = on_link t (with_queue link (q ∷ qs)) in
     let is = h.lines.queued.0 in
     let running = running_on t link (q ∷ qs) fit seats in
-    let r = request_story b was q.id h (queue_within b was q.id h (inl refl)) in
     record {
       begun = begun_up b was h running (refl, refl) ended renewed;
       unstarted = queue_unstarted b was q.id h (inl refl);
       starts = queue_step b was q.id h running (inl refl) ∙ ap starts_or_waits free;
       in_order = first_in_queue b was q.id (queue_ids qs) h running refl;
-      on_its_link = sym r.on;
+      on_its_link = sym ((h.told refl).here q.id (inl refl));
       next = (h.link refl).started;
       needs_its_items = ap need_of is.is_of.shape_is;
       long_as_its_bytes = ap length is.is_of.packs;

@@ -225,8 +225,9 @@ refused_tied b c started word what e h tame form few no_fresh =
             (λ p i. at p (in_right p (requests_in started) (queue ++ last) (in_right p queue last (in_left p (waiting_ids conn.admitted) (waiting_ids conn.waiting) i)))) h.lines.packed_in;
         there = h.lines.there;
       };
-      told = λ up. told_longer c.table b.story after conn.requests conn.requests (link_in conn.life) same longer
-          (λ u. not_both (is_told (answered (new_story b what) (outcome.Fault e))) (fault_untold (is_awaited (new_story b what)) e) (ap is_told (sym is) ∙ u.0)) (h.told up);
+      told = λ up. told_longer c.table b.story after conn.requests conn.requests c.single.link (link_in conn.life) h.names same longer
+          (λ u. not_both (is_told (answered (new_story b what) (outcome.Fault e))) (fault_untold (is_awaited (new_story b what)) e) (ap is_told (sym is) ∙ u.0))
+          (λ p i. at p (in_right p (requests_in started) (queue ++ last) (in_left p queue last i))) (h.told up);
       waits = waits_longer c.table b.story after conn.requests conn.requests conn.life conn.fresh conn.fresh conn.moved h.names same longer
           (λ p i. at p (in_right p (requests_in started) (queue ++ last) (in_left p queue last (awaited_in p (link_in conn.life).queue i)))) no_fresh
           next h.waits;

@@ -36,7 +36,7 @@ use Rattle.session_laws.proofs.Tied.{Inner, Tied, has_ended, link_in, owner_of, 
 use Rattle.session_laws.proofs.Said.{ready_shown, sources_asked, readied}
 use Rattle.session_laws.proofs.Names.{length_with, name_with, open_within, with_then}
 use Rattle.session_laws.proofs.InLine.{IsInLine, awaited_in, kept_ids, kept_in, line_of, wanted_in}
-use Rattle.session_laws.proofs.Owes.{lives, open_request, row_link, stands_started, wanted_entry}
+use Rattle.session_laws.proofs.Owes.{lives, open_request, row_link, stands_started, wanted_entry, open_on}
 use Rattle.session_laws.proofs.Ahead.{later_untried}
 use Rattle.session_laws.proofs.Answer.{answer_tied, owed_still, skip_tied}
 use Rattle.session_laws.proofs.Told.{current_is, lined, notice_action, notice_tied, retells}
@@ -121,14 +121,14 @@ none_was b t push h alive within pending m asked before =
         | inl j ↦ let d = pending p j l in not_both (is_full_by (b.link t.link) push.after d.number) d.late (before_full b t p d.number d.of_shape push h l d.stands was)
         | inr j ↦ elim (in_either p (requests_in (wanted (link_in t.life).row)) (awaited_ids (link_in t.life).queue) j) [
           | inl r ↦ in_row p l was (request_of p (wanted (link_in t.life).row) r)
-          | inr w ↦ unstarted p l was (in_left p (queue_ids (link_in t.life).queue) (kept_ids t.admitted t.waiting) (awaited_in p (link_in t.life).queue w))
+          | inr w ↦ unstarted p q.open_at was (in_left p (queue_ids (link_in t.life).queue) (kept_ids t.admitted t.waiting) (awaited_in p (link_in t.life).queue w))
         ]
       ]
-      | inr w ↦ unstarted p l was (in_right p (queue_ids (link_in t.life).queue) (kept_ids t.admitted t.waiting) (kept_in t.requests t.waiting t.admitted p w))
+      | inr w ↦ unstarted p q.open_at was (in_right p (queue_ids (link_in t.life).queue) (kept_ids t.admitted t.waiting) (kept_in t.requests t.waiting t.admitted p w))
     ]
   where
-    unstarted : (p : ℕ) → p < length t.requests → IsBefore b (name_at t.requests p) push → IsIn p (queue_ids (link_in t.life).queue ++ kept_ids t.admitted t.waiting) → ⊥
-    unstarted p l was i = none_started b p push (name_at t.requests p) (later_untried b t p h l i) was
+    unstarted : (p : ℕ) → is_open_at t.requests p ≡ true → IsBefore b (name_at t.requests p) push → IsIn p (queue_ids (link_in t.life).queue ++ kept_ids t.admitted t.waiting) → ⊥
+    unstarted p o was i = none_started b p push (name_at t.requests p) (later_untried b t p h (open_within t.requests p o) (open_on b t p h o) i) was
 
     in_row : (p : ℕ) → p < length t.requests → IsBefore b (name_at t.requests p) push → IsIn p (wanted (link_in t.life).row) → ⊥
     in_row p l was i =

@@ -473,7 +473,7 @@ pub record IsRequest (s : Story) (requests : List Request) (link p : ℕ) : Type
   pub handed_in : s.submission ≡ Some what
   pub in_time : s.late ≡ false
   pub spoken : s.unspoken ≡ false
-  pub on : s.link ≡ link
+  pub on : is_open_at requests p ≡ true → s.link ≡ link
   pub some : bytes_of s ≢ []
   pub open_is : is_open s ≡ is_open_at requests p
   pub permits_is : s.permits ≡ permits_at requests p
@@ -504,7 +504,7 @@ pub record TiedTries (l : Ledger) (story : ℕ → Story) (requests : List Reque
   pub greeted : is_watching l.hearing ≡ true → HasGreetedAlone l.starts started
   pub shapes : (k : ℕ) (p : ℕ) (s : Start) → p < length requests → slice_get started k ≡ Some p → slice_get l.starts (setup_count l.starts + k) ≡ Some s → s.shape ≡ shape (story (name_at requests p))
   pub tried : (k p : ℕ) → p < length requests → slice_get started k ≡ Some p → (story (name_at requests p)).tries ≡ record { link = link; message = setup_count l.starts + k } ∷ []
-  pub untried : (p : ℕ) (r : Request) → slice_get requests p ≡ Some r → (IsIn p started → ⊥) → (story r.name).tries ≡ []
+  pub untried : (p : ℕ) (r : Request) → slice_get requests p ≡ Some r → (IsIn p started → ⊥) → (story r.name).link ≡ link → (story r.name).tries ≡ []
 
 -- these are the bytes and the shape of a submission, and whether its reply is awaited
 pub record IsOf (s : Story) (bytes : List ℕ) (of_shape : Shape) (awaited : Bool) : Type 0 where
@@ -552,9 +552,11 @@ pub record TiedLines (story : ℕ → Story) (requests : List Request) (link : L
   pub packed_in : AllByRecursion (IsPacked story requests) admitted
   pub there : (p : ℕ) → is_open_at requests p ≡ true → IsIn p (pending ++ (requests_in (wanted link.row) ++ awaited_ids link.queue)) ⊎ IsKept requests waiting admitted p
 
--- who was told at its place and has not started is in the queue
-abbrev pub AreQueued : (ℕ → Story) → List Request → LinkState → Type 0
-AreQueued story requests link = (n : ℕ) → is_told (story n) ≡ true → (story n).tries ≡ [] → (p : ℕ) × (p < length requests) × (name_at requests p ≡ n) × IsIn p (queue_ids link.queue)
+-- who was told at its place on the link of this number, and has not started, is in the queue; and what is in the queue goes to that
+-- link
+pub record AreQueued (story : ℕ → Story) (requests : List Request) (number : ℕ) (link : LinkState) : Type 0 where
+  pub told : (n : ℕ) → is_told (story n) ≡ true → (story n).tries ≡ [] → (story n).link ≡ number → (p : ℕ) × (p < length requests) × (name_at requests p ≡ n) × IsIn p (queue_ids link.queue)
+  pub here : (p : ℕ) → IsIn p (queue_ids link.queue) → (story (name_at requests p)).link ≡ number
 
 -- the wait that was shown of a request
 abbrev pub shown_wait : (ℕ → Story) → List Request → ℕ → Option WaitKind
@@ -608,7 +610,7 @@ pub record Tied (b : Book) (t : Inner) : Type 0 where
   pub story : (n : ℕ) → TiedStory (b.story n) t.requests t.link (slice_get t.table n)
   pub tries : TiedTries (b.link t.link) b.story t.requests t.link t.started
   pub lines : TiedLines b.story t.requests (link_in t.life) t.waiting t.admitted t.pending t.started
-  pub told : has_ended t.life ≡ false → AreQueued b.story t.requests (link_in t.life)
+  pub told : has_ended t.life ≡ false → AreQueued b.story t.requests t.link (link_in t.life)
   pub waits : TiedWaits b.story t.requests t.life t.fresh t.moved
   pub permits : TiedPermits b.story b.submissions t.requests t.link t.limit t.free t.letting
   pub late : AreLate b.story t.requests t.pending
