@@ -3,6 +3,7 @@ pub mod Came
 pub mod Ledgers
 pub mod Managers
 pub mod Clocks
+pub mod Endings
 pub mod Books
 pub mod Moves
 pub mod Monitors
