@@ -13,7 +13,7 @@ use Rattle.shared_session.specs.declared.core_state.Core.{Core}
 use Rattle.shared_session.specs.Turn.{actions_of, next_turn, shown, shown_each, timer_of, source_of}
 use Rattle.shared_session.specs.Replay.{connect_asked, opening_actions, opening_core, trace_of, turns_on}
 use Rattle.legal_trace.specs.Ledger.{Ledger, tells, times}
-use Rattle.legal_trace.specs.Book.{Book, current, push_line, is_renewal_of, blank_book, book, entered, entered_each}
+use Rattle.legal_trace.specs.Book.{Book, push_line, is_renewal_of, blank_book, book, entered, entered_each}
 use Rattle.legal_trace.proofs.Books.{entered_append}
 use Rattle.legal_trace.proofs.Ledgers.{mine_keeps}
 use Rattle.driver_model.specs.News.{news_of}
@@ -36,8 +36,8 @@ action_taken b (action.Timer t ms what) n quiet = mine_keeps (λ (g : Ledger). g
 action_taken b (action.Took who l count) n quiet = refl
 action_taken b (action.Push l info) n quiet =
     mine_keeps (λ (g : Ledger). g.taken ≡ (b.link n).taken) (l == n) (b.link n) (push_line info.kind) (λ t. push_noted (λ (g : Ledger). g.taken ≡ (b.link n).taken) (b.link n) info.kind refl refl) refl
-action_taken b (action.Message m) n quiet = mine_keeps (λ (g : Ledger). g.taken ≡ (b.link n).taken) (current b == n) (b.link n) tells (λ t. refl) refl
-action_taken b (action.Monitor v) n quiet = mine_keeps (λ (g : Ledger). g.taken ≡ (b.link n).taken) (current b == n) (b.link n) tells (λ t. refl) refl
+action_taken b (action.Message m) n quiet = mine_keeps (λ (g : Ledger). g.taken ≡ (b.link n).taken) (b.current == n) (b.link n) tells (λ t. refl) refl
+action_taken b (action.Monitor v) n quiet = mine_keeps (λ (g : Ledger). g.taken ≡ (b.link n).taken) (b.current == n) (b.link n) tells (λ t. refl) refl
 action_taken b (action.Close l) n quiet = mine_keeps (λ (g : Ledger). g.taken ≡ (b.link n).taken) (l == n) (b.link n) _ (λ t. refl) refl
 action_taken b (action.Write l bytes) n quiet = mine_keeps (λ (g : Ledger). g.taken ≡ (b.link n).taken) (l == n) (b.link n) _ (λ t. refl) refl
 action_taken b (action.Start l message who count len) n quiet = mine_keeps (λ (g : Ledger). g.taken ≡ (b.link n).taken) (l == n) (b.link n) _ (λ t. refl) refl

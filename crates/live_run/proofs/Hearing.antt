@@ -15,7 +15,7 @@ use Rattle.resp_value.specs.declared.push_kind.PushKind.{PushKind}
 use Rattle.driver_model.specs.Push.{is_disconnection}
 use Rattle.driver_model.specs.News.{News, silence, connected, refused, overdue, took, came, failed, authorized, denied, deserted, renewed, unrenewed, late, unrepeated, dropped, shut, for_link, of_timer, of_source, is_source_of, renews, news_of}
 use Rattle.legal_trace.specs.Ledger.{Ledger, Line, hears, offers, tells, times, parts, noted, is_over, dials, refused_in, bytes_came, awaits_credentials, authorized_by, may_renew, renewed_by, unrenewed_by, is_renewal_open, lost_by}
-use Rattle.legal_trace.specs.Book.{Book, current, push_line, is_renewal_of, entered}
+use Rattle.legal_trace.specs.Book.{Book, push_line, is_renewal_of, entered}
 use Rattle.legal_trace.specs.Legal.{MayStand}
 use Rattle.legal_trace.proofs.Came.{holds_bytes}
 use Rattle.legal_trace.proofs.Ledgers.{mine_keeps}
@@ -147,12 +147,12 @@ action_grows b (action.Push l info) quiet may =
     (λ t. push_noted (Keeps (b.link n)) (b.link n) info.kind (same_keeps (b.link n)) (same_keeps (b.link n))) (same_keeps (b.link n)))
 action_grows b (action.NeedCreds c l) quiet may =
     stays b (entered b (action.NeedCreds c l)) (omega arith) (omega arith) (λ n. mine_keeps (Keeps (b.link n)) (l == n) (b.link n) _ (λ t going. (going, omega arith)) (same_keeps (b.link n)))
-action_grows b (action.Generation g) quiet may = absurd may
+action_grows b (action.Generation g) quiet may = stays b (entered b (action.Generation g)) (omega arith) (omega arith) (λ n. same_keeps (b.link n))
 action_grows b (action.Round who l) quiet may = absurd may
 action_grows b (action.Message m) quiet may =
-    stays b (entered b (action.Message m)) (omega arith) (omega arith) (λ n. mine_keeps (Keeps (b.link n)) (current b == n) (b.link n) tells (λ t going. (going, omega arith)) (same_keeps (b.link n)))
+    stays b (entered b (action.Message m)) (omega arith) (omega arith) (λ n. mine_keeps (Keeps (b.link n)) (b.current == n) (b.link n) tells (λ t going. (going, omega arith)) (same_keeps (b.link n)))
 action_grows b (action.Monitor v) quiet may =
-    stays b (entered b (action.Monitor v)) (omega arith) (omega arith) (λ n. mine_keeps (Keeps (b.link n)) (current b == n) (b.link n) tells (λ t going. (going, omega arith)) (same_keeps (b.link n)))
+    stays b (entered b (action.Monitor v)) (omega arith) (omega arith) (λ n. mine_keeps (Keeps (b.link n)) (b.current == n) (b.link n) tells (λ t going. (going, omega arith)) (same_keeps (b.link n)))
 action_grows b (action.Wait who kind) quiet may = stays b (entered b (action.Wait who kind)) (omega arith) (omega arith) (λ n. same_keeps (b.link n))
 action_grows b (action.Created e) quiet may = stays b (entered b (action.Created e)) (omega arith) (omega arith) (λ n. same_keeps (b.link n))
 action_grows b (action.Outcome n o) quiet may = stays b (entered b (action.Outcome n o)) (omega arith) (omega arith) (λ m. same_keeps (b.link m))

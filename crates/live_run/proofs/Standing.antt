@@ -46,7 +46,8 @@ known_grown {targets} {ups} {pendings} {b} {c} g h = record {
 }
 
 timer_next : (b : Book) (t ms : ℕ) (what : Purpose) → MayTimer b t ms what → t ≡ length b.timers
-timer_next b t ms what (inl opens) = opens.next
+timer_next b t ms what (inl (inl opens)) = opens.next
+timer_next b t ms what (inl (inr rests)) = rests.next
 timer_next b t ms what (inr (inl asks)) = asks.next
 timer_next b t ms what (inr (inr renews)) = renews.next
 
@@ -91,7 +92,7 @@ noted_known a b (action.Push l info) quiet may h = known_grown (action_grows b (
 noted_known a b (action.Message m) quiet may h = known_grown (action_grows b (action.Message m) tt may) h
 noted_known a b (action.Monitor v) quiet may h = known_grown (action_grows b (action.Monitor v) tt may) h
 noted_known a b (action.NeedCreds c l) quiet may h = known_grown (action_grows b (action.NeedCreds c l) tt may) h
-noted_known a b (action.Generation g) quiet may h = absurd may
+noted_known a b (action.Generation g) quiet may h = known_grown (action_grows b (action.Generation g) tt may) h
 noted_known a b (action.Round who l) quiet may h = absurd may
 noted_known a b (action.Start l message who count len) quiet may h = known_grown (action_grows b (action.Start l message who count len) tt may) h
 noted_known a b (action.Wait who kind) quiet may h = known_grown (action_grows b (action.Wait who kind) tt may) h

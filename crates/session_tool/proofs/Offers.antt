@@ -20,7 +20,7 @@ use Rattle.connection_info.specs.declared.address.RedisConnectionInfo.{RedisConn
 use Rattle.legal_trace.specs.Ledger.{Ledger, Sourced, Line, tells, parts, sources, times, noted, noted_each, bytes_came, with_news, awaits_credentials, may_renew, is_renewal_open}
 use Rattle.driver_model.specs.declared.config.Config.{Config}
 use Rattle.driver_model.specs.declared.event.Event.{Event}
-use Rattle.legal_trace.specs.Book.{Book, book, entered, entered_each, current, if_mine, is_renewal_of, push_line}
+use Rattle.legal_trace.specs.Book.{Book, book, entered, entered_each, if_mine, is_renewal_of, push_line}
 use Rattle.legal_trace.proofs.Came.{holds_bytes}
 use Rattle.legal_trace.proofs.Ledgers.{mine_keeps}
 use Rattle.legal_trace.proofs.Books.{book_append}
@@ -117,8 +117,8 @@ sourced_offer o b x c k is h =
     (record { links = h.links; first = line_in o l (k == 0) sources (creds_in o l l.info (record l.creds { asked = true; renews = l.creds.asked }) h.first) h.first })
 
 -- nor does what is told of what was heard
-told_in : (o : Offer) (b : Book) → IsOfferOf o b → IsOfferIn o (noted_each (b.link 0) (if_mine (current b == 0) tells))
-told_in o b h = line_in o (b.link 0) (current b == 0) tells (record { asked = h.first.asked; up = h.first.up; over = h.first.over; count = h.first.count }) h.first
+told_in : (o : Offer) (b : Book) → IsOfferOf o b → IsOfferIn o (noted_each (b.link 0) (if_mine (b.current == 0) tells))
+told_in o b h = line_in o (b.link 0) (b.current == 0) tells (record { asked = h.first.asked; up = h.first.up; over = h.first.over; count = h.first.count }) h.first
 
 pub message_offer : (o : Offer) (b : Book) (x : Action) (m : Msg) → x ≡ action.Message m → IsOfferOf o b → IsOfferOf o (entered b x)
 message_offer o b x m is h = subst (λ (a : Action). IsOfferOf o (entered b a)) (sym is) (record { links = h.links; first = told_in o b h })
