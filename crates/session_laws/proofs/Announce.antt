@@ -365,12 +365,12 @@ pub quiet_still : (b : Book) (c : Core) (started : List ℕ) → Tied b (inner c
 quiet_still b c started h w = let q = h.numbers.quiet w in (q.unwanted, q.unrenewed)
 
 -- the session tied to a book with these ledgers, and with these sources of credentials, where new credentials came to this
-pub heard_tied_as : (b : Book) (c : Core) (started : List ℕ) (word created : ℕ) (failed : Bool) (kind : EventKind) (info : RedisConnectionInfo) (renewal : Renewal) (life : Life) (fresh pending : List ℕ) (untold : List Heard) (links : ℕ → Ledger) (l : Ledger) (asked uses : List SourceUse) → Tied b (inner c started)
+pub heard_tied_as : (b : Book) (c : Core) (started : List ℕ) (word created : ℕ) (halted : Bool) (kind : EventKind) (info : RedisConnectionInfo) (renewal : Renewal) (life : Life) (fresh pending : List ℕ) (untold : List Heard) (links : ℕ → Ledger) (l : Ledger) (asked uses : List SourceUse) → Tied b (inner c started)
     → renewal.within ≡ c.single.connection.renewal.within → StaysQuiet c renewal → info.protocol ≡ c.single.connection.info.protocol
     → AreAside c.single.link c.links links c.single.connection.hears renewal.within created → links c.single.link ≡ l → asked ≡ uses → AreUses uses c.single.link → length uses ≡ sources_asked_in l.creds → ComesAs b c l created info renewal life fresh pending untold started
-    → Tied (record (heard_book b c.turns word kind) { created = created; failed = failed; link = links; sources = asked }) (record (seen (turned c kind) [] (renews_as c info renewal life fresh) pending started) { untold = untold; sources = uses })
-heard_tied_as b c started word created failed kind info renewal life fresh pending untold links l asked uses h within quiet same others is sourced used counted k =
-    let after = record (heard_book b c.turns word kind) { created = created; failed = failed; link = links; sources = asked } in
+    → Tied (record (heard_book b c.turns word kind) { created = created; failed = halted; link = links; sources = asked }) (record (seen (turned c kind) [] (renews_as c info renewal life fresh) pending started) { untold = untold; sources = uses })
+heard_tied_as b c started word created halted kind info renewal life fresh pending untold links l asked uses h within quiet same others is sourced used counted k =
+    let after = record (heard_book b c.turns word kind) { created = created; failed = halted; link = links; sources = asked } in
     let t = record (seen (turned c kind) [] (renews_as c info renewal life fresh) pending started) { untold = untold; sources = uses } in
     tied_by after t l is (record {
       numbers = record {
@@ -415,11 +415,11 @@ heard_tied_as b c started word created failed kind info renewal life fresh pendi
     })
 
 -- where they are as they were
-pub heard_tied_by : (b : Book) (c : Core) (started : List ℕ) (word created : ℕ) (failed : Bool) (kind : EventKind) (info : RedisConnectionInfo) (life : Life) (fresh pending : List ℕ) (untold : List Heard) (links : ℕ → Ledger) (l : Ledger) (asked uses : List SourceUse) → Tied b (inner c started) → info.protocol ≡ c.single.connection.info.protocol
+pub heard_tied_by : (b : Book) (c : Core) (started : List ℕ) (word created : ℕ) (halted : Bool) (kind : EventKind) (info : RedisConnectionInfo) (life : Life) (fresh pending : List ℕ) (untold : List Heard) (links : ℕ → Ledger) (l : Ledger) (asked uses : List SourceUse) → Tied b (inner c started) → info.protocol ≡ c.single.connection.info.protocol
     → AreAside c.single.link c.links links c.single.connection.hears c.single.connection.renewal.within created → links c.single.link ≡ l → asked ≡ uses → AreUses uses c.single.link → length uses ≡ sources_asked_in l.creds → ComesTo b c l created info life fresh pending untold started
-    → Tied (record (heard_book b c.turns word kind) { created = created; failed = failed; link = links; sources = asked }) (record (seen (turned c kind) [] (comes_as c info life fresh) pending started) { untold = untold; sources = uses })
-heard_tied_by b c started word created failed kind info life fresh pending untold links l asked uses h same others is sourced used counted k =
-    heard_tied_as b c started word created failed kind info c.single.connection.renewal life fresh pending untold links l asked uses h refl (quiet_still b c started h) same others is sourced used counted k
+    → Tied (record (heard_book b c.turns word kind) { created = created; failed = halted; link = links; sources = asked }) (record (seen (turned c kind) [] (comes_as c info life fresh) pending started) { untold = untold; sources = uses })
+heard_tied_by b c started word created halted kind info life fresh pending untold links l asked uses h same others is sourced used counted k =
+    heard_tied_as b c started word created halted kind info c.single.connection.renewal life fresh pending untold links l asked uses h refl (quiet_still b c started h) same others is sourced used counted k
 
 -- news ask for no source
 pub sources_hear : (l : Ledger) (turn : ℕ) (n : News) → sources_asked_in (noted l (hears turn n)).creds ≡ sources_asked_in l.creds
@@ -520,20 +520,20 @@ pub counted_on : (sources : List SourceUse) (c : Sourced) → length sources ≡
 counted_on sources c h = ap (λ (ss : List SourceUse). length ss) (append-nil sources) ∙ h
 
 -- by what its link hears, where new credentials came to this
-pub heard_tied_new : (b : Book) (c : Core) (started : List ℕ) (word created : ℕ) (failed : Bool) (kind : EventKind) (info : RedisConnectionInfo) (renewal : Renewal) (life : Life) (fresh pending : List ℕ) (untold : List Heard) (l : Ledger) → Tied b (inner c started) → renewal.within ≡ c.single.connection.renewal.within → StaysQuiet c renewal → is_bad c kind ≡ false → (b.created ≢ 0 → created ≢ 0)
+pub heard_tied_new : (b : Book) (c : Core) (started : List ℕ) (word created : ℕ) (halted : Bool) (kind : EventKind) (info : RedisConnectionInfo) (renewal : Renewal) (life : Life) (fresh pending : List ℕ) (untold : List Heard) (l : Ledger) → Tied b (inner c started) → renewal.within ≡ c.single.connection.renewal.within → StaysQuiet c renewal → is_bad c kind ≡ false → (b.created ≢ 0 → created ≢ 0)
     → noted (b.link c.single.link) (hears c.turns (news_of b.timers b.sources c.single.link kind)) ≡ l → ComesAs b c l created info renewal life fresh pending untold started
-    → Tied (record (heard_book b c.turns word kind) { created = created; failed = failed }) (record (seen (turned c kind) [] (renews_as c info renewal life fresh) pending started) { untold = untold })
-heard_tied_new b c started word created failed kind info renewal life fresh pending untold l h within quiet good shown is k =
-    heard_tied_as b c started word created failed kind info renewal life fresh pending untold (heard_book b c.turns word kind).link l b.sources (c.sources ++ []) h within quiet (protocol_still b c started kind info l h is k.said.info_is)
+    → Tied (record (heard_book b c.turns word kind) { created = created; failed = halted }) (record (seen (turned c kind) [] (renews_as c info renewal life fresh) pending started) { untold = untold })
+heard_tied_new b c started word created halted kind info renewal life fresh pending untold l h within quiet good shown is k =
+    heard_tied_as b c started word created halted kind info renewal life fresh pending untold (heard_book b c.turns word kind).link l b.sources (c.sources ++ []) h within quiet (protocol_still b c started kind info l h is k.said.info_is)
     (subst (λ o. AreAside c.single.link c.links (heard_book b c.turns word kind).link c.single.connection.hears o created) (sym within) (others_heard b c started kind created h good shown)) is
     (h.numbers.sources ∙ sym (append-nil c.sources)) (uses_on c.sources c.single.link h.numbers.uses)
     (counted_on c.sources l.creds (h.count ∙ sym (sources_hear (b.link c.single.link) c.turns (news_of b.timers b.sources c.single.link kind)) ∙ ap (λ (x : Ledger). sources_asked_in x.creds) is)) k
 
 -- where they are as they were
-pub heard_tied : (b : Book) (c : Core) (started : List ℕ) (word created : ℕ) (failed : Bool) (kind : EventKind) (info : RedisConnectionInfo) (life : Life) (fresh pending : List ℕ) (untold : List Heard) (l : Ledger) → Tied b (inner c started) → is_bad c kind ≡ false → (b.created ≢ 0 → created ≢ 0)
+pub heard_tied : (b : Book) (c : Core) (started : List ℕ) (word created : ℕ) (halted : Bool) (kind : EventKind) (info : RedisConnectionInfo) (life : Life) (fresh pending : List ℕ) (untold : List Heard) (l : Ledger) → Tied b (inner c started) → is_bad c kind ≡ false → (b.created ≢ 0 → created ≢ 0)
     → noted (b.link c.single.link) (hears c.turns (news_of b.timers b.sources c.single.link kind)) ≡ l → ComesTo b c l created info life fresh pending untold started
-    → Tied (record (heard_book b c.turns word kind) { created = created; failed = failed }) (record (seen (turned c kind) [] (comes_as c info life fresh) pending started) { untold = untold })
-heard_tied b c started word created failed kind info life fresh pending untold l h good shown is k = heard_tied_new b c started word created failed kind info c.single.connection.renewal life fresh pending untold l h refl (quiet_still b c started h) good shown is k
+    → Tied (record (heard_book b c.turns word kind) { created = created; failed = halted }) (record (seen (turned c kind) [] (comes_as c info life fresh) pending started) { untold = untold })
+heard_tied b c started word created halted kind info life fresh pending untold l h good shown is k = heard_tied_new b c started word created halted kind info c.single.connection.renewal life fresh pending untold l h refl (quiet_still b c started h) good shown is k
 
 -- the trace begins
 --

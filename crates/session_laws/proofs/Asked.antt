@@ -56,7 +56,7 @@ refused_applied before c started word what e h few good why =
     let t = seen (core_refused c what) [] c.single.connection [] started in
     let book_is : book front ≡ now = book_more before (turn_of c word (event.Submit what)) in
     let all : AllStand blank_book front = all_stand-append before (turn_of c word (event.Submit what) ∷ []) h.sound.stands (may_turn before c started word (event.Submit what) h good, tt) in
-    let applied = h.settled.written.moved.begun.applied in
+    let applied = h.settled.written.moved.begun.applied.shown in
     let may : MayAnswer now (length c.table) (outcome.Fault e) = may_refuse b c started word what e h.sound.tied applied.answered applied.ended applied.created.failed why in
     record {
       sound = sound_more front a t all (inl (subst (λ (x : Book). MayAnswer x (length c.table) (outcome.Fault e)) (sym book_is) may))

@@ -3,6 +3,7 @@ use Rattle.std.proofs.lemmas.List.{append-nil}
 use Rattle.std.proofs.Common.{◌≡◌, ◌≢◌, inl, inr, ℕ, suc, ◌+◌, ◌<◌, ◌≤◌, ◌==◌, Bool, true, false, ◌&&◌, ◌||◌, is_some, List, [], ◌∷◌, ◌++◌, length, Option, Some, None, slice_get, if◌then◌else◌, refl, sym, ap, ◌∙◌, subst, arith}
 use Rattle.std.specs.List.{AllByRecursion}
 use Rattle.containers.proofs.Choices.{by_test, both_left, chosen, left_if, taken_if, eq_from, eq_test, ne_from, not_both}
+use Rattle.driver_model.specs.declared.hearing.Hearing.{Hearing}
 use Rattle.driver_model.specs.declared.action.Action.{Action}
 use Rattle.connection_info.specs.declared.address.RedisConnectionInfo.{RedisConnectionInfo}
 use Rattle.driver_model.specs.declared.action.Owner.TheVariants as owner
@@ -150,7 +151,7 @@ without_awaited (x ∷ xs) p q other i =
 -- and what is in it then was
 pub without_in : (queue : List Queued) (p q : ℕ) → IsIn q (queue_ids (without queue p)) → IsIn q (queue_ids queue)
 without_in [] p q i = i
-without_in (x ∷ xs) p q i = chosen (λ (ys : List Queued). IsIn q (queue_ids ys) → IsIn q (queue_ids (x ∷ xs))) (x.id == p) xs (x ∷ without xs p)
+without_in (x ∷ xs) p q i = chosen (λ (ys : List Queued). IsIn q (queue_ids ys) → IsIn q (queue_ids (x ∷ xs))) (x.id == p && x.awaited) xs (x ∷ without xs p)
     (λ t j. inr j)
     (λ f j. elim j [ inl same ↦ inl same | inr k ↦ inr (without_in xs p q k) ]) i
 
@@ -326,7 +327,7 @@ was_setting (Ended y) p x u e = cc
 left_lines_in : (table : List (Option Pending)) (story : ℕ → Story) (requests : List Request) (life : Life) (waiting admitted : List Waiting) (p : ℕ) (started : List ℕ) (closed : ℕ → Story) → TiedNames table requests → p < length requests
     → p ≢ renewal_id → is_open (story (name_at requests p)) ≡ true → ((n : ℕ) → Closes (story n) (closed n))
     → (has_ended life ≡ false → Rising 0 (requests_in (row_ids (link_in life).row) ++ (queue_ids (link_in life).queue ++ kept_ids admitted waiting)) (length requests)) → TiedLines story requests (link_in life) waiting admitted [] started
-    → TiedLines (with_closed story requests p closed) (with_permits requests p progress.Closed 0) number (link_in (cancelled_in life p)) waiting admitted [] started
+    → TiedLines (with_closed story requests p closed) (with_permits requests p progress.Closed 0) (link_in (cancelled_in life p)) waiting admitted [] started
 left_lines_in table story requests life waiting admitted p started closed names l other asked c r h = by_life life r h
   where
     -- a link without messages stays as it is
@@ -336,7 +337,7 @@ left_lines_in table story requests life waiting admitted p started closed names 
         record { line = k.line; queued = k.queued; entries = k.entries; packs = k.packs; packed_in = k.packed_in; there = k.there }
 
     by_life : (x : Life) → (has_ended x ≡ false → Rising 0 (requests_in (row_ids (link_in x).row) ++ (queue_ids (link_in x).queue ++ kept_ids admitted waiting)) (length requests)) → TiedLines story requests (link_in x) waiting admitted [] started
-        → TiedLines (with_closed story requests p closed) (with_permits requests p progress.Closed 0) number (link_in (cancelled_in x p)) waiting admitted [] started
+        → TiedLines (with_closed story requests p closed) (with_permits requests p progress.Closed 0) (link_in (cancelled_in x p)) waiting admitted [] started
     by_life (Ready link) r h = left_lines table story requests link waiting admitted p started closed names l other asked c (r refl) h
     by_life Dialing r h = bare h
     by_life (Wanting link) r h = bare h

@@ -115,12 +115,12 @@ ends_failed : (l : Ledger) (turn created : ℕ) (why : Ending) → l.last ≡ tr
 ends_failed l turn created why last must shown e fails = shown e (sym (ap failure_of (ends_so l why last must)) ∙ fails)
 
 -- the session is tied to the book with the end of the link; the creation may be shown with it
-pub close_tied : (b : Book) (t : Inner) (created : ℕ) (failed : Bool) (why : Ending) (e : RedisError) (parting : Bool) (pending : List ℕ) → pending ≡ requests_in (wanted (link_in t.life).row) ++ awaited_ids (link_in t.life).queue → ending (b.link t.link) ≡ Some why → owed_by why ≡ Some (outcome.Fault e)
+pub close_tied : (b : Book) (t : Inner) (created : ℕ) (halted : Bool) (why : Ending) (e : RedisError) (parting : Bool) (pending : List ℕ) → pending ≡ requests_in (wanted (link_in t.life).row) ++ awaited_ids (link_in t.life).queue → ending (b.link t.link) ≡ Some why → owed_by why ≡ Some (outcome.Fault e)
     → ((f : RedisError) → failure_of why ≡ Some f → created ≢ 0) → (hears_pushes t.hears ≡ true → parting ≡ false → is_fault why ≡ false) → has_ended t.life ≡ false → (b.created ≢ 0 → created ≢ 0) → Tied b (record t { pending = []; untold = []; parting = false })
-    → Tied (record (entered b (action.Close t.link)) { created = created; failed = failed }) (record t { life = Ended e; pending = pending; untold = []; parting = parting })
-close_tied b t created failed why e parting pending ids must is shown mild up on h =
+    → Tied (record (entered b (action.Close t.link)) { created = created; failed = halted }) (record t { life = Ended e; pending = pending; untold = []; parting = parting })
+close_tied b t created halted why e parting pending ids must is shown mild up on h =
     let turn = b.turns - 1 in
-    let after = record (entered b (action.Close t.link)) { created = created; failed = failed } in
+    let after = record (entered b (action.Close t.link)) { created = created; failed = halted } in
     let last = is_last_one (b.link t.link) b.created t.life h.life up in
     tied_by after (record t { life = Ended e; pending = pending; untold = []; parting = parting }) (noted (b.link t.link) (ends turn)) (mine_noted (b.link t.link) t.link (ends turn)) (record {
       numbers = record { turns = h.numbers.turns; links = h.numbers.links; timers = h.numbers.timers; sources = h.numbers.sources; uses = h.numbers.uses; aims = h.numbers.aims; timed = h.numbers.timed; submissions = h.numbers.submissions; timeout = h.numbers.timeout; shut = h.numbers.shut; within = h.numbers.within; few = h.numbers.few; settings = record { size_is = h.numbers.settings.size_is; bound_is = h.numbers.settings.bound_is; limit_is = h.numbers.settings.limit_is; some = h.numbers.settings.some; limited = h.numbers.settings.limited }; kind_is = h.numbers.kind_is; quiet = h.numbers.quiet; plain = h.numbers.plain; eager = h.numbers.eager; current_is = h.numbers.current_is; speaks = h.numbers.speaks; one = h.numbers.one; few_links = h.numbers.few_links };
@@ -467,7 +467,7 @@ faulted_holds before f w row queue fault started h alive must =
     let v = cut_short w in
     let ids = queue_ids (link_in w.conn.life).queue in
     let cut : is_cut ((book (trace_of_acts before f v.acts)).link f.single.link).end ≡ true =
-    ap (λ (x : Book). is_cut (x.link f.single.link).end) (book_of_more before f w.acts act.Close) ∙ ap (λ (x : Ledger). is_cut x.end) (mine_noted l f.single.link (ends (b.turns - 1))) ∙ ap (λ x. is_fault (ending_or_shutdown x)) must.0 in
+    ap (λ (x : Book). is_cut (x.link f.single.link).end) (book_of_more before f w.acts act.Close) ∙ ap (λ (x : Ledger). is_cut x.end) (mine_noted l f.single.link (ends (b.turns - 1))) ∙ ap is_fault (ends_so l (by_fault fault) (is_last_one l b.created w.conn.life h.tied.life alive) must.0) in
     chosen (λ (x : Work). HasEnded before f (all_answered x (row ++ queue)) error.Closed started) (hears_pushes w.conn.hears) (noticed v (notice.Push (record { kind = Disconnection; parts = [] }))) v
     (λ t.
     all_ends before f (noticed v (notice.Push (record { kind = Disconnection; parts = [] }))) ids row queue started

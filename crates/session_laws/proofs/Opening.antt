@@ -263,8 +263,8 @@ opened_shown config word info timers = record {
   answered = λ n o. cc;
   ended = opening_ends config word info timers;
   created = record {
-    shown = each_opened (λ (x : Ledger). is_ready x ≡ true → 0 ≢ 0) config word info timers (λ ready. cc) (λ ready. cc);
-    failed = each_opened (λ (x : Ledger). (e : RedisError) → failure_in x.end ≡ Some e → 0 ≢ 0) config word info timers (λ e fails. cc) (λ e fails. cc);
+    shown = each_opened (λ (x : Ledger). is_ready x ≡ true → ◌≢◌ {A = ℕ} 0 0) config word info timers (λ ready. cc) (λ ready. cc);
+    failed = each_opened (λ (x : Ledger). (e : RedisError) → failure_in x.end ≡ Some e → ◌≢◌ {A = ℕ} 0 0) config word info timers (λ e fails. cc) (λ e fails. cc);
     lazy = λ is. absurd (not_both (is_lazy (Some config)) (never_lazy (Some config)) is);
   };
   pushed = λ l heard. each_opened (λ (x : Ledger). next_notice x ≡ None) config word info timers refl refl l;

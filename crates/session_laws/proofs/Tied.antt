@@ -554,9 +554,13 @@ pub record TiedLines (story : ℕ → Story) (requests : List Request) (link : L
 
 -- who was told at its place on the link of this number, and has not started, is in the queue; and what is in the queue goes to that
 -- link
-pub record AreQueued (story : ℕ → Story) (requests : List Request) (number : ℕ) (link : LinkState) : Type 0 where
-  pub told : (n : ℕ) → is_told (story n) ≡ true → (story n).tries ≡ [] → (story n).link ≡ number → (p : ℕ) × (p < length requests) × (name_at requests p ≡ n) × IsIn p (queue_ids link.queue)
-  pub here : (p : ℕ) → IsIn p (queue_ids link.queue) → (story (name_at requests p)).link ≡ number
+pub record IsQueueOf (story : ℕ → Story) (requests : List Request) (number : ℕ) (ids : List ℕ) : Type 0 where
+  pub told : (n : ℕ) → is_told (story n) ≡ true → (story n).tries ≡ [] → (story n).link ≡ number → (p : ℕ) × (p < length requests) × (name_at requests p ≡ n) × IsIn p ids
+  pub here : (p : ℕ) → IsIn p ids → (story (name_at requests p)).link ≡ number
+
+-- of the queue of a link
+abbrev pub AreQueued : (ℕ → Story) → List Request → ℕ → LinkState → Type 0
+AreQueued story requests number link = IsQueueOf story requests number (queue_ids link.queue)
 
 -- the wait that was shown of a request
 abbrev pub shown_wait : (ℕ → Story) → List Request → ℕ → Option WaitKind
