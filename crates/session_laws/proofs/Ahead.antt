@@ -23,7 +23,7 @@ use Rattle.mux_conn.specs.declared.request.Progress.TheVariants as progress
 use Rattle.mux_conn.specs.declared.request.Request.{Request}
 use Rattle.legal_trace.specs.Book.{Book}
 use Rattle.legal_trace.specs.Ledger.{Ledger, dials, is_over, is_set_up, lacks_credentials}
-use Rattle.legal_trace.specs.Steps.{Step, asks, free_permits, is_held, is_held_back, is_in_line, is_let_in, is_outside, line_before, next_step, nothing, permits_in, queue_size, renewals_in_line, starts_or_waits, step_holding, step_open, step_placed, step_ready, step_taking, step_timed, takes, tells, unready_wait, waits, step_down}
+use Rattle.legal_trace.specs.Steps.{Step, asks, free_permits, is_held, is_held_back, is_in_line, is_let_in, is_outside, line_before, next_step, permits_in, queue_size, renewals_in_line, starts_or_waits, step_holding, step_open, step_placed, step_ready, step_taking, step_timed, takes, tells, unready_wait, waits, step_down}
 use Rattle.legal_trace.specs.Story.{Story, has_place, is_awaited, is_room, is_told, is_unstarted, shape}
 use Rattle.session_laws.proofs.Behind.{nil_told, open_untold}
 use Rattle.session_laws.proofs.Creds.{has_credentials, wanting_lacks}

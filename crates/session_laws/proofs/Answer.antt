@@ -1,7 +1,7 @@
 -- One outcome: where it may stand, and what it leaves.
 use Rattle.std.proofs.Common.{◌≡◌, ◌≢◌, inl, inr, ℕ, ◌<◌, ◌==◌, Bool, true, false, ◌&&◌, not, is_some, List, [], ◌∷◌, ◌++◌, length, Option, Some, None, if◌then◌else◌, refl, sym, ap, ◌∙◌, subst, arith}
 use Rattle.std.specs.List.{AllByRecursion}
-use Rattle.containers.proofs.Choices.{by_test, chosen, if_true, left_if, taken_if, eq_from, eq_test, ne_from, not_both}
+use Rattle.containers.proofs.Choices.{by_test, chosen, if_true, taken_if, eq_from, eq_test, ne_from, not_both}
 use Rattle.driver_model.specs.declared.action.Action.TheVariants as action
 use Rattle.driver_model.specs.declared.outcome.Outcome.{Outcome}
 use Rattle.driver_model.specs.declared.outcome.Outcome.TheVariants as outcome
@@ -18,7 +18,7 @@ use Rattle.mux_conn.specs.declared.request.Progress.TheVariants as progress
 use Rattle.mux_conn.specs.declared.request.Request.{Request}
 use Rattle.mux_conn.specs.declared.request.Waiting.{Waiting}
 use Rattle.mux_conn.specs.Requests.{is_open as is_open_progress, is_placed, is_open_at, name_at, permits_at, with_permits, given_back}
-use Rattle.legal_trace.specs.Ledger.{End, Heard, ending_alive, ending_asked, Ledger, is_over, ending, next_notice, Ending, by_shutdown, by_fault, by_opening, by_attempt}
+use Rattle.legal_trace.specs.Ledger.{End, Heard, Ledger, is_over, ending, next_notice, Ending, by_shutdown, by_fault, by_opening, by_attempt}
 use Rattle.legal_trace.specs.Story.{Story, Try, last_of, is_no_error, is_open, packed_in, shape_in, bytes_of, answered}
 use Rattle.legal_trace.specs.Book.{Book, entered}
 use Rattle.legal_trace.specs.Owed.{owed, owed_by, owed_to_try, owed_to_message, owed_unstarted, owed_waiting}

@@ -1,11 +1,11 @@
 -- Links other than the connection's: they have ended, or were never asked for.
-use Rattle.std.proofs.Common.{◌≡◌, ◌≢◌, ℕ, ◌<◌, ◌≤◌, Bool, true, false, ◌&&◌, not, nat_lt, None, Option, Some, refl, sym, ap, subst, ◌∙◌, if◌then◌else◌}
+use Rattle.std.proofs.Common.{◌≡◌, ◌≢◌, ℕ, ◌≤◌, Bool, true, false, ◌&&◌, not, nat_lt, None, Option, Some, refl, sym, ap, subst, ◌∙◌}
 use Rattle.containers.proofs.Choices.{by_test, left_if, lt_from, not_lt_from, taken_if}
 use Rattle.redis_error.specs.declared.redis_error.RedisError.{RedisError}
 use Rattle.redis_error.specs.declared.redis_error.RedisError.TheVariants as error
 use Rattle.driver_model.specs.News.{News, silence, connected, refused, overdue, took, came, failed, authorized, denied, deserted, shut, renewed, unrenewed, late, unrepeated, dropped}
 use Rattle.driver_model.specs.declared.hearing.Hearing.{Hearing}
-use Rattle.legal_trace.specs.Ledger.{Ledger, authorized_by, awaits_credentials, blank_ledger, bytes_came, dials, ending, ending_alive, ending_asked, failure_in, hears, is_over, is_renewal_open, lost_by, may_renew, noted, refused_in, renewed_by, unrenewed_by, with_news}
+use Rattle.legal_trace.specs.Ledger.{Ledger, authorized_by, awaits_credentials, bytes_came, dials, ending, ending_alive, ending_asked, failure_in, hears, is_over, is_renewal_open, lost_by, may_renew, noted, refused_in, renewed_by, unrenewed_by, with_news}
 use Rattle.session_laws.proofs.Creds.{down_may_renew, down_unawaited}
 use Rattle.session_laws.proofs.Tied.{AreAside, IsAside}
 

@@ -284,8 +284,7 @@ timer_stands : (config : Config) (word : ℕ) (info : ConnectionInfo) (timeout :
 timer_stands config word info None is = tt
 timer_stands config word info (Some ms) is =
     let b = opened config word info [] in
-    let plain : has_generations b ≡ false = ap is_some (no_settings (Some config)) in
-    (
+    let plain : has_generations b ≡ false = ap is_some (no_settings (Some config)) in (
       inl (inl (record {
         shown = opened_shown config word info [];
         rested = plain_rested b plain;
@@ -305,8 +304,7 @@ timer_stands config word info (Some ms) is =
 opening_stands : (config : Config) (word : ℕ) (info : ConnectionInfo) (timeout : Option ℕ) → IsSound config → address config ≡ Some info → connect_timeout config ≡ timeout → AllStand blank_book (opened_actions config word info timeout)
 opening_stands config word info timeout sound at is =
     let b = entered blank_book (action.Turn 0 (cause.Opening config word)) in
-    let plain : has_generations b ≡ false = ap is_some (no_settings (Some config)) in
-    (
+    let plain : has_generations b ≡ false = ap is_some (no_settings (Some config)) in (
       record { next = refl; is_for = refl },
       (
         record {

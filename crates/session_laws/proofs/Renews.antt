@@ -35,8 +35,7 @@ use Rattle.legal_trace.specs.Legal.{MayRenew, MayTimeRenewal, NoneEnds}
 use Rattle.legal_trace.specs.Story.{Story}
 use Rattle.legal_trace.proofs.Setups.{count_more}
 use Rattle.session_laws.proofs.Ahead.{held_by}
-use Rattle.session_laws.proofs.Behind.{some_more}
-use Rattle.session_laws.proofs.Going.{HasRenewed, applied_up, none_ends_kept, none_ends_mine, renewals_timed, setups_started, undue_asked, monitors_started}
+use Rattle.session_laws.proofs.Going.{HasRenewed, applied_up, none_ends_kept, none_ends_mine, renewals_timed, setups_started, monitors_started}
 use Rattle.session_laws.proofs.InLine.{kept_ids}
 use Rattle.session_laws.proofs.Kept.{mine_noted, others_kept, tied_by}
 use Rattle.session_laws.proofs.Names.{get_more}

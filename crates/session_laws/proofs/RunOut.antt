@@ -22,7 +22,7 @@ use Rattle.session_laws.proofs.Tied.{Inner, Tied, TiedLife, carried, has_ended, 
 use Rattle.driver_model.specs.declared.action.Action.{Action}
 use Rattle.session_laws.proofs.Grown.{HasGrown, turn_grown}
 use Rattle.session_laws.proofs.Renewals.{due_is, down_renewed_due, none_renewed_due}
-use Rattle.legal_trace.specs.Ledger.{Ledger, Start, renewal_count, renewal_due, renewals_asked}
+use Rattle.legal_trace.specs.Ledger.{Ledger, renewal_count, renewal_due, renewals_asked}
 use Rattle.credentials.specs.Credentials.{Credentials}
 use Rattle.mux_conn.specs.declared.connection.MultiplexedConnection.{MultiplexedConnection}
 use Rattle.mux_conn.specs.declared.renewal.Renewal.{Renewal}

@@ -12,7 +12,7 @@ use Rattle.link_laws.proofs.Started.{row_open}
 use Rattle.link_laws.specs.Settles.{StandsAs, awaited_ids, wanted}
 use Rattle.mux_conn.specs.Connection.{Work, first_queued, is_ready, in_front}
 use Rattle.mux_conn.specs.Passes.{passed}
-use Rattle.mux_conn.specs.Requests.{is_admitted_at, is_open_at, is_placed_at, is_waiting, is_waiting_at, name_at}
+use Rattle.mux_conn.specs.Requests.{is_admitted_at, is_open_at, is_placed_at, is_waiting_at, name_at}
 use Rattle.mux_conn.specs.Turn.{early_wait, flushed, fresh_each_shown, fresh_wait, is_from, moved_each_shown, moved_wait, wait_shown, waits_shown}
 use Rattle.mux_conn.specs.declared.act.LinkAct.TheVariants as act
 use Rattle.mux_conn.specs.declared.connection.MultiplexedConnection.{MultiplexedConnection}
@@ -29,7 +29,7 @@ use Rattle.session_laws.proofs.Ahead.{dialing_step, placed_open, setup_step, wai
 use Rattle.session_laws.proofs.Going.{is_moved}
 use Rattle.session_laws.proofs.InLine.{awaited_in, first_is_least, kept_ids, wanted_in}
 use Rattle.session_laws.proofs.Moved.{IsReady, passed_moved}
-use Rattle.session_laws.proofs.Names.{open_within, there_within}
+use Rattle.session_laws.proofs.Names.{open_within}
 use Rattle.session_laws.proofs.Numbers.{IsIn, Rising, in_left, in_right, rising_in, rising_left, rising_right, requests_in}
 use Rattle.session_laws.proofs.Owes.{IsOpenRequest, lives, none_open, open_request, request_story, row_link, stands_started, wanted_entry, open_on}
 use Rattle.session_laws.proofs.Settle.{book_of_more, seen, sound_act, trace_of_acts}

@@ -22,10 +22,9 @@ use Rattle.legal_trace.specs.Book.{Book, book, message_of}
 use Rattle.legal_trace.specs.Ledger.{Ledger, Start, begins, ending, is_of_setup, noted}
 use Rattle.legal_trace.specs.Legal.{MayStart, NoneEnds}
 use Rattle.legal_trace.specs.Steps.{starts_or_waits}
-use Rattle.session_laws.proofs.Ahead.{HasSeats, IsRunning, queue_step, queue_unstarted, queue_within}
+use Rattle.session_laws.proofs.Ahead.{HasSeats, IsRunning, queue_step, queue_unstarted}
 use Rattle.session_laws.proofs.Entered.{shown_more, sources_of-append, timers_of-append}
 use Rattle.session_laws.proofs.Going.{HasRenewed, IsGoing, begun_up, first_in_queue, going_more, none_ends_mine}
-use Rattle.session_laws.proofs.Owes.{request_story}
 use Rattle.legal_trace.proofs.Setups.{ends_where_set}
 use Rattle.session_laws.proofs.SetUp.{ending_up_same, set_up_begins}
 use Rattle.session_laws.proofs.Start.{after_start, on_link, start_action, start_tied, with_queue}

@@ -1,5 +1,5 @@
 -- One notice is told of a link, or its end is: what this leaves as it is.
-use Rattle.std.proofs.Common.{◌≡◌, ℕ, Bool, List, [], ◌∷◌, refl, ap, ◌∙◌, subst, arith, sym, ◌==◌, ◌+◌}
+use Rattle.std.proofs.Common.{◌≡◌, ℕ, Bool, List, [], ◌∷◌, refl, ap, ◌∙◌, subst, sym, ◌==◌, ◌+◌}
 use Rattle.std.specs.List.{AllByRecursion}
 use Rattle.driver_model.specs.declared.action.Action.TheVariants as action
 use Rattle.driver_model.specs.declared.action.Owner.{Owner}
