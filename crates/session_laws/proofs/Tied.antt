@@ -194,10 +194,10 @@ pub record IsBare (table : List (Option Pending)) (r : Renewal) : Type 0 where
   pub unwanted : r.wanted ≡ false
   pub unrenewed : r.waiting ≡ []
 
--- the numbers that the session gives are those of the book, and so is what it is, which has no generations, and what its servers are told; its connection's link is the one that
--- submissions go to; all timers are for it or
--- for a submission, all sources of credentials are for it, and the opening has asked for its timer; what is told to its server is
--- to be answered within the configured time; and no more numbers were given to submissions than there are
+-- the numbers that the session gives are those of the book, and so is what it is, which has no generations, and what its servers are
+-- told; its connection's link is the one that submissions go to, and the last that was asked for; all timers are for it, for one
+-- before it, or for a submission, all sources of credentials are for it, and a timer was asked for each bounded connect; what is told
+-- to its server is to be answered within the configured time; and no more numbers were given to submissions than there are
 pub record TiedNumbers (b : Book) (t : Inner) : Type 0 where
   pub turns : b.turns ≡ t.turns
   pub links : b.links ≡ t.links
@@ -463,7 +463,7 @@ pub record IsRefused (s : Story) : Type 0 where
   pub error : RedisError
   pub answered : s.outcomes ≡ outcome.Fault error ∷ []
 
--- a submission that is a request of the connection of that link
+-- a submission that is a request of the connection, and goes to that link while it is open
 pub record IsRequest (s : Story) (requests : List Request) (link p : ℕ) : Type 0 where
   pub what : Submission
   pub handed_in : s.submission ≡ Some what
@@ -494,7 +494,7 @@ pub record HasGreetedAlone (starts : List Start) (started : List ℕ) : Type 0 w
   pub greets : (k : ℕ) (s : Start) → slice_get starts k ≡ Some s → is_of_greeting s.owner ≡ true
 
 -- the messages that started, by the tries of their submissions, behind those of the setup, where the server isn't put into monitor
--- mode; each request's has its submission's shape
+-- mode; each request's has its submission's shape; and a request that goes to the link, and whose message has not started, has none
 pub record TiedTries (l : Ledger) (story : ℕ → Story) (requests : List Request) (link : ℕ) (started : List ℕ) : Type 0 where
   pub owners : is_watching l.hearing ≡ false → owners_of l.starts ≡ setup_owners (setup_count l.starts) (owners_each requests started)
   pub greeted : is_watching l.hearing ≡ true → HasGreetedAlone l.starts started
