@@ -155,6 +155,7 @@ noted_keeps m draw (link_act.Took p count) = generations_keep m _
 noted_keeps m draw (link_act.Timer p ms) = generations_keep m _
 noted_keeps m draw (link_act.RenewalTimer k ms) = generations_keep m _
 noted_keeps m draw link_act.NeedCreds = generations_keep m _
+noted_keeps m draw link_act.NeedRenewals = generations_keep m _
 noted_keeps m draw (link_act.Push info) = generations_keep m _
 noted_keeps m draw (link_act.Message msg) = itself m
 noted_keeps m draw (link_act.Monitor v) = itself m

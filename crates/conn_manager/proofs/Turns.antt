@@ -133,6 +133,7 @@ notes m draw (link_act.Took p count) = says m _
 notes m draw (link_act.Timer p ms) = says m _
 notes m draw (link_act.RenewalTimer k ms) = says m _
 notes m draw link_act.NeedCreds = says m _
+notes m draw link_act.NeedRenewals = says m _
 notes m draw (link_act.Push info) = says m _
 notes m draw (link_act.Message msg) = itself m
 notes m draw (link_act.Monitor v) = itself m

@@ -66,6 +66,7 @@ noted m draw (link_act.Took p count) = said m (act.Took (pending p) count)
 noted m draw (link_act.Timer p ms) = said m (act.Timer (timer.Response (pending p)) ms)
 noted m draw (link_act.RenewalTimer k ms) = said m (act.Timer (timer.Renewal (link_of m.generations) k) ms)
 noted m draw link_act.NeedCreds = said m (act.NeedCreds (link_of m.generations))
+noted m draw link_act.NeedRenewals = said m (act.NeedCreds (link_of m.generations))
 noted m draw (link_act.Push info) = said m (act.Push (link_of m.generations) info)
 noted m draw (link_act.Message msg) = m
 noted m draw (link_act.Monitor v) = m

@@ -153,6 +153,7 @@ impl ConnectionManager {
                 ms,
             }),
             LinkAct::NeedCreds => self.say(ManagerAct::NeedCreds { link }),
+            LinkAct::NeedRenewals => self.say(ManagerAct::NeedCreds { link }),
             LinkAct::Push { info } => self.say(ManagerAct::Push { link, info }),
             LinkAct::Message { msg } => {
                 drop(msg);

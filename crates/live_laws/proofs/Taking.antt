@@ -52,7 +52,7 @@ acts_taken : (l t c : ℕ) (acts : List LinkAct) (b : Book) (n : ℕ) → taken_
 acts_taken l t c [] b n = refl
 acts_taken l t c (x ∷ acts) b n =
     let y = shown l t c x in
-    acts_taken l (t + length (timer_of l x)) (c + length (source_of l c x)) acts (entered b y) n ∙ action_taken b y n (no_turn l t c x)
+    acts_taken l (t + length (timer_of l x)) (c + length (source_of l x)) acts (entered b y) n ∙ action_taken b y n (no_turn l t c x)
 
 -- a turn of another event
 pub turn_taken : (c : Core) (e : Event) (b : Book) (n : ℕ) → IsNoWrote e.kind → taken_of (entered_each b (actions_of c e)) n ≡ taken_of b n

@@ -89,7 +89,7 @@ acts_took l t c [] b a n bytes stand h = h
 acts_took l t c (x ∷ acts) b a n bytes stand h =
     let y = shown l t c x in
     let quiet = no_turn l t c x in
-    acts_took l (t + length (timer_of l x)) (c + length (source_of l c x)) acts (entered b y) (noted a y) n bytes stand.1
+    acts_took l (t + length (timer_of l x)) (c + length (source_of l x)) acts (entered b y) (noted a y) n bytes stand.1
     (record { early = early_noted a y ∙ h.early; ties = noted_ties a b y quiet stand.0 h.ties; took = action_taken b y n quiet ∙ h.took })
 
 -- once the turn of an answer began, if it has one

@@ -42,6 +42,7 @@ no_turn l t c act.Close = tt
 no_turn l t c (act.Write bytes) = tt
 no_turn l t c (act.Wait n kind) = tt
 no_turn l t c act.NeedCreds = tt
+no_turn l t c act.NeedRenewals = tt
 no_turn l t c (act.Start message n need len) = tt
 no_turn l t c (act.Outcome n o) = tt
 
@@ -49,7 +50,7 @@ acts_known : (l t c : ℕ) (acts : List LinkAct) (b : Book) (a : Agenda) → All
 acts_known l t c [] b a stand h = h
 acts_known l t c (x ∷ acts) b a stand h =
     let y = shown l t c x in
-    acts_known l (t + length (timer_of l x)) (c + length (source_of l c x)) acts (entered b y) (noted a y) stand.1 (noted_known a b y (no_turn l t c x) stand.0 h)
+    acts_known l (t + length (timer_of l x)) (c + length (source_of l x)) acts (entered b y) (noted a y) stand.1 (noted_known a b y (no_turn l t c x) stand.0 h)
 
 -- what is known once the turn of an answer began, if it has one
 abbrev Hears : Book → Agenda → ℕ → ℕ → List EventKind → Type 0

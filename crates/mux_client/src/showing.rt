@@ -51,6 +51,7 @@ fn show(act: LinkAct, outcomes: &mut Seq<Option<Outcome>>) -> ConnectionAct
             ms,
         },
         LinkAct::NeedCreds => ConnectionAct::NeedCreds,
+        LinkAct::NeedRenewals => ConnectionAct::NeedCreds,
         LinkAct::Push { info } => ConnectionAct::Push { info },
         LinkAct::Message { msg } => ConnectionAct::Message { msg },
         LinkAct::Monitor { value } => ConnectionAct::Monitor { value },

@@ -29,7 +29,7 @@ renewing w r = record w { conn = with_renewal w.conn r }
 
 -- a source is asked for, where credentials come of sources
 abbrev pub source_asked : Work → Work
-source_asked w = if w.conn.renewal.wanted then acted w act.NeedCreds else w
+source_asked w = if w.conn.renewal.wanted then acted w act.NeedRenewals else w
 
 -- more of them may come
 abbrev pub takes_more : Renewal → Bool

@@ -20,8 +20,10 @@ pub enum LinkAct {
         request: u32,
         ms: u64,
     },
-    /// A source of credentials is wanted: the first for the setup, and another for the renewals, once the link is set up.
+    /// A source of credentials is wanted for the setup.
     NeedCreds,
+    /// A source of new credentials is wanted, once the link is set up.
+    NeedRenewals,
     /// A timer is to fire after so many milliseconds: by then new credentials are to be answered, the first of which have the
     /// number 0.
     RenewalTimer {

@@ -103,7 +103,7 @@ impl MultiplexedConnection {
             ) }
     {
         if self.renewal.wanted {
-            out.push(LinkAct::NeedCreds)?;
+            out.push(LinkAct::NeedRenewals)?;
         }
         Ok(())
     }

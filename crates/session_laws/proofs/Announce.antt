@@ -1,7 +1,7 @@
 -- A turn of an event: where it may stand, and what its link and the others hear.
 use Rattle.std.proofs.Common.{◌≡◌, ◌≢◌, inl, inr, ℕ, zero, suc, ◌+◌, ◌<◌, ◌≤◌, ◌==◌, nat_lt, nat_le, false, ◌&&◌, ◌||◌, not, is_some, List, [], ◌∷◌, ◌++◌, length, slice_get, Some, refl, sym, ap, ◌∙◌, subst, arith, length-take, None, Option, if◌then◌else◌, true, Bool}
 use Rattle.std.proofs.lemmas.List.{append-nil}
-use Rattle.containers.proofs.Choices.{by_test, chosen, left_if, eq_from, eq_test, ne_from, ne_test, not_le_from}
+use Rattle.containers.proofs.Choices.{by_test, chosen, left_if, eq_from, eq_test, ne_from, ne_test, not_le_from, not_both}
 use Rattle.redis_error.specs.declared.redis_error.RedisError.TheVariants as error
 use Rattle.driver_model.specs.declared.action.Action.{Action}
 use Rattle.driver_model.specs.declared.action.Owner.{Owner}
@@ -9,6 +9,7 @@ use Rattle.driver_model.specs.declared.action.Owner.TheVariants as owner
 use Rattle.driver_model.specs.declared.action.Purpose.{Purpose}
 use Rattle.driver_model.specs.declared.action.Purpose.TheVariants as purpose
 use Rattle.driver_model.specs.declared.action.SourceUse.{SourceUse}
+use Rattle.driver_model.specs.declared.action.SourceUse.TheVariants as source
 use Rattle.connection_info.specs.declared.address.RedisConnectionInfo.{RedisConnectionInfo}
 use Rattle.driver_model.specs.declared.action.Action.TheVariants as action
 use Rattle.driver_model.specs.declared.action.Cause.TheVariants as cause
@@ -24,13 +25,13 @@ use Rattle.mux_conn.specs.declared.life.Life.{Life}
 use Rattle.mux_conn.specs.declared.life.Life.TheVariants.{Dialing, Wanting, SettingUp, Ready, Ended}
 use Rattle.mux_conn.specs.declared.request.Request.{Request}
 use Rattle.shared_session.specs.declared.core_state.Core.{Core}
-use Rattle.shared_session.specs.Turn.{is_shutdown, shut_by, exceeds_offer, is_bad, use_after}
+use Rattle.shared_session.specs.Turn.{is_shutdown, shut_by, exceeds_offer, is_bad}
 use Rattle.legal_trace.specs.Ledger.{Ledger, Start, setup_count, authorized_by, with_news, awaits_credentials, hears, noted, is_over, bytes_came, dials, refused_in, Heard, is_renewal_open, lost_by, may_renew, renewed_by, unrenewed_by, Sourced}
 use Rattle.legal_trace.specs.Story.{Story, fires}
 use Rattle.legal_trace.specs.Book.{Book, book, entered, is_clock_of, hearing_in, rest_after, timeout_after, kind_in}
 use Rattle.legal_trace.specs.Events.{is_bad_event}
 use Rattle.legal_trace.specs.Legal.{MayTurn}
-use Rattle.session_laws.proofs.Tied.{AreAimed, AreUses, IsAim, owners_of, owners_each, setup_owners, Inner, inner, link_in, carried, whole_link, AreAside, TiedCreds, TiedLife, TiedSetup, TiedTries, TiedLines, AreQueued, TiedWaits, Tied, Sound, has_ended, TiedNotices, TiedRenewal, sources_asked_in, HasGreetedAlone, is_reading}
+use Rattle.session_laws.proofs.Tied.{AreAimed, AreUses, IsAim, owners_of, owners_each, setup_owners, Inner, inner, link_in, carried, whole_link, AreAside, TiedCreds, TiedLife, TiedSetup, TiedTries, TiedLines, AreQueued, TiedWaits, Tied, Sound, has_ended, TiedNotices, TiedRenewal, HasGreetedAlone, is_reading, IsUse}
 use Rattle.session_laws.proofs.States.{Between}
 use Rattle.session_laws.proofs.Entered.{book_more, sound_more}
 use Rattle.session_laws.proofs.Answer.{some_end}
@@ -153,17 +154,6 @@ pub others_heard : (b : Book) (c : Core) (started : List ℕ) (kind : EventKind)
 others_heard b c started kind next h good shown m other =
     let same : news_of b.timers b.sources m kind ≡ news_of c.timers c.sources m kind = λ i. news_of (h.numbers.timers i) (h.numbers.sources i) m kind in
     aside_heard (b.link m) c.turns next (news_of b.timers b.sources m kind) (λ past e. far_news c m kind good past (sym same ∙ e)) shown (h.others m other)
-
--- the first source that was asked for is one for its setup, and any other for its renewals
-pub own_source : (c : Core) (n : ℕ) (what : SourceUse) (first later : News) → AreUses c.sources c.single.link → slice_get c.sources n ≡ Some what → of_source c.single.link (slice_get c.sources n) first later ≡ (if n == 0 then first else later)
-own_source c n what first later uses is = ap (λ (x : Option SourceUse). of_source c.single.link x first later) (is ∙ ap Some (uses n what is)) ∙ by_use n
-  where
-    mine : (c.single.link == c.single.link) ≡ true
-    mine = eq_test c.single.link c.single.link refl
-
-    by_use : (k : ℕ) → of_source c.single.link (Some (use_after c.single.link k)) first later ≡ (if k == 0 then first else later)
-    by_use zero = ap (λ b. if b then first else silence) mine
-    by_use (suc k) = ap (λ b. if b then later else silence) mine ∙ sym (left_if (suc k == 0) first later (ne_test (suc k) 0 (λ e. cc e)))
 
 -- news start nothing
 pub heard_starts : (l : Ledger) (turn : ℕ) (n : News) → (noted l (hears turn n)).starts ≡ l.starts
@@ -305,15 +295,23 @@ pub aims_on : (timers : List Purpose) (link count : ℕ) → AreAimed timers lin
 aims_on timers link count h = subst (λ (ts : List Purpose). AreAimed ts link count) (sym (append-nil timers)) h
 
 -- what sources are for, with none more
-pub uses_on : (sources : List SourceUse) (link : ℕ) → AreUses sources link → AreUses (sources ++ []) link
-uses_on sources link h = subst (λ (ss : List SourceUse). AreUses ss link) (sym (append-nil sources)) h
+pub uses_on : {asked renews : Bool} (sources : List SourceUse) (link : ℕ) → AreUses sources link asked renews → AreUses (sources ++ []) link asked renews
+uses_on {asked = asked} {renews = renews} sources link h = subst (λ (ss : List SourceUse). AreUses ss link asked renews) (sym (append-nil sources)) h
 
 -- with one more
-pub uses_more : (sources : List SourceUse) (link : ℕ) → AreUses sources link → AreUses (sources ++ use_after link (length sources) ∷ []) link
-uses_more sources link h k what e = elim (get_more sources (use_after link (length sources)) k what e) [
+pub uses_more : (sources : List SourceUse) (link : ℕ) (asked renews : Bool) (next : SourceUse) → IsUse next link asked renews → AreUses sources link asked renews → AreUses (sources ++ next ∷ []) link asked renews
+uses_more sources link asked renews next new h k what e = elim (get_more sources next k what e) [
   | inl old ↦ h k what old
-  | inr new ↦ sym new.1 ∙ ap (use_after link) (sym new.0)
+  | inr last ↦ subst (λ w. IsUse w link asked renews) last.1 new
 ]
+
+-- where the link has no second one, and now has its first
+pub uses_asked : (sources : List SourceUse) (link : ℕ) (asked renews next : Bool) → renews ≡ false → AreUses sources link asked renews → AreUses sources link true next
+uses_asked sources link asked renews next once h k what e = by_use what (h k what e)
+  where
+    by_use : (x : SourceUse) → IsUse x link asked renews → IsUse x link true next
+    by_use (source.Setup l) u = (u.0, λ same. refl)
+    by_use (source.Renewal l) u = (u.0, λ same. absurd (not_both renews once (u.1 same)))
 
 -- with more submissions
 pub aims_longer : (timers : List Purpose) (link count more : ℕ) → count ≤ more → AreAimed timers link count → AreAimed timers link more
@@ -367,9 +365,9 @@ quiet_still b c started h w = let q = h.numbers.quiet w in (q.unwanted, q.unrene
 -- the session tied to a book with these ledgers, and with these sources of credentials, where new credentials came to this
 pub heard_tied_as : (b : Book) (c : Core) (started : List ℕ) (word created : ℕ) (halted : Bool) (kind : EventKind) (info : RedisConnectionInfo) (renewal : Renewal) (life : Life) (fresh pending : List ℕ) (untold : List Heard) (links : ℕ → Ledger) (l : Ledger) (asked uses : List SourceUse) → Tied b (inner c started)
     → renewal.within ≡ c.single.connection.renewal.within → StaysQuiet c renewal → info.protocol ≡ c.single.connection.info.protocol
-    → AreAside c.single.link c.links links c.single.connection.hears renewal.within created → links c.single.link ≡ l → asked ≡ uses → AreUses uses c.single.link → length uses ≡ sources_asked_in l.creds → ComesAs b c l created info renewal life fresh pending untold started
+    → AreAside c.single.link c.links links c.single.connection.hears renewal.within created → links c.single.link ≡ l → asked ≡ uses → AreUses uses c.single.link l.creds.asked l.creds.renews → ComesAs b c l created info renewal life fresh pending untold started
     → Tied (record (heard_book b c.turns word kind) { created = created; failed = halted; link = links; sources = asked }) (record (seen (turned c kind) [] (renews_as c info renewal life fresh) pending started) { untold = untold; sources = uses })
-heard_tied_as b c started word created halted kind info renewal life fresh pending untold links l asked uses h within quiet same others is sourced used counted k =
+heard_tied_as b c started word created halted kind info renewal life fresh pending untold links l asked uses h within quiet same others is sourced used k =
     let after = record (heard_book b c.turns word kind) { created = created; failed = halted; link = links; sources = asked } in
     let t = record (seen (turned c kind) [] (renews_as c info renewal life fresh) pending started) { untold = untold; sources = uses } in
     tied_by after t l is (record {
@@ -378,7 +376,6 @@ heard_tied_as b c started word created halted kind info renewal life fresh pendi
         links = h.numbers.links;
         timers = h.numbers.timers ∙ sym (append-nil c.timers);
         sources = sourced;
-        uses = used;
         aims = aims_on c.timers c.single.link (length c.table) h.numbers.aims;
         timed = h.numbers.timed;
         submissions = h.numbers.submissions;
@@ -400,7 +397,7 @@ heard_tied_as b c started word created halted kind info renewal life fresh pendi
       notices = k.notices;
       life = k.lived;
       creds = k.creds;
-      count = counted;
+      uses = used;
       renewal = k.renewal_is;
       setup = k.said;
       link = k.linked;
@@ -416,26 +413,26 @@ heard_tied_as b c started word created halted kind info renewal life fresh pendi
 
 -- where they are as they were
 pub heard_tied_by : (b : Book) (c : Core) (started : List ℕ) (word created : ℕ) (halted : Bool) (kind : EventKind) (info : RedisConnectionInfo) (life : Life) (fresh pending : List ℕ) (untold : List Heard) (links : ℕ → Ledger) (l : Ledger) (asked uses : List SourceUse) → Tied b (inner c started) → info.protocol ≡ c.single.connection.info.protocol
-    → AreAside c.single.link c.links links c.single.connection.hears c.single.connection.renewal.within created → links c.single.link ≡ l → asked ≡ uses → AreUses uses c.single.link → length uses ≡ sources_asked_in l.creds → ComesTo b c l created info life fresh pending untold started
+    → AreAside c.single.link c.links links c.single.connection.hears c.single.connection.renewal.within created → links c.single.link ≡ l → asked ≡ uses → AreUses uses c.single.link l.creds.asked l.creds.renews → ComesTo b c l created info life fresh pending untold started
     → Tied (record (heard_book b c.turns word kind) { created = created; failed = halted; link = links; sources = asked }) (record (seen (turned c kind) [] (comes_as c info life fresh) pending started) { untold = untold; sources = uses })
-heard_tied_by b c started word created halted kind info life fresh pending untold links l asked uses h same others is sourced used counted k =
-    heard_tied_as b c started word created halted kind info c.single.connection.renewal life fresh pending untold links l asked uses h refl (quiet_still b c started h) same others is sourced used counted k
+heard_tied_by b c started word created halted kind info life fresh pending untold links l asked uses h same others is sourced used k =
+    heard_tied_as b c started word created halted kind info c.single.connection.renewal life fresh pending untold links l asked uses h refl (quiet_still b c started h) same others is sourced used k
 
 -- news ask for no source
-pub sources_hear : (l : Ledger) (turn : ℕ) (n : News) → sources_asked_in (noted l (hears turn n)).creds ≡ sources_asked_in l.creds
+pub sources_hear : (l : Ledger) (turn : ℕ) (n : News) → (noted l (hears turn n)).creds.asked ≡ l.creds.asked
 sources_hear l turn silence = refl
 sources_hear l turn overdue = refl
-sources_hear l turn connected = chosen (λ (x : Ledger). sources_asked_in x.creds ≡ sources_asked_in l.creds) (is_over l) l (record l { up = true }) (λ t. refl) (λ f. refl)
-sources_hear l turn (refused f) = chosen (λ (x : Ledger). sources_asked_in x.creds ≡ sources_asked_in l.creds) (dials l) (refused_in l turn (error.Io f)) l (λ t. refl) (λ d. refl)
-sources_hear l turn (took count) = chosen (λ (x : Ledger). sources_asked_in x.creds ≡ sources_asked_in l.creds) l.up _ l (λ t. refl) (λ f. refl)
-sources_hear l turn (came piece) = chosen (λ (x : Ledger). sources_asked_in x.creds ≡ sources_asked_in l.creds) l.up (bytes_came l piece) l (λ t. holds_bytes (λ (x : Ledger). sources_asked_in x.creds ≡ sources_asked_in l.creds) l piece (λ rest strange told more. refl)) (λ f. refl)
+sources_hear l turn connected = chosen (λ (x : Ledger). x.creds.asked ≡ l.creds.asked) (is_over l) l (record l { up = true }) (λ t. refl) (λ f. refl)
+sources_hear l turn (refused f) = chosen (λ (x : Ledger). x.creds.asked ≡ l.creds.asked) (dials l) (refused_in l turn (error.Io f)) l (λ t. refl) (λ d. refl)
+sources_hear l turn (took count) = chosen (λ (x : Ledger). x.creds.asked ≡ l.creds.asked) l.up _ l (λ t. refl) (λ f. refl)
+sources_hear l turn (came piece) = chosen (λ (x : Ledger). x.creds.asked ≡ l.creds.asked) l.up (bytes_came l piece) l (λ t. holds_bytes (λ (x : Ledger). x.creds.asked ≡ l.creds.asked) l piece (λ rest strange told more. refl)) (λ f. refl)
 sources_hear l turn (failed f) = refl
-sources_hear l turn (authorized c) = chosen (λ (x : Ledger). sources_asked_in x.creds ≡ sources_asked_in l.creds) (awaits_credentials l) (authorized_by l c) l (λ t. refl) (λ f. refl)
+sources_hear l turn (authorized c) = chosen (λ (x : Ledger). x.creds.asked ≡ l.creds.asked) (awaits_credentials l) (authorized_by l c) l (λ t. refl) (λ f. refl)
 sources_hear l turn (denied text) = refl
 sources_hear l turn deserted = refl
-sources_hear l turn (renewed c) = chosen (λ (x : Ledger). sources_asked_in x.creds ≡ sources_asked_in l.creds) (may_renew l) (renewed_by l c) l (λ t. refl) (λ f. refl)
-sources_hear l turn unrenewed = chosen (λ (x : Ledger). sources_asked_in x.creds ≡ sources_asked_in l.creds) l.up (unrenewed_by l) l (λ t. refl) (λ f. refl)
-sources_hear l turn (late k) = chosen (λ (x : Ledger). sources_asked_in x.creds ≡ sources_asked_in l.creds) (l.up && is_renewal_open l k) (lost_by l) l (λ t. refl) (λ f. refl)
+sources_hear l turn (renewed c) = chosen (λ (x : Ledger). x.creds.asked ≡ l.creds.asked) (may_renew l) (renewed_by l c) l (λ t. refl) (λ f. refl)
+sources_hear l turn unrenewed = chosen (λ (x : Ledger). x.creds.asked ≡ l.creds.asked) l.up (unrenewed_by l) l (λ t. refl) (λ f. refl)
+sources_hear l turn (late k) = chosen (λ (x : Ledger). x.creds.asked ≡ l.creds.asked) (l.up && is_renewal_open l k) (lost_by l) l (λ t. refl) (λ f. refl)
 sources_hear l turn unrepeated = refl
 sources_hear l turn dropped = refl
 sources_hear l turn shut = refl
@@ -515,9 +512,11 @@ protocol_still b c started kind info l h is told =
     let n = news_of b.timers b.sources c.single.link kind in
     sym (ap (λ (x : RedisConnectionInfo). x.protocol) told) ∙ sym (ap (λ (x : Ledger). x.info.protocol) is) ∙ (asked_hear (b.link c.single.link) c.turns n).protocol ∙ ap (λ (x : RedisConnectionInfo). x.protocol) h.setup.info_is
 
--- with none more there are as many
-pub counted_on : (sources : List SourceUse) (c : Sourced) → length sources ≡ sources_asked_in c → length (sources ++ []) ≡ sources_asked_in c
-counted_on sources c h = ap (λ (ss : List SourceUse). length ss) (append-nil sources) ∙ h
+-- so all sources are for it as they were
+pub uses_hear : (sources : List SourceUse) (link : ℕ) (l : Ledger) (turn : ℕ) (n : News) → AreUses sources link l.creds.asked l.creds.renews → (let m = noted l (hears turn n) in AreUses sources link m.creds.asked m.creds.renews)
+uses_hear sources link l turn n h =
+    let m = noted l (hears turn n) in
+    subst (λ (x : Bool). AreUses sources link x m.creds.renews) (sym (sources_hear l turn n)) (subst (λ (x : Bool). AreUses sources link l.creds.asked x) (sym (renews_hear l turn n)) h)
 
 -- by what its link hears, where new credentials came to this
 pub heard_tied_new : (b : Book) (c : Core) (started : List ℕ) (word created : ℕ) (halted : Bool) (kind : EventKind) (info : RedisConnectionInfo) (renewal : Renewal) (life : Life) (fresh pending : List ℕ) (untold : List Heard) (l : Ledger) → Tied b (inner c started) → renewal.within ≡ c.single.connection.renewal.within → StaysQuiet c renewal → is_bad c kind ≡ false → (b.created ≢ 0 → created ≢ 0)
@@ -526,8 +525,8 @@ pub heard_tied_new : (b : Book) (c : Core) (started : List ℕ) (word created : 
 heard_tied_new b c started word created halted kind info renewal life fresh pending untold l h within quiet good shown is k =
     heard_tied_as b c started word created halted kind info renewal life fresh pending untold (heard_book b c.turns word kind).link l b.sources (c.sources ++ []) h within quiet (protocol_still b c started kind info l h is k.said.info_is)
     (subst (λ o. AreAside c.single.link c.links (heard_book b c.turns word kind).link c.single.connection.hears o created) (sym within) (others_heard b c started kind created h good shown)) is
-    (h.numbers.sources ∙ sym (append-nil c.sources)) (uses_on c.sources c.single.link h.numbers.uses)
-    (counted_on c.sources l.creds (h.count ∙ sym (sources_hear (b.link c.single.link) c.turns (news_of b.timers b.sources c.single.link kind)) ∙ ap (λ (x : Ledger). sources_asked_in x.creds) is)) k
+    (h.numbers.sources ∙ sym (append-nil c.sources))
+    (uses_on c.sources c.single.link (subst (λ (x : Ledger). AreUses c.sources c.single.link x.creds.asked x.creds.renews) is (uses_hear c.sources c.single.link (b.link c.single.link) c.turns (news_of b.timers b.sources c.single.link kind) h.uses))) k
 
 -- where they are as they were
 pub heard_tied : (b : Book) (c : Core) (started : List ℕ) (word created : ℕ) (halted : Bool) (kind : EventKind) (info : RedisConnectionInfo) (life : Life) (fresh pending : List ℕ) (untold : List Heard) (l : Ledger) → Tied b (inner c started) → is_bad c kind ≡ false → (b.created ≢ 0 → created ≢ 0)

@@ -48,7 +48,7 @@ use Rattle.legal_trace.specs.Legal.{NoneEnds}
 use Rattle.session_laws.proofs.Closing.{Closes, WasReady, WasSettingUp, WasWanting, closed_other, late_closed, with_closed, story_closed, tries_closed, packs_closed, queued_other, queue_closed, AreOthers, waits_closed, kept_other, IsUntried, told_closed}
 use Rattle.session_laws.proofs.Answer.{entries_answered}
 use Rattle.session_laws.proofs.Settle.{seen}
-use Rattle.session_laws.proofs.Announce.{aims_on, turn_of, turned, uses_on, counted_on, time_still}
+use Rattle.session_laws.proofs.Announce.{aims_on, turn_of, turned, uses_on, uses_on, time_still}
 use Rattle.session_laws.proofs.Kept.{tied_by}
 use Rattle.session_laws.proofs.Permits.{permits_closed}
 use Rattle.session_laws.proofs.Heard.{silent_applied, still_none, told_life, silent_no_end, tame_between}
@@ -427,7 +427,6 @@ silent_numbers b c started word kind timeout story free life requests pending q 
   links = h.numbers.links;
   timers = h.numbers.timers ∙ sym (append-nil c.timers);
   sources = h.numbers.sources ∙ sym (append-nil c.sources);
-  uses = uses_on c.sources c.single.link h.numbers.uses;
   aims = aims_on c.timers c.single.link (length c.table) h.numbers.aims;
   timed = h.numbers.timed;
   submissions = (let e = h.numbers.submissions in let none = q.none in omega arith);
@@ -471,7 +470,7 @@ still_tied b c started word kind timeout q same h tame =
       notices = renoticed tame h.notices;
       life = told_life ledger b.created conn.life silence h.life;
       creds = h.creds;
-      count = counted_on c.sources ledger.creds h.count;
+      uses = uses_on c.sources c.single.link h.uses;
       renewal = renewal_alike ledger (record ledger { heard = silence }) conn.renewal conn.life refl refl refl h.renewal;
       setup = setup_on ledger ledger.asked ledger.up ledger.end ledger.taken ledger.offer ledger.rest silence conn.info started conn.life h.setup;
       link = λ alive. told_tied (carried conn.life conn.requests) ledger (whole_link conn.life) ledger.asked ledger.up silence (h.link alive);
@@ -514,7 +513,7 @@ gone_tied b c started word p n h tame o named =
       notices = renoticed tame h.notices;
       life = left_life ledger b.created conn.life p h.life;
       creds = left_creds ledger.creds conn.renewal.wanted conn.life p h.creds;
-      count = counted_on c.sources ledger.creds h.count;
+      uses = uses_on c.sources c.single.link h.uses;
       renewal = left_renewal (record ledger { heard = silence }) conn.renewal conn.life p (renewal_alike ledger (record ledger { heard = silence }) conn.renewal conn.life refl refl refl h.renewal);
       setup = left_setup ledger conn.info started conn.life p h.setup;
       link = λ alive. left_link requests ledger conn.life p (λ up. carried_tied conn.life conn.requests requests ledger (sym (owners_with conn.requests p progress.Closed 0)) (h.link up)) alive;

@@ -29,13 +29,13 @@ use Rattle.mux_conn.specs.declared.connection.MultiplexedConnection.{Multiplexed
 use Rattle.mux_conn.specs.declared.request.Request.{Request}
 use Rattle.mux_conn.specs.declared.request.Waiting.{Waiting}
 use Rattle.shared_session.specs.declared.core_state.Core.{Core}
-use Rattle.shared_session.specs.Turn.{with_work, is_bad, use_after}
+use Rattle.shared_session.specs.Turn.{with_work, is_bad}
 use Rattle.legal_trace.specs.Ledger.{Ledger, Heard, ending, ending_unready, ending_up, is_ready as is_ready_link, lacks_credentials, setup_after, setup_count, setup_steps, Sourced, noted, noted_each, sources, source_due, Start}
 use Rattle.legal_trace.specs.Book.{Book, blank_book, book, entered, use_for, if_mine, hearing_in}
 use Rattle.legal_trace.specs.Story.{Story}
 use Rattle.legal_trace.specs.Legal.{AllStand, MayBeCreated, MayNeed}
 use Rattle.legal_trace.proofs.Setups.{ends_where_set, silent_is_set, silent_is_greeted}
-use Rattle.session_laws.proofs.Tied.{AreSetups, AreQueued, HasCredentials, IsEntry, IsQueued, IsSettingUp, IsSetupDue, IsSetUp, Inner, Tied, TiedLines, TiedNotices, TiedWaits, has_ended, inner, link_in, no_link, owner_of, queue_ids, shown_wait, waiting_ids, AreSought, AreUses, HasSaid, sources_asked_in, is_reading, AreSetupsAlone, IsWatching, greeting_at, owners_of, setup_owners, watch_queued}
+use Rattle.session_laws.proofs.Tied.{AreSetups, AreQueued, HasCredentials, IsEntry, IsQueued, IsSettingUp, IsSetupDue, IsSetUp, Inner, Tied, TiedLines, TiedNotices, TiedWaits, has_ended, inner, link_in, no_link, owner_of, queue_ids, shown_wait, waiting_ids, AreSought, AreUses, HasSaid, is_reading, AreSetupsAlone, IsWatching, greeting_at, owners_of, setup_owners, watch_queued}
 use Rattle.session_laws.proofs.States.{Between, HasApplied, IsFit, IsFitIn}
 use Rattle.session_laws.proofs.Creds.{has_credentials, IsOfRenewals, down_sourced}
 use Rattle.session_laws.proofs.Said.{PushesOf, ending_setting, readied, setup_recredited, well_readied}
@@ -43,12 +43,12 @@ use Rattle.session_laws.proofs.Entered.{all_stand-append, book_more, sound_more,
 use Rattle.session_laws.proofs.Settle.{Tells, seen, trace_of_acts}
 use Rattle.session_laws.proofs.InLine.{kept_ids}
 use Rattle.session_laws.proofs.Numbers.{IsIn, Rising, rising_right, requests_in}
-use Rattle.session_laws.proofs.Announce.{IsNewsKind, comes_as, heard_book, heard_is, heard_starts, heard_tied, may_turn, turn_of, turned, ComesTo, heard_tied_by, others_heard, renews_hear, sources_hear, uses_more, protocol_still}
+use Rattle.session_laws.proofs.Announce.{IsNewsKind, comes_as, heard_book, heard_is, heard_starts, heard_tied, may_turn, turn_of, turned, ComesTo, heard_tied_by, others_heard, renews_hear, uses_asked, uses_more, protocol_still}
 use Rattle.session_laws.proofs.Heard.{book_kind, book_news, fresh_applied, heard_by, none_ends, none_hears}
 use Rattle.session_laws.proofs.Ahead.{waiting_open}
 use Rattle.session_laws.proofs.Renewals.{early_renewal, renewed_first}
 use Rattle.session_laws.proofs.Kept.{mine_noted, others_kept}
-use Rattle.std.proofs.lemmas.List.{length_push, nil_from_length}
+use Rattle.std.proofs.lemmas.List.{nil_from_length}
 use Rattle.session_laws.proofs.Failing.{unstarted_owed}
 use Rattle.mux_conn.specs.declared.life.Greeting.TheVariants as greet
 use Rattle.mux_conn.specs.declared.life.Greeting.{Greeting}
@@ -236,12 +236,6 @@ may_be_created b c started word kind n info link untold h0 early own facts = rec
   answered = unstarted_owed b (heard_book b c.turns word kind) c started h0 (early_started (b.link c.single.link) started c.single.connection.life early.unready early.alive h0.setup.said) (λ m. refl) (ap (λ (y : Ledger). y.asked) own ∙ facts.made.asked) (ap (λ (y : Ledger). y.end) own ∙ facts.made.alive);
 }
 
--- the second source is for its renewals
-second_use : (c : Sourced) (link n : ℕ) → c.asked ≡ true → c.renews ≡ false → n ≡ sources_asked_in c → (if c.asked then source.Renewal link else source.Setup link) ≡ use_after link n
-second_use c link n asked renews count =
-    let one : n ≡ 1 = count ∙ (λ i. (if asked i then 1 else 0) + (if renews i then 1 else 0)) in
-    taken_if c.asked (source.Renewal link) (source.Setup link) asked ∙ ap (use_after link) (sym one)
-
 -- where it wasn't before, and this is said to its server
 pub makes_ready : (before : List Action) (c : Core) (started : List ℕ) (word : ℕ) (kind : EventKind) (n : News) (info : RedisConnectionInfo) (link : LinkState) (untold : List Heard) → Between before c started → is_bad c kind ≡ false → IsNewsKind c.timers kind
     → news_of c.timers c.sources c.single.link kind ≡ n → (IsOfRenewals n → ⊥) → IsEarly c.single.connection.life wait.Permit → IsReadied (book before) c (heard_by (book before) c n) info link untold
@@ -303,7 +297,7 @@ makes_ready before c started word kind n info link untold h good k is other earl
         }
 
     -- or a second source is asked for
-    wants : c.single.connection.renewal.wanted ≡ true → IsShownReady front f (acted v act.NeedCreds) (readied c.single.connection.renewal.wanted l) untold started
+    wants : c.single.connection.renewal.wanted ≡ true → IsShownReady front f (acted v act.NeedRenewals) (readied c.single.connection.renewal.wanted l) untold started
     wants w =
         let count = length c.sources + 0 in
         let next : count ≡ length c.sources = omega arith in
@@ -313,20 +307,19 @@ makes_ready before c started word kind n info link untold h good k is other earl
         let once : (b.link mine).creds.renews ≡ false = early_sources (b.link mine).creds c.single.connection.life early.unready early.alive h0.creds.sought in
         let renews : l.creds.renews ≡ false = renews_hear (b.link mine) c.turns n ∙ once in
         let created = entered now shown in
-        let uses = c.sources ++ use_after mine count ∷ [] in
+        let uses = c.sources ++ source.Renewal mine ∷ [] in
         let what = use_for created mine in
-        let what_is : what ≡ use_after mine count = ap (λ (x : Ledger). if x.creds.asked then source.Renewal mine else source.Setup mine) own ∙ second_use l.creds mine count asked renews (next ∙ h0.count ∙ sym (sources_hear (b.link mine) c.turns n)) in
+        let what_is : what ≡ source.Renewal mine = ap (λ (x : Ledger). if x.creds.asked then source.Renewal mine else source.Setup mine) own ∙ taken_if l.creds.asked (source.Renewal mine) (source.Setup mine) asked in
         let others = others_heard b c started kind (b.created + 1) h0 good (λ some none. absurd (omega arith)) in
         let links : ℕ → Ledger = λ m. noted_each (now.link m) (if_mine (mine == m) sources) in
         let after = noted l sources in
         let ledger_is : links mine ≡ after = mine_noted (now.link mine) mine sources ∙ ap (λ (y : Ledger). noted y sources) own in
         let t = record (seen f [] (comes_as c info (Ready link) ns) [] started) { untold = untold; sources = uses } in
         let comes = readied_comes b c started n info link untold true h0 h.fit h.fresh other early facts wanted (λ x. asked) in
-        let counted : length uses ≡ sources_asked_in after.creds =
-        length_push c.sources (use_after mine count) ∙ ap (λ m. m + 1) (h0.count ∙ sym (sources_hear (b.link mine) c.turns n) ∙ (λ i. (if asked i then 1 else 0) + (if renews i then 1 else 0))) ∙ ap (λ (x : Bool). 1 + (if x then 1 else 0)) (sym asked) in
+        let used : AreUses uses mine true l.creds.asked = uses_more c.sources mine true l.creds.asked (source.Renewal mine) (omega arith, λ same. asked) (uses_asked c.sources mine (b.link mine).creds.asked (b.link mine).creds.renews l.creds.asked once h0.uses) in
         let tied : Tied (entered created needs) t =
         heard_tied_by b c started word (b.created + 1) (b.failed || false) kind info (Ready link) ns [] untold links after (b.sources ++ what ∷ []) uses h0 (protocol_still b c started kind info l h0 own facts.info_is) (others_kept now mine sources others) ledger_is
-        (λ i. h0.numbers.sources i ++ what_is i ∷ []) (subst (λ m. AreUses (c.sources ++ use_after mine m ∷ []) mine) (sym next) (uses_more c.sources mine h0.numbers.uses)) counted comes in
+        (λ i. h0.numbers.sources i ++ what_is i ∷ []) used comes in
         let need : MayNeed created count mine = record {
           due = ap source_due own ∙ (λ i. facts.made.up i && wanted i && (not (asked i) || (facts.made.said.well i && not (renews i))));
           next = next ∙ ap length (sym h0.numbers.sources);
@@ -345,13 +338,13 @@ makes_ready before c started word kind n info link untold h good k is other earl
           ledger = ap (λ (x : Book). x.link mine) last ∙ ledger_is ∙ sym same;
         }
 
-    by_wanted : (x : Bool) → c.single.connection.renewal.wanted ≡ x → IsShownReady front f (if x then acted v act.NeedCreds else v) (readied c.single.connection.renewal.wanted l) untold started
+    by_wanted : (x : Bool) → c.single.connection.renewal.wanted ≡ x → IsShownReady front f (if x then acted v act.NeedRenewals else v) (readied c.single.connection.renewal.wanted l) untold started
     by_wanted true w = wants w
     by_wanted false w = unwanted w
 
 -- what a source that is asked for leaves
 pub made_conn : (w : Work) (link : LinkState) → (made_ready w link).conn ≡ (with_link (all_fresh w) link).conn
-made_conn w link = chosen (λ (x : Work). x.conn ≡ (with_link (all_fresh w) link).conn) w.conn.renewal.wanted (acted (acted (with_link (all_fresh w) link) (act.Created None)) act.NeedCreds) (acted (with_link (all_fresh w) link) (act.Created None)) (λ t. refl) (λ f. refl)
+made_conn w link = chosen (λ (x : Work). x.conn ≡ (with_link (all_fresh w) link).conn) w.conn.renewal.wanted (acted (acted (with_link (all_fresh w) link) (act.Created None)) act.NeedRenewals) (acted (with_link (all_fresh w) link) (act.Created None)) (λ t. refl) (λ f. refl)
 
 -- but for what it shows
 pub made_is : (w : Work) (link : LinkState) → made_ready w link ≡ record { conn = (with_link (all_fresh w) link).conn; acts = (made_ready w link).acts }
@@ -360,7 +353,7 @@ made_is w link = by_wanted w.conn.renewal.wanted
     v : Work
     v = acted (with_link (all_fresh w) link) (act.Created None)
 
-    by_wanted : (b : Bool) → (if b then acted v act.NeedCreds else v) ≡ record { conn = v.conn; acts = (if b then acted v act.NeedCreds else v).acts }
+    by_wanted : (b : Bool) → (if b then acted v act.NeedRenewals else v) ≡ record { conn = v.conn; acts = (if b then acted v act.NeedRenewals else v).acts }
     by_wanted true = refl
     by_wanted false = refl
 

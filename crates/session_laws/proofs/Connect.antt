@@ -1,6 +1,6 @@
 -- The opening of the connection's link ends: its connect succeeds, is refused, or isn't answered in time.
 use Rattle.std.proofs.Common.{inl, length, ◌==◌, ◌≡◌, ℕ, ◌+◌, Bool, true, false, ◌&&◌, not, List, [], ◌∷◌, ◌++◌, None, is_some, refl, sym, ap, ◌∙◌, subst, arith, if◌then◌else◌, ◌≢◌, ◌-◌, Some, ◌||◌}
-use Rattle.std.proofs.lemmas.List.{append-nil, length_push}
+use Rattle.std.proofs.lemmas.List.{append-nil}
 use Rattle.containers.proofs.Choices.{chosen, taken_if, left_if}
 use Rattle.redis_error.specs.declared.fault_kind.FaultKind.{FaultKind}
 use Rattle.redis_error.specs.declared.fault_kind.FaultKind.TheVariants as kinds
@@ -23,13 +23,13 @@ use Rattle.mux_conn.specs.Connection.{Work, is_ready}
 use Rattle.mux_conn.specs.Turn.{early_wait}
 use Rattle.mux_conn.specs.declared.act.LinkAct.TheVariants as act
 use Rattle.shared_session.specs.declared.core_state.Core.{Core}
-use Rattle.shared_session.specs.Turn.{with_work, is_bad, use_after}
+use Rattle.shared_session.specs.Turn.{with_work, is_bad}
 use Rattle.legal_trace.specs.Owed.{owed_by}
 use Rattle.legal_trace.specs.Ledger.{Ledger, hears, lacks_credentials, noted, noted_each, ending, ending_alive, is_over, by_opening, ends, dials, refused_in, failure_in, failure_of, source_due, sources, is_set_up, ending_asked, lasting}
 use Rattle.legal_trace.specs.Book.{Book, blank_book, book, entered, if_mine, use_for}
 use Rattle.legal_trace.specs.Legal.{AllStand, MayNeed}
 use Rattle.session_laws.proofs.Aside.{unfailed}
-use Rattle.session_laws.proofs.Tied.{AreQueued, AreSought, HasSaid, inner, no_link, link_in, carried, whole_link, owner_of, Tied, TiedLife, TiedLines, has_ended, sources_asked_in}
+use Rattle.session_laws.proofs.Tied.{AreQueued, AreSought, HasSaid, inner, no_link, link_in, carried, whole_link, owner_of, Tied, TiedLife, TiedLines, has_ended, AreUses}
 use Rattle.session_laws.proofs.Creds.{down_sourced}
 use Rattle.session_laws.proofs.Said.{ending_wanting, ready_heard, setting_heard, setup_hears, dropped_end}
 use Rattle.session_laws.proofs.Failing.{IsFailing, failing_applied, unready_shown, unstarted_owed}
@@ -163,16 +163,15 @@ connected_wants before c started word kind h good k is e wants =
     let after = noted l sources in
     let asked : links mine ≡ after = mine_noted (now.link mine) mine sources ∙ ap (λ (y : Ledger). noted y sources) own in
     let what = use_for now mine in
-    let next = use_after mine (length c.sources) in
+    let next = source.Setup mine in
     let uses = c.sources ++ next ∷ [] in
-    let none_asked : length c.sources ≡ 0 = h0.count ∙ (λ i. (if sought.0 i then 1 else 0) + (if sought.2 i then 1 else 0)) in
     let what_is : what ≡ next =
-    ap (λ (x : Ledger). if x.creds.asked then source.Renewal mine else source.Setup mine) own ∙ left_if l.creds.asked (source.Renewal mine) (source.Setup mine) unasked ∙ ap (use_after mine) (sym none_asked) in
-    let counted : length uses ≡ sources_asked_in after.creds = length_push c.sources next ∙ ap (λ m. m + 1) none_asked ∙ ap (λ (x : Bool). 1 + (if x then 1 else 0)) (sym unasked) in
+    ap (λ (x : Ledger). if x.creds.asked then source.Renewal mine else source.Setup mine) own ∙ left_if l.creds.asked (source.Renewal mine) (source.Setup mine) unasked in
+    let used : AreUses uses mine true l.creds.asked = uses_more c.sources mine true l.creds.asked next (omega arith, λ same. refl) (uses_asked c.sources mine l0.creds.asked l0.creds.renews l.creds.asked sought.2 h0.uses) in
     let none = none_hears l0 c.turns connected conn.renewal (λ x. x) (early_renewal l0 conn.renewal conn.life early.unready early.alive h0.renewal) in
     let t = record (seen f [] (comes_as c conn.info life ns) [] started) { sources = uses } in
     let tied : Tied (entered now shown) t = heard_tied_by b c started word b.created b.failed kind conn.info life ns [] [] links after (b.sources ++ what ∷ []) uses h0 refl
-    (others_kept now mine sources others) asked (λ i. h0.numbers.sources i ++ what_is i ∷ []) (uses_more c.sources mine h0.numbers.uses) counted
+    (others_kept now mine sources others) asked (λ i. h0.numbers.sources i ++ what_is i ∷ []) used
     (record {
       starts = heard_starts l0 c.turns connected;
       lived = (u.asked, u.up, u.alive, u.unshown, u.last);

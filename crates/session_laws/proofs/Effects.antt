@@ -2,18 +2,21 @@
 use Rattle.std.proofs.Common.{ap, length, slice_get, Option, Some, ◌<◌, ◌≡◌, ℕ, ◌==◌, ◌&&◌, false, List, [], ◌∷◌, ◌++◌, refl, sym, ◌∙◌, subst, ◌≤◌, ◌≢◌, ◌^◌, arith}
 use Rattle.containers.proofs.Choices.{or_right, eq_from, eq_test, not_le_from, not_lt_from, by_test, taken_if, left_if, ne_from}
 use Rattle.redis_error.specs.declared.redis_error.RedisError.TheVariants as error
+use Rattle.credentials.specs.Credentials.{Credentials}
 use Rattle.driver_model.specs.declared.action.Action.{Action}
+use Rattle.driver_model.specs.declared.action.SourceUse.{SourceUse}
+use Rattle.driver_model.specs.declared.action.SourceUse.TheVariants as source
 use Rattle.driver_model.specs.declared.event.EventKind.{EventKind}
 use Rattle.driver_model.specs.declared.event.EventKind.TheVariants as event
 use Rattle.driver_model.specs.declared.news.LinkFault.TheVariants as fault
-use Rattle.driver_model.specs.News.{News, connected, took, came, failed, authorized, denied, deserted, for_link, news_of, of_timer, refused, overdue, silence, renewed, unrenewed, late}
+use Rattle.driver_model.specs.News.{News, connected, took, came, failed, authorized, denied, deserted, for_link, news_of, of_source, of_timer, refused, overdue, silence, renewed, unrenewed, late}
 use Rattle.mux_conn.specs.declared.life.Life.{Life}
 use Rattle.mux_conn.specs.declared.life.Life.TheVariants.{Dialing, Ready, Ended, SettingUp, Wanting}
 use Rattle.mux_conn.specs.Effects.{CanTake, applied}
 use Rattle.shared_session.specs.declared.core_state.Core.{Core}
 use Rattle.shared_session.specs.Turn.{with_work, heard, fired_by, late_by, effect, counted, is_no_link, exceeds_offer, is_bad}
 use Rattle.session_laws.proofs.States.{Between, HasApplied}
-use Rattle.session_laws.proofs.Announce.{turn_of, turned, IsNewsKind, own_source}
+use Rattle.session_laws.proofs.Announce.{turn_of, turned, IsNewsKind}
 use Rattle.session_laws.proofs.Connect.{connected_applied, dropped_applied, refused_applied, overdue_applied, passed_over}
 use Rattle.session_laws.proofs.Given.{authorized_applied, denied_applied, end_denies, text_denies}
 use Rattle.session_laws.proofs.Took.{took_applied}
@@ -83,9 +86,32 @@ fired before c started word n (purpose.Response (owner.Try m round)) h good is =
     subst (λ (x : News). HasApplied (before ++ turn_of c word (event.Fired n) ∷ []) (late_by (with_work (record { core = turned c (event.Fired n); acts = [] }) (applied (record { conn = c.single.connection; acts = [] }) x)) (slice_get c.table m)) started)
     (sym silent_is) (late_applied before c started word n m h good first)
 
--- where a source isn't the first, there are two
-second_source : (n count : ℕ) → n ≢ 0 → n < count → 2 ≤ count
-second_source n count other less = omega (arith, other, less)
+-- what comes of a source, for the setup of a link or for its renewals
+--
+-- credentials
+creds_come : (before : List Action) (c : Core) (started : List ℕ) (word n : ℕ) (auth : Credentials) (what : SourceUse) → Between before c started → is_bad c (event.Creds n auth) ≡ false → slice_get c.sources n ≡ Some what → HasApplied (before ++ turn_of c word (event.Creds n auth) ∷ []) (effect (counted c) (event.Creds n auth)) started
+creds_come before c started word n auth (source.Setup l) h good is =
+    by_link before c started word l (event.Creds n auth) (authorized auth) h good tt (ap (λ x. of_source c.single.link x (authorized auth) (renewed auth)) is)
+    (λ same own. authorized_applied before c started word (event.Creds n auth) auth h good tt own)
+creds_come before c started word n auth (source.Renewal l) h good is =
+    by_link before c started word l (event.Creds n auth) (renewed auth) h good tt (ap (λ x. of_source c.single.link x (authorized auth) (renewed auth)) is)
+    (λ same own. renewed_applied before c started word (event.Creds n auth) auth h good tt own ((h.sound.tied.uses n (source.Renewal l) is).1 same))
+
+-- why there are none
+error_comes : (before : List Action) (c : Core) (started : List ℕ) (word n : ℕ) (text : List ℕ) (what : SourceUse) → Between before c started → is_bad c (event.CredsError n text) ≡ false → slice_get c.sources n ≡ Some what → HasApplied (before ++ turn_of c word (event.CredsError n text) ∷ []) (effect (counted c) (event.CredsError n text)) started
+error_comes before c started word n text (source.Setup l) h good is =
+    by_link before c started word l (event.CredsError n text) (denied text) h good tt (ap (λ x. of_source c.single.link x (denied text) silence) is)
+    (λ same own. denied_applied before c started word (event.CredsError n text) (denied text) (error.Credentials text) (text_denies text) h good tt own)
+error_comes before c started word n text (source.Renewal l) h good is =
+    by_link before c started word l (event.CredsError n text) silence h good tt (ap (λ x. of_source c.single.link x (denied text) silence) is) (λ same own. unheard before c started word (event.CredsError n text) h good tt own)
+
+-- that no more come
+end_comes : (before : List Action) (c : Core) (started : List ℕ) (word n : ℕ) (what : SourceUse) → Between before c started → is_bad c (event.CredsEnd n) ≡ false → slice_get c.sources n ≡ Some what → HasApplied (before ++ turn_of c word (event.CredsEnd n) ∷ []) (effect (counted c) (event.CredsEnd n)) started
+end_comes before c started word n (source.Setup l) h good is =
+    by_link before c started word l (event.CredsEnd n) deserted h good tt (ap (λ x. of_source c.single.link x deserted unrenewed) is) (λ same own. denied_applied before c started word (event.CredsEnd n) deserted (error.AuthFailed []) end_denies h good tt own)
+end_comes before c started word n (source.Renewal l) h good is =
+    by_link before c started word l (event.CredsEnd n) unrenewed h good tt (ap (λ x. of_source c.single.link x deserted unrenewed) is)
+    (λ same own. unrenewed_applied before c started word (event.CredsEnd n) h good tt own ((h.sound.tied.uses n (source.Renewal l) is).1 same))
 
 -- the effect of a good event between two turns
 pub effect_holds : (before : List Action) (c : Core) (started : List ℕ) (word : ℕ) (kind : EventKind) → Between before c started → is_bad c kind ≡ false → length c.table < 2 ^ 32 → HasApplied (before ++ turn_of c word kind ∷ []) (effect (counted c) kind) started
@@ -111,36 +137,8 @@ effect_holds before c started word (event.ReadFault l kind) h good room =
     by_link before c started word l (event.ReadFault l kind) (failed (fault.Io kind)) h good tt refl (λ same own. failed_applied before c started word (event.ReadFault l kind) (fault.Io kind) h good tt own)
 effect_holds before c started word (event.WriteFault l kind) h good room =
     by_link before c started word l (event.WriteFault l kind) (failed (fault.Io kind)) h good tt refl (λ same own. failed_applied before c started word (event.WriteFault l kind) (fault.Io kind) h good tt own)
-effect_holds before c started word (event.Creds n auth) h good room =
-    let g = get_some c.sources n (not_le_from (length c.sources) n good) in
-    let kind = event.Creds n auth in
-    let news = news_of c.timers c.sources c.single.link kind in
-    let own = own_source c n g.0 (authorized auth) (renewed auth) h.sound.tied.numbers.uses g.1 in
-    by_test (n == 0) (HasApplied (before ++ turn_of c word kind ∷ []) (effect (counted c) kind) started)
-    (λ t. let is = own ∙ taken_if (n == 0) (authorized auth) (renewed auth) t in by_news before c started word kind news (authorized auth) is (authorized_applied before c started word kind auth h good tt is))
-    (λ f.
-    let is = own ∙ left_if (n == 0) (authorized auth) (renewed auth) f in
-    by_news before c started word kind news (renewed auth) is (renewed_applied before c started word kind auth h good tt is (second_source n (length c.sources) (ne_from n 0 f) (not_le_from (length c.sources) n good))))
-effect_holds before c started word (event.CredsError n text) h good room =
-    let g = get_some c.sources n (not_le_from (length c.sources) n good) in
-    let kind = event.CredsError n text in
-    let news = news_of c.timers c.sources c.single.link kind in
-    let own = own_source c n g.0 (denied text) silence h.sound.tied.numbers.uses g.1 in
-    by_test (n == 0) (HasApplied (before ++ turn_of c word kind ∷ []) (effect (counted c) kind) started)
-    (λ t. let is = own ∙ taken_if (n == 0) (denied text) silence t in by_news before c started word kind news (denied text) is (denied_applied before c started word kind (denied text) (error.Credentials text) (text_denies text) h good tt is))
-    (λ f.
-    let is = own ∙ left_if (n == 0) (denied text) silence f in
-    by_news before c started word kind news silence is
-    (unheard before c started word kind h good tt is))
-effect_holds before c started word (event.CredsEnd n) h good room =
-    let g = get_some c.sources n (not_le_from (length c.sources) n good) in
-    let kind = event.CredsEnd n in
-    let news = news_of c.timers c.sources c.single.link kind in
-    let own = own_source c n g.0 deserted unrenewed h.sound.tied.numbers.uses g.1 in
-    by_test (n == 0) (HasApplied (before ++ turn_of c word kind ∷ []) (effect (counted c) kind) started)
-    (λ t. let is = own ∙ taken_if (n == 0) deserted unrenewed t in by_news before c started word kind news deserted is (denied_applied before c started word kind deserted (error.AuthFailed []) end_denies h good tt is))
-    (λ f.
-    let is = own ∙ left_if (n == 0) deserted unrenewed f in
-    by_news before c started word kind news unrenewed is (unrenewed_applied before c started word kind h good tt is (second_source n (length c.sources) (ne_from n 0 f) (not_le_from (length c.sources) n good))))
+effect_holds before c started word (event.Creds n auth) h good room = let g = get_some c.sources n (not_le_from (length c.sources) n good) in creds_come before c started word n auth g.0 h good g.1
+effect_holds before c started word (event.CredsError n text) h good room = let g = get_some c.sources n (not_le_from (length c.sources) n good) in error_comes before c started word n text g.0 h good g.1
+effect_holds before c started word (event.CredsEnd n) h good room = let g = get_some c.sources n (not_le_from (length c.sources) n good) in end_comes before c started word n g.0 h good g.1
 effect_holds before c started word event.DropStream h good room = dropped_applied before c started word event.DropStream h good tt refl
 effect_holds before c started word event.Shutdown h good room = shut_applied before c started word event.Shutdown h good tt refl

@@ -36,7 +36,7 @@ use Rattle.session_laws.proofs.Answer.{after_end}
 use Rattle.session_laws.proofs.Aside.{aside_ends, others_created, unfailed}
 use Rattle.session_laws.proofs.Settle.{seen, sound_act, trace_of_acts, Holds, book_of_more}
 use Rattle.session_laws.proofs.Close.{ended_applied, ended_waits, waiting_ends, waiting_leaves, ends_so}
-use Rattle.session_laws.proofs.Announce.{turn_of, turned, IsNewsKind, first_book, heard_book, heard_is, heard_starts, heard_tied_by, may_turn, others_heard, uses_on, counted_on, sources_hear, timed_hear, asked_hear}
+use Rattle.session_laws.proofs.Announce.{turn_of, turned, IsNewsKind, first_book, heard_book, heard_is, heard_starts, heard_tied_by, may_turn, others_heard, uses_hear, uses_on, timed_hear, asked_hear}
 use Rattle.session_laws.proofs.Heard.{heard_by, book_kind, book_news}
 use Rattle.session_laws.proofs.Said.{PushesOf, sources_asked}
 use Rattle.session_laws.proofs.Renewals.{renewal_ended}
@@ -149,8 +149,7 @@ setup_fails before c started word kind n x h good k is u fails =
     let closed : links c.single.link ≡ noted l line = mine_noted (now.link c.single.link) c.single.link line ∙ ap (λ (y : Ledger). noted y line) own in
     let t = seen f (act.Close ∷ []) (record conn { life = Ended x }) [] started in
     let tied : Tied (entered (entered now close) (action.Created (Some x))) t = heard_tied_by b c started word (b.created + 1) (b.failed || true) kind conn.info (Ended x) conn.fresh [] [] links (noted l line) b.sources (c.sources ++ []) h0 refl
-    (others_created c.single.link (b.created + 1) _ (λ some none. absurd (omega arith)) (others_kept now c.single.link line others)) closed (h0.numbers.sources ∙ sym (append-nil c.sources)) (uses_on c.sources c.single.link h0.numbers.uses)
-    (counted_on c.sources (noted l line).creds (h0.count ∙ sym (sources_hear l0 c.turns n)))
+    (others_created c.single.link (b.created + 1) _ (λ some none. absurd (omega arith)) (others_kept now c.single.link line others)) closed (h0.numbers.sources ∙ sym (append-nil c.sources)) (uses_on c.sources c.single.link (uses_hear c.sources c.single.link l0 c.turns n h0.uses))
     (record {
       starts = heard_starts l0 c.turns n;
       lived = (refl, ap owed_by why, λ y shown z. absurd (omega arith), asked);

@@ -303,7 +303,7 @@ let_tied b t p count free g noted timers w alone eased has sum numbers h = recor
   notices = h.notices;
   life = h.life;
   creds = h.creds;
-  count = h.count;
+  uses = h.uses;
   renewal = h.renewal;
   setup = h.setup;
   link = λ e. carried_tied t.life t.requests (with_permits t.requests p progress.Waiting count) (b.link t.link) (sym (owners_with t.requests p progress.Waiting count)) (h.link e);
@@ -490,7 +490,6 @@ ask_tied b t p number ms w alone h =
       links = k.links;
       timers = ap (λ ts. ts ++ what ∷ []) h.numbers.timers;
       sources = k.sources;
-      uses = k.uses;
       aims = aims_more t.timers t.link (length t.table) n known h.numbers.aims;
       timed = k.timed;
       submissions = k.submissions;
@@ -527,7 +526,7 @@ pub record HasTaken (before : List Action) (f : Core) (t : Inner) (p count : ℕ
   pub going : IsGoing (trace_of_acts before f acts) (lets t p count (t.free - count) (f.timers ++ timers_of f.single.link acts))
   pub has : (is_none t.limit || nat_lt 0 ((book (trace_of_acts before f acts)).story (name_at t.requests p)).permits) ≡ true
   pub none : ((book (trace_of_acts before f acts)).story (name_at t.requests p)).clock ≡ None
-  pub sourced : f.sources ++ sources_of f.single.link (length f.sources) acts ≡ t.sources
+  pub sourced : f.sources ++ sources_of f.single.link acts ≡ t.sources
 
 -- where permits are counted it has taken some
 some_taken : (before : List Action) (f : Core) (acts : List LinkAct) (conn : MultiplexedConnection) (started : List ℕ) (link : LinkState) (q : Waiting) (qs : List Waiting) (k : ℕ) → IsOpening (seen f acts conn [] started) link q qs → conn.limit ≡ Some k → conn.free ≢ 0
@@ -556,7 +555,7 @@ some_taken before f acts conn started link q qs k o e some h =
       going = subst (λ ts. IsGoing (trace_of_acts before f (acts ++ a ∷ [])) (lets t p count (conn.free - count) (f.timers ++ ts))) (sym (quiet_timers f.single.link acts a refl)) there;
       has = ap (λ (x : Story). is_none conn.limit || nat_lt 0 x.permits) story_is ∙ ap (λ x. is_none conn.limit || x) (some_less count most.1) ∙ or_true (is_none conn.limit);
       none = ap (λ (x : Story). x.clock) story_is ∙ (h.sound.tied.permits.none p o.is_waiting (λ i. i)).1;
-      sourced = ap (λ ss. f.sources ++ ss) (quiet_sources f.single.link (length f.sources) acts a refl);
+      sourced = ap (λ ss. f.sources ++ ss) (quiet_sources f.single.link acts a refl);
     }
   where
     some_less : (n : ℕ) → 0 < n → nat_lt 0 n ≡ true
@@ -594,7 +593,7 @@ has_taken before f acts conn started link q qs (Some k) o e some h =
 pub record HasLet (before : List Action) (f : Core) (t : Inner) (p count : ℕ) (acts : List LinkAct) : Type 0 where
   pub going : IsGoing (trace_of_acts before f acts) (lets t p count (t.free - count) (f.timers ++ timers_of f.single.link acts))
   pub is : is_let_in t.limit ((book (trace_of_acts before f acts)).story (name_at t.requests p)) ≡ true
-  pub sourced : f.sources ++ sources_of f.single.link (length f.sources) acts ≡ t.sources
+  pub sourced : f.sources ++ sources_of f.single.link acts ≡ t.sources
 
 -- it is still to be let in when it holds its permits
 opening_taken : (t : Inner) (link : LinkState) (q : Waiting) (qs : List Waiting) (count free : ℕ) (timers : List Purpose) → IsOpening t link q qs → IsOpening (lets t q.number count free timers) link q qs
@@ -656,7 +655,7 @@ let_timed before f t link q qs count ms acts o e same h =
     record {
       going = subst (λ ts. IsGoing (trace_of_acts before f (acts ++ a ∷ [])) (lets t p count (t.free - count) ts)) (append_assoc f.timers (timers_of f.single.link acts) (what ∷ []) ∙ ap (λ ts. f.timers ++ ts) (sym (timers_more f.single.link acts a))) there;
       is = ap (is_let_in t.limit) story_is ∙ (λ i. h.has i && or_true (is_none (b.story n).timeout) i);
-      sourced = ap (λ ss. f.sources ++ ss) (quiet_sources f.single.link (length f.sources) acts a refl) ∙ h.sourced;
+      sourced = ap (λ ss. f.sources ++ ss) (quiet_sources f.single.link acts a refl) ∙ h.sourced;
     }
 
 -- by its time

@@ -133,7 +133,6 @@ opening_numbers config word info timeout some is = record {
   links = refl;
   timers = refl;
   sources = refl;
-  uses = λ k what e. cc;
   aims = first_aims timeout;
   timed = λ other told bounded. bounded_timers timeout (λ none. bounded (ap connect_timeout (sym (same_config config other told)) ∙ is ∙ none));
   submissions = refl;
@@ -214,7 +213,7 @@ opening_tied config word info timeout some is = record {
   notices = record { heard_is = refl; hearing_is = refl; within = λ y. omega arith; untold_is = λ y. refl; parts = λ y d z. cc; alive = λ z. refl; due = λ z. cc; tame = λ z r. refl };
   life = (refl, refl, refl, refl, last_first config);
   creds = record { wanted_is = refl; sought = (refl, refl, refl) };
-  count = refl;
+  uses = λ k what e. cc;
   renewal = record { over_is = refl; came = refl; waits = refl; untimed = refl; unstarted = refl; unasked = refl; unpending = refl; told = refl; kept = refl; found = refl };
   setup = record { info_is = refl; sent = λ k s less e. absurd (omega arith); said = (refl, refl) };
   link = λ e. asked_tied (owner_of []) blank_ledger (told_info config) (wants_credentials config) (hearing_of config) (is_last (settings_in (Some config)) 0) no_link (fresh_tied (owner_of []) 0 0);

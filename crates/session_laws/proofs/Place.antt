@@ -495,7 +495,7 @@ place_tied b t link q waiting admitted yes_awaited next h =
       notices = h.notices;
       life = h.life;
       creds = record { wanted_is = h.creds.wanted_is; sought = h.creds.sought };
-      count = h.count;
+      uses = h.uses;
       renewal = h.renewal;
       setup = record { info_is = h.setup.info_is; sent = h.setup.sent; said = h.setup.said };
       link = λ e. subst (λ x. TiedLink x (b.link t.link) (enqueued link (message_of q))) (sym (owners_still t.requests p progress.Placed)) (enqueued_tied (owner_of t.requests) (b.link t.link) link (message_of q) (h.link refl));
@@ -572,7 +572,7 @@ tell_tied b t link q waiting admitted not_awaited next h =
       notices = h.notices;
       life = h.life;
       creds = record { wanted_is = h.creds.wanted_is; sought = h.creds.sought };
-      count = h.count;
+      uses = h.uses;
       renewal = h.renewal;
       setup = record { info_is = h.setup.info_is; sent = h.setup.sent; said = h.setup.said };
       link = λ e. subst (λ x. TiedLink x (b.link t.link) (enqueued link (message_of q))) (sym (owners_with t.requests p progress.Closed 0)) (enqueued_tied (owner_of t.requests) (b.link t.link) link (message_of q) (h.link refl));
@@ -632,7 +632,7 @@ admit_tied b t link q qs w is last h =
       notices = h.notices;
       life = h.life;
       creds = record { wanted_is = h.creds.wanted_is; sought = h.creds.sought };
-      count = h.count;
+      uses = h.uses;
       renewal = h.renewal;
       setup = record { info_is = h.setup.info_is; sent = h.setup.sent; said = h.setup.said };
       link = λ e. subst (λ x. TiedLink x (b.link t.link) link) (sym (owners_still t.requests p now)) (h.link refl);

@@ -30,7 +30,7 @@ use Rattle.session_laws.proofs.Renewals.{due_is, due_well, none_renewed_due, ren
 use Rattle.session_laws.proofs.Said.{recredited, setup_on, setup_recredited, well_on, well_recredited, mild_end, renoticed}
 use Rattle.session_laws.proofs.Settle.{renewal_over, seen, trace_of_acts}
 use Rattle.session_laws.proofs.States.{Between, HasApplied, trace_with}
-use Rattle.session_laws.proofs.Tied.{AreRenewed, AreSought, NoneRenewed, Tied, TiedCreds, TiedLife, TiedRenewal, TiedSetup, carried, has_ended, inner, sources_asked_in, whole_link}
+use Rattle.session_laws.proofs.Tied.{AreRenewed, AreSought, NoneRenewed, Tied, TiedCreds, TiedLife, TiedRenewal, TiedSetup, carried, has_ended, inner, whole_link}
 use Rattle.session_laws.proofs.ComeUp.{early_sources}
 
 -- a link that has ended
@@ -96,18 +96,6 @@ ready_renewal before c started word kind n link renewals over lost r h good k is
       fit = record { wanting = h.fit.wanting; setup = h.fit.setup; link = h.fit.link; none = h.fit.none };
     }
 
--- a second source
---
--- no link has one before it is set up
-early_second : (c : Sourced) (life : Life) (n : ℕ) → is_ready life ≡ false → has_ended life ≡ false → AreSought c life → n ≡ sources_asked_in c → 2 ≤ n → ⊥
-early_second c life n unready alive h count two = few_sources c.asked c.renews n (early_sources c life unready alive h) count two
-  where
-    few_sources : (a b : Bool) (n : ℕ) → b ≡ false → n ≡ (if a then 1 else 0) + (if b then 1 else 0) → 2 ≤ n → ⊥
-    few_sources true true n once count two = cc
-    few_sources false true n once count two = cc
-    few_sources true false n once count two = omega arith
-    few_sources false false n once count two = omega arith
-
 -- new credentials come
 --
 -- some are behind others
@@ -137,9 +125,9 @@ may_is : (l : Ledger) (r : Renewal) → l.up ≡ true → is_set_up l ≡ true �
 may_is l r up well renews over = λ i. up i && well i && renews i && not (over i)
 
 -- so it does
-pub renewed_applied : (before : List Action) (c : Core) (started : List ℕ) (word : ℕ) (kind : EventKind) (a : Credentials) → Between before c started → is_bad c kind ≡ false → IsNewsKind c.timers kind → news_of c.timers c.sources c.single.link kind ≡ renewed a → 2 ≤ length c.sources
+pub renewed_applied : (before : List Action) (c : Core) (started : List ℕ) (word : ℕ) (kind : EventKind) (a : Credentials) → Between before c started → is_bad c kind ≡ false → IsNewsKind c.timers kind → news_of c.timers c.sources c.single.link kind ≡ renewed a → ((book before).link c.single.link).creds.renews ≡ true
     → HasApplied (before ++ turn_of c word kind ∷ []) (with_work (record { core = turned c kind; acts = [] }) (record { conn = expecting c.single.connection a; acts = [] })) started
-renewed_applied before c started word kind a h good k is two = by_life c.single.connection.life refl
+renewed_applied before c started word kind a h good k is renews = by_life c.single.connection.life refl
   where
     b : Book
     b = book before
@@ -158,7 +146,7 @@ renewed_applied before c started word kind a h good k is two = by_life c.single.
     unready x e unset d = subst done (sym (left_if (is_ready conn.life && takes_more conn.renewal) (with_renewal conn (expected conn.renewal a)) conn (ap (λ y. y && takes_more conn.renewal) (ap is_ready e ∙ unset)))) d
 
     early : (x : Life) → conn.life ≡ x → is_ready x ≡ false → has_ended x ≡ false → done (expecting conn a)
-    early x e unset alive = absurd (early_second l.creds conn.life (length c.sources) (ap is_ready e ∙ unset) (ap has_ended e ∙ alive) h.sound.tied.creds.sought h.sound.tied.count two)
+    early x e unset alive = absurd (not_both l.creds.renews (early_sources l.creds conn.life (ap is_ready e ∙ unset) (ap has_ended e ∙ alive) h.sound.tied.creds.sought) renews)
 
     ready : (link : LinkState) → conn.life ≡ Ready link → done (expecting conn a)
     ready link e =
@@ -204,9 +192,9 @@ none_follows l r n h = record {
 }
 
 -- the source has ended
-pub unrenewed_applied : (before : List Action) (c : Core) (started : List ℕ) (word : ℕ) (kind : EventKind) → Between before c started → is_bad c kind ≡ false → IsNewsKind c.timers kind → news_of c.timers c.sources c.single.link kind ≡ unrenewed → 2 ≤ length c.sources
+pub unrenewed_applied : (before : List Action) (c : Core) (started : List ℕ) (word : ℕ) (kind : EventKind) → Between before c started → is_bad c kind ≡ false → IsNewsKind c.timers kind → news_of c.timers c.sources c.single.link kind ≡ unrenewed → ((book before).link c.single.link).creds.renews ≡ true
     → HasApplied (before ++ turn_of c word kind ∷ []) (with_work (record { core = turned c kind; acts = [] }) (record { conn = none_follow c.single.connection; acts = [] })) started
-unrenewed_applied before c started word kind h good k is two = by_life c.single.connection.life refl
+unrenewed_applied before c started word kind h good k is renews = by_life c.single.connection.life refl
   where
     conn : MultiplexedConnection
     conn = c.single.connection
@@ -221,7 +209,7 @@ unrenewed_applied before c started word kind h good k is two = by_life c.single.
     done x = HasApplied (before ++ turn_of c word kind ∷ []) (with_work (record { core = turned c kind; acts = [] }) (record { conn = x; acts = [] })) started
 
     early : (x : Life) → conn.life ≡ x → is_ready x ≡ false → has_ended x ≡ false → done (none_follow conn)
-    early x e unset alive = absurd (early_second l.creds conn.life (length c.sources) (ap is_ready e ∙ unset) (ap has_ended e ∙ alive) h.sound.tied.creds.sought h.sound.tied.count two)
+    early x e unset alive = absurd (not_both l.creds.renews (early_sources l.creds conn.life (ap is_ready e ∙ unset) (ap has_ended e ∙ alive) h.sound.tied.creds.sought) renews)
 
     by_life : (x : Life) → conn.life ≡ x → done (none_follow conn)
     by_life Dialing e = early Dialing e refl refl

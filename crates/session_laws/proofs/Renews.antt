@@ -105,7 +105,6 @@ time_tied b t link number ms none due within h =
         links = k.links;
         timers = ap (λ ts. ts ++ what ∷ []) h.numbers.timers;
         sources = k.sources;
-        uses = k.uses;
         aims = aims_renewed t.timers t.link (length t.table) r.asked h.numbers.aims;
         timed = k.timed;
         submissions = k.submissions;
@@ -127,7 +126,7 @@ time_tied b t link number ms none due within h =
       notices = h.notices;
       life = h.life;
       creds = record { wanted_is = h.creds.wanted_is; sought = h.creds.sought };
-      count = h.count;
+      uses = h.uses;
       renewal = timed_renewed l r ms none due within h.renewal;
       setup = record { info_is = h.setup.info_is; sent = h.setup.sent; said = record { well = h.setup.said.well; none = h.setup.said.none } };
       link = λ e. timed_tied (owner_of t.requests) l link (h.link refl);
@@ -234,7 +233,6 @@ auth_tied b t link c cs due pending waits h =
         links = k.links;
         timers = k.timers;
         sources = k.sources;
-        uses = k.uses;
         aims = k.aims;
         timed = k.timed;
         submissions = k.submissions;
@@ -256,7 +254,7 @@ auth_tied b t link c cs due pending waits h =
       notices = h.notices;
       life = h.life;
       creds = record { wanted_is = h.creds.wanted_is; sought = h.creds.sought };
-      count = h.count;
+      uses = h.uses;
       renewal = auth_renewed l t.renewal s c cs owned refl up.within due pending waits h.renewal;
       setup = record { info_is = h.setup.info_is; sent = setups_begins l s (ap is_of_setup owned) h.setup.sent; said = set_up_begins l s (ap is_of_setup owned) h.setup.said };
       link = λ e. begun_tied name l link q (auth_some c) up;

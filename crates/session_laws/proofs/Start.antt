@@ -332,7 +332,7 @@ start_tied b t link q qs h =
       notices = h.notices;
       life = h.life;
       creds = record { wanted_is = h.creds.wanted_is; sought = h.creds.sought };
-      count = h.count;
+      uses = h.uses;
       renewal = begins_renewed l t.renewal s (ap is_of_renewal try_is) h.renewal;
       setup = record { info_is = h.setup.info_is; sent = setups_begins l s (ap is_of_setup try_is) h.setup.sent; said = set_up_begins l s (ap is_of_setup try_is) h.setup.said };
       link = λ e. queue_tied name (noted l (begins s)) (begun (with_queue link (q ∷ qs)) q) qs (begun_tied name l (with_queue link (q ∷ qs)) q (queued_some b was q h within is) up);

@@ -108,12 +108,12 @@ shows_timers l acts requests ss = timers_of-append l acts (shows requests ss) �
     none (s ∷ ss) = none ss
 
 -- nor for a source of credentials
-pub shows_sources : (l n : ℕ) (acts : List LinkAct) (requests : List Request) (ss : List Started) → sources_of l n (acts ++ shows requests ss) ≡ sources_of l n acts
-shows_sources l n acts requests ss = sources_of-append l n acts (shows requests ss) ∙ ap (λ us. sources_of l n acts ++ us) (none (n + length (sources_of l n acts)) ss) ∙ append-nil (sources_of l n acts)
+pub shows_sources : (l : ℕ) (acts : List LinkAct) (requests : List Request) (ss : List Started) → sources_of l (acts ++ shows requests ss) ≡ sources_of l acts
+shows_sources l acts requests ss = sources_of-append l acts (shows requests ss) ∙ ap (λ us. sources_of l acts ++ us) (none ss) ∙ append-nil (sources_of l acts)
   where
-    none : (m : ℕ) (ss : List Started) → sources_of l m (shows requests ss) ≡ []
-    none m [] = refl
-    none m (s ∷ ss) = none (m + 0) ss
+    none : (ss : List Started) → sources_of l (shows requests ss) ≡ []
+    none [] = refl
+    none (s ∷ ss) = none ss
 
 -- what is in a queue starts as long as nothing holds it back
 pub each_going : (before : List Action) (n c : ℕ) (acts : List LinkAct) (t : Inner) (s : Starting) (qs : List Queued) → IsFit t.size t.bound (with_queue s.link qs) → HasSeats t.moved (in_front t.renewal) (with_queue s.link qs) t.size

@@ -8,6 +8,7 @@ use Rattle.driver_model.specs.declared.action.Action.{Action}
 use Rattle.driver_model.specs.declared.action.Owner.{Owner}
 use Rattle.driver_model.specs.declared.action.Purpose.{Purpose}
 use Rattle.driver_model.specs.declared.action.SourceUse.{SourceUse}
+use Rattle.driver_model.specs.declared.action.SourceUse.TheVariants as source
 use Rattle.driver_model.specs.declared.action.Owner.TheVariants as owner
 use Rattle.driver_model.specs.Config.{boundary}
 use Rattle.driver_model.specs.Setup.{says_nothing, setup_shape}
@@ -41,7 +42,6 @@ use Rattle.mux_conn.specs.declared.request.Waiting.{Waiting}
 use Rattle.mux_conn.specs.Effects.{setup_queued, setup_id}
 use Rattle.mux_conn.specs.Requests.{name_at, permits_at, is_open_at, is_waiting_at, is_admitted_at, is_placed_at}
 use Rattle.shared_session.specs.declared.core_state.Core.{Core}
-use Rattle.shared_session.specs.Turn.{use_after}
 use Rattle.legal_trace.specs.Ledger.{Ledger, Heard, Sourced, Start, End, blank_ledger, cut, failure_in, is_cut, is_done, is_full, is_greeted, is_of_renewal, is_over, is_set_up, is_taken, last_renewal, monitor_of, next_notice, renewal_count, renewals_asked, setup_count, setup_steps, setup_after}
 use Rattle.legal_trace.specs.Story.{Story, blank_story, is_open, is_told, bytes_of, shape, is_awaited}
 use Rattle.legal_trace.specs.Book.{Book, blank_book, book, has_generations, hearing_in, info_in, kind_in}
@@ -175,9 +175,15 @@ IsAim (purpose.Response (owner.Try n round)) link count = (n < count) × (round 
 abbrev pub AreAimed : List Purpose → ℕ → ℕ → Type 0
 AreAimed timers link count = (k : ℕ) (what : Purpose) → slice_get timers k ≡ Some what → IsAim what link count
 
--- the first source of credentials is for the setup of this link, and all others are for its renewals
-abbrev pub AreUses : List SourceUse → ℕ → Type 0
-AreUses sources link = (k : ℕ) (what : SourceUse) → slice_get sources k ≡ Some what → what ≡ use_after link k
+-- a source of credentials is for this link or one before it; and where it is for this, for its setup or for its renewals, the link
+-- knows of it
+abbrev pub IsUse : SourceUse → ℕ → Bool → Bool → Type 0
+IsUse (source.Setup l) link asked renews = (l ≤ link) × (l ≡ link → asked ≡ true)
+IsUse (source.Renewal l) link asked renews = (l ≤ link) × (l ≡ link → renews ≡ true)
+
+-- all sources are
+abbrev pub AreUses : List SourceUse → ℕ → Bool → Bool → Type 0
+AreUses sources link asked renews = (k : ℕ) (what : SourceUse) → slice_get sources k ≡ Some what → IsUse what link asked renews
 
 -- the configuration that the book tells has a queue of this size, which is not none, this boundary, and so many permits,
 -- which are not none, if they are counted
@@ -196,15 +202,14 @@ pub record IsBare (table : List (Option Pending)) (r : Renewal) : Type 0 where
 
 -- the numbers that the session gives are those of the book, and so is what it is, which has no generations, and what its servers are
 -- told; its connection's link is the one that submissions go to, and the last that was asked for; all timers are for it, for one
--- before it, or for a submission, all sources of credentials are for it, and a timer was asked for each bounded connect; what is told
--- to its server is to be answered within the configured time; and no more numbers were given to submissions than there are
+-- before it, or for a submission, and one was asked for each bounded connect; what is told to its server is to be answered within the
+-- configured time; and no more numbers were given to submissions than there are
 pub record TiedNumbers (b : Book) (t : Inner) : Type 0 where
   pub turns : b.turns ≡ t.turns
   pub links : b.links ≡ t.links
   pub submissions : b.submissions ≡ length t.table
   pub timers : b.timers ≡ t.timers
   pub sources : b.sources ≡ t.sources
-  pub uses : AreUses t.sources t.link
   pub aims : AreAimed t.timers t.link (length t.table)
   pub timed : IsTimed b
   pub timeout : b.timeout ≡ t.timeout
@@ -288,10 +293,6 @@ AreSought c (Wanting link) = (c.wanted ≡ true) × (c.asked ≡ true) × (c.giv
 AreSought c (SettingUp link greeting) = HasCredentials c × (c.renews ≡ false)
 AreSought c (Ready link) = HasCredentials c × (c.renews ≡ c.wanted)
 AreSought c (Ended e) = Unit {0}
-
--- how many sources were asked for by then
-abbrev pub sources_asked_in : Sourced → ℕ
-sources_asked_in c = (if c.asked then 1 else 0) + (if c.renews then 1 else 0)
 
 -- whether they come of sources is the same for the link and the session
 pub record TiedCreds (c : Sourced) (wanted : Bool) (life : Life) : Type 0 where
@@ -602,7 +603,7 @@ pub record Tied (b : Book) (t : Inner) : Type 0 where
   pub notices : TiedNotices (hearing_in b.config) t.hears (b.link t.link).hearing (b.link t.link).notices (b.link t.link).told (b.link t.link).end (b.link t.link).parted (b.link t.link).strange (is_reading (b.link t.link)) t.untold t.parting
   pub life : TiedLife (b.link t.link) b.created t.life
   pub creds : TiedCreds (b.link t.link).creds t.renewal.wanted t.life
-  pub count : length t.sources ≡ sources_asked_in (b.link t.link).creds
+  pub uses : AreUses t.sources t.link (b.link t.link).creds.asked (b.link t.link).creds.renews
   pub renewal : TiedRenewal (b.link t.link) t.renewal t.life
   pub setup : TiedSetup (b.link t.link) t.info t.started t.life
   pub link : has_ended t.life ≡ false → TiedLink (carried t.life t.requests) (b.link t.link) (whole_link t.life)
@@ -664,7 +665,6 @@ numbers_kept b link story errors t life free requests waiting admitted fresh mov
   links = h.links;
   timers = h.timers;
   sources = h.sources;
-  uses = h.uses;
   aims = h.aims;
   timed = h.timed;
   submissions = h.submissions;
@@ -695,7 +695,7 @@ relined b t waiting admitted fresh moved pending h lines waits late = record {
   notices = h.notices;
   life = h.life;
   creds = h.creds;
-  count = h.count;
+  uses = h.uses;
   renewal = h.renewal;
   setup = h.setup;
   link = h.link;

@@ -46,7 +46,7 @@ write_tied b t link h =
       notices = h.notices;
       life = h.life;
       creds = record { wanted_is = h.creds.wanted_is; sought = h.creds.sought };
-      count = h.count;
+      uses = h.uses;
       renewal = renewal_alike l (noted l line) t.renewal (Ready link) refl refl refl h.renewal;
       setup = record { info_is = h.setup.info_is; sent = h.setup.sent; said = record { well = h.setup.said.well; none = h.setup.said.none } };
       link = λ e. offered_tied (owner_of t.requests) l link (h.link refl);
@@ -71,7 +71,7 @@ write_set_tied b t link greeting h =
       notices = h.notices;
       life = h.life;
       creds = record { wanted_is = h.creds.wanted_is; sought = h.creds.sought };
-      count = h.count;
+      uses = h.uses;
       renewal = renewal_alike l (noted l line) t.renewal (SettingUp link greeting) refl refl refl h.renewal;
       setup = setup_link (noted l line) t.info t.started link (offered_of link) greeting refl refl
           (setup_on l l.asked l.up l.end l.taken link.outbox.unwritten l.rest l.heard t.info t.started (SettingUp link greeting) h.setup);

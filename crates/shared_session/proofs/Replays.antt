@@ -71,6 +71,7 @@ told_shown link (act.Took n count ∷ more) os t c = told_shown link more os _ _
 told_shown link (act.Timer n ms ∷ more) os t c = told_shown link more os _ _
 told_shown link (act.RenewalTimer k ms ∷ more) os t c = told_shown link more os _ _
 told_shown link (act.NeedCreds ∷ more) os t c = told_shown link more os _ _
+told_shown link (act.NeedRenewals ∷ more) os t c = told_shown link more os _ _
 told_shown link (act.Renewed message need len ∷ more) os t c = told_shown link more os _ _
 told_shown link (act.Watch message need len ∷ more) os t c = told_shown link more os _ _
 told_shown link (act.Push info ∷ more) os t c = told_shown link more os _ _

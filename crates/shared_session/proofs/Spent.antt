@@ -155,22 +155,19 @@ few_in_turn c d kind acts is free =
 
 -- and each of its sources
 pub few_sources_in_turn : (c d : Core) (kind : EventKind) (acts : List LinkAct) → ◌≡◌ {A = Turning} (record { core = d; acts = acts }) (next_turn c kind) → has_run_out d ≡ false
-    → length c.sources + length (sources_of c.single.link (length c.sources) acts) < 2 ^ 32
+    → length c.sources + length (sources_of c.single.link acts) < 2 ^ 32
 unfolding next_turn
 few_sources_in_turn c d kind acts is free =
     let w = whole_effect (counted c) kind in
     let l = c.single.link in
     let s = length c.sources in
-    let new = sources_of w.core.single.link (length w.core.sources) w.acts in
+    let new = sources_of w.core.single.link w.acts in
     let all : d.sources ≡ w.core.sources ++ new = ap (λ (t : Turning). t.core.sources) is in
     let link : w.core.single.link ≡ l = effect_link (counted c) kind in
     let same : acts ≡ w.acts = ap (λ (t : Turning). t.acts) is in
     let k : length w.core.sources ≡ s = ap length (effect_sources (counted c) kind) in
     let n : length d.sources ≡ length w.core.sources + length new = ap length all ∙ length-append w.core.sources new in
-    let m : length (sources_of l s acts) ≡ length new =
-    ap (λ (xs : List LinkAct). length (sources_of l s xs)) same
-    ∙ ap (λ (x : ℕ). length (sources_of x s w.acts)) (sym link)
-    ∙ ap (λ (x : ℕ). length (sources_of w.core.single.link x w.acts)) (sym k) in
+    let m : length (sources_of l acts) ≡ length new = ap (λ (xs : List LinkAct). length (sources_of l xs)) same ∙ ap (λ (x : ℕ). length (sources_of x w.acts)) (sym link) in
     omega (arith, sources_left d free, n, m, k)
 
 higher : (n m : ℕ) → n ≤ m → nat_le (2 ^ 32) n ≡ true → nat_le (2 ^ 32) m ≡ true
@@ -188,7 +185,7 @@ spent_numbered : (t : Turning) → has_run_out t.core ≡ true → has_run_out (
 unfolding has_run_out
 spent_numbered t h =
     let timers = timers_of t.core.single.link t.acts in
-    let sources = sources_of t.core.single.link (length t.core.sources) t.acts in
+    let sources = sources_of t.core.single.link t.acts in
     or_either (is_used_up t.core.single.connection) (nat_le (2 ^ 32) (length t.core.table)) (nat_le (2 ^ 32) (length t.core.timers)) (nat_le (2 ^ 32) (length t.core.sources)) (nat_le (2 ^ 32) (length (t.core.timers ++ timers))) (nat_le (2 ^ 32) (length (t.core.sources ++ sources)))
     (higher (length t.core.timers) (length (t.core.timers ++ timers)) (omega (arith, length-append t.core.timers timers)))
     (higher (length t.core.sources) (length (t.core.sources ++ sources)) (omega (arith, length-append t.core.sources sources))) h

@@ -168,6 +168,7 @@ timer_of l (act.RenewalTimer k ms) = purpose.Renewal l k ∷ []
 timer_of l (act.Took n count) = []
 timer_of l (act.Created e) = []
 timer_of l act.NeedCreds = []
+timer_of l act.NeedRenewals = []
 timer_of l (act.SetUp message need len) = []
 timer_of l (act.Renewed message need len) = []
 timer_of l (act.Push info) = []
@@ -185,42 +186,37 @@ abbrev pub timers_of : ℕ → List LinkAct → List Purpose
 timers_of l [] = []
 timers_of l (a ∷ more) = timer_of l a ++ timers_of l more
 
--- what the next source of credentials is for, behind so many: the first is for the setup of link l, and any other for its
--- renewals
-abbrev pub use_after : ℕ → ℕ → SourceUse
-use_after l zero = source.Setup l
-use_after l (suc n) = source.Renewal l
-
--- what the source of an act is for, behind so many, if it asks for one
-abbrev pub source_of : ℕ → ℕ → LinkAct → List SourceUse
-source_of l n act.NeedCreds = use_after l n ∷ []
-source_of l n (act.Created e) = []
-source_of l n (act.Took m count) = []
-source_of l n (act.Timer m ms) = []
-source_of l n (act.RenewalTimer k ms) = []
-source_of l n (act.SetUp message need len) = []
-source_of l n (act.Renewed message need len) = []
-source_of l n (act.Push info) = []
-source_of l n (act.Message m) = []
-source_of l n (act.Monitor v) = []
-source_of l n (act.Watch message need len) = []
-source_of l n act.Close = []
-source_of l n (act.Write bytes) = []
-source_of l n (act.Wait m kind) = []
-source_of l n (act.Start message m need len) = []
-source_of l n (act.Outcome m o) = []
+-- what the source of an act of the connection of link l is for, if it asks for one
+abbrev pub source_of : ℕ → LinkAct → List SourceUse
+source_of l act.NeedCreds = source.Setup l ∷ []
+source_of l act.NeedRenewals = source.Renewal l ∷ []
+source_of l (act.Created e) = []
+source_of l (act.Took m count) = []
+source_of l (act.Timer m ms) = []
+source_of l (act.RenewalTimer k ms) = []
+source_of l (act.SetUp message need len) = []
+source_of l (act.Renewed message need len) = []
+source_of l (act.Push info) = []
+source_of l (act.Message m) = []
+source_of l (act.Monitor v) = []
+source_of l (act.Watch message need len) = []
+source_of l act.Close = []
+source_of l (act.Write bytes) = []
+source_of l (act.Wait m kind) = []
+source_of l (act.Start message m need len) = []
+source_of l (act.Outcome m o) = []
 
 -- what the sources of acts are for, in order
-abbrev pub sources_of : ℕ → ℕ → List LinkAct → List SourceUse
-sources_of l n [] = []
-sources_of l n (a ∷ more) = source_of l n a ++ sources_of l (n + length (source_of l n a)) more
+abbrev pub sources_of : ℕ → List LinkAct → List SourceUse
+sources_of l [] = []
+sources_of l (a ∷ more) = source_of l a ++ sources_of l more
 
 -- the timers and the sources of the turn have got their numbers
 abbrev pub numbered : Turning → Turning
 numbered t = record t {
   core = record t.core {
     timers = t.core.timers ++ timers_of t.core.single.link t.acts;
-    sources = t.core.sources ++ sources_of t.core.single.link (length t.core.sources) t.acts;
+    sources = t.core.sources ++ sources_of t.core.single.link t.acts;
   };
 }
 
@@ -235,6 +231,7 @@ shown l t c (act.Took n count) = action.Took (owner.Try n 0) l count
 shown l t c (act.Timer n ms) = action.Timer t ms (purpose.Response (owner.Try n 0))
 shown l t c (act.RenewalTimer k ms) = action.Timer t ms (purpose.Renewal l k)
 shown l t c act.NeedCreds = action.NeedCreds c l
+shown l t c act.NeedRenewals = action.NeedCreds c l
 shown l t c (act.SetUp message need len) = action.Start l message owner.Setup need len
 shown l t c (act.Renewed message need len) = action.Start l message owner.Auth need len
 shown l t c (act.Push info) = action.Push l info
@@ -249,7 +246,7 @@ shown l t c (act.Outcome n o) = action.Outcome n o
 
 abbrev pub shown_each : ℕ → ℕ → ℕ → List LinkAct → List Action
 shown_each l t c [] = []
-shown_each l t c (a ∷ more) = shown l t c a ∷ shown_each l (t + length (timer_of l a)) (c + length (source_of l c a)) more
+shown_each l t c (a ∷ more) = shown l t c a ∷ shown_each l (t + length (timer_of l a)) (c + length (source_of l a)) more
 
 -- what one turn shows behind its first action
 abbrev pub effects_of : Core → Event → List Action

@@ -1,7 +1,7 @@
 ghost use Rattle.std.specs.Prelude.{◌≡◌, ◌<◌, ◌≤◌, ◌+◌, ◌++◌, ◌∷◌, ◌^◌, [], length, slice_get};
 ghost use Rattle.std.specs.Prelude.{true, false, None, Some, OnOk, OnErr, IfErr, IsErrOf};
 ghost use Rattle.std.specs.Prelude.{nat_le};
-ghost use Rattle.shared_session.specs.Turn.{timer_of, timers_of, source_of, sources_of, use_after};
+ghost use Rattle.shared_session.specs.Turn.{timer_of, timers_of, source_of, sources_of};
 
 use containers::{Bytes, Seq};
 use driver_model::{EventKind, Outcome, Owner, Purpose, SessionKind, SourceUse, Submission};
@@ -425,7 +425,7 @@ impl Core {
             ) }
         ensures sources { OnOk result (
             length self.old.sources
-            + length (sources_of self.old.single.link (length self.old.sources) acts.new.items)
+            + length (sources_of self.old.single.link acts.new.items)
             < 2 ^ 32
             ) }
         ensures spent { IsErrOf result ConnectionError.Spent
@@ -480,7 +480,7 @@ fn note_timer(link: u32, act: &LinkAct, timers: &mut Seq<Purpose>) -> Result<(),
 /// What the sources of acts of the connection of that link are for is kept, in order.
 fn note_sources(link: u32, acts: &[LinkAct], sources: &mut Seq<SourceUse>) -> Result<(), AllocError>
     ensures { OnOk result (
-        sources.new ≡ sources.old ++ sources_of link (length sources.old) acts.now
+        sources.new ≡ sources.old ++ sources_of link acts.now
         ) }
 {
     for act in acts {
@@ -489,25 +489,13 @@ fn note_sources(link: u32, acts: &[LinkAct], sources: &mut Seq<SourceUse>) -> Re
     Ok(())
 }
 
-/// What the source of an act is for is kept, if it asks for one: the first is for the setup, and any other for renewals.
+/// What the source of an act is for is kept, if it asks for one.
 fn note_source(link: u32, act: &LinkAct, sources: &mut Seq<SourceUse>) -> Result<(), AllocError>
-    ensures { OnOk result (
-        sources.new ≡ sources.old ++ source_of link (length sources.old) act.now
-        ) }
+    ensures { OnOk result (sources.new ≡ sources.old ++ source_of link act.now) }
 {
     match act {
-        LinkAct::NeedCreds => sources.push(use_after(link, sources.len())),
+        LinkAct::NeedCreds => sources.push(SourceUse::Setup { link }),
+        LinkAct::NeedRenewals => sources.push(SourceUse::Renewal { link }),
         _ => Ok(()),
-    }
-}
-
-/// What the next source of the connection of that link is for, behind so many.
-fn use_after(link: u32, count: usize) -> SourceUse
-    ensures { result ≡ use_after link count }
-{
-    if count == 0 {
-        SourceUse::Setup { link }
-    } else {
-        SourceUse::Renewal { link }
     }
 }

@@ -489,7 +489,7 @@ fn show_turn(
     out: &mut Vec<Action>,
 ) -> Result<Vec<LinkAct>, AllocError>
     requires timers { timers + length (timers_of link acts.items) < 2 ^ 32 }
-    requires sources { sources + length (sources_of link sources acts.items) < 2 ^ 32 }
+    requires sources { sources + length (sources_of link acts.items) < 2 ^ 32 }
     ensures actions { OnOk result (
         out.new.items ≡ out.old.items ++ shown_each link timers sources acts.items
         ) }

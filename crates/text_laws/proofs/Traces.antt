@@ -34,6 +34,7 @@ no_causes l t c (act.Took n count ∷ more) = no_causes l (t + 0) (c + 0) more
 no_causes l t c (act.Timer n ms ∷ more) = no_causes l (t + 1) (c + 0) more
 no_causes l t c (act.RenewalTimer k ms ∷ more) = no_causes l (t + 1) (c + 0) more
 no_causes l t c (act.NeedCreds ∷ more) = no_causes l (t + 0) (c + 1) more
+no_causes l t c (act.NeedRenewals ∷ more) = no_causes l (t + 0) (c + 1) more
 no_causes l t c (act.Close ∷ more) = no_causes l (t + 0) (c + 0) more
 no_causes l t c (act.Push info ∷ more) = no_causes l (t + 0) (c + 0) more
 no_causes l t c (act.Message m ∷ more) = no_causes l (t + 0) (c + 0) more

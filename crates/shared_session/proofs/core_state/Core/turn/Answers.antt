@@ -19,11 +19,11 @@ with_numbers d acts timers sources = record { core = record d { timers = timers;
 
 -- a turn ends with the numbers of its timers and its sources
 ends : (c d : Core) (kind : EventKind) (acts start noted others : List LinkAct) (timers : List Purpose) (sources : List SourceUse) → ◌≡◌ {A = Turning} (record { core = d; acts = acts }) (whole_effect (record { core = record c { turns = c.turns + 1 }; acts = start }) kind) → start ≡ []
-    → timers ≡ d.timers ++ timers_of d.single.link noted → noted ≡ acts → sources ≡ d.sources ++ sources_of d.single.link (length d.sources) others → others ≡ acts → ◌≡◌ {A = Turning} (with_numbers d acts timers sources) (next_turn c kind)
+    → timers ≡ d.timers ++ timers_of d.single.link noted → noted ≡ acts → sources ≡ d.sources ++ sources_of d.single.link others → others ≡ acts → ◌≡◌ {A = Turning} (with_numbers d acts timers sources) (next_turn c kind)
 unfolding next_turn
 ends c d kind acts start noted others timers sources ran none all same alls sames =
     ap (λ (ts : List Purpose). with_numbers d acts ts sources) (all ∙ ap (λ (xs : List LinkAct). d.timers ++ timers_of d.single.link xs) same)
-    ∙ ap (λ (ss : List SourceUse). with_numbers d acts (d.timers ++ timers_of d.single.link acts) ss) (alls ∙ ap (λ (xs : List LinkAct). d.sources ++ sources_of d.single.link (length d.sources) xs) sames)
+    ∙ ap (λ (ss : List SourceUse). with_numbers d acts (d.timers ++ timers_of d.single.link acts) ss) (alls ∙ ap (λ (xs : List LinkAct). d.sources ++ sources_of d.single.link xs) sames)
     ∙ ap numbered (ran ∙ begins c start kind none)
 
 pub run-requires-clause-good : goal.run-requires-clause-good
