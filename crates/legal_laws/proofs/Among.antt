@@ -20,6 +20,7 @@ use Rattle.driver_model.specs.News.{News, silence, connected, refused, overdue, 
 use Rattle.legal_trace.specs.Ledger.{Ledger, Heard, Line, Start, asks, hears, begins, offers, tells, ends, parts, noted, noted_each, with_news, refused_in, bytes_came, is_over, dials, reach, reached, is_full, is_full_by, next_notice, sources, awaits_credentials, authorized_by, times, may_renew, renewed_by, unrenewed_by, is_renewal_open, lost_by}
 use Rattle.legal_trace.specs.Story.{Story, Try, last_of, is_open, handed_in, left, holds, clocked, fires, tried, waits, answered}
 use Rattle.legal_trace.specs.Book.{Book, blank_book, book, entered, entered_each, is_clock_of, after_event, is_unspoken, message_of, if_mine, lines_of, lines_of_each, hearing_in}
+use Rattle.legal_trace.proofs.Clocks.{timer_keeps}
 use Rattle.legal_trace.specs.Legal.{MayStand, MayNotify, MayAnswer, MayTell, AllStand, IsOpen, IsBefore, is_heard, Legal}
 use Rattle.legal_trace.proofs.Books.{stand_front, stand_behind, book_append}
 use Rattle.legal_trace.proofs.Ledgers.{each_keeps, reach_alike, reach_more, takes_one}
@@ -131,7 +132,7 @@ message_from : (b : Book) (a : Action) (l n k : ℕ) → HasStories b → IsFrom
 message_from b (action.Turn j (cause.Opening config word)) l n k blank = λ o h. inl (o, h)
 message_from b (action.Turn j (cause.Event e)) l n k blank = event_from b (action.Turn j (cause.Event e)) l n k e.kind blank
 message_from b (action.Connect m host port) l n k blank = λ o h. inl (o, h)
-message_from b (action.Timer t ms what) l n k blank = chosen (IsFrom b (action.Timer t ms what) l n k) (is_clock_of n (Some what)) (clocked (b.story n) t) (b.story n) (λ e o h. inl (o, h)) (λ f o h. inl (o, h))
+message_from b (action.Timer t ms what) l n k blank = timer_keeps (IsFrom b (action.Timer t ms what) l n k) b n t what (λ e open_still o h. inl (o, h)) (λ e o h. inl (o, h)) (λ o h. inl (o, h))
 message_from b (action.Took owner.Setup m count) l n k blank = λ o h. inl (o, h)
 message_from b (action.Took owner.Auth m count) l n k blank = λ o h. inl (o, h)
 message_from b (action.Took owner.Resub m count) l n k blank = λ o h. inl (o, h)
@@ -241,7 +242,7 @@ told_takes : (b : Book) (l n : ℕ) (what : Notice) (p : Heard) → Sound b → 
 told_takes b l n what p sound row may next = record {
   dealt = (between_at 0 (b.link l).notices (length (b.link l).dealt) (b.link l).told p row.rise next).1;
   takes = λ k o has. by_test (is_full_by (b.link l) p.after k) (p.after < reached (b.link l) (k + 1))
-      (λ t. absurd (may.answered n o (on_its_link b n l what sound may) (record {
+      (λ t. absurd (may.answered n o (on_its_link b n l what sound o may) (record {
         try = record { link = l; message = k };
         last = has;
         full = subst (λ (q : Heard). is_full_by (b.link l) q.after k ≡ true) (same_some p may.heard (sym next ∙ may.next)) t;
@@ -302,7 +303,7 @@ answers_before b middle more a l n k o p sound row all is next has full =
     let numbered : n < b.submissions = open_is_numbered b n sound.stories may.asked in
     let some : b.turns ≢ 0 = λ none. let empty : b.submissions ≡ 0 = sound.opens.none_yet (omega (arith, none)) in omega (arith, numbered, empty) in
     let heard : is_heard b ≡ true = sym (ap (λ config. hears_something (hearing_in config)) (config_kept b (answer ∷ middle) front some)) ∙ t.1.is_heard in
-    let on : (b.story n).link ≡ l = sound.goes n ∙ (sym (sound_later.goes n) ∙ on_its_link later n l t.0 sound_later t.1) in
+    let on : (b.story n).link ≡ l = sym ((sound.goes n).tries_on (record { link = l; message = k }) has) in
     let count : ℕ = reached (b.link l) (k + 1) in
     let beyond : IsBeyond count (later.link l) = subst (IsBeyond count) (sym (told_behind b l (answer ∷ middle)))
     (each_keeps (IsBeyond count) (beyond_keeps count) (b.link l) (lines_of_each b l (answer ∷ middle)) (answered_beyond b l n k o row heard on may has full)) in

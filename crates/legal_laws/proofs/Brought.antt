@@ -370,7 +370,7 @@ accounts_kept b (action.Push m info) l c asked new may sound h = goes_on b (acti
 accounts_kept b (action.Message msg) l c asked new may sound h = goes_on b (action.Message msg) l c asked new refl (tell_keeps (HasOf asked c new) (b.current == l) (b.link l) h.link h.link) h
 accounts_kept b (action.Monitor v) l c asked new may sound h = goes_on b (action.Monitor v) l c asked new refl (tell_keeps (HasOf asked c new) (b.current == l) (b.link l) h.link h.link) h
 accounts_kept b (action.NeedCreds d m) l c asked new may sound h = need_accounts b d m l c asked new may sound h
-accounts_kept b (action.Generation g) l c asked new may sound h = absurd may
+accounts_kept b (action.Generation g) l c asked new may sound h = goes_on b (action.Generation g) l c asked new refl h.link h
 accounts_kept b (action.Round who m) l c asked new may sound h = absurd may
 accounts_kept b (action.Close m) l c asked new may sound h = goes_on b (action.Close m) l c asked new refl
     (mine_keeps (HasOf asked c new) (m == l) (b.link l) (ends (b.turns - 1))

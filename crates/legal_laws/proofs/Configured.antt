@@ -20,7 +20,7 @@ config_stays b (action.Push l info) may some = refl
 config_stays b (action.Message msg) may some = refl
 config_stays b (action.Monitor v) may some = refl
 config_stays b (action.NeedCreds c l) may some = refl
-config_stays b (action.Generation g) may some = absurd may
+config_stays b (action.Generation g) may some = refl
 config_stays b (action.Round who l) may some = absurd may
 config_stays b (action.Close l) may some = refl
 config_stays b (action.Write l bytes) may some = refl
@@ -35,7 +35,7 @@ turn_began b k (cause.Opening config word) e = omega (arith, e)
 turn_began b k (cause.Event event) e = omega (arith, e)
 
 -- and that stays so
-turns_stay : (b : Book) (a : Action) → b.turns ≢ 0 → (entered b a).turns ≢ 0
+pub turns_stay : (b : Book) (a : Action) → b.turns ≢ 0 → (entered b a).turns ≢ 0
 turns_stay b (action.Turn k c) some = turn_began b k c
 turns_stay b (action.Connect l host port) some = some
 turns_stay b (action.Timer t ms what) some = some

@@ -238,7 +238,7 @@ sorted_kept b l (action.Push m info) may s after h = push_keeps IsSorted (m == l
 sorted_kept b l (action.Message msg) may s after h = tell_keeps IsSorted (b.current == l) (b.link l) (λ m. sorted_alike (b.link l) (h m) _ refl refl (λ f. f)) h
 sorted_kept b l (action.Monitor v) may s after h = tell_keeps IsSorted (b.current == l) (b.link l) (λ m. sorted_alike (b.link l) (h m) _ refl refl (λ f. f)) h
 sorted_kept b l (action.NeedCreds c m) may s after h = mine_keeps IsSorted (m == l) (b.link l) sources (λ t m. sorted_alike (b.link l) (h m) _ refl refl (λ f. f)) h
-sorted_kept b l (action.Generation g) may s after h = absurd may
+sorted_kept b l (action.Generation g) may s after h = h
 sorted_kept b l (action.Round who m) may s after h = absurd may
 sorted_kept b l (action.Close m) may s after h = mine_keeps IsSorted (m == l) (b.link l) (ends (b.turns - 1)) (λ t m. sorted_alike (b.link l) (h m) _ refl refl (λ f. f)) h
 sorted_kept b l (action.Write m bytes) may s after h = mine_keeps IsSorted (m == l) (b.link l) (offers bytes) (λ t m. sorted_alike (b.link l) (h m) _ refl refl (λ f. f)) h

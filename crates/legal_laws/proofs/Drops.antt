@@ -86,7 +86,7 @@ dropped_kept b l (action.Push m info) may s h = push_keeps IsDropped (m == l) in
 dropped_kept b l (action.Message msg) may s h = tell_keeps IsDropped (b.current == l) (b.link l) (record { asked = h.asked; messages = h.messages; gone = h.gone }) h
 dropped_kept b l (action.Monitor v) may s h = tell_keeps IsDropped (b.current == l) (b.link l) (record { asked = h.asked; messages = h.messages; gone = h.gone }) h
 dropped_kept b l (action.NeedCreds c m) may s h = mine_keeps IsDropped (m == l) (b.link l) sources (λ t. record { asked = h.asked; messages = h.messages; gone = h.gone }) h
-dropped_kept b l (action.Generation g) may s h = absurd may
+dropped_kept b l (action.Generation g) may s h = h
 dropped_kept b l (action.Round who m) may s h = absurd may
 dropped_kept b l (action.Close m) may s h = mine_keeps IsDropped (m == l) (b.link l) (ends (b.turns - 1)) (λ t. record { asked = h.asked; messages = h.messages; gone = inl refl }) h
 dropped_kept b l (action.Write m bytes) may s h = mine_keeps IsDropped (m == l) (b.link l) (offers bytes) (λ t. record { asked = h.asked; messages = h.messages; gone = h.gone }) h

@@ -13,6 +13,7 @@ use Rattle.driver_model.specs.declared.event.EventKind.TheVariants as event
 use Rattle.driver_model.specs.declared.outcome.Outcome.{Outcome}
 use Rattle.legal_trace.specs.Story.{Story, is_open, is_unstarted, handed_in, left, holds, clocked, fires, tried, waits, answered}
 use Rattle.legal_trace.specs.Book.{Book, blank_book, book, entered, entered_each, is_clock_of, after_event, is_unspoken}
+use Rattle.legal_trace.proofs.Clocks.{timer_keeps}
 use Rattle.legal_trace.specs.Legal.{MayStand, MayAnswer, MayTell, AllStand, IsOpen, IsApplied, Legal}
 use Rattle.legal_trace.proofs.Books.{stand_front, stand_behind}
 use Rattle.legal_trace.proofs.Plain.{not_empty}
@@ -31,7 +32,7 @@ IsOver s = is_unstarted s ≡ true → (is_open s ≡ true) × (s.overdue ≡ tr
 
 -- so no message of it starts, and it isn't told, where the event has had its effect
 not_over : (b : Book) (n : ℕ) → IsApplied b → is_unstarted (b.story n) ≡ true → IsOver (b.story n) → ⊥
-not_over b n done u h = let over = h u in not_both (b.story n).overdue (nothing_is_owed b (b.story n) (done.answered n over.0)).runs over.1
+not_over b n done u h = let over = h u in not_both (b.story n).overdue (nothing_is_owed b (b.story n) (done.shown.answered n over.0)).runs over.1
 
 -- so it is behind an event
 event_over : (b : Book) (n : ℕ) (kind : EventKind) → n < b.submissions → IsOver (b.story n) → IsOver (after_event b n kind)
@@ -65,7 +66,7 @@ over_kept : (b : Book) (a : Action) → MayStand b a → (n : ℕ) → n < b.sub
 over_kept b (action.Turn k (cause.Opening config word)) may n i h = h
 over_kept b (action.Turn k (cause.Event e)) may n i h = event_over b n e.kind i h
 over_kept b (action.Connect m host port) may n i h = h
-over_kept b (action.Timer t ms what) may n i h = chosen IsOver (is_clock_of n (Some what)) (clocked (b.story n) t) (b.story n) (λ e. h) (λ f. h)
+over_kept b (action.Timer t ms what) may n i h = timer_keeps IsOver b n t what (λ e o. h) (λ e. h) h
 over_kept b (action.Took owner.Setup l count) may n i h = absurd may
 over_kept b (action.Took owner.Auth l count) may n i h = absurd may
 over_kept b (action.Took owner.Resub l count) may n i h = absurd may
@@ -75,7 +76,7 @@ over_kept b (action.Push m info) may n i h = h
 over_kept b (action.Message msg) may n i h = h
 over_kept b (action.Monitor v) may n i h = h
 over_kept b (action.NeedCreds c m) may n i h = h
-over_kept b (action.Generation g) may n i h = absurd may
+over_kept b (action.Generation g) may n i h = h
 over_kept b (action.Round who m) may n i h = absurd may
 over_kept b (action.Close m) may n i h = h
 over_kept b (action.Write m bytes) may n i h = h

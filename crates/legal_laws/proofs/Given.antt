@@ -76,7 +76,7 @@ adds_sources b (action.NeedCreds d m) may c l e = elim (item_behind b.sources (u
   | inl before ↦ inl before
   | inr new ↦ let same : d ≡ c = may.next ∙ sym new.0 in let mine : m ≡ l = use_is_for b m l new.1 in inr cc
 ]
-adds_sources b (action.Generation g) may c l e = absurd may
+adds_sources b (action.Generation g) may c l e = inl e
 adds_sources b (action.Round who m) may c l e = absurd may
 adds_sources b (action.Turn k (cause.Opening config word)) may c l e = inl e
 adds_sources b (action.Turn k (cause.Event event)) may c l e = inl e
@@ -322,7 +322,7 @@ want_kept b (action.Push m info) may sound h l = push_keeps (Wants (wanted_in b.
 want_kept b (action.Message msg) may sound h l = tell_keeps (Wants (wanted_in b.config)) (b.current == l) (b.link l) (h l) (h l)
 want_kept b (action.Monitor v) may sound h l = tell_keeps (Wants (wanted_in b.config)) (b.current == l) (b.link l) (h l) (h l)
 want_kept b (action.NeedCreds c m) may sound h l = mine_keeps (Wants (wanted_in b.config)) (m == l) (b.link l) sources (λ t. h l) (h l)
-want_kept b (action.Generation g) may sound h l = absurd may
+want_kept b (action.Generation g) may sound h l = h l
 want_kept b (action.Round who m) may sound h l = absurd may
 want_kept b (action.Close m) may sound h l = mine_keeps (Wants (wanted_in b.config)) (m == l) (b.link l) (ends (b.turns - 1)) (λ t. h l) (h l)
 want_kept b (action.Write m bytes) may sound h l = mine_keeps (Wants (wanted_in b.config)) (m == l) (b.link l) (offers bytes) (λ t. h l) (h l)

@@ -3,6 +3,11 @@ pub mod Told
 pub mod Streams
 pub mod Lines
 pub mod Opens
+pub mod Aside
+pub mod Ended
+pub mod Causes
+pub mod Goes
+pub mod Lives
 pub mod Numbers
 pub mod Owes
 pub mod Tales
@@ -17,6 +22,7 @@ pub mod Turned
 pub mod Ranks
 pub mod Next
 pub mod Equal
+pub mod Undue
 pub mod Held
 pub mod InLine
 pub mod Overdue

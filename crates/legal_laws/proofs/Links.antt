@@ -100,7 +100,8 @@ connects_new b l m next h t = let e : m ≡ l = eq_from m l t in (h.links.unaske
 
 -- a timer of new credentials is asked for where one is to be
 timer_may : (b : Book) (l t ms : ℕ) (what : Purpose) → MayTimer b t ms what → is_renewal_of l what ≡ true → MayNote (b.link l) times
-timer_may b l t ms what (inl may) e = absurd (let x : false ≡ true = sym (ap (is_renewal_of l) may.is_for) ∙ e in cc x)
+timer_may b l t ms what (inl (inl may)) e = absurd (let x : false ≡ true = sym (ap (is_renewal_of l) may.is_for) ∙ e in cc x)
+timer_may b l t ms what (inl (inr may)) e = absurd (let x : false ≡ true = sym (ap (is_renewal_of l) may.is_for) ∙ e in cc x)
 timer_may b l t ms what (inr (inl may)) e = absurd (let x : false ≡ true = sym (ap (is_renewal_of l) may.is_for) ∙ e in cc x)
 timer_may b l t ms what (inr (inr may)) e = subst (λ j. MayNote (b.link j) times) (eq_from may.l l (sym (ap (is_renewal_of l) may.is_for) ∙ e)) may.asked
 
@@ -119,7 +120,7 @@ lines_may b l (action.Push m info) may h = may_mine (m == l) (b.link l) (push_li
 lines_may b l (action.Message msg) may h = may_mine (b.current == l) (b.link l) tells (λ t. subst (λ j. MayNote (b.link j) tells) (eq_from b.current l t) (ap is_some may.next))
 lines_may b l (action.Monitor v) may h = may_mine (b.current == l) (b.link l) tells (λ t. subst (λ j. MayNote (b.link j) tells) (eq_from b.current l t) (ap is_some may.next))
 lines_may b l (action.NeedCreds c m) may h = may_mine (m == l) (b.link l) sources (λ t. subst (λ j. MayNote (b.link j) sources) (eq_from m l t) may.due)
-lines_may b l (action.Generation g) may h = absurd may
+lines_may b l (action.Generation g) may h = tt
 lines_may b l (action.Round who m) may h = absurd may
 lines_may b l (action.Close m) may h = may_mine (m == l) (b.link l) (ends (b.turns - 1)) (λ t. subst (λ j. MayNote (b.link j) (ends (b.turns - 1))) (eq_from m l t) (may.why, may.ends))
 lines_may b l (action.Write m bytes) may h = may_mine (m == l) (b.link l) (offers bytes) (λ t. subst (λ j. MayNote (b.link j) (offers bytes)) (eq_from m l t) (may.up, may.answered, may.all, may.some))

@@ -29,12 +29,12 @@ use Rattle.legal_trace.specs.Story.{shape, bytes_of}
 use Rattle.legal_trace.specs.Owed.{owed}
 use Rattle.legal_trace.specs.Book.{Book, book}
 use Rattle.legal_trace.specs.Steps.{Step, waits, takes, asks, tells, starts, nothing, is_held_back, next_step}
-use Rattle.legal_trace.specs.Legal.{MayStand, MayConnect, MayTimeConnect, MayTime, MayTake, MayTimer, MayNeed, MayNotify, MayWatch, MayPart, MayPushBy, MayClose, MayBeCreated, MayFail, MayShowCreation, MayAnswer, MayTell, MayStart, MaySetUp, MayWrite, MayWait, IsOpen, IsWaiting, link_of, CanMove, MayTimeRenewal, MayRenew}
+use Rattle.manager_config.specs.Backoff.{backoff}
+use Rattle.legal_trace.specs.Legal.{MayStand, MayConnect, MayTimeConnect, MayRest, MayGenerate, MayBeLazy, word_of, MayTime, MayTake, MayTimer, MayNeed, MayNotify, MayWatch, MayPart, MayPushBy, MayClose, MayBeCreated, MayFail, MayShowCreation, MayAnswer, MayTell, MayStart, MaySetUp, MayWrite, MayWait, IsOpen, IsWaiting, link_of, CanMove, MayTimeRenewal, MayRenew}
 use Rattle.legal_laws.specs.Next.{BothAnnounce, OneIsNext, OneIsNextBehind}
 use Rattle.legal_trace.proofs.Moves.{teller_moves, starter_moves, taker_moves, asker_moves, same_kind}
-use Rattle.legal_laws.proofs.Ranks.{answer_rank, creation_rank, push_rank, rank, same_rank, outcome_rank, timer_rank, not_offered, not_shown}
+use Rattle.legal_laws.proofs.Ranks.{up_is_current, answer_rank, creation_rank, push_rank, rank, same_rank, outcome_rank, timer_rank, not_offered, not_shown}
 use Rattle.legal_trace.proofs.Plain.{not_none, same_some}
-use Rattle.legal_laws.proofs.Numbers.{up_is_numbered}
 use Rattle.legal_laws.proofs.Sound.{Sound, sound_behind}
 
 -- the least number of a kind is one
@@ -52,10 +52,6 @@ AreOne x y = (x ≡ y) ⊎ BothAnnounce x y
 -- an outcome is known by its submission and what it is
 same_answers : (m n : ℕ) (o p : Outcome) → m ≡ n → Some o ≡ Some p → action.Outcome m o ≡ action.Outcome n p
 same_answers m n o p e f = cc
-
--- an opening has one configuration
-same_config : (c d : Config) (v w : ℕ) → cause.Opening c v ≡ cause.Opening d w → c ≡ d
-same_config c d v w e = cc
 
 -- of what is owed to open submissions whose link has ended, or has not, one is the first
 one_answer : (b : Book) (m n : ℕ) (o p : Outcome) (over : Bool) → is_over (link_of b m) ≡ over → is_over (link_of b n) ≡ over → MayAnswer b m o → MayAnswer b n p → action.Outcome m o ≡ action.Outcome n p
@@ -117,23 +113,34 @@ ask_moving b t ms what may = (
 -- two connects are one
 one_connect : (b : Book) (l m : ℕ) (host other : List ℕ) (port number : ℕ) → MayConnect b l host port → MayConnect b m other number → action.Connect l host port ≡ action.Connect m other number
 one_connect b l m host other port number h k =
-    let e : cause.Opening h.config h.word ≡ cause.Opening k.config k.word = same_some (cause.Opening h.config h.word) (cause.Opening k.config k.word) (sym h.opens ∙ k.opens) in
-    let c : h.config ≡ k.config = same_config h.config k.config h.word k.word e in
+    let c : h.config ≡ k.config = same_some h.config k.config (sym h.told ∙ k.told) in
     let i : l ≡ m = h.next ∙ sym k.next in
     let info : h.info ≡ k.info = same_some h.info k.info (sym h.configured ∙ (ap address c ∙ k.configured)) in
     let a : host ≡ other = h.address.0 ∙ (ap (λ (x : ConnectionInfo). x.host) info ∙ sym k.address.0) in
     let p : port ≡ number = h.address.1 ∙ (ap (λ (x : ConnectionInfo). x.port) info ∙ sym k.address.1) in
     cc (i, a, p)
 
--- two timers of the opening are one
+-- two timers of connects are one
 one_timer : (b : Book) (t u ms time : ℕ) (what other : Purpose) → MayTimeConnect b t ms what → MayTimeConnect b u time other → action.Timer t ms what ≡ action.Timer u time other
 one_timer b t u ms time what other h k =
-    let e : cause.Opening h.config h.word ≡ cause.Opening k.config k.word = same_some (cause.Opening h.config h.word) (cause.Opening k.config k.word) (sym h.opens ∙ k.opens) in
-    let c : h.config ≡ k.config = same_config h.config k.config h.word k.word e in
+    let c : h.config ≡ k.config = same_some h.config k.config (sym h.told ∙ k.told) in
     let i : t ≡ u = h.next ∙ sym k.next in
     let m : ms ≡ time = same_some ms time (sym h.bounded ∙ (ap connect_timeout c ∙ k.bounded)) in
     let w : what ≡ other = h.is_for ∙ sym k.is_for in
     cc (i, m, w)
+
+-- two timers of waits behind an attempt are one
+one_rest : (b : Book) (t u ms time : ℕ) (what other : Purpose) → MayRest b t ms what → MayRest b u time other → action.Timer t ms what ≡ action.Timer u time other
+one_rest b t u ms time what other h k =
+    let c : h.settings ≡ k.settings = same_some h.settings k.settings (sym h.set ∙ k.set) in
+    let i : t ≡ u = h.next ∙ sym k.next in
+    let m : ms ≡ time = h.long ∙ (ap (λ s. backoff s b.attempt (word_of b.running)) c ∙ sym k.long) in
+    let w : what ≡ other = h.is_for ∙ sym k.is_for in
+    cc (i, m, w)
+
+-- two generations are one
+one_generation : (b : Book) (g h : ℕ) → MayGenerate b g → MayGenerate b h → action.Generation g ≡ action.Generation h
+one_generation b g h p q = ap action.Generation (p.next ∙ sym q.next)
 
 -- two failures of the creation are one
 one_failure : (b : Book) (d e : RedisError) → MayFail b d → MayFail b e → d ≡ e
@@ -313,21 +320,24 @@ IsOfValues b y = IsAnswering b false y ⊎ (IsCreating b y ⊎ (IsTelling b y �
 -- what an action of this rank is, and that it may stand
 abbrev pub OfRank : ℕ → Book → Action → Type 0
 OfRank zero b y = (k : ℕ) × (config : Config) × (word : ℕ) × (y ≡ action.Turn k (cause.Opening config word)) × (k ≡ b.turns)
-OfRank (suc zero) b y = (l : ℕ) × (host : List ℕ) × (port : ℕ) × (y ≡ action.Connect l host port) × MayConnect b l host port
-OfRank (suc (suc zero)) b y = (t : ℕ) × (ms : ℕ) × (what : Purpose) × (y ≡ action.Timer t ms what) × MayTimeConnect b t ms what
-OfRank (suc (suc (suc zero))) b y = IsOfValues b y
-OfRank (suc (suc (suc (suc zero)))) b y = (l : ℕ) × (y ≡ action.Close l) × MayClose b l
-OfRank (suc (suc (suc (suc (suc zero))))) b y = (e : RedisError) × (y ≡ action.Created (Some e)) × MayFail b e
-OfRank (suc (suc (suc (suc (suc (suc zero)))))) b y = (l : ℕ) × (info : PushInfo) × (y ≡ action.Push l info) × (is_disconnection info.kind ≡ true) × MayPart b l info
-OfRank (suc (suc (suc (suc (suc (suc (suc zero))))))) b y = IsAnswering b true y
-OfRank (suc (suc (suc (suc (suc (suc (suc (suc zero)))))))) b y = (l : ℕ) × (k : ℕ) × (count : ℕ) × (len : ℕ) × (y ≡ action.Start l k owner.Setup count len) × MaySetUp b l k count len
-OfRank (suc (suc (suc (suc (suc (suc (suc (suc (suc zero))))))))) b y = (l : ℕ) × (k : ℕ) × (count : ℕ) × (len : ℕ) × (y ≡ action.Start l k owner.Monitor count len) × MayWatch b l k count len
-OfRank (suc (suc (suc (suc (suc (suc (suc (suc (suc (suc zero)))))))))) b y = (t : ℕ) × (ms : ℕ) × (what : Purpose) × (y ≡ action.Timer t ms what) × MayTimeRenewal b t ms what
-OfRank (suc (suc (suc (suc (suc (suc (suc (suc (suc (suc (suc zero))))))))))) b y = (l : ℕ) × (k : ℕ) × (count : ℕ) × (len : ℕ) × (y ≡ action.Start l k owner.Auth count len) × MayRenew b l k count len
-OfRank (suc (suc (suc (suc (suc (suc (suc (suc (suc (suc (suc (suc zero)))))))))))) b y = IsMoving b y
-OfRank (suc (suc (suc (suc (suc (suc (suc (suc (suc (suc (suc (suc (suc zero))))))))))))) b y = (l : ℕ) × (bytes : List ℕ) × (y ≡ action.Write l bytes) × MayWrite b l bytes
-OfRank (suc (suc (suc (suc (suc (suc (suc (suc (suc (suc (suc (suc (suc (suc zero)))))))))))))) b y = (n : ℕ) × (kind : WaitKind) × (y ≡ action.Wait (owner.Try n 0) kind) × MayWait b n kind
-OfRank (suc (suc (suc (suc (suc (suc (suc (suc (suc (suc (suc (suc (suc (suc (suc more))))))))))))))) b y = (k : ℕ) × (e : Event) × (y ≡ action.Turn k (cause.Event e)) × (k ≡ b.turns)
+OfRank (suc zero) b y = (y ≡ action.Created None) × MayBeLazy b
+OfRank (suc (suc zero)) b y = IsOfValues b y
+OfRank (suc (suc (suc zero))) b y = (l : ℕ) × (y ≡ action.Close l) × MayClose b l
+OfRank (suc (suc (suc (suc zero)))) b y = (e : RedisError) × (y ≡ action.Created (Some e)) × MayFail b e
+OfRank (suc (suc (suc (suc (suc zero))))) b y = (l : ℕ) × (info : PushInfo) × (y ≡ action.Push l info) × (is_disconnection info.kind ≡ true) × MayPart b l info
+OfRank (suc (suc (suc (suc (suc (suc zero)))))) b y = IsAnswering b true y
+OfRank (suc (suc (suc (suc (suc (suc (suc zero))))))) b y = (t : ℕ) × (ms : ℕ) × (what : Purpose) × (y ≡ action.Timer t ms what) × MayRest b t ms what
+OfRank (suc (suc (suc (suc (suc (suc (suc (suc zero)))))))) b y = (g : ℕ) × (y ≡ action.Generation g) × MayGenerate b g
+OfRank (suc (suc (suc (suc (suc (suc (suc (suc (suc zero))))))))) b y = (l : ℕ) × (host : List ℕ) × (port : ℕ) × (y ≡ action.Connect l host port) × MayConnect b l host port
+OfRank (suc (suc (suc (suc (suc (suc (suc (suc (suc (suc zero)))))))))) b y = (t : ℕ) × (ms : ℕ) × (what : Purpose) × (y ≡ action.Timer t ms what) × MayTimeConnect b t ms what
+OfRank (suc (suc (suc (suc (suc (suc (suc (suc (suc (suc (suc zero))))))))))) b y = (l : ℕ) × (k : ℕ) × (count : ℕ) × (len : ℕ) × (y ≡ action.Start l k owner.Setup count len) × MaySetUp b l k count len
+OfRank (suc (suc (suc (suc (suc (suc (suc (suc (suc (suc (suc (suc zero)))))))))))) b y = (l : ℕ) × (k : ℕ) × (count : ℕ) × (len : ℕ) × (y ≡ action.Start l k owner.Monitor count len) × MayWatch b l k count len
+OfRank (suc (suc (suc (suc (suc (suc (suc (suc (suc (suc (suc (suc (suc zero))))))))))))) b y = (t : ℕ) × (ms : ℕ) × (what : Purpose) × (y ≡ action.Timer t ms what) × MayTimeRenewal b t ms what
+OfRank (suc (suc (suc (suc (suc (suc (suc (suc (suc (suc (suc (suc (suc (suc zero)))))))))))))) b y = (l : ℕ) × (k : ℕ) × (count : ℕ) × (len : ℕ) × (y ≡ action.Start l k owner.Auth count len) × MayRenew b l k count len
+OfRank (suc (suc (suc (suc (suc (suc (suc (suc (suc (suc (suc (suc (suc (suc (suc zero))))))))))))))) b y = IsMoving b y
+OfRank (suc (suc (suc (suc (suc (suc (suc (suc (suc (suc (suc (suc (suc (suc (suc (suc zero)))))))))))))))) b y = (l : ℕ) × (bytes : List ℕ) × (y ≡ action.Write l bytes) × MayWrite b l bytes
+OfRank (suc (suc (suc (suc (suc (suc (suc (suc (suc (suc (suc (suc (suc (suc (suc (suc (suc zero))))))))))))))))) b y = (n : ℕ) × (kind : WaitKind) × (y ≡ action.Wait (owner.Try n 0) kind) × MayWait b n kind
+OfRank (suc (suc (suc (suc (suc (suc (suc (suc (suc (suc (suc (suc (suc (suc (suc (suc (suc (suc more)))))))))))))))))) b y = (k : ℕ) × (e : Event) × (y ≡ action.Turn k (cause.Event e)) × (k ≡ b.turns)
 
 -- an outcome that is owed is of its rank
 answer_of_rank : (b : Book) (n : ℕ) (o : Outcome) (over : Bool) → is_over (link_of b n) ≡ over → MayAnswer b n o → OfRank (answer_rank over) b (action.Outcome n o)
@@ -340,8 +350,9 @@ outcome_of_rank b n o (inl owes) = answer_of_rank b n o (is_over (link_of b n)) 
 outcome_of_rank b n o (inr told) = tell_moving b n o told
 
 -- so is the creation
-creation_of_rank : (b : Book) (e : Option RedisError) → MayShowCreation b e → OfRank (creation_rank e) b (action.Created e)
-creation_of_rank b None may = inr (inl (refl, may))
+creation_of_rank : (b : Book) (e : Option RedisError) (may : MayShowCreation b e) → OfRank (creation_rank b e may) b (action.Created e)
+creation_of_rank b None (inl may) = inr (inl (refl, may))
+creation_of_rank b None (inr may) = (refl, may)
 creation_of_rank b (Some e) may = (e, refl, may)
 
 -- and a push
@@ -351,7 +362,8 @@ push_of_rank b l info true e may = (l, info, refl, e, may)
 
 -- and a timer
 timer_of_rank : (b : Book) (t ms : ℕ) (what : Purpose) (may : MayTimer b t ms what) → OfRank (timer_rank b t ms what may) b (action.Timer t ms what)
-timer_of_rank b t ms what (inl may) = (t, ms, what, refl, may)
+timer_of_rank b t ms what (inl (inl may)) = (t, ms, what, refl, may)
+timer_of_rank b t ms what (inl (inr may)) = (t, ms, what, refl, may)
 timer_of_rank b t ms what (inr (inl may)) = ask_moving b t ms what may
 timer_of_rank b t ms what (inr (inr may)) = (t, ms, what, refl, may)
 
@@ -370,7 +382,7 @@ of_rank b (action.Push l info) may = push_of_rank b l info (is_disconnection inf
 of_rank b (action.Message msg) may = inr (inr (inl (b.current, notice.Message msg, refl, may)))
 of_rank b (action.Monitor v) may = inr (inr (inl (b.current, notice.Monitor v, refl, may)))
 of_rank b (action.NeedCreds c l) may = inr (inr (inr (c, l, refl, may)))
-of_rank b (action.Generation g) may = absurd may
+of_rank b (action.Generation g) may = (g, refl, may)
 of_rank b (action.Round who l) may = absurd may
 of_rank b (action.Close l) may = (l, refl, may)
 of_rank b (action.Created e) may = creation_of_rank b e may
@@ -391,18 +403,18 @@ of_rank b (action.Turn k (cause.Event e)) may = (k, e, refl, may.next)
 answer_or_created : (b : Book) (n : ℕ) (o : Outcome) → is_over (link_of b n) ≡ false → MayAnswer b n o → MayBeCreated b → ⊥
 answer_or_created b n o e p q = not_none (owed b n) o (q.answered n p.asked e) p.owes
 
--- submissions go to the link of which something waits to be told
-pub on_its_link : (b : Book) (n l : ℕ) (what : Notice) → Sound b → MayNotify b l what → (b.story n).link ≡ l
-on_its_link b n l what h q =
-    let first : (b.story n).link ≡ 0 = h.goes n in
-    let i : l < b.links = up_is_numbered b l h.links (h.waits l q.is_heard q.heard q.next) in
-    let one : b.links ≤ 1 = h.opens.one_link in
-    omega (arith, first, i, one)
+-- the current link is the one of which something waits to be told
+pub told_is_current : (b : Book) (l : ℕ) (what : Notice) → Sound b → MayNotify b l what → l ≡ b.current
+told_is_current b l what h q = up_is_current b l h (h.waits l q.is_heard q.heard q.next)
+
+-- so open submissions go to it
+pub on_its_link : (b : Book) (n l : ℕ) (what : Notice) → Sound b → IsOpen b n → MayNotify b l what → (b.story n).link ≡ l
+on_its_link b n l what h o q = (h.goes n).open_on o ∙ sym (told_is_current b l what h q)
 
 -- nor do an outcome and what is told
 answer_or_notice : (b : Book) (n : ℕ) (o : Outcome) (l : ℕ) (what : Notice) → Sound b → MayAnswer b n o → MayNotify b l what → ⊥
 answer_or_notice b n o l what h p q =
-    let same : (b.story n).link ≡ l = on_its_link b n l what h q in
+    let same : (b.story n).link ≡ l = on_its_link b n l what h p.asked q in
     q.answered n p.asked same (p.after_notices q.is_heard q.heard (ap (λ j. next_notice (b.link j)) same ∙ q.next))
 
 -- nor that and that a link is ready
@@ -465,13 +477,15 @@ beside_push b l info y false h e p q = beside_telling b l (notice.Push info) y h
 beside_push b l info y true h e p q = inl (one_part b l q.0 info q.1 e q.3 p q.4 ∙ sym q.2)
 
 -- beside the creation
-beside_creation : (b : Book) (e : Option RedisError) (y : Action) → MayShowCreation b e → OfRank (creation_rank e) b y → AreOne (action.Created e) y
-beside_creation b None y p q = beside_ready b y p q
+beside_creation : (b : Book) (e : Option RedisError) (y : Action) (may : MayShowCreation b e) → OfRank (creation_rank b e may) b y → AreOne (action.Created e) y
+beside_creation b None y (inl p) q = beside_ready b y p q
+beside_creation b None y (inr p) q = inl (sym q.0)
 beside_creation b (Some e) y p q = inl (ap (λ x. action.Created (Some x)) (one_failure b e q.0 p q.2) ∙ sym q.1)
 
 -- beside a timer
 beside_timer : (b : Book) (t ms : ℕ) (what : Purpose) (y : Action) (p : MayTimer b t ms what) → OfRank (timer_rank b t ms what p) b y → AreOne (action.Timer t ms what) y
-beside_timer b t ms what y (inl p) q = inl (one_timer b t q.0 ms q.1 what q.2 p q.4 ∙ sym q.3)
+beside_timer b t ms what y (inl (inl p)) q = inl (one_timer b t q.0 ms q.1 what q.2 p q.4 ∙ sym q.3)
+beside_timer b t ms what y (inl (inr p)) q = inl (one_rest b t q.0 ms q.1 what q.2 p q.4 ∙ sym q.3)
 beside_timer b t ms what y (inr (inl p)) q = inl (one_moving b (action.Timer t ms what) y (ask_moving b t ms what p) q)
 beside_timer b t ms what y (inr (inr p)) q = inl (one_renewal_timer b t q.0 ms q.1 what q.2 p q.4 ∙ sym q.3)
 
@@ -490,7 +504,7 @@ beside b (action.Push l info) y p h q = beside_push b l info y (is_disconnection
 beside b (action.Message msg) y p h q = beside_telling b b.current (notice.Message msg) y h p q
 beside b (action.Monitor v) y p h q = beside_telling b b.current (notice.Monitor v) y h p q
 beside b (action.NeedCreds c l) y p h q = beside_need b c l y p q
-beside b (action.Generation g) y p h q = absurd p
+beside b (action.Generation g) y p h q = inl (one_generation b g q.0 p q.2 ∙ sym q.1)
 beside b (action.Round who l) y p h q = absurd p
 beside b (action.Close l) y p h q = inl (one_close b l q.0 p q.2 ∙ sym q.1)
 beside b (action.Created e) y p h q = beside_creation b e y p q

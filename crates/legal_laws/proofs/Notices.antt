@@ -145,7 +145,7 @@ step_tells b l (action.Connect m host port) may = no_notice b l (action.Connect 
 step_tells b l (action.Timer t ms what) may = no_notice b l (action.Timer t ms what) refl (mine_keeps (GoesOn (b.link l)) (is_renewal_of l what) (b.link l) times (λ t. same_notices (b.link l) _ refl refl) (same_notices (b.link l) (b.link l) refl refl))
 step_tells b l (action.Took who m count) may = no_notice b l (action.Took who m count) refl (same_notices (b.link l) (b.link l) refl refl)
 step_tells b l (action.NeedCreds c m) may = no_notice b l (action.NeedCreds c m) refl (mine_keeps (GoesOn (b.link l)) (m == l) (b.link l) sources (λ t. same_notices (b.link l) _ refl refl) (same_notices (b.link l) (b.link l) refl refl))
-step_tells b l (action.Generation g) may = absurd may
+step_tells b l (action.Generation g) may = no_notice b l (action.Generation g) refl (same_notices (b.link l) (b.link l) refl refl)
 step_tells b l (action.Round who m) may = absurd may
 step_tells b l (action.Close m) may = no_notice b l (action.Close m) refl (mine_keeps (GoesOn (b.link l)) (m == l) (b.link l) (ends (b.turns - 1)) (λ t. same_notices (b.link l) _ refl refl) (same_notices (b.link l) (b.link l) refl refl))
 step_tells b l (action.Write m bytes) may = no_notice b l (action.Write m bytes) refl (mine_keeps (GoesOn (b.link l)) (m == l) (b.link l) (offers bytes) (λ t. same_notices (b.link l) _ refl refl) (same_notices (b.link l) (b.link l) refl refl))
@@ -259,4 +259,4 @@ tells_each config word events trace h some front more l is whole =
     let settled = settled_whole config word events front more legal whole in
     let done = settled.written.moved.begun.applied in
     let heard : is_heard (book front) ≡ true = ap (λ config. hears_something (hearing_in config)) (ready.configured (applied_began (book front) ready.sound done)) ∙ some in
-    all_said l front (front_stands config word events front more legal) (done.pushed l heard)
+    all_said l front (front_stands config word events front more legal) (done.shown.pushed l heard)

@@ -22,6 +22,8 @@ use Rattle.legal_trace.specs.Legal.{MayStand, MayAnswer, MayTell, MayPart, AllSt
 use Rattle.legal_trace.proofs.Books.{stand_front, stand_behind}
 use Rattle.legal_trace.proofs.Renewals.{renewal_is_up}
 use Rattle.legal_trace.proofs.Sources.{awaits_up}
+use Rattle.legal_trace.proofs.Endings.{lasting_is_fault}
+use Rattle.legal_laws.proofs.Ended.{end_kept}
 use Rattle.legal_trace.proofs.Ledgers.{each_keeps, mine_keeps, UpIsNotOver, up_keeps, dials_from}
 use Rattle.legal_trace.proofs.Moves.{mover_is_up, starter_moves, teller_moves}
 use Rattle.legal_trace.proofs.Plain.{none_from, not_none}
@@ -134,7 +136,7 @@ IsCut l = is_cut l.end ≡ true
 hears_cut : (l : Ledger) (turn : ℕ) (news : News) → IsCut (with_news l turn news) → IsCut l
 hears_cut l turn silence = λ e. e
 hears_cut l turn connected = chosen (λ (x : Ledger). IsCut x → IsCut l) (is_over l) l (record l { up = true }) (λ t e. e) (λ f e. e)
-hears_cut l turn (refused f) = chosen (λ (x : Ledger). IsCut x → IsCut l) (dials l) (refused_in l turn (error.Io f)) l (λ t e. absurd (cc e)) (λ n e. e)
+hears_cut l turn (refused f) = chosen (λ (x : Ledger). IsCut x → IsCut l) (dials l) (refused_in l turn (error.Io f)) l (λ t e. absurd (let x : false ≡ true = sym (lasting_is_fault l.last (by_opening (error.Io f))) ∙ e in cc x)) (λ n e. e)
 hears_cut l turn overdue = λ e. e
 hears_cut l turn (took count) = chosen (λ (x : Ledger). IsCut x → IsCut l) l.up (record l { taken = l.taken ++ take count l.offer; offer = [] }) l (λ t e. e) (λ f e. e)
 hears_cut l turn (came piece) = chosen (λ (x : Ledger). IsCut x → IsCut l) l.up (bytes_came l piece) l (λ t. holds_bytes (λ (x : Ledger). IsCut x → IsCut l) l piece (λ rest strange told more e. e)) (λ f e. e)
@@ -245,7 +247,7 @@ lives_uncut l none cut = let x : false ≡ true = sym (ap is_cut none) ∙ cut i
 hears_set : (l : Ledger) (turn : ℕ) (news : News) → UpIsNotOver l → CutIsSet l → CutIsSet (with_news l turn news)
 hears_set l turn silence up h = h
 hears_set l turn connected up h = chosen CutIsSet (is_over l) l (record l { up = true }) (λ t. h) (λ e. h)
-hears_set l turn (refused f) up h = chosen CutIsSet (dials l) (refused_in l turn (error.Io f)) l (λ t e. absurd (cc e)) (λ n. h)
+hears_set l turn (refused f) up h = chosen CutIsSet (dials l) (refused_in l turn (error.Io f)) l (λ t e. absurd (let x : false ≡ true = sym (lasting_is_fault l.last (by_opening (error.Io f))) ∙ e in cc x)) (λ n. h)
 hears_set l turn overdue up h = h
 hears_set l turn (took count) up h = chosen CutIsSet l.up (record l { taken = l.taken ++ take count l.offer; offer = [] }) l (λ t. h) (λ e. h)
 hears_set l turn (came piece) up h = chosen CutIsSet l.up (bytes_came l piece) l (λ t. holds_bytes CutIsSet l piece (λ rest strange told more cut. absurd (lives_uncut l (up t) cut))) (λ e. h)
@@ -276,9 +278,9 @@ set_kept b l (action.Push m info) may s h = push_keeps CutIsSet (m == l) info.ki
 set_kept b l (action.Message msg) may s h = tell_keeps CutIsSet (b.current == l) (b.link l) h h
 set_kept b l (action.Monitor v) may s h = tell_keeps CutIsSet (b.current == l) (b.link l) h h
 set_kept b l (action.NeedCreds c m) may s h = mine_keeps CutIsSet (m == l) (b.link l) sources (λ t. h) h
-set_kept b l (action.Generation g) may s h = absurd may
+set_kept b l (action.Generation g) may s h = h
 set_kept b l (action.Round who m) may s h = absurd may
-set_kept b l (action.Close m) may s h = mine_keeps CutIsSet (m == l) (b.link l) (ends (b.turns - 1)) (λ t cut. fault_is_set (b.link l) cut) h
+set_kept b l (action.Close m) may s h = mine_keeps CutIsSet (m == l) (b.link l) (ends (b.turns - 1)) (λ t cut. fault_is_set (b.link l) (sym (lasting_is_fault (b.link l).last (ending_or_shutdown (ending (b.link l)))) ∙ cut)) h
 set_kept b l (action.Write m bytes) may s h = mine_keeps CutIsSet (m == l) (b.link l) (offers bytes) (λ t. h) h
 set_kept b l (action.Wait owner.Setup kind) may s h = absurd may
 set_kept b l (action.Wait owner.Auth kind) may s h = absurd may
@@ -306,48 +308,10 @@ cut_is_set : (front : List Action) (l : ℕ) → AllStand blank_book front → C
 unfolding book
 cut_is_set front l all = each_set blank_book l front all blank_is_sound (λ cut. absurd (cc cut))
 
--- it ended so
-abbrev EndedAs : End → Ledger → Type 0
-EndedAs end l = l.end ≡ Some end
-
--- and no news change that
-end_hears : (end : End) (l : Ledger) (turn : ℕ) (news : News) → EndedAs end l → EndedAs end (with_news l turn news)
-end_hears end l turn silence h = h
-end_hears end l turn connected h = chosen (EndedAs end) (is_over l) l (record l { up = true }) (λ t. h) (λ e. h)
-end_hears end l turn (refused f) h = chosen (EndedAs end) (dials l) (refused_in l turn (error.Io f)) l (λ t. absurd (not_none l.end end (none_from l.end (dials_from l t).2) h)) (λ n. h)
-end_hears end l turn overdue h = h
-end_hears end l turn (took count) h = chosen (EndedAs end) l.up (record l { taken = l.taken ++ take count l.offer; offer = [] }) l (λ t. h) (λ e. h)
-end_hears end l turn (came piece) h = chosen (EndedAs end) l.up (bytes_came l piece) l (λ t. holds_bytes (EndedAs end) l piece (λ rest strange told more. h)) (λ e. h)
-end_hears end l turn (failed f) h = h
-end_hears end l turn (authorized c) h = chosen (EndedAs end) (awaits_credentials l) (authorized_by l c) l (λ t. h) (λ e. h)
-end_hears end l turn (denied text) h = h
-end_hears end l turn deserted h = h
-end_hears end l turn (renewed c) h = chosen (EndedAs end) (may_renew l) (renewed_by l c) l (λ t. h) (λ e. h)
-end_hears end l turn unrenewed h = chosen (EndedAs end) l.up (unrenewed_by l) l (λ t. h) (λ e. h)
-end_hears end l turn (late k) h = chosen (EndedAs end) (l.up && is_renewal_open l k) (lost_by l) l (λ t. h) (λ e. h)
-end_hears end l turn unrepeated h = h
-end_hears end l turn dropped h = h
-end_hears end l turn shut h = h
-
--- nor any line that may stand
-end_noted : (end : End) (l : Ledger) (x : Line) → MayNote l x → UpIsNotOver l → EndedAs end l → EndedAs end (noted l x)
-end_noted end l (asks info wanted hearing last) may up h = h
-end_noted end l (hears turn news) may up h = end_hears end l turn news h
-end_noted end l (begins s) may up h = h
-end_noted end l (offers bytes) may up h = h
-end_noted end l tells may up h = h
-end_noted end l (ends turn) may up h = absurd (not_none (ending l) may.0 (over_stays l end up h) may.1)
-end_noted end l sources may up h = h
-end_noted end l times may up h = h
-end_noted end l parts may up h = h
-
-end_stays : (end : End) (l : Ledger) (lines : List Line) → AllNoted l lines → UpIsNotOver l → EndedAs end l → EndedAs end (noted_each l lines)
-end_stays end l [] all up h = h
-end_stays end l (x ∷ more) all up h = end_stays end (noted l x) more all.1 (up_keeps l x up) (end_noted end l x all.0 up h)
-
--- so of a book
-end_kept : (b : Book) (l : ℕ) (end : End) (trace : List Action) → AllStand b trace → Sound b → EndedAs end (b.link l) → EndedAs end ((entered_each b trace).link l)
-end_kept b l end trace all s h = subst (EndedAs end) (sym (told_behind b l trace)) (end_stays end (b.link l) (lines_of_each b l trace) (each_may b l trace all s) (s.up l) h)
+-- how a link ended stays so
+each_end_kept : (b : Book) (l : ℕ) (end : End) (trace : List Action) → AllStand b trace → Sound b → (b.link l).end ≡ Some end → ((entered_each b trace).link l).end ≡ Some end
+each_end_kept b l end [] all s h = h
+each_end_kept b l end (a ∷ more) all s h = each_end_kept (entered b a) l end more all.1 (stays_sound b a all.0 s) (end_kept b a l end all.0 (s.up l) h)
 
 -- the push that tells that a link has ended
 parting : (b : Book) (l : ℕ) (a : Action) → MayStand b a → Disconnects l a → (info : PushInfo) × MayPart b l info
@@ -379,7 +343,7 @@ first_behind b middle more a l n o sound all is on over = of_outcome all.0
     of_outcome (inl owes) =
         let e = end (b.link l).end over in
         let front : AllStand b (answer ∷ middle) = stand_front b (answer ∷ middle) (a ∷ more) all in
-        let stays = end_kept b l e.0 (answer ∷ middle) front sound e.1 in
+        let stays = each_end_kept b l e.0 (answer ∷ middle) front sound e.1 in
         let cut : IsCut (b.link l) = ap is_cut e.1 ∙ (sym (ap is_cut stays) ∙ part.1.ended) in
         let numbered : n < b.submissions = open_is_numbered b n sound.stories owes.asked in
         let some : b.turns ≢ 0 = λ none. let empty : b.submissions ≡ 0 = sound.opens.none_yet (omega (arith, none)) in omega (arith, numbered, empty) in
@@ -412,6 +376,6 @@ tells_ends config word events trace h = record {
       let sound : Sound (book trace) = sound_behind trace h.each in
       let ready = ready_behind config word events trace [] (subst (Legal config word events) (sym (append-nil trace)) h) in
       let heard : are_pushes_heard (book trace) ≡ true = ap (λ config. hears_pushes (hearing_in config)) (ready.configured (applied_began (book trace) sound done)) ∙ hears in
-      let c = comes (λ (b : Book). (b.link l).parted) blank_book trace refl (done.parted l heard cut) in
+      let c = comes (λ (b : Book). (b.link l).parted) blank_book trace refl (done.shown.parted l heard cut) in
       record { before = c.before; after = c.after; told = c.told; tells = parted_by (entered_each blank_book c.before) l c.told c.was c.is; splits = c.splits };
 }

@@ -173,7 +173,7 @@ told_kept b (action.Push m info) l may sound h = push_keeps TellsWell (m == l) i
 told_kept b (action.Message msg) l may sound h = tell_keeps TellsWell (b.current == l) (b.link l) (same_told (b.link l) _ refl refl refl h) h
 told_kept b (action.Monitor v) l may sound h = tell_keeps TellsWell (b.current == l) (b.link l) (same_told (b.link l) _ refl refl refl h) h
 told_kept b (action.NeedCreds c m) l may sound h = mine_keeps TellsWell (m == l) (b.link l) sources (λ t. same_told (b.link l) (noted (b.link l) sources) refl refl refl h) h
-told_kept b (action.Generation g) l may sound h = absurd may
+told_kept b (action.Generation g) l may sound h = h
 told_kept b (action.Round who m) l may sound h = absurd may
 told_kept b (action.Close m) l may sound h = mine_keeps TellsWell (m == l) (b.link l) (ends (b.turns - 1)) (λ t. same_told (b.link l) (noted (b.link l) (ends (b.turns - 1))) refl refl refl h) h
 told_kept b (action.Write m bytes) l may sound h = mine_keeps TellsWell (m == l) (b.link l) (offers bytes) (λ t. same_told (b.link l) (noted (b.link l) (offers bytes)) refl refl refl h) h

@@ -126,7 +126,7 @@ done_kept b l ds (action.Push m info) may s h = push_keeps (IsDone ds) (m == l) 
 done_kept b l ds (action.Message msg) may s h = tell_keeps (IsDone ds) (b.current == l) (b.link l) (record { asked = h.asked; watching = h.watching; ready = h.ready; dealt = h.dealt }) h
 done_kept b l ds (action.Monitor v) may s h = tell_keeps (IsDone ds) (b.current == l) (b.link l) (record { asked = h.asked; watching = h.watching; ready = h.ready; dealt = h.dealt }) h
 done_kept b l ds (action.NeedCreds c m) may s h = mine_keeps (IsDone ds) (m == l) (b.link l) sources (λ t. record { asked = h.asked; watching = h.watching; ready = h.ready; dealt = h.dealt }) h
-done_kept b l ds (action.Generation g) may s h = absurd may
+done_kept b l ds (action.Generation g) may s h = h
 done_kept b l ds (action.Round who m) may s h = absurd may
 done_kept b l ds (action.Close m) may s h = mine_keeps (IsDone ds) (m == l) (b.link l) (ends (b.turns - 1)) (λ t. record { asked = h.asked; watching = h.watching; ready = h.ready; dealt = h.dealt }) h
 done_kept b l ds (action.Write m bytes) may s h = mine_keeps (IsDone ds) (m == l) (b.link l) (offers bytes) (λ t. record { asked = h.asked; watching = h.watching; ready = h.ready; dealt = h.dealt }) h
@@ -203,7 +203,7 @@ event_submits b (event.Submit what) good is = absurd (not_both (has_no_form (kin
 event_submits b _ good is = refl
 
 none_submitted : (b : Book) (a : Action) → MayStand b a → Sound b → NoneSubmitted b → NoneSubmitted (entered b a)
-none_submitted b (action.Turn k (cause.Opening config word)) may s h = λ is. s.opens.no_submissions (s.opens.no_links may.is_for)
+none_submitted b (action.Turn k (cause.Opening config word)) may s h = λ is. let start : b.turns ≡ 0 = may.is_for in s.opens.none_yet (omega (arith, start))
 none_submitted b (action.Turn k (cause.Event e)) may s h = λ is. let none : b.submissions ≡ 0 = h is in let more : submitted_by e.kind ≡ 0 = event_submits b e.kind may.is_for.2 is in omega (arith, none, more)
 none_submitted b (action.Connect l host port) may s h = h
 none_submitted b (action.Timer t ms what) may s h = h
@@ -212,7 +212,7 @@ none_submitted b (action.Push l info) may s h = h
 none_submitted b (action.Message msg) may s h = h
 none_submitted b (action.Monitor v) may s h = h
 none_submitted b (action.NeedCreds c l) may s h = h
-none_submitted b (action.Generation g) may s h = absurd may
+none_submitted b (action.Generation g) may s h = h
 none_submitted b (action.Round who l) may s h = absurd may
 none_submitted b (action.Close l) may s h = h
 none_submitted b (action.Write l bytes) may s h = h

@@ -1,5 +1,5 @@
 -- The actions of a turn stand segment by segment.
-use Rattle.std.proofs.Common.{◌⊎◌, inl, inr, ℕ, zero, suc, ◌<◌, ◌≤◌, nat_le, List, [], ◌∷◌, arith}
+use Rattle.std.proofs.Common.{◌⊎◌, inl, inr, ℕ, zero, suc, ◌<◌, ◌≤◌, nat_le, List, [], ◌∷◌, ap, arith}
 use Rattle.containers.proofs.Choices.{by_test, le_from, not_le_from}
 use Rattle.driver_model.specs.declared.action.Action.{Action}
 use Rattle.driver_model.specs.declared.action.Action.TheVariants as action
@@ -11,7 +11,7 @@ use Rattle.driver_model.specs.declared.event.Event.{Event}
 use Rattle.driver_model.specs.declared.outcome.Outcome.{Outcome}
 use Rattle.driver_model.specs.Push.{is_disconnection}
 use Rattle.legal_trace.specs.Ledger.{is_over}
-use Rattle.legal_trace.specs.Book.{Book, blank_book, entered}
+use Rattle.legal_trace.specs.Book.{Book, blank_book, entered, is_rest, is_of_connect}
 use Rattle.legal_trace.specs.Legal.{MayStand, MayTimer, MayAnswer, MayTell, AllStand, link_of, IsApplied, IsMoved, IsWritten, Legal}
 use Rattle.legal_laws.specs.Segments.{answers_in, timer_in, segment, MayCome, AreInOrder}
 use Rattle.legal_laws.proofs.Held.{start_applied, setup_applied, tell_applied, take_applied, ask_applied, write_moved, wait_written, renew_applied, watch_applied}
@@ -35,8 +35,8 @@ outcome_done b n o (inr told) = tell_applied b n o told
 -- behind a timer
 timer_done : (b : Book) (t ms : ℕ) (what : Purpose) (may : MayTimer b t ms what) → DoneIn (timer_in b t ms what may) (entered b (action.Timer t ms what))
 timer_done b t ms what (inl may) = tt
-timer_done b t ms what (inr (inl may)) = ask_applied b t ms what may.begun.applied
-timer_done b t ms what (inr (inr may)) = ask_applied b t ms what may.applied
+timer_done b t ms what (inr (inl may)) = ask_applied b t ms what (ap is_rest may.is_for) (ap is_of_connect may.is_for) may.begun.applied
+timer_done b t ms what (inr (inr may)) = ask_applied b t ms what (ap is_rest may.is_for) (ap is_of_connect may.is_for) may.applied
 
 -- behind each action
 done_behind : (b : Book) (a : Action) (may : MayStand b a) → Sound b → DoneIn (segment b a may) (entered b a)
@@ -53,7 +53,7 @@ done_behind b (action.Push l info) may h = tt
 done_behind b (action.Message msg) may h = tt
 done_behind b (action.Monitor v) may h = tt
 done_behind b (action.NeedCreds c l) may h = tt
-done_behind b (action.Generation g) may h = absurd may
+done_behind b (action.Generation g) may h = tt
 done_behind b (action.Round who l) may h = absurd may
 done_behind b (action.Close l) may h = tt
 done_behind b (action.Created e) may h = tt
@@ -95,19 +95,19 @@ applied_from b (suc (suc zero)) i h = h
 applied_from b (suc (suc (suc more))) i h = (moved_from b (suc (suc (suc more))) (omega arith) h).begun.applied
 
 -- an effect comes behind no pass, a pass behind no write, and a write behind no wait
-effect_early : (b : Book) (a : Action) (may : MayStand b a) (k : ℕ) → Sound b → DoneIn k b → rank b a may < 8 → k ≤ 1
+effect_early : (b : Book) (a : Action) (may : MayStand b a) (k : ℕ) → Sound b → DoneIn k b → rank b a may < 11 → k ≤ 1
 effect_early b a may k h done r = by_test (nat_le k 1) (k ≤ 1) (le_from k 1)
-    (λ f. absurd (not_done b a may (step_of b (rank b a may) 8 r (applied b h (applied_from b k (not_le_from k 1 f) done)))))
+    (λ f. absurd (not_done b a may (step_of b (rank b a may) 11 r (applied b h (applied_from b k (not_le_from k 1 f) done)))))
 
 -- nothing of the second comes behind the third
-pass_early : (b : Book) (a : Action) (may : MayStand b a) (k : ℕ) → Sound b → DoneIn k b → rank b a may < 13 → k ≤ 2
+pass_early : (b : Book) (a : Action) (may : MayStand b a) (k : ℕ) → Sound b → DoneIn k b → rank b a may < 16 → k ≤ 2
 pass_early b a may k h done r = by_test (nat_le k 2) (k ≤ 2) (le_from k 2)
-    (λ f. absurd (not_done b a may (step_of b (rank b a may) 13 r (moved b h (moved_from b k (not_le_from k 2 f) done)))))
+    (λ f. absurd (not_done b a may (step_of b (rank b a may) 16 r (moved b h (moved_from b k (not_le_from k 2 f) done)))))
 
 -- nothing of the third comes behind the fourth
-write_early : (b : Book) (a : Action) (may : MayStand b a) (k : ℕ) → Sound b → DoneIn k b → rank b a may < 14 → k ≤ 3
+write_early : (b : Book) (a : Action) (may : MayStand b a) (k : ℕ) → Sound b → DoneIn k b → rank b a may < 17 → k ≤ 3
 write_early b a may k h done r = by_test (nat_le k 3) (k ≤ 3) (le_from k 3)
-    (λ f. absurd (not_done b a may (step_of b (rank b a may) 14 r (written b h (written_from b k (not_le_from k 3 f) done)))))
+    (λ f. absurd (not_done b a may (step_of b (rank b a may) 17 r (written b h (written_from b k (not_le_from k 3 f) done)))))
 
 -- there is none behind the fourth
 at_most_four : (b : Book) (k : ℕ) → DoneIn k b → k ≤ 4
@@ -125,7 +125,8 @@ outcome_early b n o (inr told) k h done = pass_early b (action.Outcome n o) (inr
 
 -- and a timer
 timer_early : (b : Book) (t ms : ℕ) (what : Purpose) (may : MayTimer b t ms what) (k : ℕ) → Sound b → DoneIn k b → k ≤ timer_in b t ms what may
-timer_early b t ms what (inl may) k h done = effect_early b (action.Timer t ms what) (inl may) k h done (omega arith)
+timer_early b t ms what (inl (inl may)) k h done = effect_early b (action.Timer t ms what) (inl (inl may)) k h done (omega arith)
+timer_early b t ms what (inl (inr may)) k h done = effect_early b (action.Timer t ms what) (inl (inr may)) k h done (omega arith)
 timer_early b t ms what (inr (inl may)) k h done = pass_early b (action.Timer t ms what) (inr (inl may)) k h done (omega arith)
 timer_early b t ms what (inr (inr may)) k h done = pass_early b (action.Timer t ms what) (inr (inr may)) k h done (omega arith)
 
@@ -143,10 +144,10 @@ comes b (action.Push l info) may k h done = effect_early b (action.Push l info) 
 comes b (action.Message msg) may k h done = effect_early b (action.Message msg) may k h done (omega arith)
 comes b (action.Monitor v) may k h done = effect_early b (action.Monitor v) may k h done (omega arith)
 comes b (action.NeedCreds c l) may k h done = effect_early b (action.NeedCreds c l) may k h done (omega arith)
-comes b (action.Generation g) may k h done = absurd may
+comes b (action.Generation g) may k h done = effect_early b (action.Generation g) may k h done (omega arith)
 comes b (action.Round who l) may k h done = absurd may
 comes b (action.Close l) may k h done = effect_early b (action.Close l) may k h done (omega arith)
-comes b (action.Created e) may k h done = effect_early b (action.Created e) may k h done (creation_first e)
+comes b (action.Created e) may k h done = effect_early b (action.Created e) may k h done (creation_first b e may)
 comes b (action.Outcome n o) may k h done = outcome_early b n o may k h done
 comes b (action.Start l j owner.Setup count len) may k h done = pass_early b (action.Start l j owner.Setup count len) may k h done (omega arith)
 comes b (action.Start l j owner.Auth count len) may k h done = pass_early b (action.Start l j owner.Auth count len) may k h done (omega arith)

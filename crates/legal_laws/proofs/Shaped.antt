@@ -80,8 +80,8 @@ hears_shaped : (l : Ledger) (turn : ℕ) (news : News) → IsShaped l → IsShap
 hears_shaped l turn news h = let m = news_shaped l turn news h in record { none = m.none; are = m.are; bare = m.bare; ready = m.ready; second = m.second; came = m.came }
 
 -- with the connect of a link that was not asked for
-asks_shaped : (l : Ledger) (info : RedisConnectionInfo) (wanted : Bool) (hearing : Hearing) → l.asked ≡ false → IsShaped l → IsShaped (noted l (asks info wanted hearing last))
-asks_shaped l info wanted hearing unasked h = record {
+asks_shaped : (l : Ledger) (info : RedisConnectionInfo) (wanted : Bool) (hearing : Hearing) (last : Bool) → l.asked ≡ false → IsShaped l → IsShaped (noted l (asks info wanted hearing last))
+asks_shaped l info wanted hearing last unasked h = record {
   none = λ f. cc f;
   are = subst (SetupsOf info) (sym (h.none unasked)) (λ k s i. absurd (omega (arith, i)));
   bare = λ lacks. h.none unasked;
@@ -136,7 +136,7 @@ pub shaped_kept : (b : Book) (a : Action) (l : ℕ) → MayStand b a → HasLink
 shaped_kept b (action.Turn k (cause.Opening config word)) l may links h = h
 shaped_kept b (action.Turn k (cause.Event e)) l may links h = hears_shaped (b.link l) k (news_of b.timers b.sources l e.kind) h
 shaped_kept b (action.Connect m host port) l may links h = mine_keeps IsShaped (m == l) (b.link l) (asks (info_in b.config) (wanted_in b.config) (hearing_in b.config) (is_last (settings_in b.config) b.attempt))
-    (λ t. let same : m ≡ l = eq_from m l t in let next : m ≡ b.links = may.next in asks_shaped (b.link l) (info_in b.config) (wanted_in b.config) (hearing_in b.config) (links.unasked l (omega (arith, same, next))).0 h) h
+    (λ t. let same : m ≡ l = eq_from m l t in let next : m ≡ b.links = may.next in asks_shaped (b.link l) (info_in b.config) (wanted_in b.config) (hearing_in b.config) (is_last (settings_in b.config) b.attempt) (links.unasked l (omega (arith, same, next))).0 h) h
 shaped_kept b (action.Timer t ms what) l may links h = mine_keeps IsShaped (is_renewal_of l what) (b.link l) times (λ t. record { none = h.none; are = h.are; bare = h.bare; ready = h.ready; second = h.second; came = h.came }) h
 shaped_kept b (action.Took owner.Setup m count) l may links h = absurd may
 shaped_kept b (action.Took owner.Auth m count) l may links h = absurd may
@@ -148,7 +148,7 @@ shaped_kept b (action.Message msg) l may links h = tell_keeps IsShaped (b.curren
 shaped_kept b (action.Monitor v) l may links h = tell_keeps IsShaped (b.current == l) (b.link l) (record { none = h.none; are = h.are; bare = h.bare; ready = h.ready; second = h.second; came = h.came }) h
 shaped_kept b (action.NeedCreds c m) l may links h = mine_keeps IsShaped (m == l) (b.link l) sources
     (λ t. source_shaped (b.link l) (subst (λ j. source_due (b.link j) ≡ true) (eq_from m l t) may.due) h) h
-shaped_kept b (action.Generation g) l may links h = absurd may
+shaped_kept b (action.Generation g) l may links h = h
 shaped_kept b (action.Round who m) l may links h = absurd may
 shaped_kept b (action.Close m) l may links h = mine_keeps IsShaped (m == l) (b.link l) (ends (b.turns - 1)) (λ t. record { none = h.none; are = h.are; bare = h.bare; ready = h.ready; second = h.second; came = h.came }) h
 shaped_kept b (action.Write m bytes) l may links h = mine_keeps IsShaped (m == l) (b.link l) (offers bytes) (λ t. record { none = h.none; are = h.are; bare = h.bare; ready = h.ready; second = h.second; came = h.came }) h

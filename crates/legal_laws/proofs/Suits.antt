@@ -94,7 +94,7 @@ push_later true = omega arith
 
 -- so a turn began before it, and before whatever else is told
 tell_began : (b : Book) (l : ℕ) (n : Notice) → Sound b → MayNotify b l n → b.turns ≢ 0
-tell_began b l n s may = step_of b 0 3 (omega arith) (notice_reached b l n may s)
+tell_began b l n s may = step_of b 0 2 (omega arith) (notice_reached b l n may s)
 
 push_began : (b : Book) (l : ℕ) (info : PushInfo) (disconnects : Bool) → Sound b → MayPushBy disconnects b l info → b.turns ≢ 0
 push_began b l info disconnects s may = step_of b 0 (push_rank disconnects) (push_later disconnects) (push_reached b l info disconnects may s)

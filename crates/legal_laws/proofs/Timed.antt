@@ -14,7 +14,7 @@ use Rattle.driver_model.specs.declared.event.Event.{Event}
 use Rattle.driver_model.specs.News.{News, silence, connected, refused, overdue, took, came, failed, authorized, denied, deserted, renewed, unrenewed, late, unrepeated, dropped, shut, news_of}
 use Rattle.legal_trace.specs.Ledger.{Ledger, asks, hears, begins, offers, sources, times, ends, noted, noted_each, with_news, refused_in, bytes_came, is_over, dials, awaits_credentials, authorized_by, may_renew, renewed_by, unrenewed_by, is_renewal_open, lost_by, renewal_count, renewal_due, renewals_asked}
 use Rattle.legal_trace.specs.Managers.{settings_in, is_last}
-use Rattle.legal_trace.specs.Book.{Book, blank_book, book, entered, if_mine, info_in, wanted_in, message_of, is_renewal_of, hearing_in}
+use Rattle.legal_trace.specs.Book.{is_of_connect, is_rest, Book, blank_book, book, entered, if_mine, info_in, wanted_in, message_of, is_renewal_of, hearing_in}
 use Rattle.legal_trace.specs.Steps.{renewals_in_line}
 use Rattle.legal_trace.specs.Legal.{MayStand, MayTimer, MayTimeRenewal, AllStand, IsApplied, answer_time, Legal}
 use Rattle.legal_trace.proofs.Books.{Grows, book_more, of_each_front, stand_front}
@@ -66,14 +66,8 @@ no_more count l h = subst (λ n. HasTimers n l) (let e : count ≡ count + 0 = o
 
 -- a timer that may be asked for, for new credentials
 renewal_of : (b : Book) (t ms l k : ℕ) → MayTimer b t ms (purpose.Renewal l k) → MayTimeRenewal b t ms (purpose.Renewal l k)
-renewal_of b t ms l k (inl may) = absurd (let x : false ≡ true = ap is_connect may.is_for in cc x)
-  where
-    is_connect : Purpose → Bool
-    is_connect (purpose.Connect m) = true
-    is_connect (purpose.Response who) = false
-    is_connect (purpose.Renewal m j) = false
-    is_connect (purpose.Backoff g) = false
-    is_connect (purpose.Resubscription m) = false
+renewal_of b t ms l k (inl (inl may)) = absurd (let x : false ≡ true = ap is_of_connect may.is_for in cc x)
+renewal_of b t ms l k (inl (inr may)) = absurd (let x : false ≡ true = ap is_rest may.is_for in cc x)
 renewal_of b t ms l k (inr (inl may)) = absurd (let x : false ≡ true = ap is_response may.is_for in cc x)
   where
     is_response : Purpose → Bool
@@ -144,7 +138,7 @@ timers_kept b (action.Message msg) l count may sound h = no_more count _
 timers_kept b (action.Monitor v) l count may sound h = no_more count _
     (tell_keeps (HasTimers count) (b.current == l) (b.link l) (same_timers count (b.link l) _ refl refl h) h)
 timers_kept b (action.NeedCreds c m) l count may sound h = no_more count _ (mine_keeps (HasTimers count) (m == l) (b.link l) sources (λ t. same_timers count (b.link l) (noted (b.link l) sources) refl refl h) h)
-timers_kept b (action.Generation g) l count may sound h = absurd may
+timers_kept b (action.Generation g) l count may sound h = no_more count (b.link l) h
 timers_kept b (action.Round who m) l count may sound h = absurd may
 timers_kept b (action.Close m) l count may sound h = no_more count _
     (mine_keeps (HasTimers count) (m == l) (b.link l) (ends (b.turns - 1)) (λ t. same_timers count (b.link l) (noted (b.link l) (ends (b.turns - 1))) refl refl h) h)

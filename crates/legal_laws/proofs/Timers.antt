@@ -14,8 +14,9 @@ use Rattle.driver_model.specs.declared.event.EventKind.{EventKind}
 use Rattle.driver_model.specs.declared.event.EventKind.TheVariants as event
 use Rattle.driver_model.specs.declared.event.Submission.{Submission}
 use Rattle.legal_trace.specs.Story.{Story, is_open, handed_in, left, holds, clocked, fires, tried, waits, answered}
-use Rattle.legal_trace.specs.Book.{Book, blank_book, book, entered, entered_each, is_clock_of, after_event, is_unspoken}
+use Rattle.legal_trace.specs.Book.{is_of_connect, is_rest, Book, blank_book, book, entered, entered_each, is_clock_of, after_event, is_unspoken}
 use Rattle.legal_trace.specs.Steps.{permits_in}
+use Rattle.legal_trace.proofs.Clocks.{timer_keeps}
 use Rattle.legal_trace.specs.Legal.{MayTimer, MayTime, MayStand, AllStand, Legal}
 use Rattle.legal_trace.proofs.Books.{stand_behind}
 use Rattle.legal_laws.specs.Permits.{IsAsking, AsksTimers}
@@ -26,14 +27,8 @@ use Rattle.driver_model.specs.Config.{permits}
 
 -- of a timer of submission n that may be asked for
 ask_of : (b : Book) (t ms n round : ℕ) → MayTimer b t ms (purpose.Response (owner.Try n round)) → (may : MayTime b t ms (purpose.Response (owner.Try n round))) × (may.n ≡ n)
-ask_of b t ms n round (inl may) = absurd (let x : false ≡ true = ap is_response may.is_for in cc x)
-  where
-    is_response : Purpose → Bool
-    is_response (purpose.Connect l) = true
-    is_response (purpose.Response who) = false
-    is_response (purpose.Renewal l k) = true
-    is_response (purpose.Backoff g) = true
-    is_response (purpose.Resubscription l) = true
+ask_of b t ms n round (inl (inl may)) = absurd (let x : false ≡ true = ap is_of_connect may.is_for in cc x)
+ask_of b t ms n round (inl (inr may)) = absurd (let x : false ≡ true = ap is_rest may.is_for in cc x)
 ask_of b t ms n round (inr (inr may)) = absurd (let x : false ≡ true = ap is_renewal may.is_for in cc x)
   where
     is_renewal : Purpose → Bool
@@ -81,7 +76,7 @@ clock_stays : (b : Book) (a : Action) (n : ℕ) → Clocked (b.story n) → Cloc
 clock_stays b (action.Turn k (cause.Opening config word)) n h = h
 clock_stays b (action.Turn k (cause.Event e)) n h = event_clocked b n e.kind h
 clock_stays b (action.Connect m host port) n h = h
-clock_stays b (action.Timer t ms what) n h = chosen Clocked (is_clock_of n (Some what)) (clocked (b.story n) t) (b.story n) (λ e. refl) (λ f. h)
+clock_stays b (action.Timer t ms what) n h = timer_keeps Clocked b n t what (λ e o. h) (λ e. refl) h
 clock_stays b (action.Took owner.Setup l count) n h = h
 clock_stays b (action.Took owner.Auth l count) n h = h
 clock_stays b (action.Took owner.Resub l count) n h = h
@@ -158,7 +153,7 @@ timeout_stays : (b : Book) (a : Action) (n : ℕ) → n < b.submissions → ((en
 timeout_stays b (action.Turn k (cause.Opening config word)) n i = refl
 timeout_stays b (action.Turn k (cause.Event e)) n i = event_timeout b n e.kind i
 timeout_stays b (action.Connect m host port) n i = refl
-timeout_stays b (action.Timer t ms what) n i = chosen (λ (s : Story). s.timeout ≡ (b.story n).timeout) (is_clock_of n (Some what)) (clocked (b.story n) t) (b.story n) (λ e. refl) (λ f. refl)
+timeout_stays b (action.Timer t ms what) n i = timer_keeps (λ (s : Story). s.timeout ≡ (b.story n).timeout) b n t what (λ e o. refl) (λ e. refl) refl
 timeout_stays b (action.Took owner.Setup l count) n i = refl
 timeout_stays b (action.Took owner.Auth l count) n i = refl
 timeout_stays b (action.Took owner.Resub l count) n i = refl

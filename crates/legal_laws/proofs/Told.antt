@@ -90,7 +90,7 @@ waits_kept b (action.Push m info) may still h = λ l heard. push_keeps Waits (m 
 waits_kept b (action.Message msg) may still h = λ l heard. tell_keeps Waits (b.current == l) (b.link l) (waits_tells (b.link l) (h l heard)) (h l heard)
 waits_kept b (action.Monitor v) may still h = λ l heard. tell_keeps Waits (b.current == l) (b.link l) (waits_tells (b.link l) (h l heard)) (h l heard)
 waits_kept b (action.NeedCreds c m) may still h = λ l heard. mine_keeps Waits (m == l) (b.link l) sources (λ t. h l heard) (h l heard)
-waits_kept b (action.Generation g) may still h = absurd may
+waits_kept b (action.Generation g) may still h = h
 waits_kept b (action.Round who m) may still h = absurd may
 waits_kept b (action.Close m) may still h = λ l heard. mine_keeps Waits (m == l) (b.link l) (ends (b.turns - 1)) (λ t p next. absurd (not_none (next_notice (b.link l)) p (may.pushed l heard) next)) (h l heard)
 waits_kept b (action.Write m bytes) may still h = λ l heard. mine_keeps Waits (m == l) (b.link l) (offers bytes) (λ t. h l heard) (h l heard)
@@ -106,62 +106,3 @@ waits_kept b (action.Start m k owner.Monitor count len) may still h = λ l heard
 waits_kept b (action.Start m k (owner.Try n round) count len) may still h = λ l heard. mine_keeps Waits (m == l) (b.link l) (begins (message_of b m (owner.Try n round))) (λ t. h l heard) (h l heard)
 waits_kept b (action.Created e) may still h = h
 waits_kept b (action.Outcome n o) may still h = h
-
--- each submission goes to the only link
-abbrev pub GoToOne : Book → Type 0
-GoToOne b = (n : ℕ) → (b.story n).link ≡ 0
-
--- it goes to that link
-abbrev OnFirst : Story → Type 0
-OnFirst s = s.link ≡ 0
-
--- so it does behind an event
-event_goes : (b : Book) (n : ℕ) (kind : EventKind) → b.links ≤ 1 → OnFirst (b.story n) → OnFirst (after_event b n kind)
-event_goes b n (event.Submit what) one h = chosen OnFirst (b.submissions == n) (handed_in (b.story n) what b.shut (is_unspoken b what) (max 1 b.generation) b.current b.timeout) (b.story n) (λ t. omega (arith, one)) (λ f. h)
-event_goes b n (event.Cancel m) one h = chosen OnFirst (m == n) (left (b.story n)) (b.story n) (λ t. chosen OnFirst (is_open (b.story n)) (record (b.story n) { cancelled = true; permits = 0; waiting = None }) (b.story n) (λ o. h) (λ o. h)) (λ f. h)
-event_goes b n (event.Fired t) one h = chosen OnFirst (is_clock_of n (slice_get b.timers t)) (fires (b.story n)) (b.story n) (λ e. chosen OnFirst (is_open (b.story n)) (record (b.story n) { overdue = true }) (b.story n) (λ o. h) (λ o. h)) (λ f. h)
-event_goes b n (event.Connected l) one h = h
-event_goes b n (event.Refused l f) one h = h
-event_goes b n (event.Wrote l count) one h = h
-event_goes b n (event.Bytes l piece) one h = h
-event_goes b n (event.Ended l) one h = h
-event_goes b n (event.ReadFault l kind) one h = h
-event_goes b n (event.WriteFault l kind) one h = h
-event_goes b n (event.Timeout ms) one h = h
-event_goes b n (event.Creds c auth) one h = h
-event_goes b n (event.CredsError c text) one h = h
-event_goes b n (event.CredsEnd c) one h = h
-event_goes b n event.DropStream one h = h
-event_goes b n event.Shutdown one h = h
-
--- and behind each action
-pub goes_kept : (b : Book) (a : Action) → b.links ≤ 1 → GoToOne b → GoToOne (entered b a)
-goes_kept b (action.Turn k (cause.Opening config word)) one h n = h n
-goes_kept b (action.Turn k (cause.Event e)) one h n = event_goes b n e.kind one (h n)
-goes_kept b (action.Connect m host port) one h n = h n
-goes_kept b (action.Timer t ms what) one h n = chosen OnFirst (is_clock_of n (Some what)) (clocked (b.story n) t) (b.story n) (λ e. h n) (λ f. h n)
-goes_kept b (action.Took owner.Setup m count) one h n = h n
-goes_kept b (action.Took owner.Auth m count) one h n = h n
-goes_kept b (action.Took owner.Resub m count) one h n = h n
-goes_kept b (action.Took owner.Monitor m count) one h n = h n
-goes_kept b (action.Took (owner.Try i round) m count) one h n = chosen OnFirst (i == n) (holds (b.story n) count) (b.story n) (λ e. h n) (λ f. h n)
-goes_kept b (action.Push m info) one h n = h n
-goes_kept b (action.Message msg) one h n = h n
-goes_kept b (action.Monitor v) one h n = h n
-goes_kept b (action.NeedCreds c m) one h n = h n
-goes_kept b (action.Generation g) one h n = h n
-goes_kept b (action.Round who m) one h n = h n
-goes_kept b (action.Close m) one h n = h n
-goes_kept b (action.Write m bytes) one h n = h n
-goes_kept b (action.Wait owner.Setup kind) one h n = h n
-goes_kept b (action.Wait owner.Auth kind) one h n = h n
-goes_kept b (action.Wait owner.Resub kind) one h n = h n
-goes_kept b (action.Wait owner.Monitor kind) one h n = h n
-goes_kept b (action.Wait (owner.Try i round) kind) one h n = chosen OnFirst (i == n) (waits (b.story n) kind) (b.story n) (λ e. h n) (λ f. h n)
-goes_kept b (action.Start m k owner.Setup count len) one h n = h n
-goes_kept b (action.Start m k owner.Auth count len) one h n = h n
-goes_kept b (action.Start m k owner.Resub count len) one h n = h n
-goes_kept b (action.Start m k owner.Monitor count len) one h n = h n
-goes_kept b (action.Start m k (owner.Try i round) count len) one h n = chosen OnFirst (i == n) (tried (b.story n) m k) (b.story n) (λ e. h n) (λ f. h n)
-goes_kept b (action.Created e) one h n = h n
-goes_kept b (action.Outcome i o) one h n = chosen OnFirst (i == n) (answered (b.story n) o) (b.story n) (λ e. h n) (λ f. h n)

@@ -110,7 +110,7 @@ step_well b l vs (action.Push m info) may s h = push_keeps (λ x. HeardWell (hea
 step_well b l vs (action.Message msg) may s h = tell_keeps (λ x. HeardWell (hearing_in b.config) x (vs ++ [])) (b.current == l) (b.link l) (same_heard (hearing_in b.config) (b.link l) _ vs refl refl refl h) (same_heard (hearing_in b.config) (b.link l) (b.link l) vs refl refl refl h)
 step_well b l vs (action.Monitor v) may s h = tell_keeps (λ x. HeardWell (hearing_in b.config) x (vs ++ [])) (b.current == l) (b.link l) (same_heard (hearing_in b.config) (b.link l) _ vs refl refl refl h) (same_heard (hearing_in b.config) (b.link l) (b.link l) vs refl refl refl h)
 step_well b l vs (action.NeedCreds c m) may s h = mine_keeps (λ x. HeardWell (hearing_in b.config) x (vs ++ [])) (m == l) (b.link l) sources (λ t. same_heard (hearing_in b.config) (b.link l) _ vs refl refl refl h) (same_heard (hearing_in b.config) (b.link l) (b.link l) vs refl refl refl h)
-step_well b l vs (action.Generation g) may s h = absurd may
+step_well b l vs (action.Generation g) may s h = same_heard (hearing_in b.config) (b.link l) (b.link l) vs refl refl refl h
 step_well b l vs (action.Round who m) may s h = absurd may
 step_well b l vs (action.Close m) may s h = mine_keeps (λ x. HeardWell (hearing_in b.config) x (vs ++ [])) (m == l) (b.link l) (ends (b.turns - 1)) (λ t. same_heard (hearing_in b.config) (b.link l) _ vs refl refl refl h) (same_heard (hearing_in b.config) (b.link l) (b.link l) vs refl refl refl h)
 step_well b l vs (action.Write m bytes) may s h = mine_keeps (λ x. HeardWell (hearing_in b.config) x (vs ++ [])) (m == l) (b.link l) (offers bytes) (λ t. same_heard (hearing_in b.config) (b.link l) _ vs refl refl refl h) (same_heard (hearing_in b.config) (b.link l) (b.link l) vs refl refl refl h)

@@ -18,7 +18,9 @@ use Rattle.driver_model.specs.News.{News, refused, overdue, took, came, failed, 
 use Rattle.legal_trace.specs.Ledger.{Ledger, Line, asks, hears, begins, tells, sources, times, ends, parts, dials, awaits_credentials, may_renew, is_renewal_open, with_news, noted, noted_each}
 use Rattle.legal_trace.specs.Story.{Story, is_open}
 use Rattle.legal_trace.proofs.Ledgers.{unasked_dials_not}
-use Rattle.legal_trace.specs.Book.{Book, blank_book, info_in, wanted_in, hearing_in, if_mine, is_renewal_of, message_of, push_line, lines_of, current, is_clock_of, after_event, story_after, submitted_by, entered, entered_each}
+use Rattle.legal_trace.specs.Managers.{settings_in, is_last}
+use Rattle.legal_trace.proofs.Clocks.{timer_keeps}
+use Rattle.legal_trace.specs.Book.{Book, blank_book, info_in, wanted_in, hearing_in, if_mine, is_renewal_of, message_of, push_line, lines_of, is_clock_of, after_event, story_after, submitted_by, entered, entered_each}
 
 -- no link but the first is connected
 abbrev pub connects_first : EventKind → Bool
@@ -138,12 +140,12 @@ told_idle l h = record { down = h.down; unasked = h.unasked; lives = h.lives; mu
 still_idle : (b : Book) (n : ℕ) (a : Action) → 0 < n → is_of_first a ≡ true → IsIdle (b.link n) → IsIdle (noted_each (b.link n) (lines_of b n a))
 still_idle b n (action.Turn k (cause.Opening config word)) some first h = h
 still_idle b n (action.Turn k (cause.Event e)) some first h = event_idle (b.link n) k b.timers b.sources n e.kind some first h
-still_idle b n (action.Connect l host port) some first h = mine_idle b n l (asks (info_in b.config) (wanted_in b.config) (hearing_in b.config)) some first h
+still_idle b n (action.Connect l host port) some first h = mine_idle b n l (asks (info_in b.config) (wanted_in b.config) (hearing_in b.config) (is_last (settings_in b.config) b.attempt)) some first h
 still_idle b n (action.Timer t ms what) some first h = any_idle (b.link n) (is_renewal_of n what) times h (record { down = h.down; unasked = h.unasked; lives = h.lives; mute = h.mute; quiet = h.quiet })
 still_idle b n (action.Took who l count) some first h = h
 still_idle b n (action.Push l info) some first h = any_idle (b.link n) (l == n) _ h (pushed_idle (b.link n) info.kind h)
-still_idle b n (action.Message m) some first h = any_idle (b.link n) (current b == n) tells h (told_idle (b.link n) h)
-still_idle b n (action.Monitor v) some first h = any_idle (b.link n) (current b == n) tells h (told_idle (b.link n) h)
+still_idle b n (action.Message m) some first h = any_idle (b.link n) (b.current == n) tells h (told_idle (b.link n) h)
+still_idle b n (action.Monitor v) some first h = any_idle (b.link n) (b.current == n) tells h (told_idle (b.link n) h)
 still_idle b n (action.NeedCreds c l) some first h = any_idle (b.link n) (l == n) sources h (record { down = h.down; unasked = h.unasked; lives = h.lives; mute = h.mute; quiet = h.quiet })
 still_idle b n (action.Generation g) some first h = h
 still_idle b n (action.Round who l) some first h = h
@@ -193,7 +195,7 @@ still_absent b n (action.Wait owner.Monitor kind) l h = h n l
 still_absent b n (action.Wait (owner.Try i round) kind) l h = chosen IsAbsent (i == n) _ _ (λ t. h n l) (λ t. h n l)
 still_absent b n (action.Outcome m o) l h = chosen IsAbsent (m == n) _ _ (λ t. h n l) (λ t. h n l)
 still_absent b n (action.Connect m host port) l h = h n l
-still_absent b n (action.Timer t ms what) l h = chosen IsAbsent (is_clock_of n (Some what)) _ _ (λ e. h n l) (λ e. h n l)
+still_absent b n (action.Timer t ms what) l h = timer_keeps IsAbsent b n t what (λ e o. h n l) (λ e. h n l) (h n l)
 still_absent b n (action.Took owner.Setup m count) l h = h n l
 still_absent b n (action.Took owner.Auth m count) l h = h n l
 still_absent b n (action.Took owner.Resub m count) l h = h n l

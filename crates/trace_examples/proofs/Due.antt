@@ -26,7 +26,7 @@ use Rattle.driver_model.specs.Shape.{need_of}
 use Rattle.credentials.specs.Credentials.{Credentials}
 use Rattle.legal_trace.specs.Ledger.{Heard, Ending, is_cut, is_full_by, is_ready, monitor_due, monitor_message, next_notice, setup_count, setup_due, setup_message, source_due, renewal_due, renewals_asked, is_over, ending, failure_in, unwritten}
 use Rattle.legal_trace.specs.Story.{Try, last_of, is_open, is_unstarted, bytes_of, shape}
-use Rattle.legal_trace.specs.Book.{Book, blank_book, book, current, renewal_in, entered, entered_each}
+use Rattle.legal_trace.specs.Book.{Book, blank_book, book, renewal_in, entered, entered_each}
 use Rattle.legal_trace.specs.Steps.{is_held_back, takes, asks, tells, starts, next_step}
 use Rattle.legal_trace.specs.Owed.{owed}
 use Rattle.legal_trace.specs.Events.{is_bad_event}
@@ -34,7 +34,7 @@ use Rattle.legal_trace.specs.Legal.{IsOpen, IsWaiting, IsBefore, is_heard, are_p
 use Rattle.legal_trace.proofs.Setups.{due_count}
 use Rattle.trace_examples.proofs.Bounded.{IsBounded, is_of_first, still_bounded, blank_bounded}
 use Rattle.trace_examples.proofs.Checks.{holds_if, held, is_empty, empty_from, filled_from, each_below, below, same_step, step_from, is_other_wait, other_wait}
-use Rattle.trace_examples.proofs.Settled.{is_quiet, quiet, all_shown, verdicts_are_shown, none_ends, no_end, failure_shown, failures_are_shown, notices_told, notices_are_told, end_told, ends_are_told, of_open, is_applied, applied, ready_shown, ready_is_shown, sources_asked, sources_are_asked, is_to_set_up, are_set_up, setups_have_started, is_to_watch, are_watched, monitors_have_started, renewals_timed, renewals_are_timed, can_renew, is_begun, has_begun, all_stay, none_before, is_moved, moved, is_written, written, wait_holds, holds, is_waiting, waiting, is_settled, settled}
+use Rattle.trace_examples.proofs.Settled.{is_quiet, quiet, all_shown, verdicts_are_shown, none_ends, no_end, failure_shown, failures_are_shown, notices_told, notices_are_told, end_told, ends_are_told, of_open, is_applied, applied, effect_shown, shown, never_rests, never_generates, links_first, ready_shown, ready_is_shown, sources_asked, sources_are_asked, is_to_set_up, are_set_up, setups_have_started, is_to_watch, are_watched, monitors_have_started, renewals_timed, renewals_are_timed, can_renew, is_begun, has_begun, all_stay, none_before, is_moved, moved, is_written, written, wait_holds, holds, is_waiting, waiting, is_settled, settled}
 
 -- a turn
 abbrev pub turn_due : Book → ℕ → Cause → Bool
@@ -255,7 +255,7 @@ renewal_time_stands b t ms l k bounded e within =
 
 -- the timer of the opening, of which is left to be said for how long and for what; or that of a submission, or of new credentials
 abbrev pub timer_due : Book → ℕ → ℕ → Purpose → Bool
-timer_due b t ms (purpose.Connect l) = not (b.links == 0) && is_empty b.timers && (t == length b.timers)
+timer_due b t ms (purpose.Connect l) = effect_shown b && not (b.links == 0) && nat_lt b.timed b.links && (t == length b.timers)
 timer_due b t ms (purpose.Response owner.Setup) = false
 timer_due b t ms (purpose.Response owner.Auth) = false
 timer_due b t ms (purpose.Response owner.Resub) = false
@@ -266,40 +266,40 @@ timer_due b t ms (purpose.Resubscription l) = false
 timer_due b t ms (purpose.Response (owner.Try n round)) = (round == 0) && ask_due b t ms n
 
 -- that a connect may take so long, and is what the timer is for
-abbrev pub IsTime : Book → Option Cause → ℕ → Purpose → Type 0
+abbrev pub IsTime : Book → Option Config → ℕ → Purpose → Type 0
 IsTime b None ms what = ⊥
-IsTime b (Some (cause.Event e)) ms what = ⊥
-IsTime b (Some (cause.Opening config word)) ms what = (connect_timeout config ≡ Some ms) × (what ≡ purpose.Connect (current b))
+IsTime b (Some config) ms what = (connect_timeout config ≡ Some ms) × (what ≡ purpose.Connect b.current)
 
 -- this is left to be said of the timer of a connect, or of new credentials
 abbrev pub IsTimeOf : Book → ℕ → Purpose → Type 0
-IsTimeOf b ms (purpose.Connect l) = IsTime b b.running ms (purpose.Connect l)
+IsTimeOf b ms (purpose.Connect l) = IsTime b b.config ms (purpose.Connect l)
 IsTimeOf b ms (purpose.Response who) = Unit {0}
 IsTimeOf b ms (purpose.Renewal l k) = answer_time b.config ≡ Some ms
 IsTimeOf b ms (purpose.Backoff g) = Unit {0}
 IsTimeOf b ms (purpose.Resubscription l) = Unit {0}
 
 -- so the timer of a connect may stand
-connect_timer_stands : (b : Book) (t ms l : ℕ) → timer_due b t ms (purpose.Connect l) ≡ true → IsTime b b.running ms (purpose.Connect l) → MayTimeConnect b t ms (purpose.Connect l)
-connect_timer_stands b t ms l e said = of_cause b.running refl said
+connect_timer_stands : (b : Book) (t ms l : ℕ) → IsBounded b → timer_due b t ms (purpose.Connect l) ≡ true → IsTime b b.config ms (purpose.Connect l) → MayTimeConnect b t ms (purpose.Connect l)
+connect_timer_stands b t ms l bounded e said = of_config b.config refl said
   where
-    of_cause : (c : Option Cause) → b.running ≡ c → IsTime b c ms (purpose.Connect l) → MayTimeConnect b t ms (purpose.Connect l)
-    of_cause None same s = absurd s
-    of_cause (Some (cause.Event event)) same s = absurd s
-    of_cause (Some (cause.Opening config word)) same s = record {
+    of_config : (c : Option Config) → b.config ≡ c → IsTime b c ms (purpose.Connect l) → MayTimeConnect b t ms (purpose.Connect l)
+    of_config None same s = absurd s
+    of_config (Some config) same s = record {
+      shown = shown b bounded (search (both_left, both_right));
+      rested = never_rests b;
+      generated = never_generates b;
+      linked = links_first b ∙ not-true (b.links == 0) (search (both_left, both_right));
+      due = lt_from b.timed b.links (search (both_left, both_right));
       config = config;
-      word = word;
-      opens = same;
+      told = same;
       bounded = s.0;
-      asked = ne_from b.links 0 (not-true (b.links == 0) (search (both_left, both_right)));
-      first = empty_from b.timers (search (both_left, both_right));
       next = eq_from t (length b.timers) (search (both_left, both_right));
       is_for = s.1;
     }
 
 -- and any timer
 timer_stands : (b : Book) (t ms : ℕ) (what : Purpose) → IsBounded b → timer_due b t ms what ≡ true → IsTimeOf b ms what → MayTimer b t ms what
-timer_stands b t ms (purpose.Connect l) bounded e said = inl (connect_timer_stands b t ms l e said)
+timer_stands b t ms (purpose.Connect l) bounded e said = inl (inl (connect_timer_stands b t ms l bounded e said))
 timer_stands b t ms (purpose.Response owner.Setup) bounded e said = cc e
 timer_stands b t ms (purpose.Response owner.Auth) bounded e said = cc e
 timer_stands b t ms (purpose.Response owner.Resub) bounded e said = cc e
@@ -486,10 +486,14 @@ outcome_stands b n o bounded e said = of_owed (owed b n) refl (both_right (is_op
       nil = s;
     })
 
+-- the connect of the first link; to which address is left to be said
+abbrev pub connect_due : Book → ℕ → Bool
+connect_due b l = effect_shown b && (b.links == 0) && (l == 0)
+
 -- each step is due but for what is left to be said
 abbrev pub due : Book → Action → Bool
 due b (action.Turn k c) = turn_due b k c
-due b (action.Connect l host port) = (b.links == 0) && (l == 0)
+due b (action.Connect l host port) = connect_due b l
 due b (action.Timer t ms what) = timer_due b t ms what
 due b (action.Took owner.Setup l count) = false
 due b (action.Took owner.Auth l count) = false
@@ -497,8 +501,8 @@ due b (action.Took owner.Resub l count) = false
 due b (action.Took owner.Monitor l count) = false
 due b (action.Took (owner.Try n round) l count) = (round == 0) && take_due b n l count
 due b (action.Push l info) = push_due (is_disconnection info.kind) b l
-due b (action.Message m) = tell_due b (current b) (next_notice (b.link (current b)))
-due b (action.Monitor v) = tell_due b (current b) (next_notice (b.link (current b)))
+due b (action.Message m) = tell_due b b.current (next_notice (b.link b.current))
+due b (action.Monitor v) = tell_due b b.current (next_notice (b.link b.current))
 due b (action.NeedCreds c l) = need_due b c l
 due b (action.Generation g) = false
 due b (action.Round who l) = false
@@ -531,27 +535,27 @@ pub record IsPlace (config : Config) (host : List ℕ) (port : ℕ) : Type 0 whe
   pub configured : address config ≡ Some info
   pub is : (host ≡ info.host) × (port ≡ info.port)
 
--- that of the opening which runs
-abbrev pub IsAddress : Option Cause → List ℕ → ℕ → Type 0
+-- that of the configuration
+abbrev pub IsAddress : Option Config → List ℕ → ℕ → Type 0
 IsAddress None host port = ⊥
-IsAddress (Some (cause.Event e)) host port = ⊥
-IsAddress (Some (cause.Opening config word)) host port = IsPlace config host port
+IsAddress (Some config) host port = IsPlace config host port
 
 -- the opening asks for the first link
-connect_stands : (b : Book) (l : ℕ) (host : List ℕ) (port : ℕ) → ((b.links == 0) && (l == 0)) ≡ true → IsAddress b.running host port → MayConnect b l host port
-connect_stands b l host port e place = of_cause b.running refl place
+connect_stands : (b : Book) (l : ℕ) (host : List ℕ) (port : ℕ) → IsBounded b → connect_due b l ≡ true → IsAddress b.config host port → MayConnect b l host port
+connect_stands b l host port bounded e place = of_config b.config refl place
   where
-    of_cause : (c : Option Cause) → b.running ≡ c → IsAddress c host port → MayConnect b l host port
-    of_cause None same a = absurd a
-    of_cause (Some (cause.Event e)) same a = absurd a
-    of_cause (Some (cause.Opening config word)) same a =
-        let none : b.links ≡ 0 = eq_from b.links 0 (search both_left) in
+    of_config : (c : Option Config) → b.config ≡ c → IsAddress c host port → MayConnect b l host port
+    of_config None same a = absurd a
+    of_config (Some config) same a =
+        let none : b.links ≡ 0 = eq_from b.links 0 (search (both_left, both_right)) in
         record {
+          shown = shown b bounded (search (both_left, both_right));
+          rested = never_rests b;
+          generated = never_generates b;
+          due = links_first b ∙ search (both_left, both_right);
           config = config;
-          word = word;
-          opens = same;
+          told = same;
           sound = a.sound;
-          first = none;
           next = eq_from l 0 (search (both_left, both_right)) ∙ sym none;
           info = a.info;
           configured = a.configured;
@@ -561,15 +565,15 @@ connect_stands b l host port e place = of_cause b.running refl place
 -- what is left to be said of all of these
 abbrev pub AllSaid : Book → List Action → Type 0
 AllSaid b [] = Unit {0}
-AllSaid b (action.Connect l host port ∷ more) = IsAddress b.running host port × AllSaid (entered b (action.Connect l host port)) more
+AllSaid b (action.Connect l host port ∷ more) = IsAddress b.config host port × AllSaid (entered b (action.Connect l host port)) more
 AllSaid b (action.Write l bytes ∷ more) = (bytes ≡ unwritten (b.link l)) × AllSaid (entered b (action.Write l bytes)) more
 AllSaid b (action.Outcome n o ∷ more) = IsSaid o (owed b n) × AllSaid (entered b (action.Outcome n o)) more
 AllSaid b (action.Turn k c ∷ more) = AllSaid (entered b (action.Turn k c)) more
 AllSaid b (action.Timer t ms what ∷ more) = IsTimeOf b ms what × AllSaid (entered b (action.Timer t ms what)) more
 AllSaid b (action.Took who l count ∷ more) = AllSaid (entered b (action.Took who l count)) more
 AllSaid b (action.Push l info ∷ more) = IsPushSaid (is_disconnection info.kind) b l info × AllSaid (entered b (action.Push l info)) more
-AllSaid b (action.Message m ∷ more) = IsNoticeOf (notice.Message m) (next_notice (b.link (current b))) × AllSaid (entered b (action.Message m)) more
-AllSaid b (action.Monitor v ∷ more) = IsNoticeOf (notice.Monitor v) (next_notice (b.link (current b))) × AllSaid (entered b (action.Monitor v)) more
+AllSaid b (action.Message m ∷ more) = IsNoticeOf (notice.Message m) (next_notice (b.link b.current)) × AllSaid (entered b (action.Message m)) more
+AllSaid b (action.Monitor v ∷ more) = IsNoticeOf (notice.Monitor v) (next_notice (b.link b.current)) × AllSaid (entered b (action.Monitor v)) more
 AllSaid b (action.NeedCreds c l ∷ more) = AllSaid (entered b (action.NeedCreds c l)) more
 AllSaid b (action.Generation g ∷ more) = AllSaid (entered b (action.Generation g)) more
 AllSaid b (action.Round who l ∷ more) = AllSaid (entered b (action.Round who l)) more
@@ -582,7 +586,7 @@ AllSaid b (action.Created (Some e) ∷ more) = (failure_in (b.link 0).end ≡ So
 -- the first of these may stand
 first_stands : (b : Book) (a : Action) (more : List Action) → IsBounded b → due b a ≡ true → AllSaid b (a ∷ more) → MayStand b a × AllSaid (entered b a) more
 first_stands b (action.Turn k c) more bounded e said = (turn_stands b k c bounded e, said)
-first_stands b (action.Connect l host port) more bounded e said = (connect_stands b l host port e said.0, said.1)
+first_stands b (action.Connect l host port) more bounded e said = (connect_stands b l host port bounded e said.0, said.1)
 first_stands b (action.Timer t ms what) more bounded e said = (timer_stands b t ms what bounded e said.0, said.1)
 first_stands b (action.Took owner.Setup l count) more bounded e said = absurd (cc e)
 first_stands b (action.Took owner.Auth l count) more bounded e said = absurd (cc e)
@@ -591,8 +595,8 @@ first_stands b (action.Took owner.Monitor l count) more bounded e said = absurd 
 first_stands b (action.Took (owner.Try n round) l count) more bounded e said =
     ((eq_from round 0 (both_left (round == 0) (take_due b n l count) e), take_stands b n l count bounded (both_right (round == 0) (take_due b n l count) e)), said)
 first_stands b (action.Push l info) more bounded e said = (push_stands (is_disconnection info.kind) b l info bounded e said.0, said.1)
-first_stands b (action.Message m) more bounded e said = (tell_stands b (current b) (notice.Message m) bounded e said.0, said.1)
-first_stands b (action.Monitor v) more bounded e said = (tell_stands b (current b) (notice.Monitor v) bounded e said.0, said.1)
+first_stands b (action.Message m) more bounded e said = (tell_stands b b.current (notice.Message m) bounded e said.0, said.1)
+first_stands b (action.Monitor v) more bounded e said = (tell_stands b b.current (notice.Monitor v) bounded e said.0, said.1)
 first_stands b (action.NeedCreds c l) more bounded e said = (need_stands b c l bounded e, said)
 first_stands b (action.Generation g) more bounded e said = absurd (cc e)
 first_stands b (action.Round who l) more bounded e said = absurd (cc e)
@@ -610,7 +614,7 @@ first_stands b (action.Start l k owner.Monitor count len) more bounded e said = 
 first_stands b (action.Start l k owner.Auth count len) more bounded e said = (renew_stands b l k count len bounded e, said)
 first_stands b (action.Start l k (owner.Try n round) count len) more bounded e said =
     ((eq_from round 0 (both_left (round == 0) (start_due b l k n count len) e), start_stands b l k n count len bounded (both_right (round == 0) (start_due b l k n count len) e)), said)
-first_stands b (action.Created None) more bounded e said = (created_stands b bounded e, said)
+first_stands b (action.Created None) more bounded e said = (inl (created_stands b bounded e), said)
 first_stands b (action.Created (Some x)) more bounded e said = (failure_stands b x bounded e said.0, said.1)
 first_stands b (action.Outcome n o) more bounded e said = (outcome_stands b n o bounded e said.0, said.1)
 

@@ -19,6 +19,7 @@ use Rattle.driver_model.specs.declared.event.EventKind.TheVariants as event
 use Rattle.driver_model.specs.declared.outcome.Outcome.TheVariants as outcome
 use Rattle.driver_model.specs.Config.{kind_of, buffer_size, boundary, permits}
 use Rattle.driver_model.specs.Request.{packed_bytes}
+use Rattle.legal_trace.specs.Managers.{settings_in}
 use Rattle.legal_trace.specs.Events.{is_bad_event}
 use Rattle.legal_trace.specs.Ledger.{dials, is_ready}
 use Rattle.legal_trace.specs.Story.{is_told, is_awaited}
@@ -74,7 +75,7 @@ first_is_due b d u h t limit o = free_is_due b 0 d u h t (ap (λ x. is_none x ||
 -- the Nil of a command whose reply nobody awaits, before the start of an earlier one
 pub told_out_of_order : (config : Config) (word : ℕ) (events : List Event) (after : List Action)
     → Legal config word events (both_in_wait config word (unawaited 72) ++ action.Outcome 1 (outcome.One Nil) ∷ after) → ⊥
-unfolding digits
+unfolding digits settings_in
 told_out_of_order config word events after h =
     let b = book_of (both_in_wait config word (unawaited 72)) in
     elim (may_stand config word events (both_in_wait config word (unawaited 72)) after (action.Outcome 1 (outcome.One Nil)) h) [
@@ -87,17 +88,17 @@ told_out_of_order config word events after h =
 -- and before the creation
 pub told_before_the_creation : (config : Config) (word : ℕ) (events : List Event) (after : List Action)
     → Legal config word events (up_in_wait config word (unawaited 71) ++ action.Outcome 0 (outcome.One Nil) ∷ after) → ⊥
-unfolding digits
+unfolding digits settings_in
 told_before_the_creation config word events after h =
     elim (may_stand config word events (up_in_wait config word (unawaited 71)) after (action.Outcome 0 (outcome.One Nil)) h) [
       | inl answer ↦ of_single config word (up_in_wait config word (unawaited 71)) (λ b. owed b 0 ≡ Some (outcome.One Nil) → ⊥) (single_behind config word events (opening config word) _ 1 (unawaited 71) refl refl h) (none_is_some (outcome.One Nil)) (none_is_some (outcome.One Nil)) answer.owes
-      | inr tell ↦ tell.begun.applied.created.shown 0 (tells_mean (book_of (up_in_wait config word (unawaited 71))) 0 tell.tells).1 refl
+      | inr tell ↦ tell.begun.applied.shown.created.shown 0 (tells_mean (book_of (up_in_wait config word (unawaited 71))) 0 tell.tells).1 refl
     ]
 
 -- a close by bytes that begin no value, before the outcome of the value in front of them
 pub closed_before_the_reply : (config : Config) (word : ℕ) (events : List Event) (after : List Action)
     → Legal config word events (spoiled config word ++ action.Close 0 ∷ after) → ⊥
-unfolding digits items values left_over max_depth
+unfolding digits items values left_over max_depth settings_in
 closed_before_the_reply config word events after h =
     let m = may_stand config word events (spoiled config word) after (action.Close 0) h in
     of_arrived config word events (spoiled config word) _ (command 71) (λ b. VerdictsAreShown b → ⊥) refl h (λ name v. some_is_none (reply 120) (v 0 refl refl)) (λ name v. some_is_none (reply 120) (v 0 refl refl)) m.answered
@@ -125,7 +126,7 @@ same_config c d v w e = cc
 -- bytes that are offered before a message that may start, where these 11 don't hold it back
 pub offered_before_a_start : (config : Config) (word : ℕ) (events : List Event) (after : List Action) (bytes : List ℕ) → 11 < boundary config
     → Legal config word events (first_of_both config word ++ action.Write 0 bytes ∷ after) → ⊥
-unfolding digits
+unfolding digits settings_in
 offered_before_a_start config word events after bytes free h =
     let m = may_stand config word events (first_of_both config word) after (action.Write 0 bytes) h in
     let first = may_stand config word events (both_in_wait config word (command 72)) (action.Write 0 bytes ∷ after) (action.Start 0 0 (owner.Try 0 0) 1 11) h in
@@ -146,7 +147,7 @@ offered_twice config word events after h =
 -- bytes that are offered again after they were taken
 pub offered_what_was_taken : (config : Config) (word : ℕ) (events : List Event) (after : List Action)
     → Legal config word events (taken_in_part config word ++ action.Write 0 (packed_bytes (command 71)) ∷ after) → ⊥
-unfolding digits
+unfolding digits settings_in
 offered_what_was_taken config word events after h =
     let m = may_stand config word events (taken_in_part config word) after (action.Write 0 (packed_bytes (command 71))) h in
     cc (ap length m.all)
@@ -189,7 +190,7 @@ another_need config word events after count len other h =
 -- and with its length
 pub another_length : (config : Config) (word : ℕ) (events : List Event) (after : List Action) (count len : ℕ) → len ≢ 11
     → Legal config word events (arrived config word (command 71) ++ action.Start 0 0 (owner.Try 0 0) count len ∷ after) → ⊥
-unfolding digits
+unfolding digits settings_in
 another_length config word events after count len other h =
     let m = may_stand config word events (arrived config word (command 71)) after (action.Start 0 0 (owner.Try 0 0) count len) h in
     other m.1.long_as_its_bytes
@@ -197,21 +198,21 @@ another_length config word events after count len other h =
 -- the turn of one command without words in a list
 pub nameless : (config : Config) (word : ℕ) (events : List Event) (after : List Action)
     → Legal config word events (came_up config word ++ turn 2 (event.Submit one_nameless) ∷ after) → ⊥
-unfolding is_bad_event
+unfolding is_bad_event settings_in
 nameless config word events after h =
     let m = may_stand config word events (came_up config word) after (turn 2 (event.Submit one_nameless)) h in
     no_session_has (kind_of config) one_nameless refl refl m.is_for.2
 
 pub nameless_transaction : (config : Config) (word : ℕ) (events : List Event) (after : List Action)
     → Legal config word events (came_up config word ++ turn 2 (event.Submit nameless_atomic) ∷ after) → ⊥
-unfolding is_bad_event
+unfolding is_bad_event settings_in
 nameless_transaction config word events after h =
     let m = may_stand config word events (came_up config word) after (turn 2 (event.Submit nameless_atomic)) h in
     no_session_has (kind_of config) nameless_atomic refl refl m.is_for.2
 
 pub nameless_packed : (config : Config) (word : ℕ) (events : List Event) (after : List Action) (offset count : ℕ)
     → Legal config word events (came_up config word ++ turn 2 (event.Submit (nameless_skipped offset count)) ∷ after) → ⊥
-unfolding is_bad_event
+unfolding is_bad_event settings_in
 nameless_packed config word events after offset count h =
     let m = may_stand config word events (came_up config word) after (turn 2 (event.Submit (nameless_skipped offset count))) h in
     no_session_has (kind_of config) (nameless_skipped offset count) refl refl m.is_for.2
@@ -219,7 +220,7 @@ nameless_packed config word events after offset count h =
 -- the turn of more bytes taken than were offered
 pub took_too_much : (config : Config) (word : ℕ) (events : List Event) (after : List Action)
     → Legal config word events (started_one config word ++ turn 3 (event.Wrote 0 12) ∷ after) → ⊥
-unfolding is_bad_event digits
+unfolding is_bad_event digits settings_in
 took_too_much config word events after h =
     let m = may_stand config word events (started_one config word) after (turn 3 (event.Wrote 0 12)) h in
     cc m.is_for.2

@@ -7,6 +7,7 @@ use Rattle.connection_info.specs.declared.protocol.ProtocolVersion.TheVariants.{
 use Rattle.driver_model.specs.Config.{address, fault_in}
 use Rattle.containers.proofs.Choices.{left_if}
 use Rattle.redis_error.specs.declared.config_name.ConfigName.TheVariants as name
+use Rattle.legal_trace.specs.Managers.{settings_in}
 use Rattle.trace_examples.specs.Parts.{at_server, held_at, limited_to, plain, held_for}
 use Rattle.trace_examples.proofs.Due.{IsPlace}
 
@@ -20,17 +21,17 @@ server = record {
 
 -- its URL is that
 is_server : (connect : Option (Option ℕ)) → address (at_server connect) ≡ Some server
-unfolding url_on_literals utf8_lossy utf8_valid_len
+unfolding url_on_literals utf8_lossy utf8_valid_len settings_in
 is_server connect = refl
 
 -- also where the queue and the boundary are said
 is_held_server : (bound size : ℕ) → address (held_at bound size) ≡ Some server
-unfolding url_on_literals utf8_lossy utf8_valid_len
+unfolding url_on_literals utf8_lossy utf8_valid_len settings_in
 is_held_server bound size = refl
 
 -- and where permits and the time of requests are
 is_limited_server : (limit : ℕ) (ms : Option ℕ) → address (limited_to limit ms) ≡ Some server
-unfolding url_on_literals utf8_lossy utf8_valid_len
+unfolding url_on_literals utf8_lossy utf8_valid_len settings_in
 is_limited_server limit ms = refl
 
 -- so an opening asks for it
@@ -57,7 +58,7 @@ at_limited limit ms some = record {
 
 -- and where nothing else is said, or only what holds requests up
 is_plain_server : address plain ≡ Some server
-unfolding url_on_literals utf8_lossy utf8_valid_len
+unfolding url_on_literals utf8_lossy utf8_valid_len settings_in
 is_plain_server = refl
 
 -- so the opening asks for it
@@ -66,7 +67,7 @@ at_plain = record { sound = ap (λ a. fault_in a false None 50) is_plain_server;
 
 -- it is that server, too
 is_held_for_server : (ms : ℕ) → address (held_for ms) ≡ Some server
-unfolding url_on_literals utf8_lossy utf8_valid_len
+unfolding url_on_literals utf8_lossy utf8_valid_len settings_in
 is_held_for_server ms = refl
 
 -- which its opening asks for

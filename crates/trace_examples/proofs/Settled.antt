@@ -6,19 +6,20 @@ use Rattle.std.proofs.lemmas.Bool.{not-true}
 use Rattle.containers.proofs.Choices.{by_test, not_both, eq_from, ne_from, le_from, lt_from, not_lt_from, left_if, both_left, both_right}
 use Rattle.redis_error.specs.declared.redis_error.RedisError.{RedisError}
 use Rattle.driver_model.specs.Config.{connect_timeout}
-use Rattle.driver_model.specs.declared.action.Cause.{Cause}
-use Rattle.driver_model.specs.declared.action.Cause.TheVariants as cause
+use Rattle.driver_model.specs.declared.config.Config.{Config}
 use Rattle.driver_model.specs.declared.action.WaitKind.{WaitKind}
 use Rattle.driver_model.specs.declared.event.Submission.{Submission}
 use Rattle.legal_trace.specs.Ledger.{Ledger, Start, Heard, IsOffered, is_over, is_cut, ending, next_notice, failure_in, unwritten, is_full, is_ready, is_set_up, is_taken, last_renewal, monitor_due, renewal_count, renewal_due, renewals_asked, setup_due, source_due}
 use Rattle.legal_trace.specs.Story.{Try, last_of, is_open, is_told, is_unstarted, is_awaited, is_no_error, awaited_in}
-use Rattle.legal_trace.specs.Book.{Book}
+use Rattle.legal_trace.specs.Managers.{is_lazy}
+use Rattle.legal_trace.specs.Book.{Book, has_generations}
+use Rattle.legal_trace.proofs.Managers.{no_settings, never_lazy}
 use Rattle.legal_trace.specs.Steps.{waits, is_due, next_step, is_held_back}
 use Rattle.legal_trace.proofs.Setups.{due_is_up}
 use Rattle.legal_trace.proofs.Watching.{watch_is_up}
 use Rattle.legal_trace.proofs.Plain.{not_none}
 use Rattle.legal_trace.specs.Owed.{owed}
-use Rattle.legal_trace.specs.Legal.{IsOpen, link_of, NoneIsOwed, VerdictsAreShown, NoneEnds, FailuresAreShown, IsTimed, IsApplied, CanMove, IsMoved, IsWritten, WaitHolds, IsStarted, IsWaiting, IsSettled, ReadyIsShown, SourcesAreAsked, NoticesAreTold, EndsAreTold, IsBegun, SetupsAreStarted, MonitorsAreStarted, RenewalsAreTimed, RenewalsAreStarted, answer_time, are_pushes_heard, is_heard}
+use Rattle.legal_trace.specs.Legal.{IsOpen, link_of, NoneIsOwed, VerdictsAreShown, NoneEnds, FailuresAreShown, IsTimed, IsShown, IsApplied, current_link, is_attempt, rest_due, begins_first, is_caused, generation_due, link_due, CanMove, IsMoved, IsWritten, WaitHolds, IsStarted, IsWaiting, IsSettled, ReadyIsShown, SourcesAreAsked, NoticesAreTold, EndsAreTold, IsBegun, SetupsAreStarted, MonitorsAreStarted, RenewalsAreTimed, RenewalsAreStarted, answer_time, are_pushes_heard, is_heard}
 use Rattle.trace_examples.proofs.Bounded.{IsBounded, IsIdle}
 use Rattle.trace_examples.proofs.Checks.{holds_if, held, none_from, is_empty, empty_from, filled_from, each_below, below, same_step, step_from}
 
@@ -104,19 +105,19 @@ failures_are_shown b bounded t l e = first_and_idle b (λ m. failure_in (b.link 
     (λ fails. other_than_zero b.created (held (is_some (failure_in (b.link 0).end)) (not (b.created == 0)) t (ap is_some fails)))
     (λ idle fails. absurd (failed_idle (b.link l) e idle fails))
 
--- where the turn of this cause is an opening with a bounded connect, there are timers
-abbrev pub is_timed_in : Option Cause → Bool → Bool
-is_timed_in (Some (cause.Opening config word)) asked = holds_if (is_some (connect_timeout config)) asked
-is_timed_in _ asked = true
+-- where connects are bounded by this configuration, if it is told, each has its timer
+abbrev pub is_timed_in : Option Config → Bool → Bool
+is_timed_in None all = true
+is_timed_in (Some config) all = holds_if (is_some (connect_timeout config)) all
 
--- the opening asked for its timer
+-- each connect has its timer
 abbrev pub is_timed : Book → Bool
-is_timed b = is_timed_in b.running (not (is_empty b.timers))
+is_timed b = is_timed_in b.config (b.timed == b.links)
 
 pub timed : (b : Book) → is_timed b ≡ true → IsTimed b
-timed b e config word opens bounded =
-    filled_from b.timers (held (is_some (connect_timeout config)) (not (is_empty b.timers))
-    (ap (λ c. is_timed_in c (not (is_empty b.timers))) (sym opens) ∙ e) (some_from (connect_timeout config) bounded))
+timed b e config told bounded =
+    eq_from b.timed b.links (held (is_some (connect_timeout config)) (b.timed == b.links)
+    (ap (λ c. is_timed_in c (b.timed == b.links)) (sym told) ∙ e) (some_from (connect_timeout config) bounded))
   where
     some_from : (o : Option ℕ) → o ≢ None → is_some o ≡ true
     some_from None n = absurd (n refl)
@@ -167,22 +168,50 @@ idle_unsourced l idle = and_false (l.up && l.creds.wanted) (not l.creds.asked ||
 pub sources_are_asked : (b : Book) → IsBounded b → sources_asked b ≡ true → SourcesAreAsked b
 sources_are_asked b bounded t l = first_and_idle b (λ m. source_due (b.link m) ≡ false) l bounded (not-true (source_due (b.link 0)) t) (idle_unsourced (b.link l))
 
--- the event has had its own effect
-abbrev pub is_applied : Book → Bool
-is_applied b = (all_quiet b && none_ends b && not (b.links == 0) && is_timed b) && (ready_shown b && failure_shown b && notices_told b && end_told b && sources_asked b)
+-- what the event does to the link and the submissions is shown
+abbrev pub effect_shown : Book → Bool
+effect_shown b = (all_quiet b && none_ends b) && (ready_shown b && failure_shown b && notices_told b && end_told b && sources_asked b)
 
-pub applied : (b : Book) → IsBounded b → is_applied b ≡ true → IsApplied b
-applied b bounded e = record {
+pub shown : (b : Book) → IsBounded b → effect_shown b ≡ true → IsShown b
+shown b bounded e = record {
   answered = none_is_owed b bounded (search (both_left, both_right));
   ended = no_end b bounded (search (both_left, both_right));
   created = record {
-    asked = other_than_zero b.links (search (both_left, both_right));
+    lazy = λ lazy. absurd (not_both (is_lazy b.config) (never_lazy b.config) lazy);
     shown = ready_is_shown b bounded (search (both_left, both_right));
     failed = failures_are_shown b bounded (search (both_left, both_right));
   };
   pushed = notices_are_told b bounded (search (both_left, both_right));
   parted = ends_are_told b bounded (search (both_left, both_right));
   sourced = sources_are_asked b bounded (search (both_left, both_right));
+}
+
+-- no session comes back
+never_back : (b : Book) → has_generations b ≡ false
+never_back b = ap is_some (no_settings b.config)
+
+-- so no wait begins behind an attempt
+pub never_rests : (b : Book) → rest_due b ≡ false
+never_rests b = and_false (has_generations b) (is_attempt (current_link b).end) (never_back b)
+
+-- no generation does
+pub never_generates : (b : Book) → generation_due b ≡ false
+never_generates b = and_false (has_generations b) (not b.failed && (not b.shut && (if b.generation == 0 then begins_first b else is_caused b))) (never_back b)
+
+-- and a link is to be asked for where there is none
+pub links_first : (b : Book) → link_due b ≡ (b.links == 0)
+links_first b = left_if (has_generations b) (nat_lt 0 b.generation && (not (current_link b).asked && (is_none b.rest && not b.shut))) (b.links == 0) (never_back b)
+
+-- the event has had its own effect
+abbrev pub is_applied : Book → Bool
+is_applied b = effect_shown b && not (b.links == 0) && is_timed b
+
+pub applied : (b : Book) → IsBounded b → is_applied b ≡ true → IsApplied b
+applied b bounded e = record {
+  shown = shown b bounded (search (both_left, both_right));
+  rested = never_rests b;
+  generated = never_generates b;
+  linked = links_first b ∙ not-true (b.links == 0) (search (both_left, both_right));
   timed = timed b (search (both_left, both_right));
 }
 

@@ -22,6 +22,8 @@ use Rattle.driver_model.specs.Config.{kind_of, wants_pushes, bare_info, told_inf
 use Rattle.driver_model.specs.Hearing.{is_watching}
 use Rattle.driver_model.specs.Request.{has_no_form, is_foreign, is_formless}
 use Rattle.driver_model.specs.Setup.{says_nothing}
+use Rattle.legal_trace.specs.Managers.{settings_in, is_last}
+use Rattle.legal_trace.proofs.Managers.{no_settings}
 use Rattle.legal_trace.specs.Events.{is_bad_event}
 use Rattle.legal_trace.specs.Ledger.{blank_ledger, asks, noted_each}
 use Rattle.legal_trace.specs.Book.{Book, if_mine, kind_in, entered_each}
@@ -30,17 +32,22 @@ use Rattle.trace_examples.specs.Parts.{turn}
 use Rattle.trace_examples.specs.Traces.{opening, arrived, came_up}
 use Rattle.trace_examples.proofs.Stood.{IsGiven, IsSilent, book_of, may_stand, came_up_given, came_up_silent}
 
--- the book behind the opening, where this is said to the server of its link, credentials come of sources or don't, and this is heard
-abbrev opened : Config → ℕ → RedisConnectionInfo → Bool → Hearing → Book
-opened config word info wanted hears = record (book_of (opening config word)) { link = λ n. noted_each blank_ledger (if_mine (0 == n) (asks info wanted hears)) }
+-- the book behind the opening, where this is said to the server of its link, credentials come of sources or don't, no other attempt
+-- follows or one does, and this is heard
+abbrev opened : Config → ℕ → RedisConnectionInfo → Bool → Bool → Hearing → Book
+opened config word info wanted last hears = record (book_of (opening config word)) { link = λ n. noted_each blank_ledger (if_mine (0 == n) (asks info wanted hears last)) }
 
 -- the book of a front that goes on behind it
-abbrev pub book_from : Config → ℕ → List Action → RedisConnectionInfo → Bool → Hearing → Book
-book_from config word front info wanted hears = entered_each (opened config word info wanted hears) (drop 2 front)
+abbrev pub book_from : Config → ℕ → List Action → RedisConnectionInfo → Bool → Bool → Hearing → Book
+book_from config word front info wanted last hears = entered_each (opened config word info wanted last hears) (drop 2 front)
+
+-- no other attempt follows the first one
+abbrev pub last_of : Config → Bool
+last_of config = is_last (settings_in (Some config)) 0
 
 -- as its configuration says all this
 abbrev pub book_said : Config → ℕ → List Action → Book
-book_said config word front = book_from config word front (told_info config) (wants_credentials config) (hearing_of config)
+book_said config word front = book_from config word front (told_info config) (wants_credentials config) (last_of config) (hearing_of config)
 
 -- where a link of publish/subscribe has no such submission, a session that has it is one multiplexed connection
 single_has : (k : SessionKind) (what : Submission) → is_foreign what ≡ true → has_no_form k what ≡ false → k ≡ kind.Single
@@ -57,7 +64,7 @@ no_session_has kind.Monitor what formless foreign formed = cc formed
 -- a session to which such a submission was handed in is one multiplexed connection
 pub single_behind : (config : Config) (word : ℕ) (events : List Event) (front after : List Action) (k : ℕ) (what : Submission) → (book_of front).config ≡ Some config → is_foreign what ≡ true
     → Legal config word events (front ++ turn k (event.Submit what) ∷ after) → kind_of config ≡ kind.Single
-unfolding is_bad_event
+unfolding is_bad_event settings_in
 single_behind config word events front after k what same foreign h =
     let m = may_stand config word events front after (turn k (event.Submit what)) h in
     single_has (kind_of config) what foreign (ap (λ c. has_no_form (kind_in c) what) (sym same) ∙ m.is_for.2)
@@ -73,12 +80,13 @@ unwatched config single = ap (λ k. is_watching (hearing_in k (wants_pushes conf
 
 -- what holds of both books holds of the one that its configuration says
 pub of_single : (config : Config) (word : ℕ) (front : List Action) (P : Book → Type 0) → kind_of config ≡ kind.Single
-    → P (book_from config word front (told_info config) (wants_credentials config) hearing.Nothing)
-    → P (book_from config word front (told_info config) (wants_credentials config) hearing.Pushes)
+    → P (book_from config word front (told_info config) (wants_credentials config) true hearing.Nothing)
+    → P (book_from config word front (told_info config) (wants_credentials config) true hearing.Pushes)
     → P (book_said config word front)
 of_single config word front P single none some =
-    let Q : Hearing → Type 0 = λ h. P (book_from config word front (told_info config) (wants_credentials config) h) in
-    subst (λ k. Q (hearing_in k (wants_pushes config))) (sym single) (of_hearing Q (wants_pushes config) none some)
+    let Q : Hearing → Type 0 = λ h. P (book_from config word front (told_info config) (wants_credentials config) true h) in
+    subst (λ last. P (book_from config word front (told_info config) (wants_credentials config) last (hearing_of config))) (sym (ap (λ s. is_last s 0) (no_settings (Some config))))
+    (subst (λ k. Q (hearing_in k (wants_pushes config))) (sym single) (of_hearing Q (wants_pushes config) none some))
 
 -- nothing is said to a server, where perhaps a user has a name
 abbrev pub silent_as : Option (List ℕ) → RedisConnectionInfo
@@ -109,23 +117,23 @@ unwanted false e = refl
 
 -- so it is of a link that was up at once
 pub of_silent : (config : Config) (word : ℕ) (front : List Action) (P : Book → Type 0) → kind_of config ≡ kind.Single → IsSilent config → IsGiven config
-    → ((name : Option (List ℕ)) → P (book_from config word front (silent_as name) false hearing.Nothing))
-    → ((name : Option (List ℕ)) → P (book_from config word front (silent_as name) false hearing.Pushes))
+    → ((name : Option (List ℕ)) → P (book_from config word front (silent_as name) false true hearing.Nothing))
+    → ((name : Option (List ℕ)) → P (book_from config word front (silent_as name) false true hearing.Pushes))
     → P (book_said config word front)
 of_silent config word front P single silent given none some =
     let info = told_info config in
     let said : info ≡ silent_as info.username = silent_info info silent in
     let bare : wants_credentials config ≡ false = unwanted (wants_credentials config) given in
-    let Q : Hearing → Type 0 = λ h. P (book_from config word front info (wants_credentials config) h) in
-    let of : (h : Hearing) → ((name : Option (List ℕ)) → P (book_from config word front (silent_as name) false h)) → Q h = λ h p.
-    subst (λ w. P (book_from config word front info w h)) (sym bare) (subst (λ i. P (book_from config word front i false h)) (sym said) (p info.username)) in
+    let Q : Hearing → Type 0 = λ h. P (book_from config word front info (wants_credentials config) true h) in
+    let of : (h : Hearing) → ((name : Option (List ℕ)) → P (book_from config word front (silent_as name) false true h)) → Q h = λ h p.
+    subst (λ w. P (book_from config word front info w true h)) (sym bare) (subst (λ i. P (book_from config word front i false true h)) (sym said) (p info.username)) in
     of_single config word front P single (of hearing.Nothing none) (of hearing.Pushes some)
 
 -- and of one on which such a submission came then
 pub of_arrived : (config : Config) (word : ℕ) (events : List Event) (front after : List Action) (what : Submission) (P : Book → Type 0) → is_foreign what ≡ true
     → Legal config word events (arrived config word what ++ after)
-    → ((name : Option (List ℕ)) → P (book_from config word front (silent_as name) false hearing.Nothing))
-    → ((name : Option (List ℕ)) → P (book_from config word front (silent_as name) false hearing.Pushes))
+    → ((name : Option (List ℕ)) → P (book_from config word front (silent_as name) false true hearing.Nothing))
+    → ((name : Option (List ℕ)) → P (book_from config word front (silent_as name) false true hearing.Pushes))
     → P (book_said config word front)
 of_arrived config word events front after what P foreign h none some =
     of_silent config word front P (single_behind config word events (came_up config word) after 2 what refl foreign h)

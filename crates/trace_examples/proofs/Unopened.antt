@@ -13,6 +13,7 @@ use Rattle.driver_model.specs.declared.action.Purpose.{Purpose}
 use Rattle.driver_model.specs.declared.config.Config.{Config}
 use Rattle.driver_model.specs.declared.outcome.Outcome.{Outcome}
 use Rattle.driver_model.specs.declared.outcome.Outcome.TheVariants as outcome
+use Rattle.legal_trace.specs.Managers.{settings_in}
 use Rattle.legal_trace.specs.Book.{Book, blank_book}
 use Rattle.legal_trace.specs.Ledger.{failure_in, renewals_asked}
 use Rattle.legal_trace.specs.Owed.{owed}
@@ -29,7 +30,7 @@ use Rattle.trace_examples.proofs.Single.{some_is_none, other_fault, single_behin
 
 -- a command that waited, answered with the closed connection
 pub closed_in_place : NoneBegins timed_out (action.Outcome 0 (outcome.Fault error.Closed))
-unfolding digits
+unfolding digits settings_in
 closed_in_place config word events after h =
     let single = single_behind config word events (timed_opening config word) _ 1 (command 71) refl refl h in
     of_single config word (timed_out config word) (λ b. owed b 0 ≡ Some (outcome.Fault error.Closed) → ⊥) single (other_fault (error.Io TimedOut) error.Closed (λ e. cc e)) (other_fault (error.Io TimedOut) error.Closed (λ e. cc e))
@@ -37,14 +38,14 @@ closed_in_place config word events after h =
 
 -- an outcome before it was shown that the connect failed
 pub answered_before_the_failure : (o : Outcome) → NoneBegins connect_refused (action.Outcome 0 o)
-unfolding digits
+unfolding digits settings_in
 answered_before_the_failure o config word events after h =
     let m = answer config word events (connect_refused config word) after 0 o refl h in
     (m.after_closes refl).2 0 (error.Io Reset) refl refl
 
 -- and an outcome before an earlier one
 pub second_before_the_first : (o : Outcome) → NoneBegins refusal_shown (action.Outcome 1 o)
-unfolding digits
+unfolding digits settings_in
 second_before_the_first o config word events after h =
     let m = answer config word events (refusal_shown config word) after 1 o refl h in
     let single = single_behind config word events (opening config word) _ 1 (command 71) refl refl h in
