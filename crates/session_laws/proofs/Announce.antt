@@ -1,7 +1,7 @@
 -- A turn of an event: where it may stand, and what its link and the others hear.
-use Rattle.std.proofs.Common.{◌≡◌, ◌≢◌, inl, inr, ℕ, zero, suc, ◌+◌, ◌<◌, ◌≤◌, ◌==◌, nat_lt, nat_le, false, ◌&&◌, ◌||◌, not, is_some, List, [], ◌∷◌, ◌++◌, length, slice_get, Some, refl, sym, ap, ◌∙◌, subst, arith, length-take, None, Option, if◌then◌else◌, true, Bool}
+use Rattle.std.proofs.Common.{◌≡◌, ◌≢◌, inl, inr, ℕ, ◌+◌, ◌<◌, ◌≤◌, ◌==◌, nat_lt, nat_le, false, ◌&&◌, ◌||◌, not, is_some, List, [], ◌∷◌, ◌++◌, length, slice_get, Some, refl, sym, ap, ◌∙◌, subst, arith, length-take, None, Option, true, Bool}
 use Rattle.std.proofs.lemmas.List.{append-nil}
-use Rattle.containers.proofs.Choices.{by_test, chosen, left_if, eq_from, eq_test, ne_from, ne_test, not_le_from, not_both}
+use Rattle.containers.proofs.Choices.{by_test, chosen, left_if, eq_from, ne_from, ne_test, not_le_from, not_both}
 use Rattle.redis_error.specs.declared.redis_error.RedisError.TheVariants as error
 use Rattle.driver_model.specs.declared.action.Action.{Action}
 use Rattle.driver_model.specs.declared.action.Owner.{Owner}
@@ -26,7 +26,7 @@ use Rattle.mux_conn.specs.declared.life.Life.TheVariants.{Dialing, Wanting, Sett
 use Rattle.mux_conn.specs.declared.request.Request.{Request}
 use Rattle.shared_session.specs.declared.core_state.Core.{Core}
 use Rattle.shared_session.specs.Turn.{is_shutdown, shut_by, exceeds_offer, is_bad}
-use Rattle.legal_trace.specs.Ledger.{Ledger, Start, setup_count, authorized_by, with_news, awaits_credentials, hears, noted, is_over, bytes_came, dials, refused_in, Heard, is_renewal_open, lost_by, may_renew, renewed_by, unrenewed_by, Sourced}
+use Rattle.legal_trace.specs.Ledger.{Ledger, Start, setup_count, authorized_by, with_news, awaits_credentials, hears, noted, is_over, bytes_came, dials, refused_in, Heard, is_renewal_open, lost_by, may_renew, renewed_by, unrenewed_by}
 use Rattle.legal_trace.specs.Story.{Story, fires}
 use Rattle.legal_trace.specs.Book.{Book, book, entered, is_clock_of, hearing_in, rest_after, timeout_after, kind_in}
 use Rattle.legal_trace.specs.Events.{is_bad_event}

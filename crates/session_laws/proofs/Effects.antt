@@ -1,6 +1,6 @@
 -- The event's own effect: each kind of event leaves the session tied to its book, and nothing due but what moves.
-use Rattle.std.proofs.Common.{ap, length, slice_get, Option, Some, ◌<◌, ◌≡◌, ℕ, ◌==◌, ◌&&◌, false, List, [], ◌∷◌, ◌++◌, refl, sym, ◌∙◌, subst, ◌≤◌, ◌≢◌, ◌^◌, arith}
-use Rattle.containers.proofs.Choices.{or_right, eq_from, eq_test, not_le_from, not_lt_from, by_test, taken_if, left_if, ne_from}
+use Rattle.std.proofs.Common.{ap, length, slice_get, Option, Some, ◌<◌, ◌≡◌, ℕ, ◌==◌, ◌&&◌, false, List, [], ◌∷◌, ◌++◌, refl, sym, ◌∙◌, subst, ◌^◌}
+use Rattle.containers.proofs.Choices.{or_right, eq_from, eq_test, not_le_from, not_lt_from, by_test, taken_if, left_if}
 use Rattle.redis_error.specs.declared.redis_error.RedisError.TheVariants as error
 use Rattle.credentials.specs.Credentials.{Credentials}
 use Rattle.driver_model.specs.declared.action.Action.{Action}

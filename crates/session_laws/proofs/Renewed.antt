@@ -1,5 +1,5 @@
 -- News of new credentials: some came, no more come, or some are not answered in time.
-use Rattle.std.proofs.Common.{◌≡◌, ◌⊎◌, inl, inr, ℕ, suc, ◌+◌, ◌≤◌, ◌==◌, Bool, true, false, ◌&&◌, ◌||◌, not, is_some, if◌then◌else◌, List, [], ◌∷◌, ◌++◌, length, Option, Some, None, refl, sym, ap, ◌∙◌, subst, arith, length-append}
+use Rattle.std.proofs.Common.{◌≡◌, ◌⊎◌, inl, inr, ℕ, suc, ◌+◌, ◌==◌, Bool, true, false, ◌&&◌, ◌||◌, not, is_some, if◌then◌else◌, List, [], ◌∷◌, ◌++◌, Option, Some, None, refl, sym, ap, ◌∙◌, subst, arith, length-append}
 use Rattle.std.proofs.lemmas.List.{drop-append-le}
 use Rattle.containers.proofs.Choices.{by_test, chosen, taken_if, left_if, not_both, eq_from, eq_test, ne_from, ne_test, both_left, both_right}
 use Rattle.credentials.specs.Credentials.{Credentials}
@@ -19,7 +19,7 @@ use Rattle.mux_conn.specs.Connection.{are_some, is_due, is_ready}
 use Rattle.mux_conn.specs.Renewals.{expected, expecting, is_unanswered, late_for, none_follow, takes_more, with_renewal}
 use Rattle.shared_session.specs.declared.core_state.Core.{Core}
 use Rattle.shared_session.specs.Turn.{is_bad, numbered, with_work}
-use Rattle.legal_trace.specs.Ledger.{Ledger, Sourced, cut, ending, ending_up, is_done, is_full, is_full_last, is_renewal_open, is_set_up, is_taken, last_renewal, lost_by, may_renew, renewal_count, renewal_due, renewed_by, unrenewed_by}
+use Rattle.legal_trace.specs.Ledger.{Ledger, cut, ending, ending_up, is_done, is_full, is_full_last, is_renewal_open, is_set_up, is_taken, last_renewal, lost_by, may_renew, renewal_count, renewal_due, renewed_by, unrenewed_by}
 use Rattle.legal_trace.specs.Book.{Book, book}
 use Rattle.legal_trace.proofs.Setups.{ends_where_set}
 use Rattle.session_laws.proofs.Announce.{IsNewsKind, StaysQuiet, quiet_still, heard_book, heard_tied_new, heard_is, turn_of, turned, announced_sound, first_book, holds_first}
