@@ -71,6 +71,7 @@ other_act n (act.Push info) = act.Push info ∷ []
 other_act n (act.Message m) = act.Message m ∷ []
 other_act n (act.Monitor v) = act.Monitor v ∷ []
 other_act n act.NeedCreds = act.NeedCreds ∷ []
+other_act n act.NeedRenewals = act.NeedRenewals ∷ []
 other_act n act.Close = act.Close ∷ []
 other_act n (act.Write bytes) = act.Write bytes ∷ []
 other_act n (act.Wait m kind) = act.Wait m kind ∷ []
@@ -283,7 +284,7 @@ made_ready_kept : {P : Option ℕ → List Request → Life → List ℕ → Lis
 made_ready_kept {P = P} k w l g =
     let d = acted (with_link (all_fresh w) l) (act.Created None) in
     let h : At P d = k.show w.conn.limit w.conn.requests (Ready l) w.conn.moved w.acts (act.Created None) (λ n. refl) g in
-    chosen (At P) w.conn.renewal.wanted (acted d act.NeedCreds) d (λ t. k.show d.conn.limit d.conn.requests d.conn.life d.conn.moved d.acts act.NeedCreds (λ n. refl) h) (λ f. h)
+    chosen (At P) w.conn.renewal.wanted (acted d act.NeedRenewals) d (λ t. k.show d.conn.limit d.conn.requests d.conn.life d.conn.moved d.acts act.NeedRenewals (λ n. refl) h) (λ f. h)
 
 -- a link comes up, where the fact is true of it while it waits for credentials
 come_up_kept : {P : Option ℕ → List Request → Life → List ℕ → List LinkAct → Type 0} → IsKept P → (w : Work) (l : LinkState) → P w.conn.limit w.conn.requests (Wanting l) w.conn.moved w.acts → At P (come_up w l)

@@ -51,6 +51,7 @@ but_for_shown n l count c (act.Push info ∷ xs) = ap (λ (ys : List Action). ac
 but_for_shown n l count c (act.Message m ∷ xs) = ap (λ (ys : List Action). action.Message m ∷ ys) (but_for_shown n l (count + 0) (c + 0) xs)
 but_for_shown n l count c (act.Monitor v ∷ xs) = ap (λ (ys : List Action). action.Monitor v ∷ ys) (but_for_shown n l (count + 0) (c + 0) xs)
 but_for_shown n l count c (act.NeedCreds ∷ xs) = ap (λ (ys : List Action). action.NeedCreds c l ∷ ys) (but_for_shown n l (count + 0) (c + 1) xs)
+but_for_shown n l count c (act.NeedRenewals ∷ xs) = ap (λ (ys : List Action). action.NeedCreds c l ∷ ys) (but_for_shown n l (count + 0) (c + 1) xs)
 but_for_shown n l count c (act.Close ∷ xs) = ap (λ (ys : List Action). action.Close l ∷ ys) (but_for_shown n l (count + 0) (c + 0) xs)
 but_for_shown n l count c (act.Write bytes ∷ xs) = ap (λ (ys : List Action). action.Write l bytes ∷ ys) (but_for_shown n l (count + 0) (c + 0) xs)
 but_for_shown n l count c (act.Wait m kind ∷ xs) = ap (λ (ys : List Action). shown l count c (act.Wait m kind) ∷ ys) (but_for_shown n l (count + 0) (c + 0) xs)
@@ -65,7 +66,7 @@ numberless : (l count c : ℕ) (xs : List LinkAct) → all_unnumbered (shown_eac
 numberless l count c [] = refl
 numberless l count c (a ∷ xs) =
     let more = count + length (timer_of l a) in
-    let later = c + length (source_of l c a) in
+    let later = c + length (source_of l a) in
     ap (λ (b : Action). b ∷ all_unnumbered (shown_each l more later xs)) (one_numberless a) ∙ ap (λ (ys : List Action). shown l count c a ∷ ys) (numberless l more later xs)
   where
     one_numberless : (a : LinkAct) → unnumbered (shown l count c a) ≡ shown l count c a
@@ -76,6 +77,7 @@ numberless l count c (a ∷ xs) =
     one_numberless (act.Message m) = refl
     one_numberless (act.Monitor v) = refl
     one_numberless act.NeedCreds = refl
+    one_numberless act.NeedRenewals = refl
     one_numberless act.Close = refl
     one_numberless (act.Write bytes) = refl
     one_numberless (act.Wait m kind) = refl

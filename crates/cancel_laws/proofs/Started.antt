@@ -51,7 +51,7 @@ up_at config word draw wants silent watching =
     let kind = (connected_at draw).kind in
     let link = new_link w.conn in
     let ready = acted (with_link (all_fresh w) link) (act.Created None) in
-    let said = if watching then sets_up w link greet.Monitor else (if wants then acted ready act.NeedCreds else ready) in
+    let said = if watching then sets_up w link greet.Monitor else (if wants then acted ready act.NeedRenewals else ready) in
     let up = if silent then said else sets_up (all_fresh w) link greet.WithUser in
     (numbered (moved_on (with_work (record t { core = shut_by t.core kind }) (if wants then comes_to_want w link else up)))).core
 

@@ -139,6 +139,7 @@ no_timer n l (act.Push info) more = refl
 no_timer n l (act.Message m) more = refl
 no_timer n l (act.Monitor v) more = refl
 no_timer n l act.NeedCreds more = refl
+no_timer n l act.NeedRenewals more = refl
 no_timer n l act.Close more = refl
 no_timer n l (act.Write bytes) more = refl
 no_timer n l (act.Wait m kind) more = refl
@@ -155,36 +156,35 @@ timers_same n l [] = refl
 timers_same n l (a ∷ xs) = ap (λ (ps : List Purpose). timer_of l a ++ ps) (timers_same n l xs) ∙ sym (no_timer n l a (other_acts n xs))
 
 -- nor for a source of credentials
-no_source : (n l c : ℕ) (a : LinkAct) (more : List LinkAct) → sources_of l c (other_act n a ++ more) ≡ source_of l c a ++ sources_of l (c + length (source_of l c a)) more
-no_source n l c (act.Created e) more = refl
-no_source n l c (act.Took m count) more = refl
-no_source n l c (act.Timer m ms) more = refl
-no_source n l c (act.Push info) more = refl
-no_source n l c (act.Message m) more = refl
-no_source n l c (act.Monitor v) more = refl
-no_source n l c act.NeedCreds more = refl
-no_source n l c act.Close more = refl
-no_source n l c (act.Write bytes) more = refl
-no_source n l c (act.Wait m kind) more = refl
-no_source n l c (act.Start message m need len) more = refl
-no_source n l c (act.SetUp message need len) more = refl
-no_source n l c (act.RenewalTimer k ms) more = refl
-no_source n l c (act.Renewed message need len) more = refl
-no_source n l c (act.Watch message need len) more = refl
-no_source n l c (act.Outcome m o) more =
-    let same : c ≡ c + 0 = omega arith in
-    chosen (λ (xs : List LinkAct). sources_of l c (xs ++ more) ≡ sources_of l (c + 0) more) (m == n) [] (act.Outcome m o ∷ []) (λ t. ap (λ (k : ℕ). sources_of l k more) same) (λ f. refl)
+no_source : (n l : ℕ) (a : LinkAct) (more : List LinkAct) → sources_of l (other_act n a ++ more) ≡ source_of l a ++ sources_of l more
+no_source n l (act.Created e) more = refl
+no_source n l (act.Took m count) more = refl
+no_source n l (act.Timer m ms) more = refl
+no_source n l (act.Push info) more = refl
+no_source n l (act.Message m) more = refl
+no_source n l (act.Monitor v) more = refl
+no_source n l act.NeedCreds more = refl
+no_source n l act.NeedRenewals more = refl
+no_source n l act.Close more = refl
+no_source n l (act.Write bytes) more = refl
+no_source n l (act.Wait m kind) more = refl
+no_source n l (act.Start message m need len) more = refl
+no_source n l (act.SetUp message need len) more = refl
+no_source n l (act.RenewalTimer k ms) more = refl
+no_source n l (act.Renewed message need len) more = refl
+no_source n l (act.Watch message need len) more = refl
+no_source n l (act.Outcome m o) more = chosen (λ (xs : List LinkAct). sources_of l (xs ++ more) ≡ sources_of l more) (m == n) [] (act.Outcome m o ∷ []) (λ t. refl) (λ f. refl)
 
 -- so the sources of a turn are those of all other acts
-sources_same : (n l c : ℕ) (xs : List LinkAct) → sources_of l c xs ≡ sources_of l c (other_acts n xs)
-sources_same n l c [] = refl
-sources_same n l c (a ∷ xs) = ap (λ (us : List SourceUse). source_of l c a ++ us) (sources_same n l (c + length (source_of l c a)) xs) ∙ sym (no_source n l c a (other_acts n xs))
+sources_same : (n l : ℕ) (xs : List LinkAct) → sources_of l xs ≡ sources_of l (other_acts n xs)
+sources_same n l [] = refl
+sources_same n l (a ∷ xs) = ap (λ (us : List SourceUse). source_of l a ++ us) (sources_same n l xs) ∙ sym (no_source n l a (other_acts n xs))
 
 -- the timers and the sources get their numbers
 bare_numbered : (n p : ℕ) (t : Turning) → bare_turning n p (numbered t) ≡ numbered (bare_turning n p t)
 bare_numbered n p t =
     let ps = timers_same n t.core.single.link t.acts in
-    let us = sources_same n t.core.single.link (length t.core.sources) t.acts in
+    let us = sources_same n t.core.single.link t.acts in
     λ i. record (bare_turning n p t) { core = record (bare_core p t.core) { timers = t.core.timers ++ ps i; sources = t.core.sources ++ us i } }
 
 -- that permits aren't counted stays so where the event has had its effect

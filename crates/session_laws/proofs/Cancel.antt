@@ -3,6 +3,7 @@ use Rattle.std.proofs.lemmas.List.{append-nil}
 use Rattle.std.proofs.Common.{◌≡◌, ◌≢◌, inl, inr, ℕ, suc, ◌+◌, ◌<◌, ◌≤◌, ◌==◌, Bool, true, false, ◌&&◌, ◌||◌, is_some, List, [], ◌∷◌, ◌++◌, length, Option, Some, None, slice_get, if◌then◌else◌, refl, sym, ap, ◌∙◌, subst, arith}
 use Rattle.std.specs.List.{AllByRecursion}
 use Rattle.containers.proofs.Choices.{by_test, both_left, chosen, left_if, taken_if, eq_from, eq_test, ne_from, not_both}
+use Rattle.driver_model.specs.declared.hearing.Hearing.{Hearing}
 use Rattle.driver_model.specs.declared.action.Action.{Action}
 use Rattle.connection_info.specs.declared.address.RedisConnectionInfo.{RedisConnectionInfo}
 use Rattle.driver_model.specs.declared.action.Owner.TheVariants as owner
@@ -34,9 +35,10 @@ use Rattle.legal_trace.specs.Story.{Story, is_open, is_told, left}
 use Rattle.legal_trace.specs.Book.{Book, after_event, book, entered, if_own, shuts, submitted_by, timeout_after, kind_in}
 use Rattle.mux_conn.specs.Renewals.{renewal_id}
 use Rattle.mux_conn.specs.declared.renewal.Renewal.{Renewal}
+use Rattle.session_laws.proofs.Aside.{aside_silent}
 use Rattle.session_laws.proofs.Renewals.{renewal_alike}
 use Rattle.session_laws.proofs.Numbers.{IsIn, in_left, in_right, in_either, Rising, rising_from, rising_in, rising_right, rising_tail, requests_in, request_in, request_of, request_other, requests_first}
-use Rattle.session_laws.proofs.Tied.{carried, inner, no_link, link_in, owner_of, queue_ids, whole_link, IsQueued, IsEntry, AreQueued, TiedCreds, TiedLife, TiedStory, TiedNames, TiedNumbers, TiedPermits, TiedLines, TiedSetup, IsUnknown, Tied, no_opening, has_ended, TiedRenewal, greeter}
+use Rattle.session_laws.proofs.Tied.{carried, inner, no_link, link_in, owner_of, queue_ids, whole_link, IsQueued, IsEntry, AreQueued, TiedCreds, TiedLife, TiedStory, TiedNames, TiedNumbers, TiedPermits, TiedLines, TiedSetup, IsAside, Tied, has_ended, TiedRenewal, greeter}
 use Rattle.session_laws.proofs.States.{IsFit, IsFitIn, Between, HasApplied}
 use Rattle.session_laws.proofs.Names.{name_within, open_within, name_of_some, owners_with, length_with, names_with, with_other, with_then, request_not}
 use Rattle.session_laws.proofs.InLine.{row_ids, kept_ids, chosen_in, awaited_in, wanted_in}
@@ -46,7 +48,7 @@ use Rattle.legal_trace.specs.Legal.{NoneEnds}
 use Rattle.session_laws.proofs.Closing.{Closes, WasReady, WasSettingUp, WasWanting, closed_other, late_closed, with_closed, story_closed, tries_closed, packs_closed, queued_other, queue_closed, AreOthers, waits_closed, kept_other, IsUntried, told_closed}
 use Rattle.session_laws.proofs.Answer.{entries_answered}
 use Rattle.session_laws.proofs.Settle.{seen}
-use Rattle.session_laws.proofs.Announce.{aims_on, turn_of, turned, uses_on, counted_on, time_still}
+use Rattle.session_laws.proofs.Announce.{aims_on, turn_of, turned, uses_on, uses_on, time_still}
 use Rattle.session_laws.proofs.Kept.{tied_by}
 use Rattle.session_laws.proofs.Permits.{permits_closed}
 use Rattle.session_laws.proofs.Heard.{silent_applied, still_none, told_life, silent_no_end, tame_between}
@@ -145,6 +147,13 @@ without_awaited (x ∷ xs) p q other i =
     chosen (λ (ys : List Queued). IsIn q (awaited_ids ys)) (is_wanted p x) xs (x ∷ without xs p)
     (λ t. elim (in_either q own (awaited_ids xs) i) [ inl j ↦ absurd (other (sym (eq_from x.id p (both_left (x.id == p) x.awaited t)) ∙ chosen_in x.awaited q x.id j)) | inr j ↦ j ])
     (λ f. elim (in_either q own (awaited_ids xs) i) [ inl j ↦ in_left q own (awaited_ids (without xs p)) j | inr j ↦ in_right q own (awaited_ids (without xs p)) (without_awaited xs p q other j) ])
+
+-- and what is in it then was
+pub without_in : (queue : List Queued) (p q : ℕ) → IsIn q (queue_ids (without queue p)) → IsIn q (queue_ids queue)
+without_in [] p q i = i
+without_in (x ∷ xs) p q i = chosen (λ (ys : List Queued). IsIn q (queue_ids ys) → IsIn q (queue_ids (x ∷ xs))) (x.id == p && x.awaited) xs (x ∷ without xs p)
+    (λ t j. inr j)
+    (λ f j. elim j [ inl same ↦ inl same | inr k ↦ inr (without_in xs p q k) ]) i
 
 -- what it holds then it held before
 pub without_was : (queue : List Queued) (p q : ℕ) → IsIn q (awaited_ids (without queue p)) → IsIn q (awaited_ids queue)
@@ -336,9 +345,9 @@ left_lines_in table story requests life waiting admitted p started closed names 
     by_life (Ended e) r h = bare h
 
 -- who was told is none that leaves, and is in the queue still
-left_told : (story : ℕ → Story) (requests : List Request) (life : Life) (p : ℕ) → is_open (story (name_at requests p)) ≡ true → (has_ended life ≡ false → AreQueued story requests (link_in life))
-    → has_ended (cancelled_in life p) ≡ false → AreQueued (with_closed story requests p (λ n. left (story n))) (with_permits requests p progress.Closed 0) (link_in (cancelled_in life p))
-left_told story requests life p asked h = by_life life h
+left_told : (story : ℕ → Story) (requests : List Request) (number : ℕ) (life : Life) (p : ℕ) → is_open (story (name_at requests p)) ≡ true → (has_ended life ≡ false → AreQueued story requests number (link_in life))
+    → has_ended (cancelled_in life p) ≡ false → AreQueued (with_closed story requests p (λ n. left (story n))) (with_permits requests p progress.Closed 0) number (link_in (cancelled_in life p))
+left_told story requests number life p asked h = by_life life h
   where
     own : (let n = name_at requests p in IsUntried (left (story n)) → IsUntried (story n))
     own = let s = story (name_at requests p) in chosen (λ (x : Story). IsUntried x → IsUntried s) (is_open s) (record s { cancelled = true; permits = 0; waiting = None }) s (λ t u. (u.0, u.1)) (λ f u. u)
@@ -346,11 +355,11 @@ left_told story requests life p asked h = by_life life h
     other : (q : ℕ) → is_told (story (name_at requests q)) ≡ true → p ≢ q
     other q is same = not_both (is_told (story (name_at requests q))) (subst (λ n. is_told (story (name_at requests n)) ≡ false) same (open_untold (story (name_at requests p)) asked)) is
 
-    by_life : (x : Life) → (has_ended x ≡ false → AreQueued story requests (link_in x)) → has_ended (cancelled_in x p) ≡ false → AreQueued (with_closed story requests p (λ n. left (story n))) (with_permits requests p progress.Closed 0) (link_in (cancelled_in x p))
-    by_life (Ready link) g n = told_closed story requests p (λ m. left (story m)) link (cancelled link p) own (λ q is i. without_others link.queue p q (other q is) i) (g refl)
-    by_life Dialing g n = told_closed story requests p (λ m. left (story m)) no_link no_link own (λ q is i. i) (g refl)
-    by_life (Wanting link) g n = told_closed story requests p (λ m. left (story m)) no_link no_link own (λ q is i. i) (g refl)
-    by_life (SettingUp link greeting) g n = told_closed story requests p (λ m. left (story m)) no_link no_link own (λ q is i. i) (g refl)
+    by_life : (x : Life) → (has_ended x ≡ false → AreQueued story requests number (link_in x)) → has_ended (cancelled_in x p) ≡ false → AreQueued (with_closed story requests p (λ n. left (story n))) (with_permits requests p progress.Closed 0) number (link_in (cancelled_in x p))
+    by_life (Ready link) g n = told_closed story requests number p (λ m. left (story m)) link (cancelled link p) own (λ n. leave_link (story n)) (λ q is i. without_others link.queue p q (other q is) i) (λ q i. without_in link.queue p q i) (g refl)
+    by_life Dialing g n = told_closed story requests number p (λ m. left (story m)) no_link no_link own (λ n. leave_link (story n)) (λ q is i. i) (λ q i. i) (g refl)
+    by_life (Wanting link) g n = told_closed story requests number p (λ m. left (story m)) no_link no_link own (λ n. leave_link (story n)) (λ q is i. i) (λ q i. i) (g refl)
+    by_life (SettingUp link greeting) g n = told_closed story requests number p (λ m. left (story m)) no_link no_link own (λ n. leave_link (story n)) (λ q is i. i) (λ q i. i) (g refl)
     by_life (Ended e) g n = cc
 
 -- those that are awaited in the queue then are others
@@ -418,9 +427,8 @@ silent_numbers b c started word kind timeout story free life requests pending q 
   links = h.numbers.links;
   timers = h.numbers.timers ∙ sym (append-nil c.timers);
   sources = h.numbers.sources ∙ sym (append-nil c.sources);
-  uses = uses_on c.sources c.single.link h.numbers.uses;
   aims = aims_on c.timers c.single.link (length c.table) h.numbers.aims;
-  timed = λ config other opens bounded none. no_opening _ config other opens;
+  timed = h.numbers.timed;
   submissions = (let e = h.numbers.submissions in let none = q.none in omega arith);
   timeout = q.time;
   shut = q.shut;
@@ -429,13 +437,17 @@ silent_numbers b c started word kind timeout story free life requests pending q 
   settings = record { size_is = h.numbers.settings.size_is; bound_is = h.numbers.settings.bound_is; limit_is = h.numbers.settings.limit_is; some = h.numbers.settings.some; limited = h.numbers.settings.limited };
   kind_is = h.numbers.kind_is;
   quiet = h.numbers.quiet;
+  plain = h.numbers.plain;
+  eager = h.numbers.eager;
+  current_is = h.numbers.current_is;
+  speaks = h.numbers.speaks;
   one = h.numbers.one;
-  only = h.numbers.only;
+  few_links = h.numbers.few_links;
 }
 
--- all other links stay unknown
-pub silent_others : (b : Book) (c : Core) (kind : EventKind) (timeout : Option ℕ) (m : ℕ) → IsSilent b c kind timeout → IsUnknown (b.link m) → IsUnknown (noted (b.link m) (hears c.turns (news_of b.timers b.sources m kind)))
-silent_others b c kind timeout m q u = subst (λ (x : News). IsUnknown (noted (b.link m) (hears c.turns x))) (sym (q.silent m)) (record { asked = u.asked; up = u.up; end = u.end; starts = u.starts; notices = u.notices })
+-- all other links stay aside
+pub silent_others : {links created : ℕ} {heard : Hearing} {within : Option ℕ} (b : Book) (c : Core) (kind : EventKind) (timeout : Option ℕ) (m : ℕ) → IsSilent b c kind timeout → IsAside links m (b.link m) heard within created → IsAside links m (noted (b.link m) (hears c.turns (news_of b.timers b.sources m kind))) heard within created
+silent_others {links = links} {created = created} {heard = heard} {within = within} b c kind timeout m q u = subst (λ (x : News). IsAside links m (noted (b.link m) (hears c.turns x)) heard within created) (sym (q.silent m)) (aside_silent (b.link m) c.turns u)
 
 -- no link must end
 pub silent_ends : (b : Book) (c : Core) (kind : EventKind) (timeout : Option ℕ) → IsSilent b c kind timeout → NoneEnds b → (m : ℕ) → ending (noted (b.link m) (hears c.turns (news_of b.timers b.sources m kind))) ≡ None
@@ -458,7 +470,7 @@ still_tied b c started word kind timeout q same h tame =
       notices = renoticed tame h.notices;
       life = told_life ledger b.created conn.life silence h.life;
       creds = h.creds;
-      count = counted_on c.sources ledger.creds h.count;
+      uses = uses_on c.sources c.single.link h.uses;
       renewal = renewal_alike ledger (record ledger { heard = silence }) conn.renewal conn.life refl refl refl h.renewal;
       setup = setup_on ledger ledger.asked ledger.up ledger.end ledger.taken ledger.offer ledger.rest silence conn.info started conn.life h.setup;
       link = λ alive. told_tied (carried conn.life conn.requests) ledger (whole_link conn.life) ledger.asked ledger.up silence (h.link alive);
@@ -497,11 +509,11 @@ gone_tied b c started word p n h tame o named =
     subst (λ m. Tied (entered b (turn_of c word (event.Cancel m))) (seen (turned c (event.Cancel m)) [] (record (closed_conn conn p) { life = cancelled_in conn.life p }) [] started)) named
     (record {
       numbers = silent_numbers b c started word (event.Cancel own) c.timeout after free (cancelled_in conn.life p) requests [] (leave_silent b c word own started h) h;
-      others = λ m other. let u = h.others m other in record { asked = u.asked; up = u.up; end = u.end; starts = u.starts; notices = u.notices };
+      others = λ m other. aside_silent (b.link m) c.turns (h.others m other);
       notices = renoticed tame h.notices;
       life = left_life ledger b.created conn.life p h.life;
       creds = left_creds ledger.creds conn.renewal.wanted conn.life p h.creds;
-      count = counted_on c.sources ledger.creds h.count;
+      uses = uses_on c.sources c.single.link h.uses;
       renewal = left_renewal (record ledger { heard = silence }) conn.renewal conn.life p (renewal_alike ledger (record ledger { heard = silence }) conn.renewal conn.life refl refl refl h.renewal);
       setup = left_setup ledger conn.info started conn.life p h.setup;
       link = λ alive. left_link requests ledger conn.life p (λ up. carried_tied conn.life conn.requests requests ledger (sym (owners_with conn.requests p progress.Closed 0)) (h.link up)) alive;
@@ -509,11 +521,11 @@ gone_tied b c started word p n h tame o named =
       story = λ m. story_closed b.story c.table conn.requests c.single.link p closed m h.names l (leave_frees (b.story own) asked) (k m) (h.story m);
       tries = tries_closed (record ledger { heard = silence }) b.story conn.requests c.single.link p closed started k (record { owners = h.tries.owners; greeted = h.tries.greeted; shapes = h.tries.shapes; tried = h.tries.tried; untried = h.tries.untried });
       lines = left_lines_in c.table b.story conn.requests conn.life conn.waiting conn.admitted p started closed h.names l (request_not b (inner c started) p h l) asked k (λ up. row_in_line b (inner c started) h up) h.lines;
-      told = left_told b.story conn.requests conn.life p asked h.told;
+      told = left_told b.story conn.requests c.single.link conn.life p asked h.told;
       waits = waits_closed c.table b.story conn.requests p closed conn.life (cancelled_in conn.life p) conn.fresh conn.moved h.names l (still_dials conn.life p) (was_wanting conn.life p) (was_setting conn.life p) (was_ready conn.life p) (left_others conn.requests conn.life (kept_ids conn.admitted conn.waiting) p 0 line) h.waits;
       permits = subst (λ m. TiedPermits after m requests c.single.link conn.limit free []) (none_more b.submissions)
-          (permits_closed b.story after c.table b.submissions conn.requests c.single.link conn.limit conn.free [] p h.names l known r.on r.permits_is (λ m other. closed_other b.story conn.requests p closed m other)
-          (ap (λ (s : Story). s.permits) is ∙ leave_frees (b.story own) asked) (ap (λ (s : Story). s.link) is ∙ leave_link (b.story own) ∙ r.on) h.permits);
+          (permits_closed b.story after c.table b.submissions conn.requests c.single.link conn.limit conn.free [] p h.names l known (r.on o) r.permits_is (λ m other. closed_other b.story conn.requests p closed m other)
+          (ap (λ (s : Story). s.permits) is ∙ leave_frees (b.story own) asked) (ap (λ (s : Story). s.link) is ∙ leave_link (b.story own) ∙ r.on o) h.permits);
       late = late_closed c.table b.story conn.requests p closed [] [] h.names l (λ q other i. i) h.late;
     })
 

@@ -24,19 +24,20 @@ use Rattle.mux_conn.specs.Requests.{is_open_at, name_at}
 use Rattle.mux_conn.specs.Effects.{waiting_failed, nobody_waits, failed_each, settled_each, ended, all_answered, cut_short, parted, noticed}
 use Rattle.shared_session.specs.declared.core_state.Core.{Core}
 use Rattle.shared_session.specs.Turn.{with_work}
-use Rattle.legal_trace.specs.Ledger.{Ledger, Ending, ends, noted, ending, ending_or_shutdown, failure_of, is_fault, is_cut, parts, by_fault}
+use Rattle.legal_trace.specs.Ledger.{Ledger, Ending, ends, noted, ending, ending_or_shutdown, failure_of, is_fault, is_cut, parts, by_fault, lasting}
 use Rattle.legal_trace.specs.Story.{Story}
 use Rattle.legal_trace.specs.Book.{Book, book, entered}
-use Rattle.legal_trace.specs.Owed.{owed, owed_unstarted, unstarted_error}
+use Rattle.legal_trace.specs.Owed.{owed, owed_by, owed_unstarted}
 use Rattle.legal_trace.specs.Legal.{MayClose, MayPart}
 use Rattle.session_laws.proofs.Numbers.{IsIn, in_left, in_right, Rising, rising_in, rising_within, rising_right, rising_tail, requests_in, requests_in-append, all_requests}
 use Rattle.session_laws.proofs.Tied.{Inner, no_link, link_in, owner_of, queue_ids, waiting_ids, IsKept, TiedLines, TiedWaits, Tied, relined, FailureIsShown, TiedLife, has_ended}
 use Rattle.session_laws.proofs.Said.{ready_shown, sources_asked}
 use Rattle.session_laws.proofs.States.{HasApplied}
 use Rattle.session_laws.proofs.InLine.{kept_ids, kept_in, line_of, IsInLine, awaited_rises, awaited_in}
-use Rattle.session_laws.proofs.Owes.{in_time, none_owed, in_line, later_unstarted, owed_none_started, settled_owed, notices_told, lives}
+use Rattle.session_laws.proofs.Owes.{in_time, none_owed, in_line, later_unstarted, owed_none_started, settled_owed, notices_told, lives, is_asked, is_last_one}
 use Rattle.session_laws.proofs.Kept.{mine_noted, others_kept, tied_by}
-use Rattle.session_laws.proofs.Answer.{unknown_ends, after_end}
+use Rattle.session_laws.proofs.Answer.{after_end}
+use Rattle.session_laws.proofs.Aside.{aside_ends, others_created}
 use Rattle.session_laws.proofs.Settle.{book_of_more, seen, trace_of_acts, Holds, IsAnswering, answering, IsDue, IsDueError, settled_holds, failed_holds, Leaves, leaves_on, settled_leaves, failed_leaves, Parts, sound_told, replied_each, replied_keeps, renewal_over}
 use Rattle.containers.proofs.Choices.{not_both, chosen}
 use Rattle.driver_model.specs.declared.push_info.PushInfo.{PushInfo}
@@ -56,7 +57,7 @@ pub may_close : (b : Book) (t : Inner) (why : Ending) → Tied b t → t.pending
 may_close b t why h none told n must = record {
   why = why;
   ends = must;
-  in_order = λ m less. unknown_ends (b.link m) (h.others m (λ e. omega arith));
+  in_order = λ m less. aside_ends (b.link m) (h.others m (λ e. omega arith));
   answered = λ m asked alive. none_owed b t h none n m asked;
   created = ready_shown b t h;
   sourced = sources_asked b t h;
@@ -101,37 +102,42 @@ ended_waits story requests life e fresh moved h = record {
   no_room = λ p i r. absurd r;
 }
 
+-- where no attempt follows it ends so
+pub ends_so : (l : Ledger) (why : Ending) → l.last ≡ true → ending l ≡ Some why → lasting l.last (ending_or_shutdown (ending l)) ≡ why
+ends_so l why last must = λ i. lasting (last i) (ending_or_shutdown (must i))
+
 -- what a submission without a message is owed then
-ends_owed : (l : Ledger) (turn : ℕ) (why : Ending) (e : RedisError) → ending l ≡ Some why → unstarted_error why ≡ e → owed_unstarted (noted l (ends turn)).end ≡ Some (outcome.Fault e)
-ends_owed l turn why e must is = ap (λ w. Some (outcome.Fault (unstarted_error (ending_or_shutdown w)))) must ∙ ap (λ x. Some (outcome.Fault x)) is
+ends_owed : (l : Ledger) (turn : ℕ) (why : Ending) (e : RedisError) → l.last ≡ true → ending l ≡ Some why → owed_by why ≡ Some (outcome.Fault e) → owed_unstarted (noted l (ends turn)).end ≡ Some (outcome.Fault e)
+ends_owed l turn why e last must is = ap owed_by (ends_so l why last must) ∙ is
 
 -- and what its failure is
-ends_failed : (l : Ledger) (turn created : ℕ) (why : Ending) → ending l ≡ Some why → ((e : RedisError) → failure_of why ≡ Some e → created ≢ 0) → FailureIsShown (noted l (ends turn)).end created
-ends_failed l turn created why must shown e fails = shown e (sym (ap (λ w. failure_of (ending_or_shutdown w)) must) ∙ fails)
+ends_failed : (l : Ledger) (turn created : ℕ) (why : Ending) → l.last ≡ true → ending l ≡ Some why → ((e : RedisError) → failure_of why ≡ Some e → created ≢ 0) → FailureIsShown (noted l (ends turn)).end created
+ends_failed l turn created why last must shown e fails = shown e (sym (ap failure_of (ends_so l why last must)) ∙ fails)
 
 -- the session is tied to the book with the end of the link; the creation may be shown with it
-pub close_tied : (b : Book) (t : Inner) (created : ℕ) (why : Ending) (e : RedisError) (parting : Bool) (pending : List ℕ) → pending ≡ requests_in (wanted (link_in t.life).row) ++ awaited_ids (link_in t.life).queue → ending (b.link t.link) ≡ Some why → unstarted_error why ≡ e
-    → ((f : RedisError) → failure_of why ≡ Some f → created ≢ 0) → (hears_pushes t.hears ≡ true → parting ≡ false → is_fault why ≡ false) → has_ended t.life ≡ false → Tied b (record t { pending = []; untold = []; parting = false })
-    → Tied (record (entered b (action.Close t.link)) { created = created }) (record t { life = Ended e; pending = pending; untold = []; parting = parting })
-close_tied b t created why e parting pending ids must is shown mild up h =
+pub close_tied : (b : Book) (t : Inner) (created : ℕ) (halted : Bool) (why : Ending) (e : RedisError) (parting : Bool) (pending : List ℕ) → pending ≡ requests_in (wanted (link_in t.life).row) ++ awaited_ids (link_in t.life).queue → ending (b.link t.link) ≡ Some why → owed_by why ≡ Some (outcome.Fault e)
+    → ((f : RedisError) → failure_of why ≡ Some f → created ≢ 0) → (hears_pushes t.hears ≡ true → parting ≡ false → is_fault why ≡ false) → has_ended t.life ≡ false → (b.created ≢ 0 → created ≢ 0) → Tied b (record t { pending = []; untold = []; parting = false })
+    → Tied (record (entered b (action.Close t.link)) { created = created; failed = halted }) (record t { life = Ended e; pending = pending; untold = []; parting = parting })
+close_tied b t created halted why e parting pending ids must is shown mild up on h =
     let turn = b.turns - 1 in
-    let after = record (entered b (action.Close t.link)) { created = created } in
+    let after = record (entered b (action.Close t.link)) { created = created; failed = halted } in
+    let last = is_last_one (b.link t.link) b.created t.life h.life up in
     tied_by after (record t { life = Ended e; pending = pending; untold = []; parting = parting }) (noted (b.link t.link) (ends turn)) (mine_noted (b.link t.link) t.link (ends turn)) (record {
-      numbers = record { turns = h.numbers.turns; links = h.numbers.links; timers = h.numbers.timers; sources = h.numbers.sources; uses = h.numbers.uses; aims = h.numbers.aims; timed = h.numbers.timed; submissions = h.numbers.submissions; timeout = h.numbers.timeout; shut = h.numbers.shut; within = h.numbers.within; few = h.numbers.few; settings = record { size_is = h.numbers.settings.size_is; bound_is = h.numbers.settings.bound_is; limit_is = h.numbers.settings.limit_is; some = h.numbers.settings.some; limited = h.numbers.settings.limited }; kind_is = h.numbers.kind_is; quiet = h.numbers.quiet; one = h.numbers.one; only = h.numbers.only };
-      others = others_kept b t.link (ends turn) h.others;
+      numbers = record { turns = h.numbers.turns; links = h.numbers.links; timers = h.numbers.timers; sources = h.numbers.sources; aims = h.numbers.aims; timed = h.numbers.timed; submissions = h.numbers.submissions; timeout = h.numbers.timeout; shut = h.numbers.shut; within = h.numbers.within; few = h.numbers.few; settings = record { size_is = h.numbers.settings.size_is; bound_is = h.numbers.settings.bound_is; limit_is = h.numbers.settings.limit_is; some = h.numbers.settings.some; limited = h.numbers.settings.limited }; kind_is = h.numbers.kind_is; quiet = h.numbers.quiet; plain = h.numbers.plain; eager = h.numbers.eager; current_is = h.numbers.current_is; speaks = h.numbers.speaks; one = h.numbers.one; few_links = h.numbers.few_links };
+      others = others_created t.link created _ on (others_kept b t.link (ends turn) h.others);
       notices = record {
         heard_is = h.notices.heard_is;
         hearing_is = h.notices.hearing_is;
         within = h.notices.within;
         untold_is = h.notices.untold_is;
-        parts = λ heard done cut. absurd (not_both (is_fault why) (mild heard done) (sym (ap (λ w. is_fault (ending_or_shutdown w)) must) ∙ cut));
+        parts = λ heard done cut. absurd (not_both (is_fault why) (mild heard done) (sym (ap is_fault (ends_so (b.link t.link) why last must)) ∙ cut));
         alive = λ none. cc;
         due = λ parted. h.notices.alive (lives (b.link t.link) b.created t.life h.life up);
         tame = λ none r. cc;
       };
-      life = (refl, ends_owed (b.link t.link) turn why e must is, ends_failed (b.link t.link) turn created why must shown);
+      life = (refl, ends_owed (b.link t.link) turn why e last must is, ends_failed (b.link t.link) turn created why last must shown, is_asked (b.link t.link) b.created t.life h.life);
       creds = record { wanted_is = h.creds.wanted_is; sought = tt };
-      count = h.count;
+      uses = h.uses;
       renewal = renewal_ended (b.link t.link) (noted (b.link t.link) (ends turn)) t.renewal t.life refl refl h.renewal;
       setup = record { info_is = h.setup.info_is; sent = h.setup.sent; said = tt };
       link = λ n. cc;
@@ -179,20 +185,16 @@ pub pending_due : (b : Book) (t : Inner) (ss : List Settled) → Tied b t → Ar
 pending_due b t ss h early all = due_each b t ss h early all
 
 -- those that wait are due the error of the end
-waiting_due : (b : Book) (t : Inner) (e : RedisError) (qs : List Waiting) → Tied b t → AreInTime b.story t.requests → owed_unstarted (b.link t.link).end ≡ Some (outcome.Fault e) → ((n : ℕ) → IsIn n (waiting_ids qs) → (n < length t.requests) × (IsIn n t.started → ⊥)) → AllByRecursion (IsDueError (owed b) (name_at t.requests) (is_open_at t.requests) e) qs
+waiting_due : (b : Book) (t : Inner) (e : RedisError) (qs : List Waiting) → Tied b t → AreInTime b.story t.requests → owed_unstarted (b.link t.link).end ≡ Some (outcome.Fault e) → ((n : ℕ) → IsIn n (waiting_ids qs) → IsIn n t.started → ⊥) → AllByRecursion (IsDueError (owed b) (name_at t.requests) (is_open_at t.requests) e) qs
 waiting_due b t e [] h early over all = tt
 waiting_due b t e (q ∷ qs) h early over all = (
-  (λ o. let k = all q.number (inl refl) in owed_none_started b t q.number h k.0 (early q.number o) k.1 ∙ over),
+  (λ o. owed_none_started b t q.number h o (early q.number o) (all q.number (inl refl)) ∙ over),
   waiting_due b t e qs h early over (λ n i. all n (inr i)),
 )
 
--- who has no place is within, and has not started
-kept_unstarted : (b : Book) (t : Inner) (n : ℕ) → Tied b t → IsIn n (kept_ids t.admitted t.waiting) → (n < length t.requests) × (IsIn n t.started → ⊥)
-kept_unstarted b t n h i =
-    let queue = queue_ids (link_in t.life).queue in
-    let later = queue ++ kept_ids t.admitted t.waiting in
-    let j = in_right n queue (kept_ids t.admitted t.waiting) i in
-    ((let k = rising_in 0 (requests_in t.started ++ later) (length t.requests) n h.lines.line (in_right n (requests_in t.started) later j) in k.1), later_unstarted b t n h j)
+-- who has no place has not started
+kept_unstarted : (b : Book) (t : Inner) (n : ℕ) → Tied b t → IsIn n (kept_ids t.admitted t.waiting) → IsIn n t.started → ⊥
+kept_unstarted b t n h i = later_unstarted b t n h (in_right n (queue_ids (link_in t.life).queue) (kept_ids t.admitted t.waiting) i)
 
 -- all that wait for a place are due it, and all that wait for the connection
 pub record AreDue (owes : ℕ → Option Outcome) (name : ℕ → ℕ) (was : ℕ → Bool) (e : RedisError) (admitted waiting : List Waiting) : Type 0 where
@@ -316,7 +318,7 @@ queue_due : (b : Book) (t : Inner) (ids : List ℕ) (ss : List Settled) → Tied
     → AllByRecursion (IsDue (owed b) (name_at t.requests) (is_open_at t.requests)) ss
 queue_due b t ids [] h early over unstarted all = tt
 queue_due b t ids (s ∷ ss) h early over unstarted all = (
-  (λ o. owed_none_started b t s.id h (open_within t.requests s.id o) (early s.id o) (unstarted s.id all.0.1) ∙ over ∙ ap Some (sym all.0.0)),
+  (λ o. owed_none_started b t s.id h o (early s.id o) (unstarted s.id all.0.1) ∙ over ∙ ap Some (sym all.0.0)),
   queue_due b t ids ss h early over unstarted all.1,
 )
 
@@ -344,7 +346,7 @@ no_failure : (e : RedisError) → ◌≡◌ {A = Option RedisError} None (Some e
 no_failure e is = cc
 
 -- so is a link that must end; where a fault ends it that somebody hears, this is still to be told
-pub cut_holds : (before : List Action) (f : Core) (w : Work) (row queue : List Settled) (why : Ending) (parting : Bool) (started : List ℕ) → Holds before f w [] started → has_ended w.conn.life ≡ false → unstarted_error why ≡ error.Closed → failure_of why ≡ None
+pub cut_holds : (before : List Action) (f : Core) (w : Work) (row queue : List Settled) (why : Ending) (parting : Bool) (started : List ℕ) → Holds before f w [] started → has_ended w.conn.life ≡ false → owed_by why ≡ Some (outcome.Fault error.Closed) → failure_of why ≡ None
     → (hears_pushes w.conn.hears ≡ true → parting ≡ false → is_fault why ≡ false)
     → (let b = book (trace_of_acts before f w.acts) in let l = b.link f.single.link in
     (ending l ≡ Some why) × SettlesAll (owner_of w.conn.requests) (noted l (ends (b.turns - 1))) (link_in w.conn.life) row queue)
@@ -359,7 +361,7 @@ cut_holds before f w row queue why parting started h alive closes opened mild mu
     let link_is : (book (trace_of_acts before f (cut_short w).acts)).link f.single.link ≡ noted (b.link f.single.link) (ends (b.turns - 1)) = ap (λ (x : Book). x.link f.single.link) (book_of_more before f w.acts act.Close) ∙ mine_noted (b.link f.single.link) f.single.link (ends (b.turns - 1)) in
     record {
       holds = sound_told before f w.acts act.Close (record w.conn { life = Ended error.Closed }) [] parting ns started h.stands (may_close b t why h.tied refl refl alive must.0)
-          (close_tied b t b.created why error.Closed parting ns ids must.0 closes (λ e fails. absurd (no_failure e (sym opened ∙ fails))) mild alive h.tied);
+          (close_tied b t b.created b.failed why error.Closed parting ns ids must.0 closes (λ e fails. absurd (no_failure e (sym opened ∙ fails))) mild alive (λ some. some) h.tied);
       over = refl;
       line = close_in_line w.conn.requests link w.conn.admitted w.conn.waiting ns ids (in_line b t h.tied alive);
       early = λ p o. ap (λ (x : Book). (x.story (name_at w.conn.requests p)).overdue) (book_of_more before f w.acts act.Close) ∙ are_in_time b t h.tied refl p o;
@@ -397,7 +399,7 @@ all_ends before f w ids row queue started h =
     }) settled
 
 -- so a link ends that need not be told to have
-pub ended_holds : (before : List Action) (f : Core) (w : Work) (row queue : List Settled) (why : Ending) (started : List ℕ) → Holds before f w [] started → has_ended w.conn.life ≡ false → unstarted_error why ≡ error.Closed → failure_of why ≡ None → is_fault why ≡ false
+pub ended_holds : (before : List Action) (f : Core) (w : Work) (row queue : List Settled) (why : Ending) (started : List ℕ) → Holds before f w [] started → has_ended w.conn.life ≡ false → owed_by why ≡ Some (outcome.Fault error.Closed) → failure_of why ≡ None → is_fault why ≡ false
     → (let b = book (trace_of_acts before f w.acts) in let l = b.link f.single.link in
     (ending l ≡ Some why) × SettlesAll (owner_of w.conn.requests) (noted l (ends (b.turns - 1))) (link_in w.conn.life) row queue)
     → HasEnded before f (ended w (row ++ queue)) error.Closed started
@@ -413,7 +415,7 @@ parts_may b t e h over hears due cut =
       ended = cut;
       once = h.notices.due due;
       bare = refl;
-      in_order = λ m less other. absurd (not_both (is_cut (b.link m).end) (ap is_cut (h.others m (λ same. absurd (omega arith))).end) other);
+      in_order = λ m less other. (h.others m (λ same. absurd (omega arith))).parts hears other;
       closed = a.0;
       answered = a.1;
       sourced = sources_asked b t h;
@@ -465,7 +467,7 @@ faulted_holds before f w row queue fault started h alive must =
     let v = cut_short w in
     let ids = queue_ids (link_in w.conn.life).queue in
     let cut : is_cut ((book (trace_of_acts before f v.acts)).link f.single.link).end ≡ true =
-    ap (λ (x : Book). is_cut (x.link f.single.link).end) (book_of_more before f w.acts act.Close) ∙ ap (λ (x : Ledger). is_cut x.end) (mine_noted l f.single.link (ends (b.turns - 1))) ∙ ap (λ x. is_fault (ending_or_shutdown x)) must.0 in
+    ap (λ (x : Book). is_cut (x.link f.single.link).end) (book_of_more before f w.acts act.Close) ∙ ap (λ (x : Ledger). is_cut x.end) (mine_noted l f.single.link (ends (b.turns - 1))) ∙ ap is_fault (ends_so l (by_fault fault) (is_last_one l b.created w.conn.life h.tied.life alive) must.0) in
     chosen (λ (x : Work). HasEnded before f (all_answered x (row ++ queue)) error.Closed started) (hears_pushes w.conn.hears) (noticed v (notice.Push (record { kind = Disconnection; parts = [] }))) v
     (λ t.
     all_ends before f (noticed v (notice.Push (record { kind = Disconnection; parts = [] }))) ids row queue started

@@ -1,7 +1,7 @@
 -- A request is closed, and with it its submission, by an outcome or by the leave of its caller.
 use Rattle.std.proofs.Common.{◌≡◌, ◌≢◌, ◌⊎◌, inl, inr, ℕ, ◌<◌, ◌==◌, Bool, false, true, List, [], ◌∷◌, length, Option, Some, None, slice_get, refl, sym, ap, ◌∙◌, subst}
 use Rattle.std.specs.List.{AllByRecursion}
-use Rattle.containers.proofs.Choices.{chosen, left_if, eq_from, ne_from, ne_test}
+use Rattle.containers.proofs.Choices.{chosen, left_if, eq_from, ne_from, ne_test, not_both}
 use Rattle.containers.proofs.Places.{get_within}
 use Rattle.driver_model.specs.declared.action.WaitKind.{WaitKind}
 use Rattle.driver_model.specs.declared.action.WaitKind.TheVariants as wait
@@ -17,7 +17,7 @@ use Rattle.mux_conn.specs.declared.request.Progress.TheVariants as progress
 use Rattle.mux_conn.specs.declared.request.Request.{Request}
 use Rattle.mux_conn.specs.declared.request.Waiting.{Waiting}
 use Rattle.mux_conn.specs.declared.request.Progress.{Progress}
-use Rattle.mux_conn.specs.Requests.{is_open as is_open_progress, is_waiting, is_admitted, is_placed, is_waiting_at, is_admitted_at, name_at, with_permits}
+use Rattle.mux_conn.specs.Requests.{is_open as is_open_progress, is_waiting, is_admitted, is_placed, is_waiting_at, is_admitted_at, name_at, with_permits, is_open_at}
 use Rattle.legal_trace.specs.Ledger.{Ledger}
 use Rattle.legal_trace.specs.Story.{Story, is_open, is_told, shape, packed_in, shape_in, awaited_in}
 use Rattle.legal_trace.specs.Book.{if_own}
@@ -52,6 +52,10 @@ closed_tries story requests p closed n c = chosen (λ (s : Story). s.tries ≡ (
 pub closed_submission : (story : ℕ → Story) (requests : List Request) (p : ℕ) (closed : ℕ → Story) (n : ℕ) → Closes (story n) (closed n) → (with_closed story requests p closed n).submission ≡ (story n).submission
 closed_submission story requests p closed n c = chosen (λ (s : Story). s.submission ≡ (story n).submission) (name_at requests p == n) (closed n) (story n) (λ t. c.submission) (λ f. refl)
 
+-- and so does the link that it goes to
+closed_link : (story : ℕ → Story) (requests : List Request) (p : ℕ) (closed : ℕ → Story) (n : ℕ) → (closed n).link ≡ (story n).link → (with_closed story requests p closed n).link ≡ (story n).link
+closed_link story requests p closed n same = chosen (λ (s : Story). s.link ≡ (story n).link) (name_at requests p == n) (closed n) (story n) (λ t. same) (λ f. refl)
+
 -- and so does the time
 pub closed_time : (story : ℕ → Story) (requests : List Request) (p : ℕ) (closed : ℕ → Story) (n : ℕ) → Closes (story n) (closed n) → (with_closed story requests p closed n).timeout ≡ (story n).timeout
 closed_time story requests p closed n c = chosen (λ (s : Story). s.timeout ≡ (story n).timeout) (name_at requests p == n) (closed n) (story n) (λ t. c.time) (λ f. refl)
@@ -65,7 +69,7 @@ request_closed s c requests link p l freed k h = record {
   handed_in = k.submission ∙ h.handed_in;
   in_time = k.late ∙ h.in_time;
   spoken = k.unspoken ∙ h.spoken;
-  on = k.link ∙ h.on;
+  on = λ o. absurd (not_both (is_open_at (with_permits requests p progress.Closed 0) p) (with_same is_open_progress requests p progress.Closed 0 l) o);
   some = λ none. h.some (ap packed_in (sym k.submission) ∙ none);
   open_is = k.closed ∙ sym (with_same is_open_progress requests p progress.Closed 0 l);
   permits_is = freed ∙ sym (permits_with requests p progress.Closed 0 l);
@@ -78,7 +82,7 @@ request_other s requests link p q other h = record {
   handed_in = h.handed_in;
   in_time = h.in_time;
   spoken = h.spoken;
-  on = h.on;
+  on = λ o. h.on (sym (with_other is_open_progress requests p q progress.Closed 0 other) ∙ o);
   some = h.some;
   open_is = h.open_is ∙ sym (with_other is_open_progress requests p q progress.Closed 0 other);
   permits_is = h.permits_is ∙ sym (permits_other requests p q progress.Closed 0 other);
@@ -128,9 +132,10 @@ tries_closed l story requests link p closed started c h =
       greeted = h.greeted;
       shapes = λ k q s w i j. h.shapes k q s (subst (λ n. q < n) (length_with requests p progress.Closed 0) w) i j ∙ ap shape_in (sym (closed_submission story requests p closed (name_at requests q) (c (name_at requests q)))) ∙ ap (λ n. shape (after n)) (sym (still q));
       tried = λ k q w i. ap (λ n. (after n).tries) (still q) ∙ closed_tries story requests p closed (name_at requests q) (c (name_at requests q)) ∙ h.tried k q (subst (λ n. q < n) (length_with requests p progress.Closed 0) w) i;
-      untried = λ q r i not_started.
+      untried = λ q r i not_started on.
           let w = was_with requests p progress.Closed 0 q r i in
-          closed_tries story requests p closed r.name (c r.name) ∙ ap (λ n. (story n).tries) (sym w.2) ∙ h.untried q w.0 w.1 not_started;
+          closed_tries story requests p closed r.name (c r.name) ∙ ap (λ n. (story n).tries) (sym w.2)
+          ∙ h.untried q w.0 w.1 not_started (ap (λ n. (story n).link) w.2 ∙ sym (closed_link story requests p closed r.name (c r.name).link) ∙ on);
     }
 
 -- the lines
@@ -268,15 +273,20 @@ abbrev pub IsUntried : Story → Type 0
 IsUntried s = (is_told s ≡ true) × (s.tries ≡ [])
 
 -- who was told and has not started is in the queue still
-pub told_closed : (story : ℕ → Story) (requests : List Request) (p : ℕ) (closed : ℕ → Story) (link after : LinkState) → (let n = name_at requests p in IsUntried (closed n) → IsUntried (story n))
-    → ((q : ℕ) → is_told (story (name_at requests q)) ≡ true → IsIn q (queue_ids link.queue) → IsIn q (queue_ids after.queue)) → AreQueued story requests link
-    → AreQueued (with_closed story requests p closed) (with_permits requests p progress.Closed 0) after
-told_closed story requests p closed link after own stays h n is none =
-    let was = chosen (λ (s : Story). IsUntried s → IsUntried (story n)) (name_at requests p == n) (closed n) (story n)
-    (λ t. subst (λ m. IsUntried (closed m) → IsUntried (story m)) (eq_from (name_at requests p) n t) own)
-    (λ f u. u) (is, none) in
-    let k = h n was.0 was.1 in
-    (k.0, subst (λ m. k.0 < m) (sym (length_with requests p progress.Closed 0)) k.1, name_with requests p progress.Closed 0 k.0 ∙ k.2, stays k.0 (subst (λ m. is_told (story m) ≡ true) (sym k.2) was.0) k.3)
+pub told_closed : (story : ℕ → Story) (requests : List Request) (number p : ℕ) (closed : ℕ → Story) (link after : LinkState) → (let n = name_at requests p in IsUntried (closed n) → IsUntried (story n)) → ((n : ℕ) → (closed n).link ≡ (story n).link)
+    → ((q : ℕ) → is_told (story (name_at requests q)) ≡ true → IsIn q (queue_ids link.queue) → IsIn q (queue_ids after.queue)) → ((q : ℕ) → IsIn q (queue_ids after.queue) → IsIn q (queue_ids link.queue)) → AreQueued story requests number link
+    → AreQueued (with_closed story requests p closed) (with_permits requests p progress.Closed 0) number after
+told_closed story requests number p closed link after own same stays was_in h = record {
+  told = λ n is none on.
+      let was = chosen (λ (s : Story). IsUntried s → IsUntried (story n)) (name_at requests p == n) (closed n) (story n)
+      (λ t. subst (λ m. IsUntried (closed m) → IsUntried (story m)) (eq_from (name_at requests p) n t) own)
+      (λ f u. u) (is, none) in
+      let k = h.told n was.0 was.1 (sym (closed_link story requests p closed n (same n)) ∙ on) in
+      (k.0, subst (λ m. k.0 < m) (sym (length_with requests p progress.Closed 0)) k.1, name_with requests p progress.Closed 0 k.0 ∙ k.2, stays k.0 (subst (λ m. is_told (story m) ≡ true) (sym k.2) was.0) k.3);
+  here = λ q i.
+      let m = name_at requests q in
+      ap (λ n. (with_closed story requests p closed n).link) (name_with requests p progress.Closed 0 q) ∙ closed_link story requests p closed m (same m) ∙ h.here q (was_in q i);
+}
 
 -- who is late
 --

@@ -29,13 +29,13 @@ use Rattle.mux_conn.specs.declared.connection.MultiplexedConnection.{Multiplexed
 use Rattle.mux_conn.specs.declared.request.Request.{Request}
 use Rattle.mux_conn.specs.declared.request.Waiting.{Waiting}
 use Rattle.shared_session.specs.declared.core_state.Core.{Core}
-use Rattle.shared_session.specs.Turn.{with_work, is_bad, use_after}
+use Rattle.shared_session.specs.Turn.{with_work, is_bad}
 use Rattle.legal_trace.specs.Ledger.{Ledger, Heard, ending, ending_unready, ending_up, is_ready as is_ready_link, lacks_credentials, setup_after, setup_count, setup_steps, Sourced, noted, noted_each, sources, source_due, Start}
 use Rattle.legal_trace.specs.Book.{Book, blank_book, book, entered, use_for, if_mine, hearing_in}
 use Rattle.legal_trace.specs.Story.{Story}
 use Rattle.legal_trace.specs.Legal.{AllStand, MayBeCreated, MayNeed}
 use Rattle.legal_trace.proofs.Setups.{ends_where_set, silent_is_set, silent_is_greeted}
-use Rattle.session_laws.proofs.Tied.{AreSetups, AreQueued, HasCredentials, IsEntry, IsQueued, IsSettingUp, IsSetupDue, IsSetUp, Inner, Tied, TiedLines, TiedNotices, TiedWaits, has_ended, inner, link_in, no_link, owner_of, queue_ids, shown_wait, waiting_ids, AreSought, AreUses, HasSaid, sources_asked_in, is_reading, AreSetupsAlone, IsWatching, greeting_at, owners_of, setup_owners, watch_queued}
+use Rattle.session_laws.proofs.Tied.{AreSetups, AreQueued, HasCredentials, IsEntry, IsQueued, IsSettingUp, IsSetupDue, IsSetUp, Inner, Tied, TiedLines, TiedNotices, TiedWaits, has_ended, inner, link_in, no_link, owner_of, queue_ids, shown_wait, waiting_ids, AreSought, AreUses, HasSaid, is_reading, AreSetupsAlone, IsWatching, greeting_at, owners_of, setup_owners, watch_queued}
 use Rattle.session_laws.proofs.States.{Between, HasApplied, IsFit, IsFitIn}
 use Rattle.session_laws.proofs.Creds.{has_credentials, IsOfRenewals, down_sourced}
 use Rattle.session_laws.proofs.Said.{PushesOf, ending_setting, readied, setup_recredited, well_readied}
@@ -43,12 +43,12 @@ use Rattle.session_laws.proofs.Entered.{all_stand-append, book_more, sound_more,
 use Rattle.session_laws.proofs.Settle.{Tells, seen, trace_of_acts}
 use Rattle.session_laws.proofs.InLine.{kept_ids}
 use Rattle.session_laws.proofs.Numbers.{IsIn, Rising, rising_right, requests_in}
-use Rattle.session_laws.proofs.Announce.{IsNewsKind, comes_as, heard_book, heard_is, heard_starts, heard_tied, may_turn, turn_of, turned, ComesTo, heard_tied_by, others_heard, renews_hear, sources_hear, uses_more}
+use Rattle.session_laws.proofs.Announce.{IsNewsKind, comes_as, heard_book, heard_is, heard_starts, heard_tied, may_turn, turn_of, turned, ComesTo, heard_tied_by, others_heard, renews_hear, uses_asked, uses_more, protocol_still}
 use Rattle.session_laws.proofs.Heard.{book_kind, book_news, fresh_applied, heard_by, none_ends, none_hears}
 use Rattle.session_laws.proofs.Ahead.{waiting_open}
 use Rattle.session_laws.proofs.Renewals.{early_renewal, renewed_first}
 use Rattle.session_laws.proofs.Kept.{mine_noted, others_kept}
-use Rattle.std.proofs.lemmas.List.{length_push, nil_from_length}
+use Rattle.std.proofs.lemmas.List.{nil_from_length}
 use Rattle.session_laws.proofs.Failing.{unstarted_owed}
 use Rattle.mux_conn.specs.declared.life.Greeting.TheVariants as greet
 use Rattle.mux_conn.specs.declared.life.Greeting.{Greeting}
@@ -135,6 +135,7 @@ pub record IsMade (l : Ledger) (created : ℕ) (requests : List Request) (link :
   pub asked : l.asked ≡ true
   pub up : l.up ≡ true
   pub alive : l.end ≡ None
+  pub last : l.last ≡ true
   pub unshown : created ≡ 0
   pub said : IsSetUp l
   pub tied : TiedLink (owner_of requests) l link
@@ -194,7 +195,7 @@ readied_comes b c started n info link untold more h0 fit no_fresh other early fa
     let said = setup_recredited l asked renews l.creds.renewals l.creds.over l.creds.timed l.creds.lost info started link (record { info_is = facts.info_is; sent = facts.sent; said = made.said }) in
     record {
       starts = heard_starts (b.link c.single.link) c.turns n;
-      lived = (made.asked, made.up, made.alive, λ z. absurd (omega arith));
+      lived = (made.asked, made.up, made.alive, λ z. absurd (omega arith), made.last);
       creds = record {
         wanted_is = facts.wanted_is;
         sought = (
@@ -217,7 +218,10 @@ readied_comes b c started n info link untold more h0 fit no_fresh other early fa
       said = said;
       linked = λ z. said_tied (owner_of conn.requests) l link l.info (readied more l).creds l.heard made.tied;
       lines = bare_lines b.story conn.requests link conn.waiting conn.admitted started made.queue made.row (subst (λ (x : LinkState). TiedLines b.story conn.requests x conn.waiting conn.admitted [] started) early.bare h0.lines);
-      told = λ z m told none. absurd (let q = subst (λ (x : LinkState). AreQueued b.story conn.requests x) early.bare (h0.told early.alive) m told none in q.3);
+      told = λ z. record {
+        told = λ m told none on. absurd (let q = (subst (λ (x : LinkState). AreQueued b.story conn.requests c.single.link x) early.bare (h0.told early.alive)).told m told none on in q.3);
+        here = λ p i. absurd (subst (λ (qs : List Queued). IsIn p (queue_ids qs)) made.queue i);
+      };
       waits = fresh_waits b (inner c started) conn.life (Ready link) h0 refl nobody no_fresh refl early.bare early.unready early.alive early.other made.queue;
       notices = facts.notices;
     }
@@ -229,14 +233,8 @@ may_be_created b c started word kind n info link untold h0 early own facts = rec
   l = c.single.link;
   ready = ap is_ready_link own ∙ (λ i. facts.made.up i && facts.made.said.well i);
   once = facts.made.unshown;
-  answered = unstarted_owed b (heard_book b c.turns word kind) c started h0 (early_started (b.link c.single.link) started c.single.connection.life early.unready early.alive h0.setup.said) (λ m. refl) (ap (λ (y : Ledger). y.end) own ∙ facts.made.alive);
+  answered = unstarted_owed b (heard_book b c.turns word kind) c started h0 (early_started (b.link c.single.link) started c.single.connection.life early.unready early.alive h0.setup.said) (λ m. refl) (ap (λ (y : Ledger). y.asked) own ∙ facts.made.asked) (ap (λ (y : Ledger). y.end) own ∙ facts.made.alive);
 }
-
--- the second source is for its renewals
-second_use : (c : Sourced) (link n : ℕ) → c.asked ≡ true → c.renews ≡ false → n ≡ sources_asked_in c → (if c.asked then source.Renewal link else source.Setup link) ≡ use_after link n
-second_use c link n asked renews count =
-    let one : n ≡ 1 = count ∙ (λ i. (if asked i then 1 else 0) + (if renews i then 1 else 0)) in
-    taken_if c.asked (source.Renewal link) (source.Setup link) asked ∙ ap (use_after link) (sym one)
 
 -- where it wasn't before, and this is said to its server
 pub makes_ready : (before : List Action) (c : Core) (started : List ℕ) (word : ℕ) (kind : EventKind) (n : News) (info : RedisConnectionInfo) (link : LinkState) (untold : List Heard) → Between before c started → is_bad c kind ≡ false → IsNewsKind c.timers kind
@@ -292,14 +290,14 @@ makes_ready before c started word kind n info link untold h good k is other earl
         let t = record (seen f [] (comes_as c info (Ready link) ns) [] started) { untold = untold } in
         let same : readied c.single.connection.renewal.wanted l ≡ l = ap (λ (x : Bool). readied x l) w in
         let comes = readied_comes b c started n info link untold false h0 h.fit h.fresh other early facts (facts.wanted_is ∙ w) (λ none. cc) in
-        let tied : Tied (entered now shown) t = heard_tied b c started word (b.created + 1) kind info (Ready link) ns [] untold l h0 good own comes in
+        let tied : Tied (entered now shown) t = heard_tied b c started word (b.created + 1) (b.failed || false) kind info (Ready link) ns [] untold l h0 good (λ some none. absurd (omega arith)) own comes in
         record {
-          holds = sound_more front shown t all (subst MayBeCreated (sym book_is) may) (subst (λ (x : Book). Tied (entered x shown) t) (sym book_is) tied);
+          holds = sound_more front shown t all (inl (subst MayBeCreated (sym book_is) may)) (subst (λ (x : Book). Tied (entered x shown) t) (sym book_is) tied);
           ledger = ap (λ (x : Book). x.link mine) (book_more front shown ∙ ap (λ (x : Book). entered x shown) book_is) ∙ own ∙ sym same;
         }
 
     -- or a second source is asked for
-    wants : c.single.connection.renewal.wanted ≡ true → IsShownReady front f (acted v act.NeedCreds) (readied c.single.connection.renewal.wanted l) untold started
+    wants : c.single.connection.renewal.wanted ≡ true → IsShownReady front f (acted v act.NeedRenewals) (readied c.single.connection.renewal.wanted l) untold started
     wants w =
         let count = length c.sources + 0 in
         let next : count ≡ length c.sources = omega arith in
@@ -309,25 +307,24 @@ makes_ready before c started word kind n info link untold h good k is other earl
         let once : (b.link mine).creds.renews ≡ false = early_sources (b.link mine).creds c.single.connection.life early.unready early.alive h0.creds.sought in
         let renews : l.creds.renews ≡ false = renews_hear (b.link mine) c.turns n ∙ once in
         let created = entered now shown in
-        let uses = c.sources ++ use_after mine count ∷ [] in
+        let uses = c.sources ++ source.Renewal mine ∷ [] in
         let what = use_for created mine in
-        let what_is : what ≡ use_after mine count = ap (λ (x : Ledger). if x.creds.asked then source.Renewal mine else source.Setup mine) own ∙ second_use l.creds mine count asked renews (next ∙ h0.count ∙ sym (sources_hear (b.link mine) c.turns n)) in
-        let others = others_heard b c started kind h0 good in
+        let what_is : what ≡ source.Renewal mine = ap (λ (x : Ledger). if x.creds.asked then source.Renewal mine else source.Setup mine) own ∙ taken_if l.creds.asked (source.Renewal mine) (source.Setup mine) asked in
+        let others = others_heard b c started kind (b.created + 1) h0 good (λ some none. absurd (omega arith)) in
         let links : ℕ → Ledger = λ m. noted_each (now.link m) (if_mine (mine == m) sources) in
         let after = noted l sources in
         let ledger_is : links mine ≡ after = mine_noted (now.link mine) mine sources ∙ ap (λ (y : Ledger). noted y sources) own in
         let t = record (seen f [] (comes_as c info (Ready link) ns) [] started) { untold = untold; sources = uses } in
         let comes = readied_comes b c started n info link untold true h0 h.fit h.fresh other early facts wanted (λ x. asked) in
-        let counted : length uses ≡ sources_asked_in after.creds =
-        length_push c.sources (use_after mine count) ∙ ap (λ m. m + 1) (h0.count ∙ sym (sources_hear (b.link mine) c.turns n) ∙ (λ i. (if asked i then 1 else 0) + (if renews i then 1 else 0))) ∙ ap (λ (x : Bool). 1 + (if x then 1 else 0)) (sym asked) in
+        let used : AreUses uses mine true l.creds.asked = uses_more c.sources mine true l.creds.asked (source.Renewal mine) (omega arith, λ same. asked) (uses_asked c.sources mine (b.link mine).creds.asked (b.link mine).creds.renews l.creds.asked once h0.uses) in
         let tied : Tied (entered created needs) t =
-        heard_tied_by b c started word (b.created + 1) kind info (Ready link) ns [] untold links after (b.sources ++ what ∷ []) uses h0 (others_kept now mine sources others) ledger_is
-        (λ i. h0.numbers.sources i ++ what_is i ∷ []) (subst (λ m. AreUses (c.sources ++ use_after mine m ∷ []) mine) (sym next) (uses_more c.sources mine h0.numbers.uses)) counted comes in
+        heard_tied_by b c started word (b.created + 1) (b.failed || false) kind info (Ready link) ns [] untold links after (b.sources ++ what ∷ []) uses h0 (protocol_still b c started kind info l h0 own facts.info_is) (others_kept now mine sources others) ledger_is
+        (λ i. h0.numbers.sources i ++ what_is i ∷ []) used comes in
         let need : MayNeed created count mine = record {
           due = ap source_due own ∙ (λ i. facts.made.up i && wanted i && (not (asked i) || (facts.made.said.well i && not (renews i))));
           next = next ∙ ap length (sym h0.numbers.sources);
-          in_order = λ m less. down_sourced (now.link m) (others m (λ one. omega arith)).up;
-          answered = unstarted_owed b created c started h0 (early_started (b.link mine) started c.single.connection.life early.unready early.alive h0.setup.said) (λ m. refl) (ap (λ (y : Ledger). y.end) own ∙ facts.made.alive);
+          in_order = λ m less. down_sourced (now.link m) (others m (λ one. omega arith)).down;
+          answered = unstarted_owed b created c started h0 (early_started (b.link mine) started c.single.connection.life early.unready early.alive h0.setup.said) (λ m. refl) (ap (λ (y : Ledger). y.asked) own ∙ facts.made.asked) (ap (λ (y : Ledger). y.end) own ∙ facts.made.alive);
           created = λ m ready none. absurd (let no : b.created + 1 ≡ 0 = none in omega (arith, no));
         } in
         let both = shown ∷ needs ∷ [] in
@@ -335,19 +332,19 @@ makes_ready before c started word kind n info link untold h good k is other earl
         let same : readied c.single.connection.renewal.wanted l ≡ after = ap (λ (x : Bool). readied x l) w in
         record {
           holds = record {
-            stands = all_stand-append front both all (subst MayBeCreated (sym book_is) may, (subst (λ (x : Book). MayNeed (entered x shown) count mine) (sym book_is) need, tt));
+            stands = all_stand-append front both all (inl (subst MayBeCreated (sym book_is) may), (subst (λ (x : Book). MayNeed (entered x shown) count mine) (sym book_is) need, tt));
             tied = subst (λ (x : Book). Tied x t) (sym last) tied;
           };
           ledger = ap (λ (x : Book). x.link mine) last ∙ ledger_is ∙ sym same;
         }
 
-    by_wanted : (x : Bool) → c.single.connection.renewal.wanted ≡ x → IsShownReady front f (if x then acted v act.NeedCreds else v) (readied c.single.connection.renewal.wanted l) untold started
+    by_wanted : (x : Bool) → c.single.connection.renewal.wanted ≡ x → IsShownReady front f (if x then acted v act.NeedRenewals else v) (readied c.single.connection.renewal.wanted l) untold started
     by_wanted true w = wants w
     by_wanted false w = unwanted w
 
 -- what a source that is asked for leaves
 pub made_conn : (w : Work) (link : LinkState) → (made_ready w link).conn ≡ (with_link (all_fresh w) link).conn
-made_conn w link = chosen (λ (x : Work). x.conn ≡ (with_link (all_fresh w) link).conn) w.conn.renewal.wanted (acted (acted (with_link (all_fresh w) link) (act.Created None)) act.NeedCreds) (acted (with_link (all_fresh w) link) (act.Created None)) (λ t. refl) (λ f. refl)
+made_conn w link = chosen (λ (x : Work). x.conn ≡ (with_link (all_fresh w) link).conn) w.conn.renewal.wanted (acted (acted (with_link (all_fresh w) link) (act.Created None)) act.NeedRenewals) (acted (with_link (all_fresh w) link) (act.Created None)) (λ t. refl) (λ f. refl)
 
 -- but for what it shows
 pub made_is : (w : Work) (link : LinkState) → made_ready w link ≡ record { conn = (with_link (all_fresh w) link).conn; acts = (made_ready w link).acts }
@@ -356,7 +353,7 @@ made_is w link = by_wanted w.conn.renewal.wanted
     v : Work
     v = acted (with_link (all_fresh w) link) (act.Created None)
 
-    by_wanted : (b : Bool) → (if b then acted v act.NeedCreds else v) ≡ record { conn = v.conn; acts = (if b then acted v act.NeedCreds else v).acts }
+    by_wanted : (b : Bool) → (if b then acted v act.NeedRenewals else v) ≡ record { conn = v.conn; acts = (if b then acted v act.NeedRenewals else v).acts }
     by_wanted true = refl
     by_wanted false = refl
 
@@ -387,6 +384,7 @@ pub record IsUpNow (l : Ledger) (created : ℕ) (c : MultiplexedConnection) (inf
   pub asked : l.asked ≡ true
   pub up : l.up ≡ true
   pub alive : l.end ≡ None
+  pub last : l.last ≡ true
   pub unshown : created ≡ 0
   pub info_is : l.info ≡ info
   pub wanted_is : l.creds.wanted ≡ c.renewal.wanted
@@ -414,7 +412,7 @@ comes_ready before c started word kind n info link h good k is other early u has
     let more = c.single.connection.renewal.wanted in
     let silent : says_nothing (setup_steps l 0) ≡ true = says_same l info u.info_is ∙ nothing in
     let said : IsSetUp l = record { well = silent_is_set l (ap is_watching notices.hearing_is ∙ plain) (has_credentials l.creds has) silent; none = λ t. ap setup_count u.starts } in
-    let made : IsMade l (book before).created conn.requests link = record { asked = u.asked; up = u.up; alive = u.alive; unshown = u.unshown; said = said; tied = u.tied (owner_of conn.requests); queue = u.queue; row = u.row } in
+    let made : IsMade l (book before).created conn.requests link = record { asked = u.asked; up = u.up; alive = u.alive; last = u.last; unshown = u.unshown; said = said; tied = u.tied (owner_of conn.requests); queue = u.queue; row = u.row } in
     ready_applied (before ++ turn_of c word kind ∷ []) (turned c kind) conn link (readied more l) started (λ z. absurd (omega arith)) h.moved u.fit (ends_where_set (readied more l) u.up (well_readied more l ∙ said.well) ∙ calm more)
     (makes_ready before c started word kind n info link [] h good k is other early (record { info_is = u.info_is; sent = u.sent; wanted_is = u.wanted_is; has = has; made = made; notices = notices }))
 
@@ -458,13 +456,13 @@ comes_to_say before c started word kind n info link h good k is other early u ha
     fresh_applied before c started word kind n info life (numbers_of conn.waiting) h good k is
     (record {
       starts = heard_starts (b.link c.single.link) c.turns n;
-      lived = (u.asked, u.up, u.alive, u.unshown);
+      lived = (u.asked, u.up, u.alive, u.unshown, u.last);
       creds = record { wanted_is = u.wanted_is; sought = (has, renews_hear (b.link c.single.link) c.turns n ∙ early_sources (b.link c.single.link).creds conn.life early.unready early.alive h0.creds.sought) };
       renewal_is = none_hears (b.link c.single.link) c.turns n conn.renewal other (early_renewal (b.link c.single.link) conn.renewal conn.life early.unready early.alive h0.renewal);
       said = record { info_is = u.info_is; sent = u.sent; said = (u.none, said) };
       linked = λ z. enqueued_tied _ l link q (u.tied _);
       lines = subst (λ (x : LinkState). TiedLines b.story conn.requests x conn.waiting conn.admitted [] started) early.bare h0.lines;
-      told = λ z. subst (λ (x : LinkState). AreQueued b.story conn.requests x) early.bare (h0.told early.alive);
+      told = λ z. subst (λ (x : LinkState). AreQueued b.story conn.requests c.single.link x) early.bare (h0.told early.alive);
       waits = fresh_waits b (inner c started) conn.life life h0 refl nobody h.fresh refl early.bare early.unready early.alive early.other refl;
       notices = notices;
     })
@@ -537,13 +535,13 @@ comes_to_watch before c started word kind n info link h good k is other early u 
     fresh_applied before c started word kind n info life conn.fresh h good k is
     (record {
       starts = heard_starts (b.link c.single.link) c.turns n;
-      lived = (u.asked, u.up, u.alive, u.unshown);
+      lived = (u.asked, u.up, u.alive, u.unshown, u.last);
       creds = record { wanted_is = u.wanted_is; sought = (has, renews_hear (b.link c.single.link) c.turns n ∙ early_sources (b.link c.single.link).creds conn.life early.unready early.alive h0.creds.sought) };
       renewal_is = none_hears (b.link c.single.link) c.turns n conn.renewal other (early_renewal (b.link c.single.link) conn.renewal conn.life early.unready early.alive h0.renewal);
       said = record { info_is = u.info_is; sent = u.sent; said = (u.none, said) };
       linked = λ z. enqueued_tied _ l link watch_queued (u.tied _);
       lines = subst (λ (x : LinkState). TiedLines b.story conn.requests x conn.waiting conn.admitted [] started) early.bare h0.lines;
-      told = λ z. subst (λ (x : LinkState). AreQueued b.story conn.requests x) early.bare (h0.told early.alive);
+      told = λ z. subst (λ (x : LinkState). AreQueued b.story conn.requests c.single.link x) early.bare (h0.told early.alive);
       waits = none_wait b.story conn.requests conn.life next greet.Monitor conn.fresh conn.moved (none_asked b (inner c started) h0 watches) h0.waits;
       notices = notices;
     })

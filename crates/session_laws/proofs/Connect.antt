@@ -1,6 +1,6 @@
 -- The opening of the connection's link ends: its connect succeeds, is refused, or isn't answered in time.
 use Rattle.std.proofs.Common.{inl, length, ◌==◌, ◌≡◌, ℕ, ◌+◌, Bool, true, false, ◌&&◌, not, List, [], ◌∷◌, ◌++◌, None, is_some, refl, sym, ap, ◌∙◌, subst, arith, if◌then◌else◌, ◌≢◌, ◌-◌, Some, ◌||◌}
-use Rattle.std.proofs.lemmas.List.{append-nil, length_push}
+use Rattle.std.proofs.lemmas.List.{append-nil}
 use Rattle.containers.proofs.Choices.{chosen, taken_if, left_if}
 use Rattle.redis_error.specs.declared.fault_kind.FaultKind.{FaultKind}
 use Rattle.redis_error.specs.declared.fault_kind.FaultKind.TheVariants as kinds
@@ -23,22 +23,24 @@ use Rattle.mux_conn.specs.Connection.{Work, is_ready}
 use Rattle.mux_conn.specs.Turn.{early_wait}
 use Rattle.mux_conn.specs.declared.act.LinkAct.TheVariants as act
 use Rattle.shared_session.specs.declared.core_state.Core.{Core}
-use Rattle.shared_session.specs.Turn.{with_work, is_bad, use_after}
-use Rattle.legal_trace.specs.Ledger.{Ledger, hears, lacks_credentials, noted, noted_each, ending, ending_alive, is_over, by_opening, ends, dials, refused_in, failure_in, failure_of, ending_or_shutdown, source_due, sources, is_set_up, ending_asked}
+use Rattle.shared_session.specs.Turn.{with_work, is_bad}
+use Rattle.legal_trace.specs.Owed.{owed_by}
+use Rattle.legal_trace.specs.Ledger.{Ledger, hears, lacks_credentials, noted, noted_each, ending, ending_alive, is_over, by_opening, ends, dials, refused_in, failure_in, failure_of, source_due, sources, is_set_up, ending_asked, lasting}
 use Rattle.legal_trace.specs.Book.{Book, blank_book, book, entered, if_mine, use_for}
 use Rattle.legal_trace.specs.Legal.{AllStand, MayNeed}
-use Rattle.session_laws.proofs.Tied.{AreQueued, AreSought, HasSaid, inner, no_link, link_in, carried, whole_link, owner_of, Tied, TiedLife, TiedLines, has_ended, sources_asked_in}
+use Rattle.session_laws.proofs.Aside.{unfailed}
+use Rattle.session_laws.proofs.Tied.{AreQueued, AreSought, HasSaid, inner, no_link, link_in, carried, whole_link, owner_of, Tied, TiedLife, TiedLines, has_ended, AreUses}
 use Rattle.session_laws.proofs.Creds.{down_sourced}
 use Rattle.session_laws.proofs.Said.{ending_wanting, ready_heard, setting_heard, setup_hears, dropped_end}
 use Rattle.session_laws.proofs.Failing.{IsFailing, failing_applied, unready_shown, unstarted_owed}
 use Rattle.session_laws.proofs.States.{IsFit, Between, HasApplied}
 use Rattle.session_laws.proofs.Entered.{all_stand-append, book_more, sound_more, shown_more}
 use Rattle.session_laws.proofs.Settle.{seen, trace_of_acts, book_of_more}
-use Rattle.session_laws.proofs.Announce.{IsNewsKind, comes_as, heard_book, heard_is, heard_starts, heard_tied, heard_tied_by, may_turn, others_heard, turn_of, turned, uses_more, timed_hear}
+use Rattle.session_laws.proofs.Announce.{IsNewsKind, comes_as, heard_book, heard_is, heard_starts, heard_tied, heard_tied_by, may_turn, others_heard, turn_of, turned, uses_asked, uses_more, timed_hear}
 use Rattle.session_laws.proofs.Heard.{heard_by, book_kind, book_news, lives_as, none_ends, leads_still, quiet_applied, ended_quiet, pushes_still, none_hears, still_none}
 use Rattle.session_laws.proofs.End.{up_tied, setting_tied, setting_overdue, wanting_tied, wanting_overdue, plain_begins, IsPlain, dropped_up, plain_is}
 use Rattle.session_laws.proofs.Kept.{mine_noted, others_kept}
-use Rattle.session_laws.proofs.Close.{may_close, close_tied, ended_waits}
+use Rattle.session_laws.proofs.Close.{may_close, close_tied, ended_waits, ends_so}
 use Rattle.session_laws.proofs.ComeUp.{IsEarly, IsUpNow, comes_up, fresh_waits}
 use Rattle.session_laws.proofs.Renewals.{renewal_ended, early_renewal}
 use Rattle.session_laws.proofs.Numbers.{requests_in}
@@ -102,6 +104,7 @@ up_now before c started h e =
       asked = ap (λ (x : Ledger). x.asked) is ∙ lived.0;
       up = ap (λ (x : Ledger). x.up) is;
       alive = ap (λ (x : Ledger). x.end) is ∙ lived.2;
+      last = ap (λ (x : Ledger). x.last) is ∙ lived.4;
       unshown = lived.3;
       info_is = told.info_is;
       wanted_is = ap (λ (x : Ledger). x.creds.wanted) is ∙ t.creds.wanted_is;
@@ -155,39 +158,38 @@ connected_wants before c started word kind h good k is e wants =
     let ungiven : l.creds.given ≡ false = ap (λ (x : Ledger). x.creds.given) same ∙ sought.1 in
     let lacks : lacks_credentials l ≡ true = (λ i. wanted_is i && not (ungiven i)) in
     let own : now.link mine ≡ l = ap (heard_by b c) (book_news b c started kind connected h0 is) in
-    let others = others_heard b c started kind h0 good in
+    let others = others_heard b c started kind b.created h0 good (λ some. some) in
     let links : ℕ → Ledger = λ m. noted_each (now.link m) (if_mine (mine == m) sources) in
     let after = noted l sources in
     let asked : links mine ≡ after = mine_noted (now.link mine) mine sources ∙ ap (λ (y : Ledger). noted y sources) own in
     let what = use_for now mine in
-    let next = use_after mine (length c.sources) in
+    let next = source.Setup mine in
     let uses = c.sources ++ next ∷ [] in
-    let none_asked : length c.sources ≡ 0 = h0.count ∙ (λ i. (if sought.0 i then 1 else 0) + (if sought.2 i then 1 else 0)) in
     let what_is : what ≡ next =
-    ap (λ (x : Ledger). if x.creds.asked then source.Renewal mine else source.Setup mine) own ∙ left_if l.creds.asked (source.Renewal mine) (source.Setup mine) unasked ∙ ap (use_after mine) (sym none_asked) in
-    let counted : length uses ≡ sources_asked_in after.creds = length_push c.sources next ∙ ap (λ m. m + 1) none_asked ∙ ap (λ (x : Bool). 1 + (if x then 1 else 0)) (sym unasked) in
+    ap (λ (x : Ledger). if x.creds.asked then source.Renewal mine else source.Setup mine) own ∙ left_if l.creds.asked (source.Renewal mine) (source.Setup mine) unasked in
+    let used : AreUses uses mine true l.creds.asked = uses_more c.sources mine true l.creds.asked next (omega arith, λ same. refl) (uses_asked c.sources mine l0.creds.asked l0.creds.renews l.creds.asked sought.2 h0.uses) in
     let none = none_hears l0 c.turns connected conn.renewal (λ x. x) (early_renewal l0 conn.renewal conn.life early.unready early.alive h0.renewal) in
     let t = record (seen f [] (comes_as c conn.info life ns) [] started) { sources = uses } in
-    let tied : Tied (entered now shown) t = heard_tied_by b c started word b.created kind conn.info life ns [] [] links after (b.sources ++ what ∷ []) uses h0
-    (others_kept now mine sources others) asked (λ i. h0.numbers.sources i ++ what_is i ∷ []) (uses_more c.sources mine h0.numbers.uses) counted
+    let tied : Tied (entered now shown) t = heard_tied_by b c started word b.created b.failed kind conn.info life ns [] [] links after (b.sources ++ what ∷ []) uses h0 refl
+    (others_kept now mine sources others) asked (λ i. h0.numbers.sources i ++ what_is i ∷ []) used
     (record {
       starts = heard_starts l0 c.turns connected;
-      lived = (u.asked, u.up, u.alive, u.unshown);
+      lived = (u.asked, u.up, u.alive, u.unshown, u.last);
       creds = record { wanted_is = u.wanted_is; sought = (wanted_is, refl, ungiven, unasked) };
       renewal_is = record { over_is = none.over_is; came = none.came; waits = none.waits; untimed = none.untimed; unstarted = none.unstarted; unasked = none.unasked; unpending = none.unpending; told = none.told; kept = none.kept; found = none.found };
       said = record { info_is = u.info_is; sent = u.sent; said = (u.starts, u.none, refl, refl) };
       linked = λ z. sourced_tied _ l link (u.tied _);
       lines = subst (λ (x : LinkState). TiedLines b.story conn.requests x conn.waiting conn.admitted [] started) early.bare h0.lines;
-      told = λ z. subst (λ (x : LinkState). AreQueued b.story conn.requests x) early.bare (h0.told early.alive);
+      told = λ z. subst (λ (x : LinkState). AreQueued b.story conn.requests c.single.link x) early.bare (h0.told early.alive);
       waits = fresh_waits b (inner c started) conn.life life h0 refl nobody h.fresh refl early.bare early.unready early.alive early.other refl;
       notices = pushes_still before c started connected h (inl tt);
     }) in
     let may : MayNeed now (length c.sources) mine = record {
       due = ap source_due own ∙ (λ i. u.up i && wanted_is i && (not (unasked i) || (is_set_up l && not l.creds.renews)));
       next = ap length (sym h0.numbers.sources);
-      in_order = λ m less. down_sourced (now.link m) (others m (λ one. omega arith)).up;
-      answered = unstarted_owed b now c started h0 u.none (λ m. refl) (ap (λ (y : Ledger). y.end) own ∙ u.alive);
-      created = unready_shown now mine l own others (lacking_unset l lacks).unset;
+      in_order = λ m less. down_sourced (now.link m) (others m (λ one. omega arith)).down;
+      answered = unstarted_owed b now c started h0 u.none (λ m. refl) (ap (λ (y : Ledger). y.asked) own ∙ u.asked) (ap (λ (y : Ledger). y.end) own ∙ u.alive);
+      created = unready_shown now mine l own (λ m other. (others m other).down) (lacking_unset l lacks).unset;
     } in
     let book_is : book front ≡ now = book_more before (turn_of c word kind) ∙ heard_is b c.turns word kind (book_kind b c kind h0.numbers.timers k) in
     let all : AllStand blank_book front = all_stand-append before (turn_of c word kind ∷ []) h.sound.stands (may_turn before c started word kind h good, tt) in
@@ -263,10 +265,10 @@ refused_fails before c started word kind f h good k is e =
     let over : l ≡ record (refused_in l0 c.turns (error.Io f)) { heard = refused f } = refused_is l0 c.turns b.created f lived in
     let own_ledger : now.link c.single.link ≡ l = ap (heard_by b c) (book_news b c started kind (refused f) h0 is) in
     let said = setup_hears l0 c.turns (refused f) conn.info started conn.life tt h0.setup in
-    let tied : Tied (entered now (action.Created (Some (error.Io f)))) t = heard_tied b c started word (b.created + 1) kind conn.info life conn.fresh [] [] l h0 good own_ledger
+    let tied : Tied (entered now (action.Created (Some (error.Io f)))) t = heard_tied b c started word (b.created + 1) (b.failed || true) kind conn.info life conn.fresh [] [] l h0 good (λ some none. absurd (omega arith)) own_ledger
     (record {
       starts = heard_starts l0 c.turns (refused f);
-      lived = subst (λ (x : Ledger). TiedLife x (b.created + 1) life) (sym over) (lived.1, refl, λ x fails z. absurd (omega arith));
+      lived = subst (λ (x : Ledger). TiedLife x (b.created + 1) life) (sym over) (lived.1, ap (λ last. owed_by (lasting last (by_opening (error.Io f)))) lived.4, λ x fails z. absurd (omega arith), lived.0);
       creds = record { wanted_is = ap (λ (x : Ledger). x.creds.wanted) over ∙ h0.creds.wanted_is; sought = tt };
       renewal_is = renewal_ended l0 l conn.renewal conn.life (timed_hear l0 c.turns (refused f)) (heard_starts l0 c.turns (refused f)) h0.renewal;
       said = record { info_is = said.info_is; sent = said.sent; said = tt };
@@ -279,8 +281,9 @@ refused_fails before c started word kind f h good k is e =
     let book_is : book front ≡ now = book_more before (turn_of c word kind) ∙ heard_is b c.turns word kind (book_kind b c kind h0.numbers.timers k) in
     record {
       stands = all_stand-append before (turn_of c word kind ∷ []) h.sound.stands (may_turn before c started word kind h good, tt);
-      fails = ap (λ (x : Book). failure_in (x.link c.single.link).end) book_is ∙ ap (λ (x : Ledger). failure_in x.end) (own_ledger ∙ over);
+      fails = ap (λ (x : Book). failure_in (x.link c.single.link).end) book_is ∙ ap (λ (x : Ledger). failure_in x.end) (own_ledger ∙ over) ∙ ap (λ last. failure_of (lasting last (by_opening (error.Io f)))) lived.4;
       unshown = ap (λ (x : Book). x.created) book_is ∙ lived.3;
+      first = λ m less. ap (λ (x : Book). failure_in (x.link m).end) book_is ∙ unfailed (now.link m) (others_heard b c started kind b.created h0 good (λ some. some) m (λ same. omega arith)) lived.3;
       tied = subst (λ (x : Book). Tied (entered x (action.Created (Some (error.Io f)))) t) (sym book_is) tied;
     }
 
@@ -345,7 +348,7 @@ closing_fails before c started word kind n x plain asks h good k is e =
     let asked : (l0.asked && not (is_over l0)) ≡ true = (λ i. lived0.0 i && not (is_some (lived0.2 i))) in
     let must : ending l ≡ Some why = ap ending (begins.ledger ∙ plain_is l0 c.turns n plain) ∙ left_if l0.up (ending_alive (record l0 { heard = n })) _ lived0.1 ∙ taken_if (l0.asked && not (is_over l0)) (ending_asked (record l0 { heard = n }) n) None asked ∙ asks in
     let now = entered b (action.Close c.single.link) in
-    let tied = close_tied b t (b.created + 1) why x false [] (ap (λ (y : Life). requests_in (wanted (link_in y).row) ++ awaited_ids (link_in y).queue) (sym e)) must refl (λ y fails z. absurd (omega arith)) (λ heard done. refl) (ap has_ended e) begins.holds.tied in
+    let tied = close_tied b t (b.created + 1) (b.failed || true) why x false [] (ap (λ (y : Life). requests_in (wanted (link_in y).row) ++ awaited_ids (link_in y).queue) (sym e)) must refl (λ y fails z. absurd (omega arith)) (λ heard done. refl) (ap has_ended e) (λ some none. absurd (omega arith)) begins.holds.tied in
     let trace = trace_of_acts front f (act.Close ∷ []) in
     let shown : trace ≡ trace_of_acts front f [] ++ action.Close c.single.link ∷ [] = shown_more front c.single.link (length f.timers) (length f.sources) [] act.Close in
     let book_is : book trace ≡ now = book_of_more front f [] act.Close in
@@ -353,8 +356,9 @@ closing_fails before c started word kind n x plain asks h good k is e =
       stands = subst (AllStand blank_book) (sym shown) (all_stand-append (trace_of_acts front f []) (action.Close c.single.link ∷ []) begins.holds.stands (may_close b t why begins.holds.tied refl refl (ap has_ended e) must, tt));
       fails = ap (λ (y : Book). failure_in (y.link c.single.link).end) book_is
           ∙ ap (λ (y : Ledger). failure_in y.end) (mine_noted l c.single.link (ends (b.turns - 1)))
-          ∙ ap (λ w. failure_of (ending_or_shutdown w)) must;
+          ∙ ap failure_of (ends_so l why lived.4 must);
       unshown = ap (λ (y : Book). y.created) book_is ∙ lived.3;
+      first = λ m less. ap (λ (y : Book). failure_in (y.link m).end) book_is ∙ unfailed _ (others_kept b c.single.link (ends (b.turns - 1)) begins.holds.tied.others m (λ same. omega arith)) lived.3;
       tied = subst (λ (y : Book). Tied (entered y (action.Created (Some x))) (seen f (act.Close ∷ []) (record conn { life = Ended x }) [] started)) (sym book_is) tied;
     }
 

@@ -1,5 +1,5 @@
 -- The opening of the connection's link has failed, which is shown; and a link that is closed before it is set up.
-use Rattle.std.proofs.Common.{◌≡◌, ◌≢◌, ℕ, ◌+◌, ◌-◌, ◌==◌, Bool, true, false, List, [], ◌∷◌, ◌++◌, length, Some, None, refl, sym, ap, ◌∙◌, subst, arith, slice_get}
+use Rattle.std.proofs.Common.{◌≡◌, ◌≢◌, ℕ, ◌+◌, ◌-◌, ◌==◌, Bool, true, false, List, [], ◌∷◌, ◌++◌, length, Some, None, refl, sym, ap, ◌∙◌, subst, arith, ◌||◌, ◌<◌}
 use Rattle.std.proofs.lemmas.List.{append-nil}
 use Rattle.containers.proofs.Choices.{by_test, left_if, both_left, both_right, eq_from, ne_from, not_both}
 use Rattle.redis_error.specs.declared.redis_error.RedisError.{RedisError}
@@ -7,7 +7,6 @@ use Rattle.connection_info.specs.declared.address.RedisConnectionInfo.{RedisConn
 use Rattle.driver_model.specs.declared.action.Action.{Action}
 use Rattle.driver_model.specs.declared.action.Action.TheVariants as action
 use Rattle.driver_model.specs.declared.event.EventKind.{EventKind}
-use Rattle.driver_model.specs.declared.outcome.Outcome.TheVariants as outcome
 use Rattle.driver_model.specs.News.{News, news_of}
 use Rattle.link_core.specs.Link.{LinkState}
 use Rattle.mux_conn.specs.declared.act.LinkAct.{LinkAct}
@@ -20,23 +19,24 @@ use Rattle.mux_conn.specs.Effects.{opening_failed}
 use Rattle.mux_conn.specs.Requests.{name_at}
 use Rattle.shared_session.specs.declared.core_state.Core.{Core}
 use Rattle.shared_session.specs.Turn.{with_work, is_bad}
-use Rattle.legal_trace.specs.Ledger.{Ledger, by_opening, ends, noted, noted_each, ending, ending_or_shutdown, failure_in, failure_of, is_ready, is_set_up, Heard, is_fault, next_notice, source_due}
+use Rattle.legal_trace.specs.Ledger.{Ledger, by_opening, ends, noted, noted_each, ending, ending_or_shutdown, failure_in, failure_of, is_ready, is_set_up, is_fault, next_notice, source_due, lasting}
 use Rattle.legal_trace.specs.Story.{Story, bytes_of, is_open, last_of}
 use Rattle.legal_trace.specs.Book.{Book, blank_book, book, entered, if_mine, hearing_in}
-use Rattle.legal_trace.specs.Owed.{owed_to_try, owed_unstarted, unstarted_error}
+use Rattle.legal_trace.specs.Owed.{owed_by, owed_to_try, owed_unstarted, owed_waiting}
 use Rattle.legal_trace.specs.Legal.{AllStand, FailuresAreShown, MayClose, MayFail, NoneEnds, ReadyIsShown, VerdictsAreShown}
 use Rattle.session_laws.proofs.Numbers.{IsIn}
-use Rattle.session_laws.proofs.Tied.{AreSetups, IsUnknown, inner, link_in, no_link, TiedLines, Tied}
+use Rattle.session_laws.proofs.Tied.{AreSetups, inner, link_in, no_link, TiedLines, Tied, has_ended}
 use Rattle.session_laws.proofs.States.{Between, HasApplied}
 use Rattle.session_laws.proofs.Entered.{all_stand-append, shown_more}
 use Rattle.session_laws.proofs.Creds.{down_sourced}
 use Rattle.session_laws.proofs.Names.{get_some, name_of_some, open_within}
-use Rattle.session_laws.proofs.Owes.{in_time, not_empty, open_request, request_story, get_behind}
+use Rattle.session_laws.proofs.Owes.{in_time, not_empty, open_request, request_story, get_behind, is_asked, is_last_one, owed_asked}
 use Rattle.session_laws.proofs.Kept.{mine_noted, others_kept}
-use Rattle.session_laws.proofs.Answer.{after_end, unknown_ends}
+use Rattle.session_laws.proofs.Answer.{after_end}
+use Rattle.session_laws.proofs.Aside.{aside_ends, others_created, unfailed}
 use Rattle.session_laws.proofs.Settle.{seen, sound_act, trace_of_acts, Holds, book_of_more}
-use Rattle.session_laws.proofs.Close.{ended_applied, ended_waits, waiting_ends, waiting_leaves}
-use Rattle.session_laws.proofs.Announce.{turn_of, turned, IsNewsKind, first_book, heard_book, heard_is, heard_starts, heard_tied_by, may_turn, others_heard, uses_on, counted_on, sources_hear, timed_hear}
+use Rattle.session_laws.proofs.Close.{ended_applied, ended_waits, waiting_ends, waiting_leaves, ends_so}
+use Rattle.session_laws.proofs.Announce.{turn_of, turned, IsNewsKind, first_book, heard_book, heard_is, heard_starts, heard_tied_by, may_turn, others_heard, uses_hear, uses_on, timed_hear, asked_hear}
 use Rattle.session_laws.proofs.Heard.{heard_by, book_kind, book_news}
 use Rattle.session_laws.proofs.Said.{PushesOf, sources_asked}
 use Rattle.session_laws.proofs.Renewals.{renewal_ended}
@@ -50,6 +50,7 @@ pub record IsFailing (trace : List Action) (f : Core) (acts : List LinkAct) (con
   pub stands : AllStand blank_book trace
   pub fails : failure_in ((book trace).link f.single.link).end ≡ Some e
   pub unshown : (book trace).created ≡ 0
+  pub first : (m : ℕ) → m < f.single.link → failure_in ((book trace).link m).end ≡ None
   pub tied : Tied (entered (book trace) (action.Created (Some e))) (seen f acts (record conn { life = Ended e }) [] started)
 
 -- it may be shown
@@ -57,7 +58,7 @@ failing_may : (trace : List Action) (f : Core) (acts : List LinkAct) (conn : Mul
 failing_may trace f acts conn e started h = record {
   l = f.single.link;
   fails = h.fails;
-  in_order = λ m less. ap failure_in (h.tied.others m (λ same. omega arith)).end;
+  in_order = h.first;
   once = h.unshown;
   ended = over.0;
   answered = over.1;
@@ -83,8 +84,8 @@ failing_applied before f w e started began none_moved h =
 -- a link that is closed before it is set up
 --
 -- no message of a request has started, so none is owed anything
-pub unstarted_owed : (b now : Book) (c : Core) (started : List ℕ) → Tied b (inner c started) → started ≡ [] → ((n : ℕ) → now.story n ≡ b.story n) → (now.link c.single.link).end ≡ None → VerdictsAreShown now
-unstarted_owed b now c started h none same alive n asked on =
+pub unstarted_owed : (b now : Book) (c : Core) (started : List ℕ) → Tied b (inner c started) → started ≡ [] → ((n : ℕ) → now.story n ≡ b.story n) → (now.link c.single.link).asked ≡ true → (now.link c.single.link).end ≡ None → VerdictsAreShown now
+unstarted_owed b now c started h none same there alive n asked on =
     let t = inner c started in
     let r = open_request b t n h (ap is_open (sym (same n)) ∙ asked) in
     let p = r.number in
@@ -96,15 +97,15 @@ unstarted_owed b now c started h none same alive n asked on =
     let spoken : (now.story n).unspoken ≡ false = ap (λ (x : Story). x.unspoken) is ∙ q.spoken in
     let some : bytes_of (now.story n) ≢ [] = λ e. q.some (ap bytes_of (sym is) ∙ e) in
     let punctual : (now.story n).overdue ≡ false = ap (λ (x : Story). x.overdue) is ∙ in_time b t p h r.open_at (λ i. i) in
-    let untried : (now.story n).tries ≡ [] = ap (λ (x : Story). x.tries) is ∙ ap (λ m. (b.story m).tries) (name_of_some t.requests p g.0 g.1) ∙ h.tries.untried p g.0 g.1 (λ i. subst (IsIn p) none i) in
+    let untried : (now.story n).tries ≡ [] = ap (λ (x : Story). x.tries) is ∙ ap (λ m. (b.story m).tries) (name_of_some t.requests p g.0 g.1) ∙ h.tries.untried p g.0 g.1 (λ i. subst (IsIn p) none i) (sym (ap (λ m. (b.story m).link) (name_of_some t.requests p g.0 g.1)) ∙ q.on r.open_at) in
     left_if (now.story n).late _ _ early ∙ left_if (now.story n).unspoken _ _ spoken ∙ left_if (length (bytes_of (now.story n)) == 0) _ _ (not_empty (bytes_of (now.story n)) some) ∙ left_if (now.story n).overdue _ (owed_to_try now (now.story n) (last_of (now.story n).tries)) punctual
-    ∙ ap (λ ts. owed_to_try now (now.story n) (last_of ts)) untried ∙ ap (λ m. owed_unstarted (now.link m).end) (ap (λ (x : Story). x.link) is ∙ q.on) ∙ ap owed_unstarted alive
+    ∙ ap (λ ts. owed_to_try now (now.story n) (last_of ts)) untried ∙ ap (λ m. owed_waiting now.shut (now.link m)) (ap (λ (x : Story). x.link) is ∙ q.on r.open_at) ∙ owed_asked now.shut (now.link c.single.link) there ∙ ap owed_unstarted alive
 
 -- a link that isn't set up isn't ready, nor is any other
-pub unready_shown : (now : Book) (link : ℕ) (l : Ledger) → now.link link ≡ l → ((m : ℕ) → m ≢ link → IsUnknown (now.link m)) → is_set_up l ≡ false → ReadyIsShown now
+pub unready_shown : (now : Book) (link : ℕ) (l : Ledger) → now.link link ≡ l → ((m : ℕ) → m ≢ link → (now.link m).up ≡ false) → is_set_up l ≡ false → ReadyIsShown now
 unready_shown now link l own others unready m ready = by_test (m == link) _
     (λ same. absurd (not_both (is_set_up l) unready (ap is_set_up (sym own) ∙ both_right (now.link link).up (is_set_up (now.link link)) (subst (λ i. is_ready (now.link i) ≡ true) (eq_from m link same) ready))))
-    (λ other. absurd (not_both (now.link m).up (others m (ne_from m link other)).up (both_left (now.link m).up (is_set_up (now.link m)) ready)))
+    (λ other. absurd (not_both (now.link m).up (others m (ne_from m link other)) (both_left (now.link m).up (is_set_up (now.link m)) ready)))
 
 -- a link that isn't set up, and whose opening fails with this error
 pub record Fails (l : Ledger) (info : RedisConnectionInfo) (wants : Bool) (heard mine : Hearing) (x : RedisError) : Type 0 where
@@ -122,6 +123,7 @@ pub record IsUnready (created : ℕ) (life : Life) (started : List ℕ) : Type 0
   pub bare : link_in life ≡ no_link
   pub none : started ≡ []
   pub unshown : created ≡ 0
+  pub alive : has_ended life ≡ false
 
 -- it is closed, and its opening has failed
 pub setup_fails : (before : List Action) (c : Core) (started : List ℕ) (word : ℕ) (kind : EventKind) (n : News) (x : RedisError) → Between before c started → is_bad c kind ≡ false → IsNewsKind c.timers kind → news_of c.timers c.sources c.single.link kind ≡ n
@@ -139,16 +141,18 @@ setup_fails before c started word kind n x h good k is u fails =
     let line = ends (now.turns - 1) in
     let close = action.Close c.single.link in
     let own : now.link c.single.link ≡ l = ap (heard_by b c) (book_news b c started kind n h0 is) in
-    let others = others_heard b c started kind h0 good in
+    let others = others_heard b c started kind b.created h0 good (λ some. some) in
     let links : ℕ → Ledger = λ m. noted_each (now.link m) (if_mine (c.single.link == m) line) in
+    let keeps = asked_hear l0 c.turns n in
+    let asked : l.asked ≡ true = keeps.asked ∙ is_asked l0 b.created conn.life h0.life in
+    let why : lasting l.last (ending_or_shutdown (ending l)) ≡ by_opening x = ends_so l (by_opening x) (keeps.last ∙ is_last_one l0 b.created conn.life h0.life u.alive) fails.must in
     let closed : links c.single.link ≡ noted l line = mine_noted (now.link c.single.link) c.single.link line ∙ ap (λ (y : Ledger). noted y line) own in
     let t = seen f (act.Close ∷ []) (record conn { life = Ended x }) [] started in
-    let tied : Tied (entered (entered now close) (action.Created (Some x))) t = heard_tied_by b c started word (b.created + 1) kind conn.info (Ended x) conn.fresh [] [] links (noted l line) b.sources (c.sources ++ []) h0
-    (others_kept now c.single.link line others) closed (h0.numbers.sources ∙ sym (append-nil c.sources)) (uses_on c.sources c.single.link h0.numbers.uses)
-    (counted_on c.sources (noted l line).creds (h0.count ∙ sym (sources_hear l0 c.turns n)))
+    let tied : Tied (entered (entered now close) (action.Created (Some x))) t = heard_tied_by b c started word (b.created + 1) (b.failed || true) kind conn.info (Ended x) conn.fresh [] [] links (noted l line) b.sources (c.sources ++ []) h0 refl
+    (others_created c.single.link (b.created + 1) _ (λ some none. absurd (omega arith)) (others_kept now c.single.link line others)) closed (h0.numbers.sources ∙ sym (append-nil c.sources)) (uses_on c.sources c.single.link (uses_hear c.sources c.single.link l0 c.turns n h0.uses))
     (record {
       starts = heard_starts l0 c.turns n;
-      lived = (refl, ap (λ w. Some (outcome.Fault (unstarted_error (ending_or_shutdown w)))) fails.must, λ y shown z. absurd (omega arith));
+      lived = (refl, ap owed_by why, λ y shown z. absurd (omega arith), asked);
       creds = record { wanted_is = fails.wanted_is; sought = tt };
       renewal_is = renewal_ended l0 (noted l line) conn.renewal conn.life (timed_hear l0 c.turns n) (heard_starts l0 c.turns n) h0.renewal;
       said = record { info_is = fails.info_is; sent = fails.sent; said = tt };
@@ -161,7 +165,7 @@ setup_fails before c started word kind n x h good k is u fails =
         hearing_is = fails.notices.hearing_is;
         within = fails.notices.within;
         untold_is = fails.notices.untold_is;
-        parts = λ heard done cut. absurd (not_both (is_fault (by_opening x)) refl (sym (ap (λ w. is_fault (ending_or_shutdown w)) fails.must) ∙ cut));
+        parts = λ heard done cut. absurd (not_both (is_fault (by_opening x)) refl (sym (ap is_fault why) ∙ cut));
         alive = λ none. cc;
         due = fails.notices.due;
         tame = λ none r. cc;
@@ -175,20 +179,21 @@ setup_fails before c started word kind n x h good k is u fails =
     let may : MayClose now c.single.link = record {
       why = by_opening x;
       ends = ap ending own ∙ fails.must;
-      in_order = λ m less. unknown_ends (now.link m) (others m (λ same. omega arith));
-      answered = unstarted_owed b now c started h0 u.none (λ m. refl) (ap (λ (y : Ledger). y.end) own ∙ fails.alive);
-      created = unready_shown now c.single.link l own others fails.unready;
+      in_order = λ m less. aside_ends (now.link m) (others m (λ same. omega arith));
+      answered = unstarted_owed b now c started h0 u.none (λ m. refl) (ap (λ (y : Ledger). y.asked) own ∙ asked) (ap (λ (y : Ledger). y.end) own ∙ fails.alive);
+      created = unready_shown now c.single.link l own (λ m other. (others m other).down) fails.unready;
       sourced = λ m. by_test (m == c.single.link) _
           (λ same. subst (λ i. source_due (now.link i) ≡ false) (sym (eq_from m c.single.link same)) (ap source_due own ∙ fails.sourced))
-          (λ other. down_sourced (now.link m) (others m (ne_from m c.single.link other)).up);
+          (λ other. down_sourced (now.link m) (others m (ne_from m c.single.link other)).down);
       pushed = λ m heard. by_test (m == c.single.link) _
           (λ same. subst (λ i. next_notice (now.link i) ≡ None) (sym (eq_from m c.single.link same)) (ap next_notice own ∙ get_behind l.told l.notices (fails.notices.untold_is (ap hears_something (sym fails.notices.heard_is) ∙ heard))))
-          (λ other. ap (λ (hs : List Heard). slice_get hs (now.link m).told) (others m (ne_from m c.single.link other)).notices);
+          (λ other. (others m (ne_from m c.single.link other)).told (ap hears_something (sym fails.notices.heard_is) ∙ heard));
     } in
     record {
       stands = subst (AllStand blank_book) (sym shown) (all_stand-append (trace_of_acts front f []) (close ∷ []) all (subst (λ (y : Book). MayClose y c.single.link) (sym first) may, tt));
-      fails = ap (λ (y : Book). failure_in (y.link c.single.link).end) book_is ∙ ap (λ (y : Ledger). failure_in y.end) closed ∙ ap (λ w. failure_of (ending_or_shutdown w)) fails.must;
+      fails = ap (λ (y : Book). failure_in (y.link c.single.link).end) book_is ∙ ap (λ (y : Ledger). failure_in y.end) closed ∙ ap failure_of why;
       unshown = ap (λ (y : Book). y.created) book_is ∙ u.unshown;
+      first = λ m less. ap (λ (y : Book). failure_in (y.link m).end) book_is ∙ unfailed (links m) (others_kept now c.single.link line others m (λ same. omega arith)) u.unshown;
       tied = subst (λ (y : Book). Tied (entered y (action.Created (Some x))) t) (sym book_is) tied;
     }
 

@@ -83,7 +83,7 @@ request_longer s requests more link p longer l h = record {
   handed_in = h.handed_in;
   in_time = h.in_time;
   spoken = h.spoken;
-  on = h.on;
+  on = λ o. h.on (sym (there_longer is_open_progress requests more p longer l) ∙ o);
   some = h.some;
   open_is = h.open_is ∙ sym (there_longer is_open_progress requests more p longer l);
   permits_is = h.permits_is ∙ sym (permits_at_longer requests more p longer l);
@@ -139,11 +139,12 @@ tries_longer table l story after requests more link started names same longer fe
   greeted = h.greeted;
   shapes = λ k p s inside i j. let was = at k p (numbered p inside) i in h.shapes k p s was i j ∙ ap shape (sym (story_at table story after requests more p names same longer was));
   tried = λ k p inside i. let was = at k p (numbered p inside) i in ap (λ (s : Story). s.tries) (story_at table story after requests more p names same longer was) ∙ h.tried k p was i;
-  untried = λ p r i out. before_or_new requests more p ((after r.name).tries ≡ [])
+  untried = λ p r i out on. before_or_new requests more p ((after r.name).tries ≡ [])
       (λ old.
       let was : slice_get requests p ≡ Some r = sym (longer.same p old) ∙ i in
       let in_table = get_within table r.name (Some (record { number = p })) (names.named p r was) in
-      ap (λ (s : Story). s.tries) (same r.name (λ e. absurd (omega arith))) ∙ h.untried p r was out)
+      let still = same r.name (λ e. absurd (omega arith)) in
+      ap (λ (s : Story). s.tries) still ∙ h.untried p r was out (sym (ap (λ (s : Story). s.link) still) ∙ on))
       (λ past. new p r i past);
 }
   where
@@ -209,15 +210,17 @@ link_longer l requests more (Ready link) longer all h = named_tied (owner_of req
 link_longer l requests more (Ended e) longer all h = named_tied (owner_of requests) (owner_of more) l no_link tt h
 
 -- who was told and has not started is in the queue still
-pub told_longer : (table : List (Option Pending)) (story after : ℕ → Story) (requests more : List Request) (link : LinkState) → SameBefore story after (length table) → IsLonger requests more → (IsUntried (after (length table)) → ⊥) → AreQueued story requests link
-    → AreQueued after more link
-told_longer table story after requests more link same longer new h n is none =
-    by_test (n == length table) _
-    (λ t. absurd (new (subst (λ m. IsUntried (after m)) (eq_from n (length table) t) (is, none))))
-    (λ f.
-    let e = same n (ne_from n (length table) f) in
-    let k = h n (ap is_told (sym e) ∙ is) (ap (λ (s : Story). s.tries) (sym e) ∙ none) in
-    (k.0, (let l = k.1 in let m = longer.long in omega arith), name_longer requests more k.0 longer k.1 ∙ k.2, k.3))
+pub told_longer : (table : List (Option Pending)) (story after : ℕ → Story) (requests more : List Request) (number : ℕ) (link : LinkState) → TiedNames table requests → SameBefore story after (length table) → IsLonger requests more → (IsUntried (after (length table)) → ⊥)
+    → ((p : ℕ) → IsIn p (queue_ids link.queue) → p < length requests) → AreQueued story requests number link → AreQueued after more number link
+told_longer table story after requests more number link names same longer new within h = record {
+  told = λ n is none on. by_test (n == length table) _
+      (λ t. absurd (new (subst (λ m. IsUntried (after m)) (eq_from n (length table) t) (is, none))))
+      (λ f.
+      let e = same n (ne_from n (length table) f) in
+      let k = h.told n (ap is_told (sym e) ∙ is) (ap (λ (s : Story). s.tries) (sym e) ∙ none) (ap (λ (s : Story). s.link) (sym e) ∙ on) in
+      (k.0, (let l = k.1 in let m = longer.long in omega arith), name_longer requests more k.0 longer k.1 ∙ k.2, k.3));
+  here = λ p i. ap (λ (s : Story). s.link) (story_at table story after requests more p names same longer (within p i)) ∙ h.here p i;
+}
 
 -- the waits
 --

@@ -1,7 +1,7 @@
 -- A session whose event has had its own effect, while requests are moved.
 use Rattle.std.proofs.Common.{◌+◌, ◌≤◌, List, None, Option, Some, [], ap, arith, false, inl, inr, length, refl, subst, sym, true, ℕ, ◌++◌, ◌<◌, ◌∙◌, ◌∷◌, ◌≡◌, ◌⊎◌}
-use Rattle.std.specs.Prelude.{if◌then◌else◌, is_some, ◌==◌}
-use Rattle.containers.proofs.Choices.{by_test, chosen, eq_from, left_if, ne_from, not_both}
+use Rattle.std.specs.Prelude.{if◌then◌else◌, is_some, ◌==◌, Bool, not, ◌&&◌}
+use Rattle.containers.proofs.Choices.{by_test, chosen, eq_from, left_if, ne_from, not_both, ne_test}
 use Rattle.redis_error.specs.declared.redis_error.RedisError.{RedisError}
 use Rattle.credentials.specs.Credentials.{Credentials}
 use Rattle.driver_model.specs.declared.action.Action.{Action}
@@ -15,10 +15,10 @@ use Rattle.mux_conn.specs.declared.renewal.Renewal.{Renewal}
 use Rattle.mux_conn.specs.declared.life.Greeting.{Greeting}
 use Rattle.mux_conn.specs.declared.life.Life.{Life}
 use Rattle.mux_conn.specs.declared.life.Life.TheVariants.{Dialing, Ended, Ready, SettingUp, Wanting}
-use Rattle.legal_trace.specs.Book.{Book, blank_book, book, entered, if_mine}
+use Rattle.legal_trace.specs.Book.{Book, blank_book, book, entered, if_mine, has_generations}
 use Rattle.legal_trace.specs.Ledger.{Ledger, Line, dials, ending, is_set_up, lacks_credentials, noted, noted_each, renewal_count, renewal_due, renewals_asked, setup_count, setup_due, setup_steps, monitor_due, is_greeted, setup_result}
-use Rattle.legal_trace.specs.Legal.{AllStand, CanMove, IsApplied, IsBegun, IsFirstToMove, IsMoved, MayStand, NoneEnds, RenewalsAreStarted, RenewalsAreTimed, SetupsAreStarted, MonitorsAreStarted}
-use Rattle.legal_trace.specs.Steps.{Step, is_due, is_held_back, next_step, nothing, starts_or_waits, step_ready, unready_wait, waits}
+use Rattle.legal_trace.specs.Legal.{AllStand, CanMove, IsApplied, IsBegun, IsFirstToMove, IsMoved, MayStand, NoneEnds, RenewalsAreStarted, RenewalsAreTimed, SetupsAreStarted, MonitorsAreStarted, IsShown, begins_first, current_link, is_attempt, is_caused}
+use Rattle.legal_trace.specs.Steps.{Step, is_due, is_held_back, next_step, starts_or_waits, step_down, step_ready, unready_wait, waits}
 use Rattle.session_laws.proofs.Ahead.{HasSeats, IsRunning, creds_step, full_step, held_by, permit_step, queue_step, ready_alive, running_of, setup_step}
 use Rattle.session_laws.proofs.Behind.{alive_behind}
 use Rattle.session_laws.proofs.Creds.{lacking_undue, wanting_lacks, lacking_undecided}
@@ -55,15 +55,25 @@ going_more trace a t stands may tied none renewed = record {
   renewed = renewed;
 }
 
+-- what is shown is all that the event does, since no generation follows, and the link was asked for
+shown_applied : (b : Book) (t : Inner) → Tied b t → IsShown b → IsApplied b
+shown_applied b t h shown = record {
+  shown = shown;
+  rested = ap (λ g. g && is_attempt (current_link b).end) h.numbers.plain;
+  generated = ap (λ g. g && (not b.failed && (not b.shut && (if b.generation == 0 then begins_first b else is_caused b)))) h.numbers.plain;
+  linked = left_if (has_generations b) _ (b.links == 0) h.numbers.plain ∙ ne_test b.links 0 (λ none. let links = h.numbers.links in let one = h.numbers.one in omega arith);
+  timed = h.numbers.timed;
+}
+
 -- the event has had its effect, while nothing is to be answered and the link has not ended
 pub applied_up : (b : Book) (t : Inner) → Tied b t → t.pending ≡ [] → IsToldIn t → has_ended t.life ≡ false → NoneEnds b → IsApplied b
-applied_up b t h none told up ended = record { answered = none_owed b t h none up; ended = ended; created = created_is b t h; pushed = notices_told b t h told.0; parted = ends_told b t h told.1; sourced = sources_asked b t h; timed = h.numbers.timed }
+applied_up b t h none told up ended = shown_applied b t h (record { answered = none_owed b t h none up; ended = ended; created = created_is b t h; pushed = notices_told b t h told.0; parted = ends_told b t h told.1; sourced = sources_asked b t h })
 
 -- each setup has started that is to start, but where its link is held back, where it is so of the link of the session
 pub setups_started : (b : Book) (t : Inner) → Tied b t → ((link : LinkState) (greeting : Greeting) → t.life ≡ SettingUp link greeting → (setup_due (b.link t.link) ≡ None) ⊎ (is_held_back b (b.link t.link) ≡ true)) → SetupsAreStarted b
 setups_started b t h mine m k due = by_test (m == t.link) _
     (λ same. subst (λ n. is_held_back b (b.link n) ≡ true) (sym (eq_from m t.link same)) (by_life t.life refl (subst (λ n. setup_due (b.link n) ≡ Some k) (eq_from m t.link same) due)))
-    (λ other. absurd (undue (b.link m) (down_undue (b.link m) (h.others m (ne_from m t.link other)).up) due))
+    (λ other. absurd (undue (b.link m) (down_undue (b.link m) (h.others m (ne_from m t.link other)).down) due))
   where
     undue : (l : Ledger) → setup_due l ≡ None → setup_due l ≡ Some k → ⊥
     undue l none some = let no : ◌≡◌ {A = Option ℕ} None (Some k) = sym none ∙ some in cc
@@ -85,7 +95,7 @@ setups_started b t h mine m k due = by_test (m == t.link) _
 pub monitors_started : (b : Book) (t : Inner) → Tied b t → ((link : LinkState) → t.life ≡ SettingUp link greet.Monitor → (monitor_due (b.link t.link) ≡ true → ⊥) ⊎ (is_held_back b (b.link t.link) ≡ true)) → MonitorsAreStarted b
 monitors_started b t h mine m due = by_test (m == t.link) _
     (λ same. subst (λ n. is_held_back b (b.link n) ≡ true) (sym (eq_from m t.link same)) (by_life t.life refl (subst (λ n. monitor_due (b.link n) ≡ true) (eq_from m t.link same) due)))
-    (λ other. absurd (not_both (b.link m).up (h.others m (ne_from m t.link other)).up (watch_is_up (b.link m) due)))
+    (λ other. absurd (not_both (b.link m).up (h.others m (ne_from m t.link other)).down (watch_is_up (b.link m) due)))
   where
     ungreeted : (l : Ledger) → IsUndecided (setup_result l) → monitor_due l ≡ true → ⊥
     ungreeted l open_is d = not_both (is_greeted l) open_is.unwell (watch_is_greeted l d)
@@ -115,11 +125,7 @@ undue_asked l none =
 pub renewals_timed : (b : Book) (t : Inner) → Tied b t → ((link : LinkState) → t.life ≡ Ready link → is_renewal_due t.renewal ≡ true → t.renewal.pending ≡ true) → RenewalsAreTimed b
 renewals_timed b t h asked m some = by_test (m == t.link) _
     (λ same. subst (λ n. renewals_asked (b.link n) ≤ (b.link n).creds.timed) (sym (eq_from m t.link same)) (by_life t.life refl))
-    (λ other.
-    let u = h.others m (ne_from m t.link other) in
-    let k = undue_asked (b.link m) (down_renewed_due (b.link m) u.up) in
-    let none : renewal_count (b.link m).starts ≡ 0 = ap renewal_count u.starts in
-    omega arith)
+    (λ other. (h.others m (ne_from m t.link other)).timed (λ none. some (h.numbers.within ∙ none)))
   where
     l : Ledger
     l = b.link t.link
@@ -154,7 +160,7 @@ renewals_timed b t h asked m some = by_test (m == t.link) _
 renewals_started : (b : Book) (t : Inner) → Tied b t → ((link : LinkState) → t.life ≡ Ready link → link.boundary ≡ t.bound) → HasRenewed t.renewal t.life → RenewalsAreStarted b
 renewals_started b t h bound renewed m c due = by_test (m == t.link) _
     (λ same. subst (λ n. is_held_back b (b.link n) ≡ true) (sym (eq_from m t.link same)) (by_life t.life refl (subst (λ n. renewal_due (b.link n) ≡ Some c) (eq_from m t.link same) due)))
-    (λ other. absurd (no_due (b.link m) (down_renewed_due (b.link m) (h.others m (ne_from m t.link other)).up) due))
+    (λ other. absurd (no_due (b.link m) (down_renewed_due (b.link m) (h.others m (ne_from m t.link other)).down) due))
   where
     no_due : (l : Ledger) → renewal_due l ≡ None → renewal_due l ≡ Some c → ⊥
     no_due l none some = let no : ◌≡◌ {A = Option Credentials} None (Some c) = sym none ∙ some in cc
@@ -183,15 +189,14 @@ begun_up b t h r told ended renewed = record {
 
 -- or none waits
 pub applied_over : (b : Book) (t : Inner) (e : RedisError) → Tied b t → t.pending ≡ [] → IsToldIn t → t.life ≡ Ended e → kept_ids t.admitted t.waiting ≡ [] → NoneEnds b → IsApplied b
-applied_over b t e h none told over empty ended = record {
+applied_over b t e h none told over empty ended = shown_applied b t h (record {
   answered = λ n o. absurd (none_open b t e n h none over empty o);
   ended = ended;
   created = created_is b t h;
   pushed = notices_told b t h told.0;
   parted = ends_told b t h told.1;
   sourced = sources_asked b t h;
-  timed = h.numbers.timed;
-}
+})
 
 -- a line of one link that ends none
 pub none_ends_kept : (b : Book) (n : ℕ) (line : Line) → ((l : Ledger) → ending l ≡ None → ending (noted l line) ≡ None) → NoneEnds b → (m : ℕ) → ending (noted_each (b.link m) (if_mine (n == m) line)) ≡ None
@@ -210,9 +215,31 @@ later_in t n l =
     let kept = kept_ids t.admitted t.waiting in
     elim l.later [ inl i ↦ in_left l.p queue kept i | inr w ↦ in_right l.p queue kept (kept_in t.requests t.waiting t.admitted l.p w) ]
 
+-- one whose link isn't up makes no step
+down_stays : (b : Book) (n : ℕ) → (b.link (b.story n).link).up ≡ false → is_due (next_step b n) ≡ false
+down_stays b n down =
+    let s = b.story n in
+    let l = b.link s.link in
+    let step : Step = if is_set_up l then step_ready b n s else waits (unready_wait l) in
+    chosen (λ (x : Step). is_due x ≡ false) (dials l) (waits wait.Connect) (if l.up then step else step_down l.asked) (λ t. refl) (λ f. ap is_due (left_if l.up step (step_down l.asked) down) ∙ none_due_down l.asked)
+  where
+    none_due_down : (asked : Bool) → is_due (step_down asked) ≡ false
+    none_due_down true = refl
+    none_due_down false = refl
+
+-- so the link of one that makes a step is up
+moves_up : (b : Book) (n : ℕ) → CanMove b n → (b.link (b.story n).link).up ≡ true
+moves_up b n m = by_test (b.link (b.story n).link).up _ (λ up. up) (λ down. absurd (not_both (is_due (next_step b n)) (down_stays b n down) m.due))
+
+-- and is the connection's
+moves_here : (b : Book) (t : Inner) (n : ℕ) → Tied b t → CanMove b n → (b.story n).link ≡ t.link
+moves_here b t n h m =
+    let l = (b.story n).link in
+    by_test (l == t.link) _ (λ same. eq_from l t.link same) (λ other. absurd (not_both (b.link l).up (h.others l (ne_from l t.link other)).down (moves_up b n m)))
+
 -- one that makes a step is still to start
 pub moves_later : (b : Book) (t : Inner) (n : ℕ) → Tied b t → IsRunning t → CanMove b n → IsLater t n
-moves_later b t n h r m = later_of b t n h r.settled (ready_alive t.life r.up) m.unstarted
+moves_later b t n h r m = later_of b t n h r.settled (ready_alive t.life r.up) (moves_here b t n h m) m.unstarted
 
 -- the first of the queue is the first that makes a step
 pub first_in_queue : (b : Book) (t : Inner) (q : ℕ) (rest : List ℕ) → Tied b t → IsRunning t → queue_ids (link_in t.life).queue ≡ q ∷ rest → IsFirstToMove b (name_at t.requests q)
@@ -252,19 +279,9 @@ first_behind b t q rest h r still first n before m =
 
 -- every step that may be made was made
 --
--- a link that isn't up moves none
-down_stays : (b : Book) (n : ℕ) → (b.link (b.story n).link).up ≡ false → is_due (next_step b n) ≡ false
-down_stays b n down =
-    let s = b.story n in
-    let l = b.link s.link in
-    let step : Step = if is_set_up l then step_ready b n s else waits (unready_wait l) in
-    chosen (λ (x : Step). is_due x ≡ false) (dials l) (waits wait.Connect) (if l.up then step else nothing) (λ t. refl) (λ f. ap is_due (left_if l.up step nothing down))
-
--- as each submission that is still to start is for it
+-- nothing of a link that isn't up does
 down_moves_none : (b : Book) (t : Inner) → Tied b t → (b.link t.link).up ≡ false → (n : ℕ) → CanMove b n → ⊥
-down_moves_none b t h down n m =
-    let a = alive_behind b t n h (unstarted_alive (b.story n) m.unstarted) in
-    not_both (is_due (next_step b n)) (down_stays b n (ap (λ l. (b.link l).up) a.is.on ∙ down)) m.due
+down_moves_none b t h down n m = not_both (b.link t.link).up down (subst (λ l. (b.link l).up ≡ true) (moves_here b t n h m) (moves_up b n m))
 
 -- a link whose connect isn't answered isn't up
 dialing_down : (l : Ledger) (created : ℕ) (life : Life) → life ≡ Dialing → TiedLife l created life → l.up ≡ false
@@ -278,13 +295,13 @@ dialing_down l created (Ended x) e h = cc
 wanting_moves_none : (b : Book) (t : Inner) (link : LinkState) → Tied b t → t.life ≡ Wanting link → (n : ℕ) → CanMove b n → ⊥
 wanting_moves_none b t link h e n m =
     let a = alive_behind b t n h (unstarted_alive (b.story n) m.unstarted) in
-    not_both (is_due (next_step b n)) (ap (λ k. is_due (next_step b k)) (sym a.name) ∙ ap is_due (creds_step b t a.p link h e a.within)) m.due
+    not_both (is_due (next_step b n)) (ap (λ k. is_due (next_step b k)) (sym a.name) ∙ ap is_due (creds_step b t a.p link h e (ap (λ k. (b.story k).link) a.name ∙ moves_here b t n h m))) m.due
 
 -- nor does one on a link that isn't set up
 setting_moves_none : (b : Book) (t : Inner) (link : LinkState) (greeting : Greeting) → Tied b t → t.life ≡ SettingUp link greeting → (n : ℕ) → CanMove b n → ⊥
 setting_moves_none b t link greeting h e n m =
     let a = alive_behind b t n h (unstarted_alive (b.story n) m.unstarted) in
-    not_both (is_due (next_step b n)) (ap (λ k. is_due (next_step b k)) (sym a.name) ∙ ap is_due (setup_step b t a.p link greeting h e a.within)) m.due
+    not_both (is_due (next_step b n)) (ap (λ k. is_due (next_step b k)) (sym a.name) ∙ ap is_due (setup_step b t a.p link greeting h e (ap (λ k. (b.story k).link) a.name ∙ moves_here b t n h m))) m.due
 
 -- what gives no number is nothing
 pub none_given : (o : Option ℕ) → ((k : ℕ) → o ≡ Some k → ⊥) → o ≡ None

@@ -25,7 +25,8 @@ use Rattle.session_laws.proofs.Said.{mild_end, setup_on, setup_unheard, BringsNo
 use Rattle.session_laws.proofs.Creds.{creds_hear, down_unawaited, unawaited_is, down_may_renew, IsOfRenewals}
 use Rattle.session_laws.proofs.Tied.{Inner, inner, link_in, carried, whole_link, TiedCreds, TiedLife, TiedSetup, TiedLines, AreQueued, TiedWaits, Tied, has_ended, TiedRenewal, NoneRenewed}
 use Rattle.session_laws.proofs.States.{IsFit, IsFitIn, Between, HasApplied}
-use Rattle.session_laws.proofs.Answer.{unknown_ends, not_up_ends, over_not_asked, some_end}
+use Rattle.session_laws.proofs.Answer.{some_end}
+use Rattle.session_laws.proofs.Aside.{aside_ends, not_up_ends, over_not_asked}
 use Rattle.session_laws.proofs.Settle.{seen, trace_of_acts, Holds}
 use Rattle.session_laws.proofs.Announce.{ComesTo, comes_as, turn_of, turned, IsNewsKind, heard_book, heard_is, heard_starts, heard_tied, announced_sound, holds_first, first_book}
 use Rattle.session_laws.proofs.Renewals.{renewal_alike}
@@ -45,7 +46,7 @@ lives_as c life = record c.single.connection { life = life }
 pub none_ends : (b : Book) (t : Inner) → Tied b t → ending (b.link t.link) ≡ None → NoneEnds b
 none_ends b t h e m = by_test (m == t.link) _
     (λ same. subst (λ n. ending (b.link n) ≡ None) (sym (eq_from m t.link same)) e)
-    (λ other. unknown_ends (b.link m) (h.others m (ne_from m t.link other)))
+    (λ other. aside_ends (b.link m) (h.others m (ne_from m t.link other)))
 
 -- the turn is announced, the link lives so, the stories are these, and these are to be answered
 pub record Begins (before : List Action) (f : Core) (conn : MultiplexedConnection) (l : Ledger) (story : ℕ → Story) (pending started : List ℕ) : Type 0 where
@@ -61,7 +62,7 @@ pub record Leads (b : Book) (c : Core) (n : News) (life : Life) (pending started
   pub said : TiedSetup (heard_by b c n) c.single.connection.info started life
   pub linked : has_ended life ≡ false → TiedLink (carried life c.single.connection.requests) (heard_by b c n) (whole_link life)
   pub lines : TiedLines b.story c.single.connection.requests (link_in life) c.single.connection.waiting c.single.connection.admitted pending started
-  pub told : has_ended life ≡ false → AreQueued b.story c.single.connection.requests (link_in life)
+  pub told : has_ended life ≡ false → AreQueued b.story c.single.connection.requests c.single.link (link_in life)
   pub waits : TiedWaits b.story c.single.connection.requests life c.single.connection.fresh c.single.connection.moved
   pub notices : PushesOf (hearing_in b.config) c.single.connection.hears (heard_by b c n)
 
@@ -82,7 +83,7 @@ fresh_begins before c started word kind n info life fresh pending h good k is g 
     let l = heard_by b c n in
     let t = seen (turned c kind) [] (comes_as c info life fresh) pending started in
     let same : noted (b.link c.single.link) (hears c.turns (news_of b.timers b.sources c.single.link kind)) ≡ l = ap (λ (x : News). heard_by b c x) (book_news b c started kind n h.sound.tied is) in
-    let tied : Tied (heard_book b c.turns word kind) t = heard_tied b c started word b.created kind info life fresh pending [] l h.sound.tied good same g in
+    let tied : Tied (heard_book b c.turns word kind) t = heard_tied b c started word b.created b.failed kind info life fresh pending [] l h.sound.tied good (λ some. some) same g in
     let book_is : entered b (turn_of c word kind) ≡ heard_book b c.turns word kind = heard_is b c.turns word kind (book_kind b c kind h.sound.tied.numbers.timers k) in
     record {
       holds = holds_first (before ++ turn_of c word kind ∷ []) (turned c kind) (comes_as c info life fresh) pending started (announced_sound before c started word kind t h good (subst (λ (x : Book). Tied x t) (sym book_is) tied));
@@ -128,7 +129,7 @@ quiet_applied before c started word kind n life h good k is g no_end fit =
 
 -- between two turns no link must end
 pub still_none : (before : List Action) (c : Core) (started : List ℕ) → Between before c started → NoneEnds (book before)
-still_none before c started h = h.settled.written.moved.begun.applied.ended
+still_none before c started h = h.settled.written.moved.begun.applied.shown.ended
 
 -- no value came that ends the link
 pub tame_between : (before : List Action) (c : Core) (started : List ℕ) → Between before c started → IsTame ((book before).link c.single.link)

@@ -50,9 +50,9 @@ use Rattle.session_laws.proofs.Kept.{one_changed, packed_same, queued_same, tied
 use Rattle.session_laws.proofs.Closing.{one_of, told_closed}
 use Rattle.session_laws.proofs.Answer.{answer_apart, may_answer, owed_untold, none_before}
 use Rattle.session_laws.proofs.Settle.{book_of_more, holds_more, seen, trace_of_acts}
-use Rattle.session_laws.proofs.Announce.{announced_sound, first_book, holds_first, turn_of, turned, counted_on, time_still}
+use Rattle.session_laws.proofs.Announce.{announced_sound, first_book, holds_first, turn_of, turned, uses_on, time_still}
 use Rattle.session_laws.proofs.Heard.{silent_applied, still_none, tame_between}
-use Rattle.session_laws.proofs.Cancel.{IsSilent, left_creds, left_fit, left_life, left_link, left_others, left_setup, none_more, queued_apart, silenced_wanted, silent_core, silent_ends, silent_numbers, silent_others, still_dials, still_tied, was_ready, was_setting, was_wanting, without_awaited, without_others, without_rises, apart_behind, rising_behind, left_renewal}
+use Rattle.session_laws.proofs.Cancel.{IsSilent, left_creds, left_fit, left_life, left_link, left_others, left_setup, none_more, queued_apart, silenced_wanted, silent_core, silent_ends, silent_numbers, silent_others, still_dials, still_tied, was_ready, was_setting, was_wanting, without_awaited, without_in, without_others, without_rises, apart_behind, rising_behind, left_renewal}
 use Rattle.driver_model.specs.declared.kind.SessionKind.{SessionKind}
 use Rattle.driver_model.specs.declared.kind.SessionKind.TheVariants as session
 use Rattle.driver_model.specs.Kind.{has_timeouts}
@@ -192,27 +192,34 @@ late_lines_in m story requests (Ended e) waiting admitted p started apart h =
     record { line = k.line; queued = k.queued; entries = k.entries; packs = k.packs; packed_in = k.packed_in; there = k.there }
 
 -- who was told is in the queue still
-late_told : (story : ℕ → Story) (requests : List Request) (life : Life) (p : ℕ) → is_open (story (name_at requests p)) ≡ true → (has_ended life ≡ false → AreQueued story requests (link_in life)) → has_ended (cancelled_in life p) ≡ false
-    → AreQueued (fires_at (name_at requests p) story) requests (link_in (cancelled_in life p))
-late_told story requests life p o h up n is none = by_life life h up
+late_told : (story : ℕ → Story) (requests : List Request) (number : ℕ) (life : Life) (p : ℕ) → is_open (story (name_at requests p)) ≡ true → (has_ended life ≡ false → AreQueued story requests number (link_in life)) → has_ended (cancelled_in life p) ≡ false
+    → AreQueued (fires_at (name_at requests p) story) requests number (link_in (cancelled_in life p))
+late_told story requests number life p o h up = by_life life h up
   where
     m : ℕ
     m = name_at requests p
 
-    was : is_told (story n) ≡ true
-    was = sym (fired_told m story n) ∙ is
+    same : (n : ℕ) → (fires_at m story n).link ≡ (story n).link
+    same n = (fired_at m story n).holds.link
 
-    untried : (story n).tries ≡ []
-    untried = (fired_at m story n).tries ∙ none
+    other : (n q : ℕ) → is_told (story n) ≡ true → name_at requests q ≡ n → p ≢ q
+    other n q was named apart = not_both (is_told (story n)) (subst (λ k. is_told (story k) ≡ false) (ap (name_at requests) apart ∙ named) (open_untold (story m) o)) was
 
-    other : (q : ℕ) → name_at requests q ≡ n → p ≢ q
-    other q named same = not_both (is_told (story n)) (subst (λ k. is_told (story k) ≡ false) (ap (name_at requests) same ∙ named) (open_untold (story m) o)) was
+    kept : (link after : LinkState) → ((n q : ℕ) → is_told (story n) ≡ true → name_at requests q ≡ n → IsIn q (queue_ids link.queue) → IsIn q (queue_ids after.queue)) → ((q : ℕ) → IsIn q (queue_ids after.queue) → IsIn q (queue_ids link.queue)) → AreQueued story requests number link
+        → AreQueued (fires_at m story) requests number after
+    kept link after stays was_in g = record {
+      told = λ n is none on.
+          let was = sym (fired_told m story n) ∙ is in
+          let k = g.told n was ((fired_at m story n).tries ∙ none) (sym (same n) ∙ on) in
+          (k.0, k.1, k.2, stays n k.0 was k.2 k.3);
+      here = λ q i. same (name_at requests q) ∙ g.here q (was_in q i);
+    }
 
-    by_life : (x : Life) → (has_ended x ≡ false → AreQueued story requests (link_in x)) → has_ended (cancelled_in x p) ≡ false → (q : ℕ) × (q < length requests) × (name_at requests q ≡ n) × IsIn q (queue_ids (link_in (cancelled_in x p)).queue)
-    by_life (Ready link) g f = let k = g refl n was untried in (k.0, k.1, k.2, without_others link.queue p k.0 (other k.0 k.2) k.3)
-    by_life Dialing g f = g refl n was untried
-    by_life (Wanting link) g f = g refl n was untried
-    by_life (SettingUp link greeting) g f = g refl n was untried
+    by_life : (x : Life) → (has_ended x ≡ false → AreQueued story requests number (link_in x)) → has_ended (cancelled_in x p) ≡ false → AreQueued (fires_at m story) requests number (link_in (cancelled_in x p))
+    by_life (Ready link) g f = kept link (cancelled link p) (λ n q was named i. without_others link.queue p q (other n q was named) i) (λ q i. without_in link.queue p q i) (g refl)
+    by_life Dialing g f = kept no_link no_link (λ n q was named i. i) (λ q i. i) (g refl)
+    by_life (Wanting link) g f = kept no_link no_link (λ n q was named i. i) (λ q i. i) (g refl)
+    by_life (SettingUp link greeting) g f = kept no_link no_link (λ n q was named i. i) (λ q i. i) (g refl)
     by_life (Ended e) g f = cc
 
 -- the waits that were shown
@@ -289,16 +296,16 @@ late_tied b c started word n p h tame is o =
       notices = renoticed tame h.notices;
       life = left_life ledger b.created conn.life p h.life;
       creds = left_creds ledger.creds conn.renewal.wanted conn.life p h.creds;
-      count = counted_on c.sources ledger.creds h.count;
+      uses = uses_on c.sources c.single.link h.uses;
       renewal = left_renewal (record ledger { heard = silence }) conn.renewal conn.life p (renewal_alike ledger (record ledger { heard = silence }) conn.renewal conn.life refl refl refl h.renewal);
       setup = left_setup ledger conn.info started conn.life p h.setup;
       link = λ alive. left_link conn.requests ledger conn.life p h.link alive;
       names = h.names;
       story = one_changed b (inner c started) p fires h l (fires_request (b.story m) conn.requests c.single.link p);
-      tries = tries_same (record ledger { heard = silence }) b.story after conn.requests c.single.link started (λ k. (fired_at m b.story k).submission) (λ k. (fired_at m b.story k).tries)
+      tries = tries_same (record ledger { heard = silence }) b.story after conn.requests c.single.link started (λ k. (fired_at m b.story k).submission) (λ k. (fired_at m b.story k).tries) (λ k. sym (fired_at m b.story k).holds.link)
           (record { owners = h.tries.owners; greeted = h.tries.greeted; shapes = h.tries.shapes; tried = h.tries.tried; untried = h.tries.untried });
       lines = late_lines_in m b.story conn.requests conn.life conn.waiting conn.admitted p started (request_not b (inner c started) p h l) h.lines;
-      told = late_told b.story conn.requests conn.life p asked h.told;
+      told = late_told b.story conn.requests c.single.link conn.life p asked h.told;
       waits = late_waits b.story conn.requests m conn.life p kept conn.fresh conn.moved line h.waits;
       permits = subst (λ k. TiedPermits after k conn.requests c.single.link conn.limit conn.free []) (none_more b.submissions) (permits_same b.story after b.submissions conn.requests c.single.link conn.limit conn.free [] (λ k. (fired_at m b.story k).holds) h.permits);
       late = λ k open_k late_k. by_test (p == k) _
@@ -353,7 +360,7 @@ others_unowed b t p q h is up less o =
     let link = link_in t.life in
     let i = open_in_line b.story t.requests link t.waiting t.admitted t.pending t.started q h.lines o in
     let j = elim (in_either q t.pending (line_of link t.admitted t.waiting) i) as (λ _. IsIn q (line_of link t.admitted t.waiting)) [ inl k ↦ absurd (apart k) | inr k ↦ k ] in
-    line_unowed b t q h up (open_within t.requests q o) (in_time b t q h o apart) j
+    line_unowed b t q h up o (in_time b t q h o apart) j
 
 -- an open request, between two turns, has a link that has not ended
 open_alive : (before : List Action) (c : Core) (started : List ℕ) (p : ℕ) → Between before c started → is_open_at c.single.connection.requests p ≡ true → has_ended c.single.connection.life ≡ false
@@ -413,8 +420,8 @@ late_answered before c started word n p h good is o =
     let lived = lives (b.link f.single.link) b.created (cancelled_in conn.life p) holds.tied.life up in
     let may = may_answer b t p over holds.tied o owes (λ q less asked_q. others_unowed b t p q holds.tied refl up less asked_q) (none_before b t m holds.tied refl) (λ ended. absurd (not_both (is_over (b.link f.single.link)) (ap is_some lived) ended)) in
     let link = link_in (cancelled_in conn.life p) in
-    let told = λ (x : has_ended (cancelled_in conn.life p) ≡ false). told_closed b.story conn.requests p (λ k. answered (b.story k) over) link link (λ u. absurd (owed_untold b m over asked owes u)) (λ q told_q i. i) (holds.tied.told x) in
-    let answer = answer_apart b (seen f [] (late_conn c p) [] started) p [] over l apart told holds.tied in
+    let told = λ (x : has_ended (cancelled_in conn.life p) ≡ false). told_closed b.story conn.requests c.single.link p (λ k. answered (b.story k) over) link link (λ u. absurd (owed_untold b m over asked owes u)) (λ k. refl) (λ q told_q i. i) (λ q i. i) (holds.tied.told x) in
+    let answer = answer_apart b (seen f [] (late_conn c p) [] started) p [] over o apart told holds.tied in
     let after = holds_more front f w a (closed (late_conn c p) p) (p ∷ []) [] started holds (inl may) answer in
     let q = late_silent b0 c started n (Some (purpose.Response (owner.Try m 0))) h.sound.tied is (λ k. refl) in
     record {

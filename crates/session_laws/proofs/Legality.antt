@@ -156,22 +156,23 @@ causes-append (_ ∷ xs) ys = causes-append xs ys
 -- acts are no causes
 no_causes : (l n c : ℕ) (acts : List LinkAct) → causes (shown_each l n c acts) ≡ []
 no_causes l n c [] = refl
-no_causes l n c (act.Created e ∷ acts) = no_causes l (n + length (timer_of l (act.Created e))) (c + length (source_of l c (act.Created e))) acts
-no_causes l n c (act.Took k count ∷ acts) = no_causes l (n + length (timer_of l (act.Took k count))) (c + length (source_of l c (act.Took k count))) acts
-no_causes l n c (act.Timer k ms ∷ acts) = no_causes l (n + length (timer_of l (act.Timer k ms))) (c + length (source_of l c (act.Timer k ms))) acts
-no_causes l n c (act.RenewalTimer k ms ∷ acts) = no_causes l (n + length (timer_of l (act.RenewalTimer k ms))) (c + length (source_of l c (act.RenewalTimer k ms))) acts
-no_causes l n c (act.Push info ∷ acts) = no_causes l (n + length (timer_of l (act.Push info))) (c + length (source_of l c (act.Push info))) acts
-no_causes l n c (act.Message m ∷ acts) = no_causes l (n + length (timer_of l (act.Message m))) (c + length (source_of l c (act.Message m))) acts
-no_causes l n c (act.Monitor v ∷ acts) = no_causes l (n + length (timer_of l (act.Monitor v))) (c + length (source_of l c (act.Monitor v))) acts
-no_causes l n c (act.Watch m count len ∷ acts) = no_causes l (n + length (timer_of l (act.Watch m count len))) (c + length (source_of l c (act.Watch m count len))) acts
-no_causes l n c (act.NeedCreds ∷ acts) = no_causes l (n + length (timer_of l act.NeedCreds)) (c + length (source_of l c act.NeedCreds)) acts
-no_causes l n c (act.Close ∷ acts) = no_causes l (n + length (timer_of l act.Close)) (c + length (source_of l c act.Close)) acts
-no_causes l n c (act.Write bytes ∷ acts) = no_causes l (n + length (timer_of l (act.Write bytes))) (c + length (source_of l c (act.Write bytes))) acts
-no_causes l n c (act.Wait k kind ∷ acts) = no_causes l (n + length (timer_of l (act.Wait k kind))) (c + length (source_of l c (act.Wait k kind))) acts
-no_causes l n c (act.Start m k count len ∷ acts) = no_causes l (n + length (timer_of l (act.Start m k count len))) (c + length (source_of l c (act.Start m k count len))) acts
-no_causes l n c (act.SetUp m count len ∷ acts) = no_causes l (n + length (timer_of l (act.SetUp m count len))) (c + length (source_of l c (act.SetUp m count len))) acts
-no_causes l n c (act.Renewed m count len ∷ acts) = no_causes l (n + length (timer_of l (act.Renewed m count len))) (c + length (source_of l c (act.Renewed m count len))) acts
-no_causes l n c (act.Outcome k o ∷ acts) = no_causes l (n + length (timer_of l (act.Outcome k o))) (c + length (source_of l c (act.Outcome k o))) acts
+no_causes l n c (act.Created e ∷ acts) = no_causes l (n + length (timer_of l (act.Created e))) (c + length (source_of l (act.Created e))) acts
+no_causes l n c (act.Took k count ∷ acts) = no_causes l (n + length (timer_of l (act.Took k count))) (c + length (source_of l (act.Took k count))) acts
+no_causes l n c (act.Timer k ms ∷ acts) = no_causes l (n + length (timer_of l (act.Timer k ms))) (c + length (source_of l (act.Timer k ms))) acts
+no_causes l n c (act.RenewalTimer k ms ∷ acts) = no_causes l (n + length (timer_of l (act.RenewalTimer k ms))) (c + length (source_of l (act.RenewalTimer k ms))) acts
+no_causes l n c (act.Push info ∷ acts) = no_causes l (n + length (timer_of l (act.Push info))) (c + length (source_of l (act.Push info))) acts
+no_causes l n c (act.Message m ∷ acts) = no_causes l (n + length (timer_of l (act.Message m))) (c + length (source_of l (act.Message m))) acts
+no_causes l n c (act.Monitor v ∷ acts) = no_causes l (n + length (timer_of l (act.Monitor v))) (c + length (source_of l (act.Monitor v))) acts
+no_causes l n c (act.Watch m count len ∷ acts) = no_causes l (n + length (timer_of l (act.Watch m count len))) (c + length (source_of l (act.Watch m count len))) acts
+no_causes l n c (act.NeedCreds ∷ acts) = no_causes l (n + length (timer_of l act.NeedCreds)) (c + length (source_of l act.NeedCreds)) acts
+no_causes l n c (act.NeedRenewals ∷ acts) = no_causes l (n + length (timer_of l act.NeedRenewals)) (c + length (source_of l act.NeedRenewals)) acts
+no_causes l n c (act.Close ∷ acts) = no_causes l (n + length (timer_of l act.Close)) (c + length (source_of l act.Close)) acts
+no_causes l n c (act.Write bytes ∷ acts) = no_causes l (n + length (timer_of l (act.Write bytes))) (c + length (source_of l (act.Write bytes))) acts
+no_causes l n c (act.Wait k kind ∷ acts) = no_causes l (n + length (timer_of l (act.Wait k kind))) (c + length (source_of l (act.Wait k kind))) acts
+no_causes l n c (act.Start m k count len ∷ acts) = no_causes l (n + length (timer_of l (act.Start m k count len))) (c + length (source_of l (act.Start m k count len))) acts
+no_causes l n c (act.SetUp m count len ∷ acts) = no_causes l (n + length (timer_of l (act.SetUp m count len))) (c + length (source_of l (act.SetUp m count len))) acts
+no_causes l n c (act.Renewed m count len ∷ acts) = no_causes l (n + length (timer_of l (act.Renewed m count len))) (c + length (source_of l (act.Renewed m count len))) acts
+no_causes l n c (act.Outcome k o ∷ acts) = no_causes l (n + length (timer_of l (act.Outcome k o))) (c + length (source_of l (act.Outcome k o))) acts
 
 -- a turn for each event
 turns_causes : (c : Core) (es : List Event) → causes (turns_on c es) ≡ event_causes es

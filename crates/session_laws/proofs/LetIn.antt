@@ -44,14 +44,13 @@ use Rattle.session_laws.proofs.InLine.{first_is_least, kept_ids}
 use Rattle.session_laws.proofs.Kept.{of_same, tries_same}
 use Rattle.session_laws.proofs.Names.{earlier_name, get_more, length_with, name_placed, name_of_some, name_with, name_within, names_with, owners_with, permits_other, permits_with, same_name, there_within, was_with, with_other, with_same}
 use Rattle.session_laws.proofs.Numbers.{IsIn, Rising, in_right, rising_in, rising_right, requests_in}
-use Rattle.session_laws.proofs.Owes.{request_story}
+use Rattle.session_laws.proofs.Owes.{request_story, open_on}
 use Rattle.session_laws.proofs.Permits.{held_changed, held_same, on_this}
 use Rattle.session_laws.proofs.Closing.{one_of}
 use Rattle.session_laws.proofs.Said.{carried_tied}
 use Rattle.session_laws.proofs.States.{IsFit}
 use Rattle.session_laws.proofs.Tied.{IsAim, AreAimed, AreQueued, Inner, IsEntry, IsKept, IsOf, IsPacked, IsQueued, IsRequest, Tied, TiedLines, TiedNames, TiedNumbers, TiedPermits, TiedStory, TiedTries, TiedWaits, link_in, owners_each, queue_ids, setup_owners, shown_wait, waiting_ids, numbers_kept, IsToldIn}
 use Rattle.session_laws.proofs.Moves.{or_true}
-use Rattle.session_laws.proofs.Behind.{some_more}
 
 -- requests of which one holds other permits, and waits still
 --
@@ -146,7 +145,7 @@ story_let f g table requests link p count n names w eased has h = by_entry (slic
           handed_in = k.submission ∙ s.handed_in;
           in_time = k.late ∙ s.in_time;
           spoken = k.unspoken ∙ s.spoken;
-          on = k.link ∙ s.on;
+          on = λ o. k.link ∙ s.on (sym (test_kept is_open_progress requests p count q.number w) ∙ o);
           some = λ none. s.some (ap (λ x. packed_in x) (sym k.submission) ∙ none);
           open_is = eased_open (f n) (g n) k ∙ s.open_is ∙ sym (test_kept is_open_progress requests p count q.number w);
           permits_is = permits_now q.number e s;
@@ -212,10 +211,13 @@ lines_let f g requests link waiting admitted pending started p count w eased h =
 }
 
 -- who was told
-told_let : (f g : ℕ → Story) (requests : List Request) (link : LinkState) (p count : ℕ) → ((n : ℕ) → IsEased (f n) (g n)) → AreQueued f requests link → AreQueued g (with_permits requests p progress.Waiting count) link
-told_let f g requests link p count eased h n is none =
-    let k = h n (sym (eased_told (f n) (g n) (eased n)) ∙ is) (sym (eased n).tries ∙ none) in
-    (k.0, subst (λ m. k.0 < m) (sym (length_with requests p progress.Waiting count)) k.1, name_with requests p progress.Waiting count k.0 ∙ k.2, k.3)
+told_let : (f g : ℕ → Story) (requests : List Request) (number : ℕ) (link : LinkState) (p count : ℕ) → ((n : ℕ) → IsEased (f n) (g n)) → AreQueued f requests number link → AreQueued g (with_permits requests p progress.Waiting count) number link
+told_let f g requests number link p count eased h = record {
+  told = λ n is none on.
+      let k = h.told n (sym (eased_told (f n) (g n) (eased n)) ∙ is) (sym (eased n).tries ∙ none) (sym (eased n).link ∙ on) in
+      (k.0, subst (λ m. k.0 < m) (sym (length_with requests p progress.Waiting count)) k.1, name_with requests p progress.Waiting count k.0 ∙ k.2, k.3);
+  here = λ q i. ap (λ n. (g n).link) (name_with requests p progress.Waiting count q) ∙ (eased (name_at requests q)).link ∙ h.here q i;
+}
 
 -- what is shown of waits
 waits_let : (f g : ℕ → Story) (requests : List Request) (life : Life) (fresh moved : List ℕ) (p count : ℕ) → is_waiting_at requests p ≡ true → ((n : ℕ) → IsEased (f n) (g n)) → TiedWaits f requests life fresh moved
@@ -248,7 +250,7 @@ waits_let f g requests life fresh moved p count w eased h =
 -- the tries
 tries_let : (l : Ledger) (f g : ℕ → Story) (requests : List Request) (link : ℕ) (started : List ℕ) (p count : ℕ) → ((n : ℕ) → IsEased (f n) (g n)) → TiedTries l f requests link started → TiedTries l g (with_permits requests p progress.Waiting count) link started
 tries_let l f g requests link started p count eased before =
-    let h = tries_same l f g requests link started (λ n. sym (eased n).submission) (λ n. sym (eased n).tries) before in
+    let h = tries_same l f g requests link started (λ n. sym (eased n).submission) (λ n. sym (eased n).tries) (λ n. sym (eased n).link) before in
     let still = name_with requests p progress.Waiting count in
     let within : (m : ℕ) → m < length (with_permits requests p progress.Waiting count) → m < length requests = λ m l. subst (λ x. m < x) (length_with requests p progress.Waiting count) l in
     record {
@@ -256,7 +258,7 @@ tries_let l f g requests link started p count eased before =
       greeted = h.greeted;
       shapes = λ k m s l i j. h.shapes k m s (within m l) i j ∙ ap (λ n. shape (g n)) (sym (still m));
       tried = λ k m l i. ap (λ n. (g n).tries) (still m) ∙ h.tried k m (within m l) i;
-      untried = λ m r i out. let x = was_with requests p progress.Waiting count m r i in ap (λ n. (g n).tries) (sym x.2) ∙ h.untried m x.0 x.1 out;
+      untried = λ m r i out on. let x = was_with requests p progress.Waiting count m r i in ap (λ n. (g n).tries) (sym x.2) ∙ h.untried m x.0 x.1 out (ap (λ n. (g n).link) x.2 ∙ on);
     }
   where
     owners_let : (ms : List ℕ) → owners_each (with_permits requests p progress.Waiting count) ms ≡ owners_each requests ms
@@ -301,7 +303,7 @@ let_tied b t p count free g noted timers w alone eased has sum numbers h = recor
   notices = h.notices;
   life = h.life;
   creds = h.creds;
-  count = h.count;
+  uses = h.uses;
   renewal = h.renewal;
   setup = h.setup;
   link = λ e. carried_tied t.life t.requests (with_permits t.requests p progress.Waiting count) (b.link t.link) (sym (owners_with t.requests p progress.Waiting count)) (h.link e);
@@ -309,7 +311,7 @@ let_tied b t p count free g noted timers w alone eased has sum numbers h = recor
   story = λ n. story_let b.story g t.table t.requests t.link p count n h.names w eased has (h.story n);
   tries = tries_let (b.link t.link) b.story g t.requests t.link t.started p count eased.each h.tries;
   lines = lines_let b.story g t.requests (link_in t.life) t.waiting t.admitted t.pending t.started p count w eased.each h.lines;
-  told = λ e. told_let b.story g t.requests (link_in t.life) p count eased.each (h.told e);
+  told = λ e. told_let b.story g t.requests t.link (link_in t.life) p count eased.each (h.told e);
   waits = waits_let b.story g t.requests t.life t.fresh t.moved p count w eased.each h.waits;
   permits = permits_eased b.story g t.table b.submissions t.requests t.link t.limit t.free free t.letting p count h.names w alone eased sum h.permits;
   late = λ m o e. h.late m (sym (test_kept is_open_progress t.requests p count m w) ∙ o)
@@ -398,7 +400,7 @@ may_take b t link q qs k o alone e some h ends =
       takes = take_step b t p k h (opening_running t link q qs o) o.is_waiting (λ i. subst (IsIn p) alone i) e some
           ∙ ap (λ x. takes (min t.free (permits_for x k))) (sym (opening_packed b t link q qs o h).is_of.shape_is);
       in_order = opening_first b t link q qs o h;
-      on_its_link = sym (request_story b t p h within).on;
+      on_its_link = sym (open_on b t p h (waiting_open t.requests p o.is_waiting));
     }
 
 -- one story changes
@@ -418,16 +420,17 @@ take_tied b t p count w alone most h =
     let eased = eased_at b.story n (λ s. holds s count) (λ m. record { submission = refl; late = refl; unspoken = refl; link = refl; timeout = refl; overdue = refl; tries = refl; waiting = refl; outcomes = refl; cancelled = refl }) in
     let own : g n ≡ holds (b.story n) count = taken_if (n == n) (holds (b.story n) count) (b.story n) (eq_test n n refl) in
     let r = request_story b t p h within in
+    let on = r.on (waiting_open t.requests p w) in
     let none = h.permits.none p w (λ i. subst (IsIn p) alone i) in
     let known : n < b.submissions = (let l = name_within t.table t.requests p h.names within in let e = h.numbers.submissions in omega arith) in
     let_tied b t p count (t.free - count) g b.timers t.timers w (λ m i. absurd (subst (IsIn m) alone i)) eased (ap (λ (s : Story). s.permits) own)
     (λ k e.
     let was = h.permits.counted k e in
     let change = held_changed b.story g t.link b.submissions n known (λ m o. ap (permits_on t.link) (eased.others m (λ x. o (sym x)))) in
-    let before = on_this t.link (b.story n) r.on ∙ r.permits_is ∙ none.0 in
-    let after = on_this t.link (g n) (ap (λ (s : Story). s.link) own ∙ r.on) ∙ ap (λ (s : Story). s.permits) own in
+    let before = on_this t.link (b.story n) on ∙ r.permits_is ∙ none.0 in
+    let after = on_this t.link (g n) (ap (λ (s : Story). s.link) own ∙ on) ∙ ap (λ (s : Story). s.permits) own in
     omega arith)
-    (numbers_kept b b.link g t t.life (t.free - count) (with_permits t.requests p progress.Waiting count) t.waiting t.admitted t.fresh t.moved (p ∷ []) t.pending t.started h.numbers) h
+    (numbers_kept b b.link g b.errors t t.life (t.free - count) (with_permits t.requests p progress.Waiting count) t.waiting t.admitted t.fresh t.moved (p ∷ []) t.pending t.started h.numbers) h
 
 -- where permits aren't counted nothing is
 free_tied : (b : Book) (t : Inner) (p : ℕ) → is_waiting_at t.requests p ≡ true → t.letting ≡ [] → t.limit ≡ None → Tied b t → Tied b (lets t p 0 (t.free - 0) t.timers)
@@ -438,7 +441,7 @@ free_tied b t p w alone e h =
     let none = h.permits.none p w (λ i. subst (IsIn p) alone i) in
     let_tied b t p 0 (t.free - 0) b.story b.timers t.timers w (λ m i. absurd (subst (IsIn m) alone i)) (none_eased b.story n) (r.permits_is ∙ none.0)
     (λ k x. (let no_limit : ◌≡◌ {A = Option ℕ} None (Some k) = sym e ∙ x in cc))
-    (numbers_kept b b.link b.story t t.life (t.free - 0) (with_permits t.requests p progress.Waiting 0) t.waiting t.admitted t.fresh t.moved (p ∷ []) t.pending t.started h.numbers) h
+    (numbers_kept b b.link b.story b.errors t t.life (t.free - 0) (with_permits t.requests p progress.Waiting 0) t.waiting t.admitted t.fresh t.moved (p ∷ []) t.pending t.started h.numbers) h
 
 -- its timer is asked for
 --
@@ -479,7 +482,7 @@ ask_tied b t p number ms w alone h =
     let known = name_within t.table t.requests p h.names within in
     let hold : (m : ℕ) → permits_on t.link (g m) ≡ permits_on t.link (b.story m) = λ m.
     chosen (λ (x : Story). permits_on t.link x ≡ permits_on t.link (b.story m)) (n == m) (clocked (b.story m) number) (b.story m) (λ t. refl) (λ f. refl) in
-    let k = numbers_kept b b.link g t t.life t.free (with_permits t.requests p progress.Waiting (permits_at t.requests p)) t.waiting t.admitted t.fresh t.moved (p ∷ []) t.pending t.started h.numbers in
+    let k = numbers_kept b b.link g b.errors t t.life t.free (with_permits t.requests p progress.Waiting (permits_at t.requests p)) t.waiting t.admitted t.fresh t.moved (p ∷ []) t.pending t.started h.numbers in
     let_tied b t p (permits_at t.requests p) t.free g (b.timers ++ what ∷ []) (t.timers ++ what ∷ []) w alone eased (ap (λ (s : Story). s.permits) own ∙ r.permits_is)
     (λ k e. ap (λ x. x + t.free) (held_same b.story g t.link b.submissions (λ m l. hold m)) ∙ h.permits.counted k e)
     (record {
@@ -487,9 +490,8 @@ ask_tied b t p number ms w alone h =
       links = k.links;
       timers = ap (λ ts. ts ++ what ∷ []) h.numbers.timers;
       sources = k.sources;
-      uses = k.uses;
       aims = aims_more t.timers t.link (length t.table) n known h.numbers.aims;
-      timed = λ config word opens bounded none. some_more b.timers what none;
+      timed = k.timed;
       submissions = k.submissions;
       timeout = k.timeout;
       shut = k.shut;
@@ -498,8 +500,12 @@ ask_tied b t p number ms w alone h =
       settings = record { size_is = k.settings.size_is; bound_is = k.settings.bound_is; limit_is = k.settings.limit_is; some = k.settings.some; limited = k.settings.limited };
       kind_is = k.kind_is;
       quiet = k.quiet;
+      plain = k.plain;
+      eager = k.eager;
+      current_is = k.current_is;
+      speaks = k.speaks;
       one = k.one;
-      only = k.only;
+      few_links = k.few_links;
     }) h
 
 -- a request is let in by its connection
@@ -520,7 +526,7 @@ pub record HasTaken (before : List Action) (f : Core) (t : Inner) (p count : ℕ
   pub going : IsGoing (trace_of_acts before f acts) (lets t p count (t.free - count) (f.timers ++ timers_of f.single.link acts))
   pub has : (is_none t.limit || nat_lt 0 ((book (trace_of_acts before f acts)).story (name_at t.requests p)).permits) ≡ true
   pub none : ((book (trace_of_acts before f acts)).story (name_at t.requests p)).clock ≡ None
-  pub sourced : f.sources ++ sources_of f.single.link (length f.sources) acts ≡ t.sources
+  pub sourced : f.sources ++ sources_of f.single.link acts ≡ t.sources
 
 -- where permits are counted it has taken some
 some_taken : (before : List Action) (f : Core) (acts : List LinkAct) (conn : MultiplexedConnection) (started : List ℕ) (link : LinkState) (q : Waiting) (qs : List Waiting) (k : ℕ) → IsOpening (seen f acts conn [] started) link q qs → conn.limit ≡ Some k → conn.free ≢ 0
@@ -549,7 +555,7 @@ some_taken before f acts conn started link q qs k o e some h =
       going = subst (λ ts. IsGoing (trace_of_acts before f (acts ++ a ∷ [])) (lets t p count (conn.free - count) (f.timers ++ ts))) (sym (quiet_timers f.single.link acts a refl)) there;
       has = ap (λ (x : Story). is_none conn.limit || nat_lt 0 x.permits) story_is ∙ ap (λ x. is_none conn.limit || x) (some_less count most.1) ∙ or_true (is_none conn.limit);
       none = ap (λ (x : Story). x.clock) story_is ∙ (h.sound.tied.permits.none p o.is_waiting (λ i. i)).1;
-      sourced = ap (λ ss. f.sources ++ ss) (quiet_sources f.single.link (length f.sources) acts a refl);
+      sourced = ap (λ ss. f.sources ++ ss) (quiet_sources f.single.link acts a refl);
     }
   where
     some_less : (n : ℕ) → 0 < n → nat_lt 0 n ≡ true
@@ -587,7 +593,7 @@ has_taken before f acts conn started link q qs (Some k) o e some h =
 pub record HasLet (before : List Action) (f : Core) (t : Inner) (p count : ℕ) (acts : List LinkAct) : Type 0 where
   pub going : IsGoing (trace_of_acts before f acts) (lets t p count (t.free - count) (f.timers ++ timers_of f.single.link acts))
   pub is : is_let_in t.limit ((book (trace_of_acts before f acts)).story (name_at t.requests p)) ≡ true
-  pub sourced : f.sources ++ sources_of f.single.link (length f.sources) acts ≡ t.sources
+  pub sourced : f.sources ++ sources_of f.single.link acts ≡ t.sources
 
 -- it is still to be let in when it holds its permits
 opening_taken : (t : Inner) (link : LinkState) (q : Waiting) (qs : List Waiting) (count free : ℕ) (timers : List Purpose) → IsOpening t link q qs → IsOpening (lets t q.number count free timers) link q qs
@@ -649,7 +655,7 @@ let_timed before f t link q qs count ms acts o e same h =
     record {
       going = subst (λ ts. IsGoing (trace_of_acts before f (acts ++ a ∷ [])) (lets t p count (t.free - count) ts)) (append_assoc f.timers (timers_of f.single.link acts) (what ∷ []) ∙ ap (λ ts. f.timers ++ ts) (sym (timers_more f.single.link acts a))) there;
       is = ap (is_let_in t.limit) story_is ∙ (λ i. h.has i && or_true (is_none (b.story n).timeout) i);
-      sourced = ap (λ ss. f.sources ++ ss) (quiet_sources f.single.link (length f.sources) acts a refl) ∙ h.sourced;
+      sourced = ap (λ ss. f.sources ++ ss) (quiet_sources f.single.link acts a refl) ∙ h.sourced;
     }
 
 -- by its time

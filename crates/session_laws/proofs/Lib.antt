@@ -2,6 +2,7 @@ pub mod Numbers
 pub mod Tied
 pub mod States
 pub mod Creds
+pub mod Aside
 pub mod SetUp
 pub mod SameSaid
 pub mod Said

@@ -1,8 +1,9 @@
 -- The opening: the first link is asked for.
-use Rattle.std.proofs.Common.{List, None, Option, Some, [], ap, arith, false, inl, inr, refl, subst, suc, sym, zero, ℕ, ◌+◌, ◌<◌, ◌∙◌, ◌∷◌, ◌≡◌, ◌≢◌, Bool, true}
-use Rattle.std.specs.Prelude.{unwrap_or, ◌==◌, slice_get, if◌then◌else◌}
-use Rattle.containers.proofs.Choices.{chosen, left_if, ne_from, ne_test}
+use Rattle.std.proofs.Common.{List, None, Option, Some, [], ap, arith, false, inl, inr, refl, subst, suc, sym, zero, ℕ, ◌+◌, ◌<◌, ◌∙◌, ◌∷◌, ◌≡◌, ◌≢◌, Bool, ◌&&◌, not, true, length}
+use Rattle.std.specs.Prelude.{unwrap_or, ◌==◌, slice_get, if◌then◌else◌, is_some}
+use Rattle.containers.proofs.Choices.{chosen, left_if, ne_from, ne_test, not_both}
 use Rattle.connection_info.specs.declared.address.ConnectionInfo.{ConnectionInfo}
+use Rattle.redis_error.specs.declared.redis_error.RedisError.{RedisError}
 use Rattle.redis_error.specs.declared.config_name.ConfigName.{ConfigName}
 use Rattle.redis_error.specs.declared.config_name.ConfigName.TheVariants as name
 use Rattle.driver_model.specs.declared.action.Action.TheVariants as action
@@ -12,7 +13,6 @@ use Rattle.driver_model.specs.declared.config.Config.TheVariants as variant
 use Rattle.driver_model.specs.declared.kind.SessionKind.TheVariants as kind
 use Rattle.driver_model.specs.Config.{address, boundary, kind_of, buffer_fault, buffer_size, connect_timeout, response_timeout, room_fault, told_info, hearing_of, hearing_in, permits, wants_credentials}
 use Rattle.driver_model.specs.declared.action.Action.{Action}
-use Rattle.driver_model.specs.declared.action.Cause.{Cause}
 use Rattle.driver_model.specs.declared.action.Purpose.{Purpose}
 use Rattle.driver_model.specs.declared.action.Purpose.TheVariants as purpose
 use Rattle.link_laws.proofs.TiedLink.{asked_tied, fresh_tied}
@@ -20,23 +20,26 @@ use Rattle.mux_conn.specs.Turn.{dialing}
 use Rattle.mux_conn.specs.declared.life.Life.TheVariants.{Dialing}
 use Rattle.shared_session.specs.Replay.{IsSound, connect_asked, connect_timers, first_link, opening_core, opening_actions, timer_asked}
 use Rattle.shared_session.specs.declared.core_state.Core.{Core}
-use Rattle.legal_trace.specs.Book.{Book, blank_book, book, entered}
-use Rattle.legal_trace.specs.Ledger.{Ledger, Line, Start, asks, blank_ledger, ending, noted_each, setup_count}
-use Rattle.legal_trace.specs.Legal.{AllStand, IsSettled, NoneEnds}
+use Rattle.legal_trace.specs.Book.{Book, blank_book, book, entered, has_generations}
+use Rattle.legal_trace.specs.Managers.{is_last, is_lazy, settings_in}
+use Rattle.legal_trace.proofs.Managers.{never_lazy, no_settings}
+use Rattle.legal_trace.specs.Ledger.{Ledger, Line, Start, asks, blank_ledger, ending, noted_each, setup_count, failure_in, is_cut, is_ready, next_notice, noted, source_due}
+use Rattle.legal_trace.specs.Legal.{AllStand, IsSettled, NoneEnds, IsShown, begins_first, current_link, generation_due, is_attempt, is_caused, rest_due}
 use Rattle.legal_trace.specs.Story.{blank_story}
 use Rattle.session_laws.proofs.Going.{is_moved}
 use Rattle.session_laws.proofs.Settled.{IsBetween, is_settled}
 use Rattle.session_laws.proofs.States.{IsFitIn, IsStill}
-use Rattle.session_laws.proofs.Tied.{AreAimed, IsAim, IsUnknown, Tied, TiedLines, TiedNames, TiedNumbers, TiedPermits, TiedTries, TiedWaits, inner, no_link, owner_of, owners_of, setup_owners}
+use Rattle.session_laws.proofs.Tied.{AreAimed, IsAim, IsAside, Tied, TiedLines, TiedNames, TiedNumbers, TiedPermits, TiedTries, TiedWaits, inner, no_link, owner_of, owners_of, setup_owners}
 use Rattle.session_laws.proofs.Waits.{IsQuiet}
 use Rattle.session_laws.proofs.Write.{is_written}
 use Rattle.mux_conn.specs.Renewals.{no_renewal}
-use Rattle.driver_model.specs.Hearing.{is_watching}
+use Rattle.driver_model.specs.Hearing.{hears_pushes, is_watching}
+use Rattle.driver_model.specs.declared.hearing.Hearing.{Hearing}
 use Rattle.driver_model.proofs.Sound.{has_address, is_roomy}
 
 -- what timers the opening has asked for
 abbrev asks_timers : List Purpose → Book → Book
-asks_timers timers b = record b { timers = timers }
+asks_timers timers b = record b { timers = timers; timed = length timers }
 
 -- the book of the opening, which has asked for these timers
 abbrev opened : Config → ℕ → ConnectionInfo → List Purpose → Book
@@ -56,23 +59,31 @@ opened_core config timers = record {
   single = record { link = first_link; connection = dialing (buffer_size config) (boundary config) (permits config) (hearing_of config) (told_info config) (no_renewal (wants_credentials config) (response_timeout config)) };
 }
 
+-- no attempt follows the first, since no session has generations
+last_first : (config : Config) → is_last (settings_in (Some config)) 0 ≡ true
+last_first config = ap (λ s. is_last s 0) (no_settings (Some config))
+
+-- the line that its connect is
+abbrev first_line : Config → Line
+first_line config = asks (told_info config) (wants_credentials config) (hearing_of config) (is_last (settings_in (Some config)) 0)
+
 -- no other link is told of
 opened_link : (config : Config) (word : ℕ) (info : ConnectionInfo) (timers : List Purpose) (m : ℕ) → m ≢ first_link → (opened config word info timers).link m ≡ blank_ledger
-opened_link config word info timers m other = ap (noted_each blank_ledger) (left_if (first_link == m) (asks (told_info config) (wants_credentials config) (hearing_of config) ∷ []) [] (ne_test first_link m (λ e. other (sym e))))
+opened_link config word info timers m other = ap (noted_each blank_ledger) (left_if (first_link == m) (first_line config ∷ []) [] (ne_test first_link m (λ e. other (sym e))))
 
--- the opening that runs is its own
-own_opening : (config other : Config) (word another : ℕ) → ◌≡◌ {A = Option Cause} (Some (cause.Opening config word)) (Some (cause.Opening other another)) → config ≡ other
-own_opening config other word another e = cc
+-- a configuration that was told is the one
+same_config : (config other : Config) → ◌≡◌ {A = Option Config} (Some config) (Some other) → config ≡ other
+same_config config other e = cc
 
--- a bounded connect has a timer
-bounded_timers : (timeout : Option ℕ) → timeout ≢ None → connect_timers timeout ≢ []
-bounded_timers None some none = some refl
-bounded_timers (Some ms) some none = cc
+-- a bounded connect has its timer
+bounded_timers : (timeout : Option ℕ) → timeout ≢ None → length (connect_timers timeout) ≡ 1
+bounded_timers None some = absurd (some refl)
+bounded_timers (Some ms) some = refl
 
 -- the timers are for the first link
 first_aims : (timeout : Option ℕ) → AreAimed (connect_timers timeout) first_link 0
 first_aims None k what e = cc
-first_aims (Some ms) zero what e = let same : purpose.Connect first_link ≡ what = cc in subst (λ w. IsAim w first_link 0) same refl
+first_aims (Some ms) zero what e = let same : purpose.Connect first_link ≡ what = cc in subst (λ w. IsAim w first_link 0) same (omega arith)
 first_aims (Some ms) (suc k) what e = cc
 
 -- a connection that never has a permit is refused, and a queue that holds nothing
@@ -118,9 +129,8 @@ opening_numbers config word info timeout some is = record {
   links = refl;
   timers = refl;
   sources = refl;
-  uses = λ k what e. cc;
   aims = first_aims timeout;
-  timed = λ other another opens bounded. bounded_timers timeout (λ none. bounded (ap connect_timeout (sym (own_opening config other word another opens)) ∙ is ∙ none));
+  timed = λ other told bounded. bounded_timers timeout (λ none. bounded (ap connect_timeout (sym (same_config config other told)) ∙ is ∙ none));
   submissions = refl;
   timeout = refl;
   shut = refl;
@@ -129,8 +139,12 @@ opening_numbers config word info timeout some is = record {
   settings = record { size_is = refl; bound_is = refl; limit_is = refl; some = some.some; limited = some.limited };
   kind_is = refl;
   quiet = λ w. record { none = refl; unwanted = unwanted_where_watched config w; unrenewed = refl };
+  plain = ap is_some (no_settings (Some config));
+  eager = never_lazy (Some config);
+  current_is = refl;
+  speaks = refl;
   one = refl;
-  only = λ m less. omega arith;
+  few_links = omega arith;
 }
 
 -- its lines
@@ -172,25 +186,38 @@ opening_names = record { few = omega arith; named = λ p r e. cc; kept = λ n p 
 
 -- its tries
 opening_tries : (l : Ledger) → l.starts ≡ [] → TiedTries l (λ n. blank_story) [] first_link []
-opening_tries l none = record { greeted = λ w. record { none = refl; greets = λ k s e. (let no : ◌≡◌ {A = Option Start} None (Some s) = sym (ap (λ (ss : List Start). slice_get ss k) none) ∙ e in cc) }; owners = λ plain. ap owners_of none ∙ ap (λ (ss : List Start). setup_owners (setup_count ss) []) (sym none); shapes = λ k p s w e i. cc; tried = λ k p w e. cc; untried = λ p r e out. cc }
+opening_tries l none = record { greeted = λ w. record { none = refl; greets = λ k s e. (let no : ◌≡◌ {A = Option Start} None (Some s) = sym (ap (λ (ss : List Start). slice_get ss k) none) ∙ e in cc) }; owners = λ plain. ap owners_of none ∙ ap (λ (ss : List Start). setup_owners (setup_count ss) []) (sym none); shapes = λ k p s w e i. cc; tried = λ k p w e. cc; untried = λ p r e out on. cc }
+
+-- no link but the first was asked for
+blank_aside : (m : ℕ) (heard : Hearing) (within : Option ℕ) → m ≢ first_link → IsAside (first_link + 1) m blank_ledger heard within 0
+blank_aside m heard within other = record {
+  down = refl;
+  over = λ less. absurd (other (omega arith));
+  unknown = λ past. refl;
+  told = λ y. refl;
+  parts = λ y cut. cc;
+  shown = λ e fails. cc;
+  timed = λ some. omega arith;
+  few = omega arith;
+}
 
 -- the session is tied to it
 opening_tied : (config : Config) (word : ℕ) (info : ConnectionInfo) (timeout : Option ℕ) → IsSized (permits config) (buffer_size config) → connect_timeout config ≡ timeout → Tied (opened config word info (connect_timers timeout)) (inner (opened_core config (connect_timers timeout)) [])
 opening_tied config word info timeout some is = record {
   numbers = opening_numbers config word info timeout some is;
-  others = λ m other. subst IsUnknown (sym (opened_link config word info (connect_timers timeout) m other)) (record { asked = refl; up = refl; end = refl; starts = refl; notices = refl });
+  others = λ m other. subst (λ (x : Ledger). IsAside (first_link + 1) m x (hearing_of config) (response_timeout config) 0) (sym (opened_link config word info (connect_timers timeout) m other)) (blank_aside m (hearing_of config) (response_timeout config) other);
   notices = record { heard_is = refl; hearing_is = refl; within = λ y. omega arith; untold_is = λ y. refl; parts = λ y d z. cc; alive = λ z. refl; due = λ z. cc; tame = λ z r. refl };
-  life = (refl, refl, refl, refl);
+  life = (refl, refl, refl, refl, last_first config);
   creds = record { wanted_is = refl; sought = (refl, refl, refl) };
-  count = refl;
+  uses = λ k what e. cc;
   renewal = record { over_is = refl; came = refl; waits = refl; untimed = refl; unstarted = refl; unasked = refl; unpending = refl; told = refl; kept = refl; found = refl };
   setup = record { info_is = refl; sent = λ k s less e. absurd (omega arith); said = (refl, refl) };
-  link = λ e. asked_tied (owner_of []) blank_ledger (told_info config) (wants_credentials config) (hearing_of config) no_link (fresh_tied (owner_of []) 0 0);
+  link = λ e. asked_tied (owner_of []) blank_ledger (told_info config) (wants_credentials config) (hearing_of config) (is_last (settings_in (Some config)) 0) no_link (fresh_tied (owner_of []) 0 0);
   names = opening_names;
   story = λ n. refl;
   tries = opening_tries ((opened config word info (connect_timers timeout)).link first_link) refl;
   lines = opening_lines;
-  told = λ e n is none. cc;
+  told = λ e. record { told = λ n is none on. cc; here = λ p i. absurd i };
   waits = opening_waits;
   permits = opening_permits (permits config);
   late = λ p o e. cc;
@@ -198,7 +225,7 @@ opening_tied config word info timeout some is = record {
 
 -- no link must end
 opening_ends : (config : Config) (word : ℕ) (info : ConnectionInfo) (timers : List Purpose) → NoneEnds (opened config word info timers)
-opening_ends config word info timers m = chosen (λ (ls : List Line). ending (noted_each blank_ledger ls) ≡ None) (first_link == m) (asks (told_info config) (wants_credentials config) (hearing_of config) ∷ []) [] (λ t. refl) (λ f. refl)
+opening_ends config word info timers m = chosen (λ (ls : List Line). ending (noted_each blank_ledger ls) ≡ None) (first_link == m) (first_line config ∷ []) [] (λ t. refl) (λ f. refl)
 
 -- what the opening shows
 abbrev opened_actions : Config → ℕ → ConnectionInfo → Option ℕ → List Action
@@ -210,17 +237,87 @@ unfolding book
 opening_book config word info None = refl
 opening_book config word info (Some ms) = refl
 
+-- what the turn does is shown, where it has asked for no link
+turn_shown : (config : Config) (word : ℕ) → IsShown (entered blank_book (action.Turn 0 (cause.Opening config word)))
+turn_shown config word = record {
+  answered = λ n o. cc;
+  ended = λ l. refl;
+  created = record { shown = λ l ready. cc; failed = λ l e fails. cc; lazy = λ is. absurd (not_both (is_lazy (Some config)) (never_lazy (Some config)) is) };
+  pushed = λ l heard. refl;
+  parted = λ l heard cut. cc;
+  sourced = λ l. refl;
+}
+
+-- a fact of a link that isn't told of, and of one that is asked for, is one of each link
+each_opened : (P : Ledger → Type 0) (config : Config) (word : ℕ) (info : ConnectionInfo) (timers : List Purpose) → P blank_ledger → P (noted blank_ledger (first_line config)) → (l : ℕ) → P ((opened config word info timers).link l)
+each_opened P config word info timers none first l = chosen (λ (ls : List Line). P (noted_each blank_ledger ls)) (first_link == l) (first_line config ∷ []) [] (λ t. first) (λ f. none)
+
+-- and so it is, where it has
+opened_shown : (config : Config) (word : ℕ) (info : ConnectionInfo) (timers : List Purpose) → IsShown (opened config word info timers)
+opened_shown config word info timers = record {
+  answered = λ n o. cc;
+  ended = opening_ends config word info timers;
+  created = record {
+    shown = each_opened (λ (x : Ledger). is_ready x ≡ true → ◌≢◌ {A = ℕ} 0 0) config word info timers (λ ready. cc) (λ ready. cc);
+    failed = each_opened (λ (x : Ledger). (e : RedisError) → failure_in x.end ≡ Some e → ◌≢◌ {A = ℕ} 0 0) config word info timers (λ e fails. cc) (λ e fails. cc);
+    lazy = λ is. absurd (not_both (is_lazy (Some config)) (never_lazy (Some config)) is);
+  };
+  pushed = λ l heard. each_opened (λ (x : Ledger). next_notice x ≡ None) config word info timers refl refl l;
+  parted = λ l heard. each_opened (λ (x : Ledger). is_cut x.end ≡ true → x.parted ≡ true) config word info timers (λ cut. cc) (λ cut. cc) l;
+  sourced = each_opened (λ (x : Ledger). source_due x ≡ false) config word info timers refl refl;
+}
+
+-- no generation follows
+plain_rested : (b : Book) → has_generations b ≡ false → rest_due b ≡ false
+plain_rested b plain = ap (λ g. g && is_attempt (current_link b).end) plain
+
+plain_generated : (b : Book) → has_generations b ≡ false → generation_due b ≡ false
+plain_generated b plain = ap (λ g. g && (not b.failed && (not b.shut && (if b.generation == 0 then begins_first b else is_caused b)))) plain
+
 -- its timer may stand
 timer_stands : (config : Config) (word : ℕ) (info : ConnectionInfo) (timeout : Option ℕ) → connect_timeout config ≡ timeout → AllStand (opened config word info []) (timer_asked timeout)
 timer_stands config word info None is = tt
-timer_stands config word info (Some ms) is = (inl (record { config = config; word = word; opens = refl; bounded = is; asked = λ e. cc; first = refl; next = refl; is_for = refl }), tt)
+timer_stands config word info (Some ms) is =
+    let b = opened config word info [] in
+    let plain : has_generations b ≡ false = ap is_some (no_settings (Some config)) in (
+      inl (inl (record {
+        shown = opened_shown config word info [];
+        rested = plain_rested b plain;
+        generated = plain_generated b plain;
+        linked = left_if (has_generations b) _ (b.links == 0) plain;
+        due = omega arith;
+        config = config;
+        told = refl;
+        bounded = is;
+        next = refl;
+        is_for = refl;
+      })),
+      tt,
+    )
 
 -- and so its actions may
 opening_stands : (config : Config) (word : ℕ) (info : ConnectionInfo) (timeout : Option ℕ) → IsSound config → address config ≡ Some info → connect_timeout config ≡ timeout → AllStand blank_book (opened_actions config word info timeout)
-opening_stands config word info timeout sound at is = (
-  record { next = refl; is_for = refl },
-  (record { config = config; word = word; opens = refl; sound = sound; first = refl; next = refl; info = info; configured = at; address = (refl, refl) }, timer_stands config word info timeout is),
-)
+opening_stands config word info timeout sound at is =
+    let b = entered blank_book (action.Turn 0 (cause.Opening config word)) in
+    let plain : has_generations b ≡ false = ap is_some (no_settings (Some config)) in (
+      record { next = refl; is_for = refl },
+      (
+        record {
+          shown = turn_shown config word;
+          rested = plain_rested b plain;
+          generated = plain_generated b plain;
+          due = left_if (has_generations b) _ (b.links == 0) plain;
+          config = config;
+          told = refl;
+          sound = sound;
+          next = refl;
+          info = info;
+          configured = at;
+          address = (refl, refl);
+        },
+        timer_stands config word info timeout is,
+      ),
+    )
 
 -- the session after an opening with an address
 opened_between : (config : Config) (word : ℕ) (info : ConnectionInfo) (timeout : Option ℕ) → IsSound config → address config ≡ Some info → IsSized (permits config) (buffer_size config) → connect_timeout config ≡ timeout

@@ -1,7 +1,8 @@
 -- What the outcome actions of a trace say is what its book says.
 use Rattle.driver_model.specs.declared.action.Purpose.{Purpose}
 use Rattle.legal_trace.specs.Book.{entered, is_unspoken}
-use Rattle.std.proofs.Common.{List, None, Option, Some, [], ap, arith, inl, inr, is_some, length, length-set, nat_le, not, refl, slice_get, slice_set, subst, suc, sym, true, zero, ℕ, ◌++◌, ◌+◌, ◌<◌, ◌∙◌, ◌∷◌, ◌≡◌, ◌≤◌}
+use Rattle.std.specs.Prelude.{max}
+use Rattle.std.proofs.Common.{List, None, Option, Some, [], ap, arith, inl, inr, is_some, length, length-set, nat_le, not, refl, slice_get, slice_set, subst, suc, sym, true, zero, ℕ, ◌++◌, ◌+◌, ◌<◌, ◌∙◌, ◌∷◌, ◌≡◌, ◌≤◌, ◌&&◌}
 use Rattle.std.proofs.lemmas.List.{length_push}
 use Rattle.std.specs.Prelude.{◌&&◌, ◌==◌}
 use Rattle.containers.proofs.Places.{get_set_other, get_set_same}
@@ -16,9 +17,9 @@ use Rattle.driver_model.specs.declared.event.EventKind.TheVariants as event
 use Rattle.driver_model.specs.declared.event.Submission.{Submission}
 use Rattle.driver_model.specs.declared.outcome.Outcome.{Outcome}
 use Rattle.shared_session.specs.Replay.{if_placed, outcome_at, outcomes_in, told, told_each, with_room}
-use Rattle.legal_trace.specs.Book.{Book, blank_book, book, current, entered_each, is_clock_of}
+use Rattle.legal_trace.specs.Book.{Book, blank_book, book, entered_each, is_clock_of, is_rest}
 use Rattle.legal_trace.specs.Legal.{AllStand, IsOpen, MayStand}
-use Rattle.legal_trace.specs.Story.{Story, answered, clocked, fires, handed_in, holds, is_open, left, tried, waits}
+use Rattle.legal_trace.specs.Story.{Story, answered, clocked, fires, handed_in, holds, is_open, left, tried, waits, carried}
 use Rattle.session_laws.specs.Outcomes.{last_outcome}
 
 -- the last is the last
@@ -81,9 +82,9 @@ submit_outcomes : (os : List (Option Outcome)) (b : Book) (number word : ℕ) (w
 submit_outcomes os b number word what h = record {
   long = length_push os None ∙ ap (λ n. n + 1) h.long;
   last = λ n. room_at os n ∙ h.last n
-      ∙ chosen (λ (s : Story). last_outcome (b.story n).outcomes ≡ last_outcome s.outcomes) (b.submissions == n) (handed_in (b.story n) what b.shut (is_unspoken b what) (current b) b.timeout) (b.story n) (λ t. refl) (λ f. refl);
+      ∙ chosen (λ (s : Story). last_outcome (b.story n).outcomes ≡ last_outcome s.outcomes) (b.submissions == n) (handed_in (b.story n) what b.shut (is_unspoken b what) (max 1 b.generation) b.current b.timeout) (b.story n) (λ t. refl) (λ f. refl);
   later = λ n l.
-      chosen (λ (s : Story). (s.submission ≡ None) × (s.outcomes ≡ [])) (b.submissions == n) (handed_in (b.story n) what b.shut (is_unspoken b what) (current b) b.timeout) (b.story n)
+      chosen (λ (s : Story). (s.submission ≡ None) × (s.outcomes ≡ [])) (b.submissions == n) (handed_in (b.story n) what b.shut (is_unspoken b what) (max 1 b.generation) b.current b.timeout) (b.story n)
       (λ t. absurd (let same = eq_from b.submissions n t in omega arith))
       (λ f. h.later n (omega arith));
 }
@@ -138,7 +139,9 @@ took_same b m round l count n = chosen (SameTold (b.story n)) (m == n) (holds (b
 
 -- nor does a timer
 timer_same : (b : Book) (t ms : ℕ) (what : Purpose) (n : ℕ) → SameTold (b.story n) ((entered b (action.Timer t ms what)).story n)
-timer_same b t ms what n = chosen (SameTold (b.story n)) (is_clock_of n (Some what)) (clocked (b.story n) t) (b.story n) (λ e. (refl, refl)) (λ f. (refl, refl))
+timer_same b t ms what n =
+    chosen (SameTold (b.story n)) (is_rest what && is_open (b.story n)) (carried (b.story n) b.links) _ (λ r. (refl, refl))
+    (λ o. chosen (SameTold (b.story n)) (is_clock_of n (Some what)) (clocked (b.story n) t) (b.story n) (λ e. (refl, refl)) (λ f. (refl, refl)))
 
 -- by the kind of the action
 action_outcomes : (os : List (Option Outcome)) (b : Book) (a : Action) → MayStand b a → AreOutcomes os b → AreOutcomes (told os a) (entered b a)
@@ -155,7 +158,7 @@ action_outcomes os b (action.Push l info) may h = same_outcomes os b (action.Pus
 action_outcomes os b (action.Message m) may h = same_outcomes os b (action.Message m) refl (λ n. (refl, refl)) h
 action_outcomes os b (action.Monitor v) may h = same_outcomes os b (action.Monitor v) refl (λ n. (refl, refl)) h
 action_outcomes os b (action.NeedCreds c l) may h = same_outcomes os b (action.NeedCreds c l) refl (λ n. (refl, refl)) h
-action_outcomes os b (action.Generation g) may h = absurd may
+action_outcomes os b (action.Generation g) may h = same_outcomes os b (action.Generation g) refl (λ n. (refl, refl)) h
 action_outcomes os b (action.Round who l) may h = absurd may
 action_outcomes os b (action.Close l) may h = same_outcomes os b (action.Close l) refl (λ n. (refl, refl)) h
 action_outcomes os b (action.Write l bytes) may h = same_outcomes os b (action.Write l bytes) refl (λ n. (refl, refl)) h

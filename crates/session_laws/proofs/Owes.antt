@@ -1,9 +1,10 @@
 -- What submissions are owed, by the requests that they are.
-use Rattle.std.proofs.Common.{◌≡◌, ◌≢◌, inl, inr, ℕ, zero, suc, ◌+◌, ◌<◌, ◌==◌, Bool, true, false, ◌&&◌, not, is_some, length-append, List, [], ◌∷◌, ◌++◌, length, Option, Some, None, slice_get, refl, sym, ap, ◌∙◌, subst, arith, drop}
+use Rattle.std.proofs.Common.{◌≡◌, ◌≢◌, inl, inr, ℕ, zero, suc, ◌+◌, ◌<◌, ◌==◌, Bool, true, false, ◌&&◌, not, is_some, length-append, List, [], ◌∷◌, ◌++◌, length, Option, Some, None, slice_get, refl, sym, ap, ◌∙◌, subst, arith, drop, if◌then◌else◌}
 use Rattle.std.specs.List.{AllByRecursion}
 use Rattle.std.proofs.lemmas.List.{nil_from_length}
 use Rattle.containers.proofs.Choices.{by_test, left_if, eq_from, ne_from, ne_test, not_both, taken_if, eq_test}
 use Rattle.redis_error.specs.declared.redis_error.RedisError.{RedisError}
+use Rattle.redis_error.specs.declared.redis_error.RedisError.TheVariants as error
 use Rattle.driver_model.specs.declared.action.Owner.{Owner}
 use Rattle.driver_model.specs.declared.action.Owner.TheVariants as owner
 use Rattle.driver_model.specs.declared.outcome.Outcome.{Outcome}
@@ -23,7 +24,8 @@ use Rattle.mux_conn.specs.Requests.{name_at, is_open_at}
 use Rattle.legal_trace.specs.Ledger.{full_count, Ledger, Heard, Start, End, failure_in, is_cut, is_of_setup, next_notice, setup_count}
 use Rattle.legal_trace.specs.Story.{Story, bytes_of, shape, last_of, is_open}
 use Rattle.legal_trace.specs.Book.{Book}
-use Rattle.legal_trace.specs.Owed.{owed, owed_to_message, owed_unstarted, owed_to_try}
+use Rattle.legal_trace.specs.Owed.{owed, owed_to_message, owed_unstarted, owed_to_try, owed_waiting}
+use Rattle.legal_trace.specs.Managers.{is_lazy}
 use Rattle.legal_trace.specs.Legal.{IsOpen, NoneIsOwed, IsCreated, FailuresAreShown, NoticesAreTold, EndsAreTold}
 use Rattle.session_laws.proofs.Numbers.{Rising, IsIn, in_either, rising_in, rising_left, rising_right, rising_apart, requests_in, request_in, request_of}
 use Rattle.session_laws.proofs.Said.{ready_shown}
@@ -151,15 +153,52 @@ owed_started b t p k of_shape h l in_time place =
     ∙ ap (λ ts. owed_to_try b (b.story n) (last_of ts)) (h.tries.tried e.0 p l e.2 ∙ ap (λ m. record { link = t.link; message = m } ∷ []) (sym e.1))
     ∙ ap (owed_to_message (b.link t.link) k) same
 
--- where it has none
-pub owed_none_started : (b : Book) (t : Inner) (p : ℕ) → Tied b t → p < length t.requests → (b.story (name_at t.requests p)).overdue ≡ false → (IsIn p t.started → ⊥) → owed b (name_at t.requests p) ≡ owed_unstarted (b.link t.link).end
-owed_none_started b t p h l in_time not_started =
+-- a link was asked for, however far it has come
+pub is_asked : (l : Ledger) (created : ℕ) (life : Life) → TiedLife l created life → l.asked ≡ true
+is_asked l created Dialing h = h.0
+is_asked l created (Wanting link) h = h.0
+is_asked l created (SettingUp link greeting) h = h.0
+is_asked l created (Ready link) h = h.0
+is_asked l created (Ended e) h = h.3
+
+-- and until it ends no attempt follows
+pub is_last_one : (l : Ledger) (created : ℕ) (life : Life) → TiedLife l created life → has_ended life ≡ false → l.last ≡ true
+is_last_one l created Dialing h n = h.4
+is_last_one l created (Wanting link) h n = h.4
+is_last_one l created (SettingUp link greeting) h n = h.4
+is_last_one l created (Ready link) h n = h.4
+is_last_one l created (Ended e) h n = cc
+
+-- of a link that was asked for it is owed what the end says
+pub owed_asked : (shut : Bool) (l : Ledger) → l.asked ≡ true → owed_waiting shut l ≡ owed_unstarted l.end
+owed_asked true l e = ap (λ a. if not a then Some (outcome.Fault error.Closed) else owed_unstarted l.end) e
+owed_asked false l e = refl
+
+-- an open request goes to the link of the connection
+pub open_on : (b : Book) (t : Inner) (p : ℕ) → Tied b t → is_open_at t.requests p ≡ true → (b.story (name_at t.requests p)).link ≡ t.link
+open_on b t p h o = (request_story b t p h (open_within t.requests p o)).on o
+
+-- and so does what is in the queue
+pub queue_on : (b : Book) (t : Inner) (p : ℕ) → Tied b t → IsIn p (queue_ids (link_in t.life).queue) → (b.story (name_at t.requests p)).link ≡ t.link
+queue_on b t p h i = by_test (has_ended t.life) _ (λ over. absurd (none_over t.life over i)) (λ up. (h.told up).here p i)
+  where
+    none_over : (life : Life) → has_ended life ≡ true → IsIn p (queue_ids (link_in life).queue) → ⊥
+    none_over Dialing over j = j
+    none_over (Wanting link) over j = j
+    none_over (SettingUp link greeting) over j = j
+    none_over (Ready link) over j = cc
+    none_over (Ended e) over j = j
+
+-- what it is owed where it has none
+pub owed_none_started : (b : Book) (t : Inner) (p : ℕ) → Tied b t → is_open_at t.requests p ≡ true → (b.story (name_at t.requests p)).overdue ≡ false → (IsIn p t.started → ⊥) → owed b (name_at t.requests p) ≡ owed_unstarted (b.link t.link).end
+owed_none_started b t p h o in_time not_started =
+    let l = open_within t.requests p o in
     let n = name_at t.requests p in
     let r = request_story b t p h l in
     let g = get_some t.requests p l in
     let named : n ≡ g.0.name = name_of_some t.requests p g.0 g.1 in
-    let untried : (b.story n).tries ≡ [] = ap (λ m. (b.story m).tries) named ∙ h.tries.untried p g.0 g.1 not_started in
-    owed_by_try b n r.in_time r.spoken r.some in_time ∙ ap (λ ts. owed_to_try b (b.story n) (last_of ts)) untried ∙ ap (λ m. owed_unstarted (b.link m).end) r.on
+    let untried : (b.story n).tries ≡ [] = ap (λ m. (b.story m).tries) named ∙ h.tries.untried p g.0 g.1 not_started (sym (ap (λ m. (b.story m).link) named) ∙ r.on o) in
+    owed_by_try b n r.in_time r.spoken r.some in_time ∙ ap (λ ts. owed_to_try b (b.story n) (last_of ts)) untried ∙ ap (λ m. owed_waiting b.shut (b.link m)) (r.on o) ∙ owed_asked b.shut (b.link t.link) (is_asked (b.link t.link) b.created t.life h.life)
 
 -- what a link has settled is what its submissions are owed
 pub settled_owed : (b : Book) (t : Inner) (s : Settled) → Tied b t → s.id < length t.requests → (b.story (name_at t.requests s.id)).overdue ≡ false → IsOwed (owner_of t.requests) (b.link t.link) s → owed b (name_at t.requests s.id) ≡ Some (outcome_of s.verdict)
@@ -214,14 +253,14 @@ row_unowed b t p h n l in_time i =
     owed_started b t p w.number w.entry.shape h l in_time place ∙ open_unowed (owner_of t.requests) ledger w.number w.entry alive w.open_as
 
 -- nor to one that waits
-later_unowed : (b : Book) (t : Inner) (p : ℕ) → Tied b t → has_ended t.life ≡ false → p < length t.requests → (b.story (name_at t.requests p)).overdue ≡ false → IsIn p (queue_ids (link_in t.life).queue ++ kept_ids t.admitted t.waiting) → owed b (name_at t.requests p) ≡ None
-later_unowed b t p h n l in_time i = owed_none_started b t p h l in_time (later_unstarted b t p h i) ∙ ap owed_unstarted (lives (b.link t.link) b.created t.life h.life n)
+later_unowed : (b : Book) (t : Inner) (p : ℕ) → Tied b t → has_ended t.life ≡ false → is_open_at t.requests p ≡ true → (b.story (name_at t.requests p)).overdue ≡ false → IsIn p (queue_ids (link_in t.life).queue ++ kept_ids t.admitted t.waiting) → owed b (name_at t.requests p) ≡ None
+later_unowed b t p h n o in_time i = owed_none_started b t p h o in_time (later_unstarted b t p h i) ∙ ap owed_unstarted (lives (b.link t.link) b.created t.life h.life n)
 
 -- and so to none of the line
-pub line_unowed : (b : Book) (t : Inner) (p : ℕ) → Tied b t → has_ended t.life ≡ false → p < length t.requests → (b.story (name_at t.requests p)).overdue ≡ false → IsIn p (line_of (link_in t.life) t.admitted t.waiting) → owed b (name_at t.requests p) ≡ None
-line_unowed b t p h n l in_time i = elim (in_either p (requests_in (wanted (link_in t.life).row)) (queue_ids (link_in t.life).queue ++ kept_ids t.admitted t.waiting) i) [
-  | inl j ↦ row_unowed b t p h n l in_time (wanted_in p (link_in t.life).row (request_of p (wanted (link_in t.life).row) j))
-  | inr j ↦ later_unowed b t p h n l in_time j
+pub line_unowed : (b : Book) (t : Inner) (p : ℕ) → Tied b t → has_ended t.life ≡ false → is_open_at t.requests p ≡ true → (b.story (name_at t.requests p)).overdue ≡ false → IsIn p (line_of (link_in t.life) t.admitted t.waiting) → owed b (name_at t.requests p) ≡ None
+line_unowed b t p h n o in_time i = elim (in_either p (requests_in (wanted (link_in t.life).row)) (queue_ids (link_in t.life).queue ++ kept_ids t.admitted t.waiting) i) [
+  | inl j ↦ row_unowed b t p h n (open_within t.requests p o) in_time (wanted_in p (link_in t.life).row (request_of p (wanted (link_in t.life).row) j))
+  | inr j ↦ later_unowed b t p h n o in_time j
 ]
 
 -- an open request that is not to be answered is in time
@@ -234,7 +273,7 @@ none_owed b t h none n m o =
     let r = open_request b t m h o in
     let i = open_in_line b.story t.requests (link_in t.life) t.waiting t.admitted t.pending t.started r.number h.lines r.open_at in
     let j = subst (λ ns. IsIn r.number (ns ++ line_of (link_in t.life) t.admitted t.waiting)) none i in
-    ap (owed b) (sym r.named) ∙ line_unowed b t r.number h n (open_within t.requests r.number r.open_at) (in_time b t r.number h r.open_at (λ k. subst (IsIn r.number) none k)) j
+    ap (owed b) (sym r.named) ∙ line_unowed b t r.number h n r.open_at (in_time b t r.number h r.open_at (λ k. subst (IsIn r.number) none k)) j
 
 -- on a link that has ended, where none waits, none is open
 pub none_open : (b : Book) (t : Inner) (e : RedisError) (n : ℕ) → Tied b t → t.pending ≡ [] → t.life ≡ Ended e → kept_ids t.admitted t.waiting ≡ [] → IsOpen b n → ⊥
@@ -263,14 +302,14 @@ failure_shown l created (Ended e) h = h.2
 pub failures_shown : (b : Book) (t : Inner) → Tied b t → FailuresAreShown b
 failures_shown b t h m = by_test (m == t.link) (FailureIsShown (b.link m).end b.created)
     (λ same. subst (λ k. FailureIsShown (b.link k).end b.created) (sym (eq_from m t.link same)) (failure_shown (b.link t.link) b.created t.life h.life))
-    (λ other. alive_failure (b.link m).end b.created (h.others m (ne_from m t.link other)).end)
+    (λ other. (h.others m (ne_from m t.link other)).shown)
 
--- a link was asked for, and where it is ready, or its opening failed, the creation was shown
+-- where a link is ready, or its opening failed, the creation was shown
 pub created_is : (b : Book) (t : Inner) → Tied b t → IsCreated b
 created_is b t h = record {
-  asked = λ e. let asked = h.numbers.links in let one = h.numbers.one in omega arith;
   shown = ready_shown b t h;
   failed = failures_shown b t h;
+  lazy = λ is. absurd (not_both (is_lazy b.config) h.numbers.eager is);
 }
 
 -- nothing comes behind all of a list
@@ -284,13 +323,13 @@ get_behind (suc n) (h ∷ hs) e = get_behind n hs e
 pub notices_told : (b : Book) (t : Inner) → Tied b t → t.untold ≡ [] → NoticesAreTold b
 notices_told b t h none m heard = by_test (m == t.link) _
     (λ same. subst (λ k. next_notice (b.link k) ≡ None) (sym (eq_from m t.link same)) (get_behind (b.link t.link).told (b.link t.link).notices (h.notices.untold_is (ap hears_something (sym h.notices.heard_is) ∙ heard) ∙ none)))
-    (λ other. ap (λ (hs : List Heard). slice_get hs (b.link m).told) (h.others m (ne_from m t.link other)).notices)
+    (λ other. (h.others m (ne_from m t.link other)).told (ap hears_something (sym h.notices.heard_is) ∙ heard))
 
 -- and so was the end of each link, where none is
 pub ends_told : (b : Book) (t : Inner) → Tied b t → t.parting ≡ false → EndsAreTold b
 ends_told b t h none m heard cut = by_test (m == t.link) _
     (λ same. let e = eq_from m t.link same in subst (λ k. (b.link k).parted ≡ true) (sym e) (h.notices.parts (ap hears_pushes (sym h.notices.heard_is) ∙ heard) none (subst (λ k. is_cut (b.link k).end ≡ true) e cut)))
-    (λ other. absurd (not_both (is_cut (b.link m).end) (ap is_cut (h.others m (ne_from m t.link other)).end) cut))
+    (λ other. (h.others m (ne_from m t.link other)).parts (ap hears_pushes (sym h.notices.heard_is) ∙ heard) cut)
 
 -- the entries of a row are started one after another
 row_places : (b : Book) (t : Inner) (k j : ℕ) (row : List Entry) → Tied b t → k ≡ setup_count (b.link t.link).starts + j → AllByRecursion (IsEntry t.requests) row → OpenFrom (owner_of t.requests) (b.link t.link) k row → AtPlaces t.started j (row_ids row)

@@ -83,7 +83,7 @@ started_up before f w link admitted waiting next done fit seats h order =
       seats = each_seats w.conn.moved (in_front w.conn.renewal) w.conn.size from link.queue seats;
       held = each_held from link.queue;
       started = done ++ ids;
-      going = subst (λ ss. IsGoing (trace_of_acts before f acts) (record (on_link t s.link) { started = done ++ ids; timers = f.timers ++ timers_of f.single.link acts; sources = f.sources ++ ss })) (sym (shows_sources f.single.link (length f.sources) w.acts w.conn.requests s.out))
+      going = subst (λ ss. IsGoing (trace_of_acts before f acts) (record (on_link t s.link) { started = done ++ ids; timers = f.timers ++ timers_of f.single.link acts; sources = f.sources ++ ss })) (sym (shows_sources f.single.link w.acts w.conn.requests s.out))
           (subst (λ ts. IsGoing (trace_of_acts before f acts) (record (on_link t s.link) { started = done ++ ids; timers = f.timers ++ ts })) (sym (shows_timers f.single.link w.acts w.conn.requests s.out)) (each_going before (length f.timers) (length f.sources) w.acts t from link.queue fit seats first));
       order = order;
     })

@@ -33,7 +33,7 @@ use Rattle.session_laws.proofs.InLine.{awaited_in, kept_ids}
 use Rattle.session_laws.proofs.Kept.{of_same}
 use Rattle.session_laws.proofs.Names.{length_still, length_with, name_still, name_was, name_with, name_within, names_progressed, names_with, open_within, owners_still, owners_with, permits_still, request_not, there_other, there_same, there_then, with_same}
 use Rattle.session_laws.proofs.Numbers.{IsIn, Rising, in_either, in_left, in_right, rising_apart, rising_in, rising_right, rising_tail, rising_without, request_in, requests_in}
-use Rattle.session_laws.proofs.Owes.{in_line, request_story}
+use Rattle.session_laws.proofs.Owes.{in_line, request_story, open_on}
 use Rattle.session_laws.proofs.Permits.{permits_closed, permits_further, permits_let}
 use Rattle.session_laws.proofs.Start.{not_dialing, not_setting, not_wanting, on_link}
 use Rattle.session_laws.proofs.Tied.{AreLate, AreQueued, Inner, IsEntry, IsKept, IsOf, IsPacked, IsQueued, Tied, TiedLines, TiedStory, TiedTries, TiedWaits, owner_of, owners_each, queue_ids, setup_owners, relined, shown_wait, waiting_ids, numbers_kept}
@@ -107,7 +107,7 @@ story_further s requests link p now (Some (Some m)) on e h = record {
   handed_in = h.handed_in;
   in_time = h.in_time;
   spoken = h.spoken;
-  on = h.on;
+  on = λ o. h.on (sym (open_further requests p m.number now on e) ∙ o);
   some = h.some;
   open_is = h.open_is ∙ sym (open_further requests p m.number now on e);
   permits_is = h.permits_is ∙ sym (permits_still requests p m.number now (open_within requests p e));
@@ -129,7 +129,7 @@ tries_further l story requests link p now started h = record {
   greeted = h.greeted;
   shapes = λ k m s l i j. h.shapes k m s (subst (λ x. m < x) (length_still requests p now) l) i j ∙ ap (λ n. shape (story n)) (sym (name_still requests p now m));
   tried = λ k m l i. ap (λ n. (story n).tries) (name_still requests p now m) ∙ h.tried k m (subst (λ x. m < x) (length_still requests p now) l) i;
-  untried = λ m r i out. let w = name_was requests p now m r i in ap (λ n. (story n).tries) (sym w.2) ∙ h.untried m w.0 w.1 out;
+  untried = λ m r i out on. let w = name_was requests p now m r i in ap (λ n. (story n).tries) (sym w.2) ∙ h.untried m w.0 w.1 out (ap (λ n. (story n).link) w.2 ∙ on);
 }
 
 -- those that have their place have it still, where this one gets it, or has none
@@ -177,10 +177,13 @@ packs_further story requests p now (w ∷ ws) all = (
 )
 
 -- who was told and has not started is in the queue still
-told_further : (story : ℕ → Story) (requests : List Request) (link : LinkState) (p : ℕ) (now : Progress) → AreQueued story requests link → AreQueued story (at_progress requests p now) link
-told_further story requests link p now h n is none =
-    let k = h n is none in
-    (k.0, subst (λ m. k.0 < m) (sym (length_still requests p now)) k.1, name_still requests p now k.0 ∙ k.2, k.3)
+told_further : (story : ℕ → Story) (requests : List Request) (number : ℕ) (link : LinkState) (p : ℕ) (now : Progress) → AreQueued story requests number link → AreQueued story (at_progress requests p now) number link
+told_further story requests number link p now h = record {
+  told = λ n is none on.
+      let k = h.told n is none on in
+      (k.0, subst (λ m. k.0 < m) (sym (length_still requests p now)) k.1, name_still requests p now k.0 ∙ k.2, k.3);
+  here = λ q i. ap (λ n. (story n).link) (name_still requests p now q) ∙ h.here q i;
+}
 
 -- what is shown of its wait stays
 shown_further : (story : ℕ → Story) (requests : List Request) (p : ℕ) (now : Progress) (m : ℕ) → shown_wait story (at_progress requests p now) m ≡ shown_wait story requests m
@@ -487,12 +490,12 @@ place_tied b t link q waiting admitted yes_awaited next h =
       told = λ f. absurd (not_both q.awaited f yes_awaited);
     } in
     record {
-      numbers = numbers_kept b _ _ (on_link t link) _ _ _ _ _ _ _ _ _ _ h.numbers;
+      numbers = numbers_kept b _ _ _ (on_link t link) _ _ _ _ _ _ _ _ _ _ h.numbers;
       others = h.others;
       notices = h.notices;
       life = h.life;
       creds = record { wanted_is = h.creds.wanted_is; sought = h.creds.sought };
-      count = h.count;
+      uses = h.uses;
       renewal = h.renewal;
       setup = record { info_is = h.setup.info_is; sent = h.setup.sent; said = h.setup.said };
       link = λ e. subst (λ x. TiedLink x (b.link t.link) (enqueued link (message_of q))) (sym (owners_still t.requests p progress.Placed)) (enqueued_tied (owner_of t.requests) (b.link t.link) link (message_of q) (h.link refl));
@@ -503,9 +506,18 @@ place_tied b t link q waiting admitted yes_awaited next h =
           (subst (Rising 0 (requests_in t.started ++ (queue_ids (link.queue ++ message_of q ∷ []) ++ kept_ids admitted waiting))) (sym still) (line_next t.requests link t.moved t.waiting t.admitted (requests_in t.started) q waiting admitted next.first h.lines.line))
           (λ n i. awaited_only q.awaited p n yes_awaited i)
           (lines_further b.story t.requests link waiting admitted p progress.Placed t.started refl refl o apart (lines_next b.story t.requests link t.limit t.letting t.moved t.waiting t.admitted t.started q waiting admitted next h.lines));
-      told = λ e n is none.
-          let k = told_further b.story t.requests link p progress.Placed (h.told refl) n is none in
-          (k.0, k.1, k.2, subst (IsIn k.0) (sym (queue_ids-push link.queue (message_of q))) (in_left k.0 (queue_ids link.queue) (p ∷ []) k.3));
+      told = λ e.
+          let was = told_further b.story t.requests t.link link p progress.Placed (h.told refl) in
+          record {
+            told = λ n is none on. let k = was.told n is none on in (k.0, k.1, k.2, subst (IsIn k.0) (sym (queue_ids-push link.queue (message_of q))) (in_left k.0 (queue_ids link.queue) (p ∷ []) k.3));
+            here = λ m i. elim (in_either m (queue_ids link.queue) (p ∷ []) (subst (IsIn m) (queue_ids-push link.queue (message_of q)) i)) [
+              | inl j ↦ was.here m j
+              | inr j ↦ elim j [
+                | inl own ↦ subst (λ k. (b.story (name_at placed k)).link ≡ t.link) own (ap (λ n. (b.story n).link) (name_still t.requests p progress.Placed p) ∙ open_on b (on_link t link) p h o)
+                | inr none ↦ absurd none
+              ]
+            ];
+          };
       waits = waits_enqueued b.story placed link (message_of q) t.fresh t.moved (subst (Rising 0 (t.moved ++ p ∷ [])) (sym still) next.last) (there_same is_admitted t.requests p progress.Placed within)
           (λ e. next.shown (sym (shown_further b.story t.requests p progress.Placed p) ∙ e)) (waits_placed b.story t.requests p (Ready link) t.fresh t.moved within h.waits);
       permits = permits_further b.story b.submissions t.requests t.link t.limit t.free t.letting p progress.Placed within refl next.let_in next.alone h.permits;
@@ -555,12 +567,12 @@ tell_tied b t link q waiting admitted not_awaited next h =
       told = λ f. ap (λ x. (after x).outcomes) named ∙ ap (λ (s : Story). s.outcomes) (sym same) ∙ ap (λ os. os ++ nil ∷ []) (open_unanswered (b.story n) (r.open_is ∙ o));
     } in
     record {
-      numbers = numbers_kept b _ _ (on_link t link) _ _ _ _ _ _ _ _ _ _ h.numbers;
+      numbers = numbers_kept b _ _ _ (on_link t link) _ _ _ _ _ _ _ _ _ _ h.numbers;
       others = h.others;
       notices = h.notices;
       life = h.life;
       creds = record { wanted_is = h.creds.wanted_is; sought = h.creds.sought };
-      count = h.count;
+      uses = h.uses;
       renewal = h.renewal;
       setup = record { info_is = h.setup.info_is; sent = h.setup.sent; said = h.setup.said };
       link = λ e. subst (λ x. TiedLink x (b.link t.link) (enqueued link (message_of q))) (sym (owners_with t.requests p progress.Closed 0)) (enqueued_tied (owner_of t.requests) (b.link t.link) link (message_of q) (h.link refl));
@@ -571,11 +583,19 @@ tell_tied b t link q waiting admitted not_awaited next h =
           (subst (Rising 0 (requests_in t.started ++ (queue_ids (link.queue ++ message_of q ∷ []) ++ kept_ids admitted waiting))) (sym still) (line_next t.requests link t.moved t.waiting t.admitted (requests_in t.started) q waiting admitted next.first h.lines.line))
           (λ m i. absurd i)
           (lines_answered t.table b.story t.requests link waiting admitted p [] t.started done h.names within c apart (lines_next b.story t.requests link t.limit t.letting t.moved t.waiting t.admitted t.started q waiting admitted next h.lines));
-      told = λ e m. chosen (λ (x : Story). is_told x ≡ true → x.tries ≡ [] → (k : ℕ) × (k < length closed) × (name_at closed k ≡ m) × IsIn k (queue_ids (link.queue ++ message_of q ∷ []))) (n == m) (done m) (b.story m)
-          (λ t is none. (p, subst (λ x. p < x) (sym still) within, named ∙ eq_from n m t, subst (IsIn p) (sym (queue_ids-push link.queue (message_of q))) (in_right p (queue_ids link.queue) (p ∷ []) (inl refl))))
-          (λ f is none.
-          let k = h.told refl m is none in
-          (k.0, subst (λ x. k.0 < x) (sym still) k.1, name_with t.requests p progress.Closed 0 k.0 ∙ k.2, subst (IsIn k.0) (sym (queue_ids-push link.queue (message_of q))) (in_left k.0 (queue_ids link.queue) (p ∷ []) k.3)));
+      told = λ e.
+          let after_link : (m : ℕ) → (after m).link ≡ (b.story m).link = λ m. chosen (λ (x : Story). x.link ≡ (b.story m).link) (n == m) (done m) (b.story m) (λ t. refl) (λ f. refl) in
+          record {
+            told = λ m. chosen (λ (x : Story). is_told x ≡ true → x.tries ≡ [] → x.link ≡ t.link → (k : ℕ) × (k < length closed) × (name_at closed k ≡ m) × IsIn k (queue_ids (link.queue ++ message_of q ∷ []))) (n == m) (done m) (b.story m)
+                (λ t is none on. (p, subst (λ x. p < x) (sym still) within, named ∙ eq_from n m t, subst (IsIn p) (sym (queue_ids-push link.queue (message_of q))) (in_right p (queue_ids link.queue) (p ∷ []) (inl refl))))
+                (λ f is none on.
+                let k = (h.told refl).told m is none on in
+                (k.0, subst (λ x. k.0 < x) (sym still) k.1, name_with t.requests p progress.Closed 0 k.0 ∙ k.2, subst (IsIn k.0) (sym (queue_ids-push link.queue (message_of q))) (in_left k.0 (queue_ids link.queue) (p ∷ []) k.3)));
+            here = λ m i. ap (λ k. (after k).link) (name_with t.requests p progress.Closed 0 m) ∙ after_link (name_at t.requests m) ∙ elim (in_either m (queue_ids link.queue) (p ∷ []) (subst (IsIn m) (queue_ids-push link.queue (message_of q)) i)) [
+              | inl j ↦ (h.told refl).here m j
+              | inr j ↦ elim j [ inl own ↦ subst (λ k. (b.story (name_at t.requests k)).link ≡ t.link) own (r.on o) | inr none ↦ absurd none ]
+            ];
+          };
       waits = waits_enqueued after closed link (message_of q) t.fresh t.moved (subst (Rising 0 (t.moved ++ p ∷ [])) (sym still) next.last) (with_same is_admitted t.requests p progress.Closed 0 within)
           (λ e. (let gone : ◌≡◌ {A = Option WaitKind} None (Some wait.Room) = ap (λ (s : Story). s.waiting) same ∙ ap (λ x. (after x).waiting) (sym named) ∙ e in cc))
           (waits_closed t.table b.story t.requests p done (Ready link) (Ready link) t.fresh t.moved h.names within (λ e. e) (λ l e. absurd (not_wanting link l e)) (λ l u e. absurd (not_setting link l u e)) (λ l e. (link, refl))
@@ -586,7 +606,7 @@ tell_tied b t link q waiting admitted not_awaited next h =
           let k = rising_in 0 (requests_in t.started ++ (queue ++ kept)) (length t.requests) m h.lines.line (in_right m (requests_in t.started) (queue ++ kept) (in_left m queue kept j)) in
           ((λ s. next_apart b.story t.requests link t.limit t.letting t.moved t.waiting t.admitted t.started q waiting admitted next h.lines (subst (λ x. IsIn x queue) (sym s) j)), k.1, i)) h.waits);
       permits = permits_let after b.submissions closed t.link t.limit (given_back t.limit t.free (permits_at t.requests p)) t.letting p (with_same is_waiting t.requests p progress.Closed 0 within) next.alone
-          (permits_closed b.story after t.table b.submissions t.requests t.link t.limit t.free t.letting p h.names within known r.on r.permits_is (closed_other b.story t.requests p done) (ap (λ (s : Story). s.permits) (sym same)) (ap (λ (s : Story). s.link) (sym same) ∙ r.on) h.permits);
+          (permits_closed b.story after t.table b.submissions t.requests t.link t.limit t.free t.letting p h.names within known (r.on o) r.permits_is (closed_other b.story t.requests p done) (ap (λ (s : Story). s.permits) (sym same)) (ap (λ (s : Story). s.link) (sym same) ∙ r.on o) h.permits);
       late = late_closed t.table b.story t.requests p done [] [] h.names within (λ m x i. i) h.late;
     }
 
@@ -607,12 +627,12 @@ admit_tied b t link q qs w is last h =
     let apart : IsIn p queue → ⊥ = λ i. (let k = rising_apart 0 queue (front ++ (p ∷ rest)) hi p p line i (in_right p front (p ∷ rest) (inl refl)) in omega arith) in
     let same : kept_ids t.admitted (q ∷ qs) ≡ kept_ids (t.admitted ++ q ∷ []) qs = sym (append_assoc front (p ∷ []) rest) ∙ ap (λ ns. ns ++ rest) (sym (waiting_ids-push t.admitted q)) in
     record {
-      numbers = numbers_kept b _ _ (record (on_link t link) { waiting = q ∷ qs; letting = q.number ∷ [] }) _ _ _ _ _ _ _ _ _ _ h.numbers;
+      numbers = numbers_kept b _ _ _ (record (on_link t link) { waiting = q ∷ qs; letting = q.number ∷ [] }) _ _ _ _ _ _ _ _ _ _ h.numbers;
       others = h.others;
       notices = h.notices;
       life = h.life;
       creds = record { wanted_is = h.creds.wanted_is; sought = h.creds.sought };
-      count = h.count;
+      uses = h.uses;
       renewal = h.renewal;
       setup = record { info_is = h.setup.info_is; sent = h.setup.sent; said = h.setup.said };
       link = λ e. subst (λ x. TiedLink x (b.link t.link) link) (sym (owners_still t.requests p now)) (h.link refl);
@@ -637,7 +657,7 @@ admit_tied b t link q qs w is last h =
               ])
             ]);
       };
-      told = λ e. told_further b.story t.requests link p now (h.told refl);
+      told = λ e. told_further b.story t.requests t.link link p now (h.told refl);
       waits = waits_admitted b.story t.requests link p t.fresh t.moved w last h.waits;
       permits = permits_further b.story b.submissions t.requests t.link t.limit t.free (p ∷ []) p now within refl is (λ m i. elim i [ inl e ↦ e | inr k ↦ absurd k ]) h.permits;
       late = late_further b.story t.requests p now [] refl o h.late;

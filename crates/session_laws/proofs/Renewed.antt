@@ -1,5 +1,5 @@
 -- News of new credentials: some came, no more come, or some are not answered in time.
-use Rattle.std.proofs.Common.{◌≡◌, ◌⊎◌, inl, inr, ℕ, suc, ◌+◌, ◌≤◌, ◌==◌, Bool, true, false, ◌&&◌, ◌||◌, not, is_some, if◌then◌else◌, List, [], ◌∷◌, ◌++◌, length, Option, Some, None, refl, sym, ap, ◌∙◌, subst, arith, length-append}
+use Rattle.std.proofs.Common.{◌≡◌, ◌⊎◌, inl, inr, ℕ, suc, ◌+◌, ◌==◌, Bool, true, false, ◌&&◌, ◌||◌, not, is_some, if◌then◌else◌, List, [], ◌∷◌, ◌++◌, Option, Some, None, refl, sym, ap, ◌∙◌, subst, arith, length-append}
 use Rattle.std.proofs.lemmas.List.{drop-append-le}
 use Rattle.containers.proofs.Choices.{by_test, chosen, taken_if, left_if, not_both, eq_from, eq_test, ne_from, ne_test, both_left, both_right}
 use Rattle.credentials.specs.Credentials.{Credentials}
@@ -19,7 +19,7 @@ use Rattle.mux_conn.specs.Connection.{are_some, is_due, is_ready}
 use Rattle.mux_conn.specs.Renewals.{expected, expecting, is_unanswered, late_for, none_follow, takes_more, with_renewal}
 use Rattle.shared_session.specs.declared.core_state.Core.{Core}
 use Rattle.shared_session.specs.Turn.{is_bad, numbered, with_work}
-use Rattle.legal_trace.specs.Ledger.{Ledger, Sourced, cut, ending, ending_up, is_done, is_full, is_full_last, is_renewal_open, is_set_up, is_taken, last_renewal, lost_by, may_renew, renewal_count, renewal_due, renewed_by, unrenewed_by}
+use Rattle.legal_trace.specs.Ledger.{Ledger, cut, ending, ending_up, is_done, is_full, is_full_last, is_renewal_open, is_set_up, is_taken, last_renewal, lost_by, may_renew, renewal_count, renewal_due, renewed_by, unrenewed_by}
 use Rattle.legal_trace.specs.Book.{Book, book}
 use Rattle.legal_trace.proofs.Setups.{ends_where_set}
 use Rattle.session_laws.proofs.Announce.{IsNewsKind, StaysQuiet, quiet_still, heard_book, heard_tied_new, heard_is, turn_of, turned, announced_sound, first_book, holds_first}
@@ -30,7 +30,7 @@ use Rattle.session_laws.proofs.Renewals.{due_is, due_well, none_renewed_due, ren
 use Rattle.session_laws.proofs.Said.{recredited, setup_on, setup_recredited, well_on, well_recredited, mild_end, renoticed}
 use Rattle.session_laws.proofs.Settle.{renewal_over, seen, trace_of_acts}
 use Rattle.session_laws.proofs.States.{Between, HasApplied, trace_with}
-use Rattle.session_laws.proofs.Tied.{AreRenewed, AreSought, NoneRenewed, Tied, TiedCreds, TiedLife, TiedRenewal, TiedSetup, carried, has_ended, inner, sources_asked_in, whole_link}
+use Rattle.session_laws.proofs.Tied.{AreRenewed, AreSought, NoneRenewed, Tied, TiedCreds, TiedLife, TiedRenewal, TiedSetup, carried, has_ended, inner, whole_link}
 use Rattle.session_laws.proofs.ComeUp.{early_sources}
 
 -- a link that has ended
@@ -71,10 +71,10 @@ ready_renewal before c started word kind n link renewals over lost r h good k is
     let f = turned c kind in
     let own = ap (heard_by b c) (book_news b c started kind n h0 is) ∙ same in
     let t = seen f [] (with_renewal conn r) [] started in
-    let tied : Tied (heard_book b c.turns word kind) t = heard_tied_new b c started word b.created kind conn.info r conn.life conn.fresh [] [] after h0 within quiet good own
+    let tied : Tied (heard_book b c.turns word kind) t = heard_tied_new b c started word b.created b.failed kind conn.info r conn.life conn.fresh [] [] after h0 within quiet good (λ some. some) own
     (record {
       starts = refl;
-      lived = subst (λ (x : Life). TiedLife after b.created x) (sym e) (u.asked, u.up, u.alive, u.shown);
+      lived = subst (λ (x : Life). TiedLife after b.created x) (sym e) (u.asked, u.up, u.alive, u.shown, u.last);
       creds = subst (λ (x : Life). TiedCreds after.creds r.wanted x) (sym e) (record { wanted_is = h0.creds.wanted_is ∙ sym wanted; sought = sought });
       renewal_is = subst (λ (x : Life). TiedRenewal after r x) (sym e) are;
       said = subst (λ (x : Life). TiedSetup after conn.info started x) (sym e) said;
@@ -95,18 +95,6 @@ ready_renewal before c started word kind n link renewals over lost r h good k is
       moved = h.moved;
       fit = record { wanting = h.fit.wanting; setup = h.fit.setup; link = h.fit.link; none = h.fit.none };
     }
-
--- a second source
---
--- no link has one before it is set up
-early_second : (c : Sourced) (life : Life) (n : ℕ) → is_ready life ≡ false → has_ended life ≡ false → AreSought c life → n ≡ sources_asked_in c → 2 ≤ n → ⊥
-early_second c life n unready alive h count two = few_sources c.asked c.renews n (early_sources c life unready alive h) count two
-  where
-    few_sources : (a b : Bool) (n : ℕ) → b ≡ false → n ≡ (if a then 1 else 0) + (if b then 1 else 0) → 2 ≤ n → ⊥
-    few_sources true true n once count two = cc
-    few_sources false true n once count two = cc
-    few_sources true false n once count two = omega arith
-    few_sources false false n once count two = omega arith
 
 -- new credentials come
 --
@@ -137,9 +125,9 @@ may_is : (l : Ledger) (r : Renewal) → l.up ≡ true → is_set_up l ≡ true �
 may_is l r up well renews over = λ i. up i && well i && renews i && not (over i)
 
 -- so it does
-pub renewed_applied : (before : List Action) (c : Core) (started : List ℕ) (word : ℕ) (kind : EventKind) (a : Credentials) → Between before c started → is_bad c kind ≡ false → IsNewsKind c.timers kind → news_of c.timers c.sources c.single.link kind ≡ renewed a → 2 ≤ length c.sources
+pub renewed_applied : (before : List Action) (c : Core) (started : List ℕ) (word : ℕ) (kind : EventKind) (a : Credentials) → Between before c started → is_bad c kind ≡ false → IsNewsKind c.timers kind → news_of c.timers c.sources c.single.link kind ≡ renewed a → ((book before).link c.single.link).creds.renews ≡ true
     → HasApplied (before ++ turn_of c word kind ∷ []) (with_work (record { core = turned c kind; acts = [] }) (record { conn = expecting c.single.connection a; acts = [] })) started
-renewed_applied before c started word kind a h good k is two = by_life c.single.connection.life refl
+renewed_applied before c started word kind a h good k is renews = by_life c.single.connection.life refl
   where
     b : Book
     b = book before
@@ -158,7 +146,7 @@ renewed_applied before c started word kind a h good k is two = by_life c.single.
     unready x e unset d = subst done (sym (left_if (is_ready conn.life && takes_more conn.renewal) (with_renewal conn (expected conn.renewal a)) conn (ap (λ y. y && takes_more conn.renewal) (ap is_ready e ∙ unset)))) d
 
     early : (x : Life) → conn.life ≡ x → is_ready x ≡ false → has_ended x ≡ false → done (expecting conn a)
-    early x e unset alive = absurd (early_second l.creds conn.life (length c.sources) (ap is_ready e ∙ unset) (ap has_ended e ∙ alive) h.sound.tied.creds.sought h.sound.tied.count two)
+    early x e unset alive = absurd (not_both l.creds.renews (early_sources l.creds conn.life (ap is_ready e ∙ unset) (ap has_ended e ∙ alive) h.sound.tied.creds.sought) renews)
 
     ready : (link : LinkState) → conn.life ≡ Ready link → done (expecting conn a)
     ready link e =
@@ -204,9 +192,9 @@ none_follows l r n h = record {
 }
 
 -- the source has ended
-pub unrenewed_applied : (before : List Action) (c : Core) (started : List ℕ) (word : ℕ) (kind : EventKind) → Between before c started → is_bad c kind ≡ false → IsNewsKind c.timers kind → news_of c.timers c.sources c.single.link kind ≡ unrenewed → 2 ≤ length c.sources
+pub unrenewed_applied : (before : List Action) (c : Core) (started : List ℕ) (word : ℕ) (kind : EventKind) → Between before c started → is_bad c kind ≡ false → IsNewsKind c.timers kind → news_of c.timers c.sources c.single.link kind ≡ unrenewed → ((book before).link c.single.link).creds.renews ≡ true
     → HasApplied (before ++ turn_of c word kind ∷ []) (with_work (record { core = turned c kind; acts = [] }) (record { conn = none_follow c.single.connection; acts = [] })) started
-unrenewed_applied before c started word kind h good k is two = by_life c.single.connection.life refl
+unrenewed_applied before c started word kind h good k is renews = by_life c.single.connection.life refl
   where
     conn : MultiplexedConnection
     conn = c.single.connection
@@ -221,7 +209,7 @@ unrenewed_applied before c started word kind h good k is two = by_life c.single.
     done x = HasApplied (before ++ turn_of c word kind ∷ []) (with_work (record { core = turned c kind; acts = [] }) (record { conn = x; acts = [] })) started
 
     early : (x : Life) → conn.life ≡ x → is_ready x ≡ false → has_ended x ≡ false → done (none_follow conn)
-    early x e unset alive = absurd (early_second l.creds conn.life (length c.sources) (ap is_ready e ∙ unset) (ap has_ended e ∙ alive) h.sound.tied.creds.sought h.sound.tied.count two)
+    early x e unset alive = absurd (not_both l.creds.renews (early_sources l.creds conn.life (ap is_ready e ∙ unset) (ap has_ended e ∙ alive) h.sound.tied.creds.sought) renews)
 
     by_life : (x : Life) → conn.life ≡ x → done (none_follow conn)
     by_life Dialing e = early Dialing e refl refl

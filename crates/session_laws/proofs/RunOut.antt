@@ -18,11 +18,11 @@ use Rattle.legal_trace.specs.Book.{Book, book}
 use Rattle.legal_trace.specs.Events.{HasRunOut}
 use Rattle.shared_session.proofs.Replays.{state_after-more, trace_of-more, turns_after}
 use Rattle.session_laws.proofs.Legality.{replay_between, turn_between, room_behind}
-use Rattle.session_laws.proofs.Tied.{Inner, Tied, TiedLife, carried, has_ended, inner, whole_link, AreRenewed, IsUnknown, NoneRenewed, TiedRenewal}
+use Rattle.session_laws.proofs.Tied.{Inner, Tied, TiedLife, carried, has_ended, inner, whole_link, AreRenewed, NoneRenewed, TiedRenewal}
 use Rattle.driver_model.specs.declared.action.Action.{Action}
 use Rattle.session_laws.proofs.Grown.{HasGrown, turn_grown}
 use Rattle.session_laws.proofs.Renewals.{due_is, down_renewed_due, none_renewed_due}
-use Rattle.legal_trace.specs.Ledger.{Ledger, Start, renewal_count, renewal_due, renewals_asked}
+use Rattle.legal_trace.specs.Ledger.{Ledger, renewal_count, renewal_due, renewals_asked}
 use Rattle.credentials.specs.Credentials.{Credentials}
 use Rattle.mux_conn.specs.declared.connection.MultiplexedConnection.{MultiplexedConnection}
 use Rattle.mux_conn.specs.declared.renewal.Renewal.{Renewal}
@@ -164,25 +164,9 @@ last_true false false false false e is = is
 turns_then : (bound turns now next : ℕ) → bound < now → now ≡ next → next ≡ turns + 1 → bound ≤ turns
 turns_then bound turns now next l e i = omega arith
 
--- one link is not that many
-one_link : (b : Book) (t : Inner) → Tied b t → 2 ^ 32 ≤ b.links → ⊥
-one_link b t h many =
-    let links = h.numbers.links in
-    let one = h.numbers.one in
-    let first = h.numbers.only 0 (omega arith) in
-    let more : 1 < b.links = more_than_one b.links many in
-    let second = h.numbers.only 1 (omega arith) in
-    omega arith
-  where
-    more_than_one : (n : ℕ) → 2 ^ 32 ≤ n → 1 < n
-    more_than_one n l = omega arith
-
--- a link that was never asked for has none
-none_asked : (l : Ledger) → IsUnknown l → 2 ^ 32 ≤ renewals_asked l → ⊥
-none_asked l h many = too_few (renewals_asked l) (ap (λ (ss : List Start). renewal_count ss + (if is_some (renewal_due l) then 1 else 0)) h.starts ∙ ap (λ (o : Option Credentials). 0 + (if is_some o then 1 else 0)) (down_renewed_due l h.up)) many
-  where
-    too_few : (n : ℕ) → n ≡ 0 + 0 → 2 ^ 32 ≤ n → ⊥
-    too_few n e l = omega arith
+-- not that many links were asked for
+few_links : (b : Book) (t : Inner) → Tied b t → 2 ^ 32 ≤ b.links → ⊥
+few_links b t h many = let links = h.numbers.links in let few = h.numbers.few_links in omega arith
 
 -- by the numbers of the session
 pub spent_of : (b : Book) (t : Inner) (turns : ℕ) → Tied b t → t.turns ≡ turns + 1 → (2 ^ 32 ≤ renewals_asked (b.link t.link) → 2 ^ 32 ≤ t.renewal.asked) → HasRunOut b → IsSpentBy turns t ≡ true
@@ -197,7 +181,7 @@ spent_of b t turns h count renewals out =
       | inr x ↦ elim x [
         | inl l ↦ third_true first second third fourth last (le_test (2 ^ 32) (length t.table) (as_many (2 ^ 32) b.submissions (length t.table) l (sym h.numbers.submissions)))
         | inr y ↦ elim y [
-          | inl l ↦ absurd (one_link b t h l)
+          | inl l ↦ absurd (few_links b t h l)
           | inr z ↦ elim z [
             | inl l ↦ fourth_true first second third fourth last (le_test (2 ^ 32) (length t.timers) (subst (λ (ts : List Purpose). 2 ^ 32 ≤ length ts) h.numbers.timers l))
             | inr w ↦ elim w [
@@ -209,12 +193,12 @@ spent_of b t turns h count renewals out =
                     let up = subst (λ l. (b.link l).up ≡ true) same m.1 in
                     let here = subst (λ l. 2 ^ 32 ≤ length (b.link l).starts) same m.2 in
                     second_true first second third fourth last (or_first (is_spent_in t.life) (nat_le (2 ^ 32) t.renewal.asked) (le_test (2 ^ 32) (started_in t.life) (as_many (2 ^ 32) (length (b.link t.link).starts) (started_in t.life) here (up_started b t h up)))))
-                    (λ o. absurd (not_both (b.link m.0).up (h.others m.0 (ne_from m.0 t.link o)).up m.1))
+                    (λ o. absurd (not_both (b.link m.0).up (h.others m.0 (ne_from m.0 t.link o)).down m.1))
                 | inr m ↦ by_test (m.0 == t.link) _
                     (λ e.
                     let here = subst (λ l. 2 ^ 32 ≤ renewals_asked (b.link l)) (eq_from m.0 t.link e) m.1 in
                     second_true first second third fourth last (or_second (is_spent_in t.life) (nat_le (2 ^ 32) t.renewal.asked) (le_test (2 ^ 32) t.renewal.asked (renewals here))))
-                    (λ o. absurd (none_asked (b.link m.0) (h.others m.0 (ne_from m.0 t.link o)) m.1))
+                    (λ o. absurd (let few = (h.others m.0 (ne_from m.0 t.link o)).few in let many = m.1 in omega arith))
               ]
             ]
           ]

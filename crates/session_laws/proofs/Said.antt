@@ -13,10 +13,11 @@ use Rattle.mux_conn.specs.declared.life.Greeting.{Greeting}
 use Rattle.mux_conn.specs.declared.life.Life.{Life}
 use Rattle.mux_conn.specs.declared.life.Life.TheVariants.{Dialing, Wanting, SettingUp, Ready, Ended}
 use Rattle.mux_conn.specs.declared.request.Request.{Request}
-use Rattle.legal_trace.specs.Ledger.{Ledger, End, Ending, by_opening, hears, noted, authorized_by, awaits_credentials, is_over, dials, refused_in, bytes_came, ending, ending_up, ending_asked, ending_unready, ending_by, ending_alive, error_in, is_well, is_set_up, is_ready, lacks_credentials, setup_after, setup_result, is_renewal_open, lost_by, may_renew, renewed_by, unrenewed_by, source_due, is_unreadable, opening_error, by_fault, Heard}
+use Rattle.legal_trace.specs.Ledger.{Ledger, End, Ending, by_opening, hears, noted, authorized_by, awaits_credentials, is_over, dials, refused_in, bytes_came, ending, ending_up, ending_asked, ending_unready, ending_by, ending_alive, error_in, is_well, is_set_up, is_ready, lacks_credentials, setup_after, setup_result, is_renewal_open, lost_by, may_renew, renewed_by, unrenewed_by, source_due, is_unreadable, opening_error, by_fault, Heard, is_fault, lasting}
 use Rattle.legal_trace.proofs.Setups.{ends_where_set, ungreeted_is_unset}
 use Rattle.legal_trace.specs.Book.{Book}
 use Rattle.legal_trace.specs.Legal.{ReadyIsShown, SourcesAreAsked}
+use Rattle.legal_trace.proofs.Endings.{lasting_is_fault}
 use Rattle.session_laws.proofs.Creds.{down_unawaited, unawaited_is, wanting_lacks, down_may_renew, down_sourced, asked_sourced, has_sourced, ready_sourced}
 use Rattle.session_laws.proofs.SetUp.{not_set_up, lacking_unset, IsUnset}
 use Rattle.session_laws.proofs.Tied.{AreSought, Inner, HasSaid, Tied, TiedLife, TiedSetup, carried, owner_of, whole_link, TiedNotices, IsGreeting, greeter, is_reading, brings_bytes}
@@ -206,7 +207,7 @@ pushes_hear l turn silence heard mine tame k h = renoticed tame h
 pushes_hear l turn overdue heard mine tame k h = renoticed tame h
 pushes_hear l turn (refused f) heard mine tame k h =
     chosen (λ (x : Ledger). PushesOf heard mine (record x { heard = refused f })) (dials l) (refused_in l turn (error.Io f)) l
-    (λ t. record { heard_is = h.heard_is; hearing_is = h.hearing_is; within = h.within; untold_is = h.untold_is; parts = λ y d cut. cc; alive = λ e. cc; due = h.due; tame = λ e. cc })
+    (λ t. record { heard_is = h.heard_is; hearing_is = h.hearing_is; within = h.within; untold_is = h.untold_is; parts = λ y d cut. absurd (not_both (is_fault (lasting l.last (by_opening (error.Io f)))) (lasting_is_fault l.last (by_opening (error.Io f))) cut); alive = λ e. cc; due = h.due; tame = λ e. cc })
     (λ t. renoticed tame h)
 pushes_hear l turn connected heard mine tame k h = chosen (λ (x : Ledger). PushesOf heard mine (record x { heard = connected })) (is_over l) l (record l { up = true }) (λ t. renoticed tame h) (λ f. renoticed tame h)
 pushes_hear l turn (took count) heard mine tame k h = chosen (λ (x : Ledger). PushesOf heard mine (record x { heard = took count })) l.up (record l { taken = l.taken ++ take count l.offer; offer = [] }) l (λ t. renoticed tame h) (λ f. renoticed tame h)
@@ -377,7 +378,7 @@ ready_by l created info started (Ended e) h c s r = absurd (not_both l.up h.0 (b
 pub ready_shown : (b : Book) (t : Inner) → Tied b t → ReadyIsShown b
 ready_shown b t h m ready = by_test (m == t.link) _
     (λ same. ready_by (b.link t.link) b.created t.info t.started t.life h.life h.creds.sought h.setup (subst (λ k. is_ready (b.link k) ≡ true) (eq_from m t.link same) ready))
-    (λ other. absurd (not_both (b.link m).up (h.others m (ne_from m t.link other)).up (both_left (b.link m).up (is_set_up (b.link m)) ready)))
+    (λ other. absurd (not_both (b.link m).up (h.others m (ne_from m t.link other)).down (both_left (b.link m).up (is_set_up (b.link m)) ready)))
 
 -- every source was asked for that is to be
 --
@@ -393,4 +394,4 @@ life_sourced l created started (Ended e) h s said = down_sourced l h.0
 pub sources_asked : (b : Book) (t : Inner) → Tied b t → SourcesAreAsked b
 sources_asked b t h m = by_test (m == t.link) _
     (λ same. subst (λ k. source_due (b.link k) ≡ false) (sym (eq_from m t.link same)) (life_sourced (b.link t.link) b.created t.started t.life h.life h.creds.sought h.setup.said))
-    (λ other. down_sourced (b.link m) (h.others m (ne_from m t.link other)).up)
+    (λ other. down_sourced (b.link m) (h.others m (ne_from m t.link other)).down)

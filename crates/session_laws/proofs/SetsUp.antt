@@ -178,7 +178,7 @@ set_up_may b t link greeting due fit free h ended =
       k = c;
       due = taken_if l.up (setup_after l c) None h.life.1 ∙ due;
       free = held_by b was (λ (p : ℕ). greeter greeting) (with_queue link (q ∷ [])) h.numbers fit.bound_is (h.link refl) ∙ free;
-      in_order = λ m i less e. absurd (let no : ◌≡◌ {A = Option ℕ} None (Some i) = sym (down_undue (b.link m) (h.others m (λ same. absurd (omega arith))).up) ∙ e in cc);
+      in_order = λ m i less e. absurd (let no : ◌≡◌ {A = Option ℕ} None (Some i) = sym (down_undue (b.link m) (h.others m (λ same. absurd (omega arith))).down) ∙ e in cc);
       next = (h.link refl).started;
       needs_its_items = refl;
       long_as_its_bytes = refl;
@@ -203,12 +203,12 @@ set_up_tied b t link greeting due user h =
     let all = setting.alone in
     tied_by (entered b (set_up_action t link q)) now (noted l (begins s)) (mine_noted l t.link (begins s))
     (record {
-      numbers = numbers_kept b _ _ was _ _ _ _ _ _ _ _ _ _ h.numbers;
+      numbers = numbers_kept b _ _ _ was _ _ _ _ _ _ _ _ _ _ h.numbers;
       others = others_kept b t.link (begins s) h.others;
       notices = h.notices;
       life = h.life;
       creds = record { wanted_is = h.creds.wanted_is; sought = h.creds.sought };
-      count = h.count;
+      uses = h.uses;
       renewal = none_begins l t.renewal s refl h.renewal;
       setup = record { info_is = h.setup.info_is; sent = setups_next l all h.setup.sent; said = (said.0, greeting_of (noted l (begins s)) (with_queue (begun link q) []) greeting own (setting_next l link greeting all tied.within due user setting)) };
       link = λ e. subst (λ (who : Owner). TiedLink (λ (p : ℕ). who) (noted l (begins s)) (with_queue (begun link q) [])) (sym own)

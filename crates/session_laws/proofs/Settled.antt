@@ -12,7 +12,7 @@ use Rattle.link_laws.proofs.Started.{row_open}
 use Rattle.link_laws.specs.Settles.{StandsAs, awaited_ids, wanted}
 use Rattle.mux_conn.specs.Connection.{Work, first_queued, is_ready, in_front}
 use Rattle.mux_conn.specs.Passes.{passed}
-use Rattle.mux_conn.specs.Requests.{is_admitted_at, is_open_at, is_placed_at, is_waiting, is_waiting_at, name_at}
+use Rattle.mux_conn.specs.Requests.{is_admitted_at, is_open_at, is_placed_at, is_waiting_at, name_at}
 use Rattle.mux_conn.specs.Turn.{early_wait, flushed, fresh_each_shown, fresh_wait, is_from, moved_each_shown, moved_wait, wait_shown, waits_shown}
 use Rattle.mux_conn.specs.declared.act.LinkAct.TheVariants as act
 use Rattle.mux_conn.specs.declared.connection.MultiplexedConnection.{MultiplexedConnection}
@@ -29,9 +29,9 @@ use Rattle.session_laws.proofs.Ahead.{dialing_step, placed_open, setup_step, wai
 use Rattle.session_laws.proofs.Going.{is_moved}
 use Rattle.session_laws.proofs.InLine.{awaited_in, first_is_least, kept_ids, wanted_in}
 use Rattle.session_laws.proofs.Moved.{IsReady, passed_moved}
-use Rattle.session_laws.proofs.Names.{open_within, there_within}
+use Rattle.session_laws.proofs.Names.{open_within}
 use Rattle.session_laws.proofs.Numbers.{IsIn, Rising, in_left, in_right, rising_in, rising_left, rising_right, requests_in}
-use Rattle.session_laws.proofs.Owes.{IsOpenRequest, lives, none_open, open_request, request_story, row_link, stands_started, wanted_entry}
+use Rattle.session_laws.proofs.Owes.{IsOpenRequest, lives, none_open, open_request, request_story, row_link, stands_started, wanted_entry, open_on}
 use Rattle.session_laws.proofs.Settle.{book_of_more, seen, sound_act, trace_of_acts}
 use Rattle.session_laws.proofs.States.{Between, HasApplied, IsFitIn, IsStill, trace_with}
 use Rattle.session_laws.proofs.Tied.{Inner, Sound, Tied, TiedLife, TiedWaits, has_ended, link_in, owner_of, queue_ids, relined, shown_wait, waiting_ids}
@@ -302,11 +302,11 @@ early_holds b t p ps h q is up w = by_life t.life refl
 
     by_life : (x : Life) → t.life ≡ x → EarlyHolds b t p (early_wait t.life)
     by_life Dialing e = subst (λ (x : Life). EarlyHolds b t p (early_wait x)) (sym e)
-        (record { new = h.waits.no_connect p first w e; holds = dialing_step b t p h e (there_within is_waiting t.requests p w) })
+        (record { new = h.waits.no_connect p first w e; holds = dialing_step b t p h e (open_on b t p h (waiting_open t.requests p w)) })
     by_life (Wanting link) e = subst (λ (x : Life). EarlyHolds b t p (early_wait x)) (sym e)
-        (record { new = h.waits.no_creds p link first w e; holds = creds_step b t p link h e (there_within is_waiting t.requests p w) })
+        (record { new = h.waits.no_creds p link first w e; holds = creds_step b t p link h e (open_on b t p h (waiting_open t.requests p w)) })
     by_life (SettingUp link greeting) e = subst (λ (x : Life). EarlyHolds b t p (early_wait x)) (sym e)
-        (record { new = h.waits.no_setup p link greeting first w e; holds = setup_step b t p link greeting h e (there_within is_waiting t.requests p w) })
+        (record { new = h.waits.no_setup p link greeting first w e; holds = setup_step b t p link greeting h e (open_on b t p h (waiting_open t.requests p w)) })
     by_life (Ready link) e = subst (λ (x : Life). EarlyHolds b t p (early_wait x)) (sym e)
         (record { new = h.waits.no_permit p link first w e; holds = permit_holds b t p link h q e w (waiting_there b t p h q.settled w) })
     by_life (Ended x) e = absurd (ended_none b t p x h q e (waiting_open t.requests p w))

@@ -171,9 +171,9 @@ tries_started l story requests link k started s p other new one owned shaped cou
             subst (λ y. (tried_at n link k story (name_at requests y)).tries ≡ record { link = link; message = setup_count (l.starts ++ s ∷ []) + j } ∷ []) a.1
             (ap (λ (x : Story). x.tries) (taken_if (n == n) (tried (story n) link k) (story n) (eq_test n n refl)) ∙ (λ i. none i ++ record { link = link; message = k } ∷ []) ∙ ap (λ y. record { link = link; message = y } ∷ []) here)
       ];
-      untried = λ m r i out.
-          ap (λ (x : Story). x.tries) (left_if (n == r.name) (tried (story r.name) link k) (story r.name) (ne_test n r.name (λ e. out (in_right m started (p ∷ []) (inl (sym (one m r i (sym e))))))))
-          ∙ h.untried m r i (λ j. out (in_left m started (p ∷ []) j));
+      untried = λ m r i out on.
+          let still = left_if (n == r.name) (tried (story r.name) link k) (story r.name) (ne_test n r.name (λ e. out (in_right m started (p ∷ []) (inl (sym (one m r i (sym e))))))) in
+          ap (λ (x : Story). x.tries) still ∙ h.untried m r i (λ j. out (in_left m started (p ∷ []) j)) (sym (ap (λ (x : Story). x.link) still) ∙ on);
     }
 
 -- the line, and what is shown of waits
@@ -286,15 +286,18 @@ waits_started b t link q qs k l h =
     h.waits
 
 -- who was told and has not started is in the queue still
-told_started : (b : Book) (t : Inner) (link : LinkState) (q : Queued) (qs : List Queued) (k l : ℕ) → AreQueued b.story t.requests (with_queue link (q ∷ qs))
-    → AreQueued (tried_at (name_at t.requests q.id) k l b.story) t.requests (with_queue (begun link q) qs)
-told_started b t link q qs k l h n =
+told_started : (b : Book) (t : Inner) (link : LinkState) (q : Queued) (qs : List Queued) (k l : ℕ) → AreQueued b.story t.requests t.link (with_queue link (q ∷ qs))
+    → AreQueued (tried_at (name_at t.requests q.id) k l b.story) t.requests t.link (with_queue (begun link q) qs)
+told_started b t link q qs k l h =
     let m = name_at t.requests q.id in
-    chosen (λ (x : Story). is_told x ≡ true → x.tries ≡ [] → (p : ℕ) × (p < length t.requests) × (name_at t.requests p ≡ n) × IsIn p (queue_ids qs)) (m == n) (tried (b.story n) k l) (b.story n)
-    (λ e told none. absurd (some_more (b.story n).tries _ none))
-    (λ f told none.
-    let i = h n told none in
-    (i.0, i.1, i.2, elim i.3 [ inl same ↦ absurd (ne_from m n f (ap (name_at t.requests) same ∙ i.2)) | inr j ↦ j ]))
+    record {
+      told = λ n. chosen (λ (x : Story). is_told x ≡ true → x.tries ≡ [] → x.link ≡ t.link → (p : ℕ) × (p < length t.requests) × (name_at t.requests p ≡ n) × IsIn p (queue_ids qs)) (m == n) (tried (b.story n) k l) (b.story n)
+          (λ e told none on. absurd (some_more (b.story n).tries _ none))
+          (λ f told none on.
+          let i = h.told n told none on in
+          (i.0, i.1, i.2, elim i.3 [ inl same ↦ absurd (ne_from m n f (ap (name_at t.requests) same ∙ i.2)) | inr j ↦ j ]));
+      here = λ p i. (tried_holds m k l b.story (name_at t.requests p)).link ∙ h.here p (inr i);
+    }
 
 -- a request is one still
 tried_request : (s : Story) (requests : List Request) (link p k l : ℕ) → IsRequest s requests link p → IsRequest (tried s k l) requests link p
@@ -324,12 +327,12 @@ start_tied b t link q qs h =
     tied_by (entered b (start_action t link q)) (after_start t link q qs) (noted l (begins s))
     (mine_noted l t.link (begins (message_of b t.link (owner.Try n 0))) ∙ ap (λ x. noted l (begins x)) (same_start b t.link t.requests q other is))
     (record {
-      numbers = numbers_kept b _ _ was _ _ _ _ _ _ _ _ _ _ h.numbers;
+      numbers = numbers_kept b _ _ _ was _ _ _ _ _ _ _ _ _ _ h.numbers;
       others = others_kept b t.link (begins (message_of b t.link (owner.Try n 0))) h.others;
       notices = h.notices;
       life = h.life;
       creds = record { wanted_is = h.creds.wanted_is; sought = h.creds.sought };
-      count = h.count;
+      uses = h.uses;
       renewal = begins_renewed l t.renewal s (ap is_of_renewal try_is) h.renewal;
       setup = record { info_is = h.setup.info_is; sent = setups_begins l s (ap is_of_setup try_is) h.setup.sent; said = set_up_begins l s (ap is_of_setup try_is) h.setup.said };
       link = λ e. queue_tied name (noted l (begins s)) (begun (with_queue link (q ∷ qs)) q) qs (begun_tied name l (with_queue link (q ∷ qs)) q (queued_some b was q h within is) up);
@@ -339,7 +342,7 @@ start_tied b t link q qs h =
           (λ m inside i e. new (subst (λ x. IsIn x t.started) (same_name t.table t.requests m q.id h.names inside within e) i))
           (λ m r i e. same_name t.table t.requests m q.id h.names (get_within t.requests m r i) within (name_of_some t.requests m r i ∙ e))
           refl is.is_of.shape_is up.started
-          (ap (λ x. (b.story x).tries) (name_of_some t.requests q.id g.0 g.1) ∙ h.tries.untried q.id g.0 g.1 new) (asked_unwatched b was q.id h within) h.tries;
+          (ap (λ x. (b.story x).tries) (name_of_some t.requests q.id g.0 g.1) ∙ h.tries.untried q.id g.0 g.1 new (sym (ap (λ x. (b.story x).link) (name_of_some t.requests q.id g.0 g.1)) ∙ (h.told refl).here q.id (inl refl))) (asked_unwatched b was q.id h within) h.tries;
       lines = lines_started b.story t.requests link t.waiting t.admitted t.started q qs t.link link.started other h.lines;
       told = λ e. told_started b t link q qs t.link link.started (h.told refl);
       waits = waits_started b t link q qs t.link link.started h;

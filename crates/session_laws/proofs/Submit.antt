@@ -1,5 +1,6 @@
 -- A submission is handed in: it is answered at once, or it is the next request.
 use Rattle.std.proofs.lemmas.List.{append-nil}
+use Rattle.std.specs.Prelude.{max}
 use Rattle.std.proofs.Common.{slice_get, ◌≤◌, ◌≡◌, ◌≢◌, ◌⊎◌, inl, inr, ℕ, ◌+◌, ◌<◌, ◌==◌, Bool, true, false, ◌||◌, ◌&&◌, not, List, [], ◌∷◌, ◌++◌, length, Option, Some, None, if◌then◌else◌, refl, sym, ap, ◌∙◌, subst, arith, length-append, ◌^◌}
 use Rattle.containers.proofs.Places.{get_within}
 use Rattle.containers.proofs.Choices.{by_test, taken_if, left_if, eq_from, eq_test, ne_from, ne_test, not_both}
@@ -19,17 +20,18 @@ use Rattle.mux_conn.specs.declared.request.Progress.{Progress}
 use Rattle.shared_session.specs.declared.core_state.Core.{Core}
 use Rattle.legal_trace.specs.Ledger.{is_over, next_notice}
 use Rattle.legal_trace.specs.Story.{Story, Try, blank_story, is_open, is_no_error, is_told, is_awaited, bytes_of, handed_in, answered, last_of}
-use Rattle.legal_trace.specs.Book.{Book, entered, if_own, current, is_unspoken, kind_in}
-use Rattle.legal_trace.specs.Owed.{owed, owed_to_try}
+use Rattle.legal_trace.specs.Book.{Book, entered, if_own, is_unspoken, kind_in}
+use Rattle.legal_trace.specs.Owed.{owed, owed_to_try, owed_waiting}
 use Rattle.legal_trace.specs.Legal.{IsOpen, link_of, NoneIsOwed, NoneEnds, MayAnswer, FailuresAreShown}
+use Rattle.session_laws.proofs.Aside.{aside_silent}
 use Rattle.session_laws.proofs.Renewals.{renewal_alike}
 use Rattle.session_laws.proofs.Numbers.{IsIn, in_left, in_right, Rising, rising_in, requests_in, request_in}
-use Rattle.session_laws.proofs.Tied.{carried, inner, link_in, queue_ids, waiting_ids, whole_link, IsRefused, TiedStory, Tied, no_opening}
+use Rattle.session_laws.proofs.Tied.{carried, inner, link_in, queue_ids, waiting_ids, whole_link, IsRefused, TiedStory, Tied}
 use Rattle.session_laws.proofs.Names.{there_within, names_refused, submits_unwatched}
 use Rattle.session_laws.proofs.Owes.{started_within, ends_told, notices_told}
 use Rattle.session_laws.proofs.Answer.{owed_in, no_push}
 use Rattle.session_laws.proofs.Settle.{seen}
-use Rattle.session_laws.proofs.Announce.{aims_longer, aims_on, turn_of, turned, uses_on, counted_on, time_still}
+use Rattle.session_laws.proofs.Announce.{aims_longer, aims_on, turn_of, turned, uses_on, uses_on, time_still}
 use Rattle.session_laws.proofs.Heard.{told_life, silent_no_end}
 use Rattle.session_laws.proofs.Said.{setup_on, sources_asked, IsTame, renoticed}
 use Rattle.session_laws.proofs.Further.{get_beyond, no_longer, SameBefore, further_story, tries_longer, queue_longer, packs_longer, told_longer, IsNext, waits_longer, permits_longer, late_longer}
@@ -37,7 +39,7 @@ use Rattle.session_laws.proofs.InLine.{kept_ids, awaited_in}
 
 -- the stories once it is handed in
 abbrev pub stories_with : Book → Submission → ℕ → Story
-stories_with b what n = if_own (b.submissions == n) (handed_in (b.story n) what b.shut (is_unspoken b what) (current b) b.timeout) (b.story n)
+stories_with b what n = if_own (b.submissions == n) (handed_in (b.story n) what b.shut (is_unspoken b what) (max 1 b.generation) b.current b.timeout) (b.story n)
 
 -- any other story stays
 stories_before : (b : Book) (what : Submission) (n : ℕ) → n ≢ b.submissions → stories_with b what n ≡ b.story n
@@ -45,7 +47,7 @@ stories_before b what n other = left_if (b.submissions == n) _ (b.story n) (ne_t
 
 -- its own
 abbrev pub new_story : Book → Submission → Story
-new_story b what = handed_in blank_story what b.shut (is_unspoken b what) (current b) b.timeout
+new_story b what = handed_in blank_story what b.shut (is_unspoken b what) (max 1 b.generation) b.current b.timeout
 
 -- the next submission has no story before
 next_is_blank : (b : Book) (c : Core) (started : List ℕ) → Tied b (inner c started) → b.story (length c.table) ≡ blank_story
@@ -55,7 +57,7 @@ next_is_blank b c started h = subst (TiedStory (b.story (length c.table)) c.sing
 pub story_is_new : (b : Book) (c : Core) (started : List ℕ) (what : Submission) → Tied b (inner c started) → stories_with b what (length c.table) ≡ new_story b what
 story_is_new b c started what h =
     taken_if (b.submissions == length c.table) _ (b.story (length c.table)) (eq_test b.submissions (length c.table) h.numbers.submissions)
-    ∙ ap (λ (s : Story). handed_in s what b.shut (is_unspoken b what) (current b) b.timeout) (next_is_blank b c started h)
+    ∙ ap (λ (s : Story). handed_in s what b.shut (is_unspoken b what) (max 1 b.generation) b.current b.timeout) (next_is_blank b c started h)
 
 -- the others, by the table
 pub others_before : (b : Book) (c : Core) (started : List ℕ) (what : Submission) → Tied b (inner c started) → SameBefore b.story (stories_with b what) (length c.table)
@@ -67,12 +69,17 @@ within_line requests started queue last p r i = let k = rising_in 0 (started ++ 
 
 -- it is answered at once
 --
+-- nothing more is shut
+pub or_none : (a : Bool) → (a || false) ≡ a
+or_none true = refl
+or_none false = refl
+
 -- what the others are owed stays
 others_owed : (b : Book) (c : Core) (word : ℕ) (what : Submission) (m : ℕ) → m ≢ b.submissions → owed (entered b (turn_of c word (event.Submit what))) m ≡ owed b m
 others_owed b c word what m other = ap (owed_in (entered b (turn_of c word (event.Submit what)))) (stories_before b what m other) ∙ same (b.story m)
   where
     by_try : (s : Story) (x : Option Try) → owed_to_try (entered b (turn_of c word (event.Submit what))) s x ≡ owed_to_try b s x
-    by_try s None = refl
+    by_try s None = ap (λ x. owed_waiting x (b.link s.link)) (or_none b.shut)
     by_try s (Some t) = refl
 
     same : (s : Story) → owed_in (entered b (turn_of c word (event.Submit what))) s ≡ owed_in b s
@@ -176,9 +183,8 @@ refused_tied b c started word what e h tame form few no_fresh =
         links = h.numbers.links;
         timers = h.numbers.timers ∙ sym (append-nil c.timers);
         sources = h.numbers.sources ∙ sym (append-nil c.sources);
-        uses = uses_on c.sources c.single.link h.numbers.uses;
         aims = aims_on c.timers c.single.link (length (c.table ++ None ∷ [])) (aims_longer c.timers c.single.link (length c.table) (length (c.table ++ None ∷ [])) (omega (arith, length-append c.table (None ∷ []))) h.numbers.aims);
-        timed = λ config other opens bounded none. no_opening _ config other opens;
+        timed = h.numbers.timed;
         submissions = (let k = h.numbers.submissions in omega (arith, length-append c.table (None ∷ [])));
         timeout = time_still (kind_in b.config) b.timeout (event.Submit what) tt ∙ h.numbers.timeout;
         shut = ap (λ s. s || false) h.numbers.shut;
@@ -187,14 +193,18 @@ refused_tied b c started word what e h tame form few no_fresh =
         settings = record { size_is = h.numbers.settings.size_is; bound_is = h.numbers.settings.bound_is; limit_is = h.numbers.settings.limit_is; some = h.numbers.settings.some; limited = h.numbers.settings.limited };
         kind_is = h.numbers.kind_is;
         quiet = λ w. absurd (submits_unwatched b (inner c started) what h form w);
+        plain = h.numbers.plain;
+        eager = h.numbers.eager;
+        current_is = h.numbers.current_is;
+        speaks = h.numbers.speaks;
         one = h.numbers.one;
-        only = h.numbers.only;
+        few_links = h.numbers.few_links;
       };
-      others = λ m other. let u = h.others m other in record { asked = u.asked; up = u.up; end = u.end; starts = u.starts; notices = u.notices };
+      others = λ m other. aside_silent (b.link m) c.turns (h.others m other);
       notices = renoticed tame h.notices;
       life = told_life ledger b.created conn.life silence h.life;
       creds = h.creds;
-      count = counted_on c.sources ledger.creds h.count;
+      uses = uses_on c.sources c.single.link h.uses;
       renewal = renewal_alike ledger (record ledger { heard = silence }) conn.renewal conn.life refl refl refl h.renewal;
       setup = setup_on ledger ledger.asked ledger.up ledger.end ledger.taken ledger.offer ledger.rest silence conn.info started conn.life h.setup;
       link = λ alive. told_tied (carried conn.life conn.requests) ledger (whole_link conn.life) ledger.asked ledger.up silence (h.link alive);
@@ -214,8 +224,9 @@ refused_tied b c started word what e h tame form few no_fresh =
             (λ p i. at p (in_right p (requests_in started) (queue ++ last) (in_right p queue last (in_left p (waiting_ids conn.admitted) (waiting_ids conn.waiting) i)))) h.lines.packed_in;
         there = h.lines.there;
       };
-      told = λ up. told_longer c.table b.story after conn.requests conn.requests (link_in conn.life) same longer
-          (λ u. not_both (is_told (answered (new_story b what) (outcome.Fault e))) (fault_untold (is_awaited (new_story b what)) e) (ap is_told (sym is) ∙ u.0)) (h.told up);
+      told = λ up. told_longer c.table b.story after conn.requests conn.requests c.single.link (link_in conn.life) h.names same longer
+          (λ u. not_both (is_told (answered (new_story b what) (outcome.Fault e))) (fault_untold (is_awaited (new_story b what)) e) (ap is_told (sym is) ∙ u.0))
+          (λ p i. at p (in_right p (requests_in started) (queue ++ last) (in_left p queue last i))) (h.told up);
       waits = waits_longer c.table b.story after conn.requests conn.requests conn.life conn.fresh conn.fresh conn.moved h.names same longer
           (λ p i. at p (in_right p (requests_in started) (queue ++ last) (in_left p queue last (awaited_in p (link_in conn.life).queue i)))) no_fresh
           next h.waits;

@@ -6,21 +6,18 @@ use Rattle.resp_value.specs.declared.value.Value.TheVariants.{Nil}
 use Rattle.connection_info.specs.declared.address.RedisConnectionInfo.{RedisConnectionInfo}
 use Rattle.driver_model.specs.declared.action.Action.{Action}
 use Rattle.driver_model.specs.declared.action.Owner.{Owner}
-use Rattle.driver_model.specs.declared.action.Cause.{Cause}
 use Rattle.driver_model.specs.declared.action.Purpose.{Purpose}
 use Rattle.driver_model.specs.declared.action.SourceUse.{SourceUse}
+use Rattle.driver_model.specs.declared.action.SourceUse.TheVariants as source
 use Rattle.driver_model.specs.declared.action.Owner.TheVariants as owner
 use Rattle.driver_model.specs.Config.{boundary}
 use Rattle.driver_model.specs.Setup.{says_nothing, setup_shape}
 use Rattle.driver_model.specs.declared.action.WaitKind.{WaitKind}
 use Rattle.driver_model.specs.declared.action.WaitKind.TheVariants as wait
 use Rattle.driver_model.specs.declared.event.Submission.{Submission}
-use Rattle.driver_model.specs.declared.event.Event.{Event}
 use Rattle.driver_model.specs.declared.outcome.Outcome.TheVariants as outcome
 use Rattle.driver_model.specs.declared.outcome.Shape.{Shape}
-use Rattle.driver_model.specs.declared.action.Cause.TheVariants as cause
 use Rattle.driver_model.specs.declared.action.Purpose.TheVariants as purpose
-use Rattle.driver_model.specs.declared.config.Config.{Config}
 use Rattle.resp_write.specs.Pack.{pack}
 use Rattle.driver_model.specs.declared.kind.SessionKind.{SessionKind}
 use Rattle.driver_model.specs.declared.hearing.Hearing.{Hearing}
@@ -45,10 +42,10 @@ use Rattle.mux_conn.specs.declared.request.Waiting.{Waiting}
 use Rattle.mux_conn.specs.Effects.{setup_queued, setup_id}
 use Rattle.mux_conn.specs.Requests.{name_at, permits_at, is_open_at, is_waiting_at, is_admitted_at, is_placed_at}
 use Rattle.shared_session.specs.declared.core_state.Core.{Core}
-use Rattle.shared_session.specs.Turn.{use_after}
-use Rattle.legal_trace.specs.Ledger.{Ledger, Heard, Sourced, Start, End, cut, failure_in, is_cut, is_done, is_full, is_greeted, is_of_renewal, is_set_up, is_taken, last_renewal, monitor_of, renewal_count, setup_count, setup_steps, setup_after}
+use Rattle.legal_trace.specs.Ledger.{Ledger, Heard, Sourced, Start, End, blank_ledger, cut, failure_in, is_cut, is_done, is_full, is_greeted, is_of_renewal, is_over, is_set_up, is_taken, last_renewal, monitor_of, next_notice, renewal_count, renewals_asked, setup_count, setup_steps, setup_after}
 use Rattle.legal_trace.specs.Story.{Story, blank_story, is_open, is_told, bytes_of, shape, is_awaited}
-use Rattle.legal_trace.specs.Book.{Book, blank_book, book, hearing_in, kind_in}
+use Rattle.legal_trace.specs.Book.{Book, blank_book, book, has_generations, hearing_in, info_in, kind_in}
+use Rattle.legal_trace.specs.Managers.{is_lazy}
 use Rattle.legal_trace.specs.Steps.{configured, queue_size, permits_in, permits_held, is_let_in}
 use Rattle.legal_trace.specs.Legal.{AllStand, IsTimed, answer_time}
 use Rattle.legal_trace.specs.Owed.{owed_unstarted}
@@ -162,14 +159,14 @@ abbrev pub setup_owners : ℕ → List Owner → List Owner
 setup_owners zero more = more
 setup_owners (suc n) more = owner.Setup ∷ setup_owners n more
 
--- a timer is for this link, or for one of so many submissions
+-- a timer is for this link or one before it, or for one of so many submissions
 abbrev pub IsAim : Purpose → ℕ → ℕ → Type 0
-IsAim (purpose.Connect l) link count = l ≡ link
+IsAim (purpose.Connect l) link count = l ≤ link
 IsAim (purpose.Response owner.Setup) link count = ⊥
 IsAim (purpose.Response owner.Auth) link count = ⊥
 IsAim (purpose.Response owner.Resub) link count = ⊥
 IsAim (purpose.Response owner.Monitor) link count = ⊥
-IsAim (purpose.Renewal l k) link count = l ≡ link
+IsAim (purpose.Renewal l k) link count = l ≤ link
 IsAim (purpose.Backoff g) link count = ⊥
 IsAim (purpose.Resubscription l) link count = ⊥
 IsAim (purpose.Response (owner.Try n round)) link count = (n < count) × (round ≡ 0)
@@ -178,9 +175,15 @@ IsAim (purpose.Response (owner.Try n round)) link count = (n < count) × (round 
 abbrev pub AreAimed : List Purpose → ℕ → ℕ → Type 0
 AreAimed timers link count = (k : ℕ) (what : Purpose) → slice_get timers k ≡ Some what → IsAim what link count
 
--- the first source of credentials is for the setup of this link, and all others are for its renewals
-abbrev pub AreUses : List SourceUse → ℕ → Type 0
-AreUses sources link = (k : ℕ) (what : SourceUse) → slice_get sources k ≡ Some what → what ≡ use_after link k
+-- a source of credentials is for this link or one before it; and where it is for this, for its setup or for its renewals, the link
+-- knows of it
+abbrev pub IsUse : SourceUse → ℕ → Bool → Bool → Type 0
+IsUse (source.Setup l) link asked renews = (l ≤ link) × (l ≡ link → asked ≡ true)
+IsUse (source.Renewal l) link asked renews = (l ≤ link) × (l ≡ link → renews ≡ true)
+
+-- all sources are
+abbrev pub AreUses : List SourceUse → ℕ → Bool → Bool → Type 0
+AreUses sources link asked renews = (k : ℕ) (what : SourceUse) → slice_get sources k ≡ Some what → IsUse what link asked renews
 
 -- the configuration that the book tells has a queue of this size, which is not none, this boundary, and so many permits,
 -- which are not none, if they are counted
@@ -197,16 +200,16 @@ pub record IsBare (table : List (Option Pending)) (r : Renewal) : Type 0 where
   pub unwanted : r.wanted ≡ false
   pub unrenewed : r.waiting ≡ []
 
--- the numbers that the session gives are those of the book, and so is what it is; its connection's link is the only one; all timers are for it or
--- for a submission, all sources of credentials are for it, and the opening has asked for its timer; what is told to its server is
--- to be answered within the configured time; and no more numbers were given to submissions than there are
+-- the numbers that the session gives are those of the book, and so is what it is, which has no generations, and what its servers are
+-- told; its connection's link is the one that submissions go to, and the last that was asked for; all timers are for it, for one
+-- before it, or for a submission, and one was asked for each bounded connect; what is told to its server is to be answered within the
+-- configured time; and no more numbers were given to submissions than there are
 pub record TiedNumbers (b : Book) (t : Inner) : Type 0 where
   pub turns : b.turns ≡ t.turns
   pub links : b.links ≡ t.links
   pub submissions : b.submissions ≡ length t.table
   pub timers : b.timers ≡ t.timers
   pub sources : b.sources ≡ t.sources
-  pub uses : AreUses t.sources t.link
   pub aims : AreAimed t.timers t.link (length t.table)
   pub timed : IsTimed b
   pub timeout : b.timeout ≡ t.timeout
@@ -216,16 +219,37 @@ pub record TiedNumbers (b : Book) (t : Inner) : Type 0 where
   pub settings : IsConfigured b t.size t.bound t.limit
   pub kind_is : kind_in b.config ≡ t.kind
   pub quiet : is_watching t.hears ≡ true → IsBare t.table t.renewal
+  pub plain : has_generations b ≡ false
+  pub eager : is_lazy b.config ≡ false
+  pub current_is : b.current ≡ t.link
+  pub speaks : (info_in b.config).protocol ≡ t.info.protocol
   pub one : t.links ≡ t.link + 1
-  pub only : (m : ℕ) → m < t.links → m ≡ t.link
+  pub few_links : t.links < 2 ^ 32
 
--- a link that was never asked for
-pub record IsUnknown (l : Ledger) : Type 0 where
-  pub asked : l.asked ≡ false
-  pub up : l.up ≡ false
-  pub end : l.end ≡ None
-  pub starts : l.starts ≡ []
-  pub notices : l.notices ≡ []
+-- where the opening failed, this was shown
+abbrev pub FailureIsShown : Option End → ℕ → Type 0
+FailureIsShown end created = (e : RedisError) → failure_in end ≡ Some e → created ≢ 0
+
+-- a link that was never asked for: it has heard of turns alone
+abbrev pub IsUnknown : Ledger → Type 0
+IsUnknown l = l ≡ record blank_ledger { heard = l.heard }
+
+-- link m, another than the connection's, isn't up. It is over where it is one of so many that were asked for, and else unknown;
+-- nothing of it is still to be told, its failure was shown, if its opening failed, and a timer was asked for all of its new
+-- credentials, where they are to be answered within a time
+pub record IsAside (links m : ℕ) (l : Ledger) (hears : Hearing) (within : Option ℕ) (created : ℕ) : Type 0 where
+  pub down : l.up ≡ false
+  pub over : m < links → is_over l ≡ true
+  pub unknown : links ≤ m → IsUnknown l
+  pub told : hears_something hears ≡ true → next_notice l ≡ None
+  pub parts : hears_pushes hears ≡ true → is_cut l.end ≡ true → l.parted ≡ true
+  pub shown : FailureIsShown l.end created
+  pub timed : within ≢ None → renewals_asked l ≤ l.creds.timed
+  pub few : renewals_asked l < 2 ^ 32
+
+-- all links but this one are
+abbrev pub AreAside : ℕ → ℕ → (ℕ → Ledger) → Hearing → Option ℕ → ℕ → Type 0
+AreAside link links ledgers hears within created = (m : ℕ) → m ≢ link → IsAside links m (ledgers m) hears within created
 
 -- these are bytes that came
 abbrev pub brings_bytes : News → Bool
@@ -249,17 +273,14 @@ pub record TiedNotices (heard hears hearing : Hearing) (notices : List Heard) (t
   pub due : parting ≡ true → parted ≡ false
   pub tame : end ≡ None → reading ≡ false → strange ≡ false
 
--- where the opening failed, this was shown
-abbrev pub FailureIsShown : Option End → ℕ → Type 0
-FailureIsShown end created = (e : RedisError) → failure_in end ≡ Some e → created ≢ 0
-
--- how far the link has come; where it has ended, a submission without a message gets this error
+-- how far the link has come, which was asked for, and after which no attempt follows; where it has ended, a submission without a
+-- message gets this error
 abbrev pub TiedLife : Ledger → ℕ → Life → Type 0
-TiedLife l created Dialing = (l.asked ≡ true) × (l.up ≡ false) × (l.end ≡ None) × (created ≡ 0)
-TiedLife l created (Wanting link) = (l.asked ≡ true) × (l.up ≡ true) × (l.end ≡ None) × (created ≡ 0)
-TiedLife l created (SettingUp link greeting) = (l.asked ≡ true) × (l.up ≡ true) × (l.end ≡ None) × (created ≡ 0)
-TiedLife l created (Ready link) = (l.asked ≡ true) × (l.up ≡ true) × (l.end ≡ None) × (created ≢ 0)
-TiedLife l created (Ended e) = (l.up ≡ false) × (owed_unstarted l.end ≡ Some (outcome.Fault e)) × FailureIsShown l.end created
+TiedLife l created Dialing = (l.asked ≡ true) × (l.up ≡ false) × (l.end ≡ None) × (created ≡ 0) × (l.last ≡ true)
+TiedLife l created (Wanting link) = (l.asked ≡ true) × (l.up ≡ true) × (l.end ≡ None) × (created ≡ 0) × (l.last ≡ true)
+TiedLife l created (SettingUp link greeting) = (l.asked ≡ true) × (l.up ≡ true) × (l.end ≡ None) × (created ≡ 0) × (l.last ≡ true)
+TiedLife l created (Ready link) = (l.asked ≡ true) × (l.up ≡ true) × (l.end ≡ None) × (created ≢ 0) × (l.last ≡ true)
+TiedLife l created (Ended e) = (l.up ≡ false) × (owed_unstarted l.end ≡ Some (outcome.Fault e)) × FailureIsShown l.end created × (l.asked ≡ true)
 
 -- the credentials of a link come of no source, or they have come
 abbrev pub HasCredentials : Sourced → Type 0
@@ -272,10 +293,6 @@ AreSought c (Wanting link) = (c.wanted ≡ true) × (c.asked ≡ true) × (c.giv
 AreSought c (SettingUp link greeting) = HasCredentials c × (c.renews ≡ false)
 AreSought c (Ready link) = HasCredentials c × (c.renews ≡ c.wanted)
 AreSought c (Ended e) = Unit {0}
-
--- how many sources were asked for by then
-abbrev pub sources_asked_in : Sourced → ℕ
-sources_asked_in c = (if c.asked then 1 else 0) + (if c.renews then 1 else 0)
 
 -- whether they come of sources is the same for the link and the session
 pub record TiedCreds (c : Sourced) (wanted : Bool) (life : Life) : Type 0 where
@@ -447,13 +464,13 @@ pub record IsRefused (s : Story) : Type 0 where
   pub error : RedisError
   pub answered : s.outcomes ≡ outcome.Fault error ∷ []
 
--- a submission that is a request of the connection of that link
+-- a submission that is a request of the connection, and goes to that link while it is open
 pub record IsRequest (s : Story) (requests : List Request) (link p : ℕ) : Type 0 where
   pub what : Submission
   pub handed_in : s.submission ≡ Some what
   pub in_time : s.late ≡ false
   pub spoken : s.unspoken ≡ false
-  pub on : s.link ≡ link
+  pub on : is_open_at requests p ≡ true → s.link ≡ link
   pub some : bytes_of s ≢ []
   pub open_is : is_open s ≡ is_open_at requests p
   pub permits_is : s.permits ≡ permits_at requests p
@@ -478,13 +495,13 @@ pub record HasGreetedAlone (starts : List Start) (started : List ℕ) : Type 0 w
   pub greets : (k : ℕ) (s : Start) → slice_get starts k ≡ Some s → is_of_greeting s.owner ≡ true
 
 -- the messages that started, by the tries of their submissions, behind those of the setup, where the server isn't put into monitor
--- mode; each request's has its submission's shape
+-- mode; each request's has its submission's shape; and a request that goes to the link, and whose message has not started, has none
 pub record TiedTries (l : Ledger) (story : ℕ → Story) (requests : List Request) (link : ℕ) (started : List ℕ) : Type 0 where
   pub owners : is_watching l.hearing ≡ false → owners_of l.starts ≡ setup_owners (setup_count l.starts) (owners_each requests started)
   pub greeted : is_watching l.hearing ≡ true → HasGreetedAlone l.starts started
   pub shapes : (k : ℕ) (p : ℕ) (s : Start) → p < length requests → slice_get started k ≡ Some p → slice_get l.starts (setup_count l.starts + k) ≡ Some s → s.shape ≡ shape (story (name_at requests p))
   pub tried : (k p : ℕ) → p < length requests → slice_get started k ≡ Some p → (story (name_at requests p)).tries ≡ record { link = link; message = setup_count l.starts + k } ∷ []
-  pub untried : (p : ℕ) (r : Request) → slice_get requests p ≡ Some r → (IsIn p started → ⊥) → (story r.name).tries ≡ []
+  pub untried : (p : ℕ) (r : Request) → slice_get requests p ≡ Some r → (IsIn p started → ⊥) → (story r.name).link ≡ link → (story r.name).tries ≡ []
 
 -- these are the bytes and the shape of a submission, and whether its reply is awaited
 pub record IsOf (s : Story) (bytes : List ℕ) (of_shape : Shape) (awaited : Bool) : Type 0 where
@@ -532,9 +549,15 @@ pub record TiedLines (story : ℕ → Story) (requests : List Request) (link : L
   pub packed_in : AllByRecursion (IsPacked story requests) admitted
   pub there : (p : ℕ) → is_open_at requests p ≡ true → IsIn p (pending ++ (requests_in (wanted link.row) ++ awaited_ids link.queue)) ⊎ IsKept requests waiting admitted p
 
--- who was told at its place and has not started is in the queue
-abbrev pub AreQueued : (ℕ → Story) → List Request → LinkState → Type 0
-AreQueued story requests link = (n : ℕ) → is_told (story n) ≡ true → (story n).tries ≡ [] → (p : ℕ) × (p < length requests) × (name_at requests p ≡ n) × IsIn p (queue_ids link.queue)
+-- who was told at its place on the link of this number, and has not started, is in the queue; and what is in the queue goes to that
+-- link
+pub record IsQueueOf (story : ℕ → Story) (requests : List Request) (number : ℕ) (ids : List ℕ) : Type 0 where
+  pub told : (n : ℕ) → is_told (story n) ≡ true → (story n).tries ≡ [] → (story n).link ≡ number → (p : ℕ) × (p < length requests) × (name_at requests p ≡ n) × IsIn p ids
+  pub here : (p : ℕ) → IsIn p ids → (story (name_at requests p)).link ≡ number
+
+-- of the queue of a link
+abbrev pub AreQueued : (ℕ → Story) → List Request → ℕ → LinkState → Type 0
+AreQueued story requests number link = IsQueueOf story requests number (queue_ids link.queue)
 
 -- the wait that was shown of a request
 abbrev pub shown_wait : (ℕ → Story) → List Request → ℕ → Option WaitKind
@@ -576,11 +599,11 @@ AreLate story requests pending = (p : ℕ) → is_open_at requests p ≡ true �
 
 pub record Tied (b : Book) (t : Inner) : Type 0 where
   pub numbers : TiedNumbers b t
-  pub others : (m : ℕ) → m ≢ t.link → IsUnknown (b.link m)
+  pub others : AreAside t.link t.links b.link t.hears t.renewal.within b.created
   pub notices : TiedNotices (hearing_in b.config) t.hears (b.link t.link).hearing (b.link t.link).notices (b.link t.link).told (b.link t.link).end (b.link t.link).parted (b.link t.link).strange (is_reading (b.link t.link)) t.untold t.parting
   pub life : TiedLife (b.link t.link) b.created t.life
   pub creds : TiedCreds (b.link t.link).creds t.renewal.wanted t.life
-  pub count : length t.sources ≡ sources_asked_in (b.link t.link).creds
+  pub uses : AreUses t.sources t.link (b.link t.link).creds.asked (b.link t.link).creds.renews
   pub renewal : TiedRenewal (b.link t.link) t.renewal t.life
   pub setup : TiedSetup (b.link t.link) t.info t.started t.life
   pub link : has_ended t.life ≡ false → TiedLink (carried t.life t.requests) (b.link t.link) (whole_link t.life)
@@ -588,7 +611,7 @@ pub record Tied (b : Book) (t : Inner) : Type 0 where
   pub story : (n : ℕ) → TiedStory (b.story n) t.requests t.link (slice_get t.table n)
   pub tries : TiedTries (b.link t.link) b.story t.requests t.link t.started
   pub lines : TiedLines b.story t.requests (link_in t.life) t.waiting t.admitted t.pending t.started
-  pub told : has_ended t.life ≡ false → AreQueued b.story t.requests (link_in t.life)
+  pub told : has_ended t.life ≡ false → AreQueued b.story t.requests t.link (link_in t.life)
   pub waits : TiedWaits b.story t.requests t.life t.fresh t.moved
   pub permits : TiedPermits b.story b.submissions t.requests t.link t.limit t.free t.letting
   pub late : AreLate b.story t.requests t.pending
@@ -634,19 +657,14 @@ inner c started = record {
   started = started;
 }
 
--- a turn of an event isn't the opening
-pub no_opening : (e : Event) (config : Config) (word : ℕ) → ◌≡◌ {A = Option Cause} (Some (cause.Event e)) (Some (cause.Opening config word)) → ⊥
-no_opening e config word is = cc
-
 -- the numbers, where only links, stories and the connection change
-pub numbers_kept : (b : Book) (link : ℕ → Ledger) (story : ℕ → Story) (t : Inner) (life : Life) (free : ℕ) (requests : List Request) (waiting admitted : List Waiting) (fresh moved letting pending started : List ℕ) → TiedNumbers b t
-    → TiedNumbers (record b { link = link; story = story }) (record t { life = life; free = free; requests = requests; waiting = waiting; admitted = admitted; fresh = fresh; moved = moved; letting = letting; pending = pending; started = started })
-numbers_kept b link story t life free requests waiting admitted fresh moved letting pending started h = record {
+pub numbers_kept : (b : Book) (link : ℕ → Ledger) (story : ℕ → Story) (errors : List RedisError) (t : Inner) (life : Life) (free : ℕ) (requests : List Request) (waiting admitted : List Waiting) (fresh moved letting pending started : List ℕ) → TiedNumbers b t
+    → TiedNumbers (record b { link = link; story = story; errors = errors }) (record t { life = life; free = free; requests = requests; waiting = waiting; admitted = admitted; fresh = fresh; moved = moved; letting = letting; pending = pending; started = started })
+numbers_kept b link story errors t life free requests waiting admitted fresh moved letting pending started h = record {
   turns = h.turns;
   links = h.links;
   timers = h.timers;
   sources = h.sources;
-  uses = h.uses;
   aims = h.aims;
   timed = h.timed;
   submissions = h.submissions;
@@ -657,8 +675,12 @@ numbers_kept b link story t life free requests waiting admitted fresh moved lett
   settings = record { size_is = h.settings.size_is; bound_is = h.settings.bound_is; limit_is = h.settings.limit_is; some = h.settings.some; limited = h.settings.limited };
   kind_is = h.kind_is;
   quiet = h.quiet;
+  plain = h.plain;
+  eager = h.eager;
+  current_is = h.current_is;
+  speaks = h.speaks;
   one = h.one;
-  only = h.only;
+  few_links = h.few_links;
 }
 
 -- requests move between those that wait for the connection, those that wait for a place, those whose wait isn't shown yet,
@@ -668,12 +690,12 @@ pub relined : (b : Book) (t : Inner) (waiting admitted : List Waiting) (fresh mo
     → TiedLines b.story t.requests (link_in t.life) waiting admitted pending t.started → TiedWaits b.story t.requests t.life fresh moved → AreLate b.story t.requests pending
     → Tied b (record t { waiting = waiting; admitted = admitted; fresh = fresh; moved = moved; pending = pending })
 relined b t waiting admitted fresh moved pending h lines waits late = record {
-  numbers = numbers_kept b b.link b.story t t.life t.free t.requests waiting admitted fresh moved t.letting pending t.started h.numbers;
+  numbers = numbers_kept b b.link b.story b.errors t t.life t.free t.requests waiting admitted fresh moved t.letting pending t.started h.numbers;
   others = h.others;
   notices = h.notices;
   life = h.life;
   creds = h.creds;
-  count = h.count;
+  uses = h.uses;
   renewal = h.renewal;
   setup = h.setup;
   link = h.link;

@@ -1,5 +1,5 @@
 -- One notice is told of a link, or its end is: what this leaves as it is.
-use Rattle.std.proofs.Common.{◌≡◌, ℕ, Bool, List, [], ◌∷◌, refl, ap, ◌∙◌, subst, arith, sym, ◌==◌, ◌+◌}
+use Rattle.std.proofs.Common.{◌≡◌, ℕ, Bool, List, [], ◌∷◌, refl, ap, ◌∙◌, subst, sym, ◌==◌, ◌+◌}
 use Rattle.std.specs.List.{AllByRecursion}
 use Rattle.driver_model.specs.declared.action.Action.TheVariants as action
 use Rattle.driver_model.specs.declared.action.Owner.{Owner}
@@ -11,7 +11,7 @@ use Rattle.link_laws.proofs.TiedLink.{TiedLink}
 use Rattle.mux_conn.specs.declared.life.Life.{Life}
 use Rattle.mux_conn.specs.declared.life.Life.TheVariants.{Dialing, Wanting, SettingUp, Ready, Ended}
 use Rattle.legal_trace.specs.Ledger.{Ledger, Heard, noted, is_set_up, Line, tells, parts, noted_each}
-use Rattle.legal_trace.specs.Book.{Book, entered, push_line, current, hearing_in, if_mine}
+use Rattle.legal_trace.specs.Book.{Book, entered, push_line, hearing_in, if_mine}
 use Rattle.session_laws.proofs.Kept.{mine_noted, others_kept, tied_by}
 use Rattle.session_laws.proofs.Tied.{Inner, Tied, TiedLife, TiedNotices, carried, whole_link, is_reading}
 use Rattle.session_laws.proofs.Renewals.{renewal_alike}
@@ -72,12 +72,12 @@ pub line_tied : (b : Book) (t : Inner) (line : Line) (told : ℕ) (parted : Bool
 line_tied b t line told parted untold parting is pushed h =
     let l = b.link t.link in
     tied_by (lined b t.link line) (record t { untold = untold; parting = parting }) (retells l told parted) (mine_noted l t.link line ∙ is) (record {
-      numbers = record { turns = h.numbers.turns; links = h.numbers.links; submissions = h.numbers.submissions; timers = h.numbers.timers; sources = h.numbers.sources; uses = h.numbers.uses; aims = h.numbers.aims; timed = h.numbers.timed; timeout = h.numbers.timeout; shut = h.numbers.shut; within = h.numbers.within; few = h.numbers.few; settings = record { size_is = h.numbers.settings.size_is; bound_is = h.numbers.settings.bound_is; limit_is = h.numbers.settings.limit_is; some = h.numbers.settings.some; limited = h.numbers.settings.limited }; kind_is = h.numbers.kind_is; quiet = h.numbers.quiet; one = h.numbers.one; only = h.numbers.only };
+      numbers = record { turns = h.numbers.turns; links = h.numbers.links; submissions = h.numbers.submissions; timers = h.numbers.timers; sources = h.numbers.sources; aims = h.numbers.aims; timed = h.numbers.timed; timeout = h.numbers.timeout; shut = h.numbers.shut; within = h.numbers.within; few = h.numbers.few; settings = record { size_is = h.numbers.settings.size_is; bound_is = h.numbers.settings.bound_is; limit_is = h.numbers.settings.limit_is; some = h.numbers.settings.some; limited = h.numbers.settings.limited }; kind_is = h.numbers.kind_is; quiet = h.numbers.quiet; plain = h.numbers.plain; eager = h.numbers.eager; current_is = h.numbers.current_is; speaks = h.numbers.speaks; one = h.numbers.one; few_links = h.numbers.few_links };
       others = others_kept b t.link line h.others;
       notices = pushed;
       life = life_told l told parted b.created t.life h.life;
       creds = h.creds;
-      count = h.count;
+      uses = h.uses;
       renewal = renewal_alike l (retells l told parted) t.renewal t.life refl refl refl h.renewal;
       setup = record { info_is = h.setup.info_is; sent = h.setup.sent; said = said_alike l (retells l told parted) t.started t.life (same_told l told parted) h.setup.said };
       link = λ up. link_told (carried t.life t.requests) l told parted (whole_link t.life) (h.link up);
@@ -103,8 +103,8 @@ notice_action l (notice.Message m) = action.Message m
 notice_action l (notice.Monitor v) = action.Monitor v
 
 -- messages are told of the session's link
-pub current_is : (b : Book) (t : Inner) → Tied b t → current b ≡ t.link
-current_is b t h = let links = h.numbers.links in let one = h.numbers.one in omega arith
+pub current_is : (b : Book) (t : Inner) → Tied b t → b.current ≡ t.link
+current_is b t h = h.numbers.current_is
 
 -- so with anything that came
 pub notice_tied : (b : Book) (t : Inner) (n : Notice) (untold : List Heard) → IsNoEnd n

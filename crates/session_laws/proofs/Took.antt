@@ -124,7 +124,7 @@ took_applied before c started word count kind h good k is can = by_life c.single
           said = wanting_link (noted l (hears c.turns (took count))) conn.info started link (wrote_of link count) refl refl said;
           linked = λ n. wrote_tied (λ (p : ℕ). owner.Setup) l link c.turns count life.1 few tied;
           lines = subst (λ (x : Life). TiedLines b.story conn.requests (link_in x) conn.waiting conn.admitted [] started) e h.sound.tied.lines;
-          told = λ n. subst (λ (x : Life). AreQueued b.story conn.requests (link_in x)) e (h.sound.tied.told (ap has_ended e));
+          told = λ n. subst (λ (x : Life). AreQueued b.story conn.requests c.single.link (link_in x)) e (h.sound.tied.told (ap has_ended e));
           waits = wanting_waits b.story conn.requests link (wrote_of link count) conn.fresh conn.moved (subst (λ (x : Life). TiedWaits b.story conn.requests x conn.fresh conn.moved) e h.sound.tied.waits);
           notices = pushes_still before c started (took count) h (inl tt);
         })
@@ -151,7 +151,7 @@ took_applied before c started word count kind h good k is can = by_life c.single
           said = setup_link (noted l (hears c.turns (took count))) conn.info started link (wrote_of link count) greeting refl refl said;
           linked = λ n. wrote_tied (λ (p : ℕ). greeter greeting) l link c.turns count life.1 few tied;
           lines = subst (λ (x : Life). TiedLines b.story conn.requests (link_in x) conn.waiting conn.admitted [] started) e h.sound.tied.lines;
-          told = λ n. subst (λ (x : Life). AreQueued b.story conn.requests (link_in x)) e (h.sound.tied.told (ap has_ended e));
+          told = λ n. subst (λ (x : Life). AreQueued b.story conn.requests c.single.link (link_in x)) e (h.sound.tied.told (ap has_ended e));
           waits = setting_waits b.story conn.requests link (wrote_of link count) greeting greeting conn.fresh conn.moved (subst (λ (x : Life). TiedWaits b.story conn.requests x conn.fresh conn.moved) e h.sound.tied.waits);
           notices = pushes_still before c started (took count) h (inl tt);
         })
@@ -178,7 +178,7 @@ took_applied before c started word count kind h good k is can = by_life c.single
           said = setup_ready (noted l (hears c.turns (took count))) conn.info started link (wrote_of link count) said;
           linked = λ n. wrote_tied (owner_of conn.requests) l link c.turns count life.1 few tied;
           lines = wrote_lines b.story conn.requests link count conn.waiting conn.admitted [] started (subst (λ (x : Life). TiedLines b.story conn.requests (link_in x) conn.waiting conn.admitted [] started) e h.sound.tied.lines);
-          told = λ n. subst (λ (x : Life). AreQueued b.story conn.requests (link_in x)) e (h.sound.tied.told (ap has_ended e));
+          told = λ n. subst (λ (x : Life). AreQueued b.story conn.requests c.single.link (link_in x)) e (h.sound.tied.told (ap has_ended e));
           waits = queue_waits b.story conn.requests link (wrote_of link count) conn.fresh conn.moved (λ p i. i) (subst (λ (x : Life). TiedWaits b.story conn.requests x conn.fresh conn.moved) e h.sound.tied.waits);
           notices = pushes_still before c started (took count) h (inl tt);
         })

@@ -33,7 +33,7 @@ use Rattle.session_laws.proofs.Kept.{SameOutcomes, SameSubmissions, SameTimes, o
 use Rattle.session_laws.proofs.Moves.{later_of, open_unstarted}
 use Rattle.session_laws.proofs.Names.{earlier_name, get_some, name_of_some, open_within, same_name, there_within, request_not}
 use Rattle.session_laws.proofs.Numbers.{IsIn, Rising, in_either, in_left, in_right, rising_apart, rising_from, rising_in, rising_right, requests_in, request_in, request_of}
-use Rattle.session_laws.proofs.Owes.{later_unstarted, none_open, open_request, request_story, row_in_line}
+use Rattle.session_laws.proofs.Owes.{later_unstarted, none_open, open_request, request_story, row_in_line, open_on}
 use Rattle.session_laws.proofs.Permits.{IsHolding, permits_same}
 use Rattle.session_laws.proofs.States.{IsFit}
 use Rattle.session_laws.proofs.Tied.{AreQueued, Inner, IsEntry, IsKept, IsQueued, IsRequest, Tied, TiedWaits, has_ended, link_in, queue_ids, shown_wait, waiting_ids, numbers_kept}
@@ -129,8 +129,11 @@ told_same : (f g : ℕ → Story) (n : ℕ) → SameSubmissions f g → SameOutc
 told_same f g n same answers = λ i. not (awaited_in (same n i)) && is_no_error (answers n i)
 
 -- and in the queue
-queued_still : (f g : ℕ → Story) (requests : List Request) (link : LinkState) → SameSubmissions f g → SameOutcomes f g → ((n : ℕ) → (f n).tries ≡ (g n).tries) → AreQueued f requests link → AreQueued g requests link
-queued_still f g requests link same answers tried h n is none = h n (told_same f g n same answers ∙ is) (tried n ∙ none)
+queued_still : (f g : ℕ → Story) (requests : List Request) (number : ℕ) (link : LinkState) → SameSubmissions f g → SameOutcomes f g → ((n : ℕ) → (f n).tries ≡ (g n).tries) → ((n : ℕ) → (f n).link ≡ (g n).link) → AreQueued f requests number link → AreQueued g requests number link
+queued_still f g requests number link same answers tried linked h = record {
+  told = λ n is none on. h.told n (told_same f g n same answers ∙ is) (tried n ∙ none) (linked n ∙ on);
+  here = λ p i. sym (linked (name_at requests p)) ∙ h.here p i;
+}
 
 -- its own wait is shown then
 shown_own : (story : ℕ → Story) (requests : List Request) (p : ℕ) (kind : WaitKind) → shown_wait (waits_at (name_at requests p) kind story) requests p ≡ Some kind
@@ -151,18 +154,18 @@ wait_tied b t p kind moved fresh within h waits =
     let same = waits_submissions n kind b.story in
     let answers = waits_outcomes n kind b.story in
     record {
-      numbers = numbers_kept b b.link after t t.life t.free t.requests t.waiting t.admitted fresh moved t.letting t.pending t.started h.numbers;
+      numbers = numbers_kept b b.link after b.errors t t.life t.free t.requests t.waiting t.admitted fresh moved t.letting t.pending t.started h.numbers;
       others = h.others;
       notices = h.notices;
       life = h.life;
       creds = h.creds;
-      count = h.count;
+      uses = h.uses;
       renewal = h.renewal;
       setup = h.setup;
       link = h.link;
       names = h.names;
       story = one_changed b t p (λ s. waits_now s kind) h within (waits_request (b.story n) kind t.requests t.link p);
-      tries = tries_same (b.link t.link) b.story after t.requests t.link t.started same (waits_tries n kind b.story) h.tries;
+      tries = tries_same (b.link t.link) b.story after t.requests t.link t.started same (waits_tries n kind b.story) (λ m. sym (waits_holding n kind b.story m).link) h.tries;
       lines = record {
         line = h.lines.line;
         queued = queued_same b.story after t.requests (link_in t.life).queue same answers h.lines.queued;
@@ -171,7 +174,7 @@ wait_tied b t p kind moved fresh within h waits =
         packed_in = packed_same b.story after t.requests t.admitted same (waits_times n kind b.story) h.lines.packed_in;
         there = h.lines.there;
       };
-      told = λ up. queued_still b.story after t.requests (link_in t.life) same answers (waits_tries n kind b.story) (h.told up);
+      told = λ up. queued_still b.story after t.requests t.link (link_in t.life) same answers (waits_tries n kind b.story) (λ m. sym (waits_holding n kind b.story m).link) (h.told up);
       waits = waits;
       permits = permits_same b.story after b.submissions t.requests t.link t.limit t.free t.letting (waits_holding n kind b.story) h.permits;
       late = λ q o late. h.late q o (sym (waits_late n kind b.story (name_at t.requests q)) ∙ late);
@@ -210,10 +213,11 @@ placed_or_kept_in t p (inl i) = in_left p (queue_ids (link_in t.life).queue) (ke
 placed_or_kept_in t p (inr k) = in_right p (queue_ids (link_in t.life).queue) (kept_ids t.admitted t.waiting) (kept_in t.requests t.waiting t.admitted p k)
 
 -- and has not started
-pub there_untried : (b : Book) (t : Inner) (p : ℕ) → Tied b t → p < length t.requests → IsPlacedOrKept t p → (b.story (name_at t.requests p)).tries ≡ []
-there_untried b t p h within at =
-    let g = get_some t.requests p within in
-    ap (λ x. (b.story x).tries) (name_of_some t.requests p g.0 g.1) ∙ h.tries.untried p g.0 g.1 (later_unstarted b t p h (placed_or_kept_in t p at))
+pub there_untried : (b : Book) (t : Inner) (p : ℕ) → Tied b t → is_open_at t.requests p ≡ true → IsPlacedOrKept t p → (b.story (name_at t.requests p)).tries ≡ []
+there_untried b t p h o at =
+    let g = get_some t.requests p (open_within t.requests p o) in
+    let named = name_of_some t.requests p g.0 g.1 in
+    ap (λ x. (b.story x).tries) named ∙ h.tries.untried p g.0 g.1 (later_unstarted b t p h (placed_or_kept_in t p at)) (sym (ap (λ x. (b.story x).link) named) ∙ open_on b t p h o)
 
 -- who is in the row stands before all others
 row_before : (b : Book) (t : Inner) (p q : ℕ) → Tied b t → has_ended t.life ≡ false → p < length t.requests → IsIn p (wanted (link_in t.life).row) → IsIn q (queue_ids (link_in t.life).queue ++ kept_ids t.admitted t.waiting) → p < q
@@ -226,7 +230,7 @@ untried_there : (b : Book) (t : Inner) (p : ℕ) → Tied b t → t.pending ≡ 
 untried_there b t p h none up o untried =
     let within = open_within t.requests p o in
     let s = b.story (name_at t.requests p) in
-    let l = later_of b t (name_at t.requests p) h none up (open_unstarted s untried ((request_story b t p h within).open_is ∙ o)) in
+    let l = later_of b t (name_at t.requests p) h none up (open_on b t p h o) (open_unstarted s untried ((request_story b t p h within).open_is ∙ o)) in
     let same = same_name t.table t.requests l.p p h.names l.within within l.name in
     let queue = queue_ids (link_in t.life).queue in
     let kept = kept_ids t.admitted t.waiting in
@@ -334,28 +338,28 @@ waiting_is b t p h q o at unmoved old = by_life t.life refl
     within = open_within t.requests p o
 
     as_shown : (kind : WaitKind) → (b.story n).waiting ≡ Some kind → WaitHolds b n kind → IsWaiting b n
-    as_shown kind shown holds = record { unstarted = there_untried b t p h within at; kind = kind; shown = shown; holds = holds }
+    as_shown kind shown holds = record { unstarted = there_untried b t p h o at; kind = kind; shown = shown; holds = holds }
 
     by_life : (life : Life) → t.life ≡ life → IsWaiting b n
     by_life Dialing e = elim at [
       | inl i ↦ absurd (subst (λ (x : Life). IsIn p (awaited_ids (link_in x).queue)) e i)
       | inr k ↦ elim k [
         | inl a ↦ absurd (subst (λ ws. IsIn p (waiting_ids ws)) (q.none (λ link r. not_ready t.life Dialing link refl e r)) a.1)
-        | inr w ↦ as_shown wait.Connect (elim (h.waits.connect p w.0 e) [ inl new ↦ absurd (old w.0 new) | inr s ↦ s ]) (dialing_step b t p h e within)
+        | inr w ↦ as_shown wait.Connect (elim (h.waits.connect p w.0 e) [ inl new ↦ absurd (old w.0 new) | inr s ↦ s ]) (dialing_step b t p h e (open_on b t p h o))
       ]
     ]
     by_life (Wanting link) e = elim at [
       | inl i ↦ absurd (subst (λ (x : Life). IsIn p (awaited_ids (link_in x).queue)) e i)
       | inr k ↦ elim k [
         | inl a ↦ absurd (subst (λ ws. IsIn p (waiting_ids ws)) (q.none (λ other r. not_ready t.life (Wanting link) other refl e r)) a.1)
-        | inr w ↦ as_shown wait.Creds (elim (h.waits.creds p link w.0 e) [ inl new ↦ absurd (old w.0 new) | inr s ↦ s ]) (creds_step b t p link h e within)
+        | inr w ↦ as_shown wait.Creds (elim (h.waits.creds p link w.0 e) [ inl new ↦ absurd (old w.0 new) | inr s ↦ s ]) (creds_step b t p link h e (open_on b t p h o))
       ]
     ]
     by_life (SettingUp link greeting) e = elim at [
       | inl i ↦ absurd (subst (λ (x : Life). IsIn p (awaited_ids (link_in x).queue)) e i)
       | inr k ↦ elim k [
         | inl a ↦ absurd (subst (λ ws. IsIn p (waiting_ids ws)) (q.none (λ other r. not_ready t.life (SettingUp link greeting) other refl e r)) a.1)
-        | inr w ↦ as_shown wait.Setup (elim (h.waits.setup p link greeting w.0 e) [ inl new ↦ absurd (old w.0 new) | inr s ↦ s ]) (setup_step b t p link greeting h e within)
+        | inr w ↦ as_shown wait.Setup (elim (h.waits.setup p link greeting w.0 e) [ inl new ↦ absurd (old w.0 new) | inr s ↦ s ]) (setup_step b t p link greeting h e (open_on b t p h o))
       ]
     ]
     by_life (Ready link) e = elim at [
@@ -378,7 +382,7 @@ wait_may b t p kind h q up written o at new holds unmoved old =
     record {
       written = written;
       asked = (request_story b t p h within).open_is ∙ o;
-      unstarted = there_untried b t p h within at;
+      unstarted = there_untried b t p h o at;
       new = new;
       holds = holds;
       in_order = λ m less asked untried.

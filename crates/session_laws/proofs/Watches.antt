@@ -110,7 +110,7 @@ watch_may b t link due fit free h ended =
       setups = setups_started b was h (λ x u e. inl (none_given (setup_due l) (λ k d. greeted_is_undue l k said.greeted d)));
       due = watch_due l (queued link) h.life.1 said due;
       free = held_by b was (λ (p : ℕ). owner.Monitor) (queued link) h.numbers fit.bound_is (h.link refl) ∙ free;
-      in_order = λ m less d. absurd (not_both (b.link m).up (h.others m (λ same. absurd (omega arith))).up (watch_is_up (b.link m) d));
+      in_order = λ m less d. absurd (not_both (b.link m).up (h.others m (λ same. absurd (omega arith))).down (watch_is_up (b.link m) d));
       next = (h.link refl).started;
       needs_its_items = refl;
       long_as_its_bytes = refl;
@@ -127,12 +127,12 @@ watch_tied b t link due h =
     let said = h.setup.said in
     tied_by (entered b (watch_action t link)) (setting_on t (watched link) greet.Monitor) (noted l (begins s)) (mine_noted l t.link (begins s))
     (record {
-      numbers = numbers_kept b _ _ was _ _ _ _ _ _ _ _ _ _ h.numbers;
+      numbers = numbers_kept b _ _ _ was _ _ _ _ _ _ _ _ _ _ h.numbers;
       others = others_kept b t.link (begins s) h.others;
       notices = h.notices;
       life = h.life;
       creds = record { wanted_is = h.creds.wanted_is; sought = h.creds.sought };
-      count = h.count;
+      uses = h.uses;
       renewal = none_begins l t.renewal s refl h.renewal;
       setup = record { info_is = h.setup.info_is; sent = setups_begins l s refl h.setup.sent; said = (said.0, watching_next l link tied.within due said.1) };
       link = λ e. queue_tied name (noted l (begins s)) (begun (queued link) watch_queued) [] (begun_tied name l (queued link) watch_queued monitor_has_bytes tied);

@@ -32,7 +32,7 @@ use Rattle.session_laws.proofs.Settle.{book_of_more, holds_more, seen, trace_of_
 use Rattle.session_laws.proofs.Start.{on_link}
 use Rattle.session_laws.proofs.Took.{queue_waits}
 use Rattle.session_laws.proofs.States.{IsFit}
-use Rattle.session_laws.proofs.Tied.{HasSaid, Inner, IsUnknown, Tied, TiedLife, carried, has_ended, numbers_kept, owner_of, whole_link, link_in, greeter}
+use Rattle.session_laws.proofs.Tied.{HasSaid, Inner, Tied, TiedLife, carried, has_ended, numbers_kept, owner_of, whole_link, link_in, greeter}
 
 -- an offer
 --
@@ -41,12 +41,12 @@ write_tied b t link h =
     let l = b.link t.link in
     let line = offers link.outbox.unwritten in
     tied_by (entered b (action.Write t.link link.outbox.unwritten)) (on_link t (offered_of link)) (noted l line) (mine_noted l t.link line) (record {
-      numbers = numbers_kept b _ _ (on_link t link) _ _ _ _ _ _ _ _ _ _ h.numbers;
+      numbers = numbers_kept b _ _ _ (on_link t link) _ _ _ _ _ _ _ _ _ _ h.numbers;
       others = others_kept b t.link line h.others;
       notices = h.notices;
       life = h.life;
       creds = record { wanted_is = h.creds.wanted_is; sought = h.creds.sought };
-      count = h.count;
+      uses = h.uses;
       renewal = renewal_alike l (noted l line) t.renewal (Ready link) refl refl refl h.renewal;
       setup = record { info_is = h.setup.info_is; sent = h.setup.sent; said = record { well = h.setup.said.well; none = h.setup.said.none } };
       link = λ e. offered_tied (owner_of t.requests) l link (h.link refl);
@@ -66,12 +66,12 @@ write_set_tied b t link greeting h =
     let l = b.link t.link in
     let line = offers link.outbox.unwritten in
     tied_by (entered b (action.Write t.link link.outbox.unwritten)) (setting_on t (offered_of link) greeting) (noted l line) (mine_noted l t.link line) (record {
-      numbers = numbers_kept b _ _ (setting_on t link greeting) _ _ _ _ _ _ _ _ _ _ h.numbers;
+      numbers = numbers_kept b _ _ _ (setting_on t link greeting) _ _ _ _ _ _ _ _ _ _ h.numbers;
       others = others_kept b t.link line h.others;
       notices = h.notices;
       life = h.life;
       creds = record { wanted_is = h.creds.wanted_is; sought = h.creds.sought };
-      count = h.count;
+      uses = h.uses;
       renewal = renewal_alike l (noted l line) t.renewal (SettingUp link greeting) refl refl refl h.renewal;
       setup = setup_link (noted l line) t.info t.started link (offered_of link) greeting refl refl
           (setup_on l l.asked l.up l.end l.taken link.outbox.unwritten l.rest l.heard t.info t.started (SettingUp link greeting) h.setup);
@@ -87,7 +87,7 @@ write_set_tied b t link greeting h =
     })
 
 -- it may stand, once all requests are moved
-write_may : (b : Book) (t : Inner) (name : ℕ → Owner) (link : LinkState) → ((m : ℕ) → m ≢ t.link → IsUnknown (b.link m)) → (b.link t.link).up ≡ true → TiedLink name (b.link t.link) link → IsMoved b → can_offer link.outbox ≡ true → MayWrite b t.link link.outbox.unwritten
+write_may : (b : Book) (t : Inner) (name : ℕ → Owner) (link : LinkState) → ((m : ℕ) → m ≢ t.link → (b.link m).up ≡ false) → (b.link t.link).up ≡ true → TiedLink name (b.link t.link) link → IsMoved b → can_offer link.outbox ≡ true → MayWrite b t.link link.outbox.unwritten
 write_may b t name link others alive tied moved can =
     let may = offer_stands name (b.link t.link) link alive can tied in
     record {
@@ -96,7 +96,7 @@ write_may b t name link others alive tied moved can =
       answered = may.1;
       all = may.2;
       some = may.3;
-      in_order = λ m less up. absurd (not_both (b.link m).up (others m (λ e. omega (arith, e))).up up);
+      in_order = λ m less up. absurd (not_both (b.link m).up (others m (λ e. omega (arith, e))) up);
     }
 
 -- what may be offered is
@@ -137,7 +137,7 @@ write_shown before f w link life can h =
     record {
       moved = record {
         started = h.started;
-        holds = holds_more before f w a (with_link w (offered_of link)).conn [] [] h.started h.holds (write_may b t (owner_of w.conn.requests) link tied.others tied.life.1 (tied.link refl) (moved_book before f w h) can) (write_tied b t link tied);
+        holds = holds_more before f w a (with_link w (offered_of link)).conn [] [] h.started h.holds (write_may b t (owner_of w.conn.requests) link (λ m other. (tied.others m other).down) tied.life.1 (tied.link refl) (moved_book before f w h) can) (write_tied b t link tied);
         ended = subst NoneEnds (sym (book_of_more before f w.acts a)) (none_ends_kept b f.single.link (offers link.outbox.unwritten) (λ l e. e) h.ended);
         fit = record {
           wanting = λ other e. cc;
@@ -175,7 +175,7 @@ write_set_shown before f w link greeting life can h =
     record {
       moved = record {
         started = h.started;
-        holds = holds_more before f w a (with_setup w (offered_of link) greeting).conn [] [] h.started h.holds (write_may b t (λ (p : ℕ). greeter greeting) link tied.others tied.life.1 (tied.link refl) (moved_book before f w h) can) (write_set_tied b t link greeting tied);
+        holds = holds_more before f w a (with_setup w (offered_of link) greeting).conn [] [] h.started h.holds (write_may b t (λ (p : ℕ). greeter greeting) link (λ m other. (tied.others m other).down) tied.life.1 (tied.link refl) (moved_book before f w h) can) (write_set_tied b t link greeting tied);
         ended = subst NoneEnds (sym (book_of_more before f w.acts a)) (none_ends_kept b f.single.link (offers link.outbox.unwritten) (λ l e. e) h.ended);
         fit = record {
           wanting = λ other e. cc;
@@ -253,5 +253,5 @@ is_written b t h moved offered = record {
   moved = moved;
   offered = λ l up. by_test (l == t.link) _
       (λ e. let same = eq_from l t.link e in subst (λ k. IsOffered (b.link k)) (sym same) (up_offered b t h offered (subst (λ k. (b.link k).up ≡ true) same up)))
-      (λ n. absurd (not_both (b.link l).up (h.others l (ne_from l t.link n)).up up));
+      (λ n. absurd (not_both (b.link l).up (h.others l (ne_from l t.link n)).down up));
 }
