@@ -8,6 +8,7 @@ use Rattle.driver_model.specs.declared.action.Purpose.{Purpose}
 use Rattle.driver_model.specs.declared.event.EventKind.{EventKind}
 use Rattle.mux_conn.specs.declared.act.LinkAct.{LinkAct}
 use Rattle.mux_conn.specs.Connection.{is_used_up, is_resting}
+use Rattle.driver_model.specs.declared.action.Purpose.TheVariants as purpose
 use Rattle.shared_session.specs.declared.core_state.Core.{Core}
 use Rattle.shared_session.specs.declared.generations.Comeback.{Comeback}
 use Rattle.shared_session.specs.declared.generations.Comeback.TheVariants as comeback
@@ -74,7 +75,7 @@ begun_settings : (m : Option Generations) (n : ℕ) → SameSettings (option_map
 begun_settings None n = tt
 begun_settings (Some g) n = refl
 
-came_settings : (c : Core) (what : Comeback) → SameSettings (came_back c what).manager c.manager
+pub came_settings : (c : Core) (what : Comeback) → SameSettings (came_back c what).manager c.manager
 came_settings c comeback.Stays = settings_same c.manager
 came_settings c (comeback.Rests n a t) = failed_settings c.manager a t
 came_settings c (comeback.Dials l None t) = settings_same c.manager
@@ -160,7 +161,7 @@ restable c comeback.Stays few links suits = tt
 restable c (comeback.Rests n a t) few links suits = restable_few c.manager c n a t few links suits
 restable c (comeback.Dials l n t) few links suits = tt
 
-numbered_in : Option Generations → ℕ
+abbrev numbered_in : Option Generations → ℕ
 numbered_in None = 0
 numbered_in (Some g) = g.number
 
@@ -174,7 +175,7 @@ number_few (Some h) g link links e few l =
 -- no timer is lost
 pub more_timers : (c : Core) (what : Comeback) → length c.timers ≤ length (came_back c what).timers
 more_timers c comeback.Stays = le_refl (length c.timers)
-more_timers c (comeback.Rests n a t) = omega (arith, length-append c.timers _)
+more_timers c (comeback.Rests n a t) = omega (arith, length-append c.timers (purpose.Backoff n ∷ []))
 more_timers c (comeback.Dials l None t) = omega (arith, length-append c.timers (connect_purposes l (bound_of c.manager)))
 more_timers c (comeback.Dials l (Some n) t) = omega (arith, length-append c.timers (connect_purposes l (bound_of (begun c n).manager)))
 
@@ -197,7 +198,7 @@ begun_bound (Some g) n = refl
 no_number : (n : ℕ) → ◌≡◌ {A = Option ℕ} None (Some n) → n < 2 ^ 32
 no_number n e = cc
 
-held : Option ℕ → ℕ
+abbrev held : Option ℕ → ℕ
 held None = 0
 held (Some n) = n
 
@@ -221,7 +222,7 @@ rests_timer (Some g) c n a t suits = suits.2
 -- what is shown of it has numbers
 pub showable : (c : Core) (what : Comeback) → IsCounted c → Suits c.manager c what → (came_back c what).links < 2 ^ 32 → length (came_back c what).timers < 2 ^ 32 → IsShowable (bound_of c.manager) what
 showable c comeback.Stays few suits links timers = tt
-showable c (comeback.Rests n a t) few suits links timers = omega (arith, rests_timer c.manager c n a t suits, length-append c.timers _, timers)
+showable c (comeback.Rests n a t) few suits links timers = omega (arith, rests_timer c.manager c n a t suits, length-append c.timers (purpose.Backoff n ∷ []), timers)
 showable c (comeback.Dials l None t) few suits links timers = (λ k e. no_number k e, λ ms e. timer_asked c.timers l t ms (bound_of c.manager) e (suits_timer c.manager c l None t suits) timers)
 showable c (comeback.Dials l (Some n) t) few suits links timers = (
   λ k e. same_number n k e (omega (arith, begun_number c.manager c l n t few suits, links)),

@@ -7,7 +7,7 @@ use Rattle.mux_conn.specs.declared.act.LinkAct.{LinkAct}
 use Rattle.mux_conn.specs.declared.act.LinkAct.TheVariants as act
 use Rattle.mux_conn.specs.declared.life.Life.{Life}
 use Rattle.mux_conn.specs.declared.life.Life.TheVariants.{Resting, Dialing, Wanting, SettingUp, Ready, Ended}
-use Rattle.mux_conn.specs.Connection.{Work}
+use Rattle.mux_conn.specs.Connection.{Work, work_with}
 use Rattle.mux_conn.specs.Turn.{written, written_at, moved_wait, fresh_wait, wait_shown, moved_each_shown, fresh_each_shown, moved_shown, flushed}
 use Rattle.shared_session.specs.Turn.{timers_of, sources_of, flushed_apart}
 use Rattle.shared_session.specs.declared.core_state.Core.{Core}
@@ -56,7 +56,7 @@ flushed_quiet w all =
     (moved_each_quiet (record o { conn = record o.conn { moved = [] } }) o.conn.moved (written_quiet w w.conn.life all))
 
 pub apart_quiet : (c : Core) → AreQuiet (flushed_apart c).acts
-apart_quiet c = flushed_quiet _ tt
+apart_quiet c = flushed_quiet (work_with c.single.connection []) tt
 
 pub no_timers : (l : ℕ) (acts : List LinkAct) → AreQuiet acts → timers_of l acts ≡ []
 no_timers l [] all = refl
