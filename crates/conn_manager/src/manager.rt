@@ -96,7 +96,7 @@ impl ConnectionManager {
         ensures { OnOk result (self.new ≡ reconnected self.old) }
     {
         let told = self.info.clone(alloc)?;
-        self.conn = connection(alloc, self.generations.settings.config.connection, told);
+        self.conn = connection(alloc, self.generations.settings.config.connection, told)?;
         Ok(())
     }
 

@@ -10,7 +10,7 @@ use Rattle.link_core.specs.Outbox.{can_offer}
 use Rattle.mux_conn.specs.declared.connection.MultiplexedConnection.{MultiplexedConnection}
 use Rattle.mux_conn.specs.declared.life.Greeting.{Greeting}
 use Rattle.mux_conn.specs.declared.life.Life.{Life}
-use Rattle.mux_conn.specs.declared.life.Life.TheVariants.{Dialing, Wanting, SettingUp, Ready, Ended}
+use Rattle.mux_conn.specs.declared.life.Life.TheVariants.{Resting, Dialing, Wanting, SettingUp, Ready, Ended}
 use Rattle.mux_conn.specs.declared.renewal.Renewal.{Renewal}
 use Rattle.mux_conn.specs.declared.request.Waiting.{Waiting}
 use Rattle.mux_conn.specs.Connection.{Work, with_link, with_setup, admits_none, has_room}
@@ -38,6 +38,7 @@ kept_either true r v w h k = h
 kept_either false r v w h k = k
 
 started_kept_at : (w : Work) (life : Life) → renewal_of (started_at w life) ≡ renewal_of w
+started_kept_at w Resting = refl
 started_kept_at w Dialing = refl
 started_kept_at w (Wanting link) = refl
 started_kept_at w (Ended x) = refl
@@ -58,6 +59,7 @@ told_kept : (w : Work) (q : Waiting) → renewal_of (told_at_place w q) ≡ rene
 told_kept w q = kept_either q.awaited (renewal_of w) w (answered w q.number (outcome.One Nil)) refl (answered_kept w q.number (outcome.One Nil))
 
 placed_kept : (w : Work) (q : Waiting) (life : Life) → renewal_of (placed_at w q life) ≡ renewal_of w
+placed_kept w q Resting = refl
 placed_kept w q Dialing = refl
 placed_kept w q (Wanting link) = refl
 placed_kept w q (Ended x) = refl
@@ -95,6 +97,7 @@ let_in_kept w q =
     timer_kept (took w q.number n) q.number q.timeout ∙ took_kept (record w { conn = holding w.conn q.number n }) q.number n w.conn.limit
 
 admitted_at_kept : (w : Work) (q : Waiting) (life : Life) → renewal_of (admitted_at w q life) ≡ renewal_of w
+admitted_at_kept w q Resting = refl
 admitted_at_kept w q Dialing = refl
 admitted_at_kept w q (Wanting link) = refl
 admitted_at_kept w q (SettingUp link greeting) = refl
@@ -130,6 +133,7 @@ fresh_each_kept w [] = refl
 fresh_each_kept w (p ∷ ps) = fresh_each_kept (wait_shown w p (fresh_wait w.conn p)) ps ∙ wait_kept w p (fresh_wait w.conn p)
 
 written_kept : (w : Work) (life : Life) → renewal_of (written_at w life) ≡ renewal_of w
+written_kept w Resting = refl
 written_kept w Dialing = refl
 written_kept w (Wanting link) = refl
 written_kept w (Ended x) = refl

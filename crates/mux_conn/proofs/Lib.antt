@@ -4,3 +4,4 @@ pub mod Entries
 pub mod Threads
 pub mod Judged
 pub mod Told
+pub mod Openings

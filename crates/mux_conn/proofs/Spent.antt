@@ -12,7 +12,7 @@ use Rattle.link_core.proofs.StartLemmas.{numbers_rise}
 use Rattle.mux_conn.specs.declared.connection.MultiplexedConnection.{MultiplexedConnection}
 use Rattle.mux_conn.specs.declared.life.Greeting.{Greeting}
 use Rattle.mux_conn.specs.declared.life.Life.{Life}
-use Rattle.mux_conn.specs.declared.life.Life.TheVariants.{Dialing, Wanting, SettingUp, Ready, Ended}
+use Rattle.mux_conn.specs.declared.life.Life.TheVariants.{Resting, Dialing, Wanting, SettingUp, Ready, Ended}
 use Rattle.mux_conn.specs.declared.renewal.Renewal.{Renewal}
 use Rattle.mux_conn.specs.declared.request.Waiting.{Waiting}
 use Rattle.mux_conn.specs.Connection.{Work, with_link, with_setup, admits_none, has_room, started_in, is_spent_in, runs_out, renewals_run_out, uses_up}
@@ -32,6 +32,7 @@ count w = started_in w.conn.life
 
 -- starts give no smaller numbers
 started_rises_at : (w : Work) (life : Life) → w.conn.life ≡ life → count w ≤ count (started_at w life)
+started_rises_at w Resting e = le_refl (count w)
 started_rises_at w Dialing e = le_refl (count w)
 started_rises_at w (Wanting link) e = le_refl (count w)
 started_rises_at w (Ended x) e = le_refl (count w)
@@ -79,6 +80,7 @@ told_count : (w : Work) (q : Waiting) → count (told_at_place w q) ≡ count w
 told_count w q = count_either q.awaited (count w) w (answered w q.number (outcome.One Nil)) refl (answered_count w q.number (outcome.One Nil))
 
 placed_count : (w : Work) (q : Waiting) (life : Life) → w.conn.life ≡ life → count (placed_at w q life) ≡ count w
+placed_count w q Resting e = refl
 placed_count w q Dialing e = refl
 placed_count w q (Wanting link) e = refl
 placed_count w q (Ended x) e = refl
@@ -119,6 +121,7 @@ let_in_count w q =
     timer_count (took w q.number n) q.number q.timeout ∙ took_count (record w { conn = holding w.conn q.number n }) q.number n w.conn.limit
 
 admitted_at_rises : (w : Work) (q : Waiting) (life : Life) → count w ≤ count (admitted_at w q life)
+admitted_at_rises w q Resting = le_refl (count w)
 admitted_at_rises w q Dialing = le_refl (count w)
 admitted_at_rises w q (Wanting link) = le_refl (count w)
 admitted_at_rises w q (SettingUp link greeting) = le_refl (count w)
@@ -210,6 +213,7 @@ fresh_count : (w : Work) → count (fresh_shown w) ≡ count w
 fresh_count w = fresh_each_count (record w { conn = record w.conn { fresh = [] } }) w.conn.fresh
 
 written_count : (w : Work) (life : Life) → w.conn.life ≡ life → count (written_at w life) ≡ count w
+written_count w Resting e = refl
 written_count w Dialing e = refl
 written_count w (Wanting link) e = refl
 written_count w (Ended x) e = refl

@@ -14,7 +14,7 @@ use Rattle.mux_conn.specs.declared.connection.MultiplexedConnection.{Multiplexed
 use Rattle.mux_conn.specs.declared.life.Greeting.{Greeting}
 use Rattle.mux_conn.specs.declared.life.Greeting.TheVariants as greet
 use Rattle.mux_conn.specs.declared.life.Life.{Life}
-use Rattle.mux_conn.specs.declared.life.Life.TheVariants.{Dialing, Wanting, SettingUp, Ready, Ended}
+use Rattle.mux_conn.specs.declared.life.Life.TheVariants.{Resting, Dialing, Wanting, SettingUp, Ready, Ended}
 use Rattle.mux_conn.specs.declared.request.Progress.TheVariants as progress
 use Rattle.mux_conn.specs.declared.request.Waiting.{Waiting}
 use Rattle.mux_conn.specs.Connection.{Work, acted, with_link, with_setup, admits_none, has_room}
@@ -47,6 +47,7 @@ greets_with w greeting s = greeted_each (with_setup w s.link greeting) greeting 
 abbrev pub started_at : Work → Life → Work
 started_at w (Ready link) = starts_with w (started_all (record { link = link; out = [] }))
 started_at w (SettingUp link greeting) = greets_with w greeting (started_all (record { link = link; out = [] }))
+started_at w Resting = w
 started_at w Dialing = w
 started_at w (Wanting link) = w
 started_at w (Ended e) = w
@@ -64,6 +65,7 @@ noted w p = record w { conn = record w.conn { moved = w.conn.moved ++ p ∷ [] }
 -- a request takes its place in the queue
 abbrev pub placed_at : Work → Waiting → Life → Work
 placed_at w q (Ready link) = with_link (progressed (noted w q.number) q.number progress.Placed) (enqueued link (message_of q))
+placed_at w q Resting = w
 placed_at w q Dialing = w
 placed_at w q (Wanting link) = w
 placed_at w q (SettingUp link greeting) = w
@@ -131,6 +133,7 @@ let_in w q = timer_asked (took w q.number (permits_taken w.conn.limit w.conn.fre
 abbrev pub admitted_at : Work → Waiting → Life → Work
 admitted_at w q (Ready link) = seated_or_behind (let_in w q) q
 admitted_at w q (Ended e) = answered w q.number (outcome.Fault e)
+admitted_at w q Resting = w
 admitted_at w q Dialing = w
 admitted_at w q (Wanting link) = w
 admitted_at w q (SettingUp link greeting) = w

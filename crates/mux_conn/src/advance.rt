@@ -85,6 +85,7 @@ impl MultiplexedConnection {
                 (start_ready(alloc, link, &mut starts), *greeting)
             }
             Life::Ready { link: _ } => unreachable!(),
+            Life::Resting => unreachable!(),
             Life::Dialing => unreachable!(),
             Life::Wanting { link: _ } => unreachable!(),
             Life::Ended { error: _ } => unreachable!(),
@@ -117,6 +118,7 @@ impl MultiplexedConnection {
                 link: _,
                 greeting: _,
             } => unreachable!(),
+            Life::Resting => return Ok(()),
             Life::Dialing => return Ok(()),
             Life::Wanting { link: _ } => return Ok(()),
             Life::Ended { error: _ } => return Ok(()),
@@ -251,6 +253,7 @@ impl MultiplexedConnection {
                 link: _,
                 greeting: _,
             } => return Ok(()),
+            Life::Resting => return Ok(()),
             Life::Dialing => return Ok(()),
             Life::Wanting { link: _ } => return Ok(()),
             Life::Ended { error: _ } => return Ok(()),

@@ -27,11 +27,19 @@ pub struct MultiplexedConnection {
     pub free: u32,
     /// What is heard, beside the replies to requests.
     pub hears: Hearing,
-    /// What is said to the server before the first request.
+    /// What is said to the server before the first request: the address, with the credentials that came of a source.
     pub info: RedisConnectionInfo,
+    /// What is said to the server of each new link.
+    pub address: RedisConnectionInfo,
     /// The credentials that come of sources.
     pub renewal: Renewal,
     pub life: Life,
+    /// Whether no other attempt follows where its opening fails, so that those that wait are answered then.
+    pub last: bool,
+    /// Whether it was told that it is ready, or that its opening failed.
+    pub told: bool,
+    /// Whether its link was set up, so that its end is no failed opening.
+    pub opened: bool,
     pub requests: Seq<Request>,
     pub waiting: Queue<Waiting>,
     pub admitted: Queue<Waiting>,
@@ -54,8 +62,12 @@ impl Drop for MultiplexedConnection {
             free: _,
             hears: _,
             info,
+            address,
             renewal,
             life,
+            last: _,
+            told: _,
+            opened: _,
             requests,
             waiting,
             admitted,
@@ -67,6 +79,7 @@ impl Drop for MultiplexedConnection {
             failure: _,
         } = self;
         drop(info);
+        drop(address);
         drop(renewal);
         drop(life);
         drop(requests);
@@ -92,7 +105,7 @@ impl MultiplexedConnection {
     /// message will start on it while `boundary` bytes or more, and at least one, are unwritten. Its requests will hold no
     /// more than `limit` permits, at least one, and where there is no limit they need none. What it `hears` is told, and where that
     /// is pushes, so is an end by a fault. `info` is what is said to the server before the first of them, and `renewal` says
-    /// whether credentials come of sources. Takes no memory.
+    /// whether credentials come of sources. Its opening is the only attempt, until `dial` says otherwise.
     pub fn new(
         alloc: Global,
         size: u32,
@@ -101,18 +114,23 @@ impl MultiplexedConnection {
         hears: Hearing,
         info: RedisConnectionInfo,
         renewal: Renewal,
-    ) -> MultiplexedConnection
-        ensures { result ≡ dialing size boundary limit hears info renewal }
+    ) -> Result<MultiplexedConnection, AllocError>
+        ensures { IfOk result (λ c. c ≡ dialing size boundary limit hears info renewal) }
     {
-        MultiplexedConnection {
+        let address = info.clone(alloc)?;
+        Ok(MultiplexedConnection {
             size,
             boundary,
             limit,
             free: limit.unwrap_or(0),
             hears,
             info,
+            address,
             renewal,
             life: Life::Dialing,
+            last: true,
+            told: false,
+            opened: false,
             requests: Seq::new(alloc),
             waiting: Queue::new(alloc),
             admitted: Queue::new(alloc),
@@ -122,7 +140,7 @@ impl MultiplexedConnection {
             settled: Spare::new(alloc),
             notices: Spare::new(alloc),
             failure: None,
-        }
+        })
     }
 
     /// Whether no request that waits for the connection, or for a permit of it, can be moved.
@@ -148,6 +166,7 @@ impl MultiplexedConnection {
         ensures { result ≡ started_in self.now.life }
     {
         match &self.life {
+            Life::Resting => 0,
             Life::Dialing => 0,
             Life::Wanting { link } => link.started(),
             Life::SettingUp { link, greeting: _ } => link.started(),

@@ -11,6 +11,7 @@ mod flush;
 mod greeting;
 mod internal;
 mod life;
+mod opening;
 mod reading;
 mod renewal;
 mod request;

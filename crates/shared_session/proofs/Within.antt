@@ -10,12 +10,13 @@ use Rattle.driver_model.specs.declared.event.EventKind.{EventKind}
 use Rattle.driver_model.specs.declared.event.EventKind.TheVariants as event
 use Rattle.driver_model.specs.News.{News, silence, connected, refused, overdue, took, came, failed, authorized, denied, deserted, renewed, unrenewed, late, unrepeated, shut, for_link, of_timer, of_source, news_of}
 use Rattle.mux_conn.specs.declared.life.Life.{Life}
-use Rattle.mux_conn.specs.declared.life.Life.TheVariants.{Dialing, Wanting, SettingUp, Ready, Ended}
+use Rattle.mux_conn.specs.declared.life.Life.TheVariants.{Resting, Dialing, Wanting, SettingUp, Ready, Ended}
 use Rattle.mux_conn.specs.Effects.{IsWithin, CanTake}
 use Rattle.shared_session.specs.declared.core_state.Core.{Core}
 use Rattle.shared_session.specs.Turn.{is_bad, is_no_link, exceeds_offer, IsKnown}
 
 can_take : (life : Life) (count : ℕ) → exceeds_offer life count ≡ false → CanTake life count
+can_take Resting count f = tt
 can_take Dialing count f = tt
 can_take (Wanting link) count f = not_lt_from link.outbox.offered count f
 can_take (SettingUp link greeting) count f = not_lt_from link.outbox.offered count f

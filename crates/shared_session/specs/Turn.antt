@@ -21,7 +21,7 @@ use Rattle.driver_model.specs.Request.{packed_bytes, shape_of, is_reply_awaited,
 use Rattle.mux_conn.specs.declared.act.LinkAct.{LinkAct}
 use Rattle.mux_conn.specs.declared.act.LinkAct.TheVariants as act
 use Rattle.mux_conn.specs.declared.life.Life.{Life}
-use Rattle.mux_conn.specs.declared.life.Life.TheVariants.{Dialing, Wanting, SettingUp, Ready, Ended}
+use Rattle.mux_conn.specs.declared.life.Life.TheVariants.{Resting, Dialing, Wanting, SettingUp, Ready, Ended}
 use Rattle.mux_conn.specs.declared.request.Pending.{Pending}
 use Rattle.mux_conn.specs.Connection.{Work, is_used_up}
 use Rattle.mux_conn.specs.Requests.{asked}
@@ -267,6 +267,7 @@ IsFewer c = length c.single.connection.requests ≤ length c.table
 
 -- more bytes were taken than are offered
 abbrev pub exceeds_offer : Life → ℕ → Bool
+exceeds_offer Resting count = nat_lt 0 count
 exceeds_offer Dialing count = nat_lt 0 count
 exceeds_offer (Wanting link) count = nat_lt link.outbox.offered count
 exceeds_offer (SettingUp link greeting) count = nat_lt link.outbox.offered count

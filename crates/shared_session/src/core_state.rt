@@ -349,6 +349,7 @@ impl Core {
         ensures { result ≡ exceeds_offer self.now.single.connection.life count }
     {
         match &self.single.connection.life {
+            Life::Resting => count > 0,
             Life::Dialing => count > 0,
             Life::Wanting { link } => count > link.offered_len(),
             Life::SettingUp { link, greeting: _ } => count > link.offered_len(),

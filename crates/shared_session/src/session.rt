@@ -100,6 +100,15 @@ fn opened(alloc: Global, config: &Config, info: RedisConnectionInfo) -> Result<C
 {
     let timers = opening_timers(alloc, config.connect_timeout())?;
     let renewal = Renewal::new(alloc, config.wants_credentials(), config.response_timeout());
+    let connection = MultiplexedConnection::new(
+        alloc,
+        config.buffer_size(),
+        config.boundary(),
+        config.permits(),
+        config.hearing(),
+        info,
+        renewal,
+    )?;
     Ok(Core {
         kind: config.kind(),
         turns: 1,
@@ -111,15 +120,7 @@ fn opened(alloc: Global, config: &Config, info: RedisConnectionInfo) -> Result<C
         table: Seq::new(alloc),
         single: Single {
             link: FIRST_LINK,
-            connection: MultiplexedConnection::new(
-                alloc,
-                config.buffer_size(),
-                config.boundary(),
-                config.permits(),
-                config.hearing(),
-                info,
-                renewal,
-            ),
+            connection,
         },
     })
 }

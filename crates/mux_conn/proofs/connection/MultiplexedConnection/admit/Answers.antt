@@ -3,7 +3,7 @@ use Rattle.std.specs.Prelude.{OnOk}
 use Rattle.containers.proofs.Choices.{taken_if}
 use Rattle.redis_error.specs.declared.redis_error.RedisError.{RedisError}
 use Rattle.mux_conn.specs.declared.life.Life.{Life}
-use Rattle.mux_conn.specs.declared.life.Life.TheVariants.{Dialing, Wanting, SettingUp, Ready, Ended}
+use Rattle.mux_conn.specs.declared.life.Life.TheVariants.{Resting, Dialing, Wanting, SettingUp, Ready, Ended}
 use Rattle.mux_conn.specs.declared.request.Waiting.{Waiting}
 use Rattle.mux_conn.specs.Connection.{Work, has_no_permit, admits_none_at, admits_none, is_spent_in}
 use Rattle.mux_conn.specs.Requests.{is_waiting_at}
@@ -12,6 +12,7 @@ use Rattle.mux_conn.proofs.connection.MultiplexedConnection.admit.Goals as goal
 
 -- where the link is up, a request is let in
 is_up : (w : Work) (q : Waiting) (life : Life) → admits_none_at life (has_no_permit w.conn.limit w.conn.free) ≡ false → ((e : RedisError) → life ≡ Ended e → ⊥) → seated_or_behind (let_in w q) q ≡ admitted_at w q life
+is_up w q Resting free up = absurd (cc)
 is_up w q Dialing free up = absurd (cc)
 is_up w q (Wanting link) free up = absurd (cc)
 is_up w q (SettingUp link greeting) free up = absurd (cc)

@@ -1,7 +1,7 @@
 use Rattle.std.proofs.Common.{arith, ◌+◌, ◌<◌, List, ℕ, length, sym, subst}
 use Rattle.std.proofs.lemmas.Option.{get_or_from_slice_get}
 use Rattle.mux_conn.proofs.Entries.{AreNoted, one_noted, all_noted}
-use Rattle.mux_conn.proofs.apply.numbers.Goals as goal
+use Rattle.mux_conn.proofs.opening.numbers.Goals as goal
 
 pub loop-index-preserved : goal.loop-index-preserved
 loop-index-preserved c =

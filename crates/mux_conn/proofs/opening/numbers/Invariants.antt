@@ -1,6 +1,6 @@
 use Rattle.std.proofs.Common.{◌≡◌, ◌++◌, drop, length}
 use Rattle.mux_conn.specs.Effects.{numbers_of}
-use Rattle.mux_conn.proofs.apply.numbers.Given as goal
+use Rattle.mux_conn.proofs.opening.numbers.Given as goal
 
 -- the numbers that are noted and those that are left are the whole
 abbrev pub invariant-loop-index : goal.invariant-loop-index
