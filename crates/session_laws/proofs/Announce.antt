@@ -22,7 +22,7 @@ use Rattle.link_core.specs.Link.{LinkState}
 use Rattle.link_laws.proofs.TiedLink.{TiedLink}
 use Rattle.mux_conn.specs.declared.connection.MultiplexedConnection.{MultiplexedConnection}
 use Rattle.mux_conn.specs.declared.life.Life.{Life}
-use Rattle.mux_conn.specs.declared.life.Life.TheVariants.{Dialing, Wanting, SettingUp, Ready, Ended}
+use Rattle.mux_conn.specs.declared.life.Life.TheVariants.{Resting, Dialing, Wanting, SettingUp, Ready, Ended}
 use Rattle.mux_conn.specs.declared.request.Request.{Request}
 use Rattle.shared_session.specs.declared.core_state.Core.{Core}
 use Rattle.shared_session.specs.Turn.{is_shutdown, shut_by, exceeds_offer, is_bad}
@@ -54,6 +54,7 @@ offered_length name l s h = ap length h.offer ∙ (let e = length-take s.outbox.
 
 -- the connection's link can't take so much
 too_much : (l : Ledger) (created : ℕ) (life : Life) (requests : List Request) (count : ℕ) → TiedLife l created life → (has_ended life ≡ false → TiedLink (carried life requests) l (whole_link life)) → (not (is_over l) && nat_lt (length l.offer) count) ≡ exceeds_offer life count
+too_much l created Resting requests count h link = (λ i. not (is_some (h.2 i)) && nat_lt (offered_length (carried Resting requests) l (whole_link Resting) (link refl) i) count)
 too_much l created Dialing requests count h link = (λ i. not (is_some (h.2 i)) && nat_lt (offered_length (carried Dialing requests) l (whole_link Dialing) (link refl) i) count)
 too_much l created (Wanting s) requests count h link = (λ i. not (is_some (h.2 i)) && nat_lt (offered_length (carried (Wanting s) requests) l s (link refl) i) count)
 too_much l created (SettingUp s greeting) requests count h link = (λ i. not (is_some (h.2 i)) && nat_lt (offered_length (carried (SettingUp s greeting) requests) l s (link refl) i) count)

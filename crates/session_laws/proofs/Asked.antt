@@ -64,7 +64,7 @@ refused_applied before c started word what e h few good why =
       ended = subst NoneEnds (sym (book_more front a ∙ ap (λ (x : Book). entered x a) book_is)) (λ m. silent_no_end (b.link m) c.turns (still_none before c started h m));
       began = λ z. absurd (omega arith);
       moved = h.moved;
-      fit = record { wanting = h.fit.wanting; setup = h.fit.setup; link = h.fit.link; none = h.fit.none };
+      fit = record { wanting = h.fit.wanting; setup = h.fit.setup; link = h.fit.link; none = h.fit.none; unmade = h.fit.unmade };
     }
 
 -- it is the next request

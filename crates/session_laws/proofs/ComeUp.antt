@@ -20,7 +20,7 @@ use Rattle.link_laws.proofs.TiedLink.{TiedLink, enqueued_tied, said_tied}
 use Rattle.link_laws.specs.Settles.{wanted, awaited_ids}
 use Rattle.mux_conn.specs.declared.act.LinkAct.TheVariants as act
 use Rattle.mux_conn.specs.declared.life.Life.{Life}
-use Rattle.mux_conn.specs.declared.life.Life.TheVariants.{Dialing, Wanting, SettingUp, Ready, Ended}
+use Rattle.mux_conn.specs.declared.life.Life.TheVariants.{Resting, Dialing, Wanting, SettingUp, Ready, Ended}
 use Rattle.mux_conn.specs.Requests.{is_waiting_at}
 use Rattle.mux_conn.specs.Effects.{all_fresh, come_up, made_ready, sets_up, setup_queued, steps_of, numbers_of, greeted, setup_id}
 use Rattle.mux_conn.specs.Turn.{early_wait}
@@ -90,6 +90,7 @@ fresh_rises b t h =
 
 -- where no wait is to be shown, who waits for the connection has shown what it waits for
 shown_early : (b : Book) (t : Inner) (p : ℕ) (life : Life) → Tied b t → t.fresh ≡ [] → t.life ≡ life → is_ready life ≡ false → has_ended life ≡ false → is_waiting_at t.requests p ≡ true → shown_wait b.story t.requests p ≡ Some (early_wait life)
+shown_early b t p Resting h none e f g w = absurd (never_rests (b.link t.link) b.created t.life e h.life)
 shown_early b t p Dialing h none e f g w = elim (h.waits.connect p w e) [ inl i ↦ absurd (subst (IsIn p) none i) | inr s ↦ s ]
 shown_early b t p (Wanting link) h none e f g w = elim (h.waits.creds p link w e) [ inl i ↦ absurd (subst (IsIn p) none i) | inr s ↦ s ]
 shown_early b t p (SettingUp link greeting) h none e f g w = elim (h.waits.setup p link greeting w e) [ inl i ↦ absurd (subst (IsIn p) none i) | inr s ↦ s ]
@@ -156,6 +157,7 @@ pub record IsEarly (life : Life) (after : WaitKind) : Type 0 where
 
 -- no message has started there
 early_started : (l : Ledger) (started : List ℕ) (life : Life) → is_ready life ≡ false → has_ended life ≡ false → HasSaid l started life → started ≡ []
+early_started l started Resting unready alive h = h.1
 early_started l started Dialing unready alive h = h.1
 early_started l started (Wanting link) unready alive h = h.1
 early_started l started (SettingUp link greeting) unready alive h = h.0
@@ -164,6 +166,7 @@ early_started l started (Ended e) unready alive h = cc
 
 -- nor was a second source asked for
 pub early_sources : (c : Sourced) (life : Life) → is_ready life ≡ false → has_ended life ≡ false → AreSought c life → c.renews ≡ false
+early_sources c Resting unready alive h = h.2
 early_sources c Dialing unready alive h = h.2
 early_sources c (Wanting link) unready alive h = h.3
 early_sources c (SettingUp link greeting) unready alive h = h.1
@@ -374,6 +377,7 @@ ready_applied front f conn link l started began none_moved fit none h =
         setup = λ x u e. cc;
         link = λ x e. (let same : link ≡ x = cc in subst (IsFit conn.size conn.boundary) same fit);
         none = λ none. absurd (none link refl);
+        unmade = λ x y. cc;
       });
     }
 
@@ -472,6 +476,7 @@ comes_to_say before c started word kind n info link h good k is other early u ha
       setup = λ x w same. (let one : next ≡ x = cc in subst (IsFit conn.size conn.boundary) one fits);
       link = λ x same. cc;
       none = λ z. nobody;
+      unmade = λ x y. h.fit.unmade early.unready early.alive;
     })
 
 -- where there are no requests nobody waits
@@ -551,6 +556,7 @@ comes_to_watch before c started word kind n info link h good k is other early u 
       setup = λ x w same. (let one : next ≡ x = cc in subst (IsFit conn.size conn.boundary) one fits);
       link = λ x same. cc;
       none = λ z. nobody;
+      unmade = λ x y. h.fit.unmade early.unready early.alive;
     })
 
 -- so it comes up

@@ -17,7 +17,7 @@ use Rattle.link_core.specs.Link.{LinkState, fresh}
 use Rattle.link_laws.proofs.TiedLink.{TiedLink, connected_tied, named_tied, sourced_tied}
 use Rattle.link_laws.specs.Settles.{wanted, awaited_ids}
 use Rattle.mux_conn.specs.declared.life.Life.{Life}
-use Rattle.mux_conn.specs.declared.life.Life.TheVariants.{Dialing, Wanting, SettingUp, Ready, Ended}
+use Rattle.mux_conn.specs.declared.life.Life.TheVariants.{Resting, Dialing, Wanting, SettingUp, Ready, Ended}
 use Rattle.mux_conn.specs.Effects.{come_up, comes_to_want, new_link, numbers_of, connected_at, refused_at, overdue_at, dropped_at, dropped_by}
 use Rattle.mux_conn.specs.Connection.{Work, is_ready}
 use Rattle.mux_conn.specs.Turn.{early_wait}
@@ -205,6 +205,7 @@ connected_wants before c started word kind h good k is e wants =
         setup = λ x w one. cc;
         link = λ x one. cc;
         none = λ z. nobody;
+        unmade = λ x y. h.fit.unmade early.unready early.alive;
       };
     }
 
@@ -221,6 +222,7 @@ connected_applied before c started word kind h good k is = by_life c.single.conn
     again up alive none = passed_over before c started word kind connected h good k is (again_is l c.turns up alive) none
 
     by_life : (x : Life) → c.single.connection.life ≡ x → HasApplied (before ++ turn_of c word kind ∷ []) (with_work (record { core = turned c kind; acts = [] }) (connected_at (record { conn = c.single.connection; acts = [] }) x)) started
+    by_life Resting e = absurd (never_rests ((book before).link c.single.link) (book before).created c.single.connection.life e h.sound.tied.life)
     by_life Dialing e =
         let w : Work = record { conn = c.single.connection; acts = [] } in
         let link = new_link c.single.connection in
@@ -283,6 +285,7 @@ refused_fails before c started word kind f h good k is e =
       stands = all_stand-append before (turn_of c word kind ∷ []) h.sound.stands (may_turn before c started word kind h good, tt);
       fails = ap (λ (x : Book). failure_in (x.link c.single.link).end) book_is ∙ ap (λ (x : Ledger). failure_in x.end) (own_ledger ∙ over) ∙ ap (λ last. failure_of (lasting last (by_opening (error.Io f)))) lived.4;
       unshown = ap (λ (x : Book). x.created) book_is ∙ lived.3;
+      unmade = h.fit.unmade (ap is_ready e) (ap has_ended e);
       first = λ m less. ap (λ (x : Book). failure_in (x.link m).end) book_is ∙ unfailed (now.link m) (others_heard b c started kind b.created h0 good (λ some. some) m (λ same. omega arith)) lived.3;
       tied = subst (λ (x : Book). Tied (entered x (action.Created (Some (error.Io f)))) t) (sym book_is) tied;
     }
@@ -312,6 +315,7 @@ refused_applied before c started word kind f h good k is = by_life c.single.conn
     late up none = passed_over before c started word kind (refused f) h good k is (up_refused l c.turns f up) none
 
     by_life : (x : Life) → c.single.connection.life ≡ x → HasApplied (before ++ turn_of c word kind ∷ []) (with_work (record { core = turned c kind; acts = [] }) (refused_at (record { conn = c.single.connection; acts = [] }) f x)) started
+    by_life Resting e = absurd (never_rests ((book before).link c.single.link) (book before).created c.single.connection.life e h.sound.tied.life)
     by_life Dialing e =
         let front = before ++ turn_of c word kind ∷ [] in
         let w : Work = record { conn = c.single.connection; acts = [] } in
@@ -358,6 +362,7 @@ closing_fails before c started word kind n x plain asks h good k is e =
           ∙ ap (λ (y : Ledger). failure_in y.end) (mine_noted l c.single.link (ends (b.turns - 1)))
           ∙ ap failure_of (ends_so l why lived.4 must);
       unshown = ap (λ (y : Book). y.created) book_is ∙ lived.3;
+      unmade = h.fit.unmade (ap is_ready e) (ap has_ended e);
       first = λ m less. ap (λ (y : Book). failure_in (y.link m).end) book_is ∙ unfailed _ (others_kept b c.single.link (ends (b.turns - 1)) begins.holds.tied.others m (λ same. omega arith)) lived.3;
       tied = subst (λ (y : Book). Tied (entered y (action.Created (Some x))) (seen f (act.Close ∷ []) (record conn { life = Ended x }) [] started)) (sym book_is) tied;
     }
@@ -368,6 +373,7 @@ pub overdue_applied : (before : List Action) (c : Core) (started : List ℕ) (wo
 overdue_applied before c started word kind h good k is = by_life c.single.connection.life refl
   where
     by_life : (x : Life) → c.single.connection.life ≡ x → HasApplied (before ++ turn_of c word kind ∷ []) (with_work (record { core = turned c kind; acts = [] }) (overdue_at (record { conn = c.single.connection; acts = [] }) x)) started
+    by_life Resting e = absurd (never_rests ((book before).link c.single.link) (book before).created c.single.connection.life e h.sound.tied.life)
     by_life Dialing e =
         failing_applied (before ++ turn_of c word kind ∷ []) (turned c kind) (record { conn = c.single.connection; acts = act.Close ∷ [] }) (error.Io kinds.TimedOut) started (λ z. absurd (omega arith)) h.moved
         (closing_fails before c started word kind overdue (error.Io kinds.TimedOut) tt refl h good k is e)
@@ -391,6 +397,7 @@ dropped_applied before c started word kind h good k is =
     (λ f. passed_over before c started word kind dropped h good k is refl (dropped_end l (ap hears_messages same ∙ f) (still_none before c started h c.single.link)))
   where
     by_life : hears_messages c.single.connection.hears ≡ true → (x : Life) → c.single.connection.life ≡ x → HasApplied (before ++ turn_of c word kind ∷ []) (with_work (record { core = turned c kind; acts = [] }) (dropped_at (record { conn = c.single.connection; acts = [] }) x)) started
+    by_life listens Resting e = absurd (never_rests ((book before).link c.single.link) (book before).created c.single.connection.life e h.sound.tied.life)
     by_life listens Dialing e =
         failing_applied (before ++ turn_of c word kind ∷ []) (turned c kind) (record { conn = c.single.connection; acts = act.Close ∷ [] }) error.Closed started (λ z. absurd (omega arith)) h.moved
         (closing_fails before c started word kind dropped error.Closed tt (taken_if (hears_messages ((book before).link c.single.link).hearing) (Some (by_opening error.Closed)) None (ap hears_messages h.sound.tied.notices.hearing_is ∙ listens)) h good k is e)

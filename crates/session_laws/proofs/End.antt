@@ -23,7 +23,7 @@ use Rattle.link_laws.proofs.Settles.{row_hit_owed, row_closed_owed, same_error}
 use Rattle.link_laws.proofs.TiedLink.{TiedLink}
 use Rattle.mux_conn.specs.declared.life.Greeting.{Greeting}
 use Rattle.mux_conn.specs.declared.life.Life.{Life}
-use Rattle.mux_conn.specs.declared.life.Life.TheVariants.{Dialing, Wanting, SettingUp, Ready, Ended}
+use Rattle.mux_conn.specs.declared.life.Life.TheVariants.{Resting, Dialing, Wanting, SettingUp, Ready, Ended}
 use Rattle.mux_conn.specs.Connection.{Work}
 use Rattle.mux_conn.specs.Effects.{ended, ended_by, failed_at, overdue_at, shut_at, unauthorized_at, greeting_error, dropped_at}
 use Rattle.shared_session.specs.declared.core_state.Core.{Core}
@@ -227,11 +227,11 @@ plain_begins before c started word kind n p h good k is = heard_begins before c 
 
 -- a link that is set up still isn't ready
 pub setting_unready : (b : Book) (t : Inner) (link : LinkState) (greeting : Greeting) → t.life ≡ SettingUp link greeting → Tied b t → IsUnready b.created t.life t.started
-setting_unready b t link greeting e h = let s = setting_tied b t link greeting e h in record { bare = ap link_in e; none = s.none; unshown = s.unshown; alive = ap has_ended e }
+setting_unready b t link greeting e h = let s = setting_tied b t link greeting e h in record { bare = ap link_in e; none = s.none; unshown = s.unshown; unready = ap is_ready e; alive = ap has_ended e }
 
 -- nor is one that waits for credentials
 pub wanting_unready : (b : Book) (t : Inner) (link : LinkState) → t.life ≡ Wanting link → Tied b t → IsUnready b.created t.life t.started
-wanting_unready b t link e h = let s = wanting_tied b t link e h in record { bare = ap link_in e; none = s.none; unshown = s.unshown; alive = ap has_ended e }
+wanting_unready b t link e h = let s = wanting_tied b t link e h in record { bare = ap link_in e; none = s.none; unshown = s.unshown; unready = ap is_ready e; alive = ap has_ended e }
 
 -- a link that is set up fails by news that leave its ledger
 plain_fails : (before : List Action) (c : Core) (started : List ℕ) (n : News) (x : RedisError) (link : LinkState) (greeting : Greeting) → Between before c started → c.single.connection.life ≡ SettingUp link greeting
@@ -311,6 +311,7 @@ pub failed_applied : (before : List Action) (c : Core) (started : List ℕ) (wor
 failed_applied before c started word kind f h good k is = by_life c.single.connection.life refl
   where
     by_life : (x : Life) → c.single.connection.life ≡ x → HasApplied (before ++ turn_of c word kind ∷ []) (with_work (record { core = turned c kind; acts = [] }) (failed_at (record { conn = c.single.connection; acts = [] }) f x)) started
+    by_life Resting e = absurd (never_rests ((book before).link c.single.link) (book before).created c.single.connection.life e h.sound.tied.life)
     by_life Dialing e = dialing_quiet before c started word kind (failed f) tt h good k is e
     by_life (Ended x) e = ended_quiet before c started word kind (failed f) x h good k is e
     by_life (SettingUp link greeting) e =
@@ -344,6 +345,7 @@ dropped_up before c started word kind listens h good k is = by_life
     opens = taken_if (hears_messages l.hearing) (Some (by_opening error.Closed)) None heard
 
     by_life : (x : Life) → c.single.connection.life ≡ x → x ≢ Dialing → HasApplied (before ++ turn_of c word kind ∷ []) (with_work (record { core = turned c kind; acts = [] }) (dropped_at (record { conn = c.single.connection; acts = [] }) x)) started
+    by_life Resting e other = absurd (never_rests ((book before).link c.single.link) (book before).created c.single.connection.life e h.sound.tied.life)
     by_life Dialing e other = absurd (other refl)
     by_life (Ended x) e other = ended_quiet before c started word kind dropped x h good k is e
     by_life (SettingUp link greeting) e other =
@@ -414,6 +416,7 @@ shut_applied before c started word kind h good k is = by_life c.single.connectio
 
     by_life : (x : Life) → c.single.connection.life ≡ x → HasApplied (before ++ turn_of c word kind ∷ []) (with_work (record { core = turned c kind; acts = [] }) (shut_at (record { conn = c.single.connection; acts = [] }) x)) started
     by_life (Ended x) e = ended_quiet before c started word kind shut x h good k is e
+    by_life Resting e = absurd (never_rests ((book before).link c.single.link) (book before).created c.single.connection.life e h.sound.tied.life)
     by_life Dialing e =
         let lived = subst (λ (x : Life). TiedLife l (book before).created x) e h.sound.tied.life in
         let asked : (l.asked && not (is_over l)) ≡ true = (λ i. lived.0 i && not (is_some (lived.2 i))) in

@@ -50,6 +50,7 @@ pub record IsFailing (trace : List Action) (f : Core) (acts : List LinkAct) (con
   pub stands : AllStand blank_book trace
   pub fails : failure_in ((book trace).link f.single.link).end ≡ Some e
   pub unshown : (book trace).created ≡ 0
+  pub unmade : (conn.last ≡ true) × (conn.told ≡ false)
   pub first : (m : ℕ) → m < f.single.link → failure_in ((book trace).link m).end ≡ None
   pub tied : Tied (entered (book trace) (action.Created (Some e))) (seen f acts (record conn { life = Ended e }) [] started)
 
@@ -69,8 +70,21 @@ failing_may trace f acts conn e started h = record {
     over = after_end (entered (book trace) (action.Created (Some e))) (seen f acts (record conn { life = Ended e }) [] started) h.tied refl
 
 -- and is
+--
+-- what is shown where it wasn't before
+pub told_first : (w : Work) (e : Option RedisError) → w.conn.told ≡ false → creation_told w e ≡ record { conn = record w.conn { told = true }; acts = w.acts ++ act.Created e ∷ [] }
+told_first w e untold = ap (λ (told : Bool). record { conn = record w.conn { told = true }; acts = if told then w.acts else w.acts ++ act.Created e ∷ [] }) untold
+
+-- what its last attempt leaves
+shown_failed : Work → RedisError → Work
+shown_failed w e = record { conn = record w.conn { life = Ended e; told = true }; acts = w.acts ++ act.Created (Some e) ∷ [] }
+
+-- so it is given up
+given_up_is : (w : Work) (e : RedisError) → w.conn.last ≡ true → w.conn.told ≡ false → opening_failed w e ≡ waiting_failed (shown_failed w e) e
+given_up_is w e last untold = taken_if w.conn.last (given_up w e) _ last ∙ ap (λ (x : Work). waiting_failed x e) (told_first (at_life w (Ended e)) (Some e) untold)
+
 failing_shown : (before : List Action) (f : Core) (w : Work) (e : RedisError) (started : List ℕ) → IsFailing (trace_of_acts before f w.acts) f w.acts w.conn e started
-    → Holds before f (acted (at_life w (Ended e)) (act.Created (Some e))) [] started
+    → Holds before f (shown_failed w e) [] started
 failing_shown before f w e started h =
     sound_act before f w.acts (act.Created (Some e)) (record w.conn { life = Ended e }) [] started h.stands (failing_may (trace_of_acts before f w.acts) f w.acts w.conn e started h) h.tied
 
@@ -78,8 +92,9 @@ failing_shown before f w e started h =
 pub failing_applied : (before : List Action) (f : Core) (w : Work) (e : RedisError) (started : List ℕ) → f.turns ≢ 0 → w.conn.moved ≡ [] → IsFailing (trace_of_acts before f w.acts) f w.acts w.conn e started
     → HasApplied before (with_work (record { core = f; acts = [] }) (opening_failed w e)) started
 failing_applied before f w e started began none_moved h =
-    let v = acted (at_life w (Ended e)) (act.Created (Some e)) in
-    ended_applied before f (opening_failed w e) e started began ((waiting_leaves v e).moved ∙ none_moved) (waiting_ends before f v e started (failing_shown before f w e started h) refl)
+    let v = shown_failed w e in
+    subst (λ (x : Work). HasApplied before (with_work (record { core = f; acts = [] }) x) started) (sym (given_up_is w e h.unmade.0 h.unmade.1))
+    (ended_applied before f (waiting_failed v e) e started began ((waiting_leaves v e).moved ∙ none_moved) (waiting_ends before f v e started (failing_shown before f w e started h) refl))
 
 -- a link that is closed before it is set up
 --
@@ -123,6 +138,7 @@ pub record IsUnready (created : ℕ) (life : Life) (started : List ℕ) : Type 0
   pub bare : link_in life ≡ no_link
   pub none : started ≡ []
   pub unshown : created ≡ 0
+  pub unready : is_made life ≡ false
   pub alive : has_ended life ≡ false
 
 -- it is closed, and its opening has failed
@@ -193,6 +209,7 @@ setup_fails before c started word kind n x h good k is u fails =
       stands = subst (AllStand blank_book) (sym shown) (all_stand-append (trace_of_acts front f []) (close ∷ []) all (subst (λ (y : Book). MayClose y c.single.link) (sym first) may, tt));
       fails = ap (λ (y : Book). failure_in (y.link c.single.link).end) book_is ∙ ap (λ (y : Ledger). failure_in y.end) closed ∙ ap failure_of why;
       unshown = ap (λ (y : Book). y.created) book_is ∙ u.unshown;
+      unmade = h.fit.unmade u.unready u.alive;
       first = λ m less. ap (λ (y : Book). failure_in (y.link m).end) book_is ∙ unfailed (links m) (others_kept now c.single.link line others m (λ same. omega arith)) u.unshown;
       tied = subst (λ (y : Book). Tied (entered y (action.Created (Some x))) t) (sym book_is) tied;
     }

@@ -32,7 +32,7 @@ use Rattle.mux_conn.specs.declared.act.LinkAct.TheVariants as act
 use Rattle.mux_conn.specs.declared.connection.MultiplexedConnection.{MultiplexedConnection}
 use Rattle.mux_conn.specs.declared.life.Greeting.{Greeting}
 use Rattle.mux_conn.specs.declared.life.Life.{Life}
-use Rattle.mux_conn.specs.declared.life.Life.TheVariants.{Dialing, Wanting, SettingUp, Ready, Ended}
+use Rattle.mux_conn.specs.declared.life.Life.TheVariants.{Resting, Dialing, Wanting, SettingUp, Ready, Ended}
 use Rattle.mux_conn.specs.declared.request.Pending.{Pending}
 use Rattle.mux_conn.specs.declared.request.Waiting.{Waiting}
 use Rattle.mux_conn.specs.Connection.{Work, acted, admits_none, at_life, has_room, is_due, is_ready, with_link, with_setup, with_wanting}
@@ -101,7 +101,7 @@ parted_asked n w h = chosen (HasAsked n) (hears_pushes w.conn.hears) _ w (λ t. 
 
 -- an opening that fails
 opening_asked : (n : ℕ) (w : Work) (e : RedisError) → HasAsked n w → HasAsked n (opening_failed w e)
-opening_asked n w e h = waiting_asked n (acted (at_life w (Ended e)) (act.Created (Some e))) e h
+opening_asked n w e h = chosen (HasAsked n) w.conn.last (given_up w e) _ (λ t. waiting_asked n (creation_told (at_life w (Ended e)) (Some e)) e h) (λ f. absurd f)
 
 -- a link that becomes ready
 made_asked : (n : ℕ) (w : Work) (link : LinkState) → HasAsked n w → HasAsked n (made_ready w link)
@@ -117,6 +117,7 @@ come_asked n w link h = chosen (HasAsked n) (says_nothing (steps_of w.conn greet
 
 -- a connect that succeeds
 connected_asked : (n : ℕ) (w : Work) (life : Life) → HasAsked n w → HasAsked n (connected_at w life)
+connected_asked n w Resting h = h
 connected_asked n w Dialing h = chosen (HasAsked n) w.conn.renewal.wanted (comes_to_want w (new_link w.conn)) (come_up w (new_link w.conn)) (λ t. h) (λ f. come_asked n w (new_link w.conn) h)
 connected_asked n w (Wanting link) h = h
 connected_asked n w (SettingUp link greeting) h = h
@@ -126,6 +127,7 @@ connected_asked n w (Ended e) h = h
 -- the first credentials
 authorized_asked : (n : ℕ) (w : Work) (c : Credentials) (life : Life) → HasAsked n w → HasAsked n (authorized_at w c life)
 authorized_asked n w c (Wanting link) h = come_asked n (with_credentials w c) link h
+authorized_asked n w c Resting h = h
 authorized_asked n w c Dialing h = h
 authorized_asked n w c (SettingUp link greeting) h = h
 authorized_asked n w c (Ready link) h = h
@@ -134,6 +136,7 @@ authorized_asked n w c (Ended e) h = h
 -- that there are none
 unauthorized_asked : (n : ℕ) (w : Work) (e : RedisError) (life : Life) → HasAsked n w → HasAsked n (unauthorized_at w e life)
 unauthorized_asked n w e (Wanting link) h = opening_asked n (acted w act.Close) e h
+unauthorized_asked n w e Resting h = h
 unauthorized_asked n w e Dialing h = h
 unauthorized_asked n w e (SettingUp link greeting) h = h
 unauthorized_asked n w e (Ready link) h = h
@@ -141,6 +144,7 @@ unauthorized_asked n w e (Ended x) h = h
 
 -- a connect that fails
 refused_asked : (n : ℕ) (w : Work) (f : FaultKind) (life : Life) → HasAsked n w → HasAsked n (refused_at w f life)
+refused_asked n w f Resting h = h
 refused_asked n w f Dialing h = opening_asked n w (error.Io f) h
 refused_asked n w f (Wanting link) h = h
 refused_asked n w f (SettingUp link greeting) h = h
@@ -149,6 +153,7 @@ refused_asked n w f (Ended e) h = h
 
 -- the time of the opening that is over
 overdue_asked : (n : ℕ) (w : Work) (life : Life) → HasAsked n w → HasAsked n (overdue_at w life)
+overdue_asked n w Resting h = h
 overdue_asked n w Dialing h = opening_asked n (acted w act.Close) _ h
 overdue_asked n w (Wanting link) h = opening_asked n (acted w act.Close) _ h
 overdue_asked n w (SettingUp link greeting) h = opening_asked n (acted w act.Close) _ h
@@ -158,6 +163,7 @@ overdue_asked n w (Ended e) h = h
 -- bytes that were taken
 taken_asked : (n : ℕ) (w : Work) (count : ℕ) (life : Life) → HasAsked n w → HasAsked n (taken_at w count life)
 taken_asked n w count (Ready link) h = h
+taken_asked n w count Resting h = h
 taken_asked n w count Dialing h = h
 taken_asked n w count (Wanting link) h = h
 taken_asked n w count (SettingUp link greeting) h = h
@@ -170,6 +176,7 @@ ended_asked n w link f h = all_asked n (parted (cut_short w)) (faulted (record {
 -- a fault
 fault_asked : (n : ℕ) (w : Work) (f : LinkFault) (life : Life) → HasAsked n w → HasAsked n (failed_at w f life)
 fault_asked n w f (Ready link) h = ended_asked n w link (felt w.conn.hears f) h
+fault_asked n w f Resting h = h
 fault_asked n w f Dialing h = h
 fault_asked n w f (Wanting link) h = opening_asked n (acted w act.Close) error.Closed h
 fault_asked n w f (SettingUp link greeting) h = opening_asked n (acted w act.Close) (greeting_error greeting link.row f) h
@@ -178,6 +185,7 @@ fault_asked n w f (Ended e) h = h
 -- the stream of messages that is dropped
 stream_asked : (n : ℕ) (w : Work) (life : Life) → HasAsked n w → HasAsked n (dropped_at w life)
 stream_asked n w (Ready link) h = ended_asked n w link fault.Ended h
+stream_asked n w Resting h = h
 stream_asked n w Dialing h = opening_asked n (acted w act.Close) error.Closed h
 stream_asked n w (Wanting link) h = opening_asked n (acted w act.Close) error.Closed h
 stream_asked n w (SettingUp link greeting) h = opening_asked n (acted w act.Close) error.Closed h
@@ -219,6 +227,7 @@ read_asked : (n : ℕ) (w : Work) (piece : List ℕ) (life : Life) → HasAsked 
 read_asked n w piece (Ready link) h =
     let r = piece_read w.conn.hears true link piece in
     broken_asked n (r.link.broken || r.strange) (told_each (with_link w r.link) 0 r.notices r.out) (told_asked n (with_link w r.link) 0 r.notices r.out h)
+read_asked n w piece Resting h = h
 read_asked n w piece Dialing h = h
 read_asked n w piece (Wanting link) h =
     let r = piece_read hearing.Nothing false link piece in
@@ -232,6 +241,7 @@ read_asked n w piece (Ended e) h = h
 -- the shutdown
 shut_asked : (n : ℕ) (w : Work) (life : Life) → HasAsked n w → HasAsked n (shut_at w life)
 shut_asked n w (Ready link) h = all_asked n (cut_short w) (closed_all (record { link = link; out = [] })).out h
+shut_asked n w Resting h = waiting_asked n w error.Closed h
 shut_asked n w Dialing h = all_asked n (cut_short w) [] h
 shut_asked n w (Wanting link) h = all_asked n (cut_short w) [] h
 shut_asked n w (SettingUp link greeting) h = all_asked n (cut_short w) [] h
@@ -352,6 +362,7 @@ started_grown : (n : ℕ) (w : Work) → HasGrown n w.conn → HasGrown n (start
 started_grown n w h = by_life w.conn.life refl
   where
     by_life : (life : Life) → w.conn.life ≡ life → HasGrown n (started_at w life).conn
+    by_life Resting e = h
     by_life Dialing e = h
     by_life (Wanting link) e = h
     by_life (Ended x) e = h
@@ -366,6 +377,7 @@ answered_grown n w p o h = chosen (λ (x : Work). HasGrown n x.conn) (is_open_at
 placed_grown : (n : ℕ) (w : Work) (q : Waiting) (life : Life) → HasGrown n w.conn → HasGrown n (placed_at w q life).conn
 placed_grown n w q (Ready link) (inl same) = inl same
 placed_grown n w q (Ready link) (inr more) = inr (refl, more.1)
+placed_grown n w q Resting h = h
 placed_grown n w q Dialing h = h
 placed_grown n w q (Wanting link) h = h
 placed_grown n w q (SettingUp link greeting) h = h
@@ -404,6 +416,7 @@ let_in_grown n w q h =
 admitted_grown : (n : ℕ) (w : Work) (q : Waiting) (life : Life) → HasGrown n w.conn → HasGrown n (admitted_at w q life).conn
 admitted_grown n w q (Ready link) h = chosen (λ (x : Work). HasGrown n x.conn) (has_room (let_in w q).conn) (seated (let_in w q) q) (put_behind (let_in w q) q) (λ t. seated_grown n (let_in w q) q (let_in_grown n w q h)) (λ f. let_in_grown n w q h)
 admitted_grown n w q (Ended e) h = answered_grown n w q.number (outcome.Fault e) h
+admitted_grown n w q Resting h = h
 admitted_grown n w q Dialing h = h
 admitted_grown n w q (Wanting link) h = h
 admitted_grown n w q (SettingUp link greeting) h = h
@@ -419,6 +432,7 @@ each_grown n w (q ∷ qs) h = chosen (λ (x : Work). HasGrown n x.conn) (admits_
 told_grown : (n : ℕ) (w : Work) (life : Life) (cs : List Credentials) → HasGrown n w.conn → HasGrown n (renewal_moved w life cs).conn
 told_grown n w (Ready link) (c ∷ cs) h = chosen (λ (x : Work). HasGrown n x.conn) (holds_back link) w _ (λ t. h) (λ f. inr (refl, inl refl))
 told_grown n w (Ready link) [] h = h
+told_grown n w Resting cs h = h
 told_grown n w Dialing cs h = h
 told_grown n w (Wanting link) cs h = h
 told_grown n w (SettingUp link greeting) cs h = h
@@ -442,6 +456,7 @@ renewal_grown n w h = chosen (λ (x : Work). HasGrown n x.conn) (is_ready w.conn
 -- bytes that are offered
 written_grown : (n : ℕ) (w : Work) (life : Life) → w.conn.life ≡ life → HasGrown n w.conn → HasGrown n (written_at w life).conn
 written_grown n w (Ready link) e h = chosen (λ (x : Work). HasGrown n x.conn) (can_offer link.outbox) _ w (λ t. ready_grown n w.conn (offered_of link) h) (λ f. h)
+written_grown n w Resting e h = h
 written_grown n w Dialing e h = h
 written_grown n w (Wanting link) e h = h
 written_grown n w (SettingUp link greeting) e h = chosen (λ (x : Work). HasGrown n x.conn) (can_offer link.outbox) _ w (λ t. inl (unready_grown n w.conn (ap is_ready e) h)) (λ f. h)

@@ -14,7 +14,7 @@ use Rattle.link_laws.proofs.TiedLink.{TiedLink, told_tied, unheard_tied}
 use Rattle.mux_conn.specs.declared.request.Request.{Request}
 use Rattle.mux_conn.specs.declared.connection.MultiplexedConnection.{MultiplexedConnection}
 use Rattle.mux_conn.specs.declared.life.Life.{Life}
-use Rattle.mux_conn.specs.declared.life.Life.TheVariants.{Dialing, Wanting, SettingUp, Ready, Ended}
+use Rattle.mux_conn.specs.declared.life.Life.TheVariants.{Resting, Dialing, Wanting, SettingUp, Ready, Ended}
 use Rattle.shared_session.specs.declared.core_state.Core.{Core}
 use Rattle.shared_session.specs.Turn.{with_work, is_bad}
 use Rattle.legal_trace.specs.Ledger.{Ledger, Ending, Sourced, hears, noted, ending, ending_alive, ending_asked, is_over, bytes_came, dials, refused_in, authorized_by, awaits_credentials, is_renewal_open, lost_by, may_renew, renewed_by, unrenewed_by, renewal_count}
@@ -229,6 +229,7 @@ leads_on before c started n h k g = record { lived = g.0; creds = g.1; renewal_i
 
 -- what the news are is of no account for how far a link has come
 pub told_life : (l : Ledger) (created : ℕ) (life : Life) (n : News) → TiedLife l created life → TiedLife (record l { heard = n }) created life
+told_life l created Resting n h = h
 told_life l created Dialing n h = h
 told_life l created (Wanting link) n h = h
 told_life l created (SettingUp link greeting) n h = h
@@ -419,6 +420,7 @@ setting_fit c link after was greeting fresh e h k = record {
   setup = λ x u is. (let same : after ≡ x = cc in subst (IsFit c.size c.boundary) same k);
   link = λ x is. cc;
   none = λ n. h.none (λ x r. (let no : SettingUp link was ≡ Ready x = sym e ∙ r in cc));
+  unmade = λ x y. h.unmade (ap is_ready e) (ap has_ended e);
 }
 
 -- its waits stay as long as it is set up
@@ -451,6 +453,7 @@ wanting_fit c link after e h k = record {
   setup = λ x u is. cc;
   link = λ x is. cc;
   none = λ n. h.none (λ x r. (let no : Wanting link ≡ Ready x = sym e ∙ r in cc));
+  unmade = λ x y. h.unmade (ap is_ready e) (ap has_ended e);
 }
 
 -- and its waits stay

@@ -17,7 +17,7 @@ use Rattle.driver_model.specs.declared.action.Purpose.{Purpose}
 use Rattle.driver_model.specs.declared.action.Purpose.TheVariants as purpose
 use Rattle.link_laws.proofs.TiedLink.{asked_tied, fresh_tied}
 use Rattle.mux_conn.specs.Turn.{dialing}
-use Rattle.mux_conn.specs.declared.life.Life.TheVariants.{Dialing}
+use Rattle.mux_conn.specs.declared.life.Life.TheVariants.{Resting, Dialing}
 use Rattle.shared_session.specs.Replay.{IsSound, connect_asked, connect_timers, first_link, opening_core, opening_actions, timer_asked}
 use Rattle.shared_session.specs.declared.core_state.Core.{Core}
 use Rattle.legal_trace.specs.Book.{Book, blank_book, book, entered, has_generations}
@@ -333,7 +333,7 @@ opened_between config word info timeout sound at some is =
     let conn = c.single.connection in
     let t = inner c [] in
     let tied = opening_tied config word info timeout some is in
-    let fit : IsFitIn conn = record { wanting = λ link e. cc; setup = λ link u e. cc; link = λ link e. cc; none = λ no. refl } in
+    let fit : IsFitIn conn = record { wanting = λ link e. cc; setup = λ link u e. cc; link = λ link e. cc; none = λ no. refl; unmade = λ u a. (refl, refl) } in
     let still : IsStill conn = record { setup = λ link u e. cc; held = λ link e. cc; full = λ link e. cc; waiting = λ link e. cc; none_waits = λ e. refl; renewed = λ link e. cc } in
     let moved = is_moved b t tied refl (refl, refl) refl (opening_ends config word info timers) fit.link fit.none still.held still.full still.waiting still.none_waits fit.setup still.setup (λ p i. absurd i) still.renewed in
     let written = is_written b t tied moved refl in

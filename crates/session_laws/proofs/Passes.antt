@@ -17,7 +17,7 @@ use Rattle.mux_conn.specs.declared.act.LinkAct.{LinkAct}
 use Rattle.mux_conn.specs.declared.act.LinkAct.TheVariants as act
 use Rattle.mux_conn.specs.declared.connection.MultiplexedConnection.{MultiplexedConnection}
 use Rattle.mux_conn.specs.declared.life.Life.{Life}
-use Rattle.mux_conn.specs.declared.life.Life.TheVariants.{Dialing, Ended, Ready, Wanting, SettingUp}
+use Rattle.mux_conn.specs.declared.life.Life.TheVariants.{Resting, Dialing, Ended, Ready, Wanting, SettingUp}
 use Rattle.mux_conn.specs.declared.renewal.Renewal.{Renewal}
 use Rattle.mux_conn.specs.declared.request.Progress.{Progress}
 use Rattle.mux_conn.specs.declared.request.Progress.TheVariants as progress
@@ -105,6 +105,7 @@ keeps_on u v w h k = record { admitted = k.admitted ∙ h.admitted; waiting = k.
 
 -- starts leave those that wait
 pub started_keeps : (w : Work) (life : Life) → Keeps w (started_at w life)
+started_keeps w Resting = record { admitted = refl; waiting = refl }
 started_keeps w Dialing = record { admitted = refl; waiting = refl }
 started_keeps w (Wanting link) = record { admitted = refl; waiting = refl }
 started_keeps w (SettingUp link greeting) =
@@ -119,6 +120,7 @@ started_keeps w (Ended e) = record { admitted = refl; waiting = refl }
 
 -- so does the place of another
 placed_keeps : (w : Work) (q : Waiting) (life : Life) → Keeps w (placed_at w q life)
+placed_keeps w q Resting = record { admitted = refl; waiting = refl }
 placed_keeps w q Dialing = record { admitted = refl; waiting = refl }
 placed_keeps w q (Wanting link) = record { admitted = refl; waiting = refl }
 placed_keeps w q (SettingUp link greeting) = record { admitted = refl; waiting = refl }

@@ -23,7 +23,7 @@ use Rattle.link_laws.proofs.Settles.{read_owed}
 use Rattle.link_laws.proofs.TiedLink.{ReadsAlike, TiedLink, deals, has_read, has_heard, reads_on, heard_is, read_taken, read_tied}
 use Rattle.mux_conn.specs.declared.connection.MultiplexedConnection.{MultiplexedConnection}
 use Rattle.mux_conn.specs.declared.life.Life.{Life}
-use Rattle.mux_conn.specs.declared.life.Life.TheVariants.{Dialing, Wanting, SettingUp, Ready, Ended}
+use Rattle.mux_conn.specs.declared.life.Life.TheVariants.{Resting, Dialing, Wanting, SettingUp, Ready, Ended}
 use Rattle.mux_conn.specs.declared.request.Request.{Request}
 use Rattle.mux_conn.specs.declared.request.Waiting.{Waiting}
 use Rattle.mux_conn.specs.Connection.{Work}
@@ -356,6 +356,7 @@ read_applied before c started word kind piece h good k is = by_life c.single.con
     applied x = HasApplied (before ++ turn_of c word kind ∷ []) (with_work (record { core = turned c kind; acts = [] }) x) started
 
     by_life : (x : Life) → c.single.connection.life ≡ x → applied (read_at w piece x)
+    by_life Resting e = absurd (never_rests ((book before).link c.single.link) (book before).created c.single.connection.life e h.sound.tied.life)
     by_life Dialing e = dialing_quiet before c started word kind (came piece) tt h good k is e
     by_life (Ended x) e = ended_quiet before c started word kind (came piece) x h good k is e
     by_life (Wanting link) e =

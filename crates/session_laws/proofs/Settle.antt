@@ -15,7 +15,7 @@ use Rattle.mux_conn.specs.declared.act.LinkAct.{LinkAct}
 use Rattle.mux_conn.specs.declared.act.LinkAct.TheVariants as act
 use Rattle.mux_conn.specs.declared.connection.MultiplexedConnection.{MultiplexedConnection}
 use Rattle.mux_conn.specs.declared.life.Life.{Life}
-use Rattle.mux_conn.specs.declared.life.Life.TheVariants.{Dialing, Wanting, SettingUp, Ready, Ended}
+use Rattle.mux_conn.specs.declared.life.Life.TheVariants.{Resting, Dialing, Wanting, SettingUp, Ready, Ended}
 use Rattle.mux_conn.specs.declared.request.Progress.TheVariants as progress
 use Rattle.mux_conn.specs.declared.request.Request.{Request}
 use Rattle.mux_conn.specs.declared.request.Waiting.{Waiting}
@@ -171,6 +171,7 @@ answering before f w pending started h line = record { holds = h; line = line; l
 
 -- a link that is over has ended
 over_life : (l : Ledger) (created : ℕ) (life : Life) → TiedLife l created life → is_over l ≡ true → has_ended life ≡ true
+over_life l created Resting h over = absurd (not_both (is_over l) (ap is_some h.2) over)
 over_life l created Dialing h over = absurd (not_both (is_over l) (ap is_some h.2) over)
 over_life l created (Wanting link) h over = absurd (not_both (is_over l) (ap is_some h.2) over)
 over_life l created (SettingUp link greeting) h over = absurd (not_both (is_over l) (ap is_some h.2) over)

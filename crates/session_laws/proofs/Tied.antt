@@ -32,7 +32,7 @@ use Rattle.driver_model.specs.Shape.{verdict_of}
 use Rattle.mux_conn.specs.declared.life.Greeting.{Greeting}
 use Rattle.mux_conn.specs.declared.life.Greeting.TheVariants as greet
 use Rattle.mux_conn.specs.declared.life.Life.{Life}
-use Rattle.mux_conn.specs.declared.life.Life.TheVariants.{Dialing, Wanting, SettingUp, Ready, Ended}
+use Rattle.mux_conn.specs.declared.life.Life.TheVariants.{Resting, Dialing, Wanting, SettingUp, Ready, Ended}
 use Rattle.mux_conn.specs.declared.renewal.Renewal.{Renewal}
 use Rattle.mux_conn.specs.Connection.{are_some}
 use Rattle.mux_conn.specs.Renewals.{renewal_id}
@@ -97,6 +97,7 @@ no_link = fresh_link 0 0
 
 -- the link of a connection as requests see it: it has none of their messages where it isn't up and set up
 abbrev pub link_in : Life → LinkState
+link_in Resting = no_link
 link_in Dialing = no_link
 link_in (Wanting link) = no_link
 link_in (SettingUp link greeting) = no_link
@@ -105,6 +106,7 @@ link_in (Ended e) = no_link
 
 -- it takes no more messages
 abbrev pub has_ended : Life → Bool
+has_ended Resting = false
 has_ended Dialing = false
 has_ended (Wanting link) = false
 has_ended (SettingUp link greeting) = false
@@ -117,6 +119,7 @@ owner_of requests p = if p == renewal_id then owner.Auth else owner.Try (name_at
 
 -- the link of a connection, also while it waits for credentials, and while it is set up
 abbrev pub whole_link : Life → LinkState
+whole_link Resting = no_link
 whole_link Dialing = no_link
 whole_link (Wanting link) = link
 whole_link (SettingUp link greeting) = link
@@ -131,6 +134,7 @@ greeter greet.Monitor = owner.Monitor
 
 -- whose messages its link carries: those of its greetings alone, until it is set up
 abbrev pub carried : Life → List Request → ℕ → Owner
+carried Resting requests = owner_of requests
 carried Dialing requests = owner_of requests
 carried (Wanting link) requests = λ p. owner.Setup
 carried (SettingUp link greeting) requests = λ p. greeter greeting
@@ -273,14 +277,19 @@ pub record TiedNotices (heard hears hearing : Hearing) (notices : List Heard) (t
   pub due : parting ≡ true → parted ≡ false
   pub tame : end ≡ None → reading ≡ false → strange ≡ false
 
--- how far the link has come, which was asked for, and after which no attempt follows; where it has ended, a submission without a
--- message gets this error
+-- how far the link has come, which was asked for, and after which no attempt follows, so that no session's connection is without
+-- one; where it has ended, a submission without a message gets this error
 abbrev pub TiedLife : Ledger → ℕ → Life → Type 0
+TiedLife l created Resting = (l.asked ≡ false) × (l.up ≡ false) × (l.end ≡ None) × (created ≡ 0) × (l.last ≡ true) × ⊥
 TiedLife l created Dialing = (l.asked ≡ true) × (l.up ≡ false) × (l.end ≡ None) × (created ≡ 0) × (l.last ≡ true)
 TiedLife l created (Wanting link) = (l.asked ≡ true) × (l.up ≡ true) × (l.end ≡ None) × (created ≡ 0) × (l.last ≡ true)
 TiedLife l created (SettingUp link greeting) = (l.asked ≡ true) × (l.up ≡ true) × (l.end ≡ None) × (created ≡ 0) × (l.last ≡ true)
 TiedLife l created (Ready link) = (l.asked ≡ true) × (l.up ≡ true) × (l.end ≡ None) × (created ≢ 0) × (l.last ≡ true)
 TiedLife l created (Ended e) = (l.up ≡ false) × (owed_unstarted l.end ≡ Some (outcome.Fault e)) × FailureIsShown l.end created × (l.asked ≡ true)
+
+-- no session's connection is without a link
+pub never_rests : (l : Ledger) (created : ℕ) (life : Life) → life ≡ Resting → TiedLife l created life → ⊥
+never_rests l created life e h = (subst (TiedLife l created) e h).5
 
 -- the credentials of a link come of no source, or they have come
 abbrev pub HasCredentials : Sourced → Type 0
@@ -288,6 +297,7 @@ HasCredentials c = (c.wanted ≡ false) ⊎ ((c.asked ≡ true) × (c.given ≡ 
 
 -- how far the credentials of a link have come; where it is set up, and they come of sources, a second one was asked for
 abbrev pub AreSought : Sourced → Life → Type 0
+AreSought c Resting = (c.asked ≡ false) × (c.given ≡ false) × (c.renews ≡ false)
 AreSought c Dialing = (c.asked ≡ false) × (c.given ≡ false) × (c.renews ≡ false)
 AreSought c (Wanting link) = (c.wanted ≡ true) × (c.asked ≡ true) × (c.given ≡ false) × (c.renews ≡ false)
 AreSought c (SettingUp link greeting) = HasCredentials c × (c.renews ≡ false)
@@ -350,6 +360,7 @@ pub record AreRenewed (l : Ledger) (r : Renewal) : Type 0 where
 
 -- by how far the link has come; once it has ended, no more were told than were to be, and a timer was asked for all of them
 abbrev pub TiedRenewal : Ledger → Renewal → Life → Type 0
+TiedRenewal l r Resting = NoneRenewed l r
 TiedRenewal l r Dialing = NoneRenewed l r
 TiedRenewal l r (Wanting link) = NoneRenewed l r
 TiedRenewal l r (SettingUp link greeting) = NoneRenewed l r
@@ -432,6 +443,7 @@ pub record IsSetUp (l : Ledger) : Type 0 where
 
 -- how far the setup of a link has come; no request's message starts before it is set up
 abbrev pub HasSaid : Ledger → List ℕ → Life → Type 0
+HasSaid l started Resting = (l.starts ≡ []) × (started ≡ [])
 HasSaid l started Dialing = (l.starts ≡ []) × (started ≡ [])
 HasSaid l started (Wanting link) = (l.starts ≡ []) × (started ≡ []) × (link.queue ≡ []) × (link.row ≡ [])
 HasSaid l started (SettingUp link greeting) = (started ≡ []) × IsGreeting l link greeting

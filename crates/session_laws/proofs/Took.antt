@@ -10,7 +10,7 @@ use Rattle.link_laws.proofs.TiedLink.{TiedLink, wrote_tied}
 use Rattle.link_laws.specs.Settles.{awaited_ids}
 use Rattle.mux_conn.specs.declared.life.Greeting.{Greeting}
 use Rattle.mux_conn.specs.declared.life.Life.{Life}
-use Rattle.mux_conn.specs.declared.life.Life.TheVariants.{Dialing, Wanting, SettingUp, Ready, Ended}
+use Rattle.mux_conn.specs.declared.life.Life.TheVariants.{Resting, Dialing, Wanting, SettingUp, Ready, Ended}
 use Rattle.mux_conn.specs.declared.request.Request.{Request}
 use Rattle.mux_conn.specs.declared.request.Waiting.{Waiting}
 use Rattle.mux_conn.specs.Effects.{taken_at, CanTake}
@@ -105,6 +105,7 @@ pub took_applied : (before : List Action) (c : Core) (started : List ℕ) (word 
 took_applied before c started word count kind h good k is can = by_life c.single.connection.life refl
   where
     by_life : (x : Life) → c.single.connection.life ≡ x → HasApplied (before ++ turn_of c word kind ∷ []) (with_work (record { core = turned c kind; acts = [] }) (taken_at (record { conn = c.single.connection; acts = [] }) count x)) started
+    by_life Resting e = absurd (never_rests ((book before).link c.single.link) (book before).created c.single.connection.life e h.sound.tied.life)
     by_life Dialing e = dialing_quiet before c started word kind (took count) tt h good k is e
     by_life (Ended x) e = ended_quiet before c started word kind (took count) x h good k is e
     by_life (Wanting link) e =
@@ -133,6 +134,7 @@ took_applied before c started word count kind h good k is can = by_life c.single
           setup = λ x u r. cc;
           link = λ x r. cc;
           none = λ none. h.fit.none (λ x r. (let no : Wanting link ≡ Ready x = sym e ∙ r in cc));
+          unmade = λ x y. h.fit.unmade (ap is_ready e) (ap has_ended e);
         })
     by_life (SettingUp link greeting) e =
         let b = book before in
@@ -160,6 +162,7 @@ took_applied before c started word count kind h good k is can = by_life c.single
           setup = wrote_fit_set conn.size conn.boundary link count greeting (h.fit.setup link greeting e);
           link = λ x r. cc;
           none = λ none. h.fit.none (λ x r. (let no : SettingUp link greeting ≡ Ready x = sym e ∙ r in cc));
+          unmade = λ x y. h.fit.unmade (ap is_ready e) (ap has_ended e);
         })
     by_life (Ready link) e =
         let b = book before in
@@ -187,4 +190,5 @@ took_applied before c started word count kind h good k is can = by_life c.single
           setup = λ x u r. cc;
           link = wrote_fit conn.size conn.boundary link count (h.fit.link link e);
           none = λ none. absurd (none (wrote_of link count) refl);
+          unmade = λ x y. cc;
         })
