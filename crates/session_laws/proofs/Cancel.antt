@@ -53,6 +53,7 @@ use Rattle.session_laws.proofs.Kept.{tied_by}
 use Rattle.session_laws.proofs.Permits.{permits_closed}
 use Rattle.session_laws.proofs.Heard.{silent_applied, still_none, told_life, silent_no_end, tame_between}
 use Rattle.session_laws.proofs.Said.{carried_tied, setup_on, IsTame, renoticed}
+use Rattle.mux_conn.specs.Connection.{is_ready}
 
 -- one who leaves closes its story
 --

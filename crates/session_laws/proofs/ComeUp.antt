@@ -22,9 +22,10 @@ use Rattle.mux_conn.specs.declared.act.LinkAct.TheVariants as act
 use Rattle.mux_conn.specs.declared.life.Life.{Life}
 use Rattle.mux_conn.specs.declared.life.Life.TheVariants.{Resting, Dialing, Wanting, SettingUp, Ready, Ended}
 use Rattle.mux_conn.specs.Requests.{is_waiting_at}
-use Rattle.mux_conn.specs.Effects.{all_fresh, come_up, made_ready, sets_up, setup_queued, steps_of, numbers_of, greeted, setup_id}
+use Rattle.mux_conn.specs.Effects.{all_fresh, come_up, creation_told, made_ready, sets_up, setup_queued, steps_of, numbers_of, greeted, setup_id}
 use Rattle.mux_conn.specs.Turn.{early_wait}
-use Rattle.mux_conn.specs.Connection.{Work, is_ready, acted, with_link}
+use Rattle.mux_conn.specs.Connection.{Work, is_ready, acted, opened_on}
+use Rattle.mux_conn.specs.Renewals.{source_asked}
 use Rattle.mux_conn.specs.declared.connection.MultiplexedConnection.{MultiplexedConnection}
 use Rattle.mux_conn.specs.declared.request.Request.{Request}
 use Rattle.mux_conn.specs.declared.request.Waiting.{Waiting}
@@ -35,7 +36,7 @@ use Rattle.legal_trace.specs.Book.{Book, blank_book, book, entered, use_for, if_
 use Rattle.legal_trace.specs.Story.{Story}
 use Rattle.legal_trace.specs.Legal.{AllStand, MayBeCreated, MayNeed}
 use Rattle.legal_trace.proofs.Setups.{ends_where_set, silent_is_set, silent_is_greeted}
-use Rattle.session_laws.proofs.Tied.{AreSetups, AreQueued, HasCredentials, IsEntry, IsQueued, IsSettingUp, IsSetupDue, IsSetUp, Inner, Tied, TiedLines, TiedNotices, TiedWaits, has_ended, inner, link_in, no_link, owner_of, queue_ids, shown_wait, waiting_ids, AreSought, AreUses, HasSaid, is_reading, AreSetupsAlone, IsWatching, greeting_at, owners_of, setup_owners, watch_queued}
+use Rattle.session_laws.proofs.Tied.{never_rests, AreSetups, AreQueued, HasCredentials, IsEntry, IsQueued, IsSettingUp, IsSetupDue, IsSetUp, Inner, Tied, TiedLines, TiedNotices, TiedWaits, has_ended, inner, link_in, no_link, owner_of, queue_ids, shown_wait, waiting_ids, AreSought, AreUses, HasSaid, is_reading, AreSetupsAlone, IsWatching, greeting_at, owners_of, setup_owners, watch_queued}
 use Rattle.session_laws.proofs.States.{Between, HasApplied, IsFit, IsFitIn}
 use Rattle.session_laws.proofs.Creds.{has_credentials, IsOfRenewals, down_sourced}
 use Rattle.session_laws.proofs.Said.{PushesOf, ending_setting, readied, setup_recredited, well_readied}
@@ -49,7 +50,7 @@ use Rattle.session_laws.proofs.Ahead.{waiting_open}
 use Rattle.session_laws.proofs.Renewals.{early_renewal, renewed_first}
 use Rattle.session_laws.proofs.Kept.{mine_noted, others_kept}
 use Rattle.std.proofs.lemmas.List.{nil_from_length}
-use Rattle.session_laws.proofs.Failing.{unstarted_owed}
+use Rattle.session_laws.proofs.Failing.{told_first, unstarted_owed}
 use Rattle.mux_conn.specs.declared.life.Greeting.TheVariants as greet
 use Rattle.mux_conn.specs.declared.life.Greeting.{Greeting}
 use Rattle.driver_model.specs.Hearing.{is_watching}
@@ -243,7 +244,8 @@ may_be_created b c started word kind n info link untold h0 early own facts = rec
 pub makes_ready : (before : List Action) (c : Core) (started : List ℕ) (word : ℕ) (kind : EventKind) (n : News) (info : RedisConnectionInfo) (link : LinkState) (untold : List Heard) → Between before c started → is_bad c kind ≡ false → IsNewsKind c.timers kind
     → news_of c.timers c.sources c.single.link kind ≡ n → (IsOfRenewals n → ⊥) → IsEarly c.single.connection.life wait.Permit → IsReadied (book before) c (heard_by (book before) c n) info link untold
     → IsShownReady (before ++ turn_of c word kind ∷ []) (turned c kind) (made_ready (record { conn = record c.single.connection { info = info }; acts = [] }) link) (readied c.single.connection.renewal.wanted (heard_by (book before) c n)) untold started
-makes_ready before c started word kind n info link untold h good k is other early facts = by_wanted c.single.connection.renewal.wanted refl
+makes_ready before c started word kind n info link untold h good k is other early facts =
+    subst (λ (x : Work). IsShownReady front f (source_asked x) (readied c.single.connection.renewal.wanted l) untold started) (sym (told_first opened None (h.fit.unmade early.unready early.alive).1)) (by_wanted c.single.connection.renewal.wanted refl)
   where
     b : Book
     b = book before
@@ -272,8 +274,11 @@ makes_ready before c started word kind n info link untold h good k is other earl
     shown : Action
     shown = action.Created None
 
+    opened : Work
+    opened = opened_on (all_fresh (record { conn = record c.single.connection { info = info }; acts = [] })) link
+
     v : Work
-    v = acted (with_link (all_fresh (record { conn = record c.single.connection { info = info }; acts = [] })) link) (act.Created None)
+    v = record { conn = record opened.conn { told = true }; acts = act.Created None ∷ [] }
 
     own : now.link mine ≡ l
     own = ap (heard_by b c) (book_news b c started kind n h0 is)
@@ -345,18 +350,24 @@ makes_ready before c started word kind n info link untold h good k is other earl
     by_wanted true w = wants w
     by_wanted false w = unwanted w
 
+-- what a link that becomes ready leaves of a connection, whether a source is asked for or not
+pub made_of : MultiplexedConnection → LinkState → MultiplexedConnection
+made_of c link = record c { fresh = numbers_of c.waiting; life = Ready link; opened = true; told = true }
+
 -- what a source that is asked for leaves
-pub made_conn : (w : Work) (link : LinkState) → (made_ready w link).conn ≡ (with_link (all_fresh w) link).conn
-made_conn w link = chosen (λ (x : Work). x.conn ≡ (with_link (all_fresh w) link).conn) w.conn.renewal.wanted (acted (acted (with_link (all_fresh w) link) (act.Created None)) act.NeedRenewals) (acted (with_link (all_fresh w) link) (act.Created None)) (λ t. refl) (λ f. refl)
+pub made_conn : (w : Work) (link : LinkState) → (made_ready w link).conn ≡ made_of w.conn link
+made_conn w link =
+    let v = creation_told (opened_on (all_fresh w) link) None in
+    chosen (λ (x : Work). x.conn ≡ made_of w.conn link) w.conn.renewal.wanted (acted v act.NeedRenewals) v (λ t. refl) (λ f. refl)
 
 -- but for what it shows
-pub made_is : (w : Work) (link : LinkState) → made_ready w link ≡ record { conn = (with_link (all_fresh w) link).conn; acts = (made_ready w link).acts }
+pub made_is : (w : Work) (link : LinkState) → made_ready w link ≡ record { conn = made_of w.conn link; acts = (made_ready w link).acts }
 made_is w link = by_wanted w.conn.renewal.wanted
   where
     v : Work
-    v = acted (with_link (all_fresh w) link) (act.Created None)
+    v = creation_told (opened_on (all_fresh w) link) None
 
-    by_wanted : (b : Bool) → (if b then acted v act.NeedRenewals else v) ≡ record { conn = v.conn; acts = (if b then acted v act.NeedRenewals else v).acts }
+    by_wanted : (b : Bool) → (if b then acted v act.NeedRenewals else v) ≡ record { conn = made_of w.conn link; acts = (if b then acted v act.NeedRenewals else v).acts }
     by_wanted true = refl
     by_wanted false = refl
 

@@ -24,14 +24,14 @@ use Rattle.link_laws.proofs.TiedLink.{TiedLink}
 use Rattle.mux_conn.specs.declared.life.Greeting.{Greeting}
 use Rattle.mux_conn.specs.declared.life.Life.{Life}
 use Rattle.mux_conn.specs.declared.life.Life.TheVariants.{Resting, Dialing, Wanting, SettingUp, Ready, Ended}
-use Rattle.mux_conn.specs.Connection.{Work}
+use Rattle.mux_conn.specs.Connection.{is_ready, Work}
 use Rattle.mux_conn.specs.Effects.{ended, ended_by, failed_at, overdue_at, shut_at, unauthorized_at, greeting_error, dropped_at}
 use Rattle.shared_session.specs.declared.core_state.Core.{Core}
 use Rattle.shared_session.specs.Turn.{with_work, is_bad}
 use Rattle.legal_trace.specs.Ledger.{Ledger, by_fault, by_opening, by_shutdown, ends, hears, noted, ending, ending_alive, ending_unready, ending_up, is_over, is_set_up, lacks_credentials, fault_error, opening_error, monitor_among, reach, Start, setup_count, is_full}
 use Rattle.legal_trace.specs.Book.{Book, book, hearing_in}
 use Rattle.session_laws.proofs.Numbers.{IsIn}
-use Rattle.session_laws.proofs.Tied.{AreSought, HasCredentials, Inner, inner, link_in, no_link, carried, whole_link, owner_of, queue_ids, HasSaid, Tied, TiedLife, has_ended, IsGreeting, IsWatchSent, greeter}
+use Rattle.session_laws.proofs.Tied.{never_rests, AreSought, HasCredentials, Inner, inner, link_in, no_link, carried, whole_link, owner_of, queue_ids, HasSaid, Tied, TiedLife, has_ended, IsGreeting, IsWatchSent, greeter}
 use Rattle.session_laws.proofs.Creds.{asked_sourced, has_sourced, wanting_lacks}
 use Rattle.session_laws.proofs.SetUp.{not_set_up, lacking_unset, alone_unwatched}
 use Rattle.session_laws.proofs.Said.{ending_wanting, ready_heard, setting_heard, setting_told, renoticed}

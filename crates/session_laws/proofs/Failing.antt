@@ -1,7 +1,7 @@
 -- The opening of the connection's link has failed, which is shown; and a link that is closed before it is set up.
-use Rattle.std.proofs.Common.{◌≡◌, ◌≢◌, ℕ, ◌+◌, ◌-◌, ◌==◌, Bool, true, false, List, [], ◌∷◌, ◌++◌, length, Some, None, refl, sym, ap, ◌∙◌, subst, arith, ◌||◌, ◌<◌}
+use Rattle.std.proofs.Common.{◌≡◌, ◌≢◌, ◌×◌, ℕ, ◌+◌, ◌-◌, ◌==◌, if◌then◌else◌, Bool, true, false, Option, List, [], ◌∷◌, ◌++◌, length, Some, None, refl, sym, ap, ◌∙◌, subst, arith, ◌||◌, ◌<◌}
 use Rattle.std.proofs.lemmas.List.{append-nil}
-use Rattle.containers.proofs.Choices.{by_test, left_if, both_left, both_right, eq_from, ne_from, not_both}
+use Rattle.containers.proofs.Choices.{by_test, taken_if, left_if, both_left, both_right, eq_from, ne_from, not_both}
 use Rattle.redis_error.specs.declared.redis_error.RedisError.{RedisError}
 use Rattle.connection_info.specs.declared.address.RedisConnectionInfo.{RedisConnectionInfo}
 use Rattle.driver_model.specs.declared.action.Action.{Action}
@@ -14,8 +14,8 @@ use Rattle.mux_conn.specs.declared.act.LinkAct.TheVariants as act
 use Rattle.mux_conn.specs.declared.connection.MultiplexedConnection.{MultiplexedConnection}
 use Rattle.mux_conn.specs.declared.life.Life.{Life}
 use Rattle.mux_conn.specs.declared.life.Life.TheVariants.{Ended}
-use Rattle.mux_conn.specs.Connection.{Work, acted, at_life}
-use Rattle.mux_conn.specs.Effects.{opening_failed}
+use Rattle.mux_conn.specs.Connection.{Work, at_life, is_ready as is_life_ready}
+use Rattle.mux_conn.specs.Effects.{creation_told, given_up, opening_failed, waiting_failed}
 use Rattle.mux_conn.specs.Requests.{name_at}
 use Rattle.shared_session.specs.declared.core_state.Core.{Core}
 use Rattle.shared_session.specs.Turn.{with_work, is_bad}
@@ -138,7 +138,7 @@ pub record IsUnready (created : ℕ) (life : Life) (started : List ℕ) : Type 0
   pub bare : link_in life ≡ no_link
   pub none : started ≡ []
   pub unshown : created ≡ 0
-  pub unready : is_made life ≡ false
+  pub unready : is_life_ready life ≡ false
   pub alive : has_ended life ≡ false
 
 -- it is closed, and its opening has failed

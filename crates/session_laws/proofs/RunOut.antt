@@ -238,7 +238,7 @@ asked_behind config word events unspent = asked_on (opening_core config word) ev
 
 -- so where they have, they have in its book
 last_asked : (b : Book) (t : Inner) (n : ℕ) (conn : MultiplexedConnection) → t.life ≡ conn.life → t.renewal ≡ conn.renewal → Tied b t → n < 2 ^ 32 → HasGrown n conn → 2 ^ 32 ≤ t.renewal.asked → 2 ^ 32 ≤ renewals_asked (b.link t.link)
-last_asked b t n conn life renewal h few (inl same) many = absurd (let so = ap (λ (r : Renewal). r.asked) renewal ∙ same in omega (arith, few, so, many))
+last_asked b t n conn life renewal h few (inl same) many = absurd (let so = ap (λ (r : Renewal). r.asked) renewal in omega (arith, few, so, same, many))
 last_asked b t n conn life renewal h few (inr more) many = by_life t.life refl
   where
     ready : is_ready t.life ≡ true

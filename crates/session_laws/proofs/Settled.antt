@@ -34,7 +34,7 @@ use Rattle.session_laws.proofs.Numbers.{IsIn, Rising, in_left, in_right, rising_
 use Rattle.session_laws.proofs.Owes.{IsOpenRequest, lives, none_open, open_request, request_story, row_link, stands_started, wanted_entry, open_on}
 use Rattle.session_laws.proofs.Settle.{book_of_more, seen, sound_act, trace_of_acts}
 use Rattle.session_laws.proofs.States.{Between, HasApplied, IsFitIn, IsStill, trace_with}
-use Rattle.session_laws.proofs.Tied.{Inner, Sound, Tied, TiedLife, TiedWaits, has_ended, link_in, owner_of, queue_ids, relined, shown_wait, waiting_ids}
+use Rattle.session_laws.proofs.Tied.{never_rests, Inner, Sound, Tied, TiedLife, TiedWaits, has_ended, link_in, owner_of, queue_ids, relined, shown_wait, waiting_ids}
 use Rattle.session_laws.proofs.Waits.{IsEarly, IsPlacedOrKept, IsQuiet, WaitsSo, admitted_there, admitted_unplaced, awaited_placed, behind_places, down_admits, fresh_waits, located, moved_waits, passed_waits, permit_holds, place_holds, placed_there, room_holds, stale_waits, wait_may, wait_tied, waiting_apart, waiting_is, waiting_there, waits_at, with_unshown}
 use Rattle.session_laws.proofs.Write.{HasWritten, IsOfferedIn, is_written, written_holds}
 
@@ -305,8 +305,7 @@ early_holds b t p ps h q is up w = by_life t.life refl
     first = subst (IsIn p) (sym is) (inl refl)
 
     by_life : (x : Life) → t.life ≡ x → EarlyHolds b t p (early_wait t.life)
-    by_life Resting e = subst (λ (x : Life). EarlyHolds b t p (early_wait x)) (sym e)
-        (record { new = h.waits.no_connect p first w e; holds = dialing_step b t p h e (open_on b t p h (waiting_open t.requests p w)) })
+    by_life Resting e = absurd (never_rests (b.link t.link) b.created t.life e h.life)
     by_life Dialing e = subst (λ (x : Life). EarlyHolds b t p (early_wait x)) (sym e)
         (record { new = h.waits.no_connect p first w e; holds = dialing_step b t p h e (open_on b t p h (waiting_open t.requests p w)) })
     by_life (Wanting link) e = subst (λ (x : Life). EarlyHolds b t p (early_wait x)) (sym e)

@@ -10,7 +10,7 @@ use Rattle.link_core.specs.Link.{LinkState, holds_back, is_full_beside, offered_
 use Rattle.link_core.specs.Outbox.{all_offered, can_offer}
 use Rattle.link_core.specs.declared.outbox.Outbox.{Outbox}
 use Rattle.link_laws.proofs.TiedLink.{TiedLink, is_offered, offer_stands, offered_tied}
-use Rattle.mux_conn.specs.Connection.{Work, acted, with_link, with_setup, in_front}
+use Rattle.mux_conn.specs.Connection.{is_ready, Work, acted, with_link, with_setup, in_front}
 use Rattle.mux_conn.specs.Turn.{written, written_at}
 use Rattle.mux_conn.specs.declared.act.LinkAct.TheVariants as act
 use Rattle.mux_conn.specs.declared.life.Greeting.{Greeting}
