@@ -33,7 +33,7 @@ use Rattle.mux_conn.specs.declared.act.LinkAct.{LinkAct}
 use Rattle.mux_conn.specs.declared.act.LinkAct.TheVariants as act
 use Rattle.mux_conn.specs.declared.connection.MultiplexedConnection.{MultiplexedConnection}
 use Rattle.mux_conn.specs.declared.life.Life.{Life}
-use Rattle.mux_conn.specs.declared.life.Life.TheVariants.{Dialing, Wanting, SettingUp, Ready, Ended}
+use Rattle.mux_conn.specs.declared.life.Life.TheVariants.{Resting, Dialing, Wanting, SettingUp, Ready, Ended}
 use Rattle.mux_conn.specs.declared.request.Progress.TheVariants as progress
 use Rattle.mux_conn.specs.declared.request.Request.{Request}
 use Rattle.mux_conn.specs.declared.request.Waiting.{Waiting}
@@ -281,6 +281,7 @@ bare_given_up n p w e h = bare_opening n p (acted w act.Close) e h ∙ ap (λ (x
 --
 -- whether a link is set up doesn't depend on its row
 pub ready_same : (p : ℕ) (life : Life) → is_ready life ≡ is_ready (hushed_life p life)
+ready_same p Resting = refl
 ready_same p Dialing = refl
 ready_same p (Wanting l) = refl
 ready_same p (SettingUp l greeting) = refl
@@ -290,6 +291,7 @@ ready_same p (Ended e) = refl
 -- a fault of the link
 bare_failed : (n p : ℕ) (w : Work) (f : LinkFault) (life : Life) → At (There (IsGone n p)) w → bare n p (failed_at w f life) ≡ failed_at (bare n p w) f (hushed_life p life)
 bare_failed n p w f (Ready l) h = bare_faulted n p w _ _ h (fault_alike p (felt w.conn.hears f) l (hushed_link p l) [] [] (alike_hushed p l) refl).out
+bare_failed n p w f Resting h = refl
 bare_failed n p w f Dialing h = refl
 bare_failed n p w f (Wanting l) h = bare_given_up n p w error.Closed h
 bare_failed n p w f (SettingUp l greeting) h = bare_given_up n p w (greeting_error greeting l.row f) h
@@ -298,6 +300,7 @@ bare_failed n p w f (Ended e) h = refl
 -- the stream of messages is dropped
 bare_dropped_at : (n p : ℕ) (w : Work) (life : Life) → At (There (IsGone n p)) w → bare n p (dropped_at w life) ≡ dropped_at (bare n p w) (hushed_life p life)
 bare_dropped_at n p w (Ready l) h = bare_faulted n p w _ _ h (fault_alike p fault.Ended l (hushed_link p l) [] [] (alike_hushed p l) refl).out
+bare_dropped_at n p w Resting h = bare_given_up n p w error.Closed h
 bare_dropped_at n p w Dialing h = bare_given_up n p w error.Closed h
 bare_dropped_at n p w (Wanting l) h = bare_given_up n p w error.Closed h
 bare_dropped_at n p w (SettingUp l greeting) h = bare_given_up n p w error.Closed h
@@ -309,6 +312,7 @@ bare_dropped n p w h = either (bare n p) (hears_messages w.conn.hears) (dropped_
 
 -- the connect
 bare_connected : (n p : ℕ) (w : Work) (life : Life) → NoneQueued p life → bare n p (connected_at w life) ≡ connected_at (bare n p w) (hushed_life p life)
+bare_connected n p w Resting none = absurd none
 bare_connected n p w Dialing none = absurd none
 bare_connected n p w (Wanting l) none = absurd none
 bare_connected n p w (SettingUp l greeting) none = absurd none
@@ -317,6 +321,7 @@ bare_connected n p w (Ended e) none = refl
 
 -- credentials for the setup
 bare_authorized : (n p : ℕ) (w : Work) (c : Credentials) (life : Life) → NoneQueued p life → bare n p (authorized_at w c life) ≡ authorized_at (bare n p w) c (hushed_life p life)
+bare_authorized n p w c Resting none = refl
 bare_authorized n p w c Dialing none = refl
 bare_authorized n p w c (Wanting l) none = absurd none
 bare_authorized n p w c (SettingUp l greeting) none = refl
@@ -325,6 +330,7 @@ bare_authorized n p w c (Ended e) none = refl
 
 -- that there are none
 bare_unauthorized : (n p : ℕ) (w : Work) (e : RedisError) (life : Life) → NoneQueued p life → bare n p (unauthorized_at w e life) ≡ unauthorized_at (bare n p w) e (hushed_life p life)
+bare_unauthorized n p w e Resting none = refl
 bare_unauthorized n p w e Dialing none = refl
 bare_unauthorized n p w e (Wanting l) none = absurd none
 bare_unauthorized n p w e (SettingUp l greeting) none = refl
@@ -333,6 +339,7 @@ bare_unauthorized n p w e (Ended x) none = refl
 
 -- the connect is refused
 bare_refused : (n p : ℕ) (w : Work) (f : FaultKind) (life : Life) → At (There (IsGone n p)) w → bare n p (refused_at w f life) ≡ refused_at (bare n p w) f (hushed_life p life)
+bare_refused n p w f Resting h = bare_opening n p w (error.Io f) h
 bare_refused n p w f Dialing h = bare_opening n p w (error.Io f) h
 bare_refused n p w f (Wanting l) h = refl
 bare_refused n p w f (SettingUp l greeting) h = refl
@@ -341,6 +348,7 @@ bare_refused n p w f (Ended e) h = refl
 
 -- the time to connect is over
 bare_overdue : (n p : ℕ) (w : Work) (life : Life) → At (There (IsGone n p)) w → bare n p (overdue_at w life) ≡ overdue_at (bare n p w) (hushed_life p life)
+bare_overdue n p w Resting h = bare_given_up n p w (error.Io kinds.TimedOut) h
 bare_overdue n p w Dialing h = bare_given_up n p w (error.Io kinds.TimedOut) h
 bare_overdue n p w (Wanting l) h = bare_given_up n p w (error.Io kinds.TimedOut) h
 bare_overdue n p w (SettingUp l greeting) h = bare_given_up n p w (error.Io kinds.TimedOut) h
@@ -349,6 +357,7 @@ bare_overdue n p w (Ended e) h = refl
 
 -- bytes were taken
 bare_taken : (n p : ℕ) (w : Work) (count : ℕ) (life : Life) → bare n p (taken_at w count life) ≡ taken_at (bare n p w) count (hushed_life p life)
+bare_taken n p w count Resting = refl
 bare_taken n p w count Dialing = refl
 bare_taken n p w count (Wanting l) = refl
 bare_taken n p w count (SettingUp l greeting) = refl
@@ -410,6 +419,7 @@ bare_came n p w piece (Ready l) h =
     let k = (gone_kept n p).come w.conn.limit w.conn.requests l w.conn.moved w.acts what piece h in
     bare_read n p w r (piece_read what true (hushed_link p l) piece) k (hushed_came p what l piece) (bytes_alike p what true l (hushed_link p l) piece (alike_hushed p l) (inl refl)).0.strange
     (bare_told_each n p (with_link w r.link) what l piece k)
+bare_came n p w piece Resting h = refl
 bare_came n p w piece Dialing h = refl
 bare_came n p w piece (Wanting l) h = absurd h.none
 bare_came n p w piece (SettingUp l greeting) h = absurd h.none
@@ -418,6 +428,7 @@ bare_came n p w piece (Ended e) h = refl
 -- the shutdown
 bare_shut : (n p : ℕ) (w : Work) (life : Life) → At (There (IsGone n p)) w → bare n p (shut_at w life) ≡ shut_at (bare n p w) (hushed_life p life)
 bare_shut n p w (Ready l) h = bare_ended n p w _ _ h (close_alike p l (hushed_link p l) [] [] (alike_hushed p l) refl).out
+bare_shut n p w Resting h = bare_ended n p w [] [] h refl
 bare_shut n p w Dialing h = bare_ended n p w [] [] h refl
 bare_shut n p w (Wanting l) h = bare_ended n p w [] [] h refl
 bare_shut n p w (SettingUp l greeting) h = bare_ended n p w [] [] h refl

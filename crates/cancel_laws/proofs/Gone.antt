@@ -4,7 +4,7 @@ use Rattle.containers.proofs.Choices.{ne_test}
 use Rattle.link_core.specs.declared.message.Entry.{Entry}
 use Rattle.mux_conn.specs.declared.act.LinkAct.{LinkAct}
 use Rattle.mux_conn.specs.declared.life.Life.{Life}
-use Rattle.mux_conn.specs.declared.life.Life.TheVariants.{Dialing, Wanting, SettingUp, Ready, Ended}
+use Rattle.mux_conn.specs.declared.life.Life.TheVariants.{Resting, Dialing, Wanting, SettingUp, Ready, Ended}
 use Rattle.mux_conn.specs.declared.request.Progress.{Progress}
 use Rattle.mux_conn.specs.declared.request.Progress.TheVariants as progress
 use Rattle.mux_conn.specs.declared.request.Request.{Request}
@@ -56,6 +56,7 @@ within_kept r p q now count l = omega (arith, progress_count r q now count)
 
 -- a cancel puts nothing into the queue
 none_cancelled : (p q : ℕ) (life : Life) → NoneQueued p life → NoneQueued p (cancelled_in life q)
+none_cancelled p q Resting h = h
 none_cancelled p q Dialing h = h
 none_cancelled p q (Wanting l) h = h
 none_cancelled p q (SettingUp l greeting) h = h
@@ -185,6 +186,7 @@ pub record IsHushed (n p : ℕ) (r : List Request) (life : Life) : Type 0 where
 
 -- a cancel makes nobody await a message
 quiet_cancelled : (p q : ℕ) (life : Life) → NoneInRow p life → NoneInRow p (cancelled_in life q)
+quiet_cancelled p q Resting h = h
 quiet_cancelled p q Dialing h = h
 quiet_cancelled p q (Wanting l) h = h
 quiet_cancelled p q (SettingUp l greeting) h = h
@@ -226,6 +228,7 @@ hushed_asks n p m o = record { ask = λ lim r life ms xs h. record { gone = gone
 
 -- where nobody awaits it, its verdict is not wanted
 pub quiet_life : (p : ℕ) (life : Life) → NoneInRow p life → hushed_life p life ≡ life
+quiet_life p Resting h = refl
 quiet_life p Dialing h = refl
 quiet_life p (Wanting l) h = refl
 quiet_life p (SettingUp l greeting) h = refl

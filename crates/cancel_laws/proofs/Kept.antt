@@ -35,7 +35,7 @@ use Rattle.mux_conn.specs.declared.act.LinkAct.TheVariants as act
 use Rattle.mux_conn.specs.declared.connection.MultiplexedConnection.{MultiplexedConnection}
 use Rattle.mux_conn.specs.declared.life.Greeting.{Greeting}
 use Rattle.mux_conn.specs.declared.life.Life.{Life}
-use Rattle.mux_conn.specs.declared.life.Life.TheVariants.{Dialing, Wanting, SettingUp, Ready, Ended}
+use Rattle.mux_conn.specs.declared.life.Life.TheVariants.{Resting, Dialing, Wanting, SettingUp, Ready, Ended}
 use Rattle.mux_conn.specs.declared.request.Pending.{Pending}
 use Rattle.mux_conn.specs.declared.request.Progress.TheVariants as progress
 use Rattle.mux_conn.specs.declared.request.Request.{Request}
@@ -313,6 +313,7 @@ connected_kept k w (Ended e) g h = h
 -- credentials come
 authorized_kept : {P : Option ℕ → List Request → Life → List ℕ → List LinkAct → Type 0} → IsKept P → (w : Work) (c : Credentials) (life : Life) → P w.conn.limit w.conn.requests life w.conn.moved w.acts → At P w → At P (authorized_at w c life)
 authorized_kept k w c (Wanting l) g h = come_up_kept k (with_credentials w c) l g
+authorized_kept k w c Resting g h = h
 authorized_kept k w c Dialing g h = h
 authorized_kept k w c (SettingUp l greeting) g h = h
 authorized_kept k w c (Ready l) g h = h
@@ -321,6 +322,7 @@ authorized_kept k w c (Ended e) g h = h
 -- or there are none
 unauthorized_kept : {P : Option ℕ → List Request → Life → List ℕ → List LinkAct → Type 0} → IsKept P → (w : Work) (e : RedisError) (life : Life) → At P w → At P (unauthorized_at w e life)
 unauthorized_kept k w e (Wanting l) h = given_up_kept k w e h
+unauthorized_kept k w e Resting h = h
 unauthorized_kept k w e Dialing h = h
 unauthorized_kept k w e (SettingUp l greeting) h = h
 unauthorized_kept k w e (Ready l) h = h
@@ -328,6 +330,7 @@ unauthorized_kept k w e (Ended x) h = h
 
 -- the connect is refused
 refused_kept : {P : Option ℕ → List Request → Life → List ℕ → List LinkAct → Type 0} → IsKept P → (w : Work) (f : FaultKind) (life : Life) → At P w → At P (refused_at w f life)
+refused_kept k w f Resting h = opening_kept k w (error.Io f) h
 refused_kept k w f Dialing h = opening_kept k w (error.Io f) h
 refused_kept k w f (Wanting l) h = h
 refused_kept k w f (SettingUp l greeting) h = h
@@ -336,6 +339,7 @@ refused_kept k w f (Ended e) h = h
 
 -- the time to connect is over
 overdue_kept : {P : Option ℕ → List Request → Life → List ℕ → List LinkAct → Type 0} → IsKept P → (w : Work) (life : Life) → At P w → At P (overdue_at w life)
+overdue_kept k w Resting h = given_up_kept k w (error.Io kinds.TimedOut) h
 overdue_kept k w Dialing h = given_up_kept k w (error.Io kinds.TimedOut) h
 overdue_kept k w (Wanting l) h = given_up_kept k w (error.Io kinds.TimedOut) h
 overdue_kept k w (SettingUp l greeting) h = given_up_kept k w (error.Io kinds.TimedOut) h
@@ -345,6 +349,7 @@ overdue_kept k w (Ended e) h = h
 -- bytes were taken
 taken_kept : {P : Option ℕ → List Request → Life → List ℕ → List LinkAct → Type 0} → IsKept P → (w : Work) (count : ℕ) (life : Life) → P w.conn.limit w.conn.requests life w.conn.moved w.acts → At P w → At P (taken_at w count life)
 taken_kept k w count (Ready l) g h = k.write w.conn.limit w.conn.requests l w.conn.moved w.acts count g
+taken_kept k w count Resting g h = h
 taken_kept k w count Dialing g h = h
 taken_kept k w count (Wanting l) g h = k.wait_on w.conn.limit w.conn.requests l (wrote_of l count) w.conn.moved w.acts (omega arith) g
 taken_kept k w count (SettingUp l greeting) g h = k.go_on w.conn.limit w.conn.requests l (wrote_of l count) greeting w.conn.moved w.acts (omega arith) g
@@ -353,6 +358,7 @@ taken_kept k w count (Ended e) g h = h
 -- a fault
 failed_kept : {P : Option ℕ → List Request → Life → List ℕ → List LinkAct → Type 0} → IsKept P → (w : Work) (f : LinkFault) (life : Life) → At P w → At P (failed_at w f life)
 failed_kept k w f (Ready l) h = faulted_kept k w (faulted (record { link = l; out = [] }) (felt w.conn.hears f)).out h
+failed_kept k w f Resting h = h
 failed_kept k w f Dialing h = h
 failed_kept k w f (Wanting l) h = given_up_kept k w error.Closed h
 failed_kept k w f (SettingUp l greeting) h = given_up_kept k w (greeting_error greeting l.row f) h
@@ -361,6 +367,7 @@ failed_kept k w f (Ended e) h = h
 -- the stream of messages is dropped
 dropped_at_kept : {P : Option ℕ → List Request → Life → List ℕ → List LinkAct → Type 0} → IsKept P → (w : Work) (life : Life) → At P w → At P (dropped_at w life)
 dropped_at_kept k w (Ready l) h = faulted_kept k w (faulted (record { link = l; out = [] }) fault.Ended).out h
+dropped_at_kept k w Resting h = given_up_kept k w error.Closed h
 dropped_at_kept k w Dialing h = given_up_kept k w error.Closed h
 dropped_at_kept k w (Wanting l) h = given_up_kept k w error.Closed h
 dropped_at_kept k w (SettingUp l greeting) h = given_up_kept k w error.Closed h
@@ -408,6 +415,7 @@ answered_setup_kept k w l m greeting ps (s ∷ ss) few g h =
 -- bytes come
 came_kept : {P : Option ℕ → List Request → Life → List ℕ → List LinkAct → Type 0} → IsKept P → (w : Work) (piece : List ℕ) (life : Life) → P w.conn.limit w.conn.requests life w.conn.moved w.acts → At P w → At P (read_at w piece life)
 came_kept k w piece (Ready l) g h = read_kept k w (piece_read w.conn.hears true l piece) (k.come w.conn.limit w.conn.requests l w.conn.moved w.acts w.conn.hears piece g)
+came_kept k w piece Resting g h = h
 came_kept k w piece Dialing g h = h
 came_kept k w piece (Wanting l) g h =
     let r = piece_read hearing.Nothing false l piece in
@@ -421,6 +429,7 @@ came_kept k w piece (Ended e) g h = h
 -- the shutdown
 shut_kept : {P : Option ℕ → List Request → Life → List ℕ → List LinkAct → Type 0} → IsKept P → (w : Work) (life : Life) → At P w → At P (shut_at w life)
 shut_kept k w (Ready l) h = ended_kept k w (closed_all (record { link = l; out = [] })).out h
+shut_kept k w Resting h = ended_kept k w [] h
 shut_kept k w Dialing h = ended_kept k w [] h
 shut_kept k w (Wanting l) h = ended_kept k w [] h
 shut_kept k w (SettingUp l greeting) h = ended_kept k w [] h
@@ -485,6 +494,7 @@ started_at_kept k w (Wanting l) g h = h
 started_at_kept k w (SettingUp l greeting) g h =
     let s = started_all (record { link = l; out = [] }) in
     greeted_each_kept k (with_setup w s.link greeting) greeting s.out (k.go_on w.conn.limit w.conn.requests l s.link greeting w.conn.moved w.acts (count_started l) g)
+started_at_kept k w Resting g h = h
 started_at_kept k w Dialing g h = h
 started_at_kept k w (Ended e) g h = h
 
@@ -501,6 +511,7 @@ renewal_moved_kept {P = P} k w (Ready l) (c ∷ cs) g h =
     chosen (At P) (holds_back l) w (renewal_told w l c cs) (λ t. h)
     (λ f. k.show w.conn.limit w.conn.requests (Ready (begun l q)) w.conn.moved w.acts (renewal_act (start_of l.started q)) (λ n. refl) (k.renew w.conn.limit w.conn.requests l w.conn.moved w.acts q refl g))
 renewal_moved_kept k w (Ready l) [] g h = h
+renewal_moved_kept k w Resting cs g h = h
 renewal_moved_kept k w Dialing cs g h = h
 renewal_moved_kept k w (Wanting l) cs g h = h
 renewal_moved_kept k w (SettingUp l greeting) cs g h = h
@@ -537,6 +548,7 @@ seated_at_kept k w q (Ready l) t g h =
     let r = w.conn.requests in
     let ms = w.conn.moved in
     started_kept k (told_at_place d q) (told_kept k d q (k.place lim r l (ms ++ q.number ∷ []) w.acts q t (k.note lim r (Ready l) ms w.acts q.number t g)))
+seated_at_kept k w q Resting t g h = started_kept k (told_at_place w q) (told_kept k w q h)
 seated_at_kept k w q Dialing t g h = started_kept k (told_at_place w q) (told_kept k w q h)
 seated_at_kept k w q (Wanting l) t g h = started_kept k (told_at_place w q) (told_kept k w q h)
 seated_at_kept k w q (SettingUp l greeting) t g h = started_kept k (told_at_place w q) (told_kept k w q h)
@@ -610,6 +622,7 @@ admitted_at_kept : {P : Option ℕ → List Request → Life → List ℕ → Li
 admitted_at_kept k w q (Ready l) t h =
     seated_or_behind_kept k (let_in w q) q (let_in_admitted w q t) (let_in_kept k w q t h)
 admitted_at_kept k w q (Ended e) t h = answered_kept k w q.number (outcome.Fault e) h
+admitted_at_kept k w q Resting t h = h
 admitted_at_kept k w q Dialing t h = h
 admitted_at_kept k w q (Wanting l) t h = h
 admitted_at_kept k w q (SettingUp l greeting) t h = h
@@ -643,6 +656,7 @@ written_at_kept {P = P} k w (SettingUp l greeting) g h =
     chosen (At P) (can_offer l.outbox) _ w
     (λ t. k.show w.conn.limit w.conn.requests (SettingUp (offered_of l) greeting) w.conn.moved w.acts (act.Write l.outbox.unwritten) (λ n. refl) (k.go_on w.conn.limit w.conn.requests l (offered_of l) greeting w.conn.moved w.acts (omega arith) g))
     (λ f. h)
+written_at_kept k w Resting g h = h
 written_at_kept k w Dialing g h = h
 written_at_kept k w (Wanting l) g h = h
 written_at_kept k w (Ended e) g h = h

@@ -13,7 +13,7 @@ use Rattle.link_core.specs.Link.{LinkState, Starting, Reading, entry_of, holds_b
 use Rattle.link_core.specs.Row.{silenced}
 use Rattle.link_core.specs.Waiting.{is_wanted, without}
 use Rattle.mux_conn.specs.declared.life.Life.{Life}
-use Rattle.mux_conn.specs.declared.life.Life.TheVariants.{Dialing, Wanting, SettingUp, Ready, Ended}
+use Rattle.mux_conn.specs.declared.life.Life.TheVariants.{Resting, Dialing, Wanting, SettingUp, Ready, Ended}
 use Rattle.mux_conn.specs.declared.request.Progress.{Progress}
 use Rattle.mux_conn.specs.declared.request.Progress.TheVariants as progress
 use Rattle.mux_conn.specs.declared.request.Request.{Request}
@@ -45,6 +45,7 @@ places p (q ∷ qs) = one p q.id + places p qs
 
 -- and on a link
 abbrev pub all_of : ℕ → Life → ℕ
+all_of p Resting = 0
 all_of p Dialing = 0
 all_of p (Wanting l) = 0
 all_of p (SettingUp l greeting) = 0
@@ -181,6 +182,7 @@ starts_same p s (q ∷ qs) =
 
 -- a cancel brings no message
 cancelled_once : (p q : ℕ) (life : Life) → all_of p (cancelled_in life q) ≤ all_of p life
+cancelled_once p q Resting = omega arith
 cancelled_once p q Dialing = omega arith
 cancelled_once p q (Wanting l) = omega arith
 cancelled_once p q (SettingUp l greeting) = omega arith
@@ -189,6 +191,7 @@ cancelled_once p q (Ended e) = omega arith
 
 -- it changes nothing of a setup
 cancelled_alone : (q : ℕ) (life : Life) → HasOne life → HasOne (cancelled_in life q)
+cancelled_alone q Resting h = h
 cancelled_alone q Dialing h = h
 cancelled_alone q (Wanting l) h = h
 cancelled_alone q (SettingUp l greeting) h = h
