@@ -39,13 +39,13 @@ use Rattle.mux_conn.specs.declared.request.Request.{Request}
 use Rattle.mux_conn.specs.declared.request.Waiting.{Waiting}
 use Rattle.mux_conn.specs.Connection.{Work, acted, at_life, with_link, is_ready}
 use Rattle.mux_conn.specs.Requests.{is_open, is_open_at, name_at, permits_at, with_permits, given_back, closed, answered}
-use Rattle.mux_conn.specs.Effects.{settled_one, settled_each, failed_each, nobody_waits, waiting_failed, notice_act, noticed, noticed_each, told_each, greeting_error, dropped_at, dropped_by, cut_short, all_answered, ended, parted, opening_failed, authorized_at, connected_at, unauthorized_at, refused_at, overdue_at, taken_at, failed_at, broken_at, read_to, read_at, shut_at, applied}
+use Rattle.mux_conn.specs.Effects.{afresh, creation_told, given_up, settled_one, settled_each, failed_each, nobody_waits, waiting_failed, notice_act, noticed, noticed_each, told_each, greeting_error, dropped_at, dropped_by, cut_short, all_answered, ended, parted, opening_failed, authorized_at, connected_at, unauthorized_at, refused_at, overdue_at, taken_at, failed_at, broken_at, read_to, read_at, shut_at, applied}
 use Rattle.mux_conn.specs.Renewals.{renewing, with_renewal, expecting, expected, takes_more, late_for, is_unanswered, is_done, replied, renewal_id}
 use Rattle.cancel_laws.specs.ButFor.{hushed_each, hushed_link, hushed_life}
 use Rattle.cancel_laws.proofs.Requests.{names, name_stays, progress_twice, progress_apart, permits_other, permits_own, own_closed, closed_set, test_other}
 use Rattle.cancel_laws.proofs.Names.{IsOwn, own_name, other_name}
 use Rattle.cancel_laws.proofs.Links.{alike_hushed, hushed_came}
-use Rattle.cancel_laws.proofs.Kept.{other_act, IsPlain, notice_plain, At, There, answered_kept, settled_one_kept, settled_kept, telling_kept, failed_each_kept, over_kept, parted_kept}
+use Rattle.cancel_laws.proofs.Kept.{creation_kept, other_act, IsPlain, notice_plain, At, There, answered_kept, settled_one_kept, settled_kept, telling_kept, failed_each_kept, over_kept, parted_kept}
 use Rattle.cancel_laws.proofs.Values.{by_value, told_of, value_told, value_read, values_read, came_by_values, same_by_value}
 use Rattle.cancel_laws.proofs.Gone.{NoneQueued, IsGone, gone_kept}
 
@@ -266,12 +266,27 @@ bare_faulted n p w ss later h e =
     bare_all_answered n p (parted (cut_short w)) ss later (parted_kept (gone_kept n p) (cut_short w) g) e
     ∙ ap (λ (x : Work). all_answered x later) (bare_parted n p (cut_short w) ∙ ap parted (bare_cut_short n p w))
 
--- the end of an opening
+-- what is shown unless it was before
+bare_creation : (n p : ℕ) (w : Work) (e : Option RedisError) → bare n p (creation_told w e) ≡ creation_told (bare n p w) e
+bare_creation n p w e = by_told w.conn.told
+  where
+    v : Work
+    v = record w { conn = record w.conn { told = true } }
+
+    by_told : (told : Bool) → bare n p (record { conn = v.conn; acts = if told then w.acts else w.acts ++ act.Created e ∷ [] })
+        ≡ record { conn = (bare n p v).conn; acts = if told then (bare n p w).acts else (bare n p w).acts ++ act.Created e ∷ [] }
+    by_told true = refl
+    by_told false = bare_acted n p v (act.Created e) (λ m. refl)
+
+-- the end of an opening, after which another attempt may follow
 bare_opening : (n p : ℕ) (w : Work) (e : RedisError) → At (There (IsGone n p)) w → bare n p (opening_failed w e) ≡ opening_failed (bare n p w) e
 bare_opening n p w e h =
-    let a = act.Created (Some e) in
-    let g : At (There (IsGone n p)) (acted (at_life w (Ended e)) a) = over_kept (gone_kept n p) w e a (λ m. refl) h in
-    bare_waiting n p (acted (at_life w (Ended e)) a) e g ∙ ap (λ (x : Work). waiting_failed x e) (bare_acted n p (at_life w (Ended e)) a (λ m. refl))
+    let v = creation_told (at_life w (Ended e)) (Some e) in
+    let over : At (There (IsGone n p)) (at_life w (Ended e)) = (gone_kept n p).end w.conn.limit w.conn.requests w.conn.life w.conn.moved w.acts e h in
+    let g : At (There (IsGone n p)) v = creation_kept (gone_kept n p) (at_life w (Ended e)) (Some e) over in
+    either (bare n p) w.conn.last (given_up w e) (record w { conn = afresh w.conn }) (given_up (bare n p w) e) (record (bare n p w) { conn = afresh (bare n p w).conn })
+    (λ t. bare_waiting n p v e g ∙ ap (λ (x : Work). waiting_failed x e) (bare_creation n p (at_life w (Ended e)) (Some e)))
+    (λ f. refl)
 
 -- the end of one whose link is closed
 bare_given_up : (n p : ℕ) (w : Work) (e : RedisError) → At (There (IsGone n p)) w → bare n p (opening_failed (acted w act.Close) e) ≡ opening_failed (acted (bare n p w) act.Close) e
@@ -300,7 +315,7 @@ bare_failed n p w f (Ended e) h = refl
 -- the stream of messages is dropped
 bare_dropped_at : (n p : ℕ) (w : Work) (life : Life) → At (There (IsGone n p)) w → bare n p (dropped_at w life) ≡ dropped_at (bare n p w) (hushed_life p life)
 bare_dropped_at n p w (Ready l) h = bare_faulted n p w _ _ h (fault_alike p fault.Ended l (hushed_link p l) [] [] (alike_hushed p l) refl).out
-bare_dropped_at n p w Resting h = bare_given_up n p w error.Closed h
+bare_dropped_at n p w Resting h = refl
 bare_dropped_at n p w Dialing h = bare_given_up n p w error.Closed h
 bare_dropped_at n p w (Wanting l) h = bare_given_up n p w error.Closed h
 bare_dropped_at n p w (SettingUp l greeting) h = bare_given_up n p w error.Closed h
@@ -312,7 +327,7 @@ bare_dropped n p w h = either (bare n p) (hears_messages w.conn.hears) (dropped_
 
 -- the connect
 bare_connected : (n p : ℕ) (w : Work) (life : Life) → NoneQueued p life → bare n p (connected_at w life) ≡ connected_at (bare n p w) (hushed_life p life)
-bare_connected n p w Resting none = absurd none
+bare_connected n p w Resting none = refl
 bare_connected n p w Dialing none = absurd none
 bare_connected n p w (Wanting l) none = absurd none
 bare_connected n p w (SettingUp l greeting) none = absurd none
@@ -339,7 +354,7 @@ bare_unauthorized n p w e (Ended x) none = refl
 
 -- the connect is refused
 bare_refused : (n p : ℕ) (w : Work) (f : FaultKind) (life : Life) → At (There (IsGone n p)) w → bare n p (refused_at w f life) ≡ refused_at (bare n p w) f (hushed_life p life)
-bare_refused n p w f Resting h = bare_opening n p w (error.Io f) h
+bare_refused n p w f Resting h = refl
 bare_refused n p w f Dialing h = bare_opening n p w (error.Io f) h
 bare_refused n p w f (Wanting l) h = refl
 bare_refused n p w f (SettingUp l greeting) h = refl
@@ -348,7 +363,7 @@ bare_refused n p w f (Ended e) h = refl
 
 -- the time to connect is over
 bare_overdue : (n p : ℕ) (w : Work) (life : Life) → At (There (IsGone n p)) w → bare n p (overdue_at w life) ≡ overdue_at (bare n p w) (hushed_life p life)
-bare_overdue n p w Resting h = bare_given_up n p w (error.Io kinds.TimedOut) h
+bare_overdue n p w Resting h = refl
 bare_overdue n p w Dialing h = bare_given_up n p w (error.Io kinds.TimedOut) h
 bare_overdue n p w (Wanting l) h = bare_given_up n p w (error.Io kinds.TimedOut) h
 bare_overdue n p w (SettingUp l greeting) h = bare_given_up n p w (error.Io kinds.TimedOut) h
@@ -428,7 +443,7 @@ bare_came n p w piece (Ended e) h = refl
 -- the shutdown
 bare_shut : (n p : ℕ) (w : Work) (life : Life) → At (There (IsGone n p)) w → bare n p (shut_at w life) ≡ shut_at (bare n p w) (hushed_life p life)
 bare_shut n p w (Ready l) h = bare_ended n p w _ _ h (close_alike p l (hushed_link p l) [] [] (alike_hushed p l) refl).out
-bare_shut n p w Resting h = bare_ended n p w [] [] h refl
+bare_shut n p w Resting h = bare_waiting n p w error.Closed h
 bare_shut n p w Dialing h = bare_ended n p w [] [] h refl
 bare_shut n p w (Wanting l) h = bare_ended n p w [] [] h refl
 bare_shut n p w (SettingUp l greeting) h = bare_ended n p w [] [] h refl

@@ -18,8 +18,9 @@ use Rattle.cancel_laws.proofs.Names.{IsOwn, own_push}
 use Rattle.cancel_laws.proofs.Links.{NoneOf, NoneWanted, none_push, none_without, none_started, none_came, quiet_behind, quiet_starts, quiet_came, quiet_silenced, quiet_stays}
 use Rattle.cancel_laws.proofs.Kept.{IsKept, IsKeptThere, There, kept_there, CanAsk}
 
--- the link has been set up, and nobody awaits message p in its queue
+-- the link has been set up, and nobody awaits message p in its queue; or there is none
 abbrev pub NoneQueued : ℕ → Life → Type 0
+NoneQueued p Resting = Unit {0}
 NoneQueued p Dialing = ⊥
 NoneQueued p (Wanting l) = ⊥
 NoneQueued p (SettingUp l greeting) = ⊥
@@ -28,6 +29,7 @@ NoneQueued p (Ended e) = Unit {0}
 
 -- nor in its row
 abbrev pub NoneInRow : ℕ → Life → Type 0
+NoneInRow p Resting = Unit {0}
 NoneInRow p Dialing = Unit {0}
 NoneInRow p (Wanting l) = Unit {0}
 NoneInRow p (SettingUp l greeting) = Unit {0}
@@ -108,6 +110,7 @@ gone_there n p = record {
   write = λ r l k h. record { there = h.there; own = h.own; apart = h.apart; past = h.past; seated = h.seated; none = h.none };
   come = λ r l what piece h. record { there = h.there; own = h.own; apart = h.apart; past = h.past; seated = h.seated; none = none_came p what l piece h.none };
   end = λ r life e h. record { there = h.there; own = h.own; apart = h.apart; past = h.past; seated = h.seated; none = tt };
+  rest = λ r life h. record { there = h.there; own = h.own; apart = h.apart; past = h.past; seated = h.seated; none = tt };
 }
 
 -- so each part of a turn does
@@ -166,6 +169,7 @@ away_kept n p = record {
   write = λ lim r l ms xs k h. record { gone = (gone_there n p).write r l k h.gone; unmoved = h.unmoved };
   come = λ lim r l ms xs what piece h. record { gone = (gone_there n p).come r l what piece h.gone; unmoved = h.unmoved };
   end = λ lim r life ms xs e h. record { gone = (gone_there n p).end r life e h.gone; unmoved = h.unmoved };
+  rest = λ lim r life ms xs h. record { gone = (gone_there n p).rest r life h.gone; unmoved = h.unmoved };
   show = λ lim r life ms xs a plain h. record { gone = h.gone; unmoved = h.unmoved };
   calm = λ lim r life ms xs h. record { gone = h.gone; unmoved = tt };
 }
@@ -216,6 +220,7 @@ hushed_there n p = record {
   write = λ r l k h. record { gone = (gone_there n p).write r l k h.gone; quiet = h.quiet };
   come = λ r l what piece h. record { gone = (gone_there n p).come r l what piece h.gone; quiet = quiet_came p what l piece h.quiet };
   end = λ r life e h. record { gone = (gone_there n p).end r life e h.gone; quiet = tt };
+  rest = λ r life h. record { gone = (gone_there n p).rest r life h.gone; quiet = tt };
 }
 
 -- so each part of a turn does

@@ -40,9 +40,9 @@ use Rattle.mux_conn.specs.declared.request.Pending.{Pending}
 use Rattle.mux_conn.specs.declared.request.Progress.TheVariants as progress
 use Rattle.mux_conn.specs.declared.request.Request.{Request}
 use Rattle.mux_conn.specs.declared.request.Waiting.{Waiting}
-use Rattle.mux_conn.specs.Connection.{Work, acted, at_life, with_link, with_setup, with_wanting, has_room, admits_none, is_ready, is_due}
+use Rattle.mux_conn.specs.Connection.{Work, acted, opened_on, at_life, with_link, with_setup, with_wanting, has_room, admits_none, is_ready, is_due}
 use Rattle.mux_conn.specs.Requests.{is_open_at, is_waiting_at, is_admitted_at, name_at, with_permits, at_progress, answered}
-use Rattle.mux_conn.specs.Effects.{new_link, settled_one, settled_each, failed_each, nobody_waits, waiting_failed, ended, opening_failed, authorized_at, come_up, comes_to_want, connected_at, unauthorized_at, with_credentials, refused_at, overdue_at, taken_at, failed_at, broken_at, read_to, read_at, shut_at, all_fresh, made_ready, steps_of, greeting_queued, greeting_error, greeted, greeted_by, is_unreadable, dropped_at, dropped_by, sets_up, judged_by, set_up_by, answered_setup, applied, cancelled_in, left, timed_out, all_answered, behind_first, cut_short, heard_on, notice_act, noticed, noticed_each, parted, told_each}
+use Rattle.mux_conn.specs.Effects.{afresh, creation_told, given_up, new_link, settled_one, settled_each, failed_each, nobody_waits, waiting_failed, ended, opening_failed, authorized_at, come_up, comes_to_want, connected_at, unauthorized_at, with_credentials, refused_at, overdue_at, taken_at, failed_at, broken_at, read_to, read_at, shut_at, all_fresh, made_ready, steps_of, greeting_queued, greeting_error, greeted, greeted_by, is_unreadable, dropped_at, dropped_by, sets_up, judged_by, set_up_by, answered_setup, applied, cancelled_in, left, timed_out, all_answered, behind_first, cut_short, heard_on, notice_act, noticed, noticed_each, parted, told_each}
 use Rattle.mux_conn.specs.Renewals as renewals
 use Rattle.mux_conn.specs.Renewals.{renewing, expecting, takes_more, late_for, is_unanswered, renewal_id, renewal_queued, asked_next, renewal_act, renewal_timed, renewal_asked, renewal_told, renewal_moved}
 use Rattle.mux_conn.specs.Passes.{shown_each, greeting_act, greeted_each, started_at, started, message_of, placed_at, told_at_place, seated, still_admitted, moved_up, moved_up_each, moved_up_all, put_behind, seated_or_behind, permits_taken, holding, took_shown, took as holds, timer_asked, let_in, admitted_at, admitted, still_waiting, admitted_each, passed}
@@ -106,6 +106,7 @@ pub record IsKept (P : Option ℕ → List Request → Life → List ℕ → Lis
   pub write : (lim : Option ℕ) (r : List Request) (l : LinkState) (ms : List ℕ) (xs : List LinkAct) (k : ℕ) → P lim r (Ready l) ms xs → P lim r (Ready (wrote_of l k)) ms xs
   pub come : (lim : Option ℕ) (r : List Request) (l : LinkState) (ms : List ℕ) (xs : List LinkAct) (h : Hearing) (piece : List ℕ) → P lim r (Ready l) ms xs → P lim r (Ready (piece_read h true l piece).link) ms xs
   pub end : (lim : Option ℕ) (r : List Request) (life : Life) (ms : List ℕ) (xs : List LinkAct) (e : RedisError) → P lim r life ms xs → P lim r (Ended e) ms xs
+  pub rest : (lim : Option ℕ) (r : List Request) (life : Life) (ms : List ℕ) (xs : List LinkAct) → P lim r life ms xs → P lim r Resting ms xs
   pub show : (lim : Option ℕ) (r : List Request) (life : Life) (ms : List ℕ) (xs : List LinkAct) (a : LinkAct) → IsPlain a → P lim r life ms xs → P lim r life ms (xs ++ a ∷ [])
   pub calm : (lim : Option ℕ) (r : List Request) (life : Life) (ms : List ℕ) (xs : List LinkAct) → P lim r life ms xs → P lim r life [] xs
 
@@ -128,6 +129,7 @@ pub record IsKeptThere (P : List Request → Life → Type 0) : Type 0 where
   pub write : (r : List Request) (l : LinkState) (k : ℕ) → P r (Ready l) → P r (Ready (wrote_of l k))
   pub come : (r : List Request) (l : LinkState) (h : Hearing) (piece : List ℕ) → P r (Ready l) → P r (Ready (piece_read h true l piece).link)
   pub end : (r : List Request) (life : Life) (e : RedisError) → P r life → P r (Ended e)
+  pub rest : (r : List Request) (life : Life) → P r life → P r Resting
 
 -- a fact of the requests and the life, whatever the limit is, and whatever a turn has moved and shown
 abbrev pub There : (List Request → Life → Type 0) → Option ℕ → List Request → Life → List ℕ → List LinkAct → Type 0
@@ -155,6 +157,7 @@ kept_there k = record {
   write = λ lim r l ms xs n h. k.write r l n h;
   come = λ lim r l ms xs what piece h. k.come r l what piece h;
   end = λ lim r life ms xs e h. k.end r life e h;
+  rest = λ lim r life ms xs h. k.rest r life h;
   show = λ lim r life ms xs a p h. h;
   calm = λ lim r life ms xs h. h;
 }
@@ -185,6 +188,7 @@ unlimited_kept = record {
   write = λ lim r l ms xs n h. h;
   come = λ lim r l ms xs what piece h. h;
   end = λ lim r life ms xs e h. h;
+  rest = λ lim r life ms xs h. h;
   show = λ lim r life ms xs a p h. h;
   calm = λ lim r life ms xs h. h;
 }
@@ -269,9 +273,20 @@ faulted_kept k w out h =
     let d = parted (cut_short w) in
     waiting_kept k (settled_each d out) error.Closed (settled_kept k d out (parted_kept k (cut_short w) (over_kept k w error.Closed act.Close (λ n. refl) h)))
 
--- the end of an opening
+-- what is shown unless it was before
+pub creation_kept : {P : Option ℕ → List Request → Life → List ℕ → List LinkAct → Type 0} → IsKept P → (w : Work) (e : Option RedisError) → At P w → At P (creation_told w e)
+creation_kept {P = P} k w e h =
+    chosen (λ (xs : List LinkAct). P w.conn.limit w.conn.requests w.conn.life w.conn.moved xs) w.conn.told w.acts (w.acts ++ act.Created e ∷ [])
+    (λ t. h)
+    (λ f. k.show w.conn.limit w.conn.requests w.conn.life w.conn.moved w.acts (act.Created e) (λ n. refl) h)
+
+-- the end of an opening, after which another attempt may follow
 opening_kept : {P : Option ℕ → List Request → Life → List ℕ → List LinkAct → Type 0} → IsKept P → (w : Work) (e : RedisError) → At P w → At P (opening_failed w e)
-opening_kept k w e h = waiting_kept k (acted (at_life w (Ended e)) (act.Created (Some e))) e (over_kept k w e (act.Created (Some e)) (λ n. refl) h)
+opening_kept {P = P} k w e h =
+    let over : At P (at_life w (Ended e)) = k.end w.conn.limit w.conn.requests w.conn.life w.conn.moved w.acts e h in
+    chosen (At P) w.conn.last (given_up w e) (record w { conn = afresh w.conn })
+    (λ t. waiting_kept k (creation_told (at_life w (Ended e)) (Some e)) e (creation_kept k (at_life w (Ended e)) (Some e) over))
+    (λ f. k.calm w.conn.limit w.conn.requests Resting w.conn.moved w.acts (k.rest w.conn.limit w.conn.requests w.conn.life w.conn.moved w.acts h))
 
 -- the end of one whose link is closed
 given_up_kept : {P : Option ℕ → List Request → Life → List ℕ → List LinkAct → Type 0} → IsKept P → (w : Work) (e : RedisError) → At P w → At P (opening_failed (acted w act.Close) e)
@@ -282,8 +297,8 @@ given_up_kept k w e h = opening_kept k (acted w act.Close) e (k.show w.conn.limi
 -- a link is set up, and a source of new credentials is asked for, where they are to come
 made_ready_kept : {P : Option ℕ → List Request → Life → List ℕ → List LinkAct → Type 0} → IsKept P → (w : Work) (l : LinkState) → P w.conn.limit w.conn.requests (Ready l) w.conn.moved w.acts → At P (made_ready w l)
 made_ready_kept {P = P} k w l g =
-    let d = acted (with_link (all_fresh w) l) (act.Created None) in
-    let h : At P d = k.show w.conn.limit w.conn.requests (Ready l) w.conn.moved w.acts (act.Created None) (λ n. refl) g in
+    let d = creation_told (opened_on (all_fresh w) l) None in
+    let h : At P d = creation_kept k (opened_on (all_fresh w) l) None g in
     chosen (At P) w.conn.renewal.wanted (acted d act.NeedRenewals) d (λ t. k.show d.conn.limit d.conn.requests d.conn.life d.conn.moved d.acts act.NeedRenewals (λ n. refl) h) (λ f. h)
 
 -- a link comes up, where the fact is true of it while it waits for credentials
@@ -305,6 +320,7 @@ connected_kept {P = P} k w Dialing g h =
     chosen (At P) w.conn.renewal.wanted (comes_to_want w link) (come_up w link)
     (λ t. k.show w.conn.limit w.conn.requests (Wanting link) w.conn.moved w.acts act.NeedCreds (λ n. refl) wanting)
     (λ f. come_up_kept k w link wanting)
+connected_kept k w Resting g h = h
 connected_kept k w (Wanting l) g h = h
 connected_kept k w (SettingUp l greeting) g h = h
 connected_kept k w (Ready l) g h = h
@@ -330,7 +346,7 @@ unauthorized_kept k w e (Ended x) h = h
 
 -- the connect is refused
 refused_kept : {P : Option ℕ → List Request → Life → List ℕ → List LinkAct → Type 0} → IsKept P → (w : Work) (f : FaultKind) (life : Life) → At P w → At P (refused_at w f life)
-refused_kept k w f Resting h = opening_kept k w (error.Io f) h
+refused_kept k w f Resting h = h
 refused_kept k w f Dialing h = opening_kept k w (error.Io f) h
 refused_kept k w f (Wanting l) h = h
 refused_kept k w f (SettingUp l greeting) h = h
@@ -339,7 +355,7 @@ refused_kept k w f (Ended e) h = h
 
 -- the time to connect is over
 overdue_kept : {P : Option ℕ → List Request → Life → List ℕ → List LinkAct → Type 0} → IsKept P → (w : Work) (life : Life) → At P w → At P (overdue_at w life)
-overdue_kept k w Resting h = given_up_kept k w (error.Io kinds.TimedOut) h
+overdue_kept k w Resting h = h
 overdue_kept k w Dialing h = given_up_kept k w (error.Io kinds.TimedOut) h
 overdue_kept k w (Wanting l) h = given_up_kept k w (error.Io kinds.TimedOut) h
 overdue_kept k w (SettingUp l greeting) h = given_up_kept k w (error.Io kinds.TimedOut) h
@@ -367,7 +383,7 @@ failed_kept k w f (Ended e) h = h
 -- the stream of messages is dropped
 dropped_at_kept : {P : Option ℕ → List Request → Life → List ℕ → List LinkAct → Type 0} → IsKept P → (w : Work) (life : Life) → At P w → At P (dropped_at w life)
 dropped_at_kept k w (Ready l) h = faulted_kept k w (faulted (record { link = l; out = [] }) fault.Ended).out h
-dropped_at_kept k w Resting h = given_up_kept k w error.Closed h
+dropped_at_kept k w Resting h = h
 dropped_at_kept k w Dialing h = given_up_kept k w error.Closed h
 dropped_at_kept k w (Wanting l) h = given_up_kept k w error.Closed h
 dropped_at_kept k w (SettingUp l greeting) h = given_up_kept k w error.Closed h
@@ -429,7 +445,7 @@ came_kept k w piece (Ended e) g h = h
 -- the shutdown
 shut_kept : {P : Option ℕ → List Request → Life → List ℕ → List LinkAct → Type 0} → IsKept P → (w : Work) (life : Life) → At P w → At P (shut_at w life)
 shut_kept k w (Ready l) h = ended_kept k w (closed_all (record { link = l; out = [] })).out h
-shut_kept k w Resting h = ended_kept k w [] h
+shut_kept k w Resting h = waiting_kept k w error.Closed h
 shut_kept k w Dialing h = ended_kept k w [] h
 shut_kept k w (Wanting l) h = ended_kept k w [] h
 shut_kept k w (SettingUp l greeting) h = ended_kept k w [] h

@@ -70,6 +70,7 @@ share r p = share_of (slice_get r p)
 
 -- a link that waits for credentials has no message, and one that is set up has one at most, that of the setup
 abbrev pub HasOne : Life → Type 0
+HasOne Resting = Unit {0}
 HasOne Dialing = Unit {0}
 HasOne (Wanting l) = count_on l ≤ 0
 HasOne (SettingUp l greeting) = count_on l ≤ 1
@@ -241,6 +242,7 @@ once_there p apart = record {
   come = λ r l what piece h. chosen (λ (x : Reading). IsOnce p r (Ready x.link)) l.broken (nothing_read l) (came_all what true l (l.rest ++ piece)) (λ t. h)
       (λ f. record { within = omega (arith, h.within, times_values p what (dealing_with l.row) (values (l.rest ++ piece))); alone = tt });
   end = λ r life e h. record { within = omega arith; alone = tt };
+  rest = λ r life h. record { within = omega arith; alone = tt };
 }
 
 -- so each part of a turn does

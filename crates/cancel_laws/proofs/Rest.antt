@@ -35,6 +35,7 @@ IsThrough l = (l.queue ≡ []) ⊎ (holds_back l ≡ true)
 
 -- so is a link that is up
 abbrev pub HasStartedAll : Life → Type 0
+HasStartedAll Resting = Unit {0}
 HasStartedAll Dialing = Unit {0}
 HasStartedAll (Wanting l) = Unit {0}
 HasStartedAll (SettingUp l greeting) = IsThrough l
@@ -43,6 +44,7 @@ HasStartedAll (Ended e) = Unit {0}
 
 -- all its bytes are offered, or an offer is unanswered
 abbrev pub HasOffered : Life → Type 0
+HasOffered Resting = Unit {0}
 HasOffered Dialing = Unit {0}
 HasOffered (Wanting l) = Unit {0}
 HasOffered (SettingUp l greeting) = can_offer l.outbox ≡ false

@@ -414,6 +414,7 @@ left_fit c free requests (Ready link) p is h = record {
       let few = without_length link.queue p in
       subst (IsFit c.size c.boundary) same (record { sound = k.sound; size_is = k.size_is; bound_is = k.bound_is; within = omega (arith, k.within, few) });
   none = λ n. absurd (n (cancelled link p) refl);
+  unmade = λ x y. cc;
 }
 
 -- the turn

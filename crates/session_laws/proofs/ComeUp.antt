@@ -351,7 +351,7 @@ makes_ready before c started word kind n info link untold h good k is other earl
     by_wanted false w = unwanted w
 
 -- what a link that becomes ready leaves of a connection, whether a source is asked for or not
-pub made_of : MultiplexedConnection → LinkState → MultiplexedConnection
+abbrev pub made_of : MultiplexedConnection → LinkState → MultiplexedConnection
 made_of c link = record c { fresh = numbers_of c.waiting; life = Ready link; opened = true; told = true }
 
 -- what a source that is asked for leaves

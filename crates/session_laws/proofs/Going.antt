@@ -398,6 +398,7 @@ is_moved b t h none told alone ends fit nobody held full stuck gone setup_fit se
     by_life Resting e = record {
       begun = record { applied = applied_up b t h none told (ap has_ended e) ends; setups = setups; monitors = monitors; timed = timed; renewed = told_all };
       moved = down_moves_none b t h (subst (TiedLife (b.link t.link) b.created) e h.life).1;
+    }
     by_life Dialing e = record {
       begun = record { applied = applied_up b t h none told (ap has_ended e) ends; setups = setups; monitors = monitors; timed = timed; renewed = told_all };
       moved = down_moves_none b t h (dialing_down (b.link t.link) b.created t.life e h.life);
