@@ -83,6 +83,11 @@ shown_failed w e = record { conn = record w.conn { life = Ended e; told = true }
 given_up_is : (w : Work) (e : RedisError) → w.conn.last ≡ true → w.conn.told ≡ false → opening_failed w e ≡ waiting_failed (shown_failed w e) e
 given_up_is w e last untold = taken_if w.conn.last (given_up w e) _ last ∙ ap (λ (x : Work). waiting_failed x e) (told_first (at_life w (Ended e)) (Some e) untold)
 
+-- and has ended
+pub given_up_ended : (w : Work) (e : RedisError) → w.conn.last ≡ true → w.conn.told ≡ false → (opening_failed w e).conn.life ≡ Ended e
+given_up_ended w e last untold = ap (λ (x : Work). x.conn.life) (given_up_is w e last untold) ∙ (waiting_leaves (shown_failed w e) e).life
+
+-- which is shown
 failing_shown : (before : List Action) (f : Core) (w : Work) (e : RedisError) (started : List ℕ) → IsFailing (trace_of_acts before f w.acts) f w.acts w.conn e started
     → Holds before f (shown_failed w e) [] started
 failing_shown before f w e started h =

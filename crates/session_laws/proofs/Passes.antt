@@ -134,7 +134,12 @@ told_keeps : (w : Work) (q : Waiting) → Keeps w (told_at_place w q)
 told_keeps w q =
     let nil = outcome.One Nil in
     chosen (Keeps w) q.awaited w (answered w q.number nil) (λ t. record { admitted = refl; waiting = refl; last = refl; told = refl })
-    (λ f. let l = answered_leaves w q.number nil in record { admitted = l.admitted; waiting = l.waiting })
+    (λ f. let l = answered_leaves w q.number nil in record {
+      admitted = l.admitted;
+      waiting = l.waiting;
+      last = chosen (λ (x : Work). x.conn.last ≡ w.conn.last) (is_open_at w.conn.requests q.number) _ w (λ t. refl) (λ f. refl);
+      told = chosen (λ (x : Work). x.conn.told ≡ w.conn.told) (is_open_at w.conn.requests q.number) _ w (λ t. refl) (λ f. refl);
+    })
 
 -- and so all of it
 seated_keeps : (w : Work) (q : Waiting) → Keeps w (seated w q)

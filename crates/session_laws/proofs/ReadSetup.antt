@@ -50,11 +50,11 @@ use Rattle.legal_trace.proofs.Came.{Came, bytes_are}
 use Rattle.legal_trace.proofs.Monitors.{unwatched}
 use Rattle.legal_trace.proofs.Setups.{AreSetups as SetUpsAre, ends_where_set, greeted_more, set_is_greeted}
 use Rattle.session_laws.proofs.Announce.{IsNewsKind, turn_of, turned}
-use Rattle.session_laws.proofs.Close.{HasEnded, ended_applied, parted_moved, waiting_leaves}
+use Rattle.session_laws.proofs.Close.{HasEnded, ended_applied, parted_moved}
 use Rattle.session_laws.proofs.ComeUp.{IsEarly, IsMade, IsReadied, IsShownReady, made_conn, made_is, made_of, makes_ready}
 use Rattle.session_laws.proofs.Creds.{has_credentials, has_sourced}
 use Rattle.session_laws.proofs.End.{IsSetting, fault_ends, opening_error_is, setting_tied, setting_unready}
-use Rattle.session_laws.proofs.Failing.{Fails, setup_failed}
+use Rattle.session_laws.proofs.Failing.{Fails, given_up_ended, setup_failed}
 use Rattle.session_laws.proofs.Greeted.{IsAnswered, IsReadSet, IsReadUnset, answered_result, due_same, few_rows, full_row, full_settled, open_still, reads_answered, repeats_first, sent_last, set_unwatched, sets_of, settled_last, setup_full, setup_last, still_awaited, still_full, unset_of, watch_answered, watch_full, watch_last, watch_sets}
 use Rattle.session_laws.proofs.Heard.{heard_by, none_ends, none_hears, quiet_applied, setting_fit, setting_waits, tame_between}
 use Rattle.session_laws.proofs.HeardBytes.{all_heard, heard_notices, none_noticed, quiet_notices, unset_unreadable}
@@ -260,9 +260,10 @@ setup_read_as before c started word kind piece link greeting g h good k is e = b
     -- the greeting failed
     failed : IsReadUnset name conn.hears l link piece g → (x : RedisError) → is_set_up after ≡ false → setup_result after ≡ Some (result.Failed x) → applied (finish (opening_failed (acted w act.Close) x))
     failed r x unset is_so =
-        let u = acted (at_life (acted w act.Close) (Ended x)) (act.Created (Some x)) in
-        let v = opening_failed (acted w act.Close) x in
-        let over : v.conn.life ≡ Ended x = (waiting_leaves u x).life in
+        let closed = acted w act.Close in
+        let v = opening_failed closed x in
+        let unmade = h.fit.unmade early.unready early.alive in
+        let over : v.conn.life ≡ Ended x = given_up_ended closed x unmade.0 unmade.1 in
         let done : applied v = fails r x unset (ending_failed after x s.up is_so) in
         chosen applied (read.broken || (d.strange && is_ready v.conn.life)) (failed_at v fault.Parse v.conn.life) v
         (λ t. subst (λ (y : Life). applied (failed_at v fault.Parse y)) (sym over) done)
@@ -333,9 +334,10 @@ setup_read_as before c started word kind piece link greeting g h good k is e = b
         subst (λ (z : Work). applied (finish (heard_on z (behind_first d.notices)))) (sym goes) (watches_next r y q x a is_so watches)
     by_result r unset own y q x a result.RepeatWithoutUser j is_so = again r y q x a is_so j
     by_result r unset own y q x a (result.Failed z) j is_so =
-        let u = acted (at_life (acted w act.Close) (Ended z)) (act.Created (Some z)) in
-        let v = opening_failed (acted w act.Close) z in
-        subst (λ (z : Work). applied (finish z)) (sym (left_if (is_ready v.conn.life) (noticed_each v (behind_first d.notices)) v (ap is_ready (waiting_leaves u z).life))) (failed r z unset is_so)
+        let closed = acted w act.Close in
+        let v = opening_failed closed z in
+        let unmade = h.fit.unmade early.unready early.alive in
+        subst (λ (z : Work). applied (finish z)) (sym (left_if (is_ready v.conn.life) (noticed_each v (behind_first d.notices)) v (ap is_ready (given_up_ended closed z unmade.0 unmade.1)))) (failed r z unset is_so)
     by_result r unset own y q x a result.NoMemory j is_so =
         let replies = cut after q.k (setup_shape (setup_steps after q.k)) in
         absurd (judged_memory (setup info (has_user greeting)) replies (ap (judged_by (setup info (has_user greeting))) (sym a.verdict_is) ∙ j))

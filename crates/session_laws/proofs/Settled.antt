@@ -275,22 +275,22 @@ ended_admits b t p x h q e = by_test (is_admitted_at t.requests p) _ (λ a. absu
 -- those that came in this turn, or whose connect was answered in it
 --
 -- which wait they show
-early_kind : (t : Inner) → has_ended t.life ≡ false → IsEarly t (early_wait t.life)
-early_kind t up = record {
-  either = by_life t.life up;
+early_kind : (b : Book) (t : Inner) → Tied b t → has_ended t.life ≡ false → IsEarly t (early_wait t.life)
+early_kind b t h up = record {
+  either = by_life t.life refl up;
   connect = λ e. ap early_wait e;
   creds = λ link e. ap early_wait e;
   setup = λ link u e. ap early_wait e;
   permit = λ link e. ap early_wait e;
 }
   where
-    by_life : (x : Life) → has_ended x ≡ false → (early_wait x ≡ wait.Connect) ⊎ ((early_wait x ≡ wait.Creds) ⊎ ((early_wait x ≡ wait.Setup) ⊎ (early_wait x ≡ wait.Permit)))
-    by_life Resting f = inl refl
-    by_life Dialing f = inl refl
-    by_life (Wanting link) f = inr (inl refl)
-    by_life (SettingUp link greeting) f = inr (inr (inl refl))
-    by_life (Ready link) f = inr (inr (inr refl))
-    by_life (Ended x) f = cc
+    by_life : (x : Life) → t.life ≡ x → has_ended x ≡ false → (early_wait x ≡ wait.Connect) ⊎ ((early_wait x ≡ wait.Creds) ⊎ ((early_wait x ≡ wait.Setup) ⊎ (early_wait x ≡ wait.Permit)))
+    by_life Resting e f = absurd (never_rests (b.link t.link) b.created t.life e h.life)
+    by_life Dialing e f = inl refl
+    by_life (Wanting link) e f = inr (inl refl)
+    by_life (SettingUp link greeting) e f = inr (inr (inl refl))
+    by_life (Ready link) e f = inr (inr (inr refl))
+    by_life (Ended x) e f = cc
 
 -- its wait is true, and was not shown
 record EarlyHolds (b : Book) (t : Inner) (p : ℕ) (kind : WaitKind) : Type 0 where
@@ -342,7 +342,7 @@ fresh_shown_one before f w p ps started h =
     let may = early_holds b t p ps h.sound.tied q refl up v in
     one_shown before f w p kind [] (p ∷ ps) started [] ps h (λ m i. i) up o
     (inr (inr (v, waiting_there b t p h.sound.tied refl v)), may.new, may.holds, (λ m l i. i), (λ m l u i. behind_first p ps (length w.conn.requests) m h.sound.tied.waits.newer l i))
-    (fresh_waits b t p kind ps h.sound.tied refl v (early_kind t up)))
+    (fresh_waits b t p kind ps h.sound.tied refl v (early_kind b t h.sound.tied up)))
     (λ n. retied before f w [] (p ∷ ps) started [] ps (λ m i. i) h (stale_waits b t p ps h.sound.tied refl n))
 
 -- and so do all
