@@ -1,5 +1,6 @@
 -- A connection does the same where one request's outcome is looked away from, once its message has left the queue.
 use Rattle.std.proofs.Common.{◌≡◌, ◌≢◌, inl, ℕ, ◌==◌, ◌&&◌, ◌||◌, Bool, true, false, List, [], ◌∷◌, ◌++◌, if◌then◌else◌, refl, sym, ap, ◌∙◌, append_assoc, Option, Some, arith}
+use Rattle.std.specs.Prelude.{◌+◌, min, unwrap_or}
 use Rattle.std.proofs.lemmas.List.{append-nil}
 use Rattle.containers.proofs.Choices.{by_test, chosen, either, either_by, taken_if, left_if, eq_from, ne_from, eq_test, ne_test}
 use Rattle.redis_error.specs.declared.fault_kind.FaultKind.TheVariants as kinds
@@ -278,6 +279,13 @@ bare_creation n p w e = by_told w.conn.told
     by_told true = refl
     by_told false = bare_acted n p v (act.Created e) (λ m. refl)
 
+-- a connection that is without a link then
+bare_afresh : (n p : ℕ) (w : Work) → bare n p (record w { conn = afresh w.conn }) ≡ record (bare n p w) { conn = afresh (bare n p w).conn }
+bare_afresh n p w = ap (λ (free : ℕ). record { conn = record (afresh (bare n p w).conn) { free = free }; acts = (bare n p w).acts }) (min_left (unwrap_or w.conn.limit 0) (permits_at w.conn.requests p))
+  where
+    min_left : (a b : ℕ) → min a (a + b) ≡ a
+    min_left a b = omega arith
+
 -- the end of an opening, after which another attempt may follow
 bare_opening : (n p : ℕ) (w : Work) (e : RedisError) → At (There (IsGone n p)) w → bare n p (opening_failed w e) ≡ opening_failed (bare n p w) e
 bare_opening n p w e h =
@@ -286,7 +294,7 @@ bare_opening n p w e h =
     let g : At (There (IsGone n p)) v = creation_kept (gone_kept n p) (at_life w (Ended e)) (Some e) over in
     either (bare n p) w.conn.last (given_up w e) (record w { conn = afresh w.conn }) (given_up (bare n p w) e) (record (bare n p w) { conn = afresh (bare n p w).conn })
     (λ t. bare_waiting n p v e g ∙ ap (λ (x : Work). waiting_failed x e) (bare_creation n p (at_life w (Ended e)) (Some e)))
-    (λ f. refl)
+    (λ f. bare_afresh n p w)
 
 -- the end of one whose link is closed
 bare_given_up : (n p : ℕ) (w : Work) (e : RedisError) → At (There (IsGone n p)) w → bare n p (opening_failed (acted w act.Close) e) ≡ opening_failed (acted (bare n p w) act.Close) e
