@@ -216,6 +216,7 @@ answer_apart b t p pending o open_is apart told h =
       notices = h.notices;
       life = h.life;
       creds = h.creds;
+      creation = h.creation;
       uses = h.uses;
       renewal = h.renewal;
       setup = h.setup;

@@ -487,6 +487,7 @@ still_tied b c started word kind timeout q same h tame =
       notices = renoticed tame h.notices;
       life = told_life ledger b.created conn.life silence h.life;
       creds = h.creds;
+      creation = h.creation;
       uses = uses_on c.sources c.single.link h.uses;
       renewal = renewal_alike ledger (record ledger { heard = silence }) conn.renewal conn.life refl refl refl h.renewal;
       setup = setup_on ledger ledger.asked ledger.up ledger.end ledger.taken ledger.offer ledger.rest silence conn.info started conn.life h.setup;
@@ -530,6 +531,7 @@ gone_tied b c started word p n h tame o named =
       notices = renoticed tame h.notices;
       life = left_life ledger b.created conn.life p h.life;
       creds = left_creds ledger.creds conn.renewal.wanted conn.life p h.creds;
+      creation = h.creation;
       uses = uses_on c.sources c.single.link h.uses;
       renewal = left_renewal (record ledger { heard = silence }) conn.renewal conn.life p (renewal_alike ledger (record ledger { heard = silence }) conn.renewal conn.life refl refl refl h.renewal);
       setup = left_setup ledger conn.info started conn.life p h.setup;

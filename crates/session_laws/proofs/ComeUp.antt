@@ -36,7 +36,7 @@ use Rattle.legal_trace.specs.Book.{Book, blank_book, book, entered, use_for, if_
 use Rattle.legal_trace.specs.Story.{Story}
 use Rattle.legal_trace.specs.Legal.{AllStand, MayBeCreated, MayNeed}
 use Rattle.legal_trace.proofs.Setups.{ends_where_set, silent_is_set, silent_is_greeted}
-use Rattle.session_laws.proofs.Tied.{never_rests, AreSetups, AreQueued, HasCredentials, IsEntry, IsQueued, IsSettingUp, IsSetupDue, IsSetUp, Inner, Tied, TiedLines, TiedNotices, TiedWaits, has_ended, inner, link_in, no_link, owner_of, queue_ids, shown_wait, waiting_ids, AreSought, AreUses, HasSaid, is_reading, AreSetupsAlone, IsWatching, greeting_at, owners_of, setup_owners, watch_queued}
+use Rattle.session_laws.proofs.Tied.{shown_creation, never_rests, AreSetups, AreQueued, HasCredentials, IsEntry, IsQueued, IsSettingUp, IsSetupDue, IsSetUp, Inner, Tied, TiedLines, TiedNotices, TiedWaits, has_ended, inner, link_in, no_link, owner_of, queue_ids, shown_wait, waiting_ids, AreSought, AreUses, HasSaid, is_reading, AreSetupsAlone, IsWatching, greeting_at, owners_of, setup_owners, watch_queued}
 use Rattle.session_laws.proofs.States.{Between, HasApplied, IsFit, IsFitIn}
 use Rattle.session_laws.proofs.Creds.{has_credentials, IsOfRenewals, down_sourced}
 use Rattle.session_laws.proofs.Said.{PushesOf, ending_setting, readied, setup_recredited, well_readied}
@@ -138,7 +138,6 @@ pub record IsMade (l : Ledger) (created : ℕ) (requests : List Request) (link :
   pub up : l.up ≡ true
   pub alive : l.end ≡ None
   pub last : l.last ≡ true
-  pub unshown : created ≡ 0
   pub said : IsSetUp l
   pub tied : TiedLink (owner_of requests) l link
   pub queue : link.queue ≡ []
@@ -199,7 +198,7 @@ readied_comes b c started n info link untold more h0 fit no_fresh other early fa
     let said = setup_recredited l asked renews l.creds.renewals l.creds.over l.creds.timed l.creds.lost info started link (record { info_is = facts.info_is; sent = facts.sent; said = made.said }) in
     record {
       starts = heard_starts (b.link c.single.link) c.turns n;
-      lived = (made.asked, made.up, made.alive, λ z. absurd (omega arith), made.last);
+      lived = (made.asked, made.up, made.alive, made.last, λ z. absurd (omega arith));
       creds = record {
         wanted_is = facts.wanted_is;
         sought = (
@@ -232,11 +231,11 @@ readied_comes b c started n info link untold more h0 fit no_fresh other early fa
 
 -- the creation may be shown then
 may_be_created : (b : Book) (c : Core) (started : List ℕ) (word : ℕ) (kind : EventKind) (n : News) (info : RedisConnectionInfo) (link : LinkState) (untold : List Heard) → Tied b (inner c started) → IsEarly c.single.connection.life wait.Permit → (heard_book b c.turns word kind).link c.single.link ≡ heard_by b c n
-    → IsReadied b c (heard_by b c n) info link untold → MayBeCreated (heard_book b c.turns word kind)
-may_be_created b c started word kind n info link untold h0 early own facts = record {
+    → IsReadied b c (heard_by b c n) info link untold → b.created ≡ 0 → MayBeCreated (heard_book b c.turns word kind)
+may_be_created b c started word kind n info link untold h0 early own facts unshown = record {
   l = c.single.link;
   ready = ap is_ready_link own ∙ (λ i. facts.made.up i && facts.made.said.well i);
-  once = facts.made.unshown;
+  once = unshown;
   answered = unstarted_owed b (heard_book b c.turns word kind) c started h0 (early_started (b.link c.single.link) started c.single.connection.life early.unready early.alive h0.setup.said) (λ m. refl) (ap (λ (y : Ledger). y.asked) own ∙ facts.made.asked) (ap (λ (y : Ledger). y.end) own ∙ facts.made.alive);
 }
 
@@ -284,7 +283,7 @@ makes_ready before c started word kind n info link untold h good k is other earl
     own = ap (heard_by b c) (book_news b c started kind n h0 is)
 
     may : MayBeCreated now
-    may = may_be_created b c started word kind n info link untold h0 early own facts
+    may = may_be_created b c started word kind n info link untold h0 early own facts (h0.creation.before (h.fit.unmade early.unready early.alive).1)
 
     book_is : book front ≡ now
     book_is = book_more before (turn_of c word kind) ∙ heard_is b c.turns word kind (book_kind b c kind h0.numbers.timers k)
@@ -295,10 +294,10 @@ makes_ready before c started word kind n info link untold h good k is other earl
     -- none come of sources
     unwanted : c.single.connection.renewal.wanted ≡ false → IsShownReady front f v (readied c.single.connection.renewal.wanted l) untold started
     unwanted w =
-        let t = record (seen f [] (comes_as c info (Ready link) ns) [] started) { untold = untold } in
+        let t = record (seen f [] (comes_as c info (Ready link) ns) [] started) { told = true; untold = untold } in
         let same : readied c.single.connection.renewal.wanted l ≡ l = ap (λ (x : Bool). readied x l) w in
         let comes = readied_comes b c started n info link untold false h0 h.fit h.fresh other early facts (facts.wanted_is ∙ w) (λ none. cc) in
-        let tied : Tied (entered now shown) t = heard_tied b c started word (b.created + 1) (b.failed || false) kind info (Ready link) ns [] untold l h0 good (λ some none. absurd (omega arith)) own comes in
+        let tied : Tied (entered now shown) t = heard_tied b c started word (b.created + 1) (b.failed || false) true kind info (Ready link) ns [] untold l h0 (shown_creation b.created) good (λ some none. absurd (omega arith)) own comes in
         record {
           holds = sound_more front shown t all (inl (subst MayBeCreated (sym book_is) may)) (subst (λ (x : Book). Tied (entered x shown) t) (sym book_is) tied);
           ledger = ap (λ (x : Book). x.link mine) (book_more front shown ∙ ap (λ (x : Book). entered x shown) book_is) ∙ own ∙ sym same;
@@ -322,11 +321,11 @@ makes_ready before c started word kind n info link untold h good k is other earl
         let links : ℕ → Ledger = λ m. noted_each (now.link m) (if_mine (mine == m) sources) in
         let after = noted l sources in
         let ledger_is : links mine ≡ after = mine_noted (now.link mine) mine sources ∙ ap (λ (y : Ledger). noted y sources) own in
-        let t = record (seen f [] (comes_as c info (Ready link) ns) [] started) { untold = untold; sources = uses } in
+        let t = record (seen f [] (comes_as c info (Ready link) ns) [] started) { told = true; untold = untold; sources = uses } in
         let comes = readied_comes b c started n info link untold true h0 h.fit h.fresh other early facts wanted (λ x. asked) in
         let used : AreUses uses mine true l.creds.asked = uses_more c.sources mine true l.creds.asked (source.Renewal mine) (omega arith, λ same. asked) (uses_asked c.sources mine (b.link mine).creds.asked (b.link mine).creds.renews l.creds.asked once h0.uses) in
         let tied : Tied (entered created needs) t =
-        heard_tied_by b c started word (b.created + 1) (b.failed || false) kind info (Ready link) ns [] untold links after (b.sources ++ what ∷ []) uses h0 (protocol_still b c started kind info l h0 own facts.info_is) (others_kept now mine sources others) ledger_is
+        heard_tied_by b c started word (b.created + 1) (b.failed || false) true kind info (Ready link) ns [] untold links after (b.sources ++ what ∷ []) uses h0 (shown_creation b.created) (protocol_still b c started kind info l h0 own facts.info_is) (others_kept now mine sources others) ledger_is
         (λ i. h0.numbers.sources i ++ what_is i ∷ []) used comes in
         let need : MayNeed created count mine = record {
           due = ap source_due own ∙ (λ i. facts.made.up i && wanted i && (not (asked i) || (facts.made.said.well i && not (renews i))));
@@ -400,7 +399,6 @@ pub record IsUpNow (l : Ledger) (created : ℕ) (c : MultiplexedConnection) (inf
   pub up : l.up ≡ true
   pub alive : l.end ≡ None
   pub last : l.last ≡ true
-  pub unshown : created ≡ 0
   pub info_is : l.info ≡ info
   pub wanted_is : l.creds.wanted ≡ c.renewal.wanted
   pub sent : AreSetups l
@@ -427,7 +425,7 @@ comes_ready before c started word kind n info link h good k is other early u has
     let more = c.single.connection.renewal.wanted in
     let silent : says_nothing (setup_steps l 0) ≡ true = says_same l info u.info_is ∙ nothing in
     let said : IsSetUp l = record { well = silent_is_set l (ap is_watching notices.hearing_is ∙ plain) (has_credentials l.creds has) silent; none = λ t. ap setup_count u.starts } in
-    let made : IsMade l (book before).created conn.requests link = record { asked = u.asked; up = u.up; alive = u.alive; last = u.last; unshown = u.unshown; said = said; tied = u.tied (owner_of conn.requests); queue = u.queue; row = u.row } in
+    let made : IsMade l (book before).created conn.requests link = record { asked = u.asked; up = u.up; alive = u.alive; last = u.last; said = said; tied = u.tied (owner_of conn.requests); queue = u.queue; row = u.row } in
     ready_applied (before ++ turn_of c word kind ∷ []) (turned c kind) conn link (readied more l) started (λ z. absurd (omega arith)) h.moved u.fit (ends_where_set (readied more l) u.up (well_readied more l ∙ said.well) ∙ calm more)
     (makes_ready before c started word kind n info link [] h good k is other early (record { info_is = u.info_is; sent = u.sent; wanted_is = u.wanted_is; has = has; made = made; notices = notices }))
 
@@ -471,7 +469,7 @@ comes_to_say before c started word kind n info link h good k is other early u ha
     fresh_applied before c started word kind n info life (numbers_of conn.waiting) h good k is
     (record {
       starts = heard_starts (b.link c.single.link) c.turns n;
-      lived = (u.asked, u.up, u.alive, u.unshown, u.last);
+      lived = (u.asked, u.up, u.alive, u.last);
       creds = record { wanted_is = u.wanted_is; sought = (has, renews_hear (b.link c.single.link) c.turns n ∙ early_sources (b.link c.single.link).creds conn.life early.unready early.alive h0.creds.sought) };
       renewal_is = none_hears (b.link c.single.link) c.turns n conn.renewal other (early_renewal (b.link c.single.link) conn.renewal conn.life early.unready early.alive h0.renewal);
       said = record { info_is = u.info_is; sent = u.sent; said = (u.none, said) };
@@ -551,7 +549,7 @@ comes_to_watch before c started word kind n info link h good k is other early u 
     fresh_applied before c started word kind n info life conn.fresh h good k is
     (record {
       starts = heard_starts (b.link c.single.link) c.turns n;
-      lived = (u.asked, u.up, u.alive, u.unshown, u.last);
+      lived = (u.asked, u.up, u.alive, u.last);
       creds = record { wanted_is = u.wanted_is; sought = (has, renews_hear (b.link c.single.link) c.turns n ∙ early_sources (b.link c.single.link).creds conn.life early.unready early.alive h0.creds.sought) };
       renewal_is = none_hears (b.link c.single.link) c.turns n conn.renewal other (early_renewal (b.link c.single.link) conn.renewal conn.life early.unready early.alive h0.renewal);
       said = record { info_is = u.info_is; sent = u.sent; said = (u.none, said) };

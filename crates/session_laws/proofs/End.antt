@@ -85,8 +85,8 @@ up_tied b t link is h =
       asked = lived.0;
       up = lived.1;
       alive = lived.2;
-      last = lived.4;
-      shown = lived.3;
+      last = lived.3;
+      shown = lived.4;
       has = (subst (λ (x : Life). AreSought l.creds x) is h.creds.sought).0;
       well = said.well;
       tied = subst (λ (x : Life). TiedLink (carried x t.requests) l (whole_link x)) is (h.link (ap has_ended is));
@@ -98,7 +98,6 @@ pub record IsWanting (l : Ledger) (created : ℕ) (started : List ℕ) (link : L
   pub up : l.up ≡ true
   pub alive : l.end ≡ None
   pub last : l.last ≡ true
-  pub unshown : created ≡ 0
   pub sought : AreSought l.creds (Wanting link)
   pub lacks : lacks_credentials l ≡ true
   pub starts : l.starts ≡ []
@@ -118,8 +117,7 @@ wanting_tied b t link is h =
       asked = lived.0;
       up = lived.1;
       alive = lived.2;
-      last = lived.4;
-      unshown = lived.3;
+      last = lived.3;
       sought = sought;
       lacks = wanting_lacks l.creds link sought;
       starts = said.0;
@@ -135,7 +133,6 @@ pub record IsSetting (l : Ledger) (created : ℕ) (started : List ℕ) (link : L
   pub up : l.up ≡ true
   pub alive : l.end ≡ None
   pub last : l.last ≡ true
-  pub unshown : created ≡ 0
   pub has : HasCredentials l.creds
   pub once : l.creds.renews ≡ false
   pub none : started ≡ []
@@ -152,8 +149,7 @@ setting_tied b t link greeting is h =
       asked = lived.0;
       up = lived.1;
       alive = lived.2;
-      last = lived.4;
-      unshown = lived.3;
+      last = lived.3;
       has = (subst (λ (x : Life). AreSought l.creds x) is h.creds.sought).0;
       once = (subst (λ (x : Life). AreSought l.creds x) is h.creds.sought).1;
       none = said.0;
@@ -227,11 +223,11 @@ plain_begins before c started word kind n p h good k is = heard_begins before c 
 
 -- a link that is set up still isn't ready
 pub setting_unready : (b : Book) (t : Inner) (link : LinkState) (greeting : Greeting) → t.life ≡ SettingUp link greeting → Tied b t → IsUnready b.created t.life t.started
-setting_unready b t link greeting e h = let s = setting_tied b t link greeting e h in record { bare = ap link_in e; none = s.none; unshown = s.unshown; unready = ap is_ready e; alive = ap has_ended e }
+setting_unready b t link greeting e h = let s = setting_tied b t link greeting e h in record { bare = ap link_in e; none = s.none; unready = ap is_ready e; alive = ap has_ended e }
 
 -- nor is one that waits for credentials
 pub wanting_unready : (b : Book) (t : Inner) (link : LinkState) → t.life ≡ Wanting link → Tied b t → IsUnready b.created t.life t.started
-wanting_unready b t link e h = let s = wanting_tied b t link e h in record { bare = ap link_in e; none = s.none; unshown = s.unshown; unready = ap is_ready e; alive = ap has_ended e }
+wanting_unready b t link e h = let s = wanting_tied b t link e h in record { bare = ap link_in e; none = s.none; unready = ap is_ready e; alive = ap has_ended e }
 
 -- a link that is set up fails by news that leave its ledger
 plain_fails : (before : List Action) (c : Core) (started : List ℕ) (n : News) (x : RedisError) (link : LinkState) (greeting : Greeting) → Between before c started → c.single.connection.life ≡ SettingUp link greeting

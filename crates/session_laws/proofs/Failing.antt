@@ -25,7 +25,7 @@ use Rattle.legal_trace.specs.Book.{Book, blank_book, book, entered, if_mine, hea
 use Rattle.legal_trace.specs.Owed.{owed_by, owed_to_try, owed_unstarted, owed_waiting}
 use Rattle.legal_trace.specs.Legal.{AllStand, FailuresAreShown, MayClose, MayFail, NoneEnds, ReadyIsShown, VerdictsAreShown}
 use Rattle.session_laws.proofs.Numbers.{IsIn}
-use Rattle.session_laws.proofs.Tied.{AreSetups, inner, link_in, no_link, TiedLines, Tied, has_ended}
+use Rattle.session_laws.proofs.Tied.{shown_creation, AreSetups, inner, link_in, no_link, TiedLines, Tied, has_ended}
 use Rattle.session_laws.proofs.States.{Between, HasApplied}
 use Rattle.session_laws.proofs.Entered.{all_stand-append, shown_more}
 use Rattle.session_laws.proofs.Creds.{down_sourced}
@@ -52,7 +52,7 @@ pub record IsFailing (trace : List Action) (f : Core) (acts : List LinkAct) (con
   pub unshown : (book trace).created ≡ 0
   pub unmade : (conn.last ≡ true) × (conn.told ≡ false)
   pub first : (m : ℕ) → m < f.single.link → failure_in ((book trace).link m).end ≡ None
-  pub tied : Tied (entered (book trace) (action.Created (Some e))) (seen f acts (record conn { life = Ended e }) [] started)
+  pub tied : Tied (entered (book trace) (action.Created (Some e))) (seen f acts (record conn { life = Ended e; told = true }) [] started)
 
 -- it may be shown
 failing_may : (trace : List Action) (f : Core) (acts : List LinkAct) (conn : MultiplexedConnection) (e : RedisError) (started : List ℕ) → IsFailing trace f acts conn e started → MayFail (book trace) e
@@ -63,11 +63,11 @@ failing_may trace f acts conn e started h = record {
   once = h.unshown;
   ended = over.0;
   answered = over.1;
-  sourced = sources_asked (entered (book trace) (action.Created (Some e))) (seen f acts (record conn { life = Ended e }) [] started) h.tied;
+  sourced = sources_asked (entered (book trace) (action.Created (Some e))) (seen f acts (record conn { life = Ended e; told = true }) [] started) h.tied;
 }
   where
     over : NoneEnds (book trace) × VerdictsAreShown (book trace) × FailuresAreShown (entered (book trace) (action.Created (Some e)))
-    over = after_end (entered (book trace) (action.Created (Some e))) (seen f acts (record conn { life = Ended e }) [] started) h.tied refl
+    over = after_end (entered (book trace) (action.Created (Some e))) (seen f acts (record conn { life = Ended e; told = true }) [] started) h.tied refl
 
 -- and is
 --
@@ -91,7 +91,7 @@ given_up_ended w e last untold = ap (λ (x : Work). x.conn.life) (given_up_is w 
 failing_shown : (before : List Action) (f : Core) (w : Work) (e : RedisError) (started : List ℕ) → IsFailing (trace_of_acts before f w.acts) f w.acts w.conn e started
     → Holds before f (shown_failed w e) [] started
 failing_shown before f w e started h =
-    sound_act before f w.acts (act.Created (Some e)) (record w.conn { life = Ended e }) [] started h.stands (failing_may (trace_of_acts before f w.acts) f w.acts w.conn e started h) h.tied
+    sound_act before f w.acts (act.Created (Some e)) (record w.conn { life = Ended e; told = true }) [] started h.stands (failing_may (trace_of_acts before f w.acts) f w.acts w.conn e started h) h.tied
 
 -- and then those that wait are answered
 pub failing_applied : (before : List Action) (f : Core) (w : Work) (e : RedisError) (started : List ℕ) → f.turns ≢ 0 → w.conn.moved ≡ [] → IsFailing (trace_of_acts before f w.acts) f w.acts w.conn e started
@@ -142,7 +142,6 @@ pub record Fails (l : Ledger) (info : RedisConnectionInfo) (wants : Bool) (heard
 pub record IsUnready (created : ℕ) (life : Life) (started : List ℕ) : Type 0 where
   pub bare : link_in life ≡ no_link
   pub none : started ≡ []
-  pub unshown : created ≡ 0
   pub unready : is_life_ready life ≡ false
   pub alive : has_ended life ≡ false
 
@@ -157,6 +156,8 @@ setup_fails before c started word kind n x h good k is u fails =
     let l0 = b.link c.single.link in
     let l = heard_by b c n in
     let f = turned c kind in
+    let unmade = h.fit.unmade u.unready u.alive in
+    let unshown : b.created ≡ 0 = h0.creation.before unmade.1 in
     let front = before ++ turn_of c word kind ∷ [] in
     let now = heard_book b c.turns word kind in
     let line = ends (now.turns - 1) in
@@ -168,8 +169,8 @@ setup_fails before c started word kind n x h good k is u fails =
     let asked : l.asked ≡ true = keeps.asked ∙ is_asked l0 b.created conn.life h0.life in
     let why : lasting l.last (ending_or_shutdown (ending l)) ≡ by_opening x = ends_so l (by_opening x) (keeps.last ∙ is_last_one l0 b.created conn.life h0.life u.alive) fails.must in
     let closed : links c.single.link ≡ noted l line = mine_noted (now.link c.single.link) c.single.link line ∙ ap (λ (y : Ledger). noted y line) own in
-    let t = seen f (act.Close ∷ []) (record conn { life = Ended x }) [] started in
-    let tied : Tied (entered (entered now close) (action.Created (Some x))) t = heard_tied_by b c started word (b.created + 1) (b.failed || true) kind conn.info (Ended x) conn.fresh [] [] links (noted l line) b.sources (c.sources ++ []) h0 refl
+    let t = seen f (act.Close ∷ []) (record conn { life = Ended x; told = true }) [] started in
+    let tied : Tied (entered (entered now close) (action.Created (Some x))) t = heard_tied_by b c started word (b.created + 1) (b.failed || true) true kind conn.info (Ended x) conn.fresh [] [] links (noted l line) b.sources (c.sources ++ []) h0 (shown_creation b.created) refl
     (others_created c.single.link (b.created + 1) _ (λ some none. absurd (omega arith)) (others_kept now c.single.link line others)) closed (h0.numbers.sources ∙ sym (append-nil c.sources)) (uses_on c.sources c.single.link (uses_hear c.sources c.single.link l0 c.turns n h0.uses))
     (record {
       starts = heard_starts l0 c.turns n;
@@ -213,9 +214,9 @@ setup_fails before c started word kind n x h good k is u fails =
     record {
       stands = subst (AllStand blank_book) (sym shown) (all_stand-append (trace_of_acts front f []) (close ∷ []) all (subst (λ (y : Book). MayClose y c.single.link) (sym first) may, tt));
       fails = ap (λ (y : Book). failure_in (y.link c.single.link).end) book_is ∙ ap (λ (y : Ledger). failure_in y.end) closed ∙ ap failure_of why;
-      unshown = ap (λ (y : Book). y.created) book_is ∙ u.unshown;
-      unmade = h.fit.unmade u.unready u.alive;
-      first = λ m less. ap (λ (y : Book). failure_in (y.link m).end) book_is ∙ unfailed (links m) (others_kept now c.single.link line others m (λ same. omega arith)) u.unshown;
+      unshown = ap (λ (y : Book). y.created) book_is ∙ unshown;
+      unmade = unmade;
+      first = λ m less. ap (λ (y : Book). failure_in (y.link m).end) book_is ∙ unfailed (links m) (others_kept now c.single.link line others m (λ same. omega arith)) unshown;
       tied = subst (λ (y : Book). Tied (entered y (action.Created (Some x))) t) (sym book_is) tied;
     }
 

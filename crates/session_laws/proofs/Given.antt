@@ -64,7 +64,6 @@ given_now before c started a link h e =
       up = ap (λ (x : Ledger). x.up) is ∙ s.up;
       alive = ap (λ (x : Ledger). x.end) is ∙ s.alive;
       last = ap (λ (x : Ledger). x.last) is ∙ s.last;
-      unshown = s.unshown;
       info_is = ap (λ (x : Ledger). x.info) is ∙ ap (λ (x : RedisConnectionInfo). said_by x a) t.setup.info_is;
       wanted_is = ap (λ (x : Ledger). x.creds.wanted) is ∙ t.creds.wanted_is;
       sent = none_sent l starts;

@@ -84,7 +84,7 @@ fresh_begins before c started word kind n info life fresh pending h good k is g 
     let l = heard_by b c n in
     let t = seen (turned c kind) [] (comes_as c info life fresh) pending started in
     let same : noted (b.link c.single.link) (hears c.turns (news_of b.timers b.sources c.single.link kind)) ≡ l = ap (λ (x : News). heard_by b c x) (book_news b c started kind n h.sound.tied is) in
-    let tied : Tied (heard_book b c.turns word kind) t = heard_tied b c started word b.created b.failed kind info life fresh pending [] l h.sound.tied good (λ some. some) same g in
+    let tied : Tied (heard_book b c.turns word kind) t = heard_tied b c started word b.created b.failed c.single.connection.told kind info life fresh pending [] l h.sound.tied h.sound.tied.creation good (λ some. some) same g in
     let book_is : entered b (turn_of c word kind) ≡ heard_book b c.turns word kind = heard_is b c.turns word kind (book_kind b c kind h.sound.tied.numbers.timers k) in
     record {
       holds = holds_first (before ++ turn_of c word kind ∷ []) (turned c kind) (comes_as c info life fresh) pending started (announced_sound before c started word kind t h good (subst (λ (x : Book). Tied x t) (sym book_is) tied));

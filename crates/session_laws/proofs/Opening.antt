@@ -213,6 +213,7 @@ opening_tied config word info timeout some is = record {
   notices = record { heard_is = refl; hearing_is = refl; within = λ y. omega arith; untold_is = λ y. refl; parts = λ y d z. cc; alive = λ z. refl; due = λ z. cc; tame = λ z r. refl };
   life = (refl, refl, refl, refl, last_first config);
   creds = record { wanted_is = refl; sought = (refl, refl, refl) };
+  creation = record { before = λ e. refl; after = λ e. cc };
   uses = λ k what e. cc;
   renewal = record { over_is = refl; came = refl; waits = refl; untimed = refl; unstarted = refl; unasked = refl; unpending = refl; told = refl; kept = refl; found = refl };
   setup = record { info_is = refl; sent = λ k s less e. absurd (omega arith); said = (refl, refl) };

@@ -155,7 +155,7 @@ owed_started b t p k of_shape h l in_time place =
 
 -- a link was asked for, however far it has come
 pub is_asked : (l : Ledger) (created : ℕ) (life : Life) → TiedLife l created life → l.asked ≡ true
-is_asked l created Resting h = absurd h.5
+is_asked l created Resting h = absurd h.4
 is_asked l created Dialing h = h.0
 is_asked l created (Wanting link) h = h.0
 is_asked l created (SettingUp link greeting) h = h.0
@@ -164,11 +164,11 @@ is_asked l created (Ended e) h = h.3
 
 -- and until it ends no attempt follows
 pub is_last_one : (l : Ledger) (created : ℕ) (life : Life) → TiedLife l created life → has_ended life ≡ false → l.last ≡ true
-is_last_one l created Resting h n = h.4
-is_last_one l created Dialing h n = h.4
-is_last_one l created (Wanting link) h n = h.4
-is_last_one l created (SettingUp link greeting) h n = h.4
-is_last_one l created (Ready link) h n = h.4
+is_last_one l created Resting h n = h.3
+is_last_one l created Dialing h n = h.3
+is_last_one l created (Wanting link) h n = h.3
+is_last_one l created (SettingUp link greeting) h n = h.3
+is_last_one l created (Ready link) h n = h.3
 is_last_one l created (Ended e) h n = cc
 
 -- of a link that was asked for it is owed what the end says

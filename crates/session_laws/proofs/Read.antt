@@ -210,10 +210,10 @@ read_begins before c started word kind piece link untold h good k is e it r came
     let quiet : StaysQuiet c come = λ w. (let q = h0.numbers.quiet w in (keeps.1 ∙ q.unwanted, keeps.2 ∙ q.unrenewed)) in
     let same : noted l (hears c.turns (news_of b.timers b.sources c.single.link kind)) ≡ after = ap (λ (x : News). heard_by b c x) (book_news b c started kind (came piece) h0 is) ∙ heard_is l c.turns piece u.up ∙ after_is l piece it in
     let t = record (seen (turned c kind) [] (renewing (reads c link piece) come).conn ids started) { untold = untold } in
-    let tied : Tied (heard_book b c.turns word kind) t = heard_tied_new b c started word b.created b.failed kind conn.info come life conn.fresh ids untold after h0 keeps.0 quiet good (λ some. some) same
+    let tied : Tied (heard_book b c.turns word kind) t = heard_tied_new b c started word b.created b.failed conn.told kind conn.info come life conn.fresh ids untold after h0 h0.creation keeps.0 quiet good (λ some. some) same
     (record {
       starts = refl;
-      lived = (u.asked, u.up, u.alive, u.shown, u.last);
+      lived = (u.asked, u.up, u.alive, u.last, u.shown);
       creds = record { wanted_is = h0.creds.wanted_is ∙ sym keeps.1; sought = sought };
       renewal_is = r.renewed;
       said = record { info_is = said.info_is; sent = said.sent; said = r.well };

@@ -233,7 +233,7 @@ setup_read_as before c started word kind piece link greeting g h good k is e = b
     goes_on r next now said tied_next fits f =
         quiet_applied before c started word kind (came piece) (SettingUp next now) h good k is
         (record {
-          lived = subst (λ (y : Ledger). TiedLife y b.created (SettingUp next now)) (sym same) (s.asked, s.up, s.alive, s.unshown, s.last);
+          lived = subst (λ (y : Ledger). TiedLife y b.created (SettingUp next now)) (sym same) (s.asked, s.up, s.alive, s.last);
           creds = subst (λ (y : Ledger). TiedCreds y.creds conn.renewal.wanted (SettingUp next now)) (sym same) (record { wanted_is = h.sound.tied.creds.wanted_is; sought = (s.has, s.once) });
           renewal_is = none_hears l c.turns (came piece) conn.renewal (λ x. x) (early_renewal l conn.renewal conn.life (ap is_ready e) (ap has_ended e) h.sound.tied.renewal);
           said = subst (λ (y : Ledger). TiedSetup y info started (SettingUp next now)) (sym same) (record { info_is = h.sound.tied.setup.info_is; sent = h.sound.tied.setup.sent; said = (s.none, said) });
@@ -429,7 +429,7 @@ setup_read_as before c started word kind piece link greeting g h good k is e = b
         let f = turned c kind in
         let still = told_leaves v 0 ps [] in
         let owned = named_tied name (owner_of conn.requests) after read (subst (SameNames name (owner_of conn.requests)) (sym row) tt) r.of.tied in
-        let made : IsMade after b.created conn.requests read = record { asked = s.asked; up = s.up; alive = s.alive; last = s.last; unshown = s.unshown; said = said; tied = owned; queue = queue; row = row } in
+        let made : IsMade after b.created conn.requests read = record { asked = s.asked; up = s.up; alive = s.alive; last = s.last; said = said; tied = owned; queue = queue; row = row } in
         let facts : IsReadied b c (heard_by b c (came piece)) info read untold = subst (λ (y : Ledger). IsReadied b c y info read untold) (sym same) (record {
           info_is = h.sound.tied.setup.info_is;
           sent = h.sound.tied.setup.sent;

@@ -71,10 +71,10 @@ ready_renewal before c started word kind n link renewals over lost r h good k is
     let f = turned c kind in
     let own = ap (heard_by b c) (book_news b c started kind n h0 is) ∙ same in
     let t = seen f [] (with_renewal conn r) [] started in
-    let tied : Tied (heard_book b c.turns word kind) t = heard_tied_new b c started word b.created b.failed kind conn.info r conn.life conn.fresh [] [] after h0 within quiet good (λ some. some) own
+    let tied : Tied (heard_book b c.turns word kind) t = heard_tied_new b c started word b.created b.failed conn.told kind conn.info r conn.life conn.fresh [] [] after h0 h0.creation within quiet good (λ some. some) own
     (record {
       starts = refl;
-      lived = subst (λ (x : Life). TiedLife after b.created x) (sym e) (u.asked, u.up, u.alive, u.shown, u.last);
+      lived = subst (λ (x : Life). TiedLife after b.created x) (sym e) (u.asked, u.up, u.alive, u.last, u.shown);
       creds = subst (λ (x : Life). TiedCreds after.creds r.wanted x) (sym e) (record { wanted_is = h0.creds.wanted_is ∙ sym wanted; sought = sought });
       renewal_is = subst (λ (x : Life). TiedRenewal after r x) (sym e) are;
       said = subst (λ (x : Life). TiedSetup after conn.info started x) (sym e) said;

@@ -60,6 +60,7 @@ seen f acts conn pending started = record {
   info = conn.info;
   renewal = conn.renewal;
   life = conn.life;
+  told = conn.told;
   requests = conn.requests;
   waiting = conn.waiting;
   admitted = conn.admitted;
@@ -286,6 +287,7 @@ renewal_tied b t r within wanted waiting tied h = record {
   notices = h.notices;
   life = h.life;
   creds = record { wanted_is = h.creds.wanted_is ∙ sym wanted; sought = h.creds.sought };
+  creation = h.creation;
   uses = h.uses;
   renewal = tied;
   setup = h.setup;

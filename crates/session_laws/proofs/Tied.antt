@@ -1,5 +1,5 @@
 -- What ties a session to the book of its trace.
-use Rattle.std.proofs.Common.{subst, ◌≡◌, ◌≢◌, ◌⊎◌, ℕ, zero, suc, ◌+◌, ◌^◌, ◌<◌, ◌≤◌, ◌==◌, if◌then◌else◌, Bool, true, false, List, [], ◌∷◌, ◌++◌, length, drop, Option, Some, None, slice_get, codes, ◌&&◌}
+use Rattle.std.proofs.Common.{arith, subst, ◌≡◌, ◌≢◌, ◌⊎◌, ℕ, zero, suc, ◌+◌, ◌^◌, ◌<◌, ◌≤◌, ◌==◌, if◌then◌else◌, Bool, true, false, List, [], ◌∷◌, ◌++◌, length, drop, Option, Some, None, slice_get, codes, ◌&&◌}
 use Rattle.std.specs.List.{AllByRecursion}
 use Rattle.redis_error.specs.declared.redis_error.RedisError.{RedisError}
 use Rattle.resp_value.specs.declared.value.Value.TheVariants.{Nil}
@@ -58,7 +58,7 @@ use Rattle.driver_model.specs.News.{News, came}
 -- messages the queue of its connection's link holds, at how many unwritten bytes none starts, how many permits there are, if
 -- they are counted, and how many are free; what is heard beside replies, what of that which came is still to be told, and whether
 -- the end of the link is; what the session is; what is said to the server before the first request, and its credentials
--- that come of sources; its connection's life and requests, those that wait for the connection, those that wait for a place, those
+-- that come of sources; its connection's life, whether it was told to be ready, or not to be, and its requests, those that wait for the connection, those that wait for a place, those
 -- that came in this turn and those that were moved in it, whose waits aren't shown yet; the one that is being let in; the
 -- requests that are settled and not answered yet; and the numbers of the messages that started behind the setups, in order: a
 -- request's, or AUTH's
@@ -82,6 +82,7 @@ pub record Inner : Type 0 where
   pub info : RedisConnectionInfo
   pub renewal : Renewal
   pub life : Life
+  pub told : Bool
   pub requests : List Request
   pub waiting : List Waiting
   pub admitted : List Waiting
@@ -277,19 +278,28 @@ pub record TiedNotices (heard hears hearing : Hearing) (notices : List Heard) (t
   pub due : parting ≡ true → parted ≡ false
   pub tame : end ≡ None → reading ≡ false → strange ≡ false
 
+-- that it is ready, or that its opening failed, is shown where it was told, and not before
+pub record TiedCreation (created : ℕ) (told : Bool) : Type 0 where
+  pub before : told ≡ false → created ≡ 0
+  pub after : told ≡ true → created ≢ 0
+
+-- it is told then
+pub shown_creation : (created : ℕ) → TiedCreation (created + 1) true
+shown_creation created = record { before = λ e. cc; after = λ e none. absurd (let no : created + 1 ≡ 0 = none in omega (arith, no)) }
+
 -- how far the link has come, which was asked for, and after which no attempt follows, so that no session's connection is without
 -- one; where it has ended, a submission without a message gets this error
 abbrev pub TiedLife : Ledger → ℕ → Life → Type 0
-TiedLife l created Resting = (l.asked ≡ false) × (l.up ≡ false) × (l.end ≡ None) × (created ≡ 0) × (l.last ≡ true) × ⊥
-TiedLife l created Dialing = (l.asked ≡ true) × (l.up ≡ false) × (l.end ≡ None) × (created ≡ 0) × (l.last ≡ true)
-TiedLife l created (Wanting link) = (l.asked ≡ true) × (l.up ≡ true) × (l.end ≡ None) × (created ≡ 0) × (l.last ≡ true)
-TiedLife l created (SettingUp link greeting) = (l.asked ≡ true) × (l.up ≡ true) × (l.end ≡ None) × (created ≡ 0) × (l.last ≡ true)
-TiedLife l created (Ready link) = (l.asked ≡ true) × (l.up ≡ true) × (l.end ≡ None) × (created ≢ 0) × (l.last ≡ true)
+TiedLife l created Resting = (l.asked ≡ false) × (l.up ≡ false) × (l.end ≡ None) × (l.last ≡ true) × ⊥
+TiedLife l created Dialing = (l.asked ≡ true) × (l.up ≡ false) × (l.end ≡ None) × (l.last ≡ true)
+TiedLife l created (Wanting link) = (l.asked ≡ true) × (l.up ≡ true) × (l.end ≡ None) × (l.last ≡ true)
+TiedLife l created (SettingUp link greeting) = (l.asked ≡ true) × (l.up ≡ true) × (l.end ≡ None) × (l.last ≡ true)
+TiedLife l created (Ready link) = (l.asked ≡ true) × (l.up ≡ true) × (l.end ≡ None) × (l.last ≡ true) × (created ≢ 0)
 TiedLife l created (Ended e) = (l.up ≡ false) × (owed_unstarted l.end ≡ Some (outcome.Fault e)) × FailureIsShown l.end created × (l.asked ≡ true)
 
 -- no session's connection is without a link
 pub never_rests : (l : Ledger) (created : ℕ) (life : Life) → life ≡ Resting → TiedLife l created life → ⊥
-never_rests l created life e h = (subst (TiedLife l created) e h).5
+never_rests l created life e h = (subst (TiedLife l created) e h).4
 
 -- the credentials of a link come of no source, or they have come
 abbrev pub HasCredentials : Sourced → Type 0
@@ -614,6 +624,7 @@ pub record Tied (b : Book) (t : Inner) : Type 0 where
   pub others : AreAside t.link t.links b.link t.hears t.renewal.within b.created
   pub notices : TiedNotices (hearing_in b.config) t.hears (b.link t.link).hearing (b.link t.link).notices (b.link t.link).told (b.link t.link).end (b.link t.link).parted (b.link t.link).strange (is_reading (b.link t.link)) t.untold t.parting
   pub life : TiedLife (b.link t.link) b.created t.life
+  pub creation : TiedCreation b.created t.told
   pub creds : TiedCreds (b.link t.link).creds t.renewal.wanted t.life
   pub uses : AreUses t.sources t.link (b.link t.link).creds.asked (b.link t.link).creds.renews
   pub renewal : TiedRenewal (b.link t.link) t.renewal t.life
@@ -659,6 +670,7 @@ inner c started = record {
   info = c.single.connection.info;
   renewal = c.single.connection.renewal;
   life = c.single.connection.life;
+  told = c.single.connection.told;
   requests = c.single.connection.requests;
   waiting = c.single.connection.waiting;
   admitted = c.single.connection.admitted;
@@ -707,6 +719,7 @@ relined b t waiting admitted fresh moved pending h lines waits late = record {
   notices = h.notices;
   life = h.life;
   creds = h.creds;
+  creation = h.creation;
   uses = h.uses;
   renewal = h.renewal;
   setup = h.setup;

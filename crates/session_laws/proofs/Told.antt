@@ -78,6 +78,7 @@ line_tied b t line told parted untold parting is pushed h =
       notices = pushed;
       life = life_told l told parted b.created t.life h.life;
       creds = h.creds;
+      creation = h.creation;
       uses = h.uses;
       renewal = renewal_alike l (retells l told parted) t.renewal t.life refl refl refl h.renewal;
       setup = record { info_is = h.setup.info_is; sent = h.setup.sent; said = said_alike l (retells l told parted) t.started t.life (same_told l told parted) h.setup.said };

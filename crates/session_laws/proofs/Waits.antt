@@ -159,6 +159,7 @@ wait_tied b t p kind moved fresh within h waits =
       notices = h.notices;
       life = h.life;
       creds = h.creds;
+      creation = h.creation;
       uses = h.uses;
       renewal = h.renewal;
       setup = h.setup;

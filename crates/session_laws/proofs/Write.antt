@@ -46,6 +46,7 @@ write_tied b t link h =
       notices = h.notices;
       life = h.life;
       creds = record { wanted_is = h.creds.wanted_is; sought = h.creds.sought };
+      creation = h.creation;
       uses = h.uses;
       renewal = renewal_alike l (noted l line) t.renewal (Ready link) refl refl refl h.renewal;
       setup = record { info_is = h.setup.info_is; sent = h.setup.sent; said = record { well = h.setup.said.well; none = h.setup.said.none } };
@@ -71,6 +72,7 @@ write_set_tied b t link greeting h =
       notices = h.notices;
       life = h.life;
       creds = record { wanted_is = h.creds.wanted_is; sought = h.creds.sought };
+      creation = h.creation;
       uses = h.uses;
       renewal = renewal_alike l (noted l line) t.renewal (SettingUp link greeting) refl refl refl h.renewal;
       setup = setup_link (noted l line) t.info t.started link (offered_of link) greeting refl refl
