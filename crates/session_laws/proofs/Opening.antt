@@ -211,7 +211,7 @@ opening_tied config word info timeout some is = record {
   numbers = opening_numbers config word info timeout some is;
   others = λ m other. subst (λ (x : Ledger). IsAside (first_link + 1) m x (hearing_of config) (response_timeout config) 0) (sym (opened_link config word info (connect_timers timeout) m other)) (blank_aside m (hearing_of config) (response_timeout config) other);
   notices = record { heard_is = refl; hearing_is = refl; within = λ y. omega arith; untold_is = λ y. refl; parts = λ y d z. cc; alive = λ z. refl; due = λ z. cc; tame = λ z r. refl };
-  life = (refl, refl, refl, refl, last_first config);
+  life = (refl, refl, refl, last_first config);
   creds = record { wanted_is = refl; sought = (refl, refl, refl) };
   creation = record { before = λ e. refl; after = λ e. cc };
   uses = λ k what e. cc;
