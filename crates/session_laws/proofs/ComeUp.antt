@@ -36,7 +36,7 @@ use Rattle.legal_trace.specs.Book.{Book, blank_book, book, entered, use_for, if_
 use Rattle.legal_trace.specs.Story.{Story}
 use Rattle.legal_trace.specs.Legal.{AllStand, MayBeCreated, MayNeed}
 use Rattle.legal_trace.proofs.Setups.{ends_where_set, silent_is_set, silent_is_greeted}
-use Rattle.session_laws.proofs.Tied.{shown_creation, never_rests, AreSetups, AreQueued, HasCredentials, IsEntry, IsQueued, IsSettingUp, IsSetupDue, IsSetUp, Inner, Tied, TiedLines, TiedNotices, TiedWaits, has_ended, inner, link_in, no_link, owner_of, queue_ids, shown_wait, waiting_ids, AreSought, AreUses, HasSaid, is_reading, AreSetupsAlone, IsWatching, greeting_at, owners_of, setup_owners, watch_queued}
+use Rattle.session_laws.proofs.Tied.{shown_creation, Sound, TiedCreation, never_rests, AreSetups, AreQueued, HasCredentials, IsEntry, IsQueued, IsSettingUp, IsSetupDue, IsSetUp, Inner, Tied, TiedLines, TiedNotices, TiedWaits, has_ended, inner, link_in, no_link, owner_of, queue_ids, shown_wait, waiting_ids, AreSought, AreUses, HasSaid, is_reading, AreSetupsAlone, IsWatching, greeting_at, owners_of, setup_owners, watch_queued}
 use Rattle.session_laws.proofs.States.{Between, HasApplied, IsFit, IsFitIn}
 use Rattle.session_laws.proofs.Creds.{has_credentials, IsOfRenewals, down_sourced}
 use Rattle.session_laws.proofs.Said.{PushesOf, ending_setting, readied, setup_recredited, well_readied}
@@ -49,8 +49,8 @@ use Rattle.session_laws.proofs.Heard.{book_kind, book_news, fresh_applied, heard
 use Rattle.session_laws.proofs.Ahead.{waiting_open}
 use Rattle.session_laws.proofs.Renewals.{early_renewal, renewed_first}
 use Rattle.session_laws.proofs.Kept.{mine_noted, others_kept}
-use Rattle.std.proofs.lemmas.List.{nil_from_length}
-use Rattle.session_laws.proofs.Failing.{told_first, unstarted_owed}
+use Rattle.std.proofs.lemmas.List.{append-nil, nil_from_length}
+use Rattle.session_laws.proofs.Failing.{unstarted_owed}
 use Rattle.mux_conn.specs.declared.life.Greeting.TheVariants as greet
 use Rattle.mux_conn.specs.declared.life.Greeting.{Greeting}
 use Rattle.driver_model.specs.Hearing.{is_watching}
@@ -183,10 +183,10 @@ pub record IsReadied (b : Book) (c : Core) (l : Ledger) (info : RedisConnectionI
   pub notices : TiedNotices (hearing_in b.config) c.single.connection.hears l.hearing l.notices l.told l.end l.parted l.strange (is_reading l) untold false
 
 -- what the session needs of it, also where a second source is asked for
-readied_comes : (b : Book) (c : Core) (started : List ℕ) (n : News) (info : RedisConnectionInfo) (link : LinkState) (untold : List Heard) (more : Bool) → Tied b (inner c started) → IsFitIn c.single.connection → c.single.connection.fresh ≡ [] → (IsOfRenewals n → ⊥) → IsEarly c.single.connection.life wait.Permit
+readied_comes : (b : Book) (c : Core) (started : List ℕ) (n : News) (info : RedisConnectionInfo) (link : LinkState) (untold : List Heard) (more : Bool) (created : ℕ) → created ≢ 0 → Tied b (inner c started) → IsFitIn c.single.connection → c.single.connection.fresh ≡ [] → (IsOfRenewals n → ⊥) → IsEarly c.single.connection.life wait.Permit
     → (let l = heard_by b c n in IsReadied b c l info link untold → l.creds.wanted ≡ more → (more ≡ true → l.creds.asked ≡ true)
-    → ComesTo b c (readied more l) (b.created + 1) info (Ready link) (numbers_of c.single.connection.waiting) [] untold started)
-readied_comes b c started n info link untold more h0 fit no_fresh other early facts needs some =
+    → ComesTo b c (readied more l) created info (Ready link) (numbers_of c.single.connection.waiting) [] untold started)
+readied_comes b c started n info link untold more created some_created h0 fit no_fresh other early facts needs some =
     let conn = c.single.connection in
     let l = heard_by b c n in
     let made = facts.made in
@@ -198,7 +198,7 @@ readied_comes b c started n info link untold more h0 fit no_fresh other early fa
     let said = setup_recredited l asked renews l.creds.renewals l.creds.over l.creds.timed l.creds.lost info started link (record { info_is = facts.info_is; sent = facts.sent; said = made.said }) in
     record {
       starts = heard_starts (b.link c.single.link) c.turns n;
-      lived = (made.asked, made.up, made.alive, made.last, λ z. absurd (omega arith));
+      lived = (made.asked, made.up, made.alive, made.last, some_created);
       creds = record {
         wanted_is = facts.wanted_is;
         sought = (
@@ -243,8 +243,7 @@ may_be_created b c started word kind n info link untold h0 early own facts unsho
 pub makes_ready : (before : List Action) (c : Core) (started : List ℕ) (word : ℕ) (kind : EventKind) (n : News) (info : RedisConnectionInfo) (link : LinkState) (untold : List Heard) → Between before c started → is_bad c kind ≡ false → IsNewsKind c.timers kind
     → news_of c.timers c.sources c.single.link kind ≡ n → (IsOfRenewals n → ⊥) → IsEarly c.single.connection.life wait.Permit → IsReadied (book before) c (heard_by (book before) c n) info link untold
     → IsShownReady (before ++ turn_of c word kind ∷ []) (turned c kind) (made_ready (record { conn = record c.single.connection { info = info }; acts = [] }) link) (readied c.single.connection.renewal.wanted (heard_by (book before) c n)) untold started
-makes_ready before c started word kind n info link untold h good k is other early facts =
-    subst (λ (x : Work). IsShownReady front f (source_asked x) (readied c.single.connection.renewal.wanted l) untold started) (sym (told_first opened None (h.fit.unmade early.unready early.alive).1)) (by_wanted c.single.connection.renewal.wanted refl)
+makes_ready before c started word kind n info link untold h good k is other early facts = by_told c.single.connection.told refl
   where
     b : Book
     b = book before
@@ -282,8 +281,8 @@ makes_ready before c started word kind n info link untold h good k is other earl
     own : now.link mine ≡ l
     own = ap (heard_by b c) (book_news b c started kind n h0 is)
 
-    may : MayBeCreated now
-    may = may_be_created b c started word kind n info link untold h0 early own facts (h0.creation.before (h.fit.unmade early.unready early.alive).1)
+    may : b.created ≡ 0 → MayBeCreated now
+    may unshown = may_be_created b c started word kind n info link untold h0 early own facts unshown
 
     book_is : book front ≡ now
     book_is = book_more before (turn_of c word kind) ∙ heard_is b c.turns word kind (book_kind b c kind h0.numbers.timers k)
@@ -292,20 +291,20 @@ makes_ready before c started word kind n info link untold h good k is other earl
     all = all_stand-append before (turn_of c word kind ∷ []) h.sound.stands (may_turn before c started word kind h good, tt)
 
     -- none come of sources
-    unwanted : c.single.connection.renewal.wanted ≡ false → IsShownReady front f v (readied c.single.connection.renewal.wanted l) untold started
-    unwanted w =
+    unwanted : b.created ≡ 0 → c.single.connection.renewal.wanted ≡ false → IsShownReady front f v (readied c.single.connection.renewal.wanted l) untold started
+    unwanted unshown w =
         let t = record (seen f [] (comes_as c info (Ready link) ns) [] started) { told = true; untold = untold } in
         let same : readied c.single.connection.renewal.wanted l ≡ l = ap (λ (x : Bool). readied x l) w in
-        let comes = readied_comes b c started n info link untold false h0 h.fit h.fresh other early facts (facts.wanted_is ∙ w) (λ none. cc) in
+        let comes = readied_comes b c started n info link untold false (b.created + 1) ((shown_creation b.created).after refl) h0 h.fit h.fresh other early facts (facts.wanted_is ∙ w) (λ none. cc) in
         let tied : Tied (entered now shown) t = heard_tied b c started word (b.created + 1) (b.failed || false) true kind info (Ready link) ns [] untold l h0 (shown_creation b.created) good (λ some none. absurd (omega arith)) own comes in
         record {
-          holds = sound_more front shown t all (inl (subst MayBeCreated (sym book_is) may)) (subst (λ (x : Book). Tied (entered x shown) t) (sym book_is) tied);
+          holds = sound_more front shown t all (inl (subst MayBeCreated (sym book_is) (may unshown))) (subst (λ (x : Book). Tied (entered x shown) t) (sym book_is) tied);
           ledger = ap (λ (x : Book). x.link mine) (book_more front shown ∙ ap (λ (x : Book). entered x shown) book_is) ∙ own ∙ sym same;
         }
 
     -- or a second source is asked for
-    wants : c.single.connection.renewal.wanted ≡ true → IsShownReady front f (acted v act.NeedRenewals) (readied c.single.connection.renewal.wanted l) untold started
-    wants w =
+    wants : b.created ≡ 0 → c.single.connection.renewal.wanted ≡ true → IsShownReady front f (acted v act.NeedRenewals) (readied c.single.connection.renewal.wanted l) untold started
+    wants unshown w =
         let count = length c.sources + 0 in
         let next : count ≡ length c.sources = omega arith in
         let needs = action.NeedCreds count mine in
@@ -322,7 +321,7 @@ makes_ready before c started word kind n info link untold h good k is other earl
         let after = noted l sources in
         let ledger_is : links mine ≡ after = mine_noted (now.link mine) mine sources ∙ ap (λ (y : Ledger). noted y sources) own in
         let t = record (seen f [] (comes_as c info (Ready link) ns) [] started) { told = true; untold = untold; sources = uses } in
-        let comes = readied_comes b c started n info link untold true h0 h.fit h.fresh other early facts wanted (λ x. asked) in
+        let comes = readied_comes b c started n info link untold true (b.created + 1) ((shown_creation b.created).after refl) h0 h.fit h.fresh other early facts wanted (λ x. asked) in
         let used : AreUses uses mine true l.creds.asked = uses_more c.sources mine true l.creds.asked (source.Renewal mine) (omega arith, λ same. asked) (uses_asked c.sources mine (b.link mine).creds.asked (b.link mine).creds.renews l.creds.asked once h0.uses) in
         let tied : Tied (entered created needs) t =
         heard_tied_by b c started word (b.created + 1) (b.failed || false) true kind info (Ready link) ns [] untold links after (b.sources ++ what ∷ []) uses h0 (shown_creation b.created) (protocol_still b c started kind info l h0 own facts.info_is) (others_kept now mine sources others) ledger_is
@@ -339,15 +338,77 @@ makes_ready before c started word kind n info link untold h good k is other earl
         let same : readied c.single.connection.renewal.wanted l ≡ after = ap (λ (x : Bool). readied x l) w in
         record {
           holds = record {
-            stands = all_stand-append front both all (inl (subst MayBeCreated (sym book_is) may), (subst (λ (x : Book). MayNeed (entered x shown) count mine) (sym book_is) need, tt));
+            stands = all_stand-append front both all (inl (subst MayBeCreated (sym book_is) (may unshown)), (subst (λ (x : Book). MayNeed (entered x shown) count mine) (sym book_is) need, tt));
             tied = subst (λ (x : Book). Tied x t) (sym last) tied;
           };
           ledger = ap (λ (x : Book). x.link mine) last ∙ ledger_is ∙ sym same;
         }
 
-    by_wanted : (x : Bool) → c.single.connection.renewal.wanted ≡ x → IsShownReady front f (if x then acted v act.NeedRenewals else v) (readied c.single.connection.renewal.wanted l) untold started
-    by_wanted true w = wants w
-    by_wanted false w = unwanted w
+    by_wanted : b.created ≡ 0 → (x : Bool) → c.single.connection.renewal.wanted ≡ x → IsShownReady front f (if x then acted v act.NeedRenewals else v) (readied c.single.connection.renewal.wanted l) untold started
+    by_wanted unshown true w = wants unshown w
+    by_wanted unshown false w = unwanted unshown w
+
+    -- what nothing is shown of, as it was told before
+    u : Work
+    u = record { conn = record opened.conn { told = true }; acts = [] }
+
+    again_creation : c.single.connection.told ≡ true → TiedCreation b.created true
+    again_creation told = record { before = λ z. cc; after = λ z. h0.creation.after told }
+
+    again_unwanted : c.single.connection.told ≡ true → c.single.connection.renewal.wanted ≡ false → IsShownReady front f u (readied c.single.connection.renewal.wanted l) untold started
+    again_unwanted told w =
+        let t = record (seen f [] (comes_as c info (Ready link) ns) [] started) { told = true; untold = untold } in
+        let same : readied c.single.connection.renewal.wanted l ≡ l = ap (λ (x : Bool). readied x l) w in
+        let comes = readied_comes b c started n info link untold false b.created (h0.creation.after told) h0 h.fit h.fresh other early facts (facts.wanted_is ∙ w) (λ none. cc) in
+        let tied : Tied now t = heard_tied b c started word b.created b.failed true kind info (Ready link) ns [] untold l h0 (again_creation told) good (λ some. some) own comes in
+        record {
+          holds = subst (λ (x : List Action). Sound x t) (sym (append-nil front)) (record { stands = all; tied = subst (λ (x : Book). Tied x t) (sym book_is) tied });
+          ledger = ap (λ (x : List Action). (book x).link mine) (append-nil front) ∙ ap (λ (x : Book). x.link mine) book_is ∙ own ∙ sym same;
+        }
+
+    again_wants : c.single.connection.told ≡ true → c.single.connection.renewal.wanted ≡ true → IsShownReady front f (acted u act.NeedRenewals) (readied c.single.connection.renewal.wanted l) untold started
+    again_wants told w =
+        let count = length c.sources in
+        let needs = action.NeedCreds count mine in
+        let wanted : l.creds.wanted ≡ true = facts.wanted_is ∙ w in
+        let asked : l.creds.asked ≡ true = elim facts.has [ inl none ↦ absurd (not_both l.creds.wanted none wanted) | inr come ↦ come.0 ] in
+        let once : (b.link mine).creds.renews ≡ false = early_sources (b.link mine).creds c.single.connection.life early.unready early.alive h0.creds.sought in
+        let renews : l.creds.renews ≡ false = renews_hear (b.link mine) c.turns n ∙ once in
+        let uses = c.sources ++ source.Renewal mine ∷ [] in
+        let what = use_for now mine in
+        let what_is : what ≡ source.Renewal mine = ap (λ (x : Ledger). if x.creds.asked then source.Renewal mine else source.Setup mine) own ∙ taken_if l.creds.asked (source.Renewal mine) (source.Setup mine) asked in
+        let others = others_heard b c started kind b.created h0 good (λ some. some) in
+        let links : ℕ → Ledger = λ m. noted_each (now.link m) (if_mine (mine == m) sources) in
+        let after = noted l sources in
+        let ledger_is : links mine ≡ after = mine_noted (now.link mine) mine sources ∙ ap (λ (y : Ledger). noted y sources) own in
+        let t = record (seen f [] (comes_as c info (Ready link) ns) [] started) { told = true; untold = untold; sources = uses } in
+        let comes = readied_comes b c started n info link untold true b.created (h0.creation.after told) h0 h.fit h.fresh other early facts wanted (λ x. asked) in
+        let used : AreUses uses mine true l.creds.asked = uses_more c.sources mine true l.creds.asked (source.Renewal mine) (omega arith, λ same. asked) (uses_asked c.sources mine (b.link mine).creds.asked (b.link mine).creds.renews l.creds.asked once h0.uses) in
+        let tied : Tied (entered now needs) t =
+        heard_tied_by b c started word b.created b.failed true kind info (Ready link) ns [] untold links after (b.sources ++ what ∷ []) uses h0 (again_creation told) (protocol_still b c started kind info l h0 own facts.info_is) (others_kept now mine sources others) ledger_is
+        (λ i. h0.numbers.sources i ++ what_is i ∷ []) used comes in
+        let need : MayNeed now count mine = record {
+          due = ap source_due own ∙ (λ i. facts.made.up i && wanted i && (not (asked i) || (facts.made.said.well i && not (renews i))));
+          next = ap length (sym h0.numbers.sources);
+          in_order = λ m less. down_sourced (now.link m) (others m (λ one. omega arith)).down;
+          answered = unstarted_owed b now c started h0 (early_started (b.link mine) started c.single.connection.life early.unready early.alive h0.setup.said) (λ m. refl) (ap (λ (y : Ledger). y.asked) own ∙ facts.made.asked) (ap (λ (y : Ledger). y.end) own ∙ facts.made.alive);
+          created = λ m ready. h0.creation.after told;
+        } in
+        let last : book (front ++ needs ∷ []) ≡ entered now needs = book_more front needs ∙ ap (λ (x : Book). entered x needs) book_is in
+        let same : readied c.single.connection.renewal.wanted l ≡ after = ap (λ (x : Bool). readied x l) w in
+        record {
+          holds = sound_more front needs t all (subst (λ (x : Book). MayNeed x count mine) (sym book_is) need) (subst (λ (x : Book). Tied (entered x needs) t) (sym book_is) tied);
+          ledger = ap (λ (x : Book). x.link mine) last ∙ ledger_is ∙ sym same;
+        }
+
+    again : c.single.connection.told ≡ true → (x : Bool) → c.single.connection.renewal.wanted ≡ x → IsShownReady front f (if x then acted u act.NeedRenewals else u) (readied c.single.connection.renewal.wanted l) untold started
+    again told true w = again_wants told w
+    again told false w = again_unwanted told w
+
+    -- whether it was told before or not
+    by_told : (x : Bool) → c.single.connection.told ≡ x → IsShownReady front f (source_asked (record { conn = record opened.conn { told = true }; acts = if x then [] else act.Created None ∷ [] })) (readied c.single.connection.renewal.wanted l) untold started
+    by_told true told = again told c.single.connection.renewal.wanted refl
+    by_told false untold_yet = by_wanted (h0.creation.before untold_yet) c.single.connection.renewal.wanted refl
 
 -- what a link that becomes ready leaves of a connection, whether a source is asked for or not
 abbrev pub made_of : MultiplexedConnection → LinkState → MultiplexedConnection

@@ -72,7 +72,7 @@ failing_may trace f acts conn e started h = record {
 -- and is
 --
 -- what is shown where it wasn't before
-pub told_first : (w : Work) (e : Option RedisError) → w.conn.told ≡ false → creation_told w e ≡ record { conn = record w.conn { told = true }; acts = w.acts ++ act.Created e ∷ [] }
+told_first : (w : Work) (e : Option RedisError) → w.conn.told ≡ false → creation_told w e ≡ record { conn = record w.conn { told = true }; acts = w.acts ++ act.Created e ∷ [] }
 told_first w e untold = ap (λ (told : Bool). record { conn = record w.conn { told = true }; acts = if told then w.acts else w.acts ++ act.Created e ∷ [] }) untold
 
 -- what its last attempt leaves
