@@ -388,23 +388,23 @@ left_others requests (Ended e) ys p lo r q i = absurd i
 
 -- the link is fit
 pub left_fit : (c : MultiplexedConnection) (free : ℕ) (requests : List Request) (life : Life) (p : ℕ) → c.life ≡ life → IsFitIn c → IsFitIn (record c { free = free; requests = requests; life = cancelled_in life p })
-left_fit c free requests Resting p is h = record { wanting = λ x e. cc; setup = λ x u e. cc; link = λ x e. cc; none = λ n. h.none (λ x e. (let no : Resting ≡ Ready x = sym is ∙ e in cc)); unmade = λ x y. h.unmade (ap is_ready is) (ap has_ended is) }
-left_fit c free requests Dialing p is h = record { wanting = λ x e. cc; setup = λ x u e. cc; link = λ x e. cc; none = λ n. h.none (λ x e. (let no : Dialing ≡ Ready x = sym is ∙ e in cc)); unmade = λ x y. h.unmade (ap is_ready is) (ap has_ended is) }
+left_fit c free requests Resting p is h = record { wanting = λ x e. cc; setup = λ x u e. cc; link = λ x e. cc; none = λ n. h.none (λ x e. (let no : Resting ≡ Ready x = sym is ∙ e in cc)); lasts = λ x y. h.lasts (ap is_ready is) (ap has_ended is) }
+left_fit c free requests Dialing p is h = record { wanting = λ x e. cc; setup = λ x u e. cc; link = λ x e. cc; none = λ n. h.none (λ x e. (let no : Dialing ≡ Ready x = sym is ∙ e in cc)); lasts = λ x y. h.lasts (ap is_ready is) (ap has_ended is) }
 left_fit c free requests (Wanting link) p is h = record {
   wanting = λ x e. let same : link ≡ x = cc in subst (IsFit c.size c.boundary) same (h.wanting link is);
   setup = λ x u e. cc;
   link = λ x e. cc;
   none = λ n. h.none (λ x e. (let no : Wanting link ≡ Ready x = sym is ∙ e in cc));
-  unmade = λ x y. h.unmade (ap is_ready is) (ap has_ended is);
+  lasts = λ x y. h.lasts (ap is_ready is) (ap has_ended is);
 }
 left_fit c free requests (SettingUp link greeting) p is h = record {
   wanting = λ x e. cc;
   setup = λ x u e. let same : link ≡ x = cc in subst (IsFit c.size c.boundary) same (h.setup link greeting is);
   link = λ x e. cc;
   none = λ n. h.none (λ x e. (let no : SettingUp link greeting ≡ Ready x = sym is ∙ e in cc));
-  unmade = λ x y. h.unmade (ap is_ready is) (ap has_ended is);
+  lasts = λ x y. h.lasts (ap is_ready is) (ap has_ended is);
 }
-left_fit c free requests (Ended y) p is h = record { wanting = λ x e. cc; setup = λ x u e. cc; link = λ x e. cc; none = λ n. h.none (λ x e. (let no : Ended y ≡ Ready x = sym is ∙ e in cc)); unmade = λ x y. cc }
+left_fit c free requests (Ended y) p is h = record { wanting = λ x e. cc; setup = λ x u e. cc; link = λ x e. cc; none = λ n. h.none (λ x e. (let no : Ended y ≡ Ready x = sym is ∙ e in cc)); lasts = λ x y. cc }
 left_fit c free requests (Ready link) p is h = record {
   wanting = λ x e. cc;
   setup = λ x u e. cc;
@@ -414,7 +414,7 @@ left_fit c free requests (Ready link) p is h = record {
       let few = without_length link.queue p in
       subst (IsFit c.size c.boundary) same (record { sound = k.sound; size_is = k.size_is; bound_is = k.bound_is; within = omega (arith, k.within, few) });
   none = λ n. absurd (n (cancelled link p) refl);
-  unmade = λ x y. cc;
+  lasts = λ x y. cc;
 }
 
 -- the turn

@@ -501,6 +501,6 @@ ended_applied before f w e started began none_moved h = record {
     setup = λ link greeting is. (let no : Ended e ≡ SettingUp link greeting = sym h.over ∙ is in cc);
     link = λ link is. (let no : Ended e ≡ Ready link = sym h.over ∙ is in cc);
     none = λ n. h.none_admitted;
-    unmade = λ x y. (let no : true ≡ false = sym (ap has_ended h.over) ∙ y in cc);
+    lasts = λ x y. (let no : true ≡ false = sym (ap has_ended h.over) ∙ y in cc);
   };
 }

@@ -204,7 +204,7 @@ connected_wants before c started word kind h good k is e wants =
         setup = λ x w one. cc;
         link = λ x one. cc;
         none = λ z. nobody;
-        unmade = λ x y. h.fit.unmade early.unready early.alive;
+        lasts = λ x y. h.fit.lasts early.unready early.alive;
       };
     }
 
@@ -263,15 +263,13 @@ refused_fails before c started word kind f h good k is e =
     let life = Ended (error.Io f) in
     let t = record (seen (turned c kind) [] (lives_as c life) [] started) { told = true } in
     let lived = subst (λ (x : Life). TiedLife l0 b.created x) e h0.life in
-    let unmade = h.fit.unmade (ap is_ready e) (ap has_ended e) in
-    let unshown : b.created ≡ 0 = h0.creation.before unmade.1 in
     let over : l ≡ record (refused_in l0 c.turns (error.Io f)) { heard = refused f } = refused_is l0 c.turns b.created f lived in
     let own_ledger : now.link c.single.link ≡ l = ap (heard_by b c) (book_news b c started kind (refused f) h0 is) in
     let said = setup_hears l0 c.turns (refused f) conn.info started conn.life tt h0.setup in
-    let tied : Tied (entered now (action.Created (Some (error.Io f)))) t = heard_tied b c started word (b.created + 1) (b.failed || true) true kind conn.info life conn.fresh [] [] l h0 (shown_creation b.created) good (λ some none. absurd (omega arith)) own_ledger
+    let tied : (created : ℕ) (halted : Bool) → created ≢ 0 → Tied (record now { created = created; failed = halted }) t = λ created halted some. heard_tied b c started word created halted true kind conn.info life conn.fresh [] [] l h0 (record { before = λ z. cc; after = λ z. some }) good (λ z. some) own_ledger
     (record {
       starts = heard_starts l0 c.turns (refused f);
-      lived = subst (λ (x : Ledger). TiedLife x (b.created + 1) life) (sym over) (lived.1, ap (λ last. owed_by (lasting last (by_opening (error.Io f)))) lived.3, λ x fails z. absurd (omega arith), lived.0);
+      lived = subst (λ (x : Ledger). TiedLife x created life) (sym over) (lived.1, ap (λ last. owed_by (lasting last (by_opening (error.Io f)))) lived.3, λ x fails. some, lived.0);
       creds = record { wanted_is = ap (λ (x : Ledger). x.creds.wanted) over ∙ h0.creds.wanted_is; sought = tt };
       renewal_is = renewal_ended l0 l conn.renewal conn.life (timed_hear l0 c.turns (refused f)) (heard_starts l0 c.turns (refused f)) h0.renewal;
       said = record { info_is = said.info_is; sent = said.sent; said = tt };
@@ -285,10 +283,11 @@ refused_fails before c started word kind f h good k is e =
     record {
       stands = all_stand-append before (turn_of c word kind ∷ []) h.sound.stands (may_turn before c started word kind h good, tt);
       fails = ap (λ (x : Book). failure_in (x.link c.single.link).end) book_is ∙ ap (λ (x : Ledger). failure_in x.end) (own_ledger ∙ over) ∙ ap (λ last. failure_of (lasting last (by_opening (error.Io f)))) lived.3;
-      unshown = ap (λ (x : Book). x.created) book_is ∙ unshown;
-      unmade = unmade;
-      first = λ m less. ap (λ (x : Book). failure_in (x.link m).end) book_is ∙ unfailed (now.link m) (others_heard b c started kind b.created h0 good (λ some. some) m (λ same. omega arith)) unshown;
-      tied = subst (λ (x : Book). Tied (entered x (action.Created (Some (error.Io f)))) t) (sym book_is) tied;
+      lasts = h.fit.lasts (ap is_ready e) (ap has_ended e);
+      unshown = λ untold. ap (λ (x : Book). x.created) book_is ∙ h0.creation.before untold;
+      first = λ untold m less. ap (λ (x : Book). failure_in (x.link m).end) book_is ∙ unfailed (now.link m) (others_heard b c started kind b.created h0 good (λ some. some) m (λ same. omega arith)) (h0.creation.before untold);
+      tied = λ untold. subst (λ (x : Book). Tied (entered x (action.Created (Some (error.Io f)))) t) (sym book_is) (tied (b.created + 1) (b.failed || true) ((shown_creation b.created).after refl));
+      again = λ told. subst (λ (x : Book). Tied x t) (sym book_is) (tied b.created b.failed (h0.creation.after told));
     }
 
 -- a link that is up doesn't dial
@@ -350,12 +349,10 @@ closing_fails before c started word kind n x plain asks h good k is e =
     let l = b.link c.single.link in
     let lived0 = subst (λ (y : Life). TiedLife l0 (book before).created y) e h.sound.tied.life in
     let lived = subst (λ (y : Life). TiedLife l b.created y) e begins.holds.tied.life in
-    let unmade = h.fit.unmade (ap is_ready e) (ap has_ended e) in
-    let unshown : b.created ≡ 0 = begins.holds.tied.creation.before unmade.1 in
     let asked : (l0.asked && not (is_over l0)) ≡ true = (λ i. lived0.0 i && not (is_some (lived0.2 i))) in
     let must : ending l ≡ Some why = ap ending (begins.ledger ∙ plain_is l0 c.turns n plain) ∙ left_if l0.up (ending_alive (record l0 { heard = n })) _ lived0.1 ∙ taken_if (l0.asked && not (is_over l0)) (ending_asked (record l0 { heard = n }) n) None asked ∙ asks in
     let now = entered b (action.Close c.single.link) in
-    let tied = close_tied b t (b.created + 1) (b.failed || true) true why x false [] (ap (λ (y : Life). requests_in (wanted (link_in y).row) ++ awaited_ids (link_in y).queue) (sym e)) must refl (λ y fails z. absurd (omega arith)) (λ heard done. refl) (ap has_ended e) (λ some none. absurd (omega arith)) begins.holds.tied (shown_creation b.created) in
+    let tied : (created : ℕ) (halted : Bool) → created ≢ 0 → Tied (record now { created = created; failed = halted }) (seen f (act.Close ∷ []) (record conn { life = Ended x; told = true }) [] started) = λ created halted some. close_tied b t created halted true why x false [] (ap (λ (y : Life). requests_in (wanted (link_in y).row) ++ awaited_ids (link_in y).queue) (sym e)) must refl (λ y fails. some) (λ heard done. refl) (ap has_ended e) (λ z. some) begins.holds.tied (record { before = λ z. cc; after = λ z. some }) in
     let trace = trace_of_acts front f (act.Close ∷ []) in
     let shown : trace ≡ trace_of_acts front f [] ++ action.Close c.single.link ∷ [] = shown_more front c.single.link (length f.timers) (length f.sources) [] act.Close in
     let book_is : book trace ≡ now = book_of_more front f [] act.Close in
@@ -364,10 +361,11 @@ closing_fails before c started word kind n x plain asks h good k is e =
       fails = ap (λ (y : Book). failure_in (y.link c.single.link).end) book_is
           ∙ ap (λ (y : Ledger). failure_in y.end) (mine_noted l c.single.link (ends (b.turns - 1)))
           ∙ ap failure_of (ends_so l why lived.3 must);
-      unshown = ap (λ (y : Book). y.created) book_is ∙ unshown;
-      unmade = unmade;
-      first = λ m less. ap (λ (y : Book). failure_in (y.link m).end) book_is ∙ unfailed _ (others_kept b c.single.link (ends (b.turns - 1)) begins.holds.tied.others m (λ same. omega arith)) unshown;
-      tied = subst (λ (y : Book). Tied (entered y (action.Created (Some x))) (seen f (act.Close ∷ []) (record conn { life = Ended x; told = true }) [] started)) (sym book_is) tied;
+      lasts = h.fit.lasts (ap is_ready e) (ap has_ended e);
+      unshown = λ untold. ap (λ (y : Book). y.created) book_is ∙ begins.holds.tied.creation.before untold;
+      first = λ untold m less. ap (λ (y : Book). failure_in (y.link m).end) book_is ∙ unfailed _ (others_kept b c.single.link (ends (b.turns - 1)) begins.holds.tied.others m (λ same. omega arith)) (begins.holds.tied.creation.before untold);
+      tied = λ untold. subst (λ (y : Book). Tied (entered y (action.Created (Some x))) (seen f (act.Close ∷ []) (record conn { life = Ended x; told = true }) [] started)) (sym book_is) (tied (b.created + 1) (b.failed || true) ((shown_creation b.created).after refl));
+      again = λ told. subst (λ (y : Book). Tied y (seen f (act.Close ∷ []) (record conn { life = Ended x; told = true }) [] started)) (sym book_is) (tied b.created b.failed (begins.holds.tied.creation.after told));
     }
 
 -- the time is over: where the connect isn't answered, the opening has failed

@@ -421,7 +421,7 @@ setting_fit c link after was greeting fresh e h k = record {
   setup = λ x u is. (let same : after ≡ x = cc in subst (IsFit c.size c.boundary) same k);
   link = λ x is. cc;
   none = λ n. h.none (λ x r. (let no : SettingUp link was ≡ Ready x = sym e ∙ r in cc));
-  unmade = λ x y. h.unmade (ap is_ready e) (ap has_ended e);
+  lasts = λ x y. h.lasts (ap is_ready e) (ap has_ended e);
 }
 
 -- its waits stay as long as it is set up
@@ -454,7 +454,7 @@ wanting_fit c link after e h k = record {
   setup = λ x u is. cc;
   link = λ x is. cc;
   none = λ n. h.none (λ x r. (let no : Wanting link ≡ Ready x = sym e ∙ r in cc));
-  unmade = λ x y. h.unmade (ap is_ready e) (ap has_ended e);
+  lasts = λ x y. h.lasts (ap is_ready e) (ap has_ended e);
 }
 
 -- and its waits stay

@@ -83,7 +83,7 @@ fit_by c size bound link size_is bound_is life h = record {
   setup = λ x u same. (let no : Ready link ≡ SettingUp x u = sym life ∙ same in cc);
   link = λ x same. subst (λ n. IsFit n c.boundary x) (sym size_is) (subst (λ n. IsFit size n x) (sym bound_is) (h x (sym life ∙ same)));
   none = λ none. absurd (none link life);
-  unmade = λ x y. (let one : true ≡ false = sym (ap is_ready life) ∙ x in cc);
+  lasts = λ x y. (let one : true ≡ false = sym (ap is_ready life) ∙ x in cc);
 }
 
 -- which greeting it is
@@ -262,8 +262,8 @@ setup_read_as before c started word kind piece link greeting g h good k is e = b
     failed r x unset is_so =
         let closed = acted w act.Close in
         let v = opening_failed closed x in
-        let unmade = h.fit.unmade early.unready early.alive in
-        let over : v.conn.life ≡ Ended x = given_up_ended closed x unmade.0 unmade.1 in
+        let lasts = h.fit.lasts early.unready early.alive in
+        let over : v.conn.life ≡ Ended x = given_up_ended closed x lasts in
         let done : applied v = fails r x unset (ending_failed after x s.up is_so) in
         chosen applied (read.broken || (d.strange && is_ready v.conn.life)) (failed_at v fault.Parse v.conn.life) v
         (λ t. subst (λ (y : Life). applied (failed_at v fault.Parse y)) (sym over) done)
@@ -336,8 +336,8 @@ setup_read_as before c started word kind piece link greeting g h good k is e = b
     by_result r unset own y q x a (result.Failed z) j is_so =
         let closed = acted w act.Close in
         let v = opening_failed closed z in
-        let unmade = h.fit.unmade early.unready early.alive in
-        subst (λ (z : Work). applied (finish z)) (sym (left_if (is_ready v.conn.life) (noticed_each v (behind_first d.notices)) v (ap is_ready (given_up_ended closed z unmade.0 unmade.1)))) (failed r z unset is_so)
+        let lasts = h.fit.lasts early.unready early.alive in
+        subst (λ (z : Work). applied (finish z)) (sym (left_if (is_ready v.conn.life) (noticed_each v (behind_first d.notices)) v (ap is_ready (given_up_ended closed z lasts)))) (failed r z unset is_so)
     by_result r unset own y q x a result.NoMemory j is_so =
         let replies = cut after q.k (setup_shape (setup_steps after q.k)) in
         absurd (judged_memory (setup info (has_user greeting)) replies (ap (judged_by (setup info (has_user greeting))) (sym a.verdict_is) ∙ j))

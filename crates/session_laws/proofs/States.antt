@@ -20,13 +20,13 @@ pub record IsFit (size bound : ℕ) (link : LinkState) : Type 0 where
   pub within : length link.queue ≤ size
 
 -- where a link is up, it is so, also before it is set up; where none is ready, nobody waits for a place; and until one is, or the
--- opening has failed, that wasn't told, and no attempt follows
+-- opening has failed, no attempt follows
 pub record IsFitIn (c : MultiplexedConnection) : Type 0 where
   pub wanting : (link : LinkState) → c.life ≡ Wanting link → IsFit c.size c.boundary link
   pub setup : (link : LinkState) (greeting : Greeting) → c.life ≡ SettingUp link greeting → IsFit c.size c.boundary link
   pub link : (link : LinkState) → c.life ≡ Ready link → IsFit c.size c.boundary link
   pub none : ((link : LinkState) → c.life ≡ Ready link → ⊥) → c.admitted ≡ []
-  pub unmade : is_ready c.life ≡ false → has_ended c.life ≡ false → (c.last ≡ true) × (c.told ≡ false)
+  pub lasts : is_ready c.life ≡ false → has_ended c.life ≡ false → c.last ≡ true
 
 -- nothing moves: what is in the queue is held back, also a setup; those that wait for a place find the queue full; new
 -- credentials that are to be told have their timer, and wait for their link, which is held back; once the connect is answered,

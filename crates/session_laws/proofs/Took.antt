@@ -135,7 +135,7 @@ took_applied before c started word count kind h good k is can = by_life c.single
           setup = λ x u r. cc;
           link = λ x r. cc;
           none = λ none. h.fit.none (λ x r. (let no : Wanting link ≡ Ready x = sym e ∙ r in cc));
-          unmade = λ x y. h.fit.unmade (ap is_ready e) (ap has_ended e);
+          lasts = λ x y. h.fit.lasts (ap is_ready e) (ap has_ended e);
         })
     by_life (SettingUp link greeting) e =
         let b = book before in
@@ -163,7 +163,7 @@ took_applied before c started word count kind h good k is can = by_life c.single
           setup = wrote_fit_set conn.size conn.boundary link count greeting (h.fit.setup link greeting e);
           link = λ x r. cc;
           none = λ none. h.fit.none (λ x r. (let no : SettingUp link greeting ≡ Ready x = sym e ∙ r in cc));
-          unmade = λ x y. h.fit.unmade (ap is_ready e) (ap has_ended e);
+          lasts = λ x y. h.fit.lasts (ap is_ready e) (ap has_ended e);
         })
     by_life (Ready link) e =
         let b = book before in
@@ -191,5 +191,5 @@ took_applied before c started word count kind h good k is can = by_life c.single
           setup = λ x u r. cc;
           link = wrote_fit conn.size conn.boundary link count (h.fit.link link e);
           none = λ none. absurd (none (wrote_of link count) refl);
-          unmade = λ x y. cc;
+          lasts = λ x y. cc;
         })
