@@ -1,5 +1,5 @@
 -- The opening of the connection's link has failed, which is shown; and a link that is closed before it is set up.
-use Rattle.std.proofs.Common.{◌≡◌, ◌≢◌, ℕ, ◌+◌, ◌-◌, ◌==◌, if◌then◌else◌, Bool, true, false, Option, List, [], ◌∷◌, ◌++◌, length, Some, None, refl, sym, ap, ◌∙◌, subst, arith, ◌||◌, ◌<◌}
+use Rattle.std.proofs.Common.{◌≡◌, ◌≢◌, ℕ, ◌+◌, ◌-◌, ◌==◌, if◌then◌else◌, Bool, true, false, List, [], ◌∷◌, ◌++◌, length, Some, None, refl, sym, ap, ◌∙◌, subst, arith, ◌||◌, ◌<◌}
 use Rattle.std.proofs.lemmas.List.{append-nil}
 use Rattle.containers.proofs.Choices.{by_test, taken_if, left_if, both_left, both_right, eq_from, ne_from, not_both}
 use Rattle.redis_error.specs.declared.redis_error.RedisError.{RedisError}

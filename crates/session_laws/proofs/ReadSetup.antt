@@ -38,8 +38,8 @@ use Rattle.mux_conn.specs.declared.life.Greeting.{Greeting}
 use Rattle.mux_conn.specs.declared.life.Greeting.TheVariants as greet
 use Rattle.mux_conn.specs.declared.life.Life.{Life}
 use Rattle.mux_conn.specs.declared.life.Life.TheVariants.{Wanting, SettingUp, Ended, Ready}
-use Rattle.mux_conn.specs.Connection.{Work, acted, at_life, is_ready, with_link, with_setup}
-use Rattle.mux_conn.specs.Effects.{all_fresh, answered_setup, behind_first, broken_at, failed_at, greeted, greeted_by, greeting_error, greeting_queued, has_user, heard_on, judged_by, made_ready, noticed_each, opening_failed, read_setup, set_up_by, sets_up, setup_id, setup_queued, steps_of, told_each}
+use Rattle.mux_conn.specs.Connection.{Work, acted, is_ready, with_setup}
+use Rattle.mux_conn.specs.Effects.{answered_setup, behind_first, broken_at, failed_at, greeted, greeted_by, greeting_error, greeting_queued, has_user, heard_on, judged_by, made_ready, noticed_each, opening_failed, read_setup, set_up_by, sets_up, setup_id, setup_queued, steps_of, told_each}
 use Rattle.mux_conn.specs.Requests.{is_open_at, name_at}
 use Rattle.shared_session.specs.declared.core_state.Core.{Core}
 use Rattle.shared_session.specs.Turn.{is_bad, with_work}

@@ -58,10 +58,10 @@ use Rattle.driver_model.specs.News.{News, came}
 -- messages the queue of its connection's link holds, at how many unwritten bytes none starts, how many permits there are, if
 -- they are counted, and how many are free; what is heard beside replies, what of that which came is still to be told, and whether
 -- the end of the link is; what the session is; what is said to the server before the first request, and its credentials
--- that come of sources; its connection's life, whether it was told to be ready, or not to be, and its requests, those that wait for the connection, those that wait for a place, those
--- that came in this turn and those that were moved in it, whose waits aren't shown yet; the one that is being let in; the
--- requests that are settled and not answered yet; and the numbers of the messages that started behind the setups, in order: a
--- request's, or AUTH's
+-- that come of sources; its connection's life, whether it was told that it is ready, or that its opening failed, its requests,
+-- those that wait for the connection, those that wait for a place, those that came in this turn and those that were moved in it,
+-- whose waits aren't shown yet; the one that is being let in; the requests that are settled and not answered yet; and the numbers
+-- of the messages that started behind the setups, in order: a request's, or AUTH's
 pub record Inner : Type 0 where
   pub turns : ℕ
   pub links : ℕ
