@@ -20,7 +20,7 @@ use Rattle.link_core.specs.Waiting.{without}
 use Rattle.mux_conn.specs.declared.connection.MultiplexedConnection.{MultiplexedConnection}
 use Rattle.mux_conn.specs.declared.life.Greeting.{Greeting}
 use Rattle.mux_conn.specs.declared.life.Life.{Life}
-use Rattle.mux_conn.specs.declared.life.Life.TheVariants.{Dialing, Wanting, SettingUp, Ready, Ended}
+use Rattle.mux_conn.specs.declared.life.Life.TheVariants.{Resting, Dialing, Wanting, SettingUp, Ready, Ended}
 use Rattle.mux_conn.specs.declared.request.Pending.{Pending}
 use Rattle.mux_conn.specs.declared.request.Progress.TheVariants as progress
 use Rattle.mux_conn.specs.declared.request.Request.{Request}
@@ -74,6 +74,7 @@ written_from p w (Ready l) e h =
       gone = subst (λ (x : LinkState). without x.queue p ≡ x.queue) same h.gone;
     })
     (λ f. h)
+written_from p w Resting e h = h
 written_from p w Dialing e h = h
 written_from p w (Wanting l) e h = absurd (not_wanting h.link l (sym h.up ∙ e))
 written_from p w (SettingUp l greeting) e h = absurd (not_set_up h.link l greeting (sym h.up ∙ e))

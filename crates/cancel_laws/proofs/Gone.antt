@@ -4,7 +4,7 @@ use Rattle.containers.proofs.Choices.{ne_test}
 use Rattle.link_core.specs.declared.message.Entry.{Entry}
 use Rattle.mux_conn.specs.declared.act.LinkAct.{LinkAct}
 use Rattle.mux_conn.specs.declared.life.Life.{Life}
-use Rattle.mux_conn.specs.declared.life.Life.TheVariants.{Dialing, Wanting, SettingUp, Ready, Ended}
+use Rattle.mux_conn.specs.declared.life.Life.TheVariants.{Resting, Dialing, Wanting, SettingUp, Ready, Ended}
 use Rattle.mux_conn.specs.declared.request.Progress.{Progress}
 use Rattle.mux_conn.specs.declared.request.Progress.TheVariants as progress
 use Rattle.mux_conn.specs.declared.request.Request.{Request}
@@ -18,8 +18,9 @@ use Rattle.cancel_laws.proofs.Names.{IsOwn, own_push}
 use Rattle.cancel_laws.proofs.Links.{NoneOf, NoneWanted, none_push, none_without, none_started, none_came, quiet_behind, quiet_starts, quiet_came, quiet_silenced, quiet_stays}
 use Rattle.cancel_laws.proofs.Kept.{IsKept, IsKeptThere, There, kept_there, CanAsk}
 
--- the link has been set up, and nobody awaits message p in its queue
+-- the link has been set up, and nobody awaits message p in its queue; or there is none
 abbrev pub NoneQueued : ℕ → Life → Type 0
+NoneQueued p Resting = Unit {0}
 NoneQueued p Dialing = ⊥
 NoneQueued p (Wanting l) = ⊥
 NoneQueued p (SettingUp l greeting) = ⊥
@@ -28,6 +29,7 @@ NoneQueued p (Ended e) = Unit {0}
 
 -- nor in its row
 abbrev pub NoneInRow : ℕ → Life → Type 0
+NoneInRow p Resting = Unit {0}
 NoneInRow p Dialing = Unit {0}
 NoneInRow p (Wanting l) = Unit {0}
 NoneInRow p (SettingUp l greeting) = Unit {0}
@@ -56,6 +58,7 @@ within_kept r p q now count l = omega (arith, progress_count r q now count)
 
 -- a cancel puts nothing into the queue
 none_cancelled : (p q : ℕ) (life : Life) → NoneQueued p life → NoneQueued p (cancelled_in life q)
+none_cancelled p q Resting h = h
 none_cancelled p q Dialing h = h
 none_cancelled p q (Wanting l) h = h
 none_cancelled p q (SettingUp l greeting) h = h
@@ -107,6 +110,7 @@ gone_there n p = record {
   write = λ r l k h. record { there = h.there; own = h.own; apart = h.apart; past = h.past; seated = h.seated; none = h.none };
   come = λ r l what piece h. record { there = h.there; own = h.own; apart = h.apart; past = h.past; seated = h.seated; none = none_came p what l piece h.none };
   end = λ r life e h. record { there = h.there; own = h.own; apart = h.apart; past = h.past; seated = h.seated; none = tt };
+  rest = λ r life h. record { there = h.there; own = h.own; apart = h.apart; past = h.past; seated = h.seated; none = tt };
 }
 
 -- so each part of a turn does
@@ -165,6 +169,7 @@ away_kept n p = record {
   write = λ lim r l ms xs k h. record { gone = (gone_there n p).write r l k h.gone; unmoved = h.unmoved };
   come = λ lim r l ms xs what piece h. record { gone = (gone_there n p).come r l what piece h.gone; unmoved = h.unmoved };
   end = λ lim r life ms xs e h. record { gone = (gone_there n p).end r life e h.gone; unmoved = h.unmoved };
+  rest = λ lim r life ms xs h. record { gone = (gone_there n p).rest r life h.gone; unmoved = h.unmoved };
   show = λ lim r life ms xs a plain h. record { gone = h.gone; unmoved = h.unmoved };
   calm = λ lim r life ms xs h. record { gone = h.gone; unmoved = tt };
 }
@@ -185,6 +190,7 @@ pub record IsHushed (n p : ℕ) (r : List Request) (life : Life) : Type 0 where
 
 -- a cancel makes nobody await a message
 quiet_cancelled : (p q : ℕ) (life : Life) → NoneInRow p life → NoneInRow p (cancelled_in life q)
+quiet_cancelled p q Resting h = h
 quiet_cancelled p q Dialing h = h
 quiet_cancelled p q (Wanting l) h = h
 quiet_cancelled p q (SettingUp l greeting) h = h
@@ -214,6 +220,7 @@ hushed_there n p = record {
   write = λ r l k h. record { gone = (gone_there n p).write r l k h.gone; quiet = h.quiet };
   come = λ r l what piece h. record { gone = (gone_there n p).come r l what piece h.gone; quiet = quiet_came p what l piece h.quiet };
   end = λ r life e h. record { gone = (gone_there n p).end r life e h.gone; quiet = tt };
+  rest = λ r life h. record { gone = (gone_there n p).rest r life h.gone; quiet = tt };
 }
 
 -- so each part of a turn does
@@ -226,6 +233,7 @@ hushed_asks n p m o = record { ask = λ lim r life ms xs h. record { gone = gone
 
 -- where nobody awaits it, its verdict is not wanted
 pub quiet_life : (p : ℕ) (life : Life) → NoneInRow p life → hushed_life p life ≡ life
+quiet_life p Resting h = refl
 quiet_life p Dialing h = refl
 quiet_life p (Wanting l) h = refl
 quiet_life p (SettingUp l greeting) h = refl

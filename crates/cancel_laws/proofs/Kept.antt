@@ -35,14 +35,14 @@ use Rattle.mux_conn.specs.declared.act.LinkAct.TheVariants as act
 use Rattle.mux_conn.specs.declared.connection.MultiplexedConnection.{MultiplexedConnection}
 use Rattle.mux_conn.specs.declared.life.Greeting.{Greeting}
 use Rattle.mux_conn.specs.declared.life.Life.{Life}
-use Rattle.mux_conn.specs.declared.life.Life.TheVariants.{Dialing, Wanting, SettingUp, Ready, Ended}
+use Rattle.mux_conn.specs.declared.life.Life.TheVariants.{Resting, Dialing, Wanting, SettingUp, Ready, Ended}
 use Rattle.mux_conn.specs.declared.request.Pending.{Pending}
 use Rattle.mux_conn.specs.declared.request.Progress.TheVariants as progress
 use Rattle.mux_conn.specs.declared.request.Request.{Request}
 use Rattle.mux_conn.specs.declared.request.Waiting.{Waiting}
-use Rattle.mux_conn.specs.Connection.{Work, acted, at_life, with_link, with_setup, with_wanting, has_room, admits_none, is_ready, is_due}
+use Rattle.mux_conn.specs.Connection.{Work, acted, opened_on, at_life, with_link, with_setup, with_wanting, has_room, admits_none, is_ready, is_due}
 use Rattle.mux_conn.specs.Requests.{is_open_at, is_waiting_at, is_admitted_at, name_at, with_permits, at_progress, answered}
-use Rattle.mux_conn.specs.Effects.{new_link, settled_one, settled_each, failed_each, nobody_waits, waiting_failed, ended, opening_failed, authorized_at, come_up, comes_to_want, connected_at, unauthorized_at, with_credentials, refused_at, overdue_at, taken_at, failed_at, broken_at, read_to, read_at, shut_at, all_fresh, made_ready, steps_of, greeting_queued, greeting_error, greeted, greeted_by, is_unreadable, dropped_at, dropped_by, sets_up, judged_by, set_up_by, answered_setup, applied, cancelled_in, left, timed_out, all_answered, behind_first, cut_short, heard_on, notice_act, noticed, noticed_each, parted, told_each}
+use Rattle.mux_conn.specs.Effects.{afresh, creation_told, given_up, new_link, settled_one, settled_each, failed_each, nobody_waits, waiting_failed, ended, opening_failed, authorized_at, come_up, comes_to_want, connected_at, unauthorized_at, with_credentials, refused_at, overdue_at, taken_at, failed_at, broken_at, read_to, read_at, shut_at, all_fresh, made_ready, steps_of, greeting_queued, greeting_error, greeted, greeted_by, is_unreadable, dropped_at, dropped_by, sets_up, judged_by, set_up_by, answered_setup, applied, cancelled_in, left, timed_out, all_answered, behind_first, cut_short, heard_on, notice_act, noticed, noticed_each, parted, told_each}
 use Rattle.mux_conn.specs.Renewals as renewals
 use Rattle.mux_conn.specs.Renewals.{renewing, expecting, takes_more, late_for, is_unanswered, renewal_id, renewal_queued, asked_next, renewal_act, renewal_timed, renewal_asked, renewal_told, renewal_moved}
 use Rattle.mux_conn.specs.Passes.{shown_each, greeting_act, greeted_each, started_at, started, message_of, placed_at, told_at_place, seated, still_admitted, moved_up, moved_up_each, moved_up_all, put_behind, seated_or_behind, permits_taken, holding, took_shown, took as holds, timer_asked, let_in, admitted_at, admitted, still_waiting, admitted_each, passed}
@@ -106,6 +106,7 @@ pub record IsKept (P : Option ℕ → List Request → Life → List ℕ → Lis
   pub write : (lim : Option ℕ) (r : List Request) (l : LinkState) (ms : List ℕ) (xs : List LinkAct) (k : ℕ) → P lim r (Ready l) ms xs → P lim r (Ready (wrote_of l k)) ms xs
   pub come : (lim : Option ℕ) (r : List Request) (l : LinkState) (ms : List ℕ) (xs : List LinkAct) (h : Hearing) (piece : List ℕ) → P lim r (Ready l) ms xs → P lim r (Ready (piece_read h true l piece).link) ms xs
   pub end : (lim : Option ℕ) (r : List Request) (life : Life) (ms : List ℕ) (xs : List LinkAct) (e : RedisError) → P lim r life ms xs → P lim r (Ended e) ms xs
+  pub rest : (lim : Option ℕ) (r : List Request) (life : Life) (ms : List ℕ) (xs : List LinkAct) → P lim r life ms xs → P lim r Resting ms xs
   pub show : (lim : Option ℕ) (r : List Request) (life : Life) (ms : List ℕ) (xs : List LinkAct) (a : LinkAct) → IsPlain a → P lim r life ms xs → P lim r life ms (xs ++ a ∷ [])
   pub calm : (lim : Option ℕ) (r : List Request) (life : Life) (ms : List ℕ) (xs : List LinkAct) → P lim r life ms xs → P lim r life [] xs
 
@@ -128,6 +129,7 @@ pub record IsKeptThere (P : List Request → Life → Type 0) : Type 0 where
   pub write : (r : List Request) (l : LinkState) (k : ℕ) → P r (Ready l) → P r (Ready (wrote_of l k))
   pub come : (r : List Request) (l : LinkState) (h : Hearing) (piece : List ℕ) → P r (Ready l) → P r (Ready (piece_read h true l piece).link)
   pub end : (r : List Request) (life : Life) (e : RedisError) → P r life → P r (Ended e)
+  pub rest : (r : List Request) (life : Life) → P r life → P r Resting
 
 -- a fact of the requests and the life, whatever the limit is, and whatever a turn has moved and shown
 abbrev pub There : (List Request → Life → Type 0) → Option ℕ → List Request → Life → List ℕ → List LinkAct → Type 0
@@ -155,6 +157,7 @@ kept_there k = record {
   write = λ lim r l ms xs n h. k.write r l n h;
   come = λ lim r l ms xs what piece h. k.come r l what piece h;
   end = λ lim r life ms xs e h. k.end r life e h;
+  rest = λ lim r life ms xs h. k.rest r life h;
   show = λ lim r life ms xs a p h. h;
   calm = λ lim r life ms xs h. h;
 }
@@ -185,6 +188,7 @@ unlimited_kept = record {
   write = λ lim r l ms xs n h. h;
   come = λ lim r l ms xs what piece h. h;
   end = λ lim r life ms xs e h. h;
+  rest = λ lim r life ms xs h. h;
   show = λ lim r life ms xs a p h. h;
   calm = λ lim r life ms xs h. h;
 }
@@ -269,9 +273,20 @@ faulted_kept k w out h =
     let d = parted (cut_short w) in
     waiting_kept k (settled_each d out) error.Closed (settled_kept k d out (parted_kept k (cut_short w) (over_kept k w error.Closed act.Close (λ n. refl) h)))
 
--- the end of an opening
+-- what is shown unless it was before
+pub creation_kept : {P : Option ℕ → List Request → Life → List ℕ → List LinkAct → Type 0} → IsKept P → (w : Work) (e : Option RedisError) → At P w → At P (creation_told w e)
+creation_kept {P = P} k w e h =
+    chosen (λ (xs : List LinkAct). P w.conn.limit w.conn.requests w.conn.life w.conn.moved xs) w.conn.told w.acts (w.acts ++ act.Created e ∷ [])
+    (λ t. h)
+    (λ f. k.show w.conn.limit w.conn.requests w.conn.life w.conn.moved w.acts (act.Created e) (λ n. refl) h)
+
+-- the end of an opening, after which another attempt may follow
 opening_kept : {P : Option ℕ → List Request → Life → List ℕ → List LinkAct → Type 0} → IsKept P → (w : Work) (e : RedisError) → At P w → At P (opening_failed w e)
-opening_kept k w e h = waiting_kept k (acted (at_life w (Ended e)) (act.Created (Some e))) e (over_kept k w e (act.Created (Some e)) (λ n. refl) h)
+opening_kept {P = P} k w e h =
+    let over : At P (at_life w (Ended e)) = k.end w.conn.limit w.conn.requests w.conn.life w.conn.moved w.acts e h in
+    chosen (At P) w.conn.last (given_up w e) (record w { conn = afresh w.conn })
+    (λ t. waiting_kept k (creation_told (at_life w (Ended e)) (Some e)) e (creation_kept k (at_life w (Ended e)) (Some e) over))
+    (λ f. k.calm w.conn.limit w.conn.requests Resting w.conn.moved w.acts (k.rest w.conn.limit w.conn.requests w.conn.life w.conn.moved w.acts h))
 
 -- the end of one whose link is closed
 given_up_kept : {P : Option ℕ → List Request → Life → List ℕ → List LinkAct → Type 0} → IsKept P → (w : Work) (e : RedisError) → At P w → At P (opening_failed (acted w act.Close) e)
@@ -282,8 +297,8 @@ given_up_kept k w e h = opening_kept k (acted w act.Close) e (k.show w.conn.limi
 -- a link is set up, and a source of new credentials is asked for, where they are to come
 made_ready_kept : {P : Option ℕ → List Request → Life → List ℕ → List LinkAct → Type 0} → IsKept P → (w : Work) (l : LinkState) → P w.conn.limit w.conn.requests (Ready l) w.conn.moved w.acts → At P (made_ready w l)
 made_ready_kept {P = P} k w l g =
-    let d = acted (with_link (all_fresh w) l) (act.Created None) in
-    let h : At P d = k.show w.conn.limit w.conn.requests (Ready l) w.conn.moved w.acts (act.Created None) (λ n. refl) g in
+    let d = creation_told (opened_on (all_fresh w) l) None in
+    let h : At P d = creation_kept k (opened_on (all_fresh w) l) None g in
     chosen (At P) w.conn.renewal.wanted (acted d act.NeedRenewals) d (λ t. k.show d.conn.limit d.conn.requests d.conn.life d.conn.moved d.acts act.NeedRenewals (λ n. refl) h) (λ f. h)
 
 -- a link comes up, where the fact is true of it while it waits for credentials
@@ -305,6 +320,7 @@ connected_kept {P = P} k w Dialing g h =
     chosen (At P) w.conn.renewal.wanted (comes_to_want w link) (come_up w link)
     (λ t. k.show w.conn.limit w.conn.requests (Wanting link) w.conn.moved w.acts act.NeedCreds (λ n. refl) wanting)
     (λ f. come_up_kept k w link wanting)
+connected_kept k w Resting g h = h
 connected_kept k w (Wanting l) g h = h
 connected_kept k w (SettingUp l greeting) g h = h
 connected_kept k w (Ready l) g h = h
@@ -313,6 +329,7 @@ connected_kept k w (Ended e) g h = h
 -- credentials come
 authorized_kept : {P : Option ℕ → List Request → Life → List ℕ → List LinkAct → Type 0} → IsKept P → (w : Work) (c : Credentials) (life : Life) → P w.conn.limit w.conn.requests life w.conn.moved w.acts → At P w → At P (authorized_at w c life)
 authorized_kept k w c (Wanting l) g h = come_up_kept k (with_credentials w c) l g
+authorized_kept k w c Resting g h = h
 authorized_kept k w c Dialing g h = h
 authorized_kept k w c (SettingUp l greeting) g h = h
 authorized_kept k w c (Ready l) g h = h
@@ -321,6 +338,7 @@ authorized_kept k w c (Ended e) g h = h
 -- or there are none
 unauthorized_kept : {P : Option ℕ → List Request → Life → List ℕ → List LinkAct → Type 0} → IsKept P → (w : Work) (e : RedisError) (life : Life) → At P w → At P (unauthorized_at w e life)
 unauthorized_kept k w e (Wanting l) h = given_up_kept k w e h
+unauthorized_kept k w e Resting h = h
 unauthorized_kept k w e Dialing h = h
 unauthorized_kept k w e (SettingUp l greeting) h = h
 unauthorized_kept k w e (Ready l) h = h
@@ -328,6 +346,7 @@ unauthorized_kept k w e (Ended x) h = h
 
 -- the connect is refused
 refused_kept : {P : Option ℕ → List Request → Life → List ℕ → List LinkAct → Type 0} → IsKept P → (w : Work) (f : FaultKind) (life : Life) → At P w → At P (refused_at w f life)
+refused_kept k w f Resting h = h
 refused_kept k w f Dialing h = opening_kept k w (error.Io f) h
 refused_kept k w f (Wanting l) h = h
 refused_kept k w f (SettingUp l greeting) h = h
@@ -336,6 +355,7 @@ refused_kept k w f (Ended e) h = h
 
 -- the time to connect is over
 overdue_kept : {P : Option ℕ → List Request → Life → List ℕ → List LinkAct → Type 0} → IsKept P → (w : Work) (life : Life) → At P w → At P (overdue_at w life)
+overdue_kept k w Resting h = h
 overdue_kept k w Dialing h = given_up_kept k w (error.Io kinds.TimedOut) h
 overdue_kept k w (Wanting l) h = given_up_kept k w (error.Io kinds.TimedOut) h
 overdue_kept k w (SettingUp l greeting) h = given_up_kept k w (error.Io kinds.TimedOut) h
@@ -345,6 +365,7 @@ overdue_kept k w (Ended e) h = h
 -- bytes were taken
 taken_kept : {P : Option ℕ → List Request → Life → List ℕ → List LinkAct → Type 0} → IsKept P → (w : Work) (count : ℕ) (life : Life) → P w.conn.limit w.conn.requests life w.conn.moved w.acts → At P w → At P (taken_at w count life)
 taken_kept k w count (Ready l) g h = k.write w.conn.limit w.conn.requests l w.conn.moved w.acts count g
+taken_kept k w count Resting g h = h
 taken_kept k w count Dialing g h = h
 taken_kept k w count (Wanting l) g h = k.wait_on w.conn.limit w.conn.requests l (wrote_of l count) w.conn.moved w.acts (omega arith) g
 taken_kept k w count (SettingUp l greeting) g h = k.go_on w.conn.limit w.conn.requests l (wrote_of l count) greeting w.conn.moved w.acts (omega arith) g
@@ -353,6 +374,7 @@ taken_kept k w count (Ended e) g h = h
 -- a fault
 failed_kept : {P : Option ℕ → List Request → Life → List ℕ → List LinkAct → Type 0} → IsKept P → (w : Work) (f : LinkFault) (life : Life) → At P w → At P (failed_at w f life)
 failed_kept k w f (Ready l) h = faulted_kept k w (faulted (record { link = l; out = [] }) (felt w.conn.hears f)).out h
+failed_kept k w f Resting h = h
 failed_kept k w f Dialing h = h
 failed_kept k w f (Wanting l) h = given_up_kept k w error.Closed h
 failed_kept k w f (SettingUp l greeting) h = given_up_kept k w (greeting_error greeting l.row f) h
@@ -361,6 +383,7 @@ failed_kept k w f (Ended e) h = h
 -- the stream of messages is dropped
 dropped_at_kept : {P : Option ℕ → List Request → Life → List ℕ → List LinkAct → Type 0} → IsKept P → (w : Work) (life : Life) → At P w → At P (dropped_at w life)
 dropped_at_kept k w (Ready l) h = faulted_kept k w (faulted (record { link = l; out = [] }) fault.Ended).out h
+dropped_at_kept k w Resting h = h
 dropped_at_kept k w Dialing h = given_up_kept k w error.Closed h
 dropped_at_kept k w (Wanting l) h = given_up_kept k w error.Closed h
 dropped_at_kept k w (SettingUp l greeting) h = given_up_kept k w error.Closed h
@@ -408,6 +431,7 @@ answered_setup_kept k w l m greeting ps (s ∷ ss) few g h =
 -- bytes come
 came_kept : {P : Option ℕ → List Request → Life → List ℕ → List LinkAct → Type 0} → IsKept P → (w : Work) (piece : List ℕ) (life : Life) → P w.conn.limit w.conn.requests life w.conn.moved w.acts → At P w → At P (read_at w piece life)
 came_kept k w piece (Ready l) g h = read_kept k w (piece_read w.conn.hears true l piece) (k.come w.conn.limit w.conn.requests l w.conn.moved w.acts w.conn.hears piece g)
+came_kept k w piece Resting g h = h
 came_kept k w piece Dialing g h = h
 came_kept k w piece (Wanting l) g h =
     let r = piece_read hearing.Nothing false l piece in
@@ -421,6 +445,7 @@ came_kept k w piece (Ended e) g h = h
 -- the shutdown
 shut_kept : {P : Option ℕ → List Request → Life → List ℕ → List LinkAct → Type 0} → IsKept P → (w : Work) (life : Life) → At P w → At P (shut_at w life)
 shut_kept k w (Ready l) h = ended_kept k w (closed_all (record { link = l; out = [] })).out h
+shut_kept k w Resting h = waiting_kept k w error.Closed h
 shut_kept k w Dialing h = ended_kept k w [] h
 shut_kept k w (Wanting l) h = ended_kept k w [] h
 shut_kept k w (SettingUp l greeting) h = ended_kept k w [] h
@@ -485,6 +510,7 @@ started_at_kept k w (Wanting l) g h = h
 started_at_kept k w (SettingUp l greeting) g h =
     let s = started_all (record { link = l; out = [] }) in
     greeted_each_kept k (with_setup w s.link greeting) greeting s.out (k.go_on w.conn.limit w.conn.requests l s.link greeting w.conn.moved w.acts (count_started l) g)
+started_at_kept k w Resting g h = h
 started_at_kept k w Dialing g h = h
 started_at_kept k w (Ended e) g h = h
 
@@ -501,6 +527,7 @@ renewal_moved_kept {P = P} k w (Ready l) (c ∷ cs) g h =
     chosen (At P) (holds_back l) w (renewal_told w l c cs) (λ t. h)
     (λ f. k.show w.conn.limit w.conn.requests (Ready (begun l q)) w.conn.moved w.acts (renewal_act (start_of l.started q)) (λ n. refl) (k.renew w.conn.limit w.conn.requests l w.conn.moved w.acts q refl g))
 renewal_moved_kept k w (Ready l) [] g h = h
+renewal_moved_kept k w Resting cs g h = h
 renewal_moved_kept k w Dialing cs g h = h
 renewal_moved_kept k w (Wanting l) cs g h = h
 renewal_moved_kept k w (SettingUp l greeting) cs g h = h
@@ -537,6 +564,7 @@ seated_at_kept k w q (Ready l) t g h =
     let r = w.conn.requests in
     let ms = w.conn.moved in
     started_kept k (told_at_place d q) (told_kept k d q (k.place lim r l (ms ++ q.number ∷ []) w.acts q t (k.note lim r (Ready l) ms w.acts q.number t g)))
+seated_at_kept k w q Resting t g h = started_kept k (told_at_place w q) (told_kept k w q h)
 seated_at_kept k w q Dialing t g h = started_kept k (told_at_place w q) (told_kept k w q h)
 seated_at_kept k w q (Wanting l) t g h = started_kept k (told_at_place w q) (told_kept k w q h)
 seated_at_kept k w q (SettingUp l greeting) t g h = started_kept k (told_at_place w q) (told_kept k w q h)
@@ -610,6 +638,7 @@ admitted_at_kept : {P : Option ℕ → List Request → Life → List ℕ → Li
 admitted_at_kept k w q (Ready l) t h =
     seated_or_behind_kept k (let_in w q) q (let_in_admitted w q t) (let_in_kept k w q t h)
 admitted_at_kept k w q (Ended e) t h = answered_kept k w q.number (outcome.Fault e) h
+admitted_at_kept k w q Resting t h = h
 admitted_at_kept k w q Dialing t h = h
 admitted_at_kept k w q (Wanting l) t h = h
 admitted_at_kept k w q (SettingUp l greeting) t h = h
@@ -643,6 +672,7 @@ written_at_kept {P = P} k w (SettingUp l greeting) g h =
     chosen (At P) (can_offer l.outbox) _ w
     (λ t. k.show w.conn.limit w.conn.requests (SettingUp (offered_of l) greeting) w.conn.moved w.acts (act.Write l.outbox.unwritten) (λ n. refl) (k.go_on w.conn.limit w.conn.requests l (offered_of l) greeting w.conn.moved w.acts (omega arith) g))
     (λ f. h)
+written_at_kept k w Resting g h = h
 written_at_kept k w Dialing g h = h
 written_at_kept k w (Wanting l) g h = h
 written_at_kept k w (Ended e) g h = h

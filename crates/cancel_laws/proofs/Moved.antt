@@ -17,7 +17,7 @@ use Rattle.link_laws.proofs.Cancels.{start_alike}
 use Rattle.mux_conn.specs.declared.act.LinkAct.TheVariants as act
 use Rattle.mux_conn.specs.declared.connection.MultiplexedConnection.{MultiplexedConnection}
 use Rattle.mux_conn.specs.declared.life.Life.{Life}
-use Rattle.mux_conn.specs.declared.life.Life.TheVariants.{Dialing, Wanting, SettingUp, Ready, Ended}
+use Rattle.mux_conn.specs.declared.life.Life.TheVariants.{Resting, Dialing, Wanting, SettingUp, Ready, Ended}
 use Rattle.mux_conn.specs.declared.request.Progress.TheVariants as progress
 use Rattle.mux_conn.specs.declared.request.Request.{Request}
 use Rattle.mux_conn.specs.declared.request.Waiting.{Waiting}
@@ -50,6 +50,7 @@ bare_asked p c name packed shape awaited timeout l =
 
 -- the cancel of request p itself
 own_life : (p : ℕ) (life : Life) → NoneQueued p life → hushed_life p (cancelled_in life p) ≡ hushed_life p life
+own_life p Resting h = refl
 own_life p Dialing h = refl
 own_life p (Wanting l) h = refl
 own_life p (SettingUp l greeting) h = refl
@@ -70,6 +71,7 @@ own_left p c none =
 
 -- the cancel of another request, on the link
 other_life : (p q : ℕ) (life : Life) → hushed_life p (cancelled_in life q) ≡ cancelled_in (hushed_life p life) q
+other_life p q Resting = refl
 other_life p q Dialing = refl
 other_life p q (Wanting l) = refl
 other_life p q (SettingUp l greeting) = refl
@@ -152,6 +154,7 @@ bare_started_at n p w (Ready l) none =
     let link = hushed_started p l none in
     let out = (start_alike p l (hushed_link p l) [] (alike_hushed p l)).out in
     bare_shown n p (with_link w s.link) s.out ∙ (λ i. starts_with (bare n p w) (record { link = link i; out = out i }))
+bare_started_at n p w Resting none = refl
 bare_started_at n p w Dialing none = refl
 bare_started_at n p w (Wanting l) none = absurd none
 bare_started_at n p w (SettingUp l greeting) none = absurd none
@@ -172,6 +175,7 @@ bare_renewal_moved n p w (Ready l) (c ∷ cs) apart =
     either (bare n p) (holds_back l) w (renewal_told w l c cs) (bare n p w) (renewal_told (bare n p w) (hushed_link p l) c cs) (λ t. refl)
     (λ f. bare_acted n p d a (λ m. refl) ∙ ap (λ (k : LinkState). acted (with_link (renewing (bare n p w) (told_next w.conn.renewal cs)) k) a) (hushed_begun p l q apart))
 bare_renewal_moved n p w (Ready l) [] apart = refl
+bare_renewal_moved n p w Resting cs apart = refl
 bare_renewal_moved n p w Dialing cs apart = refl
 bare_renewal_moved n p w (Wanting l) cs apart = refl
 bare_renewal_moved n p w (SettingUp l greeting) cs apart = refl
@@ -222,6 +226,7 @@ bare_seated_at n p w q (Ready l) t g h =
     let k : At (There (IsGone n p)) d = (gone_kept n p).place w.conn.limit w.conn.requests l (w.conn.moved ++ q.number ∷ []) w.acts q t g in
     bare_started n p (told_at_place d q) (told_kept (gone_kept n p) d q k) ∙ ap started (bare_told n p d q k)
     ∙ ap (λ (x : Work). started (told_at_place x q)) (bare_placed n p w q l (other_test is_admitted w.conn.requests q.number p t g.seated))
+bare_seated_at n p w q Resting t g h = bare_started n p (told_at_place w q) (told_kept (gone_kept n p) w q h) ∙ ap started (bare_told n p w q h)
 bare_seated_at n p w q Dialing t g h = bare_started n p (told_at_place w q) (told_kept (gone_kept n p) w q h) ∙ ap started (bare_told n p w q h)
 bare_seated_at n p w q (Wanting l) t g h = bare_started n p (told_at_place w q) (told_kept (gone_kept n p) w q h) ∙ ap started (bare_told n p w q h)
 bare_seated_at n p w q (SettingUp l greeting) t g h = bare_started n p (told_at_place w q) (told_kept (gone_kept n p) w q h) ∙ ap started (bare_told n p w q h)
@@ -241,6 +246,7 @@ bare_moved_up n p w q h =
 
 -- whether the queue has room doesn't depend on the row
 room_same : (p count : ℕ) (life : Life) → has_room_at life count ≡ has_room_at (hushed_life p life) count
+room_same p count Resting = refl
 room_same p count Dialing = refl
 room_same p count (Wanting l) = refl
 room_same p count (SettingUp l greeting) = refl
@@ -320,6 +326,7 @@ bare_admitted_at n p w q (Ready l) t none h =
     bare_seated_or_behind n p (let_in w q) q (let_in_admitted w q t) (let_in_kept (gone_kept n p) w q t h)
     ∙ ap (λ (x : Work). seated_or_behind x q) (bare_let_in n p w q none (other_test is_waiting w.conn.requests q.number p t h.past))
 bare_admitted_at n p w q (Ended e) t none h = bare_answered n p w q.number (outcome.Fault e) h
+bare_admitted_at n p w q Resting t none h = refl
 bare_admitted_at n p w q Dialing t none h = refl
 bare_admitted_at n p w q (Wanting l) t none h = refl
 bare_admitted_at n p w q (SettingUp l greeting) t none h = refl
@@ -334,6 +341,7 @@ bare_admitted n p w q none h =
 
 -- where permits aren't counted, whether requests can be moved at all depends neither on the row nor on permits
 stuck_same : (p : ℕ) (life : Life) (lim : Option ℕ) (j k : ℕ) → lim ≡ None → admits_none_at life (has_no_permit lim j) ≡ admits_none_at (hushed_life p life) (has_no_permit lim k)
+stuck_same p Resting lim j k none = refl
 stuck_same p Dialing lim j k none = refl
 stuck_same p (Wanting l) lim j k none = refl
 stuck_same p (SettingUp l greeting) lim j k none = refl
@@ -372,11 +380,13 @@ bare_written_at n p w (Ready l) =
 bare_written_at n p w (Wanting l) = refl
 bare_written_at n p w (SettingUp l greeting) =
     either (bare n p) (can_offer l.outbox) _ w _ (bare n p w) (λ t. bare_acted n p (with_setup w (offered_of l) greeting) (act.Write l.outbox.unwritten) (λ m. refl)) (λ f. refl)
+bare_written_at n p w Resting = refl
 bare_written_at n p w Dialing = refl
 bare_written_at n p w (Ended e) = refl
 
 -- nor does it what a request waits for that waits for the connection
 early_same : (p : ℕ) (life : Life) → early_wait life ≡ early_wait (hushed_life p life)
+early_same p Resting = refl
 early_same p Dialing = refl
 early_same p (Wanting l) = refl
 early_same p (SettingUp l greeting) = refl
@@ -392,6 +402,7 @@ bare_wait n p w q (Some kind) =
 
 -- nor does who is the first of the queue depend on the row
 first_same : (p : ℕ) (life : Life) → first_queued life ≡ first_queued (hushed_life p life)
+first_same p Resting = refl
 first_same p Dialing = refl
 first_same p (Wanting l) = refl
 first_same p (SettingUp l greeting) = refl

@@ -13,7 +13,7 @@ use Rattle.link_core.specs.Link.{LinkState, Starting, Reading, entry_of, holds_b
 use Rattle.link_core.specs.Row.{silenced}
 use Rattle.link_core.specs.Waiting.{is_wanted, without}
 use Rattle.mux_conn.specs.declared.life.Life.{Life}
-use Rattle.mux_conn.specs.declared.life.Life.TheVariants.{Dialing, Wanting, SettingUp, Ready, Ended}
+use Rattle.mux_conn.specs.declared.life.Life.TheVariants.{Resting, Dialing, Wanting, SettingUp, Ready, Ended}
 use Rattle.mux_conn.specs.declared.request.Progress.{Progress}
 use Rattle.mux_conn.specs.declared.request.Progress.TheVariants as progress
 use Rattle.mux_conn.specs.declared.request.Request.{Request}
@@ -45,6 +45,7 @@ places p (q ∷ qs) = one p q.id + places p qs
 
 -- and on a link
 abbrev pub all_of : ℕ → Life → ℕ
+all_of p Resting = 0
 all_of p Dialing = 0
 all_of p (Wanting l) = 0
 all_of p (SettingUp l greeting) = 0
@@ -69,6 +70,7 @@ share r p = share_of (slice_get r p)
 
 -- a link that waits for credentials has no message, and one that is set up has one at most, that of the setup
 abbrev pub HasOne : Life → Type 0
+HasOne Resting = Unit {0}
 HasOne Dialing = Unit {0}
 HasOne (Wanting l) = count_on l ≤ 0
 HasOne (SettingUp l greeting) = count_on l ≤ 1
@@ -181,6 +183,7 @@ starts_same p s (q ∷ qs) =
 
 -- a cancel brings no message
 cancelled_once : (p q : ℕ) (life : Life) → all_of p (cancelled_in life q) ≤ all_of p life
+cancelled_once p q Resting = omega arith
 cancelled_once p q Dialing = omega arith
 cancelled_once p q (Wanting l) = omega arith
 cancelled_once p q (SettingUp l greeting) = omega arith
@@ -189,6 +192,7 @@ cancelled_once p q (Ended e) = omega arith
 
 -- it changes nothing of a setup
 cancelled_alone : (q : ℕ) (life : Life) → HasOne life → HasOne (cancelled_in life q)
+cancelled_alone q Resting h = h
 cancelled_alone q Dialing h = h
 cancelled_alone q (Wanting l) h = h
 cancelled_alone q (SettingUp l greeting) h = h
@@ -238,6 +242,7 @@ once_there p apart = record {
   come = λ r l what piece h. chosen (λ (x : Reading). IsOnce p r (Ready x.link)) l.broken (nothing_read l) (came_all what true l (l.rest ++ piece)) (λ t. h)
       (λ f. record { within = omega (arith, h.within, times_values p what (dealing_with l.row) (values (l.rest ++ piece))); alone = tt });
   end = λ r life e h. record { within = omega arith; alone = tt };
+  rest = λ r life h. record { within = omega arith; alone = tt };
 }
 
 -- so each part of a turn does

@@ -54,6 +54,7 @@ names_there ns = record {
   write = λ r l k h. h;
   come = λ r l what piece h. h;
   end = λ r life e h. h;
+  rest = λ r life h. h;
 }
 
 -- so each part of a turn does

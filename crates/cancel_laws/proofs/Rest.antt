@@ -13,7 +13,7 @@ use Rattle.mux_conn.specs.declared.act.LinkAct.TheVariants as act
 use Rattle.mux_conn.specs.declared.connection.MultiplexedConnection.{MultiplexedConnection}
 use Rattle.mux_conn.specs.declared.life.Greeting.{Greeting}
 use Rattle.mux_conn.specs.declared.life.Life.{Life}
-use Rattle.mux_conn.specs.declared.life.Life.TheVariants.{Dialing, Wanting, SettingUp, Ready, Ended}
+use Rattle.mux_conn.specs.declared.life.Life.TheVariants.{Resting, Dialing, Wanting, SettingUp, Ready, Ended}
 use Rattle.mux_conn.specs.declared.request.Waiting.{Waiting}
 use Rattle.mux_conn.specs.declared.renewal.Renewal.{Renewal}
 use Rattle.mux_conn.specs.Connection.{Work, acted, at_life, with_link, with_setup, has_no_permit, admits_none_at, admits_none, has_room, has_room_at, in_front, is_due, is_held_back, is_ready, are_some}
@@ -35,6 +35,7 @@ IsThrough l = (l.queue ≡ []) ⊎ (holds_back l ≡ true)
 
 -- so is a link that is up
 abbrev pub HasStartedAll : Life → Type 0
+HasStartedAll Resting = Unit {0}
 HasStartedAll Dialing = Unit {0}
 HasStartedAll (Wanting l) = Unit {0}
 HasStartedAll (SettingUp l greeting) = IsThrough l
@@ -43,6 +44,7 @@ HasStartedAll (Ended e) = Unit {0}
 
 -- all its bytes are offered, or an offer is unanswered
 abbrev pub HasOffered : Life → Type 0
+HasOffered Resting = Unit {0}
 HasOffered Dialing = Unit {0}
 HasOffered (Wanting l) = Unit {0}
 HasOffered (SettingUp l greeting) = can_offer l.outbox ≡ false
@@ -133,6 +135,7 @@ started_from w (SettingUp l greeting) e h =
     let s = started_all (record { link = l; out = [] }) in
     subst Through (sym (setup_shown (with_setup w s.link greeting) greeting s.out)) (record { queue = queue_starts (record { link = l; out = [] }) l.queue; renewed = λ t. cc })
 started_from w (Wanting l) e h = subst (IsStartedOn w.conn.renewal) (sym e) (record { queue = tt; renewed = h })
+started_from w Resting e h = subst (IsStartedOn w.conn.renewal) (sym e) (record { queue = tt; renewed = h })
 started_from w Dialing e h = subst (IsStartedOn w.conn.renewal) (sym e) (record { queue = tt; renewed = h })
 started_from w (Ended x) e h = subst (IsStartedOn w.conn.renewal) (sym e) (record { queue = tt; renewed = h })
 
@@ -147,6 +150,7 @@ moved_renewed : (w : Work) (life : Life) (cs : List Credentials) → w.conn.life
 moved_renewed w (Ready l) (c ∷ cs) e asked is =
     chosen (λ (x : Work). HasRenewed x.conn.renewal x.conn.life) (holds_back l) w (renewal_told w l c cs) (λ held. λ t. (asked, ap is_held_back e ∙ held)) (λ f. λ t. cc)
 moved_renewed w (Ready l) [] e asked is = λ t. absurd (none_due w.conn.renewal is (both_right (is_ready w.conn.life) (is_due w.conn.renewal) t))
+moved_renewed w Resting cs e asked is = λ t. absurd (not_both (is_ready w.conn.life) (ap is_ready e) (both_left (is_ready w.conn.life) (is_due w.conn.renewal) t))
 moved_renewed w Dialing cs e asked is = λ t. absurd (not_both (is_ready w.conn.life) (ap is_ready e) (both_left (is_ready w.conn.life) (is_due w.conn.renewal) t))
 moved_renewed w (Wanting l) cs e asked is = λ t. absurd (not_both (is_ready w.conn.life) (ap is_ready e) (both_left (is_ready w.conn.life) (is_due w.conn.renewal) t))
 moved_renewed w (SettingUp l greeting) cs e asked is = λ t. absurd (not_both (is_ready w.conn.life) (ap is_ready e) (both_left (is_ready w.conn.life) (is_due w.conn.renewal) t))
@@ -176,6 +180,7 @@ admitted_started w (Wanting l) = refl
 admitted_started w (SettingUp l greeting) =
     let s = started_all (record { link = l; out = [] }) in
     ap (λ (c : MultiplexedConnection). c.admitted) (setup_shown (with_setup w s.link greeting) greeting s.out)
+admitted_started w Resting = refl
 admitted_started w Dialing = refl
 admitted_started w (Ended e) = refl
 
@@ -184,6 +189,7 @@ admitted_placed : (w : Work) (q : Waiting) (life : Life) → (placed_at w q life
 admitted_placed w q (Ready l) = refl
 admitted_placed w q (Wanting l) = refl
 admitted_placed w q (SettingUp l greeting) = refl
+admitted_placed w q Resting = refl
 admitted_placed w q Dialing = refl
 admitted_placed w q (Ended e) = refl
 
@@ -205,6 +211,7 @@ admitted_seated w q =
 -- a request that takes its place starts nothing
 renewed_placed : (w : Work) (q : Waiting) (life : Life) → w.conn.life ≡ life → HasRenewedIn w → HasRenewedIn (placed_at w q life)
 renewed_placed w q (Ready l) e h = subst (HasRenewed w.conn.renewal) e h
+renewed_placed w q Resting e h = h
 renewed_placed w q Dialing e h = h
 renewed_placed w q (Wanting l) e h = h
 renewed_placed w q (SettingUp l greeting) e h = h
@@ -248,6 +255,7 @@ one_admitted_at w q (Ended e) h =
     chosen (λ (x : Work). IsSeated x.conn) (is_open_at w.conn.requests q.number) _ w (λ t. record { through = h.through; admitted = h.admitted }) (λ f. h)
 one_admitted_at w q (Wanting l) h = h
 one_admitted_at w q (SettingUp l greeting) h = h
+one_admitted_at w q Resting h = h
 one_admitted_at w q Dialing h = h
 
 -- and any other stays
@@ -312,6 +320,7 @@ written_from w (SettingUp l greeting) e h =
       offered = offered_none (length l.outbox.unwritten == 0);
     })
     (λ f. record { moved = h; offered = subst HasOffered (sym e) f })
+written_from w Resting e h = record { moved = h; offered = subst HasOffered (sym e) tt }
 written_from w Dialing e h = record { moved = h; offered = subst HasOffered (sym e) tt }
 written_from w (Ended x) e h = record { moved = h; offered = subst HasOffered (sym e) tt }
 
@@ -371,6 +380,7 @@ pub started_stays : (w : Work) (life : Life) → w.conn.life ≡ life → HasSta
 started_stays w (Ready l) e h = ap (starts_with w) (none_starts l l.queue refl h) ∙ ap (at_life w) (sym e)
 started_stays w (Wanting l) e h = refl
 started_stays w (SettingUp l greeting) e h = ap (greets_with w greeting) (none_starts l l.queue refl h) ∙ ap (at_life w) (sym e)
+started_stays w Resting e h = refl
 started_stays w Dialing e h = refl
 started_stays w (Ended x) e h = refl
 
@@ -396,6 +406,7 @@ none_admitted w (q ∷ qs) h = taken_if (admits_none w.conn) _ _ (none_goes (adm
 moved_stays_held : (w : Work) (life : Life) (cs : List Credentials) → is_held_back life ≡ true → renewal_moved w life cs ≡ w
 moved_stays_held w (Ready l) (c ∷ cs) held = taken_if (holds_back l) w _ held
 moved_stays_held w (Ready l) [] held = refl
+moved_stays_held w Resting cs held = refl
 moved_stays_held w Dialing cs held = refl
 moved_stays_held w (Wanting l) cs held = refl
 moved_stays_held w (SettingUp l greeting) cs held = refl
@@ -421,6 +432,7 @@ written_stays : (w : Work) (life : Life) → HasOffered life → written_at w li
 written_stays w (Ready l) h = left_if (can_offer l.outbox) _ w h
 written_stays w (Wanting l) h = refl
 written_stays w (SettingUp l greeting) h = left_if (can_offer l.outbox) _ w h
+written_stays w Resting h = refl
 written_stays w Dialing h = refl
 written_stays w (Ended e) h = refl
 
@@ -461,6 +473,7 @@ left_idle c p unlimited none h =
     (λ f. h)
   where
     queue_left : (life : Life) → NoneQueued p life → HasStartedAll life → HasStartedAll (cancelled_in life p)
+    queue_left Resting n e = e
     queue_left Dialing n e = e
     queue_left (Wanting l) n e = e
     queue_left (SettingUp l greeting) n e = e
@@ -469,6 +482,7 @@ left_idle c p unlimited none h =
     queue_left (Ended x) n e = e
 
     renewed_left : (life : Life) → HasRenewed c.renewal life → HasRenewed c.renewal (cancelled_in life p)
+    renewed_left Resting e = e
     renewed_left Dialing e = e
     renewed_left (Wanting l) e = e
     renewed_left (SettingUp l greeting) e = e
@@ -476,6 +490,7 @@ left_idle c p unlimited none h =
     renewed_left (Ended x) e = e
 
     room_left : (life : Life) (count : ℕ) → NoneQueued p life → has_room_at (cancelled_in life p) count ≡ has_room_at life count
+    room_left Resting count n = refl
     room_left Dialing count n = refl
     room_left (Wanting l) count n = refl
     room_left (SettingUp l greeting) count n = refl
@@ -483,6 +498,7 @@ left_idle c p unlimited none h =
     room_left (Ended x) count n = refl
 
     stuck_left : (life : Life) (lim : Option ℕ) (j k : ℕ) → lim ≡ None → admits_none_at life (has_no_permit lim j) ≡ admits_none_at (cancelled_in life p) (has_no_permit lim k)
+    stuck_left Resting lim j k e = refl
     stuck_left Dialing lim j k e = refl
     stuck_left (Wanting l) lim j k e = refl
     stuck_left (SettingUp l greeting) lim j k e = refl
@@ -491,6 +507,7 @@ left_idle c p unlimited none h =
     stuck_left (Ended x) lim j k e = refl
 
     offered_left : (life : Life) → HasOffered life → HasOffered (cancelled_in life p)
+    offered_left Resting e = e
     offered_left Dialing e = e
     offered_left (Wanting l) e = e
     offered_left (SettingUp l greeting) e = e

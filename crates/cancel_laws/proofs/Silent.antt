@@ -67,6 +67,7 @@ silent_kept n p = record {
   write = λ lim r l ms xs k h. record { there = h.there; own = h.own; closed = h.closed; unshown = h.unshown };
   come = λ lim r l ms xs what piece h. record { there = h.there; own = h.own; closed = h.closed; unshown = h.unshown };
   end = λ lim r life ms xs e h. record { there = h.there; own = h.own; closed = h.closed; unshown = h.unshown };
+  rest = λ lim r life ms xs h. record { there = h.there; own = h.own; closed = h.closed; unshown = h.unshown };
   show = λ lim r life ms xs a plain h. record { there = h.there; own = h.own; closed = h.closed; unshown = unshown_more n xs a (acts_plain n xs a plain) h.unshown };
   calm = λ lim r life ms xs h. record { there = h.there; own = h.own; closed = h.closed; unshown = h.unshown };
 }

@@ -18,9 +18,9 @@ use Rattle.driver_model.proofs.Sound.{unless_refused, is_roomy}
 use Rattle.mux_conn.specs.declared.life.Greeting.TheVariants as greet
 use Rattle.driver_model.specs.Setup.{says_nothing}
 use Rattle.driver_model.specs.Request.{packed_bytes, is_reply_awaited, needs_resp3, lacks_resp3}
-use Rattle.mux_conn.specs.Connection.{acted, with_link, has_no_permit}
+use Rattle.mux_conn.specs.Connection.{acted, opened_on, has_no_permit}
 use Rattle.mux_conn.specs.declared.act.LinkAct.TheVariants as act
-use Rattle.mux_conn.specs.Effects.{new_link, all_fresh, comes_to_want, sets_up}
+use Rattle.mux_conn.specs.Effects.{new_link, creation_told, all_fresh, comes_to_want, sets_up}
 use Rattle.shared_session.specs.declared.core_state.Core.{Core}
 use Rattle.shared_session.specs.Turn.{work_of, with_work, shut_by, counted, moved_on, numbered, next_turn}
 use Rattle.shared_session.specs.Replay.{opening_core, IsSound, state_after}
@@ -50,7 +50,7 @@ up_at config word draw wants silent watching =
     let w = work_of t in
     let kind = (connected_at draw).kind in
     let link = new_link w.conn in
-    let ready = acted (with_link (all_fresh w) link) (act.Created None) in
+    let ready = creation_told (opened_on (all_fresh w) link) None in
     let said = if watching then sets_up w link greet.Monitor else (if wants then acted ready act.NeedRenewals else ready) in
     let up = if silent then said else sets_up (all_fresh w) link greet.WithUser in
     (numbered (moved_on (with_work (record t { core = shut_by t.core kind }) (if wants then comes_to_want w link else up)))).core

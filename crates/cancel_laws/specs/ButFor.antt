@@ -5,7 +5,7 @@ use Rattle.driver_model.specs.declared.action.Action.TheVariants as action
 use Rattle.link_core.specs.declared.message.Entry.{Entry}
 use Rattle.link_core.specs.Link.{LinkState}
 use Rattle.mux_conn.specs.declared.life.Life.{Life}
-use Rattle.mux_conn.specs.declared.life.Life.TheVariants.{Dialing, Wanting, SettingUp, Ready, Ended}
+use Rattle.mux_conn.specs.declared.life.Life.TheVariants.{Resting, Dialing, Wanting, SettingUp, Ready, Ended}
 
 -- an action without the number of its turn
 abbrev pub unnumbered : Action → Action
@@ -70,6 +70,7 @@ hushed_link p l = record l { row = hushed_each p l.row }
 
 -- the same of a link's life: until it is set up, it has no message of a request
 abbrev pub hushed_life : ℕ → Life → Life
+hushed_life p Resting = Resting
 hushed_life p Dialing = Dialing
 hushed_life p (Wanting l) = Wanting l
 hushed_life p (SettingUp l greeting) = SettingUp l greeting

@@ -16,7 +16,7 @@ use Rattle.mux_conn.specs.Connection.{has_no_permit, in_front, is_ready}
 use Rattle.mux_conn.specs.Requests.{if_there, is_admitted, is_admitted_at, is_open as is_open_progress, is_open_at, is_placed, is_placed_at, is_waiting, is_waiting_at, name_at}
 use Rattle.mux_conn.specs.declared.life.Greeting.{Greeting}
 use Rattle.mux_conn.specs.declared.life.Life.{Life}
-use Rattle.mux_conn.specs.declared.life.Life.TheVariants.{Dialing, Ended, Ready, Wanting, SettingUp}
+use Rattle.mux_conn.specs.declared.life.Life.TheVariants.{Resting, Dialing, Ended, Ready, Wanting, SettingUp}
 use Rattle.mux_conn.specs.declared.request.Pending.{Pending}
 use Rattle.mux_conn.specs.declared.request.Progress.{Progress}
 use Rattle.mux_conn.specs.declared.request.Progress.TheVariants as progress
@@ -169,6 +169,7 @@ pub record IsRunning (t : Inner) : Type 0 where
 
 -- a link that is up has not ended
 pub ready_alive : (life : Life) → is_ready life ≡ true → has_ended life ≡ false
+ready_alive Resting e = refl
 ready_alive Dialing e = refl
 ready_alive (Wanting link) e = refl
 ready_alive (SettingUp link greeting) e = refl
@@ -186,6 +187,7 @@ running_of t link none life fit seats = record {
 
 -- its life is that of its link
 pub ready_is : (life : Life) → is_ready life ≡ true → life ≡ Ready (link_in life)
+ready_is Resting e = cc
 ready_is Dialing e = cc
 ready_is (Wanting link) e = cc
 ready_is (SettingUp link greeting) e = cc
@@ -194,6 +196,7 @@ ready_is (Ended x) e = cc
 
 -- and its ledger says that it is up
 pub ready_up : (l : Ledger) (created : ℕ) (life : Life) → is_ready life ≡ true → TiedLife l created life → l.up ≡ true
+ready_up l created Resting e h = cc
 ready_up l created Dialing e h = cc
 ready_up l created (Wanting link) e h = cc
 ready_up l created (SettingUp link greeting) e h = cc
@@ -202,6 +205,7 @@ ready_up l created (Ended x) e h = cc
 
 -- and that it is set up
 ready_set : (l : Ledger) (started : List ℕ) (life : Life) → is_ready life ≡ true → HasSaid l started life → is_set_up l ≡ true
+ready_set l started Resting e h = cc
 ready_set l started Dialing e h = cc
 ready_set l started (Wanting link) e h = cc
 ready_set l started (SettingUp link greeting) e h = cc
@@ -210,6 +214,7 @@ ready_set l started (Ended x) e h = cc
 
 -- it carries the messages of requests
 ready_link : (l : Ledger) (requests : List Request) (life : Life) → is_ready life ≡ true → TiedLink (carried life requests) l (whole_link life) → TiedLink (owner_of requests) l (link_in life)
+ready_link l requests Resting e h = cc
 ready_link l requests Dialing e h = cc
 ready_link l requests (Wanting link) e h = cc
 ready_link l requests (SettingUp link greeting) e h = cc
@@ -624,6 +629,7 @@ ask_step b t p ms h r o has time none =
 -- the step of a submission while the connect isn't answered
 --
 dialing_dials : (l : Ledger) (created : ℕ) (life : Life) → life ≡ Dialing → TiedLife l created life → dials l ≡ true
+dialing_dials l created Resting e h = cc
 dialing_dials l created Dialing e h = λ i. h.0 i && not (h.1 i) && not (is_some (h.2 i))
 dialing_dials l created (Wanting link) e h = cc
 dialing_dials l created (SettingUp link greeting) e h = cc

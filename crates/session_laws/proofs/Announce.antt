@@ -22,7 +22,7 @@ use Rattle.link_core.specs.Link.{LinkState}
 use Rattle.link_laws.proofs.TiedLink.{TiedLink}
 use Rattle.mux_conn.specs.declared.connection.MultiplexedConnection.{MultiplexedConnection}
 use Rattle.mux_conn.specs.declared.life.Life.{Life}
-use Rattle.mux_conn.specs.declared.life.Life.TheVariants.{Dialing, Wanting, SettingUp, Ready, Ended}
+use Rattle.mux_conn.specs.declared.life.Life.TheVariants.{Resting, Dialing, Wanting, SettingUp, Ready, Ended}
 use Rattle.mux_conn.specs.declared.request.Request.{Request}
 use Rattle.shared_session.specs.declared.core_state.Core.{Core}
 use Rattle.shared_session.specs.Turn.{is_shutdown, shut_by, exceeds_offer, is_bad}
@@ -31,7 +31,7 @@ use Rattle.legal_trace.specs.Story.{Story, fires}
 use Rattle.legal_trace.specs.Book.{Book, book, entered, is_clock_of, hearing_in, rest_after, timeout_after, kind_in}
 use Rattle.legal_trace.specs.Events.{is_bad_event}
 use Rattle.legal_trace.specs.Legal.{MayTurn}
-use Rattle.session_laws.proofs.Tied.{AreAimed, AreUses, IsAim, owners_of, owners_each, setup_owners, Inner, inner, link_in, carried, whole_link, AreAside, TiedCreds, TiedLife, TiedSetup, TiedTries, TiedLines, AreQueued, TiedWaits, Tied, Sound, has_ended, TiedNotices, TiedRenewal, HasGreetedAlone, is_reading, IsUse}
+use Rattle.session_laws.proofs.Tied.{TiedCreation, AreAimed, AreUses, IsAim, owners_of, owners_each, setup_owners, Inner, inner, link_in, carried, whole_link, AreAside, TiedCreds, TiedLife, TiedSetup, TiedTries, TiedLines, AreQueued, TiedWaits, Tied, Sound, has_ended, TiedNotices, TiedRenewal, HasGreetedAlone, is_reading, IsUse}
 use Rattle.session_laws.proofs.States.{Between}
 use Rattle.session_laws.proofs.Entered.{book_more, sound_more}
 use Rattle.session_laws.proofs.Answer.{some_end}
@@ -54,6 +54,7 @@ offered_length name l s h = ap length h.offer ∙ (let e = length-take s.outbox.
 
 -- the connection's link can't take so much
 too_much : (l : Ledger) (created : ℕ) (life : Life) (requests : List Request) (count : ℕ) → TiedLife l created life → (has_ended life ≡ false → TiedLink (carried life requests) l (whole_link life)) → (not (is_over l) && nat_lt (length l.offer) count) ≡ exceeds_offer life count
+too_much l created Resting requests count h link = (λ i. not (is_some (h.2 i)) && nat_lt (offered_length (carried Resting requests) l (whole_link Resting) (link refl) i) count)
 too_much l created Dialing requests count h link = (λ i. not (is_some (h.2 i)) && nat_lt (offered_length (carried Dialing requests) l (whole_link Dialing) (link refl) i) count)
 too_much l created (Wanting s) requests count h link = (λ i. not (is_some (h.2 i)) && nat_lt (offered_length (carried (Wanting s) requests) l s (link refl) i) count)
 too_much l created (SettingUp s greeting) requests count h link = (λ i. not (is_some (h.2 i)) && nat_lt (offered_length (carried (SettingUp s greeting) requests) l s (link refl) i) count)
@@ -364,13 +365,13 @@ pub quiet_still : (b : Book) (c : Core) (started : List ℕ) → Tied b (inner c
 quiet_still b c started h w = let q = h.numbers.quiet w in (q.unwanted, q.unrenewed)
 
 -- the session tied to a book with these ledgers, and with these sources of credentials, where new credentials came to this
-pub heard_tied_as : (b : Book) (c : Core) (started : List ℕ) (word created : ℕ) (halted : Bool) (kind : EventKind) (info : RedisConnectionInfo) (renewal : Renewal) (life : Life) (fresh pending : List ℕ) (untold : List Heard) (links : ℕ → Ledger) (l : Ledger) (asked uses : List SourceUse) → Tied b (inner c started)
+pub heard_tied_as : (b : Book) (c : Core) (started : List ℕ) (word created : ℕ) (halted told : Bool) (kind : EventKind) (info : RedisConnectionInfo) (renewal : Renewal) (life : Life) (fresh pending : List ℕ) (untold : List Heard) (links : ℕ → Ledger) (l : Ledger) (asked uses : List SourceUse) → Tied b (inner c started) → TiedCreation created told
     → renewal.within ≡ c.single.connection.renewal.within → StaysQuiet c renewal → info.protocol ≡ c.single.connection.info.protocol
     → AreAside c.single.link c.links links c.single.connection.hears renewal.within created → links c.single.link ≡ l → asked ≡ uses → AreUses uses c.single.link l.creds.asked l.creds.renews → ComesAs b c l created info renewal life fresh pending untold started
-    → Tied (record (heard_book b c.turns word kind) { created = created; failed = halted; link = links; sources = asked }) (record (seen (turned c kind) [] (renews_as c info renewal life fresh) pending started) { untold = untold; sources = uses })
-heard_tied_as b c started word created halted kind info renewal life fresh pending untold links l asked uses h within quiet same others is sourced used k =
+    → Tied (record (heard_book b c.turns word kind) { created = created; failed = halted; link = links; sources = asked }) (record (seen (turned c kind) [] (renews_as c info renewal life fresh) pending started) { told = told; untold = untold; sources = uses })
+heard_tied_as b c started word created halted told kind info renewal life fresh pending untold links l asked uses h made within quiet same others is sourced used k =
     let after = record (heard_book b c.turns word kind) { created = created; failed = halted; link = links; sources = asked } in
-    let t = record (seen (turned c kind) [] (renews_as c info renewal life fresh) pending started) { untold = untold; sources = uses } in
+    let t = record (seen (turned c kind) [] (renews_as c info renewal life fresh) pending started) { told = told; untold = untold; sources = uses } in
     tied_by after t l is (record {
       numbers = record {
         turns = ap (λ n. n + 1) h.numbers.turns;
@@ -398,6 +399,7 @@ heard_tied_as b c started word created halted kind info renewal life fresh pendi
       notices = k.notices;
       life = k.lived;
       creds = k.creds;
+      creation = made;
       uses = used;
       renewal = k.renewal_is;
       setup = k.said;
@@ -413,11 +415,11 @@ heard_tied_as b c started word created halted kind info renewal life fresh pendi
     })
 
 -- where they are as they were
-pub heard_tied_by : (b : Book) (c : Core) (started : List ℕ) (word created : ℕ) (halted : Bool) (kind : EventKind) (info : RedisConnectionInfo) (life : Life) (fresh pending : List ℕ) (untold : List Heard) (links : ℕ → Ledger) (l : Ledger) (asked uses : List SourceUse) → Tied b (inner c started) → info.protocol ≡ c.single.connection.info.protocol
+pub heard_tied_by : (b : Book) (c : Core) (started : List ℕ) (word created : ℕ) (halted told : Bool) (kind : EventKind) (info : RedisConnectionInfo) (life : Life) (fresh pending : List ℕ) (untold : List Heard) (links : ℕ → Ledger) (l : Ledger) (asked uses : List SourceUse) → Tied b (inner c started) → TiedCreation created told → info.protocol ≡ c.single.connection.info.protocol
     → AreAside c.single.link c.links links c.single.connection.hears c.single.connection.renewal.within created → links c.single.link ≡ l → asked ≡ uses → AreUses uses c.single.link l.creds.asked l.creds.renews → ComesTo b c l created info life fresh pending untold started
-    → Tied (record (heard_book b c.turns word kind) { created = created; failed = halted; link = links; sources = asked }) (record (seen (turned c kind) [] (comes_as c info life fresh) pending started) { untold = untold; sources = uses })
-heard_tied_by b c started word created halted kind info life fresh pending untold links l asked uses h same others is sourced used k =
-    heard_tied_as b c started word created halted kind info c.single.connection.renewal life fresh pending untold links l asked uses h refl (quiet_still b c started h) same others is sourced used k
+    → Tied (record (heard_book b c.turns word kind) { created = created; failed = halted; link = links; sources = asked }) (record (seen (turned c kind) [] (comes_as c info life fresh) pending started) { told = told; untold = untold; sources = uses })
+heard_tied_by b c started word created halted told kind info life fresh pending untold links l asked uses h made same others is sourced used k =
+    heard_tied_as b c started word created halted told kind info c.single.connection.renewal life fresh pending untold links l asked uses h made refl (quiet_still b c started h) same others is sourced used k
 
 -- news ask for no source
 pub sources_hear : (l : Ledger) (turn : ℕ) (n : News) → (noted l (hears turn n)).creds.asked ≡ l.creds.asked
@@ -520,20 +522,20 @@ uses_hear sources link l turn n h =
     subst (λ (x : Bool). AreUses sources link x m.creds.renews) (sym (sources_hear l turn n)) (subst (λ (x : Bool). AreUses sources link l.creds.asked x) (sym (renews_hear l turn n)) h)
 
 -- by what its link hears, where new credentials came to this
-pub heard_tied_new : (b : Book) (c : Core) (started : List ℕ) (word created : ℕ) (halted : Bool) (kind : EventKind) (info : RedisConnectionInfo) (renewal : Renewal) (life : Life) (fresh pending : List ℕ) (untold : List Heard) (l : Ledger) → Tied b (inner c started) → renewal.within ≡ c.single.connection.renewal.within → StaysQuiet c renewal → is_bad c kind ≡ false → (b.created ≢ 0 → created ≢ 0)
+pub heard_tied_new : (b : Book) (c : Core) (started : List ℕ) (word created : ℕ) (halted told : Bool) (kind : EventKind) (info : RedisConnectionInfo) (renewal : Renewal) (life : Life) (fresh pending : List ℕ) (untold : List Heard) (l : Ledger) → Tied b (inner c started) → TiedCreation created told → renewal.within ≡ c.single.connection.renewal.within → StaysQuiet c renewal → is_bad c kind ≡ false → (b.created ≢ 0 → created ≢ 0)
     → noted (b.link c.single.link) (hears c.turns (news_of b.timers b.sources c.single.link kind)) ≡ l → ComesAs b c l created info renewal life fresh pending untold started
-    → Tied (record (heard_book b c.turns word kind) { created = created; failed = halted }) (record (seen (turned c kind) [] (renews_as c info renewal life fresh) pending started) { untold = untold })
-heard_tied_new b c started word created halted kind info renewal life fresh pending untold l h within quiet good shown is k =
-    heard_tied_as b c started word created halted kind info renewal life fresh pending untold (heard_book b c.turns word kind).link l b.sources (c.sources ++ []) h within quiet (protocol_still b c started kind info l h is k.said.info_is)
+    → Tied (record (heard_book b c.turns word kind) { created = created; failed = halted }) (record (seen (turned c kind) [] (renews_as c info renewal life fresh) pending started) { told = told; untold = untold })
+heard_tied_new b c started word created halted told kind info renewal life fresh pending untold l h made within quiet good shown is k =
+    heard_tied_as b c started word created halted told kind info renewal life fresh pending untold (heard_book b c.turns word kind).link l b.sources (c.sources ++ []) h made within quiet (protocol_still b c started kind info l h is k.said.info_is)
     (subst (λ o. AreAside c.single.link c.links (heard_book b c.turns word kind).link c.single.connection.hears o created) (sym within) (others_heard b c started kind created h good shown)) is
     (h.numbers.sources ∙ sym (append-nil c.sources))
     (uses_on c.sources c.single.link (subst (λ (x : Ledger). AreUses c.sources c.single.link x.creds.asked x.creds.renews) is (uses_hear c.sources c.single.link (b.link c.single.link) c.turns (news_of b.timers b.sources c.single.link kind) h.uses))) k
 
 -- where they are as they were
-pub heard_tied : (b : Book) (c : Core) (started : List ℕ) (word created : ℕ) (halted : Bool) (kind : EventKind) (info : RedisConnectionInfo) (life : Life) (fresh pending : List ℕ) (untold : List Heard) (l : Ledger) → Tied b (inner c started) → is_bad c kind ≡ false → (b.created ≢ 0 → created ≢ 0)
+pub heard_tied : (b : Book) (c : Core) (started : List ℕ) (word created : ℕ) (halted told : Bool) (kind : EventKind) (info : RedisConnectionInfo) (life : Life) (fresh pending : List ℕ) (untold : List Heard) (l : Ledger) → Tied b (inner c started) → TiedCreation created told → is_bad c kind ≡ false → (b.created ≢ 0 → created ≢ 0)
     → noted (b.link c.single.link) (hears c.turns (news_of b.timers b.sources c.single.link kind)) ≡ l → ComesTo b c l created info life fresh pending untold started
-    → Tied (record (heard_book b c.turns word kind) { created = created; failed = halted }) (record (seen (turned c kind) [] (comes_as c info life fresh) pending started) { untold = untold })
-heard_tied b c started word created halted kind info life fresh pending untold l h good shown is k = heard_tied_new b c started word created halted kind info c.single.connection.renewal life fresh pending untold l h refl (quiet_still b c started h) good shown is k
+    → Tied (record (heard_book b c.turns word kind) { created = created; failed = halted }) (record (seen (turned c kind) [] (comes_as c info life fresh) pending started) { told = told; untold = untold })
+heard_tied b c started word created halted told kind info life fresh pending untold l h made good shown is k = heard_tied_new b c started word created halted told kind info c.single.connection.renewal life fresh pending untold l h made refl (quiet_still b c started h) good shown is k
 
 -- the trace begins
 --

@@ -12,7 +12,7 @@ use Rattle.link_core.specs.declared.message.Entry.{Entry}
 use Rattle.link_core.specs.Link.{LinkState}
 use Rattle.link_laws.specs.Settles.{wanted}
 use Rattle.mux_conn.specs.declared.life.Life.{Life}
-use Rattle.mux_conn.specs.declared.life.Life.TheVariants.{Dialing, Wanting, SettingUp, Ready, Ended}
+use Rattle.mux_conn.specs.declared.life.Life.TheVariants.{Resting, Dialing, Wanting, SettingUp, Ready, Ended}
 use Rattle.mux_conn.specs.declared.request.Pending.{Pending}
 use Rattle.mux_conn.specs.declared.request.Progress.TheVariants as progress
 use Rattle.mux_conn.specs.declared.request.Request.{Request}
@@ -64,6 +64,7 @@ some_end (Some e) o owes = refl
 
 -- a connection that has ended has a link that is over
 ended_over : (l : Ledger) (created : ℕ) (life : Life) → has_ended life ≡ true → TiedLife l created life → is_over l ≡ true
+ended_over l created Resting over h = cc
 ended_over l created Dialing over h = cc
 ended_over l created (Wanting link) over h = cc
 ended_over l created (SettingUp link greeting) over h = cc
@@ -72,6 +73,7 @@ ended_over l created (Ended e) over h = some_end l.end (outcome.Fault e) h.1
 
 -- what has ended need not end
 ended_ends : (l : Ledger) (created : ℕ) (life : Life) → has_ended life ≡ true → TiedLife l created life → ending l ≡ None
+ended_ends l created Resting over h = cc
 ended_ends l created Dialing over h = cc
 ended_ends l created (Wanting link) over h = cc
 ended_ends l created (SettingUp link greeting) over h = cc
@@ -214,6 +216,7 @@ answer_apart b t p pending o open_is apart told h =
       notices = h.notices;
       life = h.life;
       creds = h.creds;
+      creation = h.creation;
       uses = h.uses;
       renewal = h.renewal;
       setup = h.setup;

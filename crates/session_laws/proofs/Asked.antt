@@ -64,7 +64,7 @@ refused_applied before c started word what e h few good why =
       ended = subst NoneEnds (sym (book_more front a ∙ ap (λ (x : Book). entered x a) book_is)) (λ m. silent_no_end (b.link m) c.turns (still_none before c started h m));
       began = λ z. absurd (omega arith);
       moved = h.moved;
-      fit = record { wanting = h.fit.wanting; setup = h.fit.setup; link = h.fit.link; none = h.fit.none };
+      fit = record { wanting = h.fit.wanting; setup = h.fit.setup; link = h.fit.link; none = h.fit.none; lasts = h.fit.lasts };
     }
 
 -- it is the next request
@@ -259,6 +259,7 @@ asked_tied b c started word what h tame form few no_fresh up speaks some =
       notices = renoticed tame h.notices;
       life = told_life ledger b.created conn.life silence h.life;
       creds = h.creds;
+      creation = h.creation;
       uses = uses_on c.sources c.single.link h.uses;
       renewal = renewal_alike ledger (record ledger { heard = silence }) conn.renewal conn.life refl refl refl h.renewal;
       setup = setup_on ledger ledger.asked ledger.up ledger.end ledger.taken ledger.offer ledger.rest silence conn.info started conn.life h.setup;
@@ -294,7 +295,7 @@ pub asked_applied : (before : List Action) (c : Core) (started : List ℕ) (word
     → HasApplied (before ++ turn_of c word (event.Submit what) ∷ []) (asked_for (heard (counted c) (event.Submit what)) what) started
 asked_applied before c started word what h few good up speaks some =
     let b = book before in
-    silent_applied before c started word (event.Submit what) (core_asked c what) (asked c.single.connection (length c.table) (packed_bytes what) (shape_of what) (is_reply_awaited what) c.timeout) h good (λ m. silent_no_end (b.link m) c.turns (still_none before c started h m)) (λ z. absurd (omega arith)) h.moved (record { wanting = h.fit.wanting; setup = h.fit.setup; link = h.fit.link; none = h.fit.none })
+    silent_applied before c started word (event.Submit what) (core_asked c what) (asked c.single.connection (length c.table) (packed_bytes what) (shape_of what) (is_reply_awaited what) c.timeout) h good (λ m. silent_no_end (b.link m) c.turns (still_none before c started h m)) (λ z. absurd (omega arith)) h.moved (record { wanting = h.fit.wanting; setup = h.fit.setup; link = h.fit.link; none = h.fit.none; lasts = h.fit.lasts })
     (asked_tied b c started word what h.sound.tied (tame_between before c started h) (formed c what good) few h.fresh up speaks some)
 
 -- one or the other

@@ -21,7 +21,7 @@ use Rattle.link_laws.specs.Settles.{wanted, awaited_ids}
 use Rattle.link_laws.proofs.TiedLink.{TiedLink, told_tied, cancelled_tied}
 use Rattle.mux_conn.specs.declared.connection.MultiplexedConnection.{MultiplexedConnection}
 use Rattle.mux_conn.specs.declared.life.Life.{Life}
-use Rattle.mux_conn.specs.declared.life.Life.TheVariants.{Dialing, Wanting, SettingUp, Ready, Ended}
+use Rattle.mux_conn.specs.declared.life.Life.TheVariants.{Resting, Dialing, Wanting, SettingUp, Ready, Ended}
 use Rattle.mux_conn.specs.declared.request.Pending.{Pending}
 use Rattle.mux_conn.specs.declared.request.Progress.TheVariants as progress
 use Rattle.mux_conn.specs.declared.request.Request.{Request}
@@ -53,6 +53,7 @@ use Rattle.session_laws.proofs.Kept.{tied_by}
 use Rattle.session_laws.proofs.Permits.{permits_closed}
 use Rattle.session_laws.proofs.Heard.{silent_applied, still_none, told_life, silent_no_end, tame_between}
 use Rattle.session_laws.proofs.Said.{carried_tied, setup_on, IsTame, renoticed}
+use Rattle.mux_conn.specs.Connection.{is_ready}
 
 -- one who leaves closes its story
 --
@@ -252,6 +253,7 @@ left_lines table story requests link waiting admitted p started closed names l o
 --
 -- the link is as far as it was
 pub left_life : (l : Ledger) (created : ℕ) (life : Life) (p : ℕ) → TiedLife l created life → TiedLife (record l { heard = silence }) created (cancelled_in life p)
+left_life l created Resting p h = h
 left_life l created Dialing p h = h
 left_life l created (Wanting link) p h = h
 left_life l created (SettingUp link greeting) p h = h
@@ -260,6 +262,7 @@ left_life l created (Ended e) p h = h
 
 -- its credentials have come as far
 pub left_creds : (c : Sourced) (wants : Bool) (life : Life) (p : ℕ) → TiedCreds c wants life → TiedCreds c wants (cancelled_in life p)
+left_creds c wants Resting p h = h
 left_creds c wants Dialing p h = h
 left_creds c wants (Wanting link) p h = h
 left_creds c wants (SettingUp link greeting) p h = h
@@ -268,6 +271,7 @@ left_creds c wants (Ended e) p h = h
 
 -- and so are new credentials
 pub left_renewal : (l : Ledger) (r : Renewal) (life : Life) (p : ℕ) → TiedRenewal l r life → TiedRenewal l r (cancelled_in life p)
+left_renewal l r Resting p h = h
 left_renewal l r Dialing p h = h
 left_renewal l r (Wanting link) p h = h
 left_renewal l r (SettingUp link greeting) p h = h
@@ -276,6 +280,7 @@ left_renewal l r (Ended e) p h = h
 
 -- and its setup is
 pub left_setup : (l : Ledger) (info : RedisConnectionInfo) (started : List ℕ) (life : Life) (p : ℕ) → TiedSetup l info started life → TiedSetup (record l { heard = silence }) info started (cancelled_in life p)
+left_setup l info started Resting p h = setup_on l l.asked l.up l.end l.taken l.offer l.rest silence info started Resting h
 left_setup l info started Dialing p h = setup_on l l.asked l.up l.end l.taken l.offer l.rest silence info started Dialing h
 left_setup l info started (Wanting link) p h = setup_on l l.asked l.up l.end l.taken l.offer l.rest silence info started (Wanting link) h
 left_setup l info started (SettingUp link greeting) p h = setup_on l l.asked l.up l.end l.taken l.offer l.rest silence info started (SettingUp link greeting) h
@@ -285,6 +290,7 @@ left_setup l info started (Ended e) p h = setup_on l l.asked l.up l.end l.taken 
 -- and tied to its ledger
 pub left_link : (requests : List Request) (l : Ledger) (life : Life) (p : ℕ) → (has_ended life ≡ false → TiedLink (carried life requests) l (whole_link life)) → has_ended (cancelled_in life p) ≡ false
     → TiedLink (carried (cancelled_in life p) requests) (record l { heard = silence }) (whole_link (cancelled_in life p))
+left_link requests l Resting p h n = told_tied (owner_of requests) l (whole_link Resting) l.asked l.up silence (h refl)
 left_link requests l Dialing p h n = told_tied (owner_of requests) l (whole_link Dialing) l.asked l.up silence (h refl)
 left_link requests l (Wanting link) p h n = told_tied (λ (q : ℕ). owner.Setup) l link l.asked l.up silence (h refl)
 left_link requests l (SettingUp link greeting) p h n = told_tied (λ (q : ℕ). greeter greeting) l link l.asked l.up silence (h refl)
@@ -293,6 +299,7 @@ left_link requests l (Ended e) p h n = cc
 
 -- what dials has dialled before
 pub still_dials : (life : Life) (p : ℕ) → cancelled_in life p ≡ Dialing → life ≡ Dialing
+still_dials Resting p e = cc
 still_dials Dialing p e = refl
 still_dials (Wanting link) p e = cc
 still_dials (SettingUp link greeting) p e = cc
@@ -301,6 +308,7 @@ still_dials (Ended x) p e = cc
 
 -- a link that is up was so
 pub was_ready : (life : Life) (p : ℕ) → WasReady life (cancelled_in life p)
+was_ready Resting p x e = cc
 was_ready Dialing p x e = cc
 was_ready (Wanting link) p x e = cc
 was_ready (SettingUp link greeting) p x e = cc
@@ -309,6 +317,7 @@ was_ready (Ended y) p x e = cc
 
 -- so was one that waits for credentials
 pub was_wanting : (life : Life) (p : ℕ) → WasWanting life (cancelled_in life p)
+was_wanting Resting p x e = cc
 was_wanting Dialing p x e = cc
 was_wanting (Wanting link) p x e = (x, e)
 was_wanting (SettingUp link greeting) p x e = cc
@@ -317,6 +326,7 @@ was_wanting (Ended y) p x e = cc
 
 -- and so was one that is set up
 pub was_setting : (life : Life) (p : ℕ) → WasSettingUp life (cancelled_in life p)
+was_setting Resting p x u e = cc
 was_setting Dialing p x u e = cc
 was_setting (Wanting link) p x u e = cc
 was_setting (SettingUp link greeting) p x u e = (x, e)
@@ -339,6 +349,7 @@ left_lines_in table story requests life waiting admitted p started closed names 
     by_life : (x : Life) → (has_ended x ≡ false → Rising 0 (requests_in (row_ids (link_in x).row) ++ (queue_ids (link_in x).queue ++ kept_ids admitted waiting)) (length requests)) → TiedLines story requests (link_in x) waiting admitted [] started
         → TiedLines (with_closed story requests p closed) (with_permits requests p progress.Closed 0) (link_in (cancelled_in x p)) waiting admitted [] started
     by_life (Ready link) r h = left_lines table story requests link waiting admitted p started closed names l other asked c (r refl) h
+    by_life Resting r h = bare h
     by_life Dialing r h = bare h
     by_life (Wanting link) r h = bare h
     by_life (SettingUp link greeting) r h = bare h
@@ -357,6 +368,7 @@ left_told story requests number life p asked h = by_life life h
 
     by_life : (x : Life) → (has_ended x ≡ false → AreQueued story requests number (link_in x)) → has_ended (cancelled_in x p) ≡ false → AreQueued (with_closed story requests p (λ n. left (story n))) (with_permits requests p progress.Closed 0) number (link_in (cancelled_in x p))
     by_life (Ready link) g n = told_closed story requests number p (λ m. left (story m)) link (cancelled link p) own (λ n. leave_link (story n)) (λ q is i. without_others link.queue p q (other q is) i) (λ q i. without_in link.queue p q i) (g refl)
+    by_life Resting g n = told_closed story requests number p (λ m. left (story m)) no_link no_link own (λ n. leave_link (story n)) (λ q is i. i) (λ q i. i) (g refl)
     by_life Dialing g n = told_closed story requests number p (λ m. left (story m)) no_link no_link own (λ n. leave_link (story n)) (λ q is i. i) (λ q i. i) (g refl)
     by_life (Wanting link) g n = told_closed story requests number p (λ m. left (story m)) no_link no_link own (λ n. leave_link (story n)) (λ q is i. i) (λ q i. i) (g refl)
     by_life (SettingUp link greeting) g n = told_closed story requests number p (λ m. left (story m)) no_link no_link own (λ n. leave_link (story n)) (λ q is i. i) (λ q i. i) (g refl)
@@ -368,6 +380,7 @@ left_others requests (Ready link) ys p lo r q i =
     let was = without_was link.queue p q i in
     let k = rising_in lo (queue_ids link.queue ++ ys) (length requests) q r (in_left q (queue_ids link.queue) ys (awaited_in q link.queue was)) in
     ((λ same. without_apart link.queue ys p lo (length requests) r (subst (λ n. IsIn n (awaited_ids (without link.queue p))) (sym same) i)), k.1, was)
+left_others requests Resting ys p lo r q i = absurd i
 left_others requests Dialing ys p lo r q i = absurd i
 left_others requests (Wanting link) ys p lo r q i = absurd i
 left_others requests (SettingUp link greeting) ys p lo r q i = absurd i
@@ -375,20 +388,23 @@ left_others requests (Ended e) ys p lo r q i = absurd i
 
 -- the link is fit
 pub left_fit : (c : MultiplexedConnection) (free : ℕ) (requests : List Request) (life : Life) (p : ℕ) → c.life ≡ life → IsFitIn c → IsFitIn (record c { free = free; requests = requests; life = cancelled_in life p })
-left_fit c free requests Dialing p is h = record { wanting = λ x e. cc; setup = λ x u e. cc; link = λ x e. cc; none = λ n. h.none (λ x e. (let no : Dialing ≡ Ready x = sym is ∙ e in cc)) }
+left_fit c free requests Resting p is h = record { wanting = λ x e. cc; setup = λ x u e. cc; link = λ x e. cc; none = λ n. h.none (λ x e. (let no : Resting ≡ Ready x = sym is ∙ e in cc)); lasts = λ x y. h.lasts (ap is_ready is) (ap has_ended is) }
+left_fit c free requests Dialing p is h = record { wanting = λ x e. cc; setup = λ x u e. cc; link = λ x e. cc; none = λ n. h.none (λ x e. (let no : Dialing ≡ Ready x = sym is ∙ e in cc)); lasts = λ x y. h.lasts (ap is_ready is) (ap has_ended is) }
 left_fit c free requests (Wanting link) p is h = record {
   wanting = λ x e. let same : link ≡ x = cc in subst (IsFit c.size c.boundary) same (h.wanting link is);
   setup = λ x u e. cc;
   link = λ x e. cc;
   none = λ n. h.none (λ x e. (let no : Wanting link ≡ Ready x = sym is ∙ e in cc));
+  lasts = λ x y. h.lasts (ap is_ready is) (ap has_ended is);
 }
 left_fit c free requests (SettingUp link greeting) p is h = record {
   wanting = λ x e. cc;
   setup = λ x u e. let same : link ≡ x = cc in subst (IsFit c.size c.boundary) same (h.setup link greeting is);
   link = λ x e. cc;
   none = λ n. h.none (λ x e. (let no : SettingUp link greeting ≡ Ready x = sym is ∙ e in cc));
+  lasts = λ x y. h.lasts (ap is_ready is) (ap has_ended is);
 }
-left_fit c free requests (Ended y) p is h = record { wanting = λ x e. cc; setup = λ x u e. cc; link = λ x e. cc; none = λ n. h.none (λ x e. (let no : Ended y ≡ Ready x = sym is ∙ e in cc)) }
+left_fit c free requests (Ended y) p is h = record { wanting = λ x e. cc; setup = λ x u e. cc; link = λ x e. cc; none = λ n. h.none (λ x e. (let no : Ended y ≡ Ready x = sym is ∙ e in cc)); lasts = λ x y. cc }
 left_fit c free requests (Ready link) p is h = record {
   wanting = λ x e. cc;
   setup = λ x u e. cc;
@@ -398,6 +414,7 @@ left_fit c free requests (Ready link) p is h = record {
       let few = without_length link.queue p in
       subst (IsFit c.size c.boundary) same (record { sound = k.sound; size_is = k.size_is; bound_is = k.bound_is; within = omega (arith, k.within, few) });
   none = λ n. absurd (n (cancelled link p) refl);
+  lasts = λ x y. cc;
 }
 
 -- the turn
@@ -470,6 +487,7 @@ still_tied b c started word kind timeout q same h tame =
       notices = renoticed tame h.notices;
       life = told_life ledger b.created conn.life silence h.life;
       creds = h.creds;
+      creation = h.creation;
       uses = uses_on c.sources c.single.link h.uses;
       renewal = renewal_alike ledger (record ledger { heard = silence }) conn.renewal conn.life refl refl refl h.renewal;
       setup = setup_on ledger ledger.asked ledger.up ledger.end ledger.taken ledger.offer ledger.rest silence conn.info started conn.life h.setup;
@@ -513,6 +531,7 @@ gone_tied b c started word p n h tame o named =
       notices = renoticed tame h.notices;
       life = left_life ledger b.created conn.life p h.life;
       creds = left_creds ledger.creds conn.renewal.wanted conn.life p h.creds;
+      creation = h.creation;
       uses = uses_on c.sources c.single.link h.uses;
       renewal = left_renewal (record ledger { heard = silence }) conn.renewal conn.life p (renewal_alike ledger (record ledger { heard = silence }) conn.renewal conn.life refl refl refl h.renewal);
       setup = left_setup ledger conn.info started conn.life p h.setup;

@@ -30,7 +30,7 @@ use Rattle.legal_trace.specs.Book.{Book, book, entered}
 use Rattle.legal_trace.specs.Owed.{owed, owed_by, owed_unstarted}
 use Rattle.legal_trace.specs.Legal.{MayClose, MayPart}
 use Rattle.session_laws.proofs.Numbers.{IsIn, in_left, in_right, Rising, rising_in, rising_within, rising_right, rising_tail, requests_in, requests_in-append, all_requests}
-use Rattle.session_laws.proofs.Tied.{Inner, no_link, link_in, owner_of, queue_ids, waiting_ids, IsKept, TiedLines, TiedWaits, Tied, relined, FailureIsShown, TiedLife, has_ended}
+use Rattle.session_laws.proofs.Tied.{TiedCreation, Inner, no_link, link_in, owner_of, queue_ids, waiting_ids, IsKept, TiedLines, TiedWaits, Tied, relined, FailureIsShown, TiedLife, has_ended}
 use Rattle.session_laws.proofs.Said.{ready_shown, sources_asked}
 use Rattle.session_laws.proofs.States.{HasApplied}
 use Rattle.session_laws.proofs.InLine.{kept_ids, kept_in, line_of, IsInLine, awaited_rises, awaited_in}
@@ -115,14 +115,14 @@ ends_failed : (l : Ledger) (turn created : ℕ) (why : Ending) → l.last ≡ tr
 ends_failed l turn created why last must shown e fails = shown e (sym (ap failure_of (ends_so l why last must)) ∙ fails)
 
 -- the session is tied to the book with the end of the link; the creation may be shown with it
-pub close_tied : (b : Book) (t : Inner) (created : ℕ) (halted : Bool) (why : Ending) (e : RedisError) (parting : Bool) (pending : List ℕ) → pending ≡ requests_in (wanted (link_in t.life).row) ++ awaited_ids (link_in t.life).queue → ending (b.link t.link) ≡ Some why → owed_by why ≡ Some (outcome.Fault e)
-    → ((f : RedisError) → failure_of why ≡ Some f → created ≢ 0) → (hears_pushes t.hears ≡ true → parting ≡ false → is_fault why ≡ false) → has_ended t.life ≡ false → (b.created ≢ 0 → created ≢ 0) → Tied b (record t { pending = []; untold = []; parting = false })
-    → Tied (record (entered b (action.Close t.link)) { created = created; failed = halted }) (record t { life = Ended e; pending = pending; untold = []; parting = parting })
-close_tied b t created halted why e parting pending ids must is shown mild up on h =
+pub close_tied : (b : Book) (t : Inner) (created : ℕ) (halted told : Bool) (why : Ending) (e : RedisError) (parting : Bool) (pending : List ℕ) → pending ≡ requests_in (wanted (link_in t.life).row) ++ awaited_ids (link_in t.life).queue → ending (b.link t.link) ≡ Some why → owed_by why ≡ Some (outcome.Fault e)
+    → ((f : RedisError) → failure_of why ≡ Some f → created ≢ 0) → (hears_pushes t.hears ≡ true → parting ≡ false → is_fault why ≡ false) → has_ended t.life ≡ false → (b.created ≢ 0 → created ≢ 0) → Tied b (record t { pending = []; untold = []; parting = false }) → TiedCreation created told
+    → Tied (record (entered b (action.Close t.link)) { created = created; failed = halted }) (record t { life = Ended e; told = told; pending = pending; untold = []; parting = parting })
+close_tied b t created halted told why e parting pending ids must is shown mild up on h made =
     let turn = b.turns - 1 in
     let after = record (entered b (action.Close t.link)) { created = created; failed = halted } in
     let last = is_last_one (b.link t.link) b.created t.life h.life up in
-    tied_by after (record t { life = Ended e; pending = pending; untold = []; parting = parting }) (noted (b.link t.link) (ends turn)) (mine_noted (b.link t.link) t.link (ends turn)) (record {
+    tied_by after (record t { life = Ended e; told = told; pending = pending; untold = []; parting = parting }) (noted (b.link t.link) (ends turn)) (mine_noted (b.link t.link) t.link (ends turn)) (record {
       numbers = record { turns = h.numbers.turns; links = h.numbers.links; timers = h.numbers.timers; sources = h.numbers.sources; aims = h.numbers.aims; timed = h.numbers.timed; submissions = h.numbers.submissions; timeout = h.numbers.timeout; shut = h.numbers.shut; within = h.numbers.within; few = h.numbers.few; settings = record { size_is = h.numbers.settings.size_is; bound_is = h.numbers.settings.bound_is; limit_is = h.numbers.settings.limit_is; some = h.numbers.settings.some; limited = h.numbers.settings.limited }; kind_is = h.numbers.kind_is; quiet = h.numbers.quiet; plain = h.numbers.plain; eager = h.numbers.eager; current_is = h.numbers.current_is; speaks = h.numbers.speaks; one = h.numbers.one; few_links = h.numbers.few_links };
       others = others_created t.link created _ on (others_kept b t.link (ends turn) h.others);
       notices = record {
@@ -137,6 +137,7 @@ close_tied b t created halted why e parting pending ids must is shown mild up on
       };
       life = (refl, ends_owed (b.link t.link) turn why e last must is, ends_failed (b.link t.link) turn created why last must shown, is_asked (b.link t.link) b.created t.life h.life);
       creds = record { wanted_is = h.creds.wanted_is; sought = tt };
+      creation = made;
       uses = h.uses;
       renewal = renewal_ended (b.link t.link) (noted (b.link t.link) (ends turn)) t.renewal t.life refl refl h.renewal;
       setup = record { info_is = h.setup.info_is; sent = h.setup.sent; said = tt };
@@ -361,7 +362,7 @@ cut_holds before f w row queue why parting started h alive closes opened mild mu
     let link_is : (book (trace_of_acts before f (cut_short w).acts)).link f.single.link ≡ noted (b.link f.single.link) (ends (b.turns - 1)) = ap (λ (x : Book). x.link f.single.link) (book_of_more before f w.acts act.Close) ∙ mine_noted (b.link f.single.link) f.single.link (ends (b.turns - 1)) in
     record {
       holds = sound_told before f w.acts act.Close (record w.conn { life = Ended error.Closed }) [] parting ns started h.stands (may_close b t why h.tied refl refl alive must.0)
-          (close_tied b t b.created b.failed why error.Closed parting ns ids must.0 closes (λ e fails. absurd (no_failure e (sym opened ∙ fails))) mild alive (λ some. some) h.tied);
+          (close_tied b t b.created b.failed t.told why error.Closed parting ns ids must.0 closes (λ e fails. absurd (no_failure e (sym opened ∙ fails))) mild alive (λ some. some) h.tied h.tied.creation);
       over = refl;
       line = close_in_line w.conn.requests link w.conn.admitted w.conn.waiting ns ids (in_line b t h.tied alive);
       early = λ p o. ap (λ (x : Book). (x.story (name_at w.conn.requests p)).overdue) (book_of_more before f w.acts act.Close) ∙ are_in_time b t h.tied refl p o;
@@ -500,5 +501,6 @@ ended_applied before f w e started began none_moved h = record {
     setup = λ link greeting is. (let no : Ended e ≡ SettingUp link greeting = sym h.over ∙ is in cc);
     link = λ link is. (let no : Ended e ≡ Ready link = sym h.over ∙ is in cc);
     none = λ n. h.none_admitted;
+    lasts = λ x y. (let no : true ≡ false = sym (ap has_ended h.over) ∙ y in cc);
   };
 }

@@ -20,11 +20,12 @@ use Rattle.link_laws.proofs.TiedLink.{TiedLink, enqueued_tied, said_tied}
 use Rattle.link_laws.specs.Settles.{wanted, awaited_ids}
 use Rattle.mux_conn.specs.declared.act.LinkAct.TheVariants as act
 use Rattle.mux_conn.specs.declared.life.Life.{Life}
-use Rattle.mux_conn.specs.declared.life.Life.TheVariants.{Dialing, Wanting, SettingUp, Ready, Ended}
+use Rattle.mux_conn.specs.declared.life.Life.TheVariants.{Resting, Dialing, Wanting, SettingUp, Ready, Ended}
 use Rattle.mux_conn.specs.Requests.{is_waiting_at}
-use Rattle.mux_conn.specs.Effects.{all_fresh, come_up, made_ready, sets_up, setup_queued, steps_of, numbers_of, greeted, setup_id}
+use Rattle.mux_conn.specs.Effects.{all_fresh, come_up, creation_told, made_ready, sets_up, setup_queued, steps_of, numbers_of, greeted, setup_id}
 use Rattle.mux_conn.specs.Turn.{early_wait}
-use Rattle.mux_conn.specs.Connection.{Work, is_ready, acted, with_link}
+use Rattle.mux_conn.specs.Connection.{Work, is_ready, acted, opened_on}
+use Rattle.mux_conn.specs.Renewals.{source_asked}
 use Rattle.mux_conn.specs.declared.connection.MultiplexedConnection.{MultiplexedConnection}
 use Rattle.mux_conn.specs.declared.request.Request.{Request}
 use Rattle.mux_conn.specs.declared.request.Waiting.{Waiting}
@@ -35,7 +36,7 @@ use Rattle.legal_trace.specs.Book.{Book, blank_book, book, entered, use_for, if_
 use Rattle.legal_trace.specs.Story.{Story}
 use Rattle.legal_trace.specs.Legal.{AllStand, MayBeCreated, MayNeed}
 use Rattle.legal_trace.proofs.Setups.{ends_where_set, silent_is_set, silent_is_greeted}
-use Rattle.session_laws.proofs.Tied.{AreSetups, AreQueued, HasCredentials, IsEntry, IsQueued, IsSettingUp, IsSetupDue, IsSetUp, Inner, Tied, TiedLines, TiedNotices, TiedWaits, has_ended, inner, link_in, no_link, owner_of, queue_ids, shown_wait, waiting_ids, AreSought, AreUses, HasSaid, is_reading, AreSetupsAlone, IsWatching, greeting_at, owners_of, setup_owners, watch_queued}
+use Rattle.session_laws.proofs.Tied.{shown_creation, Sound, TiedCreation, never_rests, AreSetups, AreQueued, HasCredentials, IsEntry, IsQueued, IsSettingUp, IsSetupDue, IsSetUp, Inner, Tied, TiedLines, TiedNotices, TiedWaits, has_ended, inner, link_in, no_link, owner_of, queue_ids, shown_wait, waiting_ids, AreSought, AreUses, HasSaid, is_reading, AreSetupsAlone, IsWatching, greeting_at, owners_of, setup_owners, watch_queued}
 use Rattle.session_laws.proofs.States.{Between, HasApplied, IsFit, IsFitIn}
 use Rattle.session_laws.proofs.Creds.{has_credentials, IsOfRenewals, down_sourced}
 use Rattle.session_laws.proofs.Said.{PushesOf, ending_setting, readied, setup_recredited, well_readied}
@@ -48,7 +49,7 @@ use Rattle.session_laws.proofs.Heard.{book_kind, book_news, fresh_applied, heard
 use Rattle.session_laws.proofs.Ahead.{waiting_open}
 use Rattle.session_laws.proofs.Renewals.{early_renewal, renewed_first}
 use Rattle.session_laws.proofs.Kept.{mine_noted, others_kept}
-use Rattle.std.proofs.lemmas.List.{nil_from_length}
+use Rattle.std.proofs.lemmas.List.{append-nil, nil_from_length}
 use Rattle.session_laws.proofs.Failing.{unstarted_owed}
 use Rattle.mux_conn.specs.declared.life.Greeting.TheVariants as greet
 use Rattle.mux_conn.specs.declared.life.Greeting.{Greeting}
@@ -90,6 +91,7 @@ fresh_rises b t h =
 
 -- where no wait is to be shown, who waits for the connection has shown what it waits for
 shown_early : (b : Book) (t : Inner) (p : ℕ) (life : Life) → Tied b t → t.fresh ≡ [] → t.life ≡ life → is_ready life ≡ false → has_ended life ≡ false → is_waiting_at t.requests p ≡ true → shown_wait b.story t.requests p ≡ Some (early_wait life)
+shown_early b t p Resting h none e f g w = absurd (never_rests (b.link t.link) b.created t.life e h.life)
 shown_early b t p Dialing h none e f g w = elim (h.waits.connect p w e) [ inl i ↦ absurd (subst (IsIn p) none i) | inr s ↦ s ]
 shown_early b t p (Wanting link) h none e f g w = elim (h.waits.creds p link w e) [ inl i ↦ absurd (subst (IsIn p) none i) | inr s ↦ s ]
 shown_early b t p (SettingUp link greeting) h none e f g w = elim (h.waits.setup p link greeting w e) [ inl i ↦ absurd (subst (IsIn p) none i) | inr s ↦ s ]
@@ -136,7 +138,6 @@ pub record IsMade (l : Ledger) (created : ℕ) (requests : List Request) (link :
   pub up : l.up ≡ true
   pub alive : l.end ≡ None
   pub last : l.last ≡ true
-  pub unshown : created ≡ 0
   pub said : IsSetUp l
   pub tied : TiedLink (owner_of requests) l link
   pub queue : link.queue ≡ []
@@ -156,6 +157,7 @@ pub record IsEarly (life : Life) (after : WaitKind) : Type 0 where
 
 -- no message has started there
 early_started : (l : Ledger) (started : List ℕ) (life : Life) → is_ready life ≡ false → has_ended life ≡ false → HasSaid l started life → started ≡ []
+early_started l started Resting unready alive h = h.1
 early_started l started Dialing unready alive h = h.1
 early_started l started (Wanting link) unready alive h = h.1
 early_started l started (SettingUp link greeting) unready alive h = h.0
@@ -164,6 +166,7 @@ early_started l started (Ended e) unready alive h = cc
 
 -- nor was a second source asked for
 pub early_sources : (c : Sourced) (life : Life) → is_ready life ≡ false → has_ended life ≡ false → AreSought c life → c.renews ≡ false
+early_sources c Resting unready alive h = h.2
 early_sources c Dialing unready alive h = h.2
 early_sources c (Wanting link) unready alive h = h.3
 early_sources c (SettingUp link greeting) unready alive h = h.1
@@ -180,10 +183,10 @@ pub record IsReadied (b : Book) (c : Core) (l : Ledger) (info : RedisConnectionI
   pub notices : TiedNotices (hearing_in b.config) c.single.connection.hears l.hearing l.notices l.told l.end l.parted l.strange (is_reading l) untold false
 
 -- what the session needs of it, also where a second source is asked for
-readied_comes : (b : Book) (c : Core) (started : List ℕ) (n : News) (info : RedisConnectionInfo) (link : LinkState) (untold : List Heard) (more : Bool) → Tied b (inner c started) → IsFitIn c.single.connection → c.single.connection.fresh ≡ [] → (IsOfRenewals n → ⊥) → IsEarly c.single.connection.life wait.Permit
+readied_comes : (b : Book) (c : Core) (started : List ℕ) (n : News) (info : RedisConnectionInfo) (link : LinkState) (untold : List Heard) (more : Bool) (created : ℕ) → created ≢ 0 → Tied b (inner c started) → IsFitIn c.single.connection → c.single.connection.fresh ≡ [] → (IsOfRenewals n → ⊥) → IsEarly c.single.connection.life wait.Permit
     → (let l = heard_by b c n in IsReadied b c l info link untold → l.creds.wanted ≡ more → (more ≡ true → l.creds.asked ≡ true)
-    → ComesTo b c (readied more l) (b.created + 1) info (Ready link) (numbers_of c.single.connection.waiting) [] untold started)
-readied_comes b c started n info link untold more h0 fit no_fresh other early facts needs some =
+    → ComesTo b c (readied more l) created info (Ready link) (numbers_of c.single.connection.waiting) [] untold started)
+readied_comes b c started n info link untold more created some_created h0 fit no_fresh other early facts needs some =
     let conn = c.single.connection in
     let l = heard_by b c n in
     let made = facts.made in
@@ -195,7 +198,7 @@ readied_comes b c started n info link untold more h0 fit no_fresh other early fa
     let said = setup_recredited l asked renews l.creds.renewals l.creds.over l.creds.timed l.creds.lost info started link (record { info_is = facts.info_is; sent = facts.sent; said = made.said }) in
     record {
       starts = heard_starts (b.link c.single.link) c.turns n;
-      lived = (made.asked, made.up, made.alive, λ z. absurd (omega arith), made.last);
+      lived = (made.asked, made.up, made.alive, made.last, some_created);
       creds = record {
         wanted_is = facts.wanted_is;
         sought = (
@@ -228,11 +231,11 @@ readied_comes b c started n info link untold more h0 fit no_fresh other early fa
 
 -- the creation may be shown then
 may_be_created : (b : Book) (c : Core) (started : List ℕ) (word : ℕ) (kind : EventKind) (n : News) (info : RedisConnectionInfo) (link : LinkState) (untold : List Heard) → Tied b (inner c started) → IsEarly c.single.connection.life wait.Permit → (heard_book b c.turns word kind).link c.single.link ≡ heard_by b c n
-    → IsReadied b c (heard_by b c n) info link untold → MayBeCreated (heard_book b c.turns word kind)
-may_be_created b c started word kind n info link untold h0 early own facts = record {
+    → IsReadied b c (heard_by b c n) info link untold → b.created ≡ 0 → MayBeCreated (heard_book b c.turns word kind)
+may_be_created b c started word kind n info link untold h0 early own facts unshown = record {
   l = c.single.link;
   ready = ap is_ready_link own ∙ (λ i. facts.made.up i && facts.made.said.well i);
-  once = facts.made.unshown;
+  once = unshown;
   answered = unstarted_owed b (heard_book b c.turns word kind) c started h0 (early_started (b.link c.single.link) started c.single.connection.life early.unready early.alive h0.setup.said) (λ m. refl) (ap (λ (y : Ledger). y.asked) own ∙ facts.made.asked) (ap (λ (y : Ledger). y.end) own ∙ facts.made.alive);
 }
 
@@ -240,7 +243,7 @@ may_be_created b c started word kind n info link untold h0 early own facts = rec
 pub makes_ready : (before : List Action) (c : Core) (started : List ℕ) (word : ℕ) (kind : EventKind) (n : News) (info : RedisConnectionInfo) (link : LinkState) (untold : List Heard) → Between before c started → is_bad c kind ≡ false → IsNewsKind c.timers kind
     → news_of c.timers c.sources c.single.link kind ≡ n → (IsOfRenewals n → ⊥) → IsEarly c.single.connection.life wait.Permit → IsReadied (book before) c (heard_by (book before) c n) info link untold
     → IsShownReady (before ++ turn_of c word kind ∷ []) (turned c kind) (made_ready (record { conn = record c.single.connection { info = info }; acts = [] }) link) (readied c.single.connection.renewal.wanted (heard_by (book before) c n)) untold started
-makes_ready before c started word kind n info link untold h good k is other early facts = by_wanted c.single.connection.renewal.wanted refl
+makes_ready before c started word kind n info link untold h good k is other early facts = by_told c.single.connection.told refl
   where
     b : Book
     b = book before
@@ -269,14 +272,17 @@ makes_ready before c started word kind n info link untold h good k is other earl
     shown : Action
     shown = action.Created None
 
+    opened : Work
+    opened = opened_on (all_fresh (record { conn = record c.single.connection { info = info }; acts = [] })) link
+
     v : Work
-    v = acted (with_link (all_fresh (record { conn = record c.single.connection { info = info }; acts = [] })) link) (act.Created None)
+    v = record { conn = record opened.conn { told = true }; acts = act.Created None ∷ [] }
 
     own : now.link mine ≡ l
     own = ap (heard_by b c) (book_news b c started kind n h0 is)
 
-    may : MayBeCreated now
-    may = may_be_created b c started word kind n info link untold h0 early own facts
+    may : b.created ≡ 0 → MayBeCreated now
+    may unshown = may_be_created b c started word kind n info link untold h0 early own facts unshown
 
     book_is : book front ≡ now
     book_is = book_more before (turn_of c word kind) ∙ heard_is b c.turns word kind (book_kind b c kind h0.numbers.timers k)
@@ -285,20 +291,20 @@ makes_ready before c started word kind n info link untold h good k is other earl
     all = all_stand-append before (turn_of c word kind ∷ []) h.sound.stands (may_turn before c started word kind h good, tt)
 
     -- none come of sources
-    unwanted : c.single.connection.renewal.wanted ≡ false → IsShownReady front f v (readied c.single.connection.renewal.wanted l) untold started
-    unwanted w =
-        let t = record (seen f [] (comes_as c info (Ready link) ns) [] started) { untold = untold } in
+    unwanted : b.created ≡ 0 → c.single.connection.renewal.wanted ≡ false → IsShownReady front f v (readied c.single.connection.renewal.wanted l) untold started
+    unwanted unshown w =
+        let t = record (seen f [] (comes_as c info (Ready link) ns) [] started) { told = true; untold = untold } in
         let same : readied c.single.connection.renewal.wanted l ≡ l = ap (λ (x : Bool). readied x l) w in
-        let comes = readied_comes b c started n info link untold false h0 h.fit h.fresh other early facts (facts.wanted_is ∙ w) (λ none. cc) in
-        let tied : Tied (entered now shown) t = heard_tied b c started word (b.created + 1) (b.failed || false) kind info (Ready link) ns [] untold l h0 good (λ some none. absurd (omega arith)) own comes in
+        let comes = readied_comes b c started n info link untold false (b.created + 1) ((shown_creation b.created).after refl) h0 h.fit h.fresh other early facts (facts.wanted_is ∙ w) (λ none. cc) in
+        let tied : Tied (entered now shown) t = heard_tied b c started word (b.created + 1) (b.failed || false) true kind info (Ready link) ns [] untold l h0 (shown_creation b.created) good (λ some none. absurd (omega arith)) own comes in
         record {
-          holds = sound_more front shown t all (inl (subst MayBeCreated (sym book_is) may)) (subst (λ (x : Book). Tied (entered x shown) t) (sym book_is) tied);
+          holds = sound_more front shown t all (inl (subst MayBeCreated (sym book_is) (may unshown))) (subst (λ (x : Book). Tied (entered x shown) t) (sym book_is) tied);
           ledger = ap (λ (x : Book). x.link mine) (book_more front shown ∙ ap (λ (x : Book). entered x shown) book_is) ∙ own ∙ sym same;
         }
 
     -- or a second source is asked for
-    wants : c.single.connection.renewal.wanted ≡ true → IsShownReady front f (acted v act.NeedRenewals) (readied c.single.connection.renewal.wanted l) untold started
-    wants w =
+    wants : b.created ≡ 0 → c.single.connection.renewal.wanted ≡ true → IsShownReady front f (acted v act.NeedRenewals) (readied c.single.connection.renewal.wanted l) untold started
+    wants unshown w =
         let count = length c.sources + 0 in
         let next : count ≡ length c.sources = omega arith in
         let needs = action.NeedCreds count mine in
@@ -314,11 +320,11 @@ makes_ready before c started word kind n info link untold h good k is other earl
         let links : ℕ → Ledger = λ m. noted_each (now.link m) (if_mine (mine == m) sources) in
         let after = noted l sources in
         let ledger_is : links mine ≡ after = mine_noted (now.link mine) mine sources ∙ ap (λ (y : Ledger). noted y sources) own in
-        let t = record (seen f [] (comes_as c info (Ready link) ns) [] started) { untold = untold; sources = uses } in
-        let comes = readied_comes b c started n info link untold true h0 h.fit h.fresh other early facts wanted (λ x. asked) in
+        let t = record (seen f [] (comes_as c info (Ready link) ns) [] started) { told = true; untold = untold; sources = uses } in
+        let comes = readied_comes b c started n info link untold true (b.created + 1) ((shown_creation b.created).after refl) h0 h.fit h.fresh other early facts wanted (λ x. asked) in
         let used : AreUses uses mine true l.creds.asked = uses_more c.sources mine true l.creds.asked (source.Renewal mine) (omega arith, λ same. asked) (uses_asked c.sources mine (b.link mine).creds.asked (b.link mine).creds.renews l.creds.asked once h0.uses) in
         let tied : Tied (entered created needs) t =
-        heard_tied_by b c started word (b.created + 1) (b.failed || false) kind info (Ready link) ns [] untold links after (b.sources ++ what ∷ []) uses h0 (protocol_still b c started kind info l h0 own facts.info_is) (others_kept now mine sources others) ledger_is
+        heard_tied_by b c started word (b.created + 1) (b.failed || false) true kind info (Ready link) ns [] untold links after (b.sources ++ what ∷ []) uses h0 (shown_creation b.created) (protocol_still b c started kind info l h0 own facts.info_is) (others_kept now mine sources others) ledger_is
         (λ i. h0.numbers.sources i ++ what_is i ∷ []) used comes in
         let need : MayNeed created count mine = record {
           due = ap source_due own ∙ (λ i. facts.made.up i && wanted i && (not (asked i) || (facts.made.said.well i && not (renews i))));
@@ -332,28 +338,96 @@ makes_ready before c started word kind n info link untold h good k is other earl
         let same : readied c.single.connection.renewal.wanted l ≡ after = ap (λ (x : Bool). readied x l) w in
         record {
           holds = record {
-            stands = all_stand-append front both all (inl (subst MayBeCreated (sym book_is) may), (subst (λ (x : Book). MayNeed (entered x shown) count mine) (sym book_is) need, tt));
+            stands = all_stand-append front both all (inl (subst MayBeCreated (sym book_is) (may unshown)), (subst (λ (x : Book). MayNeed (entered x shown) count mine) (sym book_is) need, tt));
             tied = subst (λ (x : Book). Tied x t) (sym last) tied;
           };
           ledger = ap (λ (x : Book). x.link mine) last ∙ ledger_is ∙ sym same;
         }
 
-    by_wanted : (x : Bool) → c.single.connection.renewal.wanted ≡ x → IsShownReady front f (if x then acted v act.NeedRenewals else v) (readied c.single.connection.renewal.wanted l) untold started
-    by_wanted true w = wants w
-    by_wanted false w = unwanted w
+    by_wanted : b.created ≡ 0 → (x : Bool) → c.single.connection.renewal.wanted ≡ x → IsShownReady front f (if x then acted v act.NeedRenewals else v) (readied c.single.connection.renewal.wanted l) untold started
+    by_wanted unshown true w = wants unshown w
+    by_wanted unshown false w = unwanted unshown w
+
+    -- what nothing is shown of, as it was told before
+    u : Work
+    u = record { conn = record opened.conn { told = true }; acts = [] }
+
+    again_creation : c.single.connection.told ≡ true → TiedCreation b.created true
+    again_creation told = record { before = λ z. cc; after = λ z. h0.creation.after told }
+
+    again_unwanted : c.single.connection.told ≡ true → c.single.connection.renewal.wanted ≡ false → IsShownReady front f u (readied c.single.connection.renewal.wanted l) untold started
+    again_unwanted told w =
+        let t = record (seen f [] (comes_as c info (Ready link) ns) [] started) { told = true; untold = untold } in
+        let same : readied c.single.connection.renewal.wanted l ≡ l = ap (λ (x : Bool). readied x l) w in
+        let comes = readied_comes b c started n info link untold false b.created (h0.creation.after told) h0 h.fit h.fresh other early facts (facts.wanted_is ∙ w) (λ none. cc) in
+        let tied : Tied now t = heard_tied b c started word b.created b.failed true kind info (Ready link) ns [] untold l h0 (again_creation told) good (λ some. some) own comes in
+        record {
+          holds = subst (λ (x : List Action). Sound x t) (sym (append-nil front)) (record { stands = all; tied = subst (λ (x : Book). Tied x t) (sym book_is) tied });
+          ledger = ap (λ (x : List Action). (book x).link mine) (append-nil front) ∙ ap (λ (x : Book). x.link mine) book_is ∙ own ∙ sym same;
+        }
+
+    again_wants : c.single.connection.told ≡ true → c.single.connection.renewal.wanted ≡ true → IsShownReady front f (acted u act.NeedRenewals) (readied c.single.connection.renewal.wanted l) untold started
+    again_wants told w =
+        let count = length c.sources in
+        let needs = action.NeedCreds count mine in
+        let wanted : l.creds.wanted ≡ true = facts.wanted_is ∙ w in
+        let asked : l.creds.asked ≡ true = elim facts.has [ inl none ↦ absurd (not_both l.creds.wanted none wanted) | inr come ↦ come.0 ] in
+        let once : (b.link mine).creds.renews ≡ false = early_sources (b.link mine).creds c.single.connection.life early.unready early.alive h0.creds.sought in
+        let renews : l.creds.renews ≡ false = renews_hear (b.link mine) c.turns n ∙ once in
+        let uses = c.sources ++ source.Renewal mine ∷ [] in
+        let what = use_for now mine in
+        let what_is : what ≡ source.Renewal mine = ap (λ (x : Ledger). if x.creds.asked then source.Renewal mine else source.Setup mine) own ∙ taken_if l.creds.asked (source.Renewal mine) (source.Setup mine) asked in
+        let others = others_heard b c started kind b.created h0 good (λ some. some) in
+        let links : ℕ → Ledger = λ m. noted_each (now.link m) (if_mine (mine == m) sources) in
+        let after = noted l sources in
+        let ledger_is : links mine ≡ after = mine_noted (now.link mine) mine sources ∙ ap (λ (y : Ledger). noted y sources) own in
+        let t = record (seen f [] (comes_as c info (Ready link) ns) [] started) { told = true; untold = untold; sources = uses } in
+        let comes = readied_comes b c started n info link untold true b.created (h0.creation.after told) h0 h.fit h.fresh other early facts wanted (λ x. asked) in
+        let used : AreUses uses mine true l.creds.asked = uses_more c.sources mine true l.creds.asked (source.Renewal mine) (omega arith, λ same. asked) (uses_asked c.sources mine (b.link mine).creds.asked (b.link mine).creds.renews l.creds.asked once h0.uses) in
+        let tied : Tied (entered now needs) t =
+        heard_tied_by b c started word b.created b.failed true kind info (Ready link) ns [] untold links after (b.sources ++ what ∷ []) uses h0 (again_creation told) (protocol_still b c started kind info l h0 own facts.info_is) (others_kept now mine sources others) ledger_is
+        (λ i. h0.numbers.sources i ++ what_is i ∷ []) used comes in
+        let need : MayNeed now count mine = record {
+          due = ap source_due own ∙ (λ i. facts.made.up i && wanted i && (not (asked i) || (facts.made.said.well i && not (renews i))));
+          next = ap length (sym h0.numbers.sources);
+          in_order = λ m less. down_sourced (now.link m) (others m (λ one. omega arith)).down;
+          answered = unstarted_owed b now c started h0 (early_started (b.link mine) started c.single.connection.life early.unready early.alive h0.setup.said) (λ m. refl) (ap (λ (y : Ledger). y.asked) own ∙ facts.made.asked) (ap (λ (y : Ledger). y.end) own ∙ facts.made.alive);
+          created = λ m ready. h0.creation.after told;
+        } in
+        let last : book (front ++ needs ∷ []) ≡ entered now needs = book_more front needs ∙ ap (λ (x : Book). entered x needs) book_is in
+        let same : readied c.single.connection.renewal.wanted l ≡ after = ap (λ (x : Bool). readied x l) w in
+        record {
+          holds = sound_more front needs t all (subst (λ (x : Book). MayNeed x count mine) (sym book_is) need) (subst (λ (x : Book). Tied (entered x needs) t) (sym book_is) tied);
+          ledger = ap (λ (x : Book). x.link mine) last ∙ ledger_is ∙ sym same;
+        }
+
+    again : c.single.connection.told ≡ true → (x : Bool) → c.single.connection.renewal.wanted ≡ x → IsShownReady front f (if x then acted u act.NeedRenewals else u) (readied c.single.connection.renewal.wanted l) untold started
+    again told true w = again_wants told w
+    again told false w = again_unwanted told w
+
+    -- whether it was told before or not
+    by_told : (x : Bool) → c.single.connection.told ≡ x → IsShownReady front f (source_asked (record { conn = record opened.conn { told = true }; acts = if x then [] else act.Created None ∷ [] })) (readied c.single.connection.renewal.wanted l) untold started
+    by_told true told = again told c.single.connection.renewal.wanted refl
+    by_told false untold_yet = by_wanted (h0.creation.before untold_yet) c.single.connection.renewal.wanted refl
+
+-- what a link that becomes ready leaves of a connection, whether a source is asked for or not
+abbrev pub made_of : MultiplexedConnection → LinkState → MultiplexedConnection
+made_of c link = record c { fresh = numbers_of c.waiting; life = Ready link; opened = true; told = true }
 
 -- what a source that is asked for leaves
-pub made_conn : (w : Work) (link : LinkState) → (made_ready w link).conn ≡ (with_link (all_fresh w) link).conn
-made_conn w link = chosen (λ (x : Work). x.conn ≡ (with_link (all_fresh w) link).conn) w.conn.renewal.wanted (acted (acted (with_link (all_fresh w) link) (act.Created None)) act.NeedRenewals) (acted (with_link (all_fresh w) link) (act.Created None)) (λ t. refl) (λ f. refl)
+pub made_conn : (w : Work) (link : LinkState) → (made_ready w link).conn ≡ made_of w.conn link
+made_conn w link =
+    let v = creation_told (opened_on (all_fresh w) link) None in
+    chosen (λ (x : Work). x.conn ≡ made_of w.conn link) w.conn.renewal.wanted (acted v act.NeedRenewals) v (λ t. refl) (λ f. refl)
 
 -- but for what it shows
-pub made_is : (w : Work) (link : LinkState) → made_ready w link ≡ record { conn = (with_link (all_fresh w) link).conn; acts = (made_ready w link).acts }
+pub made_is : (w : Work) (link : LinkState) → made_ready w link ≡ record { conn = made_of w.conn link; acts = (made_ready w link).acts }
 made_is w link = by_wanted w.conn.renewal.wanted
   where
     v : Work
-    v = acted (with_link (all_fresh w) link) (act.Created None)
+    v = creation_told (opened_on (all_fresh w) link) None
 
-    by_wanted : (b : Bool) → (if b then acted v act.NeedRenewals else v) ≡ record { conn = v.conn; acts = (if b then acted v act.NeedRenewals else v).acts }
+    by_wanted : (b : Bool) → (if b then acted v act.NeedRenewals else v) ≡ record { conn = made_of w.conn link; acts = (if b then acted v act.NeedRenewals else v).acts }
     by_wanted true = refl
     by_wanted false = refl
 
@@ -374,6 +448,7 @@ ready_applied front f conn link l started began none_moved fit none h =
         setup = λ x u e. cc;
         link = λ x e. (let same : link ≡ x = cc in subst (IsFit conn.size conn.boundary) same fit);
         none = λ none. absurd (none link refl);
+        lasts = λ x y. cc;
       });
     }
 
@@ -385,7 +460,6 @@ pub record IsUpNow (l : Ledger) (created : ℕ) (c : MultiplexedConnection) (inf
   pub up : l.up ≡ true
   pub alive : l.end ≡ None
   pub last : l.last ≡ true
-  pub unshown : created ≡ 0
   pub info_is : l.info ≡ info
   pub wanted_is : l.creds.wanted ≡ c.renewal.wanted
   pub sent : AreSetups l
@@ -412,7 +486,7 @@ comes_ready before c started word kind n info link h good k is other early u has
     let more = c.single.connection.renewal.wanted in
     let silent : says_nothing (setup_steps l 0) ≡ true = says_same l info u.info_is ∙ nothing in
     let said : IsSetUp l = record { well = silent_is_set l (ap is_watching notices.hearing_is ∙ plain) (has_credentials l.creds has) silent; none = λ t. ap setup_count u.starts } in
-    let made : IsMade l (book before).created conn.requests link = record { asked = u.asked; up = u.up; alive = u.alive; last = u.last; unshown = u.unshown; said = said; tied = u.tied (owner_of conn.requests); queue = u.queue; row = u.row } in
+    let made : IsMade l (book before).created conn.requests link = record { asked = u.asked; up = u.up; alive = u.alive; last = u.last; said = said; tied = u.tied (owner_of conn.requests); queue = u.queue; row = u.row } in
     ready_applied (before ++ turn_of c word kind ∷ []) (turned c kind) conn link (readied more l) started (λ z. absurd (omega arith)) h.moved u.fit (ends_where_set (readied more l) u.up (well_readied more l ∙ said.well) ∙ calm more)
     (makes_ready before c started word kind n info link [] h good k is other early (record { info_is = u.info_is; sent = u.sent; wanted_is = u.wanted_is; has = has; made = made; notices = notices }))
 
@@ -456,7 +530,7 @@ comes_to_say before c started word kind n info link h good k is other early u ha
     fresh_applied before c started word kind n info life (numbers_of conn.waiting) h good k is
     (record {
       starts = heard_starts (b.link c.single.link) c.turns n;
-      lived = (u.asked, u.up, u.alive, u.unshown, u.last);
+      lived = (u.asked, u.up, u.alive, u.last);
       creds = record { wanted_is = u.wanted_is; sought = (has, renews_hear (b.link c.single.link) c.turns n ∙ early_sources (b.link c.single.link).creds conn.life early.unready early.alive h0.creds.sought) };
       renewal_is = none_hears (b.link c.single.link) c.turns n conn.renewal other (early_renewal (b.link c.single.link) conn.renewal conn.life early.unready early.alive h0.renewal);
       said = record { info_is = u.info_is; sent = u.sent; said = (u.none, said) };
@@ -472,6 +546,7 @@ comes_to_say before c started word kind n info link h good k is other early u ha
       setup = λ x w same. (let one : next ≡ x = cc in subst (IsFit conn.size conn.boundary) one fits);
       link = λ x same. cc;
       none = λ z. nobody;
+      lasts = λ x y. h.fit.lasts early.unready early.alive;
     })
 
 -- where there are no requests nobody waits
@@ -535,7 +610,7 @@ comes_to_watch before c started word kind n info link h good k is other early u 
     fresh_applied before c started word kind n info life conn.fresh h good k is
     (record {
       starts = heard_starts (b.link c.single.link) c.turns n;
-      lived = (u.asked, u.up, u.alive, u.unshown, u.last);
+      lived = (u.asked, u.up, u.alive, u.last);
       creds = record { wanted_is = u.wanted_is; sought = (has, renews_hear (b.link c.single.link) c.turns n ∙ early_sources (b.link c.single.link).creds conn.life early.unready early.alive h0.creds.sought) };
       renewal_is = none_hears (b.link c.single.link) c.turns n conn.renewal other (early_renewal (b.link c.single.link) conn.renewal conn.life early.unready early.alive h0.renewal);
       said = record { info_is = u.info_is; sent = u.sent; said = (u.none, said) };
@@ -551,6 +626,7 @@ comes_to_watch before c started word kind n info link h good k is other early u 
       setup = λ x w same. (let one : next ≡ x = cc in subst (IsFit conn.size conn.boundary) one fits);
       link = λ x same. cc;
       none = λ z. nobody;
+      lasts = λ x y. h.fit.lasts early.unready early.alive;
     })
 
 -- so it comes up

@@ -17,7 +17,7 @@ use Rattle.link_core.specs.Link.{LinkState, fresh}
 use Rattle.link_laws.proofs.TiedLink.{TiedLink, connected_tied, named_tied, sourced_tied}
 use Rattle.link_laws.specs.Settles.{wanted, awaited_ids}
 use Rattle.mux_conn.specs.declared.life.Life.{Life}
-use Rattle.mux_conn.specs.declared.life.Life.TheVariants.{Dialing, Wanting, SettingUp, Ready, Ended}
+use Rattle.mux_conn.specs.declared.life.Life.TheVariants.{Resting, Dialing, Wanting, SettingUp, Ready, Ended}
 use Rattle.mux_conn.specs.Effects.{come_up, comes_to_want, new_link, numbers_of, connected_at, refused_at, overdue_at, dropped_at, dropped_by}
 use Rattle.mux_conn.specs.Connection.{Work, is_ready}
 use Rattle.mux_conn.specs.Turn.{early_wait}
@@ -29,7 +29,7 @@ use Rattle.legal_trace.specs.Ledger.{Ledger, hears, lacks_credentials, noted, no
 use Rattle.legal_trace.specs.Book.{Book, blank_book, book, entered, if_mine, use_for}
 use Rattle.legal_trace.specs.Legal.{AllStand, MayNeed}
 use Rattle.session_laws.proofs.Aside.{unfailed}
-use Rattle.session_laws.proofs.Tied.{AreQueued, AreSought, HasSaid, inner, no_link, link_in, carried, whole_link, owner_of, Tied, TiedLife, TiedLines, has_ended, AreUses}
+use Rattle.session_laws.proofs.Tied.{shown_creation, never_rests, AreQueued, AreSought, HasSaid, inner, no_link, link_in, carried, whole_link, owner_of, Tied, TiedLife, TiedLines, has_ended, AreUses}
 use Rattle.session_laws.proofs.Creds.{down_sourced}
 use Rattle.session_laws.proofs.Said.{ending_wanting, ready_heard, setting_heard, setup_hears, dropped_end}
 use Rattle.session_laws.proofs.Failing.{IsFailing, failing_applied, unready_shown, unstarted_owed}
@@ -104,8 +104,7 @@ up_now before c started h e =
       asked = ap (λ (x : Ledger). x.asked) is ∙ lived.0;
       up = ap (λ (x : Ledger). x.up) is;
       alive = ap (λ (x : Ledger). x.end) is ∙ lived.2;
-      last = ap (λ (x : Ledger). x.last) is ∙ lived.4;
-      unshown = lived.3;
+      last = ap (λ (x : Ledger). x.last) is ∙ lived.3;
       info_is = told.info_is;
       wanted_is = ap (λ (x : Ledger). x.creds.wanted) is ∙ t.creds.wanted_is;
       sent = told.sent;
@@ -170,11 +169,11 @@ connected_wants before c started word kind h good k is e wants =
     let used : AreUses uses mine true l.creds.asked = uses_more c.sources mine true l.creds.asked next (omega arith, λ same. refl) (uses_asked c.sources mine l0.creds.asked l0.creds.renews l.creds.asked sought.2 h0.uses) in
     let none = none_hears l0 c.turns connected conn.renewal (λ x. x) (early_renewal l0 conn.renewal conn.life early.unready early.alive h0.renewal) in
     let t = record (seen f [] (comes_as c conn.info life ns) [] started) { sources = uses } in
-    let tied : Tied (entered now shown) t = heard_tied_by b c started word b.created b.failed kind conn.info life ns [] [] links after (b.sources ++ what ∷ []) uses h0 refl
+    let tied : Tied (entered now shown) t = heard_tied_by b c started word b.created b.failed conn.told kind conn.info life ns [] [] links after (b.sources ++ what ∷ []) uses h0 h0.creation refl
     (others_kept now mine sources others) asked (λ i. h0.numbers.sources i ++ what_is i ∷ []) used
     (record {
       starts = heard_starts l0 c.turns connected;
-      lived = (u.asked, u.up, u.alive, u.unshown, u.last);
+      lived = (u.asked, u.up, u.alive, u.last);
       creds = record { wanted_is = u.wanted_is; sought = (wanted_is, refl, ungiven, unasked) };
       renewal_is = record { over_is = none.over_is; came = none.came; waits = none.waits; untimed = none.untimed; unstarted = none.unstarted; unasked = none.unasked; unpending = none.unpending; told = none.told; kept = none.kept; found = none.found };
       said = record { info_is = u.info_is; sent = u.sent; said = (u.starts, u.none, refl, refl) };
@@ -205,6 +204,7 @@ connected_wants before c started word kind h good k is e wants =
         setup = λ x w one. cc;
         link = λ x one. cc;
         none = λ z. nobody;
+        lasts = λ x y. h.fit.lasts early.unready early.alive;
       };
     }
 
@@ -221,6 +221,7 @@ connected_applied before c started word kind h good k is = by_life c.single.conn
     again up alive none = passed_over before c started word kind connected h good k is (again_is l c.turns up alive) none
 
     by_life : (x : Life) → c.single.connection.life ≡ x → HasApplied (before ++ turn_of c word kind ∷ []) (with_work (record { core = turned c kind; acts = [] }) (connected_at (record { conn = c.single.connection; acts = [] }) x)) started
+    by_life Resting e = absurd (never_rests ((book before).link c.single.link) (book before).created c.single.connection.life e h.sound.tied.life)
     by_life Dialing e =
         let w : Work = record { conn = c.single.connection; acts = [] } in
         let link = new_link c.single.connection in
@@ -260,15 +261,15 @@ refused_fails before c started word kind f h good k is e =
     let now = heard_book b c.turns word kind in
     let front = before ++ turn_of c word kind ∷ [] in
     let life = Ended (error.Io f) in
-    let t = seen (turned c kind) [] (lives_as c life) [] started in
+    let t = record (seen (turned c kind) [] (lives_as c life) [] started) { told = true } in
     let lived = subst (λ (x : Life). TiedLife l0 b.created x) e h0.life in
     let over : l ≡ record (refused_in l0 c.turns (error.Io f)) { heard = refused f } = refused_is l0 c.turns b.created f lived in
     let own_ledger : now.link c.single.link ≡ l = ap (heard_by b c) (book_news b c started kind (refused f) h0 is) in
     let said = setup_hears l0 c.turns (refused f) conn.info started conn.life tt h0.setup in
-    let tied : Tied (entered now (action.Created (Some (error.Io f)))) t = heard_tied b c started word (b.created + 1) (b.failed || true) kind conn.info life conn.fresh [] [] l h0 good (λ some none. absurd (omega arith)) own_ledger
+    let tied : (created : ℕ) (halted : Bool) → created ≢ 0 → Tied (record now { created = created; failed = halted }) t = λ created halted some. heard_tied b c started word created halted true kind conn.info life conn.fresh [] [] l h0 (record { before = λ z. cc; after = λ z. some }) good (λ z. some) own_ledger
     (record {
       starts = heard_starts l0 c.turns (refused f);
-      lived = subst (λ (x : Ledger). TiedLife x (b.created + 1) life) (sym over) (lived.1, ap (λ last. owed_by (lasting last (by_opening (error.Io f)))) lived.4, λ x fails z. absurd (omega arith), lived.0);
+      lived = subst (λ (x : Ledger). TiedLife x created life) (sym over) (lived.1, ap (λ last. owed_by (lasting last (by_opening (error.Io f)))) lived.3, λ x fails. some, lived.0);
       creds = record { wanted_is = ap (λ (x : Ledger). x.creds.wanted) over ∙ h0.creds.wanted_is; sought = tt };
       renewal_is = renewal_ended l0 l conn.renewal conn.life (timed_hear l0 c.turns (refused f)) (heard_starts l0 c.turns (refused f)) h0.renewal;
       said = record { info_is = said.info_is; sent = said.sent; said = tt };
@@ -281,10 +282,12 @@ refused_fails before c started word kind f h good k is e =
     let book_is : book front ≡ now = book_more before (turn_of c word kind) ∙ heard_is b c.turns word kind (book_kind b c kind h0.numbers.timers k) in
     record {
       stands = all_stand-append before (turn_of c word kind ∷ []) h.sound.stands (may_turn before c started word kind h good, tt);
-      fails = ap (λ (x : Book). failure_in (x.link c.single.link).end) book_is ∙ ap (λ (x : Ledger). failure_in x.end) (own_ledger ∙ over) ∙ ap (λ last. failure_of (lasting last (by_opening (error.Io f)))) lived.4;
-      unshown = ap (λ (x : Book). x.created) book_is ∙ lived.3;
-      first = λ m less. ap (λ (x : Book). failure_in (x.link m).end) book_is ∙ unfailed (now.link m) (others_heard b c started kind b.created h0 good (λ some. some) m (λ same. omega arith)) lived.3;
-      tied = subst (λ (x : Book). Tied (entered x (action.Created (Some (error.Io f)))) t) (sym book_is) tied;
+      fails = ap (λ (x : Book). failure_in (x.link c.single.link).end) book_is ∙ ap (λ (x : Ledger). failure_in x.end) (own_ledger ∙ over) ∙ ap (λ last. failure_of (lasting last (by_opening (error.Io f)))) lived.3;
+      lasts = h.fit.lasts (ap is_ready e) (ap has_ended e);
+      unshown = λ untold. ap (λ (x : Book). x.created) book_is ∙ h0.creation.before untold;
+      first = λ untold m less. ap (λ (x : Book). failure_in (x.link m).end) book_is ∙ unfailed (now.link m) (others_heard b c started kind b.created h0 good (λ some. some) m (λ same. omega arith)) (h0.creation.before untold);
+      tied = λ untold. subst (λ (x : Book). Tied (entered x (action.Created (Some (error.Io f)))) t) (sym book_is) (tied (b.created + 1) (b.failed || true) ((shown_creation b.created).after refl));
+      again = λ told. subst (λ (x : Book). Tied x t) (sym book_is) (tied b.created b.failed (h0.creation.after told));
     }
 
 -- a link that is up doesn't dial
@@ -312,6 +315,7 @@ refused_applied before c started word kind f h good k is = by_life c.single.conn
     late up none = passed_over before c started word kind (refused f) h good k is (up_refused l c.turns f up) none
 
     by_life : (x : Life) → c.single.connection.life ≡ x → HasApplied (before ++ turn_of c word kind ∷ []) (with_work (record { core = turned c kind; acts = [] }) (refused_at (record { conn = c.single.connection; acts = [] }) f x)) started
+    by_life Resting e = absurd (never_rests ((book before).link c.single.link) (book before).created c.single.connection.life e h.sound.tied.life)
     by_life Dialing e =
         let front = before ++ turn_of c word kind ∷ [] in
         let w : Work = record { conn = c.single.connection; acts = [] } in
@@ -348,7 +352,7 @@ closing_fails before c started word kind n x plain asks h good k is e =
     let asked : (l0.asked && not (is_over l0)) ≡ true = (λ i. lived0.0 i && not (is_some (lived0.2 i))) in
     let must : ending l ≡ Some why = ap ending (begins.ledger ∙ plain_is l0 c.turns n plain) ∙ left_if l0.up (ending_alive (record l0 { heard = n })) _ lived0.1 ∙ taken_if (l0.asked && not (is_over l0)) (ending_asked (record l0 { heard = n }) n) None asked ∙ asks in
     let now = entered b (action.Close c.single.link) in
-    let tied = close_tied b t (b.created + 1) (b.failed || true) why x false [] (ap (λ (y : Life). requests_in (wanted (link_in y).row) ++ awaited_ids (link_in y).queue) (sym e)) must refl (λ y fails z. absurd (omega arith)) (λ heard done. refl) (ap has_ended e) (λ some none. absurd (omega arith)) begins.holds.tied in
+    let tied : (created : ℕ) (halted : Bool) → created ≢ 0 → Tied (record now { created = created; failed = halted }) (seen f (act.Close ∷ []) (record conn { life = Ended x; told = true }) [] started) = λ created halted some. close_tied b t created halted true why x false [] (ap (λ (y : Life). requests_in (wanted (link_in y).row) ++ awaited_ids (link_in y).queue) (sym e)) must refl (λ y fails. some) (λ heard done. refl) (ap has_ended e) (λ z. some) begins.holds.tied (record { before = λ z. cc; after = λ z. some }) in
     let trace = trace_of_acts front f (act.Close ∷ []) in
     let shown : trace ≡ trace_of_acts front f [] ++ action.Close c.single.link ∷ [] = shown_more front c.single.link (length f.timers) (length f.sources) [] act.Close in
     let book_is : book trace ≡ now = book_of_more front f [] act.Close in
@@ -356,10 +360,12 @@ closing_fails before c started word kind n x plain asks h good k is e =
       stands = subst (AllStand blank_book) (sym shown) (all_stand-append (trace_of_acts front f []) (action.Close c.single.link ∷ []) begins.holds.stands (may_close b t why begins.holds.tied refl refl (ap has_ended e) must, tt));
       fails = ap (λ (y : Book). failure_in (y.link c.single.link).end) book_is
           ∙ ap (λ (y : Ledger). failure_in y.end) (mine_noted l c.single.link (ends (b.turns - 1)))
-          ∙ ap failure_of (ends_so l why lived.4 must);
-      unshown = ap (λ (y : Book). y.created) book_is ∙ lived.3;
-      first = λ m less. ap (λ (y : Book). failure_in (y.link m).end) book_is ∙ unfailed _ (others_kept b c.single.link (ends (b.turns - 1)) begins.holds.tied.others m (λ same. omega arith)) lived.3;
-      tied = subst (λ (y : Book). Tied (entered y (action.Created (Some x))) (seen f (act.Close ∷ []) (record conn { life = Ended x }) [] started)) (sym book_is) tied;
+          ∙ ap failure_of (ends_so l why lived.3 must);
+      lasts = h.fit.lasts (ap is_ready e) (ap has_ended e);
+      unshown = λ untold. ap (λ (y : Book). y.created) book_is ∙ begins.holds.tied.creation.before untold;
+      first = λ untold m less. ap (λ (y : Book). failure_in (y.link m).end) book_is ∙ unfailed _ (others_kept b c.single.link (ends (b.turns - 1)) begins.holds.tied.others m (λ same. omega arith)) (begins.holds.tied.creation.before untold);
+      tied = λ untold. subst (λ (y : Book). Tied (entered y (action.Created (Some x))) (seen f (act.Close ∷ []) (record conn { life = Ended x; told = true }) [] started)) (sym book_is) (tied (b.created + 1) (b.failed || true) ((shown_creation b.created).after refl));
+      again = λ told. subst (λ (y : Book). Tied y (seen f (act.Close ∷ []) (record conn { life = Ended x; told = true }) [] started)) (sym book_is) (tied b.created b.failed (begins.holds.tied.creation.after told));
     }
 
 -- the time is over: where the connect isn't answered, the opening has failed
@@ -368,6 +374,7 @@ pub overdue_applied : (before : List Action) (c : Core) (started : List ℕ) (wo
 overdue_applied before c started word kind h good k is = by_life c.single.connection.life refl
   where
     by_life : (x : Life) → c.single.connection.life ≡ x → HasApplied (before ++ turn_of c word kind ∷ []) (with_work (record { core = turned c kind; acts = [] }) (overdue_at (record { conn = c.single.connection; acts = [] }) x)) started
+    by_life Resting e = absurd (never_rests ((book before).link c.single.link) (book before).created c.single.connection.life e h.sound.tied.life)
     by_life Dialing e =
         failing_applied (before ++ turn_of c word kind ∷ []) (turned c kind) (record { conn = c.single.connection; acts = act.Close ∷ [] }) (error.Io kinds.TimedOut) started (λ z. absurd (omega arith)) h.moved
         (closing_fails before c started word kind overdue (error.Io kinds.TimedOut) tt refl h good k is e)
@@ -391,6 +398,7 @@ dropped_applied before c started word kind h good k is =
     (λ f. passed_over before c started word kind dropped h good k is refl (dropped_end l (ap hears_messages same ∙ f) (still_none before c started h c.single.link)))
   where
     by_life : hears_messages c.single.connection.hears ≡ true → (x : Life) → c.single.connection.life ≡ x → HasApplied (before ++ turn_of c word kind ∷ []) (with_work (record { core = turned c kind; acts = [] }) (dropped_at (record { conn = c.single.connection; acts = [] }) x)) started
+    by_life listens Resting e = absurd (never_rests ((book before).link c.single.link) (book before).created c.single.connection.life e h.sound.tied.life)
     by_life listens Dialing e =
         failing_applied (before ++ turn_of c word kind ∷ []) (turned c kind) (record { conn = c.single.connection; acts = act.Close ∷ [] }) error.Closed started (λ z. absurd (omega arith)) h.moved
         (closing_fails before c started word kind dropped error.Closed tt (taken_if (hears_messages ((book before).link c.single.link).hearing) (Some (by_opening error.Closed)) None (ap hears_messages h.sound.tied.notices.hearing_is ∙ listens)) h good k is e)

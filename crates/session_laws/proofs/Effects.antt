@@ -11,7 +11,7 @@ use Rattle.driver_model.specs.declared.event.EventKind.TheVariants as event
 use Rattle.driver_model.specs.declared.news.LinkFault.TheVariants as fault
 use Rattle.driver_model.specs.News.{News, connected, took, came, failed, authorized, denied, deserted, for_link, news_of, of_source, of_timer, refused, overdue, silence, renewed, unrenewed, late}
 use Rattle.mux_conn.specs.declared.life.Life.{Life}
-use Rattle.mux_conn.specs.declared.life.Life.TheVariants.{Dialing, Ready, Ended, SettingUp, Wanting}
+use Rattle.mux_conn.specs.declared.life.Life.TheVariants.{Resting, Dialing, Ready, Ended, SettingUp, Wanting}
 use Rattle.mux_conn.specs.Effects.{CanTake, applied}
 use Rattle.shared_session.specs.declared.core_state.Core.{Core}
 use Rattle.shared_session.specs.Turn.{with_work, heard, fired_by, late_by, effect, counted, is_no_link, exceeds_offer, is_bad}
@@ -54,6 +54,7 @@ by_link before c started word l kind n h good k is own = by_test (l == c.single.
 
 -- no more is taken than is offered
 can_take : (life : Life) (count : ℕ) → exceeds_offer life count ≡ false → CanTake life count
+can_take Resting count f = tt
 can_take Dialing count f = tt
 can_take (Wanting link) count f = not_lt_from link.outbox.offered count f
 can_take (SettingUp link greeting) count f = not_lt_from link.outbox.offered count f

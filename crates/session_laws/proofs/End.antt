@@ -23,15 +23,15 @@ use Rattle.link_laws.proofs.Settles.{row_hit_owed, row_closed_owed, same_error}
 use Rattle.link_laws.proofs.TiedLink.{TiedLink}
 use Rattle.mux_conn.specs.declared.life.Greeting.{Greeting}
 use Rattle.mux_conn.specs.declared.life.Life.{Life}
-use Rattle.mux_conn.specs.declared.life.Life.TheVariants.{Dialing, Wanting, SettingUp, Ready, Ended}
-use Rattle.mux_conn.specs.Connection.{Work}
+use Rattle.mux_conn.specs.declared.life.Life.TheVariants.{Resting, Dialing, Wanting, SettingUp, Ready, Ended}
+use Rattle.mux_conn.specs.Connection.{is_ready, Work}
 use Rattle.mux_conn.specs.Effects.{ended, ended_by, failed_at, overdue_at, shut_at, unauthorized_at, greeting_error, dropped_at}
 use Rattle.shared_session.specs.declared.core_state.Core.{Core}
 use Rattle.shared_session.specs.Turn.{with_work, is_bad}
 use Rattle.legal_trace.specs.Ledger.{Ledger, by_fault, by_opening, by_shutdown, ends, hears, noted, ending, ending_alive, ending_unready, ending_up, is_over, is_set_up, lacks_credentials, fault_error, opening_error, monitor_among, reach, Start, setup_count, is_full}
 use Rattle.legal_trace.specs.Book.{Book, book, hearing_in}
 use Rattle.session_laws.proofs.Numbers.{IsIn}
-use Rattle.session_laws.proofs.Tied.{AreSought, HasCredentials, Inner, inner, link_in, no_link, carried, whole_link, owner_of, queue_ids, HasSaid, Tied, TiedLife, has_ended, IsGreeting, IsWatchSent, greeter}
+use Rattle.session_laws.proofs.Tied.{never_rests, AreSought, HasCredentials, Inner, inner, link_in, no_link, carried, whole_link, owner_of, queue_ids, HasSaid, Tied, TiedLife, has_ended, IsGreeting, IsWatchSent, greeter}
 use Rattle.session_laws.proofs.Creds.{asked_sourced, has_sourced, wanting_lacks}
 use Rattle.session_laws.proofs.SetUp.{not_set_up, lacking_unset, alone_unwatched}
 use Rattle.session_laws.proofs.Said.{ending_wanting, ready_heard, setting_heard, setting_told, renoticed}
@@ -85,8 +85,8 @@ up_tied b t link is h =
       asked = lived.0;
       up = lived.1;
       alive = lived.2;
-      last = lived.4;
-      shown = lived.3;
+      last = lived.3;
+      shown = lived.4;
       has = (subst (λ (x : Life). AreSought l.creds x) is h.creds.sought).0;
       well = said.well;
       tied = subst (λ (x : Life). TiedLink (carried x t.requests) l (whole_link x)) is (h.link (ap has_ended is));
@@ -98,7 +98,6 @@ pub record IsWanting (l : Ledger) (created : ℕ) (started : List ℕ) (link : L
   pub up : l.up ≡ true
   pub alive : l.end ≡ None
   pub last : l.last ≡ true
-  pub unshown : created ≡ 0
   pub sought : AreSought l.creds (Wanting link)
   pub lacks : lacks_credentials l ≡ true
   pub starts : l.starts ≡ []
@@ -118,8 +117,7 @@ wanting_tied b t link is h =
       asked = lived.0;
       up = lived.1;
       alive = lived.2;
-      last = lived.4;
-      unshown = lived.3;
+      last = lived.3;
       sought = sought;
       lacks = wanting_lacks l.creds link sought;
       starts = said.0;
@@ -135,7 +133,6 @@ pub record IsSetting (l : Ledger) (created : ℕ) (started : List ℕ) (link : L
   pub up : l.up ≡ true
   pub alive : l.end ≡ None
   pub last : l.last ≡ true
-  pub unshown : created ≡ 0
   pub has : HasCredentials l.creds
   pub once : l.creds.renews ≡ false
   pub none : started ≡ []
@@ -152,8 +149,7 @@ setting_tied b t link greeting is h =
       asked = lived.0;
       up = lived.1;
       alive = lived.2;
-      last = lived.4;
-      unshown = lived.3;
+      last = lived.3;
       has = (subst (λ (x : Life). AreSought l.creds x) is h.creds.sought).0;
       once = (subst (λ (x : Life). AreSought l.creds x) is h.creds.sought).1;
       none = said.0;
@@ -227,11 +223,11 @@ plain_begins before c started word kind n p h good k is = heard_begins before c 
 
 -- a link that is set up still isn't ready
 pub setting_unready : (b : Book) (t : Inner) (link : LinkState) (greeting : Greeting) → t.life ≡ SettingUp link greeting → Tied b t → IsUnready b.created t.life t.started
-setting_unready b t link greeting e h = let s = setting_tied b t link greeting e h in record { bare = ap link_in e; none = s.none; unshown = s.unshown; alive = ap has_ended e }
+setting_unready b t link greeting e h = let s = setting_tied b t link greeting e h in record { bare = ap link_in e; none = s.none; unready = ap is_ready e; alive = ap has_ended e }
 
 -- nor is one that waits for credentials
 pub wanting_unready : (b : Book) (t : Inner) (link : LinkState) → t.life ≡ Wanting link → Tied b t → IsUnready b.created t.life t.started
-wanting_unready b t link e h = let s = wanting_tied b t link e h in record { bare = ap link_in e; none = s.none; unshown = s.unshown; alive = ap has_ended e }
+wanting_unready b t link e h = let s = wanting_tied b t link e h in record { bare = ap link_in e; none = s.none; unready = ap is_ready e; alive = ap has_ended e }
 
 -- a link that is set up fails by news that leave its ledger
 plain_fails : (before : List Action) (c : Core) (started : List ℕ) (n : News) (x : RedisError) (link : LinkState) (greeting : Greeting) → Between before c started → c.single.connection.life ≡ SettingUp link greeting
@@ -311,6 +307,7 @@ pub failed_applied : (before : List Action) (c : Core) (started : List ℕ) (wor
 failed_applied before c started word kind f h good k is = by_life c.single.connection.life refl
   where
     by_life : (x : Life) → c.single.connection.life ≡ x → HasApplied (before ++ turn_of c word kind ∷ []) (with_work (record { core = turned c kind; acts = [] }) (failed_at (record { conn = c.single.connection; acts = [] }) f x)) started
+    by_life Resting e = absurd (never_rests ((book before).link c.single.link) (book before).created c.single.connection.life e h.sound.tied.life)
     by_life Dialing e = dialing_quiet before c started word kind (failed f) tt h good k is e
     by_life (Ended x) e = ended_quiet before c started word kind (failed f) x h good k is e
     by_life (SettingUp link greeting) e =
@@ -344,6 +341,7 @@ dropped_up before c started word kind listens h good k is = by_life
     opens = taken_if (hears_messages l.hearing) (Some (by_opening error.Closed)) None heard
 
     by_life : (x : Life) → c.single.connection.life ≡ x → x ≢ Dialing → HasApplied (before ++ turn_of c word kind ∷ []) (with_work (record { core = turned c kind; acts = [] }) (dropped_at (record { conn = c.single.connection; acts = [] }) x)) started
+    by_life Resting e other = absurd (never_rests ((book before).link c.single.link) (book before).created c.single.connection.life e h.sound.tied.life)
     by_life Dialing e other = absurd (other refl)
     by_life (Ended x) e other = ended_quiet before c started word kind dropped x h good k is e
     by_life (SettingUp link greeting) e other =
@@ -414,6 +412,7 @@ shut_applied before c started word kind h good k is = by_life c.single.connectio
 
     by_life : (x : Life) → c.single.connection.life ≡ x → HasApplied (before ++ turn_of c word kind ∷ []) (with_work (record { core = turned c kind; acts = [] }) (shut_at (record { conn = c.single.connection; acts = [] }) x)) started
     by_life (Ended x) e = ended_quiet before c started word kind shut x h good k is e
+    by_life Resting e = absurd (never_rests ((book before).link c.single.link) (book before).created c.single.connection.life e h.sound.tied.life)
     by_life Dialing e =
         let lived = subst (λ (x : Life). TiedLife l (book before).created x) e h.sound.tied.life in
         let asked : (l.asked && not (is_over l)) ≡ true = (λ i. lived.0 i && not (is_some (lived.2 i))) in

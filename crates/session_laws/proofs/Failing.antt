@@ -1,7 +1,7 @@
 -- The opening of the connection's link has failed, which is shown; and a link that is closed before it is set up.
-use Rattle.std.proofs.Common.{◌≡◌, ◌≢◌, ℕ, ◌+◌, ◌-◌, ◌==◌, Bool, true, false, List, [], ◌∷◌, ◌++◌, length, Some, None, refl, sym, ap, ◌∙◌, subst, arith, ◌||◌, ◌<◌}
+use Rattle.std.proofs.Common.{◌≡◌, ◌≢◌, ℕ, ◌+◌, ◌-◌, ◌==◌, if◌then◌else◌, Bool, true, false, List, [], ◌∷◌, ◌++◌, length, Some, None, refl, sym, ap, ◌∙◌, subst, arith, ◌||◌, ◌<◌}
 use Rattle.std.proofs.lemmas.List.{append-nil}
-use Rattle.containers.proofs.Choices.{by_test, left_if, both_left, both_right, eq_from, ne_from, not_both}
+use Rattle.containers.proofs.Choices.{by_test, taken_if, left_if, both_left, both_right, eq_from, ne_from, not_both}
 use Rattle.redis_error.specs.declared.redis_error.RedisError.{RedisError}
 use Rattle.connection_info.specs.declared.address.RedisConnectionInfo.{RedisConnectionInfo}
 use Rattle.driver_model.specs.declared.action.Action.{Action}
@@ -14,8 +14,8 @@ use Rattle.mux_conn.specs.declared.act.LinkAct.TheVariants as act
 use Rattle.mux_conn.specs.declared.connection.MultiplexedConnection.{MultiplexedConnection}
 use Rattle.mux_conn.specs.declared.life.Life.{Life}
 use Rattle.mux_conn.specs.declared.life.Life.TheVariants.{Ended}
-use Rattle.mux_conn.specs.Connection.{Work, acted, at_life}
-use Rattle.mux_conn.specs.Effects.{opening_failed}
+use Rattle.mux_conn.specs.Connection.{Work, at_life, is_ready as is_life_ready}
+use Rattle.mux_conn.specs.Effects.{creation_told, given_up, opening_failed, waiting_failed}
 use Rattle.mux_conn.specs.Requests.{name_at}
 use Rattle.shared_session.specs.declared.core_state.Core.{Core}
 use Rattle.shared_session.specs.Turn.{with_work, is_bad}
@@ -25,7 +25,7 @@ use Rattle.legal_trace.specs.Book.{Book, blank_book, book, entered, if_mine, hea
 use Rattle.legal_trace.specs.Owed.{owed_by, owed_to_try, owed_unstarted, owed_waiting}
 use Rattle.legal_trace.specs.Legal.{AllStand, FailuresAreShown, MayClose, MayFail, NoneEnds, ReadyIsShown, VerdictsAreShown}
 use Rattle.session_laws.proofs.Numbers.{IsIn}
-use Rattle.session_laws.proofs.Tied.{AreSetups, inner, link_in, no_link, TiedLines, Tied, has_ended}
+use Rattle.session_laws.proofs.Tied.{shown_creation, AreSetups, inner, link_in, no_link, TiedLines, Tied, has_ended}
 use Rattle.session_laws.proofs.States.{Between, HasApplied}
 use Rattle.session_laws.proofs.Entered.{all_stand-append, shown_more}
 use Rattle.session_laws.proofs.Creds.{down_sourced}
@@ -45,41 +45,61 @@ use Rattle.driver_model.specs.Hearing.{hears_something}
 
 -- the failure is shown
 --
--- a link whose opening has failed, which isn't shown yet: the session is tied to the book with what shows it
+-- a link whose opening has failed, and no attempt follows: where it wasn't told before, the session is tied to the book with what
+-- shows it, and else to the book as it is
 pub record IsFailing (trace : List Action) (f : Core) (acts : List LinkAct) (conn : MultiplexedConnection) (e : RedisError) (started : List ℕ) : Type 0 where
   pub stands : AllStand blank_book trace
   pub fails : failure_in ((book trace).link f.single.link).end ≡ Some e
-  pub unshown : (book trace).created ≡ 0
-  pub first : (m : ℕ) → m < f.single.link → failure_in ((book trace).link m).end ≡ None
-  pub tied : Tied (entered (book trace) (action.Created (Some e))) (seen f acts (record conn { life = Ended e }) [] started)
+  pub lasts : conn.last ≡ true
+  pub unshown : conn.told ≡ false → (book trace).created ≡ 0
+  pub first : conn.told ≡ false → (m : ℕ) → m < f.single.link → failure_in ((book trace).link m).end ≡ None
+  pub tied : conn.told ≡ false → Tied (entered (book trace) (action.Created (Some e))) (seen f acts (record conn { life = Ended e; told = true }) [] started)
+  pub again : conn.told ≡ true → Tied (book trace) (seen f acts (record conn { life = Ended e; told = true }) [] started)
 
 -- it may be shown
-failing_may : (trace : List Action) (f : Core) (acts : List LinkAct) (conn : MultiplexedConnection) (e : RedisError) (started : List ℕ) → IsFailing trace f acts conn e started → MayFail (book trace) e
-failing_may trace f acts conn e started h = record {
+failing_may : (trace : List Action) (f : Core) (acts : List LinkAct) (conn : MultiplexedConnection) (e : RedisError) (started : List ℕ) → conn.told ≡ false → IsFailing trace f acts conn e started → MayFail (book trace) e
+failing_may trace f acts conn e started untold h = record {
   l = f.single.link;
   fails = h.fails;
-  in_order = h.first;
-  once = h.unshown;
+  in_order = h.first untold;
+  once = h.unshown untold;
   ended = over.0;
   answered = over.1;
-  sourced = sources_asked (entered (book trace) (action.Created (Some e))) (seen f acts (record conn { life = Ended e }) [] started) h.tied;
+  sourced = sources_asked (entered (book trace) (action.Created (Some e))) (seen f acts (record conn { life = Ended e; told = true }) [] started) (h.tied untold);
 }
   where
     over : NoneEnds (book trace) × VerdictsAreShown (book trace) × FailuresAreShown (entered (book trace) (action.Created (Some e)))
-    over = after_end (entered (book trace) (action.Created (Some e))) (seen f acts (record conn { life = Ended e }) [] started) h.tied refl
+    over = after_end (entered (book trace) (action.Created (Some e))) (seen f acts (record conn { life = Ended e; told = true }) [] started) (h.tied untold) refl
 
--- and is
+-- what its last attempt leaves
+abbrev ended_so : Work → RedisError → Work
+ended_so w e = creation_told (at_life w (Ended e)) (Some e)
+
+-- it is given up
+given_up_is : (w : Work) (e : RedisError) → w.conn.last ≡ true → opening_failed w e ≡ waiting_failed (ended_so w e) e
+given_up_is w e last = taken_if w.conn.last (given_up w e) _ last
+
+-- and has ended
+pub given_up_ended : (w : Work) (e : RedisError) → w.conn.last ≡ true → (opening_failed w e).conn.life ≡ Ended e
+given_up_ended w e last = ap (λ (x : Work). x.conn.life) (given_up_is w e last) ∙ (waiting_leaves (ended_so w e) e).life
+
+-- which is shown, where it wasn't told before
 failing_shown : (before : List Action) (f : Core) (w : Work) (e : RedisError) (started : List ℕ) → IsFailing (trace_of_acts before f w.acts) f w.acts w.conn e started
-    → Holds before f (acted (at_life w (Ended e)) (act.Created (Some e))) [] started
-failing_shown before f w e started h =
-    sound_act before f w.acts (act.Created (Some e)) (record w.conn { life = Ended e }) [] started h.stands (failing_may (trace_of_acts before f w.acts) f w.acts w.conn e started h) h.tied
+    → Holds before f (ended_so w e) [] started
+failing_shown before f w e started h = by_told w.conn.told refl
+  where
+    by_told : (x : Bool) → w.conn.told ≡ x → Holds before f (record { conn = record w.conn { life = Ended e; told = true }; acts = if x then w.acts else w.acts ++ act.Created (Some e) ∷ [] }) [] started
+    by_told true told = record { stands = h.stands; tied = h.again told }
+    by_told false untold =
+        sound_act before f w.acts (act.Created (Some e)) (record w.conn { life = Ended e; told = true }) [] started h.stands (failing_may (trace_of_acts before f w.acts) f w.acts w.conn e started untold h) (h.tied untold)
 
 -- and then those that wait are answered
 pub failing_applied : (before : List Action) (f : Core) (w : Work) (e : RedisError) (started : List ℕ) → f.turns ≢ 0 → w.conn.moved ≡ [] → IsFailing (trace_of_acts before f w.acts) f w.acts w.conn e started
     → HasApplied before (with_work (record { core = f; acts = [] }) (opening_failed w e)) started
 failing_applied before f w e started began none_moved h =
-    let v = acted (at_life w (Ended e)) (act.Created (Some e)) in
-    ended_applied before f (opening_failed w e) e started began ((waiting_leaves v e).moved ∙ none_moved) (waiting_ends before f v e started (failing_shown before f w e started h) refl)
+    let v = ended_so w e in
+    subst (λ (x : Work). HasApplied before (with_work (record { core = f; acts = [] }) x) started) (sym (given_up_is w e h.lasts))
+    (ended_applied before f (waiting_failed v e) e started began ((waiting_leaves v e).moved ∙ none_moved) (waiting_ends before f v e started (failing_shown before f w e started h) refl))
 
 -- a link that is closed before it is set up
 --
@@ -122,7 +142,7 @@ pub record Fails (l : Ledger) (info : RedisConnectionInfo) (wants : Bool) (heard
 pub record IsUnready (created : ℕ) (life : Life) (started : List ℕ) : Type 0 where
   pub bare : link_in life ≡ no_link
   pub none : started ≡ []
-  pub unshown : created ≡ 0
+  pub unready : is_life_ready life ≡ false
   pub alive : has_ended life ≡ false
 
 -- it is closed, and its opening has failed
@@ -147,12 +167,12 @@ setup_fails before c started word kind n x h good k is u fails =
     let asked : l.asked ≡ true = keeps.asked ∙ is_asked l0 b.created conn.life h0.life in
     let why : lasting l.last (ending_or_shutdown (ending l)) ≡ by_opening x = ends_so l (by_opening x) (keeps.last ∙ is_last_one l0 b.created conn.life h0.life u.alive) fails.must in
     let closed : links c.single.link ≡ noted l line = mine_noted (now.link c.single.link) c.single.link line ∙ ap (λ (y : Ledger). noted y line) own in
-    let t = seen f (act.Close ∷ []) (record conn { life = Ended x }) [] started in
-    let tied : Tied (entered (entered now close) (action.Created (Some x))) t = heard_tied_by b c started word (b.created + 1) (b.failed || true) kind conn.info (Ended x) conn.fresh [] [] links (noted l line) b.sources (c.sources ++ []) h0 refl
-    (others_created c.single.link (b.created + 1) _ (λ some none. absurd (omega arith)) (others_kept now c.single.link line others)) closed (h0.numbers.sources ∙ sym (append-nil c.sources)) (uses_on c.sources c.single.link (uses_hear c.sources c.single.link l0 c.turns n h0.uses))
+    let t = seen f (act.Close ∷ []) (record conn { life = Ended x; told = true }) [] started in
+    let tied : (created : ℕ) (halted : Bool) → created ≢ 0 → Tied (record (entered now close) { created = created; failed = halted }) t = λ created halted some. heard_tied_by b c started word created halted true kind conn.info (Ended x) conn.fresh [] [] links (noted l line) b.sources (c.sources ++ []) h0 (record { before = λ z. cc; after = λ z. some }) refl
+    (others_created c.single.link created _ (λ z. some) (others_kept now c.single.link line others)) closed (h0.numbers.sources ∙ sym (append-nil c.sources)) (uses_on c.sources c.single.link (uses_hear c.sources c.single.link l0 c.turns n h0.uses))
     (record {
       starts = heard_starts l0 c.turns n;
-      lived = (refl, ap owed_by why, λ y shown z. absurd (omega arith), asked);
+      lived = (refl, ap owed_by why, λ y shown. some, asked);
       creds = record { wanted_is = fails.wanted_is; sought = tt };
       renewal_is = renewal_ended l0 (noted l line) conn.renewal conn.life (timed_hear l0 c.turns n) (heard_starts l0 c.turns n) h0.renewal;
       said = record { info_is = fails.info_is; sent = fails.sent; said = tt };
@@ -192,9 +212,11 @@ setup_fails before c started word kind n x h good k is u fails =
     record {
       stands = subst (AllStand blank_book) (sym shown) (all_stand-append (trace_of_acts front f []) (close ∷ []) all (subst (λ (y : Book). MayClose y c.single.link) (sym first) may, tt));
       fails = ap (λ (y : Book). failure_in (y.link c.single.link).end) book_is ∙ ap (λ (y : Ledger). failure_in y.end) closed ∙ ap failure_of why;
-      unshown = ap (λ (y : Book). y.created) book_is ∙ u.unshown;
-      first = λ m less. ap (λ (y : Book). failure_in (y.link m).end) book_is ∙ unfailed (links m) (others_kept now c.single.link line others m (λ same. omega arith)) u.unshown;
-      tied = subst (λ (y : Book). Tied (entered y (action.Created (Some x))) t) (sym book_is) tied;
+      lasts = h.fit.lasts u.unready u.alive;
+      unshown = λ untold. ap (λ (y : Book). y.created) book_is ∙ h0.creation.before untold;
+      first = λ untold m less. ap (λ (y : Book). failure_in (y.link m).end) book_is ∙ unfailed (links m) (others_kept now c.single.link line others m (λ same. omega arith)) (h0.creation.before untold);
+      tied = λ untold. subst (λ (y : Book). Tied (entered y (action.Created (Some x))) t) (sym book_is) (tied (b.created + 1) (b.failed || true) ((shown_creation b.created).after refl));
+      again = λ told. subst (λ (y : Book). Tied y t) (sym book_is) (tied b.created b.failed (h0.creation.after told));
     }
 
 -- so the event has had its effect

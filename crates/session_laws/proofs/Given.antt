@@ -15,7 +15,7 @@ use Rattle.driver_model.specs.News.{News, authorized, denied, deserted, news_of}
 use Rattle.link_core.specs.Link.{LinkState}
 use Rattle.link_laws.proofs.TiedLink.{SameNames, TiedLink, authorized_tied, named_tied}
 use Rattle.mux_conn.specs.declared.life.Life.{Life}
-use Rattle.mux_conn.specs.declared.life.Life.TheVariants.{Dialing, Wanting, SettingUp, Ready, Ended}
+use Rattle.mux_conn.specs.declared.life.Life.TheVariants.{Resting, Dialing, Wanting, SettingUp, Ready, Ended}
 use Rattle.mux_conn.specs.Connection.{is_ready}
 use Rattle.mux_conn.specs.Effects.{authorized_at, come_up, unauthorized_at, with_credentials}
 use Rattle.mux_conn.specs.Turn.{early_wait}
@@ -23,7 +23,7 @@ use Rattle.shared_session.specs.declared.core_state.Core.{Core}
 use Rattle.shared_session.specs.Turn.{with_work, is_bad}
 use Rattle.legal_trace.specs.Ledger.{Ledger, authorized_by, by_opening, ending, lacks_credentials, setup_count}
 use Rattle.legal_trace.specs.Book.{book, hearing_in}
-use Rattle.session_laws.proofs.Tied.{AreSetups, has_ended, inner, link_in}
+use Rattle.session_laws.proofs.Tied.{never_rests, AreSetups, has_ended, inner, link_in}
 use Rattle.session_laws.proofs.Creds.{awaited_is, has_credentials, none_awaited, unawaited_is, wanting_awaits}
 use Rattle.session_laws.proofs.Said.{PushesOf, ready_heard, setting_heard, renoticed}
 use Rattle.session_laws.proofs.States.{Between, HasApplied}
@@ -64,7 +64,6 @@ given_now before c started a link h e =
       up = ap (λ (x : Ledger). x.up) is ∙ s.up;
       alive = ap (λ (x : Ledger). x.end) is ∙ s.alive;
       last = ap (λ (x : Ledger). x.last) is ∙ s.last;
-      unshown = s.unshown;
       info_is = ap (λ (x : Ledger). x.info) is ∙ ap (λ (x : RedisConnectionInfo). said_by x a) t.setup.info_is;
       wanted_is = ap (λ (x : Ledger). x.creds.wanted) is ∙ t.creds.wanted_is;
       sent = none_sent l starts;
@@ -109,6 +108,7 @@ authorized_applied before c started word kind a h good k is = by_life c.single.c
     late given none = passed_over before c started word kind (authorized a) h good k is (unawaited_is l c.turns a (none_awaited l given)) none
 
     by_life : (x : Life) → c.single.connection.life ≡ x → HasApplied (before ++ turn_of c word kind ∷ []) (with_work (record { core = turned c kind; acts = [] }) (authorized_at (record { conn = c.single.connection; acts = [] }) a x)) started
+    by_life Resting e = absurd (never_rests ((book before).link c.single.link) (book before).created c.single.connection.life e h.sound.tied.life)
     by_life Dialing e = dialing_quiet before c started word kind (authorized a) tt h good k is e
     by_life (Wanting link) e = given_up before c started word kind a link h good k is e
     by_life (SettingUp link greeting) e =
@@ -142,6 +142,7 @@ denied_applied before c started word kind n x d h good k is = by_life c.single.c
     late none = passed_over before c started word kind n h good k is (d.stays l c.turns) none
 
     by_life : (y : Life) → c.single.connection.life ≡ y → HasApplied (before ++ turn_of c word kind ∷ []) (with_work (record { core = turned c kind; acts = [] }) (unauthorized_at (record { conn = c.single.connection; acts = [] }) x y)) started
+    by_life Resting e = absurd (never_rests ((book before).link c.single.link) (book before).created c.single.connection.life e h.sound.tied.life)
     by_life Dialing e = dialing_quiet before c started word kind n d.apart h good k is e
     by_life (Wanting link) e = denied_fails before c started word kind n x link d h good k is e
     by_life (SettingUp link greeting) e =

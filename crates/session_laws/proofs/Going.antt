@@ -14,7 +14,7 @@ use Rattle.mux_conn.specs.Requests.{name_at}
 use Rattle.mux_conn.specs.declared.renewal.Renewal.{Renewal}
 use Rattle.mux_conn.specs.declared.life.Greeting.{Greeting}
 use Rattle.mux_conn.specs.declared.life.Life.{Life}
-use Rattle.mux_conn.specs.declared.life.Life.TheVariants.{Dialing, Ended, Ready, SettingUp, Wanting}
+use Rattle.mux_conn.specs.declared.life.Life.TheVariants.{Resting, Dialing, Ended, Ready, SettingUp, Wanting}
 use Rattle.legal_trace.specs.Book.{Book, blank_book, book, entered, if_mine, has_generations}
 use Rattle.legal_trace.specs.Ledger.{Ledger, Line, dials, ending, is_set_up, lacks_credentials, noted, noted_each, renewal_count, renewal_due, renewals_asked, setup_count, setup_due, setup_steps, monitor_due, is_greeted, setup_result}
 use Rattle.legal_trace.specs.Legal.{AllStand, CanMove, IsApplied, IsBegun, IsFirstToMove, IsMoved, MayStand, NoneEnds, RenewalsAreStarted, RenewalsAreTimed, SetupsAreStarted, MonitorsAreStarted, IsShown, begins_first, current_link, is_attempt, is_caused}
@@ -79,6 +79,7 @@ setups_started b t h mine m k due = by_test (m == t.link) _
     undue l none some = let no : ◌≡◌ {A = Option ℕ} None (Some k) = sym none ∙ some in cc
 
     by_life : (life : Life) → t.life ≡ life → setup_due (b.link t.link) ≡ Some k → is_held_back b (b.link t.link) ≡ true
+    by_life Resting e d = absurd (undue (b.link t.link) (down_undue (b.link t.link) (subst (TiedLife (b.link t.link) b.created) e h.life).1) d)
     by_life Dialing e d = absurd (undue (b.link t.link) (down_undue (b.link t.link) (subst (TiedLife (b.link t.link) b.created) e h.life).1) d)
     by_life (Wanting link) e d =
         let l = b.link t.link in
@@ -101,6 +102,7 @@ monitors_started b t h mine m due = by_test (m == t.link) _
     ungreeted l open_is d = not_both (is_greeted l) open_is.unwell (watch_is_greeted l d)
 
     by_life : (life : Life) → t.life ≡ life → monitor_due (b.link t.link) ≡ true → is_held_back b (b.link t.link) ≡ true
+    by_life Resting e d = absurd (not_both (b.link t.link).up (subst (TiedLife (b.link t.link) b.created) e h.life).1 (watch_is_up (b.link t.link) d))
     by_life Dialing e d = absurd (not_both (b.link t.link).up (subst (TiedLife (b.link t.link) b.created) e h.life).1 (watch_is_up (b.link t.link) d))
     by_life (Wanting link) e d = let l = b.link t.link in absurd (ungreeted l (lacking_undecided l (wanting_lacks l.creds link (subst (AreSought l.creds) e h.creds.sought))) d)
     by_life (SettingUp link greet.WithUser) e d = let l = b.link t.link in absurd (ungreeted l (setting_undecided l link greet.WithUser (subst (HasSaid l t.started) e h.setup.said).1) d)
@@ -135,6 +137,10 @@ renewals_timed b t h asked m some = by_test (m == t.link) _
     by_within (Some ms) e r up link life = all_timed l t.renewal ms up r e (asked link life)
 
     by_life : (life : Life) → t.life ≡ life → renewals_asked l ≤ l.creds.timed
+    by_life Resting e =
+        let k = undue_asked l (down_renewed_due l (subst (TiedLife l b.created) e h.life).1) in
+        let none : renewal_count l.starts ≡ 0 = ap renewal_count (subst (HasSaid l t.started) e h.setup.said).0 in
+        omega arith
     by_life Dialing e =
         let k = undue_asked l (down_renewed_due l (subst (TiedLife l b.created) e h.life).1) in
         let none : renewal_count l.starts ≡ 0 = ap renewal_count (subst (HasSaid l t.started) e h.setup.said).0 in
@@ -166,6 +172,7 @@ renewals_started b t h bound renewed m c due = by_test (m == t.link) _
     no_due l none some = let no : ◌≡◌ {A = Option Credentials} None (Some c) = sym none ∙ some in cc
 
     by_life : (life : Life) → t.life ≡ life → renewal_due (b.link t.link) ≡ Some c → is_held_back b (b.link t.link) ≡ true
+    by_life Resting e d = absurd (no_due (b.link t.link) (down_renewed_due (b.link t.link) (subst (TiedLife (b.link t.link) b.created) e h.life).1) d)
     by_life Dialing e d = absurd (no_due (b.link t.link) (down_renewed_due (b.link t.link) (subst (TiedLife (b.link t.link) b.created) e h.life).1) d)
     by_life (Wanting link) e d = let r = subst (TiedRenewal (b.link t.link) t.renewal) e h.renewal in absurd (no_due (b.link t.link) (none_renewed_due (b.link t.link) t.renewal r) d)
     by_life (SettingUp link greeting) e d = let r = subst (TiedRenewal (b.link t.link) t.renewal) e h.renewal in absurd (no_due (b.link t.link) (none_renewed_due (b.link t.link) t.renewal r) d)
@@ -285,6 +292,7 @@ down_moves_none b t h down n m = not_both (b.link t.link).up down (subst (λ l. 
 
 -- a link whose connect isn't answered isn't up
 dialing_down : (l : Ledger) (created : ℕ) (life : Life) → life ≡ Dialing → TiedLife l created life → l.up ≡ false
+dialing_down l created Resting e h = h.1
 dialing_down l created Dialing e h = h.1
 dialing_down l created (Wanting link) e h = cc
 dialing_down l created (SettingUp link greeting) e h = cc
@@ -387,6 +395,10 @@ is_moved b t h none told alone ends fit nobody held full stuck gone setup_fit se
     told_all = renewals_started b t h (λ link e. (fit link e).bound_is) renewed
 
     by_life : (life : Life) → t.life ≡ life → IsMoved b
+    by_life Resting e = record {
+      begun = record { applied = applied_up b t h none told (ap has_ended e) ends; setups = setups; monitors = monitors; timed = timed; renewed = told_all };
+      moved = down_moves_none b t h (subst (TiedLife (b.link t.link) b.created) e h.life).1;
+    }
     by_life Dialing e = record {
       begun = record { applied = applied_up b t h none told (ap has_ended e) ends; setups = setups; monitors = monitors; timed = timed; renewed = told_all };
       moved = down_moves_none b t h (dialing_down (b.link t.link) b.created t.life e h.life);

@@ -1,6 +1,6 @@
 -- For how many new credentials a connection was asked: its effects leave it, and where a turn's moves ask for more, these are told,
 -- or wait on a link that is ready.
-use Rattle.std.proofs.Common.{◌≡◌, ◌⊎◌, inl, inr, ℕ, ◌+◌, ◌==◌, nat_le, Bool, true, false, ◌&&◌, List, [], ◌∷◌, length, Option, Some, None, slice_get, if◌then◌else◌, refl, ap, ◌∙◌, ◌||◌}
+use Rattle.std.proofs.Common.{◌≡◌, ◌≤◌, ◌⊎◌, inl, inr, ℕ, subst, sym, arith, ◌+◌, ◌==◌, nat_le, Bool, true, false, ◌&&◌, List, [], ◌∷◌, length, Option, Some, None, slice_get, if◌then◌else◌, refl, ap, ◌||◌}
 use Rattle.containers.proofs.Choices.{chosen, not_both, both_left, both_right}
 use Rattle.credentials.specs.Credentials.{Credentials}
 use Rattle.redis_error.specs.declared.redis_error.RedisError.{RedisError}
@@ -32,14 +32,14 @@ use Rattle.mux_conn.specs.declared.act.LinkAct.TheVariants as act
 use Rattle.mux_conn.specs.declared.connection.MultiplexedConnection.{MultiplexedConnection}
 use Rattle.mux_conn.specs.declared.life.Greeting.{Greeting}
 use Rattle.mux_conn.specs.declared.life.Life.{Life}
-use Rattle.mux_conn.specs.declared.life.Life.TheVariants.{Dialing, Wanting, SettingUp, Ready, Ended}
+use Rattle.mux_conn.specs.declared.life.Life.TheVariants.{Resting, Dialing, Wanting, SettingUp, Ready, Ended}
 use Rattle.mux_conn.specs.declared.request.Pending.{Pending}
 use Rattle.mux_conn.specs.declared.request.Waiting.{Waiting}
 use Rattle.mux_conn.specs.Connection.{Work, acted, admits_none, at_life, has_room, is_due, is_ready, with_link, with_setup, with_wanting}
 use Rattle.mux_conn.specs.Requests.{answered, is_admitted_at, is_open_at, is_waiting_at, name_at}
 use Rattle.mux_conn.specs.Renewals.{is_done, renewal_asked, renewal_id, renewal_moved, renewing, replied, takes_more, is_unanswered, asked_next, renewal_timed}
 use Rattle.mux_conn.specs.Renewals.{renewed as auth_told}
-use Rattle.mux_conn.specs.Effects.{all_answered, all_fresh, answered_setup, applied, authorized_at, behind_first, broken_at, cancelled_in, come_up, comes_to_want, connected_at, cut_short, failed_at, failed_each, heard_on, judged_by, made_ready, new_link, nobody_waits, opening_failed, overdue_at, parted, read_at, refused_at, set_up_by, sets_up, settled_each, settled_one, shut_at, steps_of, taken_at, timed_out, told_each, unauthorized_at, waiting_failed, with_credentials, dropped_at, dropped_by, ended_by, greeted, greeted_by, greeting_error, is_unreadable, noticed, noticed_each}
+use Rattle.mux_conn.specs.Effects.{all_answered, all_fresh, answered_setup, creation_told, given_up, applied, authorized_at, behind_first, broken_at, cancelled_in, come_up, comes_to_want, connected_at, cut_short, failed_at, failed_each, heard_on, judged_by, made_ready, new_link, nobody_waits, opening_failed, overdue_at, parted, read_at, refused_at, set_up_by, sets_up, settled_each, settled_one, shut_at, steps_of, taken_at, timed_out, told_each, unauthorized_at, waiting_failed, with_credentials, dropped_at, dropped_by, ended_by, greeted, greeted_by, greeting_error, is_unreadable, noticed, noticed_each}
 use Rattle.mux_conn.specs.Passes.{admitted, admitted_at, admitted_each, let_in, moved_up, moved_up_all, moved_up_each, passed, permits_taken, placed_at, put_behind, seated, greeted_each, greeting_act, shown_each, started, started_at, still_admitted, still_waiting, timer_asked, told_at_place, took_shown}
 use Rattle.mux_conn.specs.Passes.{took as took_permits}
 use Rattle.mux_conn.specs.Turn.{flushed, fresh_each_shown, fresh_wait, moved_each_shown, moved_shown, moved_wait, wait_shown, written, written_at}
@@ -51,9 +51,9 @@ use Rattle.driver_model.specs.Kind.{has_timeouts}
 use Rattle.mux_conn.specs.declared.life.Greeting.TheVariants as greet
 use Rattle.driver_model.specs.declared.hearing.Hearing.TheVariants as hearing
 
--- so many were asked for
+-- no more than so many were asked for
 abbrev HasAsked : ℕ → Work → Type 0
-HasAsked n w = w.conn.renewal.asked ≡ n
+HasAsked n w = w.conn.renewal.asked ≤ n
 
 -- the effects of news
 --
@@ -101,11 +101,11 @@ parted_asked n w h = chosen (HasAsked n) (hears_pushes w.conn.hears) _ w (λ t. 
 
 -- an opening that fails
 opening_asked : (n : ℕ) (w : Work) (e : RedisError) → HasAsked n w → HasAsked n (opening_failed w e)
-opening_asked n w e h = waiting_asked n (acted (at_life w (Ended e)) (act.Created (Some e))) e h
+opening_asked n w e h = chosen (HasAsked n) w.conn.last (given_up w e) _ (λ t. waiting_asked n (creation_told (at_life w (Ended e)) (Some e)) e h) (λ f. omega arith)
 
 -- a link that becomes ready
 made_asked : (n : ℕ) (w : Work) (link : LinkState) → HasAsked n w → HasAsked n (made_ready w link)
-made_asked n w link h = ap (λ (c : MultiplexedConnection). c.renewal.asked) (made_conn w link) ∙ h
+made_asked n w link h = subst (λ (c : MultiplexedConnection). c.renewal.asked ≤ n) (sym (made_conn w link)) h
 
 -- or whose server is put into monitor mode first
 greeted_asked : (n : ℕ) (w : Work) (link : LinkState) → HasAsked n w → HasAsked n (greeted w link)
@@ -117,6 +117,7 @@ come_asked n w link h = chosen (HasAsked n) (says_nothing (steps_of w.conn greet
 
 -- a connect that succeeds
 connected_asked : (n : ℕ) (w : Work) (life : Life) → HasAsked n w → HasAsked n (connected_at w life)
+connected_asked n w Resting h = h
 connected_asked n w Dialing h = chosen (HasAsked n) w.conn.renewal.wanted (comes_to_want w (new_link w.conn)) (come_up w (new_link w.conn)) (λ t. h) (λ f. come_asked n w (new_link w.conn) h)
 connected_asked n w (Wanting link) h = h
 connected_asked n w (SettingUp link greeting) h = h
@@ -126,6 +127,7 @@ connected_asked n w (Ended e) h = h
 -- the first credentials
 authorized_asked : (n : ℕ) (w : Work) (c : Credentials) (life : Life) → HasAsked n w → HasAsked n (authorized_at w c life)
 authorized_asked n w c (Wanting link) h = come_asked n (with_credentials w c) link h
+authorized_asked n w c Resting h = h
 authorized_asked n w c Dialing h = h
 authorized_asked n w c (SettingUp link greeting) h = h
 authorized_asked n w c (Ready link) h = h
@@ -134,6 +136,7 @@ authorized_asked n w c (Ended e) h = h
 -- that there are none
 unauthorized_asked : (n : ℕ) (w : Work) (e : RedisError) (life : Life) → HasAsked n w → HasAsked n (unauthorized_at w e life)
 unauthorized_asked n w e (Wanting link) h = opening_asked n (acted w act.Close) e h
+unauthorized_asked n w e Resting h = h
 unauthorized_asked n w e Dialing h = h
 unauthorized_asked n w e (SettingUp link greeting) h = h
 unauthorized_asked n w e (Ready link) h = h
@@ -141,6 +144,7 @@ unauthorized_asked n w e (Ended x) h = h
 
 -- a connect that fails
 refused_asked : (n : ℕ) (w : Work) (f : FaultKind) (life : Life) → HasAsked n w → HasAsked n (refused_at w f life)
+refused_asked n w f Resting h = h
 refused_asked n w f Dialing h = opening_asked n w (error.Io f) h
 refused_asked n w f (Wanting link) h = h
 refused_asked n w f (SettingUp link greeting) h = h
@@ -149,6 +153,7 @@ refused_asked n w f (Ended e) h = h
 
 -- the time of the opening that is over
 overdue_asked : (n : ℕ) (w : Work) (life : Life) → HasAsked n w → HasAsked n (overdue_at w life)
+overdue_asked n w Resting h = h
 overdue_asked n w Dialing h = opening_asked n (acted w act.Close) _ h
 overdue_asked n w (Wanting link) h = opening_asked n (acted w act.Close) _ h
 overdue_asked n w (SettingUp link greeting) h = opening_asked n (acted w act.Close) _ h
@@ -158,6 +163,7 @@ overdue_asked n w (Ended e) h = h
 -- bytes that were taken
 taken_asked : (n : ℕ) (w : Work) (count : ℕ) (life : Life) → HasAsked n w → HasAsked n (taken_at w count life)
 taken_asked n w count (Ready link) h = h
+taken_asked n w count Resting h = h
 taken_asked n w count Dialing h = h
 taken_asked n w count (Wanting link) h = h
 taken_asked n w count (SettingUp link greeting) h = h
@@ -170,6 +176,7 @@ ended_asked n w link f h = all_asked n (parted (cut_short w)) (faulted (record {
 -- a fault
 fault_asked : (n : ℕ) (w : Work) (f : LinkFault) (life : Life) → HasAsked n w → HasAsked n (failed_at w f life)
 fault_asked n w f (Ready link) h = ended_asked n w link (felt w.conn.hears f) h
+fault_asked n w f Resting h = h
 fault_asked n w f Dialing h = h
 fault_asked n w f (Wanting link) h = opening_asked n (acted w act.Close) error.Closed h
 fault_asked n w f (SettingUp link greeting) h = opening_asked n (acted w act.Close) (greeting_error greeting link.row f) h
@@ -178,6 +185,7 @@ fault_asked n w f (Ended e) h = h
 -- the stream of messages that is dropped
 stream_asked : (n : ℕ) (w : Work) (life : Life) → HasAsked n w → HasAsked n (dropped_at w life)
 stream_asked n w (Ready link) h = ended_asked n w link fault.Ended h
+stream_asked n w Resting h = h
 stream_asked n w Dialing h = opening_asked n (acted w act.Close) error.Closed h
 stream_asked n w (Wanting link) h = opening_asked n (acted w act.Close) error.Closed h
 stream_asked n w (SettingUp link greeting) h = opening_asked n (acted w act.Close) error.Closed h
@@ -219,6 +227,7 @@ read_asked : (n : ℕ) (w : Work) (piece : List ℕ) (life : Life) → HasAsked 
 read_asked n w piece (Ready link) h =
     let r = piece_read w.conn.hears true link piece in
     broken_asked n (r.link.broken || r.strange) (told_each (with_link w r.link) 0 r.notices r.out) (told_asked n (with_link w r.link) 0 r.notices r.out h)
+read_asked n w piece Resting h = h
 read_asked n w piece Dialing h = h
 read_asked n w piece (Wanting link) h =
     let r = piece_read hearing.Nothing false link piece in
@@ -232,6 +241,7 @@ read_asked n w piece (Ended e) h = h
 -- the shutdown
 shut_asked : (n : ℕ) (w : Work) (life : Life) → HasAsked n w → HasAsked n (shut_at w life)
 shut_asked n w (Ready link) h = all_asked n (cut_short w) (closed_all (record { link = link; out = [] })).out h
+shut_asked n w Resting h = waiting_asked n w error.Closed h
 shut_asked n w Dialing h = all_asked n (cut_short w) [] h
 shut_asked n w (Wanting link) h = all_asked n (cut_short w) [] h
 shut_asked n w (SettingUp link greeting) h = all_asked n (cut_short w) [] h
@@ -249,9 +259,9 @@ applied_asked n w (failed f) h = fault_asked n w f w.conn.life h
 applied_asked n w (authorized c) h = authorized_asked n w c w.conn.life h
 applied_asked n w (denied text) h = unauthorized_asked n w (error.Credentials text) w.conn.life h
 applied_asked n w deserted h = unauthorized_asked n w (error.AuthFailed []) w.conn.life h
-applied_asked n w (renewed c) h = chosen (λ (x : MultiplexedConnection). x.renewal.asked ≡ n) (is_ready w.conn.life && takes_more w.conn.renewal) _ w.conn (λ t. h) (λ f. h)
+applied_asked n w (renewed c) h = chosen (λ (x : MultiplexedConnection). x.renewal.asked ≤ n) (is_ready w.conn.life && takes_more w.conn.renewal) _ w.conn (λ t. h) (λ f. h)
 applied_asked n w unrenewed h = h
-applied_asked n w (late k) h = chosen (λ (x : MultiplexedConnection). x.renewal.asked ≡ n) (is_unanswered w.conn.renewal k) _ w.conn (λ t. h) (λ f. h)
+applied_asked n w (late k) h = chosen (λ (x : MultiplexedConnection). x.renewal.asked ≤ n) (is_unanswered w.conn.renewal k) _ w.conn (λ t. h) (λ f. h)
 applied_asked n w unrepeated h = h
 applied_asked n w dropped h = dropped_asked n w h
 applied_asked n w shut h = shut_asked n w w.conn.life h
@@ -272,7 +282,7 @@ late_asked n t (Some (Some p)) h = timed_asked n (work_of t) p.number h
 left_asked : (n : ℕ) (t : Turning) (x : Option (Option Pending)) → HasAsked n (work_of t) → HasAsked n (work_of (left_by t x))
 left_asked n t None h = h
 left_asked n t (Some None) h = h
-left_asked n t (Some (Some p)) h = chosen (λ (x : MultiplexedConnection). x.renewal.asked ≡ n) (is_open_at t.core.single.connection.requests p.number) _ t.core.single.connection (λ e. h) (λ f. h)
+left_asked n t (Some (Some p)) h = chosen (λ (x : MultiplexedConnection). x.renewal.asked ≤ n) (is_open_at t.core.single.connection.requests p.number) _ t.core.single.connection (λ e. h) (λ f. h)
 
 -- a timer that fires
 fired_asked : (n : ℕ) (t : Turning) (x : Option Purpose) → HasAsked n (work_of t) → HasAsked n (work_of (fired_by t x))
@@ -303,7 +313,7 @@ requested_asked n t (event.Cancel m) h = left_asked n t (slice_get t.core.table 
 requested_asked n t (event.Connected l) h = h
 requested_asked n t (event.Refused l f) h = h
 requested_asked n t (event.Fired m) h = fired_asked n t (slice_get t.core.timers m) h
-requested_asked n t (event.Timeout ms) h = chosen (λ (c : Core). c.single.connection.renewal.asked ≡ n) (has_timeouts t.core.kind) _ t.core (λ s. h) (λ f. h)
+requested_asked n t (event.Timeout ms) h = chosen (λ (c : Core). c.single.connection.renewal.asked ≤ n) (has_timeouts t.core.kind) _ t.core (λ s. h) (λ f. h)
 requested_asked n t (event.Creds c auth) h = h
 requested_asked n t (event.CredsError c text) h = h
 requested_asked n t (event.CredsEnd c) h = h
@@ -316,16 +326,16 @@ requested_asked n t event.DropStream h = h
 requested_asked n t event.Shutdown h = h
 
 -- an event's effect asks for none
-effect_asked : (c : Core) (kind : EventKind) → (effect (counted c) kind).core.single.connection.renewal.asked ≡ c.single.connection.renewal.asked
+effect_asked : (c : Core) (kind : EventKind) → (effect (counted c) kind).core.single.connection.renewal.asked ≤ c.single.connection.renewal.asked
 effect_asked c kind =
     let n = c.single.connection.renewal.asked in
-    requested_asked n (heard (counted c) kind) kind (applied_asked n (work_of (counted c)) (news_of c.timers c.sources c.single.link kind) refl)
+    requested_asked n (heard (counted c) kind) kind (applied_asked n (work_of (counted c)) (news_of c.timers c.sources c.single.link kind) (omega arith))
 
 -- the moves of a turn
 --
--- so many were asked for, or the last that were wait on a link that is ready, or are told
+-- no more than so many were asked for, or the last that were wait on a link that is ready, or are told
 abbrev pub HasGrown : ℕ → MultiplexedConnection → Type 0
-HasGrown n c = (c.renewal.asked ≡ n) ⊎ ((is_ready c.life ≡ true) × ((c.renewal.pending ≡ false) ⊎ (is_due c.renewal ≡ true)))
+HasGrown n c = (c.renewal.asked ≤ n) ⊎ ((is_ready c.life ≡ true) × ((c.renewal.pending ≡ false) ⊎ (is_due c.renewal ≡ true)))
 
 -- a link that is ready then, too
 ready_grown : (n : ℕ) (c : MultiplexedConnection) (link : LinkState) → HasGrown n c → HasGrown n (record c { life = Ready link })
@@ -343,7 +353,7 @@ greetings_grown n w greeting [] h = h
 greetings_grown n w greeting (s ∷ ss) h = greetings_grown n (acted w (greeting_act greeting s)) greeting ss h
 
 -- one that isn't has asked for no more
-unready_grown : (n : ℕ) (c : MultiplexedConnection) → is_ready c.life ≡ false → HasGrown n c → c.renewal.asked ≡ n
+unready_grown : (n : ℕ) (c : MultiplexedConnection) → is_ready c.life ≡ false → HasGrown n c → c.renewal.asked ≤ n
 unready_grown n c unready (inl same) = same
 unready_grown n c unready (inr more) = absurd (not_both (is_ready c.life) unready more.0)
 
@@ -352,6 +362,7 @@ started_grown : (n : ℕ) (w : Work) → HasGrown n w.conn → HasGrown n (start
 started_grown n w h = by_life w.conn.life refl
   where
     by_life : (life : Life) → w.conn.life ≡ life → HasGrown n (started_at w life).conn
+    by_life Resting e = h
     by_life Dialing e = h
     by_life (Wanting link) e = h
     by_life (Ended x) e = h
@@ -366,6 +377,7 @@ answered_grown n w p o h = chosen (λ (x : Work). HasGrown n x.conn) (is_open_at
 placed_grown : (n : ℕ) (w : Work) (q : Waiting) (life : Life) → HasGrown n w.conn → HasGrown n (placed_at w q life).conn
 placed_grown n w q (Ready link) (inl same) = inl same
 placed_grown n w q (Ready link) (inr more) = inr (refl, more.1)
+placed_grown n w q Resting h = h
 placed_grown n w q Dialing h = h
 placed_grown n w q (Wanting link) h = h
 placed_grown n w q (SettingUp link greeting) h = h
@@ -404,6 +416,7 @@ let_in_grown n w q h =
 admitted_grown : (n : ℕ) (w : Work) (q : Waiting) (life : Life) → HasGrown n w.conn → HasGrown n (admitted_at w q life).conn
 admitted_grown n w q (Ready link) h = chosen (λ (x : Work). HasGrown n x.conn) (has_room (let_in w q).conn) (seated (let_in w q) q) (put_behind (let_in w q) q) (λ t. seated_grown n (let_in w q) q (let_in_grown n w q h)) (λ f. let_in_grown n w q h)
 admitted_grown n w q (Ended e) h = answered_grown n w q.number (outcome.Fault e) h
+admitted_grown n w q Resting h = h
 admitted_grown n w q Dialing h = h
 admitted_grown n w q (Wanting link) h = h
 admitted_grown n w q (SettingUp link greeting) h = h
@@ -419,6 +432,7 @@ each_grown n w (q ∷ qs) h = chosen (λ (x : Work). HasGrown n x.conn) (admits_
 told_grown : (n : ℕ) (w : Work) (life : Life) (cs : List Credentials) → HasGrown n w.conn → HasGrown n (renewal_moved w life cs).conn
 told_grown n w (Ready link) (c ∷ cs) h = chosen (λ (x : Work). HasGrown n x.conn) (holds_back link) w _ (λ t. h) (λ f. inr (refl, inl refl))
 told_grown n w (Ready link) [] h = h
+told_grown n w Resting cs h = h
 told_grown n w Dialing cs h = h
 told_grown n w (Wanting link) cs h = h
 told_grown n w (SettingUp link greeting) cs h = h
@@ -442,6 +456,7 @@ renewal_grown n w h = chosen (λ (x : Work). HasGrown n x.conn) (is_ready w.conn
 -- bytes that are offered
 written_grown : (n : ℕ) (w : Work) (life : Life) → w.conn.life ≡ life → HasGrown n w.conn → HasGrown n (written_at w life).conn
 written_grown n w (Ready link) e h = chosen (λ (x : Work). HasGrown n x.conn) (can_offer link.outbox) _ w (λ t. ready_grown n w.conn (offered_of link) h) (λ f. h)
+written_grown n w Resting e h = h
 written_grown n w Dialing e h = h
 written_grown n w (Wanting link) e h = h
 written_grown n w (SettingUp link greeting) e h = chosen (λ (x : Work). HasGrown n x.conn) (can_offer link.outbox) _ w (λ t. inl (unready_grown n w.conn (ap is_ready e) h)) (λ f. h)

@@ -14,7 +14,7 @@ use Rattle.link_laws.proofs.TiedLink.{TiedLink, told_tied, unheard_tied}
 use Rattle.mux_conn.specs.declared.request.Request.{Request}
 use Rattle.mux_conn.specs.declared.connection.MultiplexedConnection.{MultiplexedConnection}
 use Rattle.mux_conn.specs.declared.life.Life.{Life}
-use Rattle.mux_conn.specs.declared.life.Life.TheVariants.{Dialing, Wanting, SettingUp, Ready, Ended}
+use Rattle.mux_conn.specs.declared.life.Life.TheVariants.{Resting, Dialing, Wanting, SettingUp, Ready, Ended}
 use Rattle.shared_session.specs.declared.core_state.Core.{Core}
 use Rattle.shared_session.specs.Turn.{with_work, is_bad}
 use Rattle.legal_trace.specs.Ledger.{Ledger, Ending, Sourced, hears, noted, ending, ending_alive, ending_asked, is_over, bytes_came, dials, refused_in, authorized_by, awaits_credentials, is_renewal_open, lost_by, may_renew, renewed_by, unrenewed_by, renewal_count}
@@ -33,6 +33,7 @@ use Rattle.session_laws.proofs.Renewals.{renewal_alike}
 use Rattle.mux_conn.specs.declared.renewal.Renewal.{Renewal}
 use Rattle.legal_trace.proofs.Came.{holds_bytes}
 use Rattle.mux_conn.specs.declared.life.Greeting.{Greeting}
+use Rattle.mux_conn.specs.Connection.{is_ready}
 
 -- what a turn of news does to the ledger of the connection's link
 abbrev pub heard_by : Book → Core → News → Ledger
@@ -83,7 +84,7 @@ fresh_begins before c started word kind n info life fresh pending h good k is g 
     let l = heard_by b c n in
     let t = seen (turned c kind) [] (comes_as c info life fresh) pending started in
     let same : noted (b.link c.single.link) (hears c.turns (news_of b.timers b.sources c.single.link kind)) ≡ l = ap (λ (x : News). heard_by b c x) (book_news b c started kind n h.sound.tied is) in
-    let tied : Tied (heard_book b c.turns word kind) t = heard_tied b c started word b.created b.failed kind info life fresh pending [] l h.sound.tied good (λ some. some) same g in
+    let tied : Tied (heard_book b c.turns word kind) t = heard_tied b c started word b.created b.failed c.single.connection.told kind info life fresh pending [] l h.sound.tied h.sound.tied.creation good (λ some. some) same g in
     let book_is : entered b (turn_of c word kind) ≡ heard_book b c.turns word kind = heard_is b c.turns word kind (book_kind b c kind h.sound.tied.numbers.timers k) in
     record {
       holds = holds_first (before ++ turn_of c word kind ∷ []) (turned c kind) (comes_as c info life fresh) pending started (announced_sound before c started word kind t h good (subst (λ (x : Book). Tied x t) (sym book_is) tied));
@@ -229,6 +230,7 @@ leads_on before c started n h k g = record { lived = g.0; creds = g.1; renewal_i
 
 -- what the news are is of no account for how far a link has come
 pub told_life : (l : Ledger) (created : ℕ) (life : Life) (n : News) → TiedLife l created life → TiedLife (record l { heard = n }) created life
+told_life l created Resting n h = h
 told_life l created Dialing n h = h
 told_life l created (Wanting link) n h = h
 told_life l created (SettingUp link greeting) n h = h
@@ -419,6 +421,7 @@ setting_fit c link after was greeting fresh e h k = record {
   setup = λ x u is. (let same : after ≡ x = cc in subst (IsFit c.size c.boundary) same k);
   link = λ x is. cc;
   none = λ n. h.none (λ x r. (let no : SettingUp link was ≡ Ready x = sym e ∙ r in cc));
+  lasts = λ x y. h.lasts (ap is_ready e) (ap has_ended e);
 }
 
 -- its waits stay as long as it is set up
@@ -451,6 +454,7 @@ wanting_fit c link after e h k = record {
   setup = λ x u is. cc;
   link = λ x is. cc;
   none = λ n. h.none (λ x r. (let no : Wanting link ≡ Ready x = sym e ∙ r in cc));
+  lasts = λ x y. h.lasts (ap is_ready e) (ap has_ended e);
 }
 
 -- and its waits stay

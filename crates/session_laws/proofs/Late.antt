@@ -21,7 +21,7 @@ use Rattle.link_laws.specs.Settles.{wanted, awaited_ids}
 use Rattle.mux_conn.specs.declared.act.LinkAct.TheVariants as act
 use Rattle.mux_conn.specs.declared.connection.MultiplexedConnection.{MultiplexedConnection}
 use Rattle.mux_conn.specs.declared.life.Life.{Life}
-use Rattle.mux_conn.specs.declared.life.Life.TheVariants.{Dialing, Wanting, SettingUp, Ready, Ended}
+use Rattle.mux_conn.specs.declared.life.Life.TheVariants.{Resting, Dialing, Wanting, SettingUp, Ready, Ended}
 use Rattle.mux_conn.specs.declared.request.Pending.{Pending}
 use Rattle.mux_conn.specs.declared.request.Request.{Request}
 use Rattle.mux_conn.specs.declared.request.Waiting.{Waiting}
@@ -178,6 +178,9 @@ late_lines m story requests link waiting admitted p started apart h =
 late_lines_in : (m : ℕ) (story : ℕ → Story) (requests : List Request) (life : Life) (waiting admitted : List Waiting) (p : ℕ) (started : List ℕ) → p ≢ renewal_id → TiedLines story requests (link_in life) waiting admitted [] started
     → TiedLines (fires_at m story) requests (link_in (cancelled_in life p)) waiting admitted (p ∷ []) started
 late_lines_in m story requests (Ready link) waiting admitted p started apart h = late_lines m story requests link waiting admitted p started apart h
+late_lines_in m story requests Resting waiting admitted p started apart h =
+    let k = late_lines m story requests no_link waiting admitted p started apart h in
+    record { line = k.line; queued = k.queued; entries = k.entries; packs = k.packs; packed_in = k.packed_in; there = k.there }
 late_lines_in m story requests Dialing waiting admitted p started apart h =
     let k = late_lines m story requests no_link waiting admitted p started apart h in
     record { line = k.line; queued = k.queued; entries = k.entries; packs = k.packs; packed_in = k.packed_in; there = k.there }
@@ -217,6 +220,7 @@ late_told story requests number life p o h up = by_life life h up
 
     by_life : (x : Life) → (has_ended x ≡ false → AreQueued story requests number (link_in x)) → has_ended (cancelled_in x p) ≡ false → AreQueued (fires_at m story) requests number (link_in (cancelled_in x p))
     by_life (Ready link) g f = kept link (cancelled link p) (λ n q was named i. without_others link.queue p q (other n q was named) i) (λ q i. without_in link.queue p q i) (g refl)
+    by_life Resting g f = kept no_link no_link (λ n q was named i. i) (λ q i. i) (g refl)
     by_life Dialing g f = kept no_link no_link (λ n q was named i. i) (λ q i. i) (g refl)
     by_life (Wanting link) g f = kept no_link no_link (λ n q was named i. i) (λ q i. i) (g refl)
     by_life (SettingUp link greeting) g f = kept no_link no_link (λ n q was named i. i) (λ q i. i) (g refl)
@@ -296,6 +300,7 @@ late_tied b c started word n p h tame is o =
       notices = renoticed tame h.notices;
       life = left_life ledger b.created conn.life p h.life;
       creds = left_creds ledger.creds conn.renewal.wanted conn.life p h.creds;
+      creation = h.creation;
       uses = uses_on c.sources c.single.link h.uses;
       renewal = left_renewal (record ledger { heard = silence }) conn.renewal conn.life p (renewal_alike ledger (record ledger { heard = silence }) conn.renewal conn.life refl refl refl h.renewal);
       setup = left_setup ledger conn.info started conn.life p h.setup;
@@ -338,6 +343,7 @@ fired_overdue b c started word n p h is o =
 --
 -- the rows and the queue are without it
 late_apart : (b : Book) (t : Inner) (life : Life) (p : ℕ) → Tied b t → t.life ≡ life → has_ended life ≡ false → p ≢ renewal_id → is_open (b.story (name_at t.requests p)) ≡ true → IsIn p (wanted (link_in (cancelled_in life p)).row ++ queue_ids (link_in (cancelled_in life p)).queue) → ⊥
+late_apart b t Resting p h e up other o i = i
 late_apart b t Dialing p h e up other o i = i
 late_apart b t (Wanting link) p h e up other o i = i
 late_apart b t (SettingUp link greeting) p h e up other o i = i
@@ -370,6 +376,7 @@ open_alive before c started p h o = by_life c.single.connection.life refl
     conn = c.single.connection
 
     by_life : (x : Life) → conn.life ≡ x → has_ended conn.life ≡ false
+    by_life Resting e = ap has_ended e
     by_life Dialing e = ap has_ended e
     by_life (Wanting link) e = ap has_ended e
     by_life (SettingUp link greeting) e = ap has_ended e
@@ -382,6 +389,7 @@ open_alive before c started p h o = by_life c.single.connection.life refl
 
 -- a cancel ends no link
 still_alive : (life : Life) (p : ℕ) → has_ended life ≡ false → has_ended (cancelled_in life p) ≡ false
+still_alive Resting p e = refl
 still_alive Dialing p e = refl
 still_alive (Wanting link) p e = refl
 still_alive (SettingUp link greeting) p e = refl

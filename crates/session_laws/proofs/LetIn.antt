@@ -303,6 +303,7 @@ let_tied b t p count free g noted timers w alone eased has sum numbers h = recor
   notices = h.notices;
   life = h.life;
   creds = h.creds;
+  creation = h.creation;
   uses = h.uses;
   renewal = h.renewal;
   setup = h.setup;

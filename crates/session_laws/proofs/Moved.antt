@@ -14,7 +14,7 @@ use Rattle.mux_conn.specs.Passes.{admitted, admitted_all, admitted_at, admitted_
 use Rattle.mux_conn.specs.Requests.{answered, with_permits, is_open as is_open_progress, is_open_at, is_waiting, is_waiting_at}
 use Rattle.mux_conn.specs.declared.life.Greeting.{Greeting}
 use Rattle.mux_conn.specs.declared.life.Life.{Life}
-use Rattle.mux_conn.specs.declared.life.Life.TheVariants.{Dialing, Ended, Ready, Wanting, SettingUp}
+use Rattle.mux_conn.specs.declared.life.Life.TheVariants.{Resting, Dialing, Ended, Ready, Wanting, SettingUp}
 use Rattle.mux_conn.specs.declared.request.Progress.TheVariants as progress
 use Rattle.mux_conn.specs.declared.request.Request.{Request}
 use Rattle.mux_conn.specs.declared.request.Waiting.{Waiting}
@@ -76,7 +76,7 @@ up_moved before f w done =
       started = h.started;
       holds = h.going.sound;
       ended = h.going.ended;
-      fit = record { wanting = λ link e. absurd (not_wanting_too c.life h.link link h.life e); setup = λ link u e. absurd (not_both_lives c.life h.link link u h.life e); link = λ link e. subst (IsFit c.size c.boundary) (one_link c.life h.link link h.life e) h.fit; none = λ no. absurd (no h.link h.life) };
+      fit = record { wanting = λ link e. absurd (not_wanting_too c.life h.link link h.life e); setup = λ link u e. absurd (not_both_lives c.life h.link link u h.life e); link = λ link e. subst (IsFit c.size c.boundary) (one_link c.life h.link link h.life e) h.fit; none = λ no. absurd (no h.link h.life); lasts = λ x y. (let one : true ≡ false = sym (ap is_ready h.life) ∙ x in cc) };
       still = record {
         setup = λ link u e. absurd (not_both_lives c.life h.link link u h.life e);
         held = λ link e. subst (λ (x : LinkState). (x.queue ≡ []) ⊎ (holds_back x ≡ true)) (one_link c.life h.link link h.life e) h.held;
@@ -174,7 +174,18 @@ stuck_moved before f w started stuck h =
       seats = λ p i. absurd (subst (IsIn p) h.moved i);
     })
 
--- so it is while the connect isn't answered
+-- so it is without a link
+resting_stuck : (w : Work) → w.conn.life ≡ Resting → IsStuck w
+resting_stuck w life = record {
+  unready = ap is_ready life;
+  none_starts = ap (started_at w) life;
+  admits = ap (λ (x : Life). admits_none_at x (has_no_permit w.conn.limit w.conn.free)) life;
+  down = λ link e. (let no : Resting ≡ Ready link = sym life ∙ e in cc);
+  unset = λ link u e. (let no : Resting ≡ SettingUp link u = sym life ∙ e in cc);
+  alive = ap has_ended life;
+}
+
+-- while the connect isn't answered
 dialing_stuck : (w : Work) → w.conn.life ≡ Dialing → IsStuck w
 dialing_stuck w life = record {
   unready = ap is_ready life;
@@ -218,6 +229,7 @@ setting_moved before f w started link greeting life h =
         setup = λ x u e. subst (IsFit c.size c.boundary) (one_setting c.life begun.link x greeting u begun.life e) begun.fit;
         link = λ x e. absurd (down x e);
         none = λ no. begun.admitted;
+        lasts = λ x y. (started_keeps w (SettingUp link greeting)).last ∙ h.fit.lasts (ap is_ready life) (ap has_ended life);
       };
       still = record {
         setup = λ x u e. subst (λ (y : LinkState). (y.queue ≡ []) ⊎ (holds_back y ≡ true)) (one_setting c.life begun.link x greeting u begun.life e) begun.held;
@@ -301,7 +313,7 @@ over_moved before f w e started over h =
       started = started;
       holds = done.holds;
       ended = ends.0;
-      fit = record { wanting = λ link r. absurd (over_wanting link (sym done.over ∙ r)); setup = λ link u r. absurd (over_setting link u (sym done.over ∙ r)); link = λ link r. absurd (down link r); none = λ no. done.none_admitted };
+      fit = record { wanting = λ link r. absurd (over_wanting link (sym done.over ∙ r)); setup = λ link u r. absurd (over_setting link u (sym done.over ∙ r)); link = λ link r. absurd (down link r); none = λ no. done.none_admitted; lasts = λ x y. (let one : true ≡ false = sym (ap has_ended done.over) ∙ y in cc) };
       still = record { setup = λ link u r. absurd (over_setting link u (sym done.over ∙ r)); held = λ link r. absurd (down link r); full = λ link r. absurd (down link r); renewed = λ link r. absurd (down link r); waiting = λ link r. absurd (down link r); none_waits = λ no. done.none_waits };
       seats = λ p i k. absurd (subst (λ (x : Life). IsIn p (queue_ids (link_in x).queue)) done.over k);
     })
@@ -317,6 +329,7 @@ pub passed_moved : (before : List Action) (f : Core) (w : Work) (started : List 
 passed_moved before f w started h = by_life w.conn.life refl
   where
     by_life : (life : Life) → w.conn.life ≡ life → HasMoved before f (passed w)
+    by_life Resting e = stuck_moved before f w started (resting_stuck w e) h
     by_life Dialing e = stuck_moved before f w started (dialing_stuck w e) h
     by_life (Wanting link) e = stuck_moved before f w started (wanting_stuck w link e) h
     by_life (SettingUp link greeting) e = setting_moved before f w started link greeting e h

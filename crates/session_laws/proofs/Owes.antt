@@ -17,7 +17,7 @@ use Rattle.link_laws.specs.Settles.{wanted, StandsAs, IsOwed}
 use Rattle.link_laws.proofs.TiedLink.{TiedLink}
 use Rattle.link_laws.proofs.Started.{IsOpenAs, OpenFrom, row_open, open_unowed}
 use Rattle.mux_conn.specs.declared.life.Life.{Life}
-use Rattle.mux_conn.specs.declared.life.Life.TheVariants.{Dialing, Wanting, SettingUp, Ready, Ended}
+use Rattle.mux_conn.specs.declared.life.Life.TheVariants.{Resting, Dialing, Wanting, SettingUp, Ready, Ended}
 use Rattle.mux_conn.specs.declared.request.Pending.{Pending}
 use Rattle.mux_conn.specs.declared.request.Request.{Request}
 use Rattle.mux_conn.specs.Requests.{name_at, is_open_at}
@@ -155,6 +155,7 @@ owed_started b t p k of_shape h l in_time place =
 
 -- a link was asked for, however far it has come
 pub is_asked : (l : Ledger) (created : ℕ) (life : Life) → TiedLife l created life → l.asked ≡ true
+is_asked l created Resting h = absurd h.4
 is_asked l created Dialing h = h.0
 is_asked l created (Wanting link) h = h.0
 is_asked l created (SettingUp link greeting) h = h.0
@@ -163,10 +164,11 @@ is_asked l created (Ended e) h = h.3
 
 -- and until it ends no attempt follows
 pub is_last_one : (l : Ledger) (created : ℕ) (life : Life) → TiedLife l created life → has_ended life ≡ false → l.last ≡ true
-is_last_one l created Dialing h n = h.4
-is_last_one l created (Wanting link) h n = h.4
-is_last_one l created (SettingUp link greeting) h n = h.4
-is_last_one l created (Ready link) h n = h.4
+is_last_one l created Resting h n = h.3
+is_last_one l created Dialing h n = h.3
+is_last_one l created (Wanting link) h n = h.3
+is_last_one l created (SettingUp link greeting) h n = h.3
+is_last_one l created (Ready link) h n = h.3
 is_last_one l created (Ended e) h n = cc
 
 -- of a link that was asked for it is owed what the end says
@@ -183,6 +185,7 @@ pub queue_on : (b : Book) (t : Inner) (p : ℕ) → Tied b t → IsIn p (queue_i
 queue_on b t p h i = by_test (has_ended t.life) _ (λ over. absurd (none_over t.life over i)) (λ up. (h.told up).here p i)
   where
     none_over : (life : Life) → has_ended life ≡ true → IsIn p (queue_ids (link_in life).queue) → ⊥
+    none_over Resting over j = j
     none_over Dialing over j = j
     none_over (Wanting link) over j = j
     none_over (SettingUp link greeting) over j = j
@@ -229,6 +232,7 @@ wanted_entry name l k (e ∷ es) p all (inr i) = let w = wanted_entry name l (su
 
 -- how far a link has come that has not ended
 pub lives : (l : Ledger) (created : ℕ) (life : Life) → TiedLife l created life → has_ended life ≡ false → l.end ≡ None
+lives l created Resting h n = h.2
 lives l created Dialing h n = h.2
 lives l created (Wanting link) h n = h.2
 lives l created (SettingUp link greeting) h n = h.2
@@ -237,6 +241,7 @@ lives l created (Ended e) h n = cc
 
 -- a link that has messages of requests in its row is tied by their names
 pub row_link : (l : Ledger) (requests : List Request) (life : Life) (p : ℕ) → IsIn p (row_ids (link_in life).row) → TiedLink (carried life requests) l (whole_link life) → TiedLink (owner_of requests) l (link_in life)
+row_link l requests Resting p i h = absurd i
 row_link l requests Dialing p i h = absurd i
 row_link l requests (Wanting link) p i h = absurd i
 row_link l requests (SettingUp link greeting) p i h = absurd i
@@ -292,6 +297,7 @@ alive_failure end created none e fails = absurd (let no : ◌≡◌ {A = Option 
 
 -- by how far the link has come
 failure_shown : (l : Ledger) (created : ℕ) (life : Life) → TiedLife l created life → FailureIsShown l.end created
+failure_shown l created Resting h = alive_failure l.end created h.2
 failure_shown l created Dialing h = alive_failure l.end created h.2
 failure_shown l created (Wanting link) h = alive_failure l.end created h.2
 failure_shown l created (SettingUp link greeting) h = alive_failure l.end created h.2

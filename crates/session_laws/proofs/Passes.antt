@@ -17,7 +17,7 @@ use Rattle.mux_conn.specs.declared.act.LinkAct.{LinkAct}
 use Rattle.mux_conn.specs.declared.act.LinkAct.TheVariants as act
 use Rattle.mux_conn.specs.declared.connection.MultiplexedConnection.{MultiplexedConnection}
 use Rattle.mux_conn.specs.declared.life.Life.{Life}
-use Rattle.mux_conn.specs.declared.life.Life.TheVariants.{Dialing, Ended, Ready, Wanting, SettingUp}
+use Rattle.mux_conn.specs.declared.life.Life.TheVariants.{Resting, Dialing, Ended, Ready, Wanting, SettingUp}
 use Rattle.mux_conn.specs.declared.renewal.Renewal.{Renewal}
 use Rattle.mux_conn.specs.declared.request.Progress.{Progress}
 use Rattle.mux_conn.specs.declared.request.Progress.TheVariants as progress
@@ -98,39 +98,46 @@ up_going before f w admitted waiting letting next h = subst (λ (x : Life). IsGo
 pub record Keeps (w v : Work) : Type 0 where
   pub admitted : v.conn.admitted ≡ w.conn.admitted
   pub waiting : v.conn.waiting ≡ w.conn.waiting
+  pub last : v.conn.last ≡ w.conn.last
 
 -- one after another
 keeps_on : (u v w : Work) → Keeps u v → Keeps v w → Keeps u w
-keeps_on u v w h k = record { admitted = k.admitted ∙ h.admitted; waiting = k.waiting ∙ h.waiting }
+keeps_on u v w h k = record { admitted = k.admitted ∙ h.admitted; waiting = k.waiting ∙ h.waiting; last = k.last ∙ h.last }
 
 -- starts leave those that wait
 pub started_keeps : (w : Work) (life : Life) → Keeps w (started_at w life)
-started_keeps w Dialing = record { admitted = refl; waiting = refl }
-started_keeps w (Wanting link) = record { admitted = refl; waiting = refl }
+started_keeps w Resting = record { admitted = refl; waiting = refl; last = refl }
+started_keeps w Dialing = record { admitted = refl; waiting = refl; last = refl }
+started_keeps w (Wanting link) = record { admitted = refl; waiting = refl; last = refl }
 started_keeps w (SettingUp link greeting) =
     let s = started_all (record { link = link; out = [] }) in
     let same = greeted_conn (with_setup w s.link greeting) greeting s.out in
-    record { admitted = ap (λ (c : MultiplexedConnection). c.admitted) same; waiting = ap (λ (c : MultiplexedConnection). c.waiting) same }
+    record { admitted = ap (λ (c : MultiplexedConnection). c.admitted) same; waiting = ap (λ (c : MultiplexedConnection). c.waiting) same; last = ap (λ (c : MultiplexedConnection). c.last) same }
 started_keeps w (Ready link) =
     let s = started_all (record { link = link; out = [] }) in
     let same = shown_is (with_link w s.link) s.out in
-    record { admitted = ap (λ (x : Work). x.conn.admitted) same; waiting = ap (λ (x : Work). x.conn.waiting) same }
-started_keeps w (Ended e) = record { admitted = refl; waiting = refl }
+    record { admitted = ap (λ (x : Work). x.conn.admitted) same; waiting = ap (λ (x : Work). x.conn.waiting) same; last = ap (λ (x : Work). x.conn.last) same }
+started_keeps w (Ended e) = record { admitted = refl; waiting = refl; last = refl }
 
 -- so does the place of another
 placed_keeps : (w : Work) (q : Waiting) (life : Life) → Keeps w (placed_at w q life)
-placed_keeps w q Dialing = record { admitted = refl; waiting = refl }
-placed_keeps w q (Wanting link) = record { admitted = refl; waiting = refl }
-placed_keeps w q (SettingUp link greeting) = record { admitted = refl; waiting = refl }
-placed_keeps w q (Ready link) = record { admitted = refl; waiting = refl }
-placed_keeps w q (Ended e) = record { admitted = refl; waiting = refl }
+placed_keeps w q Resting = record { admitted = refl; waiting = refl; last = refl }
+placed_keeps w q Dialing = record { admitted = refl; waiting = refl; last = refl }
+placed_keeps w q (Wanting link) = record { admitted = refl; waiting = refl; last = refl }
+placed_keeps w q (SettingUp link greeting) = record { admitted = refl; waiting = refl; last = refl }
+placed_keeps w q (Ready link) = record { admitted = refl; waiting = refl; last = refl }
+placed_keeps w q (Ended e) = record { admitted = refl; waiting = refl; last = refl }
 
 -- and the answer at it
 told_keeps : (w : Work) (q : Waiting) → Keeps w (told_at_place w q)
 told_keeps w q =
     let nil = outcome.One Nil in
-    chosen (Keeps w) q.awaited w (answered w q.number nil) (λ t. record { admitted = refl; waiting = refl })
-    (λ f. let l = answered_leaves w q.number nil in record { admitted = l.admitted; waiting = l.waiting })
+    chosen (Keeps w) q.awaited w (answered w q.number nil) (λ t. record { admitted = refl; waiting = refl; last = refl })
+    (λ f. let l = answered_leaves w q.number nil in record {
+      admitted = l.admitted;
+      waiting = l.waiting;
+      last = chosen (λ (x : Work). x.conn.last ≡ w.conn.last) (is_open_at w.conn.requests q.number) _ w (λ t. refl) (λ f. refl);
+    })
 
 -- and so all of it
 seated_keeps : (w : Work) (q : Waiting) → Keeps w (seated w q)

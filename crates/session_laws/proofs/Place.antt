@@ -495,6 +495,7 @@ place_tied b t link q waiting admitted yes_awaited next h =
       notices = h.notices;
       life = h.life;
       creds = record { wanted_is = h.creds.wanted_is; sought = h.creds.sought };
+      creation = h.creation;
       uses = h.uses;
       renewal = h.renewal;
       setup = record { info_is = h.setup.info_is; sent = h.setup.sent; said = h.setup.said };
@@ -572,6 +573,7 @@ tell_tied b t link q waiting admitted not_awaited next h =
       notices = h.notices;
       life = h.life;
       creds = record { wanted_is = h.creds.wanted_is; sought = h.creds.sought };
+      creation = h.creation;
       uses = h.uses;
       renewal = h.renewal;
       setup = record { info_is = h.setup.info_is; sent = h.setup.sent; said = h.setup.said };
@@ -632,6 +634,7 @@ admit_tied b t link q qs w is last h =
       notices = h.notices;
       life = h.life;
       creds = record { wanted_is = h.creds.wanted_is; sought = h.creds.sought };
+      creation = h.creation;
       uses = h.uses;
       renewal = h.renewal;
       setup = record { info_is = h.setup.info_is; sent = h.setup.sent; said = h.setup.said };

@@ -23,7 +23,7 @@ use Rattle.link_laws.proofs.Settles.{read_owed}
 use Rattle.link_laws.proofs.TiedLink.{ReadsAlike, TiedLink, deals, has_read, has_heard, reads_on, heard_is, read_taken, read_tied}
 use Rattle.mux_conn.specs.declared.connection.MultiplexedConnection.{MultiplexedConnection}
 use Rattle.mux_conn.specs.declared.life.Life.{Life}
-use Rattle.mux_conn.specs.declared.life.Life.TheVariants.{Dialing, Wanting, SettingUp, Ready, Ended}
+use Rattle.mux_conn.specs.declared.life.Life.TheVariants.{Resting, Dialing, Wanting, SettingUp, Ready, Ended}
 use Rattle.mux_conn.specs.declared.request.Request.{Request}
 use Rattle.mux_conn.specs.declared.request.Waiting.{Waiting}
 use Rattle.mux_conn.specs.Connection.{Work}
@@ -36,7 +36,7 @@ use Rattle.legal_trace.specs.Story.{Story}
 use Rattle.legal_trace.specs.Book.{Book, book, entered, hearing_in}
 use Rattle.legal_trace.specs.Owed.{owed}
 use Rattle.session_laws.proofs.Numbers.{IsIn, Rising, requests_in, requests_in-append}
-use Rattle.session_laws.proofs.Tied.{inner, link_in, owner_of, queue_ids, IsEntry, TiedLines, TiedSetup, AreQueued, TiedWaits, has_ended, Tied, Sound, AreRenewed, AreSought, IsSetUp, TiedRenewal}
+use Rattle.session_laws.proofs.Tied.{never_rests, inner, link_in, owner_of, queue_ids, IsEntry, TiedLines, TiedSetup, AreQueued, TiedWaits, has_ended, Tied, Sound, AreRenewed, AreSought, IsSetUp, TiedRenewal}
 use Rattle.session_laws.proofs.SetUp.{set_up_hears}
 use Rattle.legal_trace.proofs.Setups.{ends_where_set}
 use Rattle.legal_trace.proofs.Came.{Came, bytes_are}
@@ -210,10 +210,10 @@ read_begins before c started word kind piece link untold h good k is e it r came
     let quiet : StaysQuiet c come = λ w. (let q = h0.numbers.quiet w in (keeps.1 ∙ q.unwanted, keeps.2 ∙ q.unrenewed)) in
     let same : noted l (hears c.turns (news_of b.timers b.sources c.single.link kind)) ≡ after = ap (λ (x : News). heard_by b c x) (book_news b c started kind (came piece) h0 is) ∙ heard_is l c.turns piece u.up ∙ after_is l piece it in
     let t = record (seen (turned c kind) [] (renewing (reads c link piece) come).conn ids started) { untold = untold } in
-    let tied : Tied (heard_book b c.turns word kind) t = heard_tied_new b c started word b.created b.failed kind conn.info come life conn.fresh ids untold after h0 keeps.0 quiet good (λ some. some) same
+    let tied : Tied (heard_book b c.turns word kind) t = heard_tied_new b c started word b.created b.failed conn.told kind conn.info come life conn.fresh ids untold after h0 h0.creation keeps.0 quiet good (λ some. some) same
     (record {
       starts = refl;
-      lived = (u.asked, u.up, u.alive, u.shown, u.last);
+      lived = (u.asked, u.up, u.alive, u.last, u.shown);
       creds = record { wanted_is = h0.creds.wanted_is ∙ sym keeps.1; sought = sought };
       renewal_is = r.renewed;
       said = record { info_is = said.info_is; sent = said.sent; said = r.well };
@@ -356,6 +356,7 @@ read_applied before c started word kind piece h good k is = by_life c.single.con
     applied x = HasApplied (before ++ turn_of c word kind ∷ []) (with_work (record { core = turned c kind; acts = [] }) x) started
 
     by_life : (x : Life) → c.single.connection.life ≡ x → applied (read_at w piece x)
+    by_life Resting e = absurd (never_rests ((book before).link c.single.link) (book before).created c.single.connection.life e h.sound.tied.life)
     by_life Dialing e = dialing_quiet before c started word kind (came piece) tt h good k is e
     by_life (Ended x) e = ended_quiet before c started word kind (came piece) x h good k is e
     by_life (Wanting link) e =

@@ -38,8 +38,8 @@ use Rattle.mux_conn.specs.declared.life.Greeting.{Greeting}
 use Rattle.mux_conn.specs.declared.life.Greeting.TheVariants as greet
 use Rattle.mux_conn.specs.declared.life.Life.{Life}
 use Rattle.mux_conn.specs.declared.life.Life.TheVariants.{Wanting, SettingUp, Ended, Ready}
-use Rattle.mux_conn.specs.Connection.{Work, acted, at_life, is_ready, with_link, with_setup}
-use Rattle.mux_conn.specs.Effects.{all_fresh, answered_setup, behind_first, broken_at, failed_at, greeted, greeted_by, greeting_error, greeting_queued, has_user, heard_on, judged_by, made_ready, noticed_each, opening_failed, read_setup, set_up_by, sets_up, setup_id, setup_queued, steps_of, told_each}
+use Rattle.mux_conn.specs.Connection.{Work, acted, is_ready, with_setup}
+use Rattle.mux_conn.specs.Effects.{answered_setup, behind_first, broken_at, failed_at, greeted, greeted_by, greeting_error, greeting_queued, has_user, heard_on, judged_by, made_ready, noticed_each, opening_failed, read_setup, set_up_by, sets_up, setup_id, setup_queued, steps_of, told_each}
 use Rattle.mux_conn.specs.Requests.{is_open_at, name_at}
 use Rattle.shared_session.specs.declared.core_state.Core.{Core}
 use Rattle.shared_session.specs.Turn.{is_bad, with_work}
@@ -50,11 +50,11 @@ use Rattle.legal_trace.proofs.Came.{Came, bytes_are}
 use Rattle.legal_trace.proofs.Monitors.{unwatched}
 use Rattle.legal_trace.proofs.Setups.{AreSetups as SetUpsAre, ends_where_set, greeted_more, set_is_greeted}
 use Rattle.session_laws.proofs.Announce.{IsNewsKind, turn_of, turned}
-use Rattle.session_laws.proofs.Close.{HasEnded, ended_applied, parted_moved, waiting_leaves}
-use Rattle.session_laws.proofs.ComeUp.{IsEarly, IsMade, IsReadied, IsShownReady, made_conn, made_is, makes_ready}
+use Rattle.session_laws.proofs.Close.{HasEnded, ended_applied, parted_moved}
+use Rattle.session_laws.proofs.ComeUp.{IsEarly, IsMade, IsReadied, IsShownReady, made_conn, made_is, made_of, makes_ready}
 use Rattle.session_laws.proofs.Creds.{has_credentials, has_sourced}
 use Rattle.session_laws.proofs.End.{IsSetting, fault_ends, opening_error_is, setting_tied, setting_unready}
-use Rattle.session_laws.proofs.Failing.{Fails, setup_failed}
+use Rattle.session_laws.proofs.Failing.{Fails, given_up_ended, setup_failed}
 use Rattle.session_laws.proofs.Greeted.{IsAnswered, IsReadSet, IsReadUnset, answered_result, due_same, few_rows, full_row, full_settled, open_still, reads_answered, repeats_first, sent_last, set_unwatched, sets_of, settled_last, setup_full, setup_last, still_awaited, still_full, unset_of, watch_answered, watch_full, watch_last, watch_sets}
 use Rattle.session_laws.proofs.Heard.{heard_by, none_ends, none_hears, quiet_applied, setting_fit, setting_waits, tame_between}
 use Rattle.session_laws.proofs.HeardBytes.{all_heard, heard_notices, none_noticed, quiet_notices, unset_unreadable}
@@ -83,6 +83,7 @@ fit_by c size bound link size_is bound_is life h = record {
   setup = λ x u same. (let no : Ready link ≡ SettingUp x u = sym life ∙ same in cc);
   link = λ x same. subst (λ n. IsFit n c.boundary x) (sym size_is) (subst (λ n. IsFit size n x) (sym bound_is) (h x (sym life ∙ same)));
   none = λ none. absurd (none link life);
+  lasts = λ x y. (let one : true ≡ false = sym (ap is_ready life) ∙ x in cc);
 }
 
 -- which greeting it is
@@ -232,7 +233,7 @@ setup_read_as before c started word kind piece link greeting g h good k is e = b
     goes_on r next now said tied_next fits f =
         quiet_applied before c started word kind (came piece) (SettingUp next now) h good k is
         (record {
-          lived = subst (λ (y : Ledger). TiedLife y b.created (SettingUp next now)) (sym same) (s.asked, s.up, s.alive, s.unshown, s.last);
+          lived = subst (λ (y : Ledger). TiedLife y b.created (SettingUp next now)) (sym same) (s.asked, s.up, s.alive, s.last);
           creds = subst (λ (y : Ledger). TiedCreds y.creds conn.renewal.wanted (SettingUp next now)) (sym same) (record { wanted_is = h.sound.tied.creds.wanted_is; sought = (s.has, s.once) });
           renewal_is = none_hears l c.turns (came piece) conn.renewal (λ x. x) (early_renewal l conn.renewal conn.life (ap is_ready e) (ap has_ended e) h.sound.tied.renewal);
           said = subst (λ (y : Ledger). TiedSetup y info started (SettingUp next now)) (sym same) (record { info_is = h.sound.tied.setup.info_is; sent = h.sound.tied.setup.sent; said = (s.none, said) });
@@ -259,9 +260,10 @@ setup_read_as before c started word kind piece link greeting g h good k is e = b
     -- the greeting failed
     failed : IsReadUnset name conn.hears l link piece g → (x : RedisError) → is_set_up after ≡ false → setup_result after ≡ Some (result.Failed x) → applied (finish (opening_failed (acted w act.Close) x))
     failed r x unset is_so =
-        let u = acted (at_life (acted w act.Close) (Ended x)) (act.Created (Some x)) in
-        let v = opening_failed (acted w act.Close) x in
-        let over : v.conn.life ≡ Ended x = (waiting_leaves u x).life in
+        let closed = acted w act.Close in
+        let v = opening_failed closed x in
+        let lasts = h.fit.lasts early.unready early.alive in
+        let over : v.conn.life ≡ Ended x = given_up_ended closed x lasts in
         let done : applied v = fails r x unset (ending_failed after x s.up is_so) in
         chosen applied (read.broken || (d.strange && is_ready v.conn.life)) (failed_at v fault.Parse v.conn.life) v
         (λ t. subst (λ (y : Life). applied (failed_at v fault.Parse y)) (sym over) done)
@@ -332,9 +334,10 @@ setup_read_as before c started word kind piece link greeting g h good k is e = b
         subst (λ (z : Work). applied (finish (heard_on z (behind_first d.notices)))) (sym goes) (watches_next r y q x a is_so watches)
     by_result r unset own y q x a result.RepeatWithoutUser j is_so = again r y q x a is_so j
     by_result r unset own y q x a (result.Failed z) j is_so =
-        let u = acted (at_life (acted w act.Close) (Ended z)) (act.Created (Some z)) in
-        let v = opening_failed (acted w act.Close) z in
-        subst (λ (z : Work). applied (finish z)) (sym (left_if (is_ready v.conn.life) (noticed_each v (behind_first d.notices)) v (ap is_ready (waiting_leaves u z).life))) (failed r z unset is_so)
+        let closed = acted w act.Close in
+        let v = opening_failed closed z in
+        let lasts = h.fit.lasts early.unready early.alive in
+        subst (λ (z : Work). applied (finish z)) (sym (left_if (is_ready v.conn.life) (noticed_each v (behind_first d.notices)) v (ap is_ready (given_up_ended closed z lasts)))) (failed r z unset is_so)
     by_result r unset own y q x a result.NoMemory j is_so =
         let replies = cut after q.k (setup_shape (setup_steps after q.k)) in
         absurd (judged_memory (setup info (has_user greeting)) replies (ap (judged_by (setup info (has_user greeting))) (sym a.verdict_is) ∙ j))
@@ -405,7 +408,7 @@ setup_read_as before c started word kind piece link greeting g h good k is e = b
     --
     -- its connection then
     ready_conn : MultiplexedConnection
-    ready_conn = (with_link (all_fresh w) read).conn
+    ready_conn = made_of w.conn read
 
     -- what is shown then
     now_ready : Work
@@ -426,7 +429,7 @@ setup_read_as before c started word kind piece link greeting g h good k is e = b
         let f = turned c kind in
         let still = told_leaves v 0 ps [] in
         let owned = named_tied name (owner_of conn.requests) after read (subst (SameNames name (owner_of conn.requests)) (sym row) tt) r.of.tied in
-        let made : IsMade after b.created conn.requests read = record { asked = s.asked; up = s.up; alive = s.alive; last = s.last; unshown = s.unshown; said = said; tied = owned; queue = queue; row = row } in
+        let made : IsMade after b.created conn.requests read = record { asked = s.asked; up = s.up; alive = s.alive; last = s.last; said = said; tied = owned; queue = queue; row = row } in
         let facts : IsReadied b c (heard_by b c (came piece)) info read untold = subst (λ (y : Ledger). IsReadied b c y info read untold) (sym same) (record {
           info_is = h.sound.tied.setup.info_is;
           sent = h.sound.tied.setup.sent;

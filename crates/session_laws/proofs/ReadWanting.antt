@@ -116,7 +116,7 @@ wanting_reads before c started word kind piece link h good k is e it =
         let fit = h.fit.wanting link e in
         quiet_applied before c started word kind (came piece) (Wanting read) h good k is
         (record {
-          lived = subst (λ (y : Ledger). TiedLife y b.created (Wanting read)) (sym same) (s.asked, s.up, s.alive, s.unshown, s.last);
+          lived = subst (λ (y : Ledger). TiedLife y b.created (Wanting read)) (sym same) (s.asked, s.up, s.alive, s.last);
           creds = subst (λ (y : Ledger). TiedCreds y.creds c.single.connection.renewal.wanted (Wanting read)) (sym same) (record { wanted_is = h.sound.tied.creds.wanted_is; sought = s.sought });
           renewal_is = none_hears l c.turns (came piece) c.single.connection.renewal (λ x. x) (early_renewal l c.single.connection.renewal c.single.connection.life (ap is_ready e) (ap has_ended e) h.sound.tied.renewal);
           said = subst (λ (y : Ledger). TiedSetup y c.single.connection.info started (Wanting read)) (sym same) (record { info_is = h.sound.tied.setup.info_is; sent = h.sound.tied.setup.sent; said = (s.starts, s.none, s.queue, row) });

@@ -13,7 +13,7 @@ use Rattle.link_core.specs.Link.{LinkState}
 use Rattle.link_laws.proofs.TiedLink.{said_tied}
 use Rattle.mux_conn.specs.declared.connection.MultiplexedConnection.{MultiplexedConnection}
 use Rattle.mux_conn.specs.declared.life.Life.{Life}
-use Rattle.mux_conn.specs.declared.life.Life.TheVariants.{Dialing, Wanting, SettingUp, Ready, Ended}
+use Rattle.mux_conn.specs.declared.life.Life.TheVariants.{Resting, Dialing, Wanting, SettingUp, Ready, Ended}
 use Rattle.mux_conn.specs.declared.renewal.Renewal.{Renewal}
 use Rattle.mux_conn.specs.Connection.{are_some, is_due, is_ready}
 use Rattle.mux_conn.specs.Renewals.{expected, expecting, is_unanswered, late_for, none_follow, takes_more, with_renewal}
@@ -45,7 +45,7 @@ over_renewal front f conn r e started over within wanted waiting asked h =
       ended = h.ended;
       began = h.began;
       moved = h.moved;
-      fit = record { wanting = h.fit.wanting; setup = h.fit.setup; link = h.fit.link; none = h.fit.none };
+      fit = record { wanting = h.fit.wanting; setup = h.fit.setup; link = h.fit.link; none = h.fit.none; lasts = h.fit.lasts };
     }
 
 -- a link that is ready
@@ -71,10 +71,10 @@ ready_renewal before c started word kind n link renewals over lost r h good k is
     let f = turned c kind in
     let own = ap (heard_by b c) (book_news b c started kind n h0 is) ∙ same in
     let t = seen f [] (with_renewal conn r) [] started in
-    let tied : Tied (heard_book b c.turns word kind) t = heard_tied_new b c started word b.created b.failed kind conn.info r conn.life conn.fresh [] [] after h0 within quiet good (λ some. some) own
+    let tied : Tied (heard_book b c.turns word kind) t = heard_tied_new b c started word b.created b.failed conn.told kind conn.info r conn.life conn.fresh [] [] after h0 h0.creation within quiet good (λ some. some) own
     (record {
       starts = refl;
-      lived = subst (λ (x : Life). TiedLife after b.created x) (sym e) (u.asked, u.up, u.alive, u.shown, u.last);
+      lived = subst (λ (x : Life). TiedLife after b.created x) (sym e) (u.asked, u.up, u.alive, u.last, u.shown);
       creds = subst (λ (x : Life). TiedCreds after.creds r.wanted x) (sym e) (record { wanted_is = h0.creds.wanted_is ∙ sym wanted; sought = sought });
       renewal_is = subst (λ (x : Life). TiedRenewal after r x) (sym e) are;
       said = subst (λ (x : Life). TiedSetup after conn.info started x) (sym e) said;
@@ -93,7 +93,7 @@ ready_renewal before c started word kind n link renewals over lost r h good k is
       ended = none_ends (book (trace_of_acts front f [])) t holds.tied (ap ending ledger ∙ ends_where_set after u.up well ∙ calm);
       began = λ z. absurd (omega arith);
       moved = h.moved;
-      fit = record { wanting = h.fit.wanting; setup = h.fit.setup; link = h.fit.link; none = h.fit.none };
+      fit = record { wanting = h.fit.wanting; setup = h.fit.setup; link = h.fit.link; none = h.fit.none; lasts = h.fit.lasts };
     }
 
 -- new credentials come
@@ -166,6 +166,7 @@ renewed_applied before c started word kind a h good k is renews = by_life c.sing
         ready_renewal before c started word kind (renewed a) link l.creds.renewals l.creds.over l.creds.lost conn.renewal h good k is e refl refl still (ap (λ (x : Ledger). record x { heard = renewed a }) (left_if (may_renew l) (renewed_by l a) l so)) (renewed_alike l (record l { heard = renewed a }) conn.renewal refl refl refl tied) refl)
 
     by_life : (x : Life) → conn.life ≡ x → done (expecting conn a)
+    by_life Resting e = early Resting e refl refl
     by_life Dialing e = early Dialing e refl refl
     by_life (Wanting link) e = early (Wanting link) e refl refl
     by_life (SettingUp link greeting) e = early (SettingUp link greeting) e refl refl
@@ -212,6 +213,7 @@ unrenewed_applied before c started word kind h good k is renews = by_life c.sing
     early x e unset alive = absurd (not_both l.creds.renews (early_sources l.creds conn.life (ap is_ready e ∙ unset) (ap has_ended e ∙ alive) h.sound.tied.creds.sought) renews)
 
     by_life : (x : Life) → conn.life ≡ x → done (none_follow conn)
+    by_life Resting e = early Resting e refl refl
     by_life Dialing e = early Dialing e refl refl
     by_life (Wanting link) e = early (Wanting link) e refl refl
     by_life (SettingUp link greeting) e = early (SettingUp link greeting) e refl refl
@@ -349,6 +351,7 @@ renewal_late before c started word kind m h good k is = by_life c.single.connect
         (renewed_alike l (record l { heard = late m }) conn.renewal refl refl refl tied) refl))
 
     by_life : (x : Life) → conn.life ≡ x → done (late_for conn m)
+    by_life Resting e = early (subst (λ (x : Life). TiedRenewal l conn.renewal x) e h.sound.tied.renewal)
     by_life Dialing e = early (subst (λ (x : Life). TiedRenewal l conn.renewal x) e h.sound.tied.renewal)
     by_life (Wanting link) e = early (subst (λ (x : Life). TiedRenewal l conn.renewal x) e h.sound.tied.renewal)
     by_life (SettingUp link greeting) e = early (subst (λ (x : Life). TiedRenewal l conn.renewal x) e h.sound.tied.renewal)

@@ -126,6 +126,7 @@ time_tied b t link number ms none due within h =
       notices = h.notices;
       life = h.life;
       creds = record { wanted_is = h.creds.wanted_is; sought = h.creds.sought };
+      creation = h.creation;
       uses = h.uses;
       renewal = timed_renewed l r ms none due within h.renewal;
       setup = record { info_is = h.setup.info_is; sent = h.setup.sent; said = record { well = h.setup.said.well; none = h.setup.said.none } };
@@ -254,6 +255,7 @@ auth_tied b t link c cs due pending waits h =
       notices = h.notices;
       life = h.life;
       creds = record { wanted_is = h.creds.wanted_is; sought = h.creds.sought };
+      creation = h.creation;
       uses = h.uses;
       renewal = auth_renewed l t.renewal s c cs owned refl up.within due pending waits h.renewal;
       setup = record { info_is = h.setup.info_is; sent = setups_begins l s (ap is_of_setup owned) h.setup.sent; said = set_up_begins l s (ap is_of_setup owned) h.setup.said };

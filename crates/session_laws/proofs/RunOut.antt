@@ -10,7 +10,7 @@ use Rattle.driver_model.specs.declared.action.SourceUse.{SourceUse}
 use Rattle.link_laws.proofs.TiedLink.{TiedLink}
 use Rattle.mux_conn.specs.Connection.{is_spent_in, started_in, is_due, is_ready, is_used_up}
 use Rattle.mux_conn.specs.declared.life.Life.{Life}
-use Rattle.mux_conn.specs.declared.life.Life.TheVariants.{Dialing, Ended, Ready, Wanting, SettingUp}
+use Rattle.mux_conn.specs.declared.life.Life.TheVariants.{Resting, Dialing, Ended, Ready, Wanting, SettingUp}
 use Rattle.shared_session.specs.Replay.{AreGood, AreGoodOn, is_bad_after, is_spent_after, opening_core, run_on, state_after, trace_of, IsSound, AreUnspent, AreUnspentOn}
 use Rattle.shared_session.specs.Turn.{is_bad, has_run_out, spends, next_turn, moved_on, effect, counted}
 use Rattle.shared_session.specs.declared.core_state.Core.{Core}
@@ -53,6 +53,7 @@ spent_up : (b : Book) (t : Inner) → Tied b t → is_spent_in t.life ≡ true �
 spent_up b t h e = by_life t.life h.life e
   where
     by_life : (life : Life) → TiedLife (b.link t.link) b.created life → is_spent_in life ≡ true → (b.link t.link).up ≡ true
+    by_life Resting k s = absurd (let far = le_from (2 ^ 32) 0 s in omega arith)
     by_life Dialing k s = absurd (let far = le_from (2 ^ 32) 0 s in omega arith)
     by_life (Wanting link) k s = k.1
     by_life (SettingUp link greeting) k s = k.1
@@ -64,6 +65,7 @@ up_started : (b : Book) (t : Inner) → Tied b t → (b.link t.link).up ≡ true
 up_started b t h up = by_life t.life h.life h.link
   where
     by_life : (life : Life) → TiedLife (b.link t.link) b.created life → (has_ended life ≡ false → TiedLink (carried life t.requests) (b.link t.link) (whole_link life)) → started_in life ≡ length (b.link t.link).starts
+    by_life Resting k tied = absurd (not_both (b.link t.link).up k.1 up)
     by_life Dialing k tied = absurd (not_both (b.link t.link).up k.1 up)
     by_life (Wanting link) k tied = (tied refl).started
     by_life (SettingUp link greeting) k tied = (tied refl).started
@@ -236,7 +238,7 @@ asked_behind config word events unspent = asked_on (opening_core config word) ev
 
 -- so where they have, they have in its book
 last_asked : (b : Book) (t : Inner) (n : ℕ) (conn : MultiplexedConnection) → t.life ≡ conn.life → t.renewal ≡ conn.renewal → Tied b t → n < 2 ^ 32 → HasGrown n conn → 2 ^ 32 ≤ t.renewal.asked → 2 ^ 32 ≤ renewals_asked (b.link t.link)
-last_asked b t n conn life renewal h few (inl same) many = absurd (let so = ap (λ (r : Renewal). r.asked) renewal ∙ same in omega (arith, few, so, many))
+last_asked b t n conn life renewal h few (inl same) many = absurd (let so = ap (λ (r : Renewal). r.asked) renewal in omega (arith, few, so, same, many))
 last_asked b t n conn life renewal h few (inr more) many = by_life t.life refl
   where
     ready : is_ready t.life ≡ true
@@ -250,6 +252,7 @@ last_asked b t n conn life renewal h few (inr more) many = by_life t.life refl
     told = subst (λ (r : Renewal). (r.pending ≡ false) ⊎ (is_due r ≡ true)) (sym renewal) more.1
 
     by_life : (x : Life) → t.life ≡ x → 2 ^ 32 ≤ renewals_asked (b.link t.link)
+    by_life Resting e = absurd (not_both (is_ready t.life) (ap is_ready e) ready)
     by_life Dialing e = absurd (not_both (is_ready t.life) (ap is_ready e) ready)
     by_life (Wanting link) e = absurd (not_both (is_ready t.life) (ap is_ready e) ready)
     by_life (SettingUp link greeting) e = absurd (not_both (is_ready t.life) (ap is_ready e) ready)
@@ -281,6 +284,7 @@ book_asked b t h waits many = by_life t.life refl
     none r = too_few (renewals_asked l) (ap (λ n. n + (if is_some (renewal_due l) then 1 else 0)) r.unstarted ∙ ap (λ (o : Option Credentials). 0 + (if is_some o then 1 else 0)) (none_renewed_due l t.renewal r)) many
 
     by_life : (x : Life) → t.life ≡ x → 2 ^ 32 ≤ t.renewal.asked
+    by_life Resting e = absurd (none (subst (TiedRenewal l t.renewal) e h.renewal))
     by_life Dialing e = absurd (none (subst (TiedRenewal l t.renewal) e h.renewal))
     by_life (Wanting link) e = absurd (none (subst (TiedRenewal l t.renewal) e h.renewal))
     by_life (SettingUp link greeting) e = absurd (none (subst (TiedRenewal l t.renewal) e h.renewal))

@@ -11,7 +11,7 @@ use Rattle.link_core.specs.Link.{LinkState}
 use Rattle.link_laws.proofs.TiedLink.{TiedLink}
 use Rattle.mux_conn.specs.declared.life.Greeting.{Greeting}
 use Rattle.mux_conn.specs.declared.life.Life.{Life}
-use Rattle.mux_conn.specs.declared.life.Life.TheVariants.{Dialing, Wanting, SettingUp, Ready, Ended}
+use Rattle.mux_conn.specs.declared.life.Life.TheVariants.{Resting, Dialing, Wanting, SettingUp, Ready, Ended}
 use Rattle.mux_conn.specs.declared.request.Request.{Request}
 use Rattle.legal_trace.specs.Ledger.{Ledger, End, Ending, by_opening, hears, noted, authorized_by, awaits_credentials, is_over, dials, refused_in, bytes_came, ending, ending_up, ending_asked, ending_unready, ending_by, ending_alive, error_in, is_well, is_set_up, is_ready, lacks_credentials, setup_after, setup_result, is_renewal_open, lost_by, may_renew, renewed_by, unrenewed_by, source_due, is_unreadable, opening_error, by_fault, Heard, is_fault, lasting}
 use Rattle.legal_trace.proofs.Setups.{ends_where_set, ungreeted_is_unset}
@@ -32,6 +32,7 @@ use Rattle.resp_read.specs.Values.{is_spoiled}
 --
 -- they are the same where names are
 pub carried_same : (life : Life) (requests other : List Request) → owner_of requests ≡ owner_of other → carried life requests ≡ carried life other
+carried_same Resting requests other e = λ i p. e i p
 carried_same Dialing requests other e = λ i p. e i p
 carried_same (Wanting link) requests other e = λ i p. owner.Setup
 carried_same (SettingUp link greeting) requests other e = λ i p. greeter greeting
@@ -368,10 +369,11 @@ dropped_end l deaf none = by_test l.up _
 --
 -- by how far it has come
 ready_by : (l : Ledger) (created : ℕ) (info : RedisConnectionInfo) (started : List ℕ) (life : Life) → TiedLife l created life → AreSought l.creds life → TiedSetup l info started life → is_ready l ≡ true → created ≢ 0
+ready_by l created info started Resting h c s r = absurd (not_both l.up h.1 (both_left l.up (is_set_up l) r))
 ready_by l created info started Dialing h c s r = absurd (not_both l.up h.1 (both_left l.up (is_set_up l) r))
 ready_by l created info started (Wanting link) h c s r = absurd (not_both (is_set_up l) (lacking_unset l (wanting_lacks l.creds link c)).unset (both_right l.up (is_set_up l) r))
 ready_by l created info started (SettingUp link greeting) h c s r = absurd (not_both (is_set_up l) (not_set_up l link greeting s.said.1).unset (both_right l.up (is_set_up l) r))
-ready_by l created info started (Ready link) h c s r = h.3
+ready_by l created info started (Ready link) h c s r = h.4
 ready_by l created info started (Ended e) h c s r = absurd (not_both l.up h.0 (both_left l.up (is_set_up l) r))
 
 -- the creation was shown
@@ -384,6 +386,7 @@ ready_shown b t h m ready = by_test (m == t.link) _
 --
 -- by how far a link has come
 pub life_sourced : (l : Ledger) (created : ℕ) (started : List ℕ) (life : Life) → TiedLife l created life → AreSought l.creds life → HasSaid l started life → source_due l ≡ false
+life_sourced l created started Resting h s said = down_sourced l h.1
 life_sourced l created started Dialing h s said = down_sourced l h.1
 life_sourced l created started (Wanting link) h s said = asked_sourced l s.1 (inl (lacking_unset l (wanting_lacks l.creds link s)).unset)
 life_sourced l created started (SettingUp link greeting) h s said = has_sourced l s.0 (not_set_up l link greeting said.1).unset

@@ -15,7 +15,7 @@ use Rattle.mux_conn.specs.declared.act.LinkAct.{LinkAct}
 use Rattle.mux_conn.specs.declared.act.LinkAct.TheVariants as act
 use Rattle.mux_conn.specs.declared.connection.MultiplexedConnection.{MultiplexedConnection}
 use Rattle.mux_conn.specs.declared.life.Life.{Life}
-use Rattle.mux_conn.specs.declared.life.Life.TheVariants.{Dialing, Wanting, SettingUp, Ready, Ended}
+use Rattle.mux_conn.specs.declared.life.Life.TheVariants.{Resting, Dialing, Wanting, SettingUp, Ready, Ended}
 use Rattle.mux_conn.specs.declared.request.Progress.TheVariants as progress
 use Rattle.mux_conn.specs.declared.request.Request.{Request}
 use Rattle.mux_conn.specs.declared.request.Waiting.{Waiting}
@@ -60,6 +60,7 @@ seen f acts conn pending started = record {
   info = conn.info;
   renewal = conn.renewal;
   life = conn.life;
+  told = conn.told;
   requests = conn.requests;
   waiting = conn.waiting;
   admitted = conn.admitted;
@@ -171,6 +172,7 @@ answering before f w pending started h line = record { holds = h; line = line; l
 
 -- a link that is over has ended
 over_life : (l : Ledger) (created : ℕ) (life : Life) → TiedLife l created life → is_over l ≡ true → has_ended life ≡ true
+over_life l created Resting h over = absurd (not_both (is_over l) (ap is_some h.2) over)
 over_life l created Dialing h over = absurd (not_both (is_over l) (ap is_some h.2) over)
 over_life l created (Wanting link) h over = absurd (not_both (is_over l) (ap is_some h.2) over)
 over_life l created (SettingUp link greeting) h over = absurd (not_both (is_over l) (ap is_some h.2) over)
@@ -285,6 +287,7 @@ renewal_tied b t r within wanted waiting tied h = record {
   notices = h.notices;
   life = h.life;
   creds = record { wanted_is = h.creds.wanted_is ∙ sym wanted; sought = h.creds.sought };
+  creation = h.creation;
   uses = h.uses;
   renewal = tied;
   setup = h.setup;

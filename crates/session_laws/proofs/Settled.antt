@@ -18,7 +18,7 @@ use Rattle.mux_conn.specs.declared.act.LinkAct.TheVariants as act
 use Rattle.mux_conn.specs.declared.connection.MultiplexedConnection.{MultiplexedConnection}
 use Rattle.redis_error.specs.declared.redis_error.RedisError.{RedisError}
 use Rattle.mux_conn.specs.declared.life.Life.{Life}
-use Rattle.mux_conn.specs.declared.life.Life.TheVariants.{Dialing, Ended, Ready, Wanting, SettingUp}
+use Rattle.mux_conn.specs.declared.life.Life.TheVariants.{Resting, Dialing, Ended, Ready, Wanting, SettingUp}
 use Rattle.shared_session.specs.Turn.{Turning, moved_on, numbered, with_work, work_of}
 use Rattle.shared_session.specs.declared.core_state.Core.{Core}
 use Rattle.legal_trace.specs.Book.{Book, book}
@@ -34,7 +34,7 @@ use Rattle.session_laws.proofs.Numbers.{IsIn, Rising, in_left, in_right, rising_
 use Rattle.session_laws.proofs.Owes.{IsOpenRequest, lives, none_open, open_request, request_story, row_link, stands_started, wanted_entry, open_on}
 use Rattle.session_laws.proofs.Settle.{book_of_more, seen, sound_act, trace_of_acts}
 use Rattle.session_laws.proofs.States.{Between, HasApplied, IsFitIn, IsStill, trace_with}
-use Rattle.session_laws.proofs.Tied.{Inner, Sound, Tied, TiedLife, TiedWaits, has_ended, link_in, owner_of, queue_ids, relined, shown_wait, waiting_ids}
+use Rattle.session_laws.proofs.Tied.{never_rests, Inner, Sound, Tied, TiedLife, TiedWaits, has_ended, link_in, owner_of, queue_ids, relined, shown_wait, waiting_ids}
 use Rattle.session_laws.proofs.Waits.{IsEarly, IsPlacedOrKept, IsQuiet, WaitsSo, admitted_there, admitted_unplaced, awaited_placed, behind_places, down_admits, fresh_waits, located, moved_waits, passed_waits, permit_holds, place_holds, placed_there, room_holds, stale_waits, wait_may, wait_tied, waiting_apart, waiting_is, waiting_there, waits_at, with_unshown}
 use Rattle.session_laws.proofs.Write.{HasWritten, IsOfferedIn, is_written, written_holds}
 
@@ -213,7 +213,9 @@ moved_each_up before f w (p ∷ ps) fresh started link e h =
 
 -- on a link that isn't up there is none in the queue
 none_from : (life : Life) (p : ℕ) (placed : Bool) → is_ready life ≡ false → (placed && is_from (first_queued life) p) ≡ false
+none_from Resting p true f = refl
 none_from Dialing p true f = refl
+none_from Resting p false f = refl
 none_from Dialing p false f = refl
 none_from (Wanting link) p true f = refl
 none_from (Wanting link) p false f = refl
@@ -253,6 +255,7 @@ down_waits b t h down none = record {
 }
   where
     no_queue : (life : Life) (p : ℕ) → is_ready life ≡ false → IsIn p (awaited_ids (link_in life).queue) → ⊥
+    no_queue Resting p f i = i
     no_queue Dialing p f i = i
     no_queue (Wanting link) p f i = i
     no_queue (SettingUp link greeting) p f i = i
@@ -272,21 +275,22 @@ ended_admits b t p x h q e = by_test (is_admitted_at t.requests p) _ (λ a. absu
 -- those that came in this turn, or whose connect was answered in it
 --
 -- which wait they show
-early_kind : (t : Inner) → has_ended t.life ≡ false → IsEarly t (early_wait t.life)
-early_kind t up = record {
-  either = by_life t.life up;
+early_kind : (b : Book) (t : Inner) → Tied b t → has_ended t.life ≡ false → IsEarly t (early_wait t.life)
+early_kind b t h up = record {
+  either = by_life t.life refl up;
   connect = λ e. ap early_wait e;
   creds = λ link e. ap early_wait e;
   setup = λ link u e. ap early_wait e;
   permit = λ link e. ap early_wait e;
 }
   where
-    by_life : (x : Life) → has_ended x ≡ false → (early_wait x ≡ wait.Connect) ⊎ ((early_wait x ≡ wait.Creds) ⊎ ((early_wait x ≡ wait.Setup) ⊎ (early_wait x ≡ wait.Permit)))
-    by_life Dialing f = inl refl
-    by_life (Wanting link) f = inr (inl refl)
-    by_life (SettingUp link greeting) f = inr (inr (inl refl))
-    by_life (Ready link) f = inr (inr (inr refl))
-    by_life (Ended x) f = cc
+    by_life : (x : Life) → t.life ≡ x → has_ended x ≡ false → (early_wait x ≡ wait.Connect) ⊎ ((early_wait x ≡ wait.Creds) ⊎ ((early_wait x ≡ wait.Setup) ⊎ (early_wait x ≡ wait.Permit)))
+    by_life Resting e f = absurd (never_rests (b.link t.link) b.created t.life e h.life)
+    by_life Dialing e f = inl refl
+    by_life (Wanting link) e f = inr (inl refl)
+    by_life (SettingUp link greeting) e f = inr (inr (inl refl))
+    by_life (Ready link) e f = inr (inr (inr refl))
+    by_life (Ended x) e f = cc
 
 -- its wait is true, and was not shown
 record EarlyHolds (b : Book) (t : Inner) (p : ℕ) (kind : WaitKind) : Type 0 where
@@ -301,6 +305,7 @@ early_holds b t p ps h q is up w = by_life t.life refl
     first = subst (IsIn p) (sym is) (inl refl)
 
     by_life : (x : Life) → t.life ≡ x → EarlyHolds b t p (early_wait t.life)
+    by_life Resting e = absurd (never_rests (b.link t.link) b.created t.life e h.life)
     by_life Dialing e = subst (λ (x : Life). EarlyHolds b t p (early_wait x)) (sym e)
         (record { new = h.waits.no_connect p first w e; holds = dialing_step b t p h e (open_on b t p h (waiting_open t.requests p w)) })
     by_life (Wanting link) e = subst (λ (x : Life). EarlyHolds b t p (early_wait x)) (sym e)
@@ -316,6 +321,7 @@ waiting_alive : (b : Book) (t : Inner) (p : ℕ) → Tied b t → IsQuiet t → 
 waiting_alive b t p h q w = by_life t.life refl
   where
     by_life : (x : Life) → t.life ≡ x → has_ended t.life ≡ false
+    by_life Resting e = ap has_ended e
     by_life Dialing e = ap has_ended e
     by_life (Wanting link) e = ap has_ended e
     by_life (SettingUp link greeting) e = ap has_ended e
@@ -336,7 +342,7 @@ fresh_shown_one before f w p ps started h =
     let may = early_holds b t p ps h.sound.tied q refl up v in
     one_shown before f w p kind [] (p ∷ ps) started [] ps h (λ m i. i) up o
     (inr (inr (v, waiting_there b t p h.sound.tied refl v)), may.new, may.holds, (λ m l i. i), (λ m l u i. behind_first p ps (length w.conn.requests) m h.sound.tied.waits.newer l i))
-    (fresh_waits b t p kind ps h.sound.tied refl v (early_kind t up)))
+    (fresh_waits b t p kind ps h.sound.tied refl v (early_kind b t h.sound.tied up)))
     (λ n. retied before f w [] (p ∷ ps) started [] ps (λ m i. i) h (stale_waits b t p ps h.sound.tied refl n))
 
 -- and so do all
@@ -372,7 +378,7 @@ showing_unmoved before f w moved fresh started h = record {
   seats = h.seats;
   sound = h.sound;
   ended = h.ended;
-  fit = record { wanting = h.fit.wanting; setup = h.fit.setup; link = h.fit.link; none = h.fit.none };
+  fit = record { wanting = h.fit.wanting; setup = h.fit.setup; link = h.fit.link; none = h.fit.none; lasts = h.fit.lasts };
   still = record { setup = h.still.setup; held = h.still.held; full = h.still.full; renewed = h.still.renewed; waiting = h.still.waiting; none_waits = h.still.none_waits };
   offered = h.offered;
 }
@@ -383,7 +389,7 @@ showing_unfresh before f w moved fresh started h = record {
   seats = h.seats;
   sound = h.sound;
   ended = h.ended;
-  fit = record { wanting = h.fit.wanting; setup = h.fit.setup; link = h.fit.link; none = h.fit.none };
+  fit = record { wanting = h.fit.wanting; setup = h.fit.setup; link = h.fit.link; none = h.fit.none; lasts = h.fit.lasts };
   still = record { setup = h.still.setup; held = h.still.held; full = h.still.full; renewed = h.still.renewed; waiting = h.still.waiting; none_waits = h.still.none_waits };
   offered = h.offered;
 }
@@ -429,6 +435,7 @@ waits_hold before f w h = by_life w.conn.life refl
         subst last (sym (unmoved (none_moved w) w.conn.moved off none)) (shown_early before f (none_moved w) started refl settled)
 
     by_life : (life : Life) → w.conn.life ≡ life → HasShown before f (waits_shown w)
+    by_life Resting e = down (ap is_ready e) (λ p. down_admits b t p Resting first.sound.tied quiet refl e)
     by_life Dialing e = down (ap is_ready e) (λ p. down_admits b t p Dialing first.sound.tied quiet refl e)
     by_life (Wanting link) e = down (ap is_ready e) (λ p. down_admits b t p (Wanting link) first.sound.tied quiet refl e)
     by_life (SettingUp link greeting) e = down (ap is_ready e) (λ p. down_admits b t p (SettingUp link greeting) first.sound.tied quiet refl e)
@@ -474,6 +481,7 @@ is_settled b t h q fresh moved written = record {
 }
   where
     by_life : (n : ℕ) (r : IsOpenRequest t n) → IsIn r.number (wanted (link_in t.life).row) → (life : Life) → t.life ≡ life → IsStarted b n ⊎ IsWaiting b n
+    by_life n r i Resting e = absurd (subst (λ (x : Life). IsIn r.number (wanted (link_in x).row)) e i)
     by_life n r i Dialing e = absurd (subst (λ (x : Life). IsIn r.number (wanted (link_in x).row)) e i)
     by_life n r i (Wanting link) e = absurd (subst (λ (x : Life). IsIn r.number (wanted (link_in x).row)) e i)
     by_life n r i (SettingUp link greeting) e = absurd (subst (λ (x : Life). IsIn r.number (wanted (link_in x).row)) e i)

@@ -332,6 +332,7 @@ start_tied b t link q qs h =
       notices = h.notices;
       life = h.life;
       creds = record { wanted_is = h.creds.wanted_is; sought = h.creds.sought };
+      creation = h.creation;
       uses = h.uses;
       renewal = begins_renewed l t.renewal s (ap is_of_renewal try_is) h.renewal;
       setup = record { info_is = h.setup.info_is; sent = setups_begins l s (ap is_of_setup try_is) h.setup.sent; said = set_up_begins l s (ap is_of_setup try_is) h.setup.said };

@@ -7,7 +7,7 @@ use Rattle.mux_conn.specs.declared.life.Greeting.{Greeting}
 use Rattle.mux_conn.specs.declared.life.Life.TheVariants.{Wanting, SettingUp, Ready}
 use Rattle.shared_session.specs.declared.core_state.Core.{Core}
 use Rattle.shared_session.specs.Turn.{Turning, numbered, shown_each}
-use Rattle.mux_conn.specs.Connection.{has_no_permit, in_front, is_due}
+use Rattle.mux_conn.specs.Connection.{has_no_permit, in_front, is_due, is_ready}
 use Rattle.legal_trace.specs.Book.{book}
 use Rattle.legal_trace.specs.Legal.{NoneEnds, IsSettled}
 use Rattle.session_laws.proofs.Tied.{Sound, has_ended, inner}
@@ -19,12 +19,14 @@ pub record IsFit (size bound : ℕ) (link : LinkState) : Type 0 where
   pub bound_is : link.boundary ≡ bound
   pub within : length link.queue ≤ size
 
--- where a link is up, it is so, also before it is set up; and where none is ready, nobody waits for a place
+-- where a link is up, it is so, also before it is set up; where none is ready, nobody waits for a place; and until one is, or the
+-- opening has failed, no attempt follows
 pub record IsFitIn (c : MultiplexedConnection) : Type 0 where
   pub wanting : (link : LinkState) → c.life ≡ Wanting link → IsFit c.size c.boundary link
   pub setup : (link : LinkState) (greeting : Greeting) → c.life ≡ SettingUp link greeting → IsFit c.size c.boundary link
   pub link : (link : LinkState) → c.life ≡ Ready link → IsFit c.size c.boundary link
   pub none : ((link : LinkState) → c.life ≡ Ready link → ⊥) → c.admitted ≡ []
+  pub lasts : is_ready c.life ≡ false → has_ended c.life ≡ false → c.last ≡ true
 
 -- nothing moves: what is in the queue is held back, also a setup; those that wait for a place find the queue full; new
 -- credentials that are to be told have their timer, and wait for their link, which is held back; once the connect is answered,

@@ -204,6 +204,7 @@ refused_tied b c started word what e h tame form few no_fresh =
       notices = renoticed tame h.notices;
       life = told_life ledger b.created conn.life silence h.life;
       creds = h.creds;
+      creation = h.creation;
       uses = uses_on c.sources c.single.link h.uses;
       renewal = renewal_alike ledger (record ledger { heard = silence }) conn.renewal conn.life refl refl refl h.renewal;
       setup = setup_on ledger ledger.asked ledger.up ledger.end ledger.taken ledger.offer ledger.rest silence conn.info started conn.life h.setup;

@@ -1,5 +1,5 @@
 -- What ties a session to the book of its trace.
-use Rattle.std.proofs.Common.{◌≡◌, ◌≢◌, ◌⊎◌, ℕ, zero, suc, ◌+◌, ◌^◌, ◌<◌, ◌≤◌, ◌==◌, if◌then◌else◌, Bool, true, false, List, [], ◌∷◌, ◌++◌, length, drop, Option, Some, None, slice_get, codes, ◌&&◌}
+use Rattle.std.proofs.Common.{arith, subst, ◌≡◌, ◌≢◌, ◌⊎◌, ℕ, zero, suc, ◌+◌, ◌^◌, ◌<◌, ◌≤◌, ◌==◌, if◌then◌else◌, Bool, true, false, List, [], ◌∷◌, ◌++◌, length, drop, Option, Some, None, slice_get, codes, ◌&&◌}
 use Rattle.std.specs.List.{AllByRecursion}
 use Rattle.redis_error.specs.declared.redis_error.RedisError.{RedisError}
 use Rattle.resp_value.specs.declared.value.Value.TheVariants.{Nil}
@@ -32,7 +32,7 @@ use Rattle.driver_model.specs.Shape.{verdict_of}
 use Rattle.mux_conn.specs.declared.life.Greeting.{Greeting}
 use Rattle.mux_conn.specs.declared.life.Greeting.TheVariants as greet
 use Rattle.mux_conn.specs.declared.life.Life.{Life}
-use Rattle.mux_conn.specs.declared.life.Life.TheVariants.{Dialing, Wanting, SettingUp, Ready, Ended}
+use Rattle.mux_conn.specs.declared.life.Life.TheVariants.{Resting, Dialing, Wanting, SettingUp, Ready, Ended}
 use Rattle.mux_conn.specs.declared.renewal.Renewal.{Renewal}
 use Rattle.mux_conn.specs.Connection.{are_some}
 use Rattle.mux_conn.specs.Renewals.{renewal_id}
@@ -58,10 +58,10 @@ use Rattle.driver_model.specs.News.{News, came}
 -- messages the queue of its connection's link holds, at how many unwritten bytes none starts, how many permits there are, if
 -- they are counted, and how many are free; what is heard beside replies, what of that which came is still to be told, and whether
 -- the end of the link is; what the session is; what is said to the server before the first request, and its credentials
--- that come of sources; its connection's life and requests, those that wait for the connection, those that wait for a place, those
--- that came in this turn and those that were moved in it, whose waits aren't shown yet; the one that is being let in; the
--- requests that are settled and not answered yet; and the numbers of the messages that started behind the setups, in order: a
--- request's, or AUTH's
+-- that come of sources; its connection's life, whether it was told that it is ready, or that its opening failed, its requests,
+-- those that wait for the connection, those that wait for a place, those that came in this turn and those that were moved in it,
+-- whose waits aren't shown yet; the one that is being let in; the requests that are settled and not answered yet; and the numbers
+-- of the messages that started behind the setups, in order: a request's, or AUTH's
 pub record Inner : Type 0 where
   pub turns : ℕ
   pub links : ℕ
@@ -82,6 +82,7 @@ pub record Inner : Type 0 where
   pub info : RedisConnectionInfo
   pub renewal : Renewal
   pub life : Life
+  pub told : Bool
   pub requests : List Request
   pub waiting : List Waiting
   pub admitted : List Waiting
@@ -97,6 +98,7 @@ no_link = fresh_link 0 0
 
 -- the link of a connection as requests see it: it has none of their messages where it isn't up and set up
 abbrev pub link_in : Life → LinkState
+link_in Resting = no_link
 link_in Dialing = no_link
 link_in (Wanting link) = no_link
 link_in (SettingUp link greeting) = no_link
@@ -105,6 +107,7 @@ link_in (Ended e) = no_link
 
 -- it takes no more messages
 abbrev pub has_ended : Life → Bool
+has_ended Resting = false
 has_ended Dialing = false
 has_ended (Wanting link) = false
 has_ended (SettingUp link greeting) = false
@@ -117,6 +120,7 @@ owner_of requests p = if p == renewal_id then owner.Auth else owner.Try (name_at
 
 -- the link of a connection, also while it waits for credentials, and while it is set up
 abbrev pub whole_link : Life → LinkState
+whole_link Resting = no_link
 whole_link Dialing = no_link
 whole_link (Wanting link) = link
 whole_link (SettingUp link greeting) = link
@@ -131,6 +135,7 @@ greeter greet.Monitor = owner.Monitor
 
 -- whose messages its link carries: those of its greetings alone, until it is set up
 abbrev pub carried : Life → List Request → ℕ → Owner
+carried Resting requests = owner_of requests
 carried Dialing requests = owner_of requests
 carried (Wanting link) requests = λ p. owner.Setup
 carried (SettingUp link greeting) requests = λ p. greeter greeting
@@ -273,14 +278,28 @@ pub record TiedNotices (heard hears hearing : Hearing) (notices : List Heard) (t
   pub due : parting ≡ true → parted ≡ false
   pub tame : end ≡ None → reading ≡ false → strange ≡ false
 
--- how far the link has come, which was asked for, and after which no attempt follows; where it has ended, a submission without a
--- message gets this error
+-- that it is ready, or that its opening failed, is shown where it was told, and not before
+pub record TiedCreation (created : ℕ) (told : Bool) : Type 0 where
+  pub before : told ≡ false → created ≡ 0
+  pub after : told ≡ true → created ≢ 0
+
+-- it is told then
+pub shown_creation : (created : ℕ) → TiedCreation (created + 1) true
+shown_creation created = record { before = λ e. cc; after = λ e none. absurd (let no : created + 1 ≡ 0 = none in omega (arith, no)) }
+
+-- how far the link has come, which was asked for, and after which no attempt follows, so that no session's connection is without
+-- one; where it has ended, a submission without a message gets this error
 abbrev pub TiedLife : Ledger → ℕ → Life → Type 0
-TiedLife l created Dialing = (l.asked ≡ true) × (l.up ≡ false) × (l.end ≡ None) × (created ≡ 0) × (l.last ≡ true)
-TiedLife l created (Wanting link) = (l.asked ≡ true) × (l.up ≡ true) × (l.end ≡ None) × (created ≡ 0) × (l.last ≡ true)
-TiedLife l created (SettingUp link greeting) = (l.asked ≡ true) × (l.up ≡ true) × (l.end ≡ None) × (created ≡ 0) × (l.last ≡ true)
-TiedLife l created (Ready link) = (l.asked ≡ true) × (l.up ≡ true) × (l.end ≡ None) × (created ≢ 0) × (l.last ≡ true)
+TiedLife l created Resting = (l.asked ≡ false) × (l.up ≡ false) × (l.end ≡ None) × (l.last ≡ true) × ⊥
+TiedLife l created Dialing = (l.asked ≡ true) × (l.up ≡ false) × (l.end ≡ None) × (l.last ≡ true)
+TiedLife l created (Wanting link) = (l.asked ≡ true) × (l.up ≡ true) × (l.end ≡ None) × (l.last ≡ true)
+TiedLife l created (SettingUp link greeting) = (l.asked ≡ true) × (l.up ≡ true) × (l.end ≡ None) × (l.last ≡ true)
+TiedLife l created (Ready link) = (l.asked ≡ true) × (l.up ≡ true) × (l.end ≡ None) × (l.last ≡ true) × (created ≢ 0)
 TiedLife l created (Ended e) = (l.up ≡ false) × (owed_unstarted l.end ≡ Some (outcome.Fault e)) × FailureIsShown l.end created × (l.asked ≡ true)
+
+-- no session's connection is without a link
+pub never_rests : (l : Ledger) (created : ℕ) (life : Life) → life ≡ Resting → TiedLife l created life → ⊥
+never_rests l created life e h = (subst (TiedLife l created) e h).4
 
 -- the credentials of a link come of no source, or they have come
 abbrev pub HasCredentials : Sourced → Type 0
@@ -288,6 +307,7 @@ HasCredentials c = (c.wanted ≡ false) ⊎ ((c.asked ≡ true) × (c.given ≡ 
 
 -- how far the credentials of a link have come; where it is set up, and they come of sources, a second one was asked for
 abbrev pub AreSought : Sourced → Life → Type 0
+AreSought c Resting = (c.asked ≡ false) × (c.given ≡ false) × (c.renews ≡ false)
 AreSought c Dialing = (c.asked ≡ false) × (c.given ≡ false) × (c.renews ≡ false)
 AreSought c (Wanting link) = (c.wanted ≡ true) × (c.asked ≡ true) × (c.given ≡ false) × (c.renews ≡ false)
 AreSought c (SettingUp link greeting) = HasCredentials c × (c.renews ≡ false)
@@ -350,6 +370,7 @@ pub record AreRenewed (l : Ledger) (r : Renewal) : Type 0 where
 
 -- by how far the link has come; once it has ended, no more were told than were to be, and a timer was asked for all of them
 abbrev pub TiedRenewal : Ledger → Renewal → Life → Type 0
+TiedRenewal l r Resting = NoneRenewed l r
 TiedRenewal l r Dialing = NoneRenewed l r
 TiedRenewal l r (Wanting link) = NoneRenewed l r
 TiedRenewal l r (SettingUp link greeting) = NoneRenewed l r
@@ -432,6 +453,7 @@ pub record IsSetUp (l : Ledger) : Type 0 where
 
 -- how far the setup of a link has come; no request's message starts before it is set up
 abbrev pub HasSaid : Ledger → List ℕ → Life → Type 0
+HasSaid l started Resting = (l.starts ≡ []) × (started ≡ [])
 HasSaid l started Dialing = (l.starts ≡ []) × (started ≡ [])
 HasSaid l started (Wanting link) = (l.starts ≡ []) × (started ≡ []) × (link.queue ≡ []) × (link.row ≡ [])
 HasSaid l started (SettingUp link greeting) = (started ≡ []) × IsGreeting l link greeting
@@ -602,6 +624,7 @@ pub record Tied (b : Book) (t : Inner) : Type 0 where
   pub others : AreAside t.link t.links b.link t.hears t.renewal.within b.created
   pub notices : TiedNotices (hearing_in b.config) t.hears (b.link t.link).hearing (b.link t.link).notices (b.link t.link).told (b.link t.link).end (b.link t.link).parted (b.link t.link).strange (is_reading (b.link t.link)) t.untold t.parting
   pub life : TiedLife (b.link t.link) b.created t.life
+  pub creation : TiedCreation b.created t.told
   pub creds : TiedCreds (b.link t.link).creds t.renewal.wanted t.life
   pub uses : AreUses t.sources t.link (b.link t.link).creds.asked (b.link t.link).creds.renews
   pub renewal : TiedRenewal (b.link t.link) t.renewal t.life
@@ -647,6 +670,7 @@ inner c started = record {
   info = c.single.connection.info;
   renewal = c.single.connection.renewal;
   life = c.single.connection.life;
+  told = c.single.connection.told;
   requests = c.single.connection.requests;
   waiting = c.single.connection.waiting;
   admitted = c.single.connection.admitted;
@@ -695,6 +719,7 @@ relined b t waiting admitted fresh moved pending h lines waits late = record {
   notices = h.notices;
   life = h.life;
   creds = h.creds;
+  creation = h.creation;
   uses = h.uses;
   renewal = h.renewal;
   setup = h.setup;

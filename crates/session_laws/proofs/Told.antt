@@ -9,7 +9,7 @@ use Rattle.link_core.specs.Link.{LinkState}
 use Rattle.link_laws.specs.Settles.{IsOwed}
 use Rattle.link_laws.proofs.TiedLink.{TiedLink}
 use Rattle.mux_conn.specs.declared.life.Life.{Life}
-use Rattle.mux_conn.specs.declared.life.Life.TheVariants.{Dialing, Wanting, SettingUp, Ready, Ended}
+use Rattle.mux_conn.specs.declared.life.Life.TheVariants.{Resting, Dialing, Wanting, SettingUp, Ready, Ended}
 use Rattle.legal_trace.specs.Ledger.{Ledger, Heard, noted, is_set_up, Line, tells, parts, noted_each}
 use Rattle.legal_trace.specs.Book.{Book, entered, push_line, hearing_in, if_mine}
 use Rattle.session_laws.proofs.Kept.{mine_noted, others_kept, tied_by}
@@ -37,6 +37,7 @@ well_told l told parted = set_alike l (retells l told parted) (same_told l told 
 
 -- how far the link has come
 life_told : (l : Ledger) (told : ℕ) (parted : Bool) (created : ℕ) (life : Life) → TiedLife l created life → TiedLife (retells l told parted) created life
+life_told l told parted created Resting h = h
 life_told l told parted created Dialing h = h
 life_told l told parted created (Wanting link) h = h
 life_told l told parted created (SettingUp link greeting) h = h
@@ -77,6 +78,7 @@ line_tied b t line told parted untold parting is pushed h =
       notices = pushed;
       life = life_told l told parted b.created t.life h.life;
       creds = h.creds;
+      creation = h.creation;
       uses = h.uses;
       renewal = renewal_alike l (retells l told parted) t.renewal t.life refl refl refl h.renewal;
       setup = record { info_is = h.setup.info_is; sent = h.setup.sent; said = said_alike l (retells l told parted) t.started t.life (same_told l told parted) h.setup.said };

@@ -10,7 +10,7 @@ use Rattle.link_laws.proofs.TiedLink.{TiedLink, wrote_tied}
 use Rattle.link_laws.specs.Settles.{awaited_ids}
 use Rattle.mux_conn.specs.declared.life.Greeting.{Greeting}
 use Rattle.mux_conn.specs.declared.life.Life.{Life}
-use Rattle.mux_conn.specs.declared.life.Life.TheVariants.{Dialing, Wanting, SettingUp, Ready, Ended}
+use Rattle.mux_conn.specs.declared.life.Life.TheVariants.{Resting, Dialing, Wanting, SettingUp, Ready, Ended}
 use Rattle.mux_conn.specs.declared.request.Request.{Request}
 use Rattle.mux_conn.specs.declared.request.Waiting.{Waiting}
 use Rattle.mux_conn.specs.Effects.{taken_at, CanTake}
@@ -22,11 +22,12 @@ use Rattle.legal_trace.specs.Book.{book}
 use Rattle.mux_conn.specs.declared.renewal.Renewal.{Renewal}
 use Rattle.session_laws.proofs.Renewals.{renewal_alike}
 use Rattle.session_laws.proofs.Numbers.{IsIn}
-use Rattle.session_laws.proofs.Tied.{carried, link_in, owner_of, whole_link, TiedLife, TiedLines, TiedSetup, AreQueued, TiedCreds, TiedWaits, has_ended, TiedRenewal, greeter}
+use Rattle.session_laws.proofs.Tied.{never_rests, carried, link_in, owner_of, whole_link, TiedLife, TiedLines, TiedSetup, AreQueued, TiedCreds, TiedWaits, has_ended, TiedRenewal, greeter}
 use Rattle.session_laws.proofs.States.{IsFit, Between, HasApplied}
 use Rattle.session_laws.proofs.Announce.{turn_of, turned, IsNewsKind}
 use Rattle.session_laws.proofs.Heard.{quiet_applied, ended_quiet, dialing_quiet, setting_waits, still_none, pushes_still, wanting_waits}
 use Rattle.session_laws.proofs.Said.{mild_end, setup_hears, setup_link, setup_ready, wanting_link}
+use Rattle.mux_conn.specs.Connection.{is_ready}
 
 -- it need not end
 took_no_end : (l : Ledger) (turn count : ℕ) → ending l ≡ None → ending (noted l (hears turn (took count))) ≡ None
@@ -105,6 +106,7 @@ pub took_applied : (before : List Action) (c : Core) (started : List ℕ) (word 
 took_applied before c started word count kind h good k is can = by_life c.single.connection.life refl
   where
     by_life : (x : Life) → c.single.connection.life ≡ x → HasApplied (before ++ turn_of c word kind ∷ []) (with_work (record { core = turned c kind; acts = [] }) (taken_at (record { conn = c.single.connection; acts = [] }) count x)) started
+    by_life Resting e = absurd (never_rests ((book before).link c.single.link) (book before).created c.single.connection.life e h.sound.tied.life)
     by_life Dialing e = dialing_quiet before c started word kind (took count) tt h good k is e
     by_life (Ended x) e = ended_quiet before c started word kind (took count) x h good k is e
     by_life (Wanting link) e =
@@ -133,6 +135,7 @@ took_applied before c started word count kind h good k is can = by_life c.single
           setup = λ x u r. cc;
           link = λ x r. cc;
           none = λ none. h.fit.none (λ x r. (let no : Wanting link ≡ Ready x = sym e ∙ r in cc));
+          lasts = λ x y. h.fit.lasts (ap is_ready e) (ap has_ended e);
         })
     by_life (SettingUp link greeting) e =
         let b = book before in
@@ -160,6 +163,7 @@ took_applied before c started word count kind h good k is can = by_life c.single
           setup = wrote_fit_set conn.size conn.boundary link count greeting (h.fit.setup link greeting e);
           link = λ x r. cc;
           none = λ none. h.fit.none (λ x r. (let no : SettingUp link greeting ≡ Ready x = sym e ∙ r in cc));
+          lasts = λ x y. h.fit.lasts (ap is_ready e) (ap has_ended e);
         })
     by_life (Ready link) e =
         let b = book before in
@@ -187,4 +191,5 @@ took_applied before c started word count kind h good k is can = by_life c.single
           setup = λ x u r. cc;
           link = wrote_fit conn.size conn.boundary link count (h.fit.link link e);
           none = λ none. absurd (none (wrote_of link count) refl);
+          lasts = λ x y. cc;
         })

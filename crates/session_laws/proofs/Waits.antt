@@ -18,7 +18,7 @@ use Rattle.mux_conn.specs.Requests.{if_there, is_admitted, is_admitted_at, is_op
 use Rattle.mux_conn.specs.Turn.{is_from}
 use Rattle.mux_conn.specs.declared.life.Greeting.{Greeting}
 use Rattle.mux_conn.specs.declared.life.Life.{Life}
-use Rattle.mux_conn.specs.declared.life.Life.TheVariants.{Dialing, Ended, Ready, Wanting, SettingUp}
+use Rattle.mux_conn.specs.declared.life.Life.TheVariants.{Resting, Dialing, Ended, Ready, Wanting, SettingUp}
 use Rattle.mux_conn.specs.declared.request.Progress.{Progress}
 use Rattle.mux_conn.specs.declared.request.Progress.TheVariants as progress
 use Rattle.mux_conn.specs.declared.request.Request.{Request}
@@ -36,7 +36,7 @@ use Rattle.session_laws.proofs.Numbers.{IsIn, Rising, in_either, in_left, in_rig
 use Rattle.session_laws.proofs.Owes.{later_unstarted, none_open, open_request, request_story, row_in_line, open_on}
 use Rattle.session_laws.proofs.Permits.{IsHolding, permits_same}
 use Rattle.session_laws.proofs.States.{IsFit}
-use Rattle.session_laws.proofs.Tied.{AreQueued, Inner, IsEntry, IsKept, IsQueued, IsRequest, Tied, TiedWaits, has_ended, link_in, queue_ids, shown_wait, waiting_ids, numbers_kept}
+use Rattle.session_laws.proofs.Tied.{never_rests, AreQueued, Inner, IsEntry, IsKept, IsQueued, IsRequest, Tied, TiedWaits, has_ended, link_in, queue_ids, shown_wait, waiting_ids, numbers_kept}
 
 -- how far a request has come
 --
@@ -159,6 +159,7 @@ wait_tied b t p kind moved fresh within h waits =
       notices = h.notices;
       life = h.life;
       creds = h.creds;
+      creation = h.creation;
       uses = h.uses;
       renewal = h.renewal;
       setup = h.setup;
@@ -341,6 +342,7 @@ waiting_is b t p h q o at unmoved old = by_life t.life refl
     as_shown kind shown holds = record { unstarted = there_untried b t p h o at; kind = kind; shown = shown; holds = holds }
 
     by_life : (life : Life) → t.life ≡ life → IsWaiting b n
+    by_life Resting e = absurd (never_rests (b.link t.link) b.created t.life e h.life)
     by_life Dialing e = elim at [
       | inl i ↦ absurd (subst (λ (x : Life). IsIn p (awaited_ids (link_in x).queue)) e i)
       | inr k ↦ elim k [

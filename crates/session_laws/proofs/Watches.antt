@@ -132,6 +132,7 @@ watch_tied b t link due h =
       notices = h.notices;
       life = h.life;
       creds = record { wanted_is = h.creds.wanted_is; sought = h.creds.sought };
+      creation = h.creation;
       uses = h.uses;
       renewal = none_begins l t.renewal s refl h.renewal;
       setup = record { info_is = h.setup.info_is; sent = setups_begins l s refl h.setup.sent; said = (said.0, watching_next l link tied.within due said.1) };

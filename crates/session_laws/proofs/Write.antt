@@ -10,12 +10,12 @@ use Rattle.link_core.specs.Link.{LinkState, holds_back, is_full_beside, offered_
 use Rattle.link_core.specs.Outbox.{all_offered, can_offer}
 use Rattle.link_core.specs.declared.outbox.Outbox.{Outbox}
 use Rattle.link_laws.proofs.TiedLink.{TiedLink, is_offered, offer_stands, offered_tied}
-use Rattle.mux_conn.specs.Connection.{Work, acted, with_link, with_setup, in_front}
+use Rattle.mux_conn.specs.Connection.{is_ready, Work, acted, with_link, with_setup, in_front}
 use Rattle.mux_conn.specs.Turn.{written, written_at}
 use Rattle.mux_conn.specs.declared.act.LinkAct.TheVariants as act
 use Rattle.mux_conn.specs.declared.life.Greeting.{Greeting}
 use Rattle.mux_conn.specs.declared.life.Life.{Life}
-use Rattle.mux_conn.specs.declared.life.Life.TheVariants.{Dialing, Ended, Ready, Wanting, SettingUp}
+use Rattle.mux_conn.specs.declared.life.Life.TheVariants.{Resting, Dialing, Ended, Ready, Wanting, SettingUp}
 use Rattle.shared_session.specs.declared.core_state.Core.{Core}
 use Rattle.legal_trace.specs.Book.{Book, book, entered}
 use Rattle.legal_trace.specs.Ledger.{IsOffered, Ledger, joined, noted, offers}
@@ -46,6 +46,7 @@ write_tied b t link h =
       notices = h.notices;
       life = h.life;
       creds = record { wanted_is = h.creds.wanted_is; sought = h.creds.sought };
+      creation = h.creation;
       uses = h.uses;
       renewal = renewal_alike l (noted l line) t.renewal (Ready link) refl refl refl h.renewal;
       setup = record { info_is = h.setup.info_is; sent = h.setup.sent; said = record { well = h.setup.said.well; none = h.setup.said.none } };
@@ -71,6 +72,7 @@ write_set_tied b t link greeting h =
       notices = h.notices;
       life = h.life;
       creds = record { wanted_is = h.creds.wanted_is; sought = h.creds.sought };
+      creation = h.creation;
       uses = h.uses;
       renewal = renewal_alike l (noted l line) t.renewal (SettingUp link greeting) refl refl refl h.renewal;
       setup = setup_link (noted l line) t.info t.started link (offered_of link) greeting refl refl
@@ -144,6 +146,7 @@ write_shown before f w link life can h =
           setup = λ other u e. cc;
           link = λ other e. subst (IsFit w.conn.size w.conn.boundary) (same_link after other e) (record { sound = fit.sound; size_is = fit.size_is; bound_is = fit.bound_is; within = fit.within });
           none = λ none. absurd (none after refl);
+          lasts = λ x y. cc;
         };
         still = record {
           setup = λ other u e. cc;
@@ -182,6 +185,7 @@ write_set_shown before f w link greeting life can h =
           setup = λ other u e. subst (IsFit w.conn.size w.conn.boundary) (same_set after other greeting u e) (record { sound = fit.sound; size_is = fit.size_is; bound_is = fit.bound_is; within = fit.within });
           link = λ other e. cc;
           none = λ none. h.fit.none (λ other e. absurd (setting_not_ready w.conn.life link other greeting life e));
+          lasts = λ x y. h.fit.lasts (ap is_ready life) (ap has_ended life);
         };
         still = record {
           setup = λ other u e. subst (λ (x : LinkState). (x.queue ≡ []) ⊎ (holds_back x ≡ true)) (same_set after other greeting u e) (h.still.setup link greeting life);
@@ -217,6 +221,7 @@ written_holds before f w h = by_life w.conn.life refl
     can_not x e n = ap (λ (y : Life). can_offer (whole_link y).outbox) e ∙ n
 
     by_life : (life : Life) → w.conn.life ≡ life → HasWritten before f (written w)
+    by_life Resting e = subst (λ (x : Life). HasWritten before f (written_at w x)) (sym e) (record { moved = h; offered = can_not Resting e refl })
     by_life Dialing e = subst (λ (x : Life). HasWritten before f (written_at w x)) (sym e) (record { moved = h; offered = can_not Dialing e refl })
     by_life (Ended y) e = subst (λ (x : Life). HasWritten before f (written_at w x)) (sym e) (record { moved = h; offered = can_not (Ended y) e refl })
     by_life (Wanting link) e =
@@ -241,6 +246,7 @@ up_offered : (b : Book) (t : Inner) → Tied b t → IsOfferedIn t.life → (b.l
 up_offered b t h offered up = is_offered (carried t.life t.requests) (b.link t.link) (whole_link t.life) offered (h.link (alive t.life h.life))
   where
     alive : (life : Life) → TiedLife (b.link t.link) b.created life → has_ended life ≡ false
+    alive Resting k = refl
     alive Dialing k = refl
     alive (Wanting link) k = refl
     alive (SettingUp link greeting) k = refl
