@@ -30,7 +30,7 @@ use Rattle.shared_session.specs.declared.generations.Comeback.{Comeback}
 use Rattle.shared_session.specs.declared.generations.Comeback.TheVariants as comeback
 use Rattle.shared_session.specs.declared.generations.Generations.{Generations}
 use Rattle.shared_session.specs.Generations.{has_ended, heeding, connect_timed, comeback_shown_in, IsCounted, HasFraction}
-use Rattle.shared_session.specs.Turn.{Turning, counted, heard, submitted, left_by, late_by, fired_by, requested, passed_by, flushed_on, numbered, own_part, ended_apart, next_turn, comeback_by, last_acts, shown_each, shown_behind, return_shown, effects_of, actions_of, is_bad, has_run_out, spends, IsFewer}
+use Rattle.shared_session.specs.Turn.{Turning, counted, heard, submitted, left_by, late_by, fired_by, requested, passed_by, flushed_on, flushed_apart, come_back_behind, numbered, own_part, ended_apart, next_turn, comeback_by, last_acts, shown_each, shown_behind, return_shown, effects_of, actions_of, is_bad, has_run_out, spends, IsFewer}
 use Rattle.shared_session.specs.Done.{done_each, put_each}
 use Rattle.shared_session.specs.Replay.{connect_timers, connect_asked, begun_as, single_core, as_managed, opening_core, opening_actions, run_on, state_after, turns_on, trace_of, with_room, told_each, outcomes_in, AreGood, AreGoodOn, AreUnspent, AreUnspentOn, is_bad_after, is_spent_after}
 use Rattle.shared_session.specs.Stops.{Shown, IsBadAt, IsSpentAt, IsSpentBy}
@@ -132,7 +132,9 @@ told_return c word what acts os quiet =
 -- the last acts of a turn are bytes and waits
 pub last_quiet : (c : Core) (kind : EventKind) → AreQuiet (last_acts c kind)
 unfolding last_acts
-last_quiet c kind = chosen AreQuiet (is_some c.manager) _ [] (λ _. apart_quiet _) (λ _. tt)
+last_quiet c kind =
+    let behind = come_back_behind (numbered (passed_by (counted c) kind)) (has_ended c.single.connection.life) kind in
+    chosen AreQuiet (is_some c.manager) (flushed_apart behind).acts [] (λ managed. apart_quiet behind) (λ single. tt)
 
 -- so the effects of a turn tell the outcomes of its acts
 told_effects : (c : Core) (e : Event) (os : List (Option Outcome)) → told_each os (effects_of c e) ≡ put_each os (done_each (next_turn c e.kind).acts)
