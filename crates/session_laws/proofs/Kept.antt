@@ -7,15 +7,16 @@ use Rattle.driver_model.specs.declared.hearing.Hearing.{Hearing}
 use Rattle.driver_model.specs.declared.outcome.Shape.{Shape}
 use Rattle.link_core.specs.declared.message.Queued.{Queued}
 use Rattle.link_laws.proofs.TiedLink.{TiedLink}
+use Rattle.mux_conn.specs.Connection.{is_ready}
 use Rattle.mux_conn.specs.Requests.{name_at}
 use Rattle.mux_conn.specs.declared.request.Request.{Request}
 use Rattle.mux_conn.specs.declared.request.Waiting.{Waiting}
-use Rattle.legal_trace.specs.Book.{Book, if_mine, if_own, hearing_in}
+use Rattle.legal_trace.specs.Book.{Book, has_generations, if_mine, if_own, hearing_in}
 use Rattle.legal_trace.specs.Ledger.{Ledger, Line, noted, noted_each}
 use Rattle.legal_trace.specs.Story.{Story, awaited_in, packed_in, shape_in, tried}
 use Rattle.session_laws.proofs.Names.{name_placed}
 use Rattle.session_laws.proofs.Owes.{request_story}
-use Rattle.session_laws.proofs.Tied.{AreAside, AreLate, AreQueued, Inner, IsAside, IsOf, IsPacked, IsQueued, IsRequest, Tied, TiedCreds, TiedCreation, TiedLife, TiedLines, TiedNames, TiedNumbers, TiedPermits, TiedNotices, TiedSetup, TiedStory, TiedTries, TiedWaits, carried, has_ended, link_in, whole_link, TiedRenewal, is_reading, AreUses}
+use Rattle.session_laws.proofs.Tied.{AreAside, AreLate, AreQueued, AreUnrepeated, Inner, IsAside, IsOf, IsPacked, IsQueued, IsRequest, Tied, TiedCreds, TiedCreation, TiedLife, TiedLines, TiedNames, TiedNumbers, TiedPermits, TiedNotices, TiedRounds, TiedSetup, TiedStory, TiedTries, TiedWaits, carried, has_ended, link_in, whole_link, TiedRenewal, is_reading, AreUses}
 
 -- a session and the ledger of its link, which is that of the book
 pub record TiedBy (b : Book) (t : Inner) (l : Ledger) : Type 0 where
@@ -36,6 +37,7 @@ pub record TiedBy (b : Book) (t : Inner) (l : Ledger) : Type 0 where
   pub told : has_ended t.life ≡ false → AreQueued b.story t.requests t.link (link_in t.life)
   pub waits : TiedWaits b.story t.requests t.life t.fresh t.moved
   pub permits : TiedPermits b.story b.submissions t.requests t.link t.limit t.free t.letting
+  pub rounds : TiedRounds (has_generations b) b.story t.requests (is_ready t.life) t.fresh t.rounds
   pub late : AreLate b.story t.requests t.pending
 
 -- so the session is tied to the book
@@ -58,6 +60,7 @@ tied_by b t l e h = record {
   told = h.told;
   waits = h.waits;
   permits = h.permits;
+  rounds = h.rounds;
   late = h.late;
 }
 
@@ -69,6 +72,10 @@ mine_noted l n line = ap (noted_each l) (taken_if (n == n) (line ∷ []) [] (eq_
 pub others_kept : {links created : ℕ} {heard : Hearing} {within : Option ℕ} (b : Book) (n : ℕ) (line : Line) → AreAside n links b.link heard within created → AreAside n links (λ m. noted_each (b.link m) (if_mine (n == m) line)) heard within created
 others_kept {links = links} {created = created} {heard = heard} {within = within} b n line h m other =
     if_false (λ (ls : List Line). IsAside links m (noted_each (b.link m) ls) heard within created) (n == m) (line ∷ []) [] (ne_test n m (λ e. other (sym e))) (h m other)
+
+-- nothing is subscribed again, where a line leaves that
+pub unrepeated_kept : (ledgers : ℕ → Ledger) (n : ℕ) (line : Line) → ((l : Ledger) → (noted l line).again.wanted ≡ l.again.wanted) → AreUnrepeated ledgers → AreUnrepeated (λ m. noted_each (ledgers m) (if_mine (n == m) line))
+unrepeated_kept ledgers n line leaves h m = chosen (λ (ls : List Line). (noted_each (ledgers m) ls).again.wanted ≡ false) (n == m) (line ∷ []) [] (λ t. leaves (ledgers m) ∙ h m) (λ f. h m)
 
 -- one request's story changes
 pub one_changed : (b : Book) (t : Inner) (p : ℕ) (g : Story → Story) → Tied b t → p < length t.requests

@@ -221,6 +221,7 @@ opening_tied config word info timeout some is = record {
   told = λ e. record { told = λ n is none on. cc; here = λ p i. absurd i };
   waits = opening_waits;
   permits = opening_permits (permits config);
+  rounds = record { rounds_is = ap is_some (no_settings (Some config)); unbegun = λ p u. cc u; begun = λ p r o u. cc o; new = λ p r up u. cc u };
   late = λ p o e. cc;
 }
 
@@ -331,10 +332,10 @@ opened_between config word info timeout sound at some is =
     let t = inner c [] in
     let tied = opening_tied config word info timeout some is in
     let fit : IsFitIn conn = record { wanting = λ link e. cc; setup = λ link u e. cc; link = λ link e. cc; none = λ no. refl; lasts = λ u a. refl } in
-    let still : IsStill conn = record { setup = λ link u e. cc; held = λ link e. cc; full = λ link e. cc; waiting = λ link e. cc; none_waits = λ e. refl; renewed = λ link e. cc } in
-    let moved = is_moved b t tied refl (refl, refl) refl (opening_ends config word info timers) fit.link fit.none still.held still.full still.waiting still.none_waits fit.setup still.setup (λ p i. absurd i) still.renewed in
+    let still : IsStill conn = record { setup = λ link u e. cc; held = λ link e. cc; full = λ link e. cc; waiting = λ link e. cc; begun = λ shows up. cc; none_waits = λ e. refl; renewed = λ link e. cc } in
+    let moved = is_moved b t tied refl (refl, refl) refl (opening_ends config word info timers) fit.link fit.none still.held still.full still.waiting still.none_waits fit.setup still.setup (λ p i. absurd i) still.renewed still.begun in
     let written = is_written b t tied moved refl in
-    let quiet : IsQuiet t = record { seats = λ p i. absurd i; settled = refl; alone = refl; fit = fit.link; none = fit.none; held = still.held; full = still.full; waiting = still.waiting; gone = still.none_waits; setup_fit = fit.setup; setup_held = still.setup } in
+    let quiet : IsQuiet t = record { seats = λ p i. absurd i; settled = refl; alone = refl; fit = fit.link; none = fit.none; held = still.held; full = still.full; waiting = still.waiting; begun = still.begun; gone = still.none_waits; setup_fit = fit.setup; setup_held = still.setup } in
     let book_is = sym (opening_book config word info timeout) in
     record {
       started = [];

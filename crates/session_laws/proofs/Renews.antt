@@ -138,6 +138,7 @@ time_tied b t link number ms none due within h =
       told = h.told;
       waits = h.waits;
       permits = h.permits;
+      rounds = h.rounds;
       late = h.late;
     })
 
@@ -277,6 +278,7 @@ auth_tied b t link c cs due pending waits h =
       told = λ e. h.told refl;
       waits = queue_waits b.story t.requests link (begun link q) t.fresh t.moved (λ p i. i) h.waits;
       permits = h.permits;
+      rounds = h.rounds;
       late = h.late;
     })
 

@@ -66,6 +66,7 @@ seen f acts conn pending started = record {
   admitted = conn.admitted;
   fresh = conn.fresh;
   moved = conn.moved;
+  rounds = conn.rounds;
   letting = [];
   pending = pending;
   started = started;
@@ -299,6 +300,7 @@ renewal_tied b t r within wanted waiting tied h = record {
   told = h.told;
   waits = h.waits;
   permits = h.permits;
+  rounds = h.rounds;
   late = h.late;
 }
 
