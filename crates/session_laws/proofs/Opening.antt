@@ -19,7 +19,7 @@ use Rattle.driver_model.specs.declared.action.Purpose.TheVariants as purpose
 use Rattle.link_laws.proofs.TiedLink.{asked_tied, fresh_tied}
 use Rattle.mux_conn.specs.Turn.{dialing}
 use Rattle.mux_conn.specs.declared.life.Life.TheVariants.{Dialing}
-use Rattle.shared_session.specs.Replay.{IsSound, begun_as, connect_asked, connect_timers, first_link, opening_core, opening_actions, single_core, timer_asked}
+use Rattle.shared_session.specs.Replay.{IsSound, begun_as, connect_asked, connect_timers, first_link, opening_core, opening_actions, single_core, timer_asked, as_managed}
 use Rattle.shared_session.proofs.Plain.{plain_opening}
 use Rattle.shared_session.specs.declared.core_state.Core.{Core}
 use Rattle.legal_trace.specs.Book.{Book, blank_book, book, entered, has_generations}
@@ -348,6 +348,20 @@ opened_between config word info timeout none sound at some is =
         still = still;
       };
     }
+
+-- nothing was submitted to what has just opened, and no new credentials were to be told
+pub record IsUnasked (c : Core) : Type 0 where
+  pub submitted : length c.table ≡ 0
+  pub told : c.single.connection.renewal.asked ≡ 0
+
+managed_unasked : (m : Option ConnectionManagerConfig) (at : Option ConnectionInfo) (lazy : Bool) (config : Config) → IsUnasked (as_managed m at lazy (single_core config))
+managed_unasked None at lazy config = record { submitted = refl; told = refl }
+managed_unasked (Some settings) None lazy config = record { submitted = refl; told = refl }
+managed_unasked (Some settings) (Some info) false config = record { submitted = refl; told = refl }
+managed_unasked (Some settings) (Some info) true config = record { submitted = refl; told = refl }
+
+pub opening_unasked : (config : Config) (word : ℕ) → IsUnasked (opening_core config word)
+opening_unasked config word = managed_unasked (manager_of config) (address config) (waits_for_use config) config
 
 -- and after that of a sound configuration of what doesn't come back
 pub opening_between : (config : Config) (word : ℕ) → manager_of config ≡ None → IsSound config → IsBetween (opening_actions config word) (opening_core config word)

@@ -341,7 +341,7 @@ asked_told before f w started link life holds ended fit moved due =
         let tied = subst (λ (x : Life). Tied (entered b (action.Timer number ms what)) (record t { life = x; timers = t.timers ++ what ∷ []; renewal = asked_next r })) (sym life) (time_tied b t link number ms n due e was) in
         record {
           life = life;
-          holds = sound_act before f w.acts a (record w.conn { renewal = asked_next r }) [] started holds.stands (inr (inr may)) tied;
+          holds = sound_act before f w.acts a (record w.conn { renewal = asked_next r }) [] started holds.stands (inr (inr (inl may))) tied;
           ended = subst NoneEnds (sym (book_of_more before f w.acts a)) (none_ends_kept b f.single.link times (λ l x. x) ended);
           fit = fit;
           moved = moved;
