@@ -16,7 +16,7 @@ use Rattle.legal_trace.specs.Ledger.{Ledger, Line, noted, noted_each}
 use Rattle.legal_trace.specs.Story.{Story, awaited_in, packed_in, shape_in, tried}
 use Rattle.session_laws.proofs.Names.{name_placed}
 use Rattle.session_laws.proofs.Owes.{request_story}
-use Rattle.session_laws.proofs.Tied.{AreAside, AreLate, AreQueued, AreUnrepeated, Inner, IsAside, IsOf, IsPacked, IsQueued, IsRequest, Tied, TiedCreds, TiedCreation, TiedLife, TiedLines, TiedNames, TiedNumbers, TiedPermits, TiedNotices, TiedRounds, TiedSetup, TiedStory, TiedTries, TiedWaits, carried, has_ended, link_in, whole_link, TiedRenewal, is_reading, AreUses}
+use Rattle.session_laws.proofs.Tied.{AreAside, AreLate, AreQueued, Inner, IsAside, IsOf, IsPacked, IsQueued, IsRequest, Tied, TiedCreds, TiedCreation, TiedLife, TiedLines, TiedNames, TiedNumbers, TiedPermits, TiedNotices, TiedRounds, TiedSetup, TiedStory, TiedTries, TiedWaits, carried, has_ended, link_in, whole_link, TiedRenewal, is_reading, AreUses}
 
 -- a session and the ledger of its link, which is that of the book
 pub record TiedBy (b : Book) (t : Inner) (l : Ledger) : Type 0 where
@@ -72,10 +72,6 @@ mine_noted l n line = ap (noted_each l) (taken_if (n == n) (line ∷ []) [] (eq_
 pub others_kept : {links created : ℕ} {heard : Hearing} {within : Option ℕ} (b : Book) (n : ℕ) (line : Line) → AreAside n links b.link heard within created → AreAside n links (λ m. noted_each (b.link m) (if_mine (n == m) line)) heard within created
 others_kept {links = links} {created = created} {heard = heard} {within = within} b n line h m other =
     if_false (λ (ls : List Line). IsAside links m (noted_each (b.link m) ls) heard within created) (n == m) (line ∷ []) [] (ne_test n m (λ e. other (sym e))) (h m other)
-
--- nothing is subscribed again, where a line leaves that
-pub unrepeated_kept : (ledgers : ℕ → Ledger) (n : ℕ) (line : Line) → ((l : Ledger) → (noted l line).again.wanted ≡ l.again.wanted) → AreUnrepeated ledgers → AreUnrepeated (λ m. noted_each (ledgers m) (if_mine (n == m) line))
-unrepeated_kept ledgers n line leaves h m = chosen (λ (ls : List Line). (noted_each (ledgers m) ls).again.wanted ≡ false) (n == m) (line ∷ []) [] (λ t. leaves (ledgers m) ∙ h m) (λ f. h m)
 
 -- one request's story changes
 pub one_changed : (b : Book) (t : Inner) (p : ℕ) (g : Story → Story) → Tied b t → p < length t.requests
