@@ -217,7 +217,6 @@ readied_comes b c started n info link untold more created some_created h0 fit no
         over_is = none.over_is;
         came = none.came;
         waits = none.waits;
-        rounds = anew_rounds b (inner c started) h0 refl nobody early.bare;
         untimed = none.untimed;
         unstarted = none.unstarted;
         unasked = none.unasked;
@@ -234,6 +233,7 @@ readied_comes b c started n info link untold more created some_created h0 fit no
         here = λ p i. absurd (subst (λ (qs : List Queued). IsIn p (queue_ids qs)) made.queue i);
       };
       waits = fresh_waits b (inner c started) conn.life (Ready link) h0 refl nobody no_fresh refl early.bare early.unready early.alive early.other made.queue;
+      rounds = anew_rounds b (inner c started) h0 refl nobody early.bare;
       notices = facts.notices;
     }
 

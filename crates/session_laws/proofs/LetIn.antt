@@ -339,7 +339,7 @@ let_tied b t p count free g noted timers w begun alone eased still has sum numbe
     let o = waiting_open t.requests p w in
     waits_on_tied b t p count free g noted timers (p ∷ []) w eased has numbers (waits_let b.story g t.requests t.life t.fresh t.moved p count w still.waiting h.waits)
     (permits_eased b.story g t.table b.submissions t.requests t.link t.limit t.free free t.letting p count h.names w alone eased sum h.permits)
-    (rounds_with b.story g t.requests t.fresh p progress.Begun count (there_within is_waiting t.requests p w) refl still.rounded (λ shows open. h.rounds.begun p shows o (begun shows)) h.rounds) h
+    (rounds_with b.story g t.requests t.fresh p progress.Begun count (there_within is_waiting t.requests p w) refl still.rounded (λ shows unclosed. h.rounds.begun p shows o (begun shows)) h.rounds) h
 
 -- whose step is first
 --

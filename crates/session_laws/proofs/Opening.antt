@@ -225,7 +225,7 @@ opening_tied config word info timeout plain sound some is = record {
   told = λ e. record { told = λ n is none on. cc; here = λ p i. absurd i };
   waits = opening_waits;
   permits = opening_permits (permits config);
-  rounds = record { rounds_is = ap is_some (no_settings (Some config)); unbegun = λ p u. cc u; begun = λ p r o u. cc o; new = λ p r up u. cc u };
+  rounds = record { rounds_is = ap is_some (no_settings config plain); unbegun = λ p u. cc; begun = λ p r o u. cc; new = λ p r up u. cc };
   late = λ p o e. cc;
 }
 

@@ -526,7 +526,7 @@ place_tied b t link q waiting admitted yes_awaited next h =
       waits = waits_enqueued b.story placed link (message_of q) t.fresh t.moved (subst (Rising 0 (t.moved ++ p ∷ [])) (sym still) next.last) (there_same is_admitted t.requests p progress.Placed within)
           (λ e. next.shown (sym (shown_further b.story t.requests p progress.Placed p) ∙ e)) (waits_placed b.story t.requests p (Ready link) t.fresh t.moved within h.waits);
       permits = permits_further b.story b.submissions t.requests t.link t.limit t.free t.letting p progress.Placed within refl next.let_in next.alone h.permits;
-      rounds = rounds_with b.story b.story t.requests t.fresh p progress.Placed (permits_at t.requests p) within refl (λ n. refl) (λ shows open. h.rounds.begun p shows o next.begun) h.rounds;
+      rounds = rounds_with b.story b.story t.requests t.fresh p progress.Placed (permits_at t.requests p) within refl (λ n. refl) (λ shows unclosed. h.rounds.begun p shows o next.begun) h.rounds;
       late = late_further b.story t.requests p progress.Placed [] refl o h.late;
     }
 
@@ -669,7 +669,7 @@ admit_tied b t link q qs w begun is last h =
       told = λ e. told_further b.story t.requests t.link link p now (h.told refl);
       waits = waits_admitted b.story t.requests link p t.fresh t.moved w last h.waits;
       permits = permits_further b.story b.submissions t.requests t.link t.limit t.free (p ∷ []) p now within refl is (λ m i. elim i [ inl e ↦ e | inr k ↦ absurd k ]) h.permits;
-      rounds = rounds_with b.story b.story t.requests t.fresh p now (permits_at t.requests p) within refl (λ n. refl) (λ shows open. h.rounds.begun p shows o begun) h.rounds;
+      rounds = rounds_with b.story b.story t.requests t.fresh p now (permits_at t.requests p) within refl (λ n. refl) (λ shows unclosed. h.rounds.begun p shows o begun) h.rounds;
       late = late_further b.story t.requests p now [] refl o h.late;
     }
   where
