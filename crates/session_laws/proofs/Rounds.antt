@@ -1,6 +1,6 @@
 -- The round of a request begins.
-use Rattle.std.proofs.Common.{List, None, Option, Some, [], ap, false, inl, inr, length, refl, subst, sym, true, ℕ, ◌++◌, ◌<◌, ◌∙◌, ◌∷◌, ◌≡◌, ◌≢◌, ◌⊎◌}
-use Rattle.std.specs.Prelude.{◌==◌, Bool, if◌then◌else◌}
+use Rattle.std.proofs.Common.{List, None, Option, Some, [], ap, false, inl, inr, length, refl, subst, sym, true, ℕ, ◌++◌, ◌<◌, ◌∙◌, ◌∷◌, ◌≡◌, ◌≢◌}
+use Rattle.std.specs.Prelude.{◌==◌}
 use Rattle.containers.proofs.Choices.{by_test, chosen, eq_from, eq_test, left_if, ne_from, ne_test, not_both, taken_if}
 use Rattle.driver_model.specs.declared.action.Action.{Action}
 use Rattle.driver_model.specs.declared.action.Action.TheVariants as action
@@ -12,7 +12,7 @@ use Rattle.mux_conn.specs.Connection.{is_ready}
 use Rattle.mux_conn.specs.declared.life.Life.{Life}
 use Rattle.mux_conn.specs.declared.request.Progress.TheVariants as progress
 use Rattle.mux_conn.specs.declared.request.Request.{Request}
-use Rattle.mux_conn.specs.Requests.{at_progress, is_admitted, is_admitted_at, is_open, is_open_at, is_placed, is_placed_at, is_unbegun, is_unbegun_at, is_waiting, is_waiting_at, name_at, permits_at}
+use Rattle.mux_conn.specs.Requests.{at_progress, is_admitted, is_admitted_at, is_open, is_placed, is_placed_at, is_unbegun, is_unbegun_at, is_waiting, is_waiting_at, name_at, permits_at}
 use Rattle.legal_trace.specs.Book.{Book, book, entered, has_generations, if_own}
 use Rattle.legal_trace.specs.Legal.{IsFirstToMove, MayRound, NoneEnds}
 use Rattle.legal_trace.specs.Steps.{is_let_in}
