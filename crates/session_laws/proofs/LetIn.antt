@@ -290,13 +290,13 @@ permits_eased f g table submissions requests link limit free now letting p count
       ];
     }
 
--- the session with that request let in so far, and these timers
-abbrev pub lets : Inner → ℕ → ℕ → ℕ → List Purpose → Inner
-lets t p count free timers = record t { requests = with_permits t.requests p progress.Begun count; free = free; timers = timers; letting = p ∷ [] }
-
 -- the session where that request waits on, its round begun, and these are let in
 abbrev pub waits_on : Inner → ℕ → ℕ → ℕ → List Purpose → List ℕ → Inner
 waits_on t p count free timers letting = record t { requests = with_permits t.requests p progress.Begun count; free = free; timers = timers; letting = letting }
+
+-- so it is with that request let in so far
+abbrev pub lets : Inner → ℕ → ℕ → ℕ → List Purpose → Inner
+lets t p count free timers = waits_on t p count free timers (p ∷ [])
 
 -- it is tied to the book with these stories and timers, where its waits, its permits and its rounds are
 pub waits_on_tied : (b : Book) (t : Inner) (p count free : ℕ) (g : ℕ → Story) (noted timers : List Purpose) (letting : List ℕ) → is_waiting_at t.requests p ≡ true → AreEased b.story g (name_at t.requests p) → (g (name_at t.requests p)).permits ≡ count

@@ -5,7 +5,6 @@ use Rattle.containers.proofs.Choices.{by_test, chosen, eq_from, eq_test, left_if
 use Rattle.driver_model.specs.declared.action.Action.{Action}
 use Rattle.driver_model.specs.declared.action.Action.TheVariants as action
 use Rattle.driver_model.specs.declared.action.Owner.TheVariants as owner
-use Rattle.driver_model.specs.declared.action.WaitKind.{WaitKind}
 use Rattle.driver_model.specs.declared.action.WaitKind.TheVariants as wait
 use Rattle.link_laws.specs.Settles.{awaited_ids}
 use Rattle.mux_conn.specs.Connection.{is_ready}
@@ -19,6 +18,7 @@ use Rattle.legal_trace.specs.Steps.{is_let_in}
 use Rattle.legal_trace.specs.Story.{Story, rounds}
 use Rattle.session_laws.proofs.Ahead.{IsRunning, kept_unstarted, round_step, waiting_open}
 use Rattle.session_laws.proofs.Closing.{one_of}
+use Rattle.session_laws.proofs.Further.{no_wait}
 use Rattle.session_laws.proofs.Going.{HasRenewed, IsGoing, begun_up, going_more}
 use Rattle.session_laws.proofs.LetIn.{AreEased, eased_at, test_kept, waits_on_tied}
 use Rattle.session_laws.proofs.Names.{length_still, name_still, permits_still, same_name, there_other, there_then, there_within}
@@ -65,10 +65,6 @@ own_shown : (story : ℕ → Story) (requests : List Request) (p : ℕ) → show
 own_shown story requests p =
     let n = name_at requests p in
     ap (λ k. (rounds_at n story k).waiting) (name_still requests p progress.Begun p) ∙ ap (λ (s : Story). s.waiting) (round_own story n)
-
--- nothing is no wait
-no_wait : (x : Option WaitKind) (kind : WaitKind) → x ≡ None → x ≢ Some kind
-no_wait x kind none e = let no : ◌≡◌ {A = Option WaitKind} None (Some kind) = sym none ∙ e in cc
 
 -- the waits, on a link that is up and set up: its own is to be shown anew
 round_waits : (b : Book) (t : Inner) (p : ℕ) → Tied b t → is_ready t.life ≡ true → is_unbegun_at t.requests p ≡ true → IsIn p t.fresh → TiedWaits (rounds_at (name_at t.requests p) b.story) (at_progress t.requests p progress.Begun) t.life t.fresh t.moved
