@@ -26,7 +26,7 @@ use Rattle.shared_session.specs.Turn.{Turning, heard, refused_with, asked_for, p
 use Rattle.legal_trace.specs.Story.{Story, is_no_error, is_told, is_awaited}
 use Rattle.legal_trace.specs.Book.{Book, blank_book, book, entered, hearing_in, info_in, is_unspoken, kind_in}
 use Rattle.legal_trace.specs.Legal.{AllStand, NoneEnds, MayAnswer}
-use Rattle.session_laws.proofs.Rounded.{rounds_longer}
+use Rattle.session_laws.proofs.Rounded.{rounds_longer, early_longer}
 use Rattle.session_laws.proofs.Aside.{aside_silent}
 use Rattle.session_laws.proofs.Renewals.{renewal_alike}
 use Rattle.session_laws.proofs.Numbers.{IsIn, in_left, in_right, Rising, rising_next, requests_in, request_in}
@@ -298,6 +298,7 @@ asked_tied b c started word what h tame form few no_fresh up speaks some =
       permits = permits_longer c.table b.story after b.submissions conn.requests (more_requests c) c.single.link conn.limit conn.free (conn.fresh ++ n ∷ []) h.names same longer h.numbers.submissions (ap (λ (s : Story). s.permits) (story_is_new b c started what h))
           (asked_next b c started what h no_fresh) h.permits;
       rounds = rounds_longer c.table b.story after conn.requests (more_requests c) conn.fresh (conn.fresh ++ n ∷ []) h.names same longer no_fresh (asked_next b c started what h no_fresh) h.rounds;
+      early = early_longer after conn.requests (more_requests c) (conn.fresh ++ n ∷ []) conn.life longer (asked_next b c started what h no_fresh) h.early;
       late = late_longer c.table b.story after conn.requests (more_requests c) (conn.fresh ++ n ∷ []) h.names same longer (asked_next b c started what h no_fresh) h.late;
     }
 

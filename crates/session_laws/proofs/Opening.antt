@@ -224,6 +224,7 @@ opening_tied config word info timeout plain sound some is = record {
   waits = opening_waits;
   permits = opening_permits (permits config);
   rounds = record { rounds_is = ap is_some (no_settings config plain); unbegun = λ p u. cc; begun = λ p r o u. cc; new = λ p r up u. cc };
+  early = λ unready alive p o. cc;
   late = λ p o e. cc;
 }
 
