@@ -66,6 +66,7 @@ seen f acts conn pending started = record {
   admitted = conn.admitted;
   fresh = conn.fresh;
   moved = conn.moved;
+  rounds = conn.rounds;
   letting = [];
   pending = pending;
   started = started;
@@ -273,6 +274,7 @@ renewal_tied b t r within wanted waiting tied h = record {
     shut = h.numbers.shut;
     within = h.numbers.within ∙ sym within;
     few = h.numbers.few;
+    unrepeated = h.numbers.unrepeated;
     settings = record { size_is = h.numbers.settings.size_is; bound_is = h.numbers.settings.bound_is; limit_is = h.numbers.settings.limit_is; some = h.numbers.settings.some; limited = h.numbers.settings.limited };
     kind_is = h.numbers.kind_is;
     quiet = λ w. let q = h.numbers.quiet w in record { none = q.none; unwanted = wanted ∙ q.unwanted; unrenewed = waiting ∙ q.unrenewed };
@@ -299,6 +301,8 @@ renewal_tied b t r within wanted waiting tied h = record {
   told = h.told;
   waits = h.waits;
   permits = h.permits;
+  rounds = h.rounds;
+  early = h.early;
   late = h.late;
 }
 

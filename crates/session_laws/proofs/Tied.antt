@@ -34,14 +34,15 @@ use Rattle.mux_conn.specs.declared.life.Greeting.TheVariants as greet
 use Rattle.mux_conn.specs.declared.life.Life.{Life}
 use Rattle.mux_conn.specs.declared.life.Life.TheVariants.{Resting, Dialing, Wanting, SettingUp, Ready, Ended}
 use Rattle.mux_conn.specs.declared.renewal.Renewal.{Renewal}
-use Rattle.mux_conn.specs.Connection.{are_some}
+use Rattle.mux_conn.specs.Connection.{are_some, is_ready}
 use Rattle.mux_conn.specs.Renewals.{renewal_id}
 use Rattle.mux_conn.specs.declared.request.Pending.{Pending}
 use Rattle.mux_conn.specs.declared.request.Request.{Request}
 use Rattle.mux_conn.specs.declared.request.Waiting.{Waiting}
 use Rattle.mux_conn.specs.Effects.{setup_queued, setup_id}
-use Rattle.mux_conn.specs.Requests.{name_at, permits_at, is_open_at, is_waiting_at, is_admitted_at, is_placed_at}
+use Rattle.mux_conn.specs.Requests.{name_at, permits_at, is_open_at, is_waiting_at, is_unbegun_at, is_admitted_at, is_placed_at}
 use Rattle.shared_session.specs.declared.core_state.Core.{Core}
+use Rattle.sub_tracker.specs.Subscribed.{Request as Call}
 use Rattle.legal_trace.specs.Ledger.{Ledger, Heard, Sourced, Start, End, blank_ledger, cut, failure_in, is_cut, is_done, is_full, is_greeted, is_of_renewal, is_over, is_set_up, is_taken, last_renewal, monitor_of, next_notice, renewal_count, renewals_asked, setup_count, setup_steps, setup_after}
 use Rattle.legal_trace.specs.Story.{Story, blank_story, is_open, is_told, bytes_of, shape, is_awaited}
 use Rattle.legal_trace.specs.Book.{Book, blank_book, book, has_generations, hearing_in, info_in, kind_in}
@@ -60,7 +61,7 @@ use Rattle.driver_model.specs.News.{News, came}
 -- the end of the link is; what the session is; what is said to the server before the first request, and its credentials
 -- that come of sources; its connection's life, whether it was told that it is ready, or that its opening failed, its requests,
 -- those that wait for the connection, those that wait for a place, those that came in this turn and those that were moved in it,
--- whose waits aren't shown yet; the one that is being let in; the requests that are settled and not answered yet; and the numbers
+-- whose waits aren't shown yet; whether rounds are shown; the one that is being let in; the requests that are settled and not answered yet; and the numbers
 -- of the messages that started behind the setups, in order: a request's, or AUTH's
 pub record Inner : Type 0 where
   pub turns : ℕ
@@ -88,6 +89,7 @@ pub record Inner : Type 0 where
   pub admitted : List Waiting
   pub fresh : List ℕ
   pub moved : List ℕ
+  pub rounds : Bool
   pub letting : List ℕ
   pub pending : List ℕ
   pub started : List ℕ
@@ -205,10 +207,14 @@ pub record IsBare (table : List (Option Pending)) (r : Renewal) : Type 0 where
   pub unwanted : r.wanted ≡ false
   pub unrenewed : r.waiting ≡ []
 
+-- nothing is subscribed again on any link: no session does so
+abbrev pub AreUnrepeated : (ℕ → Ledger) → Type 0
+AreUnrepeated ledgers = (l : ℕ) → (ledgers l).again.wanted ≡ false
+
 -- the numbers that the session gives are those of the book, and so is what it is, which has no generations, and what its servers are
 -- told; its connection's link is the one that submissions go to, and the last that was asked for; all timers are for it, for one
 -- before it, or for a submission, and one was asked for each bounded connect; what is told to its server is to be answered within the
--- configured time; and no more numbers were given to submissions than there are
+-- configured time; no more numbers were given to submissions than there are; and nothing is subscribed again
 pub record TiedNumbers (b : Book) (t : Inner) : Type 0 where
   pub turns : b.turns ≡ t.turns
   pub links : b.links ≡ t.links
@@ -221,6 +227,7 @@ pub record TiedNumbers (b : Book) (t : Inner) : Type 0 where
   pub shut : b.shut ≡ t.shut
   pub within : answer_time b.config ≡ t.renewal.within
   pub few : length t.table ≤ 2 ^ 32
+  pub unrepeated : AreUnrepeated b.link
   pub settings : IsConfigured b t.size t.bound t.limit
   pub kind_is : kind_in b.config ≡ t.kind
   pub quiet : is_watching t.hears ≡ true → IsBare t.table t.renewal
@@ -615,6 +622,18 @@ pub record TiedPermits (story : ℕ → Story) (submissions : ℕ) (requests : L
   pub none : (p : ℕ) → is_waiting_at requests p ≡ true → (IsIn p letting → ⊥) → (permits_at requests p ≡ 0) × ((story (name_at requests p)).clock ≡ None)
   pub let_in : (p : ℕ) → (is_admitted_at requests p ≡ true) ⊎ (is_placed_at requests p ≡ true) → is_let_in limit (story (name_at requests p)) ≡ true
 
+-- rounds are shown where the session has generations. Of who waits and whose round has not begun none was shown, and of any other
+-- request that is open it was, where they are shown; and then, where the link is up and set up, who waits so came in this turn
+pub record TiedRounds (comes : Bool) (story : ℕ → Story) (requests : List Request) (ready : Bool) (fresh : List ℕ) (rounds : Bool) : Type 0 where
+  pub rounds_is : comes ≡ rounds
+  pub unbegun : (p : ℕ) → is_unbegun_at requests p ≡ true → (story (name_at requests p)).rounded ≡ false
+  pub begun : (p : ℕ) → rounds ≡ true → is_open_at requests p ≡ true → is_unbegun_at requests p ≡ false → (story (name_at requests p)).rounded ≡ true
+  pub new : (p : ℕ) → rounds ≡ true → ready ≡ true → is_unbegun_at requests p ≡ true → IsIn p fresh
+
+-- until the link is up and set up, the round of no open request has begun
+abbrev pub AreEarly : List Request → Life → Type 0
+AreEarly requests life = is_ready life ≡ false → has_ended life ≡ false → (p : ℕ) → is_open_at requests p ≡ true → is_unbegun_at requests p ≡ true
+
 -- an open submission whose time is over is to be answered
 abbrev pub AreLate : (ℕ → Story) → List Request → List ℕ → Type 0
 AreLate story requests pending = (p : ℕ) → is_open_at requests p ≡ true → (story (name_at requests p)).overdue ≡ true → IsIn p pending
@@ -637,6 +656,8 @@ pub record Tied (b : Book) (t : Inner) : Type 0 where
   pub told : has_ended t.life ≡ false → AreQueued b.story t.requests t.link (link_in t.life)
   pub waits : TiedWaits b.story t.requests t.life t.fresh t.moved
   pub permits : TiedPermits b.story b.submissions t.requests t.link t.limit t.free t.letting
+  pub rounds : TiedRounds (has_generations b) b.story t.requests (is_ready t.life) t.fresh t.rounds
+  pub early : AreEarly t.requests t.life
   pub late : AreLate b.story t.requests t.pending
 
 -- all that came is told, and so is the end of the link
@@ -676,15 +697,16 @@ inner c started = record {
   admitted = c.single.connection.admitted;
   fresh = c.single.connection.fresh;
   moved = c.single.connection.moved;
+  rounds = c.single.connection.rounds;
   letting = [];
   pending = [];
   started = started;
 }
 
--- the numbers, where only links, stories and the connection change
-pub numbers_kept : (b : Book) (link : ℕ → Ledger) (story : ℕ → Story) (errors : List RedisError) (t : Inner) (life : Life) (free : ℕ) (requests : List Request) (waiting admitted : List Waiting) (fresh moved letting pending started : List ℕ) → TiedNumbers b t
-    → TiedNumbers (record b { link = link; story = story; errors = errors }) (record t { life = life; free = free; requests = requests; waiting = waiting; admitted = admitted; fresh = fresh; moved = moved; letting = letting; pending = pending; started = started })
-numbers_kept b link story errors t life free requests waiting admitted fresh moved letting pending started h = record {
+-- the numbers, where only links, stories, what is subscribed, errors and the connection change
+pub numbers_kept : (b : Book) (link : ℕ → Ledger) (story : ℕ → Story) (tracked : List Call) (errors : List RedisError) (t : Inner) (life : Life) (free : ℕ) (requests : List Request) (waiting admitted : List Waiting) (fresh moved letting pending started : List ℕ) → AreUnrepeated link → TiedNumbers b t
+    → TiedNumbers (record b { link = link; story = story; tracked = tracked; errors = errors }) (record t { life = life; free = free; requests = requests; waiting = waiting; admitted = admitted; fresh = fresh; moved = moved; letting = letting; pending = pending; started = started })
+numbers_kept b link story tracked errors t life free requests waiting admitted fresh moved letting pending started unrepeated h = record {
   turns = h.turns;
   links = h.links;
   timers = h.timers;
@@ -696,6 +718,7 @@ numbers_kept b link story errors t life free requests waiting admitted fresh mov
   shut = h.shut;
   within = h.within;
   few = h.few;
+  unrepeated = unrepeated;
   settings = record { size_is = h.settings.size_is; bound_is = h.settings.bound_is; limit_is = h.settings.limit_is; some = h.settings.some; limited = h.settings.limited };
   kind_is = h.kind_is;
   quiet = h.quiet;
@@ -711,10 +734,11 @@ numbers_kept b link story errors t life free requests waiting admitted fresh mov
 -- and those that are to be answered: the session stays tied where its lines and its waits are, and who is late is to be
 -- answered
 pub relined : (b : Book) (t : Inner) (waiting admitted : List Waiting) (fresh moved pending : List ℕ) → Tied b t
-    → TiedLines b.story t.requests (link_in t.life) waiting admitted pending t.started → TiedWaits b.story t.requests t.life fresh moved → AreLate b.story t.requests pending
+    → TiedLines b.story t.requests (link_in t.life) waiting admitted pending t.started → TiedWaits b.story t.requests t.life fresh moved
+    → TiedRounds (has_generations b) b.story t.requests (is_ready t.life) fresh t.rounds → AreLate b.story t.requests pending
     → Tied b (record t { waiting = waiting; admitted = admitted; fresh = fresh; moved = moved; pending = pending })
-relined b t waiting admitted fresh moved pending h lines waits late = record {
-  numbers = numbers_kept b b.link b.story b.errors t t.life t.free t.requests waiting admitted fresh moved t.letting pending t.started h.numbers;
+relined b t waiting admitted fresh moved pending h lines waits rounds late = record {
+  numbers = numbers_kept b b.link b.story b.tracked b.errors t t.life t.free t.requests waiting admitted fresh moved t.letting pending t.started h.numbers.unrepeated h.numbers;
   others = h.others;
   notices = h.notices;
   life = h.life;
@@ -731,5 +755,7 @@ relined b t waiting admitted fresh moved pending h lines waits late = record {
   told = h.told;
   waits = waits;
   permits = h.permits;
+  rounds = rounds;
+  early = h.early;
   late = late;
 }
