@@ -34,7 +34,7 @@ use Rattle.mux_conn.specs.declared.request.Request.{Request}
 use Rattle.mux_conn.specs.declared.request.Waiting.{Waiting}
 use Rattle.mux_conn.specs.Connection.{Work, acted, opened_on, at_life, with_link, with_setup, with_wanting, has_room, admits_none, is_ready, is_due}
 use Rattle.mux_conn.specs.Requests.{is_open_at, is_waiting_at, is_admitted_at, name_at, with_permits, at_progress, answered, is_unbegun_at, permits_at, progressed}
-use Rattle.mux_conn.specs.Effects.{afresh, creation_told, given_up, new_link, settled_one, settled_each, failed_each, nobody_waits, waiting_failed, ended, opening_failed, authorized_at, come_up, comes_to_want, connected_at, unauthorized_at, with_credentials, refused_at, overdue_at, taken_at, failed_at, broken_at, read_to, read_at, shut_at, all_fresh, made_ready, steps_of, greeting_queued, greeting_error, greeted, greeted_by, is_unreadable, dropped_at, dropped_by, sets_up, judged_by, set_up_by, answered_setup, applied, cancelled_in, left, all_answered, behind_first, cut_short, heard_on, notice_act, noticed, noticed_each, parted, told_each}
+use Rattle.mux_conn.specs.Effects.{afresh, creation_told, given_up, new_link, settled_one, settled_each, failed_each, nobody_waits, waiting_failed, ended, opening_failed, authorized_at, come_up, comes_to_want, connected_at, unauthorized_at, with_credentials, refused_at, overdue_at, taken_at, failed_at, broken_at, read_to, read_at, shut_at, all_fresh, made_ready, steps_of, greeting_queued, greeting_error, greeted, greeted_by, is_unreadable, dropped_at, dropped_by, sets_up, judged_by, set_up_by, answered_setup, applied, cancelled_in, all_answered, behind_first, cut_short, heard_on, notice_act, noticed, noticed_each, parted, told_each}
 use Rattle.mux_conn.specs.Renewals as renewals
 use Rattle.mux_conn.specs.Renewals.{renewing, expecting, takes_more, late_for, is_unanswered, renewal_id, renewal_queued, asked_next, renewal_act, renewal_timed, renewal_asked, renewal_told, renewal_moved}
 use Rattle.mux_conn.specs.Passes.{shown_each, greeting_act, greeted_each, started_at, started, message_of, placed_at, told_at_place, seated, still_admitted, moved_up, moved_up_each, moved_up_all, put_behind, seated_or_behind, permits_taken, holding, took_shown, took as holds, timer_asked, let_in, admitted_at, admitted, still_waiting, admitted_each, passed, round_begun, rounds_of, rounds_begun, moved_all}

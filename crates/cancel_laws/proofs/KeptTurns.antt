@@ -1,5 +1,5 @@
 -- What a whole turn keeps of a session that doesn't come back.
-use Rattle.std.proofs.Common.{ℕ, false, List, [], length, Option, Some, None, slice_get, ◌≡◌, ◌+◌, ◌==◌, ◌∷◌, ◌++◌, if◌then◌else◌, sym, subst}
+use Rattle.std.proofs.Common.{ℕ, false, List, [], length, Option, Some, None, slice_get, ◌≡◌, ◌==◌, ◌∷◌, ◌++◌, if◌then◌else◌, sym, subst}
 use Rattle.containers.proofs.Choices.{chosen}
 use Rattle.redis_error.specs.declared.redis_error.RedisError.TheVariants as error
 use Rattle.redis_error.specs.declared.fault_kind.FaultKind.TheVariants as kinds
