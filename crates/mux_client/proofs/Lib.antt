@@ -1,4 +1,4 @@
 pub mod Words
 mod Calls
 pub mod Threads
-pub mod Managers
+pub mod Managed

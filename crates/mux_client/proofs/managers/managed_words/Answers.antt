@@ -1,6 +1,6 @@
 use Rattle.std.proofs.Common.{rules, subst}
 use Rattle.connection_info.specs.Written.{ReadsBack}
-use Rattle.mux_client.proofs.Managers.{managed_keep}
+use Rattle.mux_client.proofs.Managed.{managed_keep}
 use Rattle.mux_client.proofs.managers.managed_words.Goals as goal
 
 pub returns-clause-keeps : goal.returns-clause-keeps
