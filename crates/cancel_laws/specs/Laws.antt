@@ -1,4 +1,5 @@
--- The laws of cancels, each as one statement. They speak of a history behind which submission n has started and is open.
+-- The laws of cancels, each as one statement. They speak of a history behind which submission n has started and is open, and all but
+-- the first of a session that doesn't come back.
 use Rattle.std.specs.Prelude.{◌≡◌, ◌≢◌, ℕ, false, true, List, [], ◌∷◌, ◌++◌, length, Option, None}
 use Rattle.driver_model.specs.declared.config.Config.{Config}
 use Rattle.driver_model.specs.declared.event.Event.{Event}
