@@ -374,6 +374,23 @@ waits_conn w =
     fresh_conn (record d { conn = record d.conn { fresh = [] } }) d.conn.fresh
     ∙ ap (λ (c : MultiplexedConnection). record c { fresh = [] }) (moved_conn (record w { conn = record w.conn { moved = [] } }) w.conn.moved)
 
+-- nor do bytes that are offered change a request
+written_requests : (w : Work) (life : Life) → (written_at w life).conn.requests ≡ w.conn.requests
+written_requests w (Ready l) = chosen (λ (x : Work). x.conn.requests ≡ w.conn.requests) (can_offer l.outbox) _ w (λ t. refl) (λ f. refl)
+written_requests w (SettingUp l greeting) = chosen (λ (x : Work). x.conn.requests ≡ w.conn.requests) (can_offer l.outbox) _ w (λ t. refl) (λ f. refl)
+written_requests w Resting = refl
+written_requests w Dialing = refl
+written_requests w (Wanting l) = refl
+written_requests w (Ended e) = refl
+
+-- so what a turn ends with changes none
+pub flushed_requests : (w : Work) → (flushed w).conn.requests ≡ w.conn.requests
+flushed_requests w = ap (λ (c : MultiplexedConnection). c.requests) (waits_conn (written w)) ∙ written_requests w w.conn.life
+
+-- and no request is left that was moved in the turn
+pub flushed_calm : (w : Work) → (flushed w).conn.moved ≡ []
+flushed_calm w = ap (λ (c : MultiplexedConnection). c.moved) (waits_conn (written w))
+
 -- so a turn ends with nothing left to do, whatever there was
 pub moves_idle : (w : Work) → IsIdle (flushed (passed w)).conn
 moves_idle w =

@@ -1,5 +1,4 @@
--- The laws of cancels, each as one statement. They speak of a history behind which submission n has started and is open, and all but
--- the first of a session that doesn't come back.
+-- The laws of cancels, each as one statement. They speak of a history behind which submission n has started and is open.
 use Rattle.std.specs.Prelude.{◌≡◌, ◌≢◌, ℕ, false, true, List, [], ◌∷◌, ◌++◌, length, Option, None}
 use Rattle.driver_model.specs.declared.config.Config.{Config}
 use Rattle.driver_model.specs.declared.event.Event.{Event}
@@ -47,7 +46,7 @@ OthersKeepOutcomes =
 -- n itself gets no outcome any more, with a limit or without
 abbrev pub CancelledGetsNone : Type 0
 CancelledGetsNone =
-    (config : Config) (word draw n : ℕ) (before after : List Event) → HasOneLink config → HasStarted n (state_after config word before)
+    (config : Config) (word draw n : ℕ) (before after : List Event) → HasStarted n (state_after config word before)
     → outcome_after config word (before ++ cancel_of draw n ∷ after) n ≡ outcome_after config word before n
 
 -- without a limit the turns show the same but for n's outcome, in the same order: so each push and each

@@ -14,8 +14,8 @@ ghost use Rattle.cancel_laws.specs.Laws.{StartsOnFreeLink, StartsWhereHandedIn};
 ghost use Rattle.cancel_laws.specs.Laws.{StartsWhereListening};
 
 /// Does nothing. Its contract: where submission n has started and is open after a history, its
-/// cancel there is not bad. In a session that doesn't come back, n never gets an outcome then, and
-/// where the configuration has no limit, the cancel changes nothing of what comes later but n's own
+/// cancel there is not bad, and n never gets an outcome. Where the session doesn't come back, and
+/// its configuration has no limit, the cancel changes nothing of what comes later but n's own
 /// outcome: all other submissions have the same outcomes; the turns show the same starts, timers,
 /// offers, waits, pushes, messages and closes in the same order; each item goes to the same
 /// message, where n's own is not wanted; and the same events are bad. So it is on each link of
