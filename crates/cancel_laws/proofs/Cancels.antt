@@ -89,7 +89,7 @@ started_away n c h r =
         seated = ap (if_there is_admitted) h.known ∙ ap is_admitted h.placed;
         none = started_none n c h;
       };
-      unmoved = subst (NoneIs p) (sym r.calm) tt;
+      unmoved = subst (NoneIs p) (sym r.idle.calm) tt;
     }
 
 -- so its cancel's turn is its cancel

@@ -30,8 +30,8 @@ use Rattle.cancel_laws.proofs.Names.{AreNamed, named_refused, named_asked}
 use Rattle.cancel_laws.proofs.Kept.{IsKept, IsKeptThere, There, kept_there, Unlimited, passed_kept, flushed_kept}
 use Rattle.cancel_laws.proofs.KeptTurns.{AtCore, heard_kept, left_by_kept, fired_kept, turn_kept}
 use Rattle.cancel_laws.proofs.Once.{IsOnce, once_kept, once_asks}
-use Rattle.cancel_laws.proofs.Rest.{IsIdle, moves_idle}
-use Rattle.cancel_laws.proofs.Whole.{turn_calm, turn_requests, turn_table}
+use Rattle.cancel_laws.proofs.Rest.{IsIdle}
+use Rattle.cancel_laws.proofs.Whole.{turn_idle, turn_requests, turn_table}
 use Rattle.cancel_laws.proofs.Turns.{turn_unlimited}
 
 -- names
@@ -146,10 +146,10 @@ named_moved_on t h =
 
 -- where a history leads
 --
--- each request has the name of a submission of its own, and none is left that was moved
+-- nothing is left to do, and each request has the name of a submission of its own
 pub record IsNamed (c : Core) : Type 0 where
   pub named : AreNamed c.table (names c.single.connection.requests)
-  pub calm : c.single.connection.moved ≡ []
+  pub idle : IsIdle c.single.connection
 
 -- so it is behind any turn
 named_turn : (c : Core) (kind : EventKind) → IsNamed c → IsNamed (next_turn c kind).core
@@ -159,7 +159,7 @@ named_turn c kind h =
     let same : names (next_turn c kind).core.single.connection.requests ≡ names r = ap names (turn_requests c kind) ∙ passed_kept (names_kept (names r)) (work_of t) refl in
     record {
       named = subst (AreNamed (next_turn c kind).core.table) (sym same) (subst (λ (table : List (Option Pending)). AreNamed table (names r)) (sym (turn_table c kind)) (named_requested (heard (counted c) kind) kind (named_heard (counted c) kind h.named)));
-      calm = turn_calm c kind;
+      idle = turn_idle c kind;
     }
 
 -- and of more of them
@@ -169,10 +169,10 @@ named_on c (e ∷ es) h = named_on (next_turn c e.kind).core es (named_turn c e.
 
 -- and of any opening
 named_as : (m : Option ConnectionManagerConfig) (at : Option ConnectionInfo) (lazy : Bool) (config : Config) → IsNamed (as_managed m at lazy (single_core config))
-named_as None at lazy config = record { named = record { to = λ n p e. cc; back = λ q n e. cc; fewer = omega arith }; calm = refl }
-named_as (Some settings) None lazy config = record { named = record { to = λ n p e. cc; back = λ q n e. cc; fewer = omega arith }; calm = refl }
-named_as (Some settings) (Some info) false config = record { named = record { to = λ n p e. cc; back = λ q n e. cc; fewer = omega arith }; calm = refl }
-named_as (Some settings) (Some info) true config = record { named = record { to = λ n p e. cc; back = λ q n e. cc; fewer = omega arith }; calm = refl }
+named_as None at lazy config = record { named = record { to = λ n p e. cc; back = λ q n e. cc; fewer = omega arith }; idle = record { written = record { moved = record { seated = record { through = record { queue = tt; renewed = λ t. cc }; admitted = λ t. refl }; waiting = λ f. refl }; offered = tt }; calm = refl; fresh = refl } }
+named_as (Some settings) None lazy config = record { named = record { to = λ n p e. cc; back = λ q n e. cc; fewer = omega arith }; idle = record { written = record { moved = record { seated = record { through = record { queue = tt; renewed = λ t. cc }; admitted = λ t. refl }; waiting = λ f. refl }; offered = tt }; calm = refl; fresh = refl } }
+named_as (Some settings) (Some info) false config = record { named = record { to = λ n p e. cc; back = λ q n e. cc; fewer = omega arith }; idle = record { written = record { moved = record { seated = record { through = record { queue = tt; renewed = λ t. cc }; admitted = λ t. refl }; waiting = λ f. refl }; offered = tt }; calm = refl; fresh = refl } }
+named_as (Some settings) (Some info) true config = record { named = record { to = λ n p e. cc; back = λ q n e. cc; fewer = omega arith }; idle = record { written = record { moved = record { seated = record { through = record { queue = tt; renewed = λ t. cc }; admitted = λ t. refl }; waiting = λ f. refl }; offered = tt }; calm = refl; fresh = refl } }
 
 pub opening_named : (config : Config) (word : ℕ) → IsNamed (opening_core config word)
 opening_named config word = named_as (manager_of config) (address config) (is_lazy config) config
@@ -186,7 +186,7 @@ pub record IsReady (c : Core) : Type 0 where
 
 -- so it is named
 pub ready_named : (c : Core) → IsReady c → IsNamed c
-ready_named c r = record { named = r.named; calm = r.idle.calm }
+ready_named c r = record { named = r.named; idle = r.idle }
 
 -- a turn
 ready_turn : (c : Core) (kind : EventKind) → IsReady c → IsReady (next_turn c kind).core
@@ -194,7 +194,7 @@ ready_turn c kind h =
     let t = effect (counted c) kind in
     let made = sym (plain_turn c kind h.plain) in
     record {
-      idle = subst (λ (u : Turning). IsIdle u.core.single.connection) made (moves_idle (work_of t));
+      idle = turn_idle c kind;
       once = λ p apart. turn_kept (once_kept p apart) c h.plain (once_asks p (length c.table)) kind (h.once p apart);
       named = subst NamedIn made (named_moved_on t (named_requested (heard (counted c) kind) kind (named_heard (counted c) kind h.named)));
       plain = turn_plain c kind ∙ h.plain;

@@ -298,7 +298,7 @@ moved_before w =
     each_admitted (still_waiting e []) e.conn.waiting (record { through = s.through; admitted = s.admitted })
 
 -- and the rounds that begin behind that
-all_moved : (w : Work) → IsMoved (passed w).conn
+pub all_moved : (w : Work) → IsMoved (passed w).conn
 all_moved w =
     let v = moved_all w in
     chosen (λ (x : Work). IsMoved x.conn) (v.conn.rounds && is_ready v.conn.life) (rounds_of v v.conn.fresh) v (λ t. rounds_moved v v.conn.fresh (moved_before w)) (λ f. moved_before w)
@@ -387,16 +387,11 @@ written_requests w (Ended e) = refl
 pub flushed_requests : (w : Work) → (flushed w).conn.requests ≡ w.conn.requests
 flushed_requests w = ap (λ (c : MultiplexedConnection). c.requests) (waits_conn (written w)) ∙ written_requests w w.conn.life
 
--- and no request is left that was moved in the turn
-pub flushed_calm : (w : Work) → (flushed w).conn.moved ≡ []
-flushed_calm w = ap (λ (c : MultiplexedConnection). c.moved) (waits_conn (written w))
-
--- so a turn ends with nothing left to do, whatever there was
-pub moves_idle : (w : Work) → IsIdle (flushed (passed w)).conn
-moves_idle w =
-    let d = passed w in
-    let e = written d in
-    let i = written_from d d.conn.life refl (all_moved w) in
+-- and leaves nothing to do, where all was moved
+pub flushed_idle : (w : Work) → IsMoved w.conn → IsIdle (flushed w).conn
+flushed_idle w h =
+    let e = written w in
+    let i = written_from w w.conn.life refl h in
     subst IsIdle (sym (waits_conn e))
     (record {
       written = record {
