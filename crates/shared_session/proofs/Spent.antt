@@ -1,6 +1,6 @@
 -- A number that has run out in the passes has run out in the turn; and what a turn leaves.
-use Rattle.std.proofs.Common.{◌≡◌, ◌⊎◌, inl, inr, ℕ, ◌+◌, ◌==◌, ◌^◌, ◌<◌, ◌≤◌, nat_le, ◌||◌, List, [], ◌++◌, Bool, true, false, Option, Some, None, refl, sym, ap, subst, ◌∙◌, arith, length, length-append}
-use Rattle.std.specs.Prelude.{is_some, slice_get}
+use Rattle.std.proofs.Common.{◌≡◌, ◌⊎◌, inl, inr, ℕ, ◌+◌, ◌==◌, ◌^◌, ◌<◌, ◌≤◌, nat_le, ◌||◌, List, [], ◌++◌, Bool, true, false, Option, Some, None, Ok, Err, refl, sym, ap, subst, ◌∙◌, arith, length, length-append}
+use Rattle.std.specs.Prelude.{Result, IsErrOf, is_some, slice_get}
 use Rattle.std.proofs.lemmas.Bool.Decides.{nat_tests}
 use Rattle.containers.proofs.Choices.{chosen, or_left, or_right}
 use Rattle.driver_model.specs.declared.action.Owner.TheVariants as owner
@@ -67,6 +67,14 @@ room_left c h = (has_room c h).table
 used_out : (c : Core) → is_used_up c.single.connection ≡ true → has_run_out c ≡ true
 unfolding has_run_out
 used_out c h = or_second (nat_le (2 ^ 32) c.links) _ (or_true (is_used_up c.single.connection) _ h)
+
+abbrev error_in : {T E : Type 0} → E → Result T E → E
+error_in d (Ok x) = d
+error_in d (Err e) = e
+
+-- the error of a call is that of the turn which answers it
+pub same_error : {T U E : Type 0} (d e : E) → IsErrOf {T = T} (Err d) e → IsErrOf {T = U} (Err d) e
+same_error d e is = ap Err (ap (error_in d) is)
 
 pub none_spent : (failure : Option ConnectionError) (e : ConnectionError) → failure ≡ None → failure ≡ Some e → ⊥
 none_spent failure e none some = let no : ◌≡◌ {A = Option ConnectionError} None (Some e) = sym none ∙ some in cc
