@@ -1,4 +1,4 @@
-use Rattle.std.proofs.Common.{◌≡◌, ◌++◌, length, ap, ◌∙◌}
+use Rattle.std.proofs.Common.{◌++◌, length, ap, ◌∙◌}
 use Rattle.shared_session.specs.Turn.{Turning, shown_each}
 use Rattle.shared_session.proofs.Made.{effects_made, last_timers, last_sources, done_made, grows_on}
 use Rattle.shared_session.proofs.turns.make_turn.Goals as goal
