@@ -161,17 +161,6 @@ restable c comeback.Stays few links suits = tt
 restable c (comeback.Rests n a t) few links suits = restable_few c.manager c n a t few links suits
 restable c (comeback.Dials l n t) few links suits = tt
 
-abbrev numbered_in : Option Generations → ℕ
-numbered_in None = 0
-numbered_in (Some g) = g.number
-
--- a manager that is counted has a number
-pub number_few : (m : Option Generations) (g : Generations) (link links : ℕ) → m ≡ Some g → AreFew m link links → links < 2 ^ 32 → g.number < 2 ^ 32
-number_few None g link links e few l = cc
-number_few (Some h) g link links e few l =
-    let same : h.number ≡ g.number = ap (λ (x : Option Generations). numbered_in x) e in
-    omega (arith, same, few.1, l)
-
 -- no timer is lost
 pub more_timers : (c : Core) (what : Comeback) → length c.timers ≤ length (came_back c what).timers
 more_timers c comeback.Stays = le_refl (length c.timers)
