@@ -1,5 +1,5 @@
 -- What a manager does of its own: what it leaves, and how far its numbers come.
-use Rattle.std.proofs.Common.{◌≡◌, ℕ, ◌+◌, ◌-◌, ◌^◌, ◌<◌, ◌≤◌, ◌==◌, nat_lt, ◌&&◌, Bool, true, false, List, [], ◌∷◌, ◌++◌, length, Option, Some, None, refl, sym, ap, subst, ◌∙◌, arith, length-append}
+use Rattle.std.proofs.Common.{◌≡◌, ℕ, ◌+◌, ◌-◌, ◌^◌, ◌<◌, ◌≤◌, nat_lt, Bool, true, List, [], ◌∷◌, ◌++◌, length, Option, Some, None, refl, sym, ap, subst, ◌∙◌, arith, length-append}
 use Rattle.std.specs.Prelude.{is_some, option_map}
 use Rattle.std.proofs.Math.Nat.{le_refl}
 use Rattle.containers.proofs.Choices.{chosen, taken_if, lt_from, both_right}
@@ -13,7 +13,7 @@ use Rattle.shared_session.specs.declared.core_state.Core.{Core}
 use Rattle.shared_session.specs.declared.generations.Comeback.{Comeback}
 use Rattle.shared_session.specs.declared.generations.Comeback.TheVariants as comeback
 use Rattle.shared_session.specs.declared.generations.Generations.{Generations}
-use Rattle.shared_session.specs.Generations.{heeded, heeding, is_due, rests, comeback_of, comeback_in, failed_behind, rested, begun_with, begun, bound_of, connect_purposes, dialling, came_back, AreFew, IsCounted, IsRestable, AreNumbers, IsShowable, HasFraction}
+use Rattle.shared_session.specs.Generations.{heeded, heeding, is_due, rests, comeback_of, comeback_in, failed_behind, begun_with, begun, bound_of, connect_purposes, came_back, AreFew, IsCounted, IsRestable, IsShowable, HasFraction}
 
 -- what it leaves
 pub record IsKept (u c : Core) : Type 0 where
@@ -160,17 +160,6 @@ pub restable : (c : Core) (what : Comeback) → IsCounted c → c.links < 2 ^ 32
 restable c comeback.Stays few links suits = tt
 restable c (comeback.Rests n a t) few links suits = restable_few c.manager c n a t few links suits
 restable c (comeback.Dials l n t) few links suits = tt
-
-abbrev numbered_in : Option Generations → ℕ
-numbered_in None = 0
-numbered_in (Some g) = g.number
-
--- a manager that is counted has a number
-pub number_few : (m : Option Generations) (g : Generations) (link links : ℕ) → m ≡ Some g → AreFew m link links → links < 2 ^ 32 → g.number < 2 ^ 32
-number_few None g link links e few l = cc
-number_few (Some h) g link links e few l =
-    let same : h.number ≡ g.number = ap (λ (x : Option Generations). numbered_in x) e in
-    omega (arith, same, few.1, l)
 
 -- no timer is lost
 pub more_timers : (c : Core) (what : Comeback) → length c.timers ≤ length (came_back c what).timers

@@ -1,5 +1,5 @@
 -- What is shown of a turn that was made.
-use Rattle.std.proofs.Common.{◌≡◌, ℕ, ◌+◌, ◌^◌, ◌<◌, List, [], ◌∷◌, ◌++◌, length, Bool, true, false, Option, Some, None, refl, sym, ap, subst, ◌∙◌, append_assoc, arith}
+use Rattle.std.proofs.Common.{◌≡◌, ℕ, ◌+◌, ◌^◌, ◌<◌, List, [], ◌++◌, length, false, Option, Some, None, refl, sym, ap, subst, ◌∙◌, append_assoc, arith}
 use Rattle.std.specs.Prelude.{is_some}
 use Rattle.std.proofs.lemmas.List.{append-nil}
 use Rattle.containers.proofs.Choices.{by_test, taken_if, left_if}
@@ -14,7 +14,7 @@ use Rattle.shared_session.specs.declared.generations.Generations.{Generations}
 use Rattle.shared_session.specs.declared.showing.Done.{Done}
 use Rattle.shared_session.specs.Done.{done_each}
 use Rattle.shared_session.specs.Generations.{comeback_shown_in, HasFraction}
-use Rattle.shared_session.specs.Turn.{Turning, turning_with, timers_of, sources_of, next_turn, comeback_by, last_acts, shown_each, shown_behind, return_shown, effects_of, has_run_out}
+use Rattle.shared_session.specs.Turn.{Turning, turning_with, timers_of, sources_of, next_turn, comeback_by, last_acts, shown_each, return_shown, effects_of, has_run_out}
 use Rattle.shared_session.proofs.Quiet.{no_timers, no_sources, none_done}
 use Rattle.shared_session.proofs.Comebacks.{same_fraction}
 use Rattle.shared_session.proofs.Spent.{has_room, turn_settings}

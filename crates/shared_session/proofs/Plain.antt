@@ -1,17 +1,15 @@
 -- The turns of a session that doesn't come back: an event has its effect, all is moved, and its acts are shown.
-use Rattle.std.proofs.Common.{◌≡◌, ℕ, List, [], ◌∷◌, length, Bool, true, false, Option, Some, None, refl, ap, sym, subst, ◌∙◌}
+use Rattle.std.proofs.Common.{◌≡◌, ℕ, List, [], ◌∷◌, length, false, Option, None, ap, ◌∙◌}
 use Rattle.std.specs.Prelude.{is_some}
 use Rattle.containers.proofs.Choices.{left_if}
-use Rattle.connection_info.specs.declared.address.ConnectionInfo.{ConnectionInfo}
 use Rattle.manager_config.specs.declared.config.ConnectionManagerConfig.{ConnectionManagerConfig}
-use Rattle.driver_model.specs.declared.action.Action.{Action}
 use Rattle.driver_model.specs.declared.config.Config.{Config}
 use Rattle.driver_model.specs.declared.event.Event.{Event}
 use Rattle.driver_model.specs.declared.event.EventKind.{EventKind}
 use Rattle.driver_model.specs.Config.{manager_of, is_lazy, address}
 use Rattle.shared_session.specs.declared.core_state.Core.{Core}
 use Rattle.shared_session.specs.Generations.{has_ended}
-use Rattle.shared_session.specs.Turn.{Turning, counted, whole_effect, numbered, passed_by, ended_apart, next_turn, shown_each, effects_of}
+use Rattle.shared_session.specs.Turn.{counted, whole_effect, numbered, passed_by, ended_apart, next_turn, shown_each, effects_of}
 use Rattle.shared_session.specs.Replay.{as_managed, single_core, opening_core, run_on, state_after}
 use Rattle.shared_session.proofs.Stays.{turn_plain}
 

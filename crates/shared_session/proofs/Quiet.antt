@@ -11,7 +11,6 @@ use Rattle.mux_conn.specs.Connection.{Work, work_with}
 use Rattle.mux_conn.specs.Turn.{written, written_at, moved_wait, fresh_wait, wait_shown, moved_each_shown, fresh_each_shown, moved_shown, flushed}
 use Rattle.shared_session.specs.Turn.{timers_of, sources_of, flushed_apart}
 use Rattle.shared_session.specs.declared.core_state.Core.{Core}
-use Rattle.shared_session.specs.declared.showing.Done.{Done}
 use Rattle.shared_session.specs.Done.{done_each}
 
 -- bytes are offered, or a wait is shown

@@ -1,6 +1,6 @@
 -- A number that has run out in the passes has run out in the turn; and what a turn leaves.
-use Rattle.std.proofs.Common.{◌≡◌, ◌⊎◌, inl, inr, ℕ, ◌+◌, ◌==◌, ◌^◌, ◌<◌, ◌≤◌, nat_le, ◌||◌, List, [], ◌++◌, Bool, true, false, Option, Some, None, refl, sym, ap, subst, ◌∙◌, arith, length, length-append}
-use Rattle.std.specs.Prelude.{is_some, slice_get}
+use Rattle.std.proofs.Common.{◌≡◌, ◌⊎◌, inl, inr, ℕ, ◌+◌, ◌==◌, ◌^◌, ◌<◌, ◌≤◌, nat_le, ◌||◌, List, [], Bool, true, false, Option, Some, None, Ok, Err, refl, sym, ap, subst, ◌∙◌, arith, length, length-append}
+use Rattle.std.specs.Prelude.{Result, IsErrOf, is_some, slice_get}
 use Rattle.std.proofs.lemmas.Bool.Decides.{nat_tests}
 use Rattle.containers.proofs.Choices.{chosen, or_left, or_right}
 use Rattle.driver_model.specs.declared.action.Owner.TheVariants as owner
@@ -14,14 +14,13 @@ use Rattle.mux_conn.specs.declared.act.LinkAct.{LinkAct}
 use Rattle.mux_conn.specs.declared.request.Pending.{Pending}
 use Rattle.driver_model.specs.declared.event.EventKind.{EventKind}
 use Rattle.mux_conn.specs.declared.errors.ConnectionError.{ConnectionError}
-use Rattle.mux_conn.specs.Connection.{Work, work_with, is_used_up, uses_up}
+use Rattle.mux_conn.specs.Connection.{work_with, is_used_up, uses_up}
 use Rattle.mux_conn.specs.Passes.{passed}
-use Rattle.mux_conn.specs.Turn.{flushed}
 use Rattle.mux_conn.proofs.Spent.{spent_flushed}
 use Rattle.shared_session.specs.declared.core_state.Core.{Core}
 use Rattle.shared_session.specs.declared.generations.Generations.{Generations}
 use Rattle.shared_session.specs.Generations.{has_ended, wakes_in, heeding, came_back, AreFew, IsCounted, IsShowable, bound_of}
-use Rattle.shared_session.specs.Turn.{Turning, work_of, with_work, counted, heard, submitted, left_by, late_by, fired_by, timed_by, requested, passed_by, flushed_on, flushed_apart, own_part, come_back_behind, ended_apart, ended_as, comeback_as, timers_of, sources_of, numbered, next_turn, comeback_by, has_run_out}
+use Rattle.shared_session.specs.Turn.{Turning, work_of, counted, heard, submitted, left_by, late_by, fired_by, timed_by, requested, passed_by, flushed_on, flushed_apart, own_part, come_back_behind, ended_apart, ended_as, comeback_as, timers_of, sources_of, numbered, next_turn, comeback_by, has_run_out}
 use Rattle.shared_session.proofs.Comebacks.{SameSettings, settings_same, settings_then, came_kept, came_settings, own_settings, same_bound, Suits, suits_in, used_stays, counted_heeding, counted_came, more_timers, showable}
 
 or_true : (a b : Bool) → a ≡ true → (a || b) ≡ true
@@ -67,6 +66,14 @@ room_left c h = (has_room c h).table
 used_out : (c : Core) → is_used_up c.single.connection ≡ true → has_run_out c ≡ true
 unfolding has_run_out
 used_out c h = or_second (nat_le (2 ^ 32) c.links) _ (or_true (is_used_up c.single.connection) _ h)
+
+abbrev error_in : {T E : Type 0} → E → Result T E → E
+error_in d (Ok x) = d
+error_in d (Err e) = e
+
+-- the error of a call is that of the turn which answers it
+pub same_error : {T U E : Type 0} (d e : E) → IsErrOf {T = T} (Err d) e → IsErrOf {T = U} (Err d) e
+same_error d e is = ap Err (ap (error_in d) is)
 
 pub none_spent : (failure : Option ConnectionError) (e : ConnectionError) → failure ≡ None → failure ≡ Some e → ⊥
 none_spent failure e none some = let no : ◌≡◌ {A = Option ConnectionError} None (Some e) = sym none ∙ some in cc

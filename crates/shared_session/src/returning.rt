@@ -1,4 +1,4 @@
-ghost use Rattle.std.specs.Prelude.{◌≡◌, ◌<◌, ◌^◌, ◌++◌, [], ◌∷◌, Some, length, take, OnOk, OnErr, IfOk};
+ghost use Rattle.std.specs.Prelude.{ℕ, ◌≡◌, ◌<◌, ◌+◌, ◌^◌, ◌++◌, [], ◌∷◌, Some, length, take, OnOk, OnErr, IfOk};
 ghost use Rattle.shared_session.specs.Generations.{generation_shown, connect_timed, comeback_shown};
 ghost use Rattle.shared_session.specs.Generations.{comeback_shown_in, bound_of};
 ghost use Rattle.shared_session.specs.Generations.{AreNumbers, IsShowable, HasFraction};

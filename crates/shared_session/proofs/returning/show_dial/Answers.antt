@@ -1,4 +1,4 @@
-use Rattle.std.proofs.Common.{◌≡◌, ℕ, List, [], ◌∷◌, ◌++◌, Ok, Err, sym, ap, ◌∙◌, append_assoc}
+use Rattle.std.proofs.Common.{◌≡◌, ℕ, List, [], ◌∷◌, ◌++◌, Ok, Err, ap, subst, ◌∙◌, append_assoc}
 use Rattle.std.specs.Prelude.{Result, OnOk, Option}
 use Rattle.driver_model.specs.declared.action.Action.{Action}
 use Rattle.driver_model.specs.declared.action.Action.TheVariants as action
@@ -15,4 +15,5 @@ pub returns-clause-actions : goal.returns-clause-actions
 returns-clause-actions c =
     three c.show_connect_timer.result c.args.out.now.items c.show_generation.new.out.items c.show_connect.new.out.items c.show_connect_timer.new.out.items
     (action.Connect c.args.link c.args.generations.now.info.host c.args.generations.now.info.port) (generation_shown c.args.number) (connect_timed c.args.link c.args.timer c.args.generations.now.settings.connection.connection_timeout)
-    c.in_ok-show_generation.ensures.actions c.in_ok-show_connect.ensures.actions c.show_connect_timer.ensures.actions
+    c.in_ok-show_generation.ensures.actions c.in_ok-show_connect.ensures.actions
+    (subst (λ (bound : Option ℕ). OnOk c.show_connect_timer.result (c.show_connect_timer.new.out.items ≡ c.show_connect.new.out.items ++ connect_timed c.args.link c.args.timer bound)) c.connection_timeout.ensures c.show_connect_timer.ensures.actions)

@@ -1,9 +1,9 @@
-use Rattle.std.proofs.Common.{◌≡◌, List, ap, subst, sym, ◌∙◌}
+use Rattle.std.proofs.Common.{◌≡◌, List, ap, sym, ◌∙◌}
 use Rattle.mux_conn.specs.declared.act.LinkAct.{LinkAct}
 use Rattle.mux_conn.specs.Connection.{Work}
 use Rattle.mux_conn.specs.Turn.{flushed}
 use Rattle.shared_session.specs.declared.core_state.Core.{Core}
-use Rattle.shared_session.specs.Turn.{Turning, turning_with, work_of, with_work, numbered, flushed_on, IsFewer}
+use Rattle.shared_session.specs.Turn.{Turning, turning_with, work_of, with_work, numbered, flushed_on}
 use Rattle.shared_session.proofs.core_state.Core.end.Goals as goal
 
 -- bytes and waits are shown, and then timers and sources get their numbers

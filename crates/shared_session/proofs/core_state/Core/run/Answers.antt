@@ -3,7 +3,7 @@ use Rattle.std.specs.Prelude.{Result, OnOk}
 use Rattle.driver_model.specs.declared.event.EventKind.{EventKind}
 use Rattle.mux_conn.specs.Connection.{Work}
 use Rattle.mux_conn.specs.Passes.{passed}
-use Rattle.shared_session.specs.Turn.{Turning, work_of, with_work, heard, requested, effect, passed_by}
+use Rattle.shared_session.specs.Turn.{Turning, work_of, with_work, heard, requested, passed_by}
 use Rattle.mux_conn.specs.declared.errors.ConnectionError.TheVariants.{Spent}
 use Rattle.shared_session.proofs.Within.{news_within, known_good}
 use Rattle.shared_session.proofs.Spent.{spent_in_run}

@@ -1,15 +1,15 @@
-use Rattle.std.proofs.Common.{◌≡◌, ◌+◌, ◌^◌, ◌<◌, ◌++◌, List, [], length, true, false, sym, ap, subst, ◌∙◌}
-use Rattle.std.specs.Prelude.{Option, is_some}
+use Rattle.std.proofs.Common.{◌≡◌, ◌+◌, ◌^◌, ◌<◌, List, [], Bool, true, false, sym, ap, subst, ◌∙◌}
+use Rattle.std.specs.Prelude.{is_some}
 use Rattle.driver_model.specs.declared.event.EventKind.{EventKind}
 use Rattle.mux_conn.specs.declared.act.LinkAct.{LinkAct}
+use Rattle.mux_conn.specs.declared.errors.ConnectionError.TheVariants.{Spent}
 use Rattle.mux_conn.specs.Connection.{is_used_up}
 use Rattle.shared_session.specs.declared.core_state.Core.{Core}
 use Rattle.shared_session.specs.declared.generations.Comeback.{Comeback}
-use Rattle.shared_session.specs.declared.generations.Generations.{Generations}
 use Rattle.shared_session.specs.Generations.{has_ended, bound_of, IsCounted, IsShowable}
-use Rattle.shared_session.specs.Turn.{Turning, turning_with, counted, passed_by, ended_as, comeback_as, last_as, next_turn, comeback_by, last_acts, has_run_out, IsFewer}
+use Rattle.shared_session.specs.Turn.{Turning, turning_with, counted, passed_by, ended_as, comeback_as, last_as, next_turn, comeback_by, last_acts, has_run_out}
 use Rattle.shared_session.proofs.Within.{bad_counted}
-use Rattle.shared_session.proofs.Spent.{has_room, room_left, passed_same, counted_passed, counted_turn, few_in_turn, few_sources_in_turn, spent_next, showable_turn}
+use Rattle.shared_session.proofs.Spent.{has_room, room_left, same_error, passed_same, counted_passed, counted_turn, few_in_turn, few_sources_in_turn, spent_next, showable_turn}
 use Rattle.shared_session.proofs.core_state.Core.turn.Goals as goal
 
 -- a turn begins without acts
@@ -72,7 +72,7 @@ end_either-requires-clause-links c =
 
 pub returns-in-Err-clause-spent : goal.returns-in-Err-clause-spent
 returns-in-Err-clause-spent c is =
-    spent_next c.args.self.now c.args.event.now (subst (λ (t : Turning). is_used_up t.core.single.connection ≡ true) (begins c.args.self.now c.args.acts.now.items c.args.event.now c.requires.none) (c.in-Err.ensures.spent is))
+    spent_next c.args.self.now c.args.event.now (subst (λ (t : Turning). is_used_up t.core.single.connection ≡ true) (begins c.args.self.now c.args.acts.now.items c.args.event.now c.requires.none) (c.in-Err.ensures.spent (same_error c.in-Err.error Spent is)))
 
 pub returns-in-Err-end_either-clause-spent : goal.returns-in-Err-end_either-clause-spent
 returns-in-Err-end_either-clause-spent c is = absurd (c.in-Err-end_either.ensures.unspent is)
