@@ -41,6 +41,7 @@ use Rattle.session_laws.proofs.Answer.{may_answer, after_closes, none_before, ow
 -- credentials
 abbrev pub seen : Core → List LinkAct → MultiplexedConnection → List ℕ → List ℕ → Inner
 seen f acts conn pending started = record {
+  manager = f.manager;
   turns = f.turns;
   links = f.links;
   link = f.single.link;
@@ -58,9 +59,12 @@ seen f acts conn pending started = record {
   untold = [];
   parting = false;
   info = conn.info;
+  address = conn.address;
   renewal = conn.renewal;
   life = conn.life;
+  last = conn.last;
   told = conn.told;
+  opened = conn.opened;
   requests = conn.requests;
   waiting = conn.waiting;
   admitted = conn.admitted;
