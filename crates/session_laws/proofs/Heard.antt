@@ -17,13 +17,14 @@ use Rattle.mux_conn.specs.declared.life.Life.{Life}
 use Rattle.mux_conn.specs.declared.life.Life.TheVariants.{Resting, Dialing, Wanting, SettingUp, Ready, Ended}
 use Rattle.shared_session.specs.declared.core_state.Core.{Core}
 use Rattle.shared_session.specs.Turn.{with_work, is_bad}
-use Rattle.legal_trace.specs.Ledger.{Ledger, Ending, Sourced, hears, noted, ending, ending_alive, ending_asked, is_over, bytes_came, dials, refused_in, authorized_by, awaits_credentials, is_renewal_open, lost_by, may_renew, renewed_by, unrenewed_by, renewal_count}
+use Rattle.legal_trace.specs.Ledger.{Ledger, Ending, Sourced, hears, noted, ending, ending_alive, ending_asked, is_over, bytes_came, dials, refused_in, authorized_by, awaits_credentials, is_renewal_open, lost_by, may_renew, renewed_by, unrenewed_by, renewal_count, is_repeating, unrepeated_by}
 use Rattle.legal_trace.specs.Book.{Book, book, entered, hearing_in}
 use Rattle.legal_trace.specs.Story.{Story}
 use Rattle.legal_trace.specs.Legal.{NoneEnds}
 use Rattle.session_laws.proofs.Said.{mild_end, setup_on, setup_unheard, BringsNothing, PushesOf, pushes_hear, IsTame, is_tame, renoticed}
 use Rattle.session_laws.proofs.Creds.{creds_hear, down_unawaited, unawaited_is, down_may_renew, IsOfRenewals}
 use Rattle.session_laws.proofs.Tied.{Inner, inner, link_in, carried, whole_link, TiedCreds, TiedLife, TiedSetup, TiedLines, AreQueued, TiedWaits, Tied, has_ended, TiedRenewal, NoneRenewed}
+use Rattle.session_laws.proofs.Unrepeated.{down_repeats_not}
 use Rattle.session_laws.proofs.States.{IsFit, IsFitIn, Between, HasApplied}
 use Rattle.session_laws.proofs.Answer.{some_end}
 use Rattle.session_laws.proofs.Aside.{aside_ends, not_up_ends, over_not_asked}
@@ -157,7 +158,7 @@ creds_still l turn deserted (inl k) = refl
 creds_still l turn (renewed c) (inl k) = absurd k
 creds_still l turn unrenewed (inl k) = absurd k
 creds_still l turn (late m) (inl k) = absurd k
-creds_still l turn unrepeated (inl k) = refl
+creds_still l turn unrepeated (inl k) = chosen (λ (x : Ledger). x.creds ≡ l.creds) (is_repeating l) (unrepeated_by l) l (λ t. refl) (λ f. refl)
 creds_still l turn dropped (inl k) = refl
 creds_still l turn shut (inl k) = refl
 
@@ -176,7 +177,7 @@ dealt_still l turn deserted k = refl
 dealt_still l turn (renewed c) k = chosen (λ (x : Ledger). x.dealt ≡ l.dealt) (may_renew l) (renewed_by l c) l (λ t. refl) (λ f. refl)
 dealt_still l turn unrenewed k = chosen (λ (x : Ledger). x.dealt ≡ l.dealt) l.up (unrenewed_by l) l (λ t. refl) (λ f. refl)
 dealt_still l turn (late m) k = chosen (λ (x : Ledger). x.dealt ≡ l.dealt) (l.up && is_renewal_open l m) (lost_by l) l (λ t. refl) (λ f. refl)
-dealt_still l turn unrepeated k = refl
+dealt_still l turn unrepeated k = chosen (λ (x : Ledger). x.dealt ≡ l.dealt) (is_repeating l) (unrepeated_by l) l (λ t. refl) (λ f. refl)
 dealt_still l turn dropped k = refl
 dealt_still l turn shut k = refl
 
@@ -201,7 +202,8 @@ none_new l turn deserted other = (refl, refl, refl, refl)
 none_new l turn (renewed c) other = absurd (other tt)
 none_new l turn unrenewed other = absurd (other tt)
 none_new l turn (late m) other = absurd (other tt)
-none_new l turn unrepeated other = (refl, refl, refl, refl)
+none_new l turn unrepeated other =
+    chosen (λ (x : Ledger). (x.creds.over ≡ l.creds.over) × (x.creds.renewals ≡ l.creds.renewals) × (x.creds.timed ≡ l.creds.timed) × (x.creds.lost ≡ l.creds.lost)) (is_repeating l) (unrepeated_by l) l (λ t. (refl, refl, refl, refl)) (λ f. (refl, refl, refl, refl))
 none_new l turn dropped other = (refl, refl, refl, refl)
 none_new l turn shut other = (refl, refl, refl, refl)
 
@@ -281,7 +283,7 @@ ended_hears l created e turn (authorized c) h = subst (λ (x : Ledger). TiedLife
 ended_hears l created e turn (renewed c) h = if_false (λ (x : Ledger). TiedLife x created (Ended e)) (may_renew l) (renewed_by l c) l (down_may_renew l h.0) h
 ended_hears l created e turn unrenewed h = if_false (λ (x : Ledger). TiedLife x created (Ended e)) l.up (unrenewed_by l) l h.0 h
 ended_hears l created e turn (late m) h = if_false (λ (x : Ledger). TiedLife x created (Ended e)) (l.up && is_renewal_open l m) (lost_by l) l (ap (λ u. u && is_renewal_open l m) h.0) h
-ended_hears l created e turn unrepeated h = h
+ended_hears l created e turn unrepeated h = if_false (λ (x : Ledger). TiedLife x created (Ended e)) (is_repeating l) (unrepeated_by l) l (down_repeats_not l h.0) h
 ended_hears l created e turn (denied text) h = h
 ended_hears l created e turn deserted h = h
 ended_hears l created e turn dropped h = h

@@ -2,6 +2,7 @@ pub mod Numbers
 pub mod Tied
 pub mod States
 pub mod Creds
+pub mod Unrepeated
 pub mod Aside
 pub mod SetUp
 pub mod SameSaid

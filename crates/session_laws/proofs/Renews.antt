@@ -47,6 +47,7 @@ use Rattle.session_laws.proofs.Start.{not_setting, on_link, owners-append, owner
 use Rattle.session_laws.proofs.Starts.{begins_ends_none}
 use Rattle.session_laws.proofs.States.{IsFit}
 use Rattle.session_laws.proofs.Tied.{AreAimed, AreRenewed, Inner, IsAim, IsEntry, Tied, TiedRenewal, TiedTries, numbers_kept, owner_of, owners_each, queue_ids, setup_owners, timed_of}
+use Rattle.session_laws.proofs.Unrepeated.{repeats_started, repeats_timed, unrepeated_lined}
 use Rattle.session_laws.proofs.Took.{queue_waits}
 use Rattle.mux_conn.specs.declared.life.Greeting.TheVariants as greet
 use Rattle.driver_model.specs.Hearing.{is_watching}
@@ -83,6 +84,8 @@ may_time_renewal b t link number ms counted none due within h ended =
       applied = applied_up b was h refl (refl, refl) refl ended;
       setups = setups_started b was h (λ x u e. absurd (not_setting link x u e));
       monitors = monitors_started b was h (λ x e. absurd (not_setting link x greet.Monitor e));
+      repeats_timed = repeats_timed b h.numbers.unrepeated;
+      repeated = repeats_started b h.numbers.unrepeated;
       l = t.link;
       within = h.numbers.within ∙ within;
       asked = omega (arith, timed, one, unasked, h.renewal.asked_is);
@@ -98,7 +101,7 @@ time_tied b t link number ms none due within h =
     let l = b.link t.link in
     let r = t.renewal in
     let what = purpose.Renewal t.link r.asked in
-    let k = numbers_kept b b.link b.story b.errors (on_link t link) (Ready link) t.free t.requests t.waiting t.admitted t.fresh t.moved t.letting [] t.started h.numbers in
+    let k = numbers_kept b b.link b.story b.tracked b.errors (on_link t link) (Ready link) t.free t.requests t.waiting t.admitted t.fresh t.moved t.letting [] t.started h.numbers.unrepeated h.numbers in
     tied_by (entered b (action.Timer number ms what)) (record (on_link t link) { timers = t.timers ++ what ∷ []; renewal = asked_next r }) (noted l times) (mine_noted l t.link times) (record {
       numbers = record {
         turns = k.turns;
@@ -112,6 +115,7 @@ time_tied b t link number ms none due within h =
         shut = k.shut;
         within = k.within;
         few = k.few;
+        unrepeated = unrepeated_lined b.link t.link times refl h.numbers.unrepeated;
         settings = record { size_is = k.settings.size_is; bound_is = k.settings.bound_is; limit_is = k.settings.limit_is; some = k.settings.some; limited = k.settings.limited };
         kind_is = k.kind_is;
         quiet = λ w. let q = h.numbers.quiet w in record { none = q.none; unwanted = q.unwanted; unrenewed = q.unrenewed };
@@ -201,6 +205,8 @@ may_renew b t link c cs due pending waits fit free h ended =
       applied = applied_up b was h refl (refl, refl) refl ended;
       setups = setups_started b was h (λ x u e. absurd (not_setting link x u e));
       monitors = monitors_started b was h (λ x e. absurd (not_setting link x greet.Monitor e));
+      repeats_timed = repeats_timed b h.numbers.unrepeated;
+      repeated = repeats_started b h.numbers.unrepeated;
       timed = renewals_timed b was h (λ x e d. pending);
       credentials = c;
       due = due_first l t.renewal c cs h.life.1 h.renewal due waits;
@@ -227,7 +233,7 @@ auth_tied b t link c cs due pending waits h =
     let plain : is_watching t.hears ≡ true → ⊥ = λ w. (let no : [] ≡ c ∷ cs = sym (h.numbers.quiet w).unrenewed ∙ waits in cc) in
     let unwatched : is_watching l.hearing ≡ false = by_test (is_watching l.hearing) _ (λ w. absurd (plain (ap is_watching (sym h.notices.hearing_is) ∙ w))) (λ f. f) in
     let few : length t.requests ≤ renewal_id = omega (arith, h.names.few, h.numbers.few) in
-    let k = numbers_kept b b.link b.story b.errors (on_link t link) (Ready (begun link q)) t.free t.requests t.waiting t.admitted t.fresh t.moved t.letting [] (t.started ++ renewal_id ∷ []) h.numbers in
+    let k = numbers_kept b b.link b.story b.tracked b.errors (on_link t link) (Ready (begun link q)) t.free t.requests t.waiting t.admitted t.fresh t.moved t.letting [] (t.started ++ renewal_id ∷ []) h.numbers.unrepeated h.numbers in
     tied_by (entered b (auth_action t link c)) (after_auth t link c cs) (noted l (begins s)) (mine_noted l t.link (begins (message_of b t.link owner.Auth)) ∙ ap (λ x. noted l (begins x)) told) (record {
       numbers = record {
         turns = k.turns;
@@ -241,6 +247,7 @@ auth_tied b t link c cs due pending waits h =
         shut = k.shut;
         within = k.within;
         few = k.few;
+        unrepeated = unrepeated_lined b.link t.link (begins (message_of b t.link owner.Auth)) refl h.numbers.unrepeated;
         settings = record { size_is = k.settings.size_is; bound_is = k.settings.bound_is; limit_is = k.settings.limit_is; some = k.settings.some; limited = k.settings.limited };
         kind_is = k.kind_is;
         quiet = λ w. absurd (plain w);

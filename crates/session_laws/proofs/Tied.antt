@@ -44,6 +44,7 @@ use Rattle.mux_conn.specs.Effects.{setup_queued, setup_id}
 use Rattle.mux_conn.specs.Requests.{name_at, permits_at, is_open_at, is_unbegun_at, is_waiting_at, is_admitted_at, is_placed_at}
 use Rattle.shared_session.specs.declared.core_state.Core.{Core}
 use Rattle.shared_session.specs.declared.generations.Generations.{Generations}
+use Rattle.sub_tracker.specs.Subscribed.{Request as Call}
 use Rattle.legal_trace.specs.Ledger.{Ledger, Heard, Sourced, Start, End, blank_ledger, cut, failure_in, is_cut, is_done, is_fault, is_full, is_greeted, is_of_renewal, is_over, is_set_up, is_taken, last_renewal, monitor_of, next_notice, renewal_count, renewals_asked, setup_count, setup_steps, setup_after}
 use Rattle.legal_trace.specs.Story.{Story, blank_story, is_open, is_told, bytes_of, shape, is_awaited}
 use Rattle.legal_trace.specs.Book.{Book, blank_book, book, hearing_in, info_in, kind_in, wanted_in}
@@ -212,6 +213,10 @@ pub record IsBare (table : List (Option Pending)) (r : Renewal) : Type 0 where
   pub unwanted : r.wanted ≡ false
   pub unrenewed : r.waiting ≡ []
 
+-- nothing is subscribed again on any link: no session does so
+abbrev pub AreUnrepeated : (ℕ → Ledger) → Type 0
+AreUnrepeated ledgers = (l : ℕ) → (ledgers l).again.wanted ≡ false
+
 -- a session that comes back so: nothing of its configuration is refused, which says how it does, where its links are asked for, and how
 -- long a connect may take; so many generations began, and so many attempts of the current one failed; and it is without a first one
 -- where it waits for its first submission alone
@@ -248,7 +253,7 @@ IsHeeded rest failed life (Some g) = HasHeeded rest failed life g
 -- told; its connection's link is the one that submissions go to; all timers are for it, for one
 -- before it, for a submission, or for the wait behind a failed attempt, and one was asked for each bounded connect; where it waits for
 -- its first submission it was created; what is told to its server is to be answered within the
--- configured time; and no more numbers were given to submissions than there are
+-- configured time; no more numbers were given to submissions than there are; and nothing is subscribed again
 pub record TiedNumbers (b : Book) (t : Inner) : Type 0 where
   pub turns : b.turns ≡ t.turns
   pub links : b.links ≡ t.links
@@ -261,6 +266,7 @@ pub record TiedNumbers (b : Book) (t : Inner) : Type 0 where
   pub shut : b.shut ≡ t.shut
   pub within : answer_time b.config ≡ t.renewal.within
   pub few : length t.table ≤ 2 ^ 32
+  pub unrepeated : AreUnrepeated b.link
   pub settings : IsConfigured b t.size t.bound t.limit
   pub kind_is : kind_in b.config ≡ t.kind
   pub quiet : is_watching t.hears ≡ true → IsBare t.table t.renewal
@@ -836,10 +842,10 @@ inner c started = record {
   started = started;
 }
 
--- the numbers, where only links, stories and the connection change
-pub numbers_kept : (b : Book) (link : ℕ → Ledger) (story : ℕ → Story) (errors : List RedisError) (t : Inner) (life : Life) (free : ℕ) (requests : List Request) (waiting admitted : List Waiting) (fresh moved letting pending started : List ℕ) → TiedNumbers b t
-    → TiedNumbers (record b { link = link; story = story; errors = errors }) (record t { life = life; free = free; requests = requests; waiting = waiting; admitted = admitted; fresh = fresh; moved = moved; letting = letting; pending = pending; started = started })
-numbers_kept b link story errors t life free requests waiting admitted fresh moved letting pending started h = record {
+-- the numbers, where only links, stories, what is subscribed, errors and the connection change
+pub numbers_kept : (b : Book) (link : ℕ → Ledger) (story : ℕ → Story) (tracked : List Call) (errors : List RedisError) (t : Inner) (life : Life) (free : ℕ) (requests : List Request) (waiting admitted : List Waiting) (fresh moved letting pending started : List ℕ) → AreUnrepeated link → TiedNumbers b t
+    → TiedNumbers (record b { link = link; story = story; tracked = tracked; errors = errors }) (record t { life = life; free = free; requests = requests; waiting = waiting; admitted = admitted; fresh = fresh; moved = moved; letting = letting; pending = pending; started = started })
+numbers_kept b link story tracked errors t life free requests waiting admitted fresh moved letting pending started unrepeated h = record {
   turns = h.turns;
   links = h.links;
   timers = h.timers;
@@ -851,6 +857,7 @@ numbers_kept b link story errors t life free requests waiting admitted fresh mov
   shut = h.shut;
   within = h.within;
   few = h.few;
+  unrepeated = unrepeated;
   settings = record { size_is = h.settings.size_is; bound_is = h.settings.bound_is; limit_is = h.settings.limit_is; some = h.settings.some; limited = h.settings.limited };
   kind_is = h.kind_is;
   quiet = h.quiet;
@@ -869,7 +876,7 @@ pub relined : (b : Book) (t : Inner) (waiting admitted : List Waiting) (fresh mo
     → TiedLines b.story t.requests (link_in t.life) waiting admitted pending t.started → TiedWaits b.story t.requests t.life fresh moved → AreLate b.story t.requests pending
     → Tied b (record t { waiting = waiting; admitted = admitted; fresh = fresh; moved = moved; pending = pending })
 relined b t waiting admitted fresh moved pending h lines waits late = record {
-  numbers = numbers_kept b b.link b.story b.errors t t.life t.free t.requests waiting admitted fresh moved t.letting pending t.started h.numbers;
+  numbers = numbers_kept b b.link b.story b.tracked b.errors t t.life t.free t.requests waiting admitted fresh moved t.letting pending t.started h.numbers.unrepeated h.numbers;
   others = h.others;
   notices = h.notices;
   life = h.life;

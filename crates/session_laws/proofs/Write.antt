@@ -33,6 +33,7 @@ use Rattle.session_laws.proofs.Start.{on_link}
 use Rattle.session_laws.proofs.Took.{queue_waits}
 use Rattle.session_laws.proofs.States.{IsFit}
 use Rattle.session_laws.proofs.Tied.{HasSaid, Inner, Tied, TiedLife, carried, has_ended, numbers_kept, owner_of, whole_link, link_in, greeter}
+use Rattle.session_laws.proofs.Unrepeated.{unrepeated_lined}
 
 -- an offer
 --
@@ -41,7 +42,7 @@ write_tied b t link h =
     let l = b.link t.link in
     let line = offers link.outbox.unwritten in
     tied_by (entered b (action.Write t.link link.outbox.unwritten)) (on_link t (offered_of link)) (noted l line) (mine_noted l t.link line) (record {
-      numbers = numbers_kept b _ _ _ (on_link t link) _ _ _ _ _ _ _ _ _ _ h.numbers;
+      numbers = numbers_kept b _ _ _ _ (on_link t link) _ _ _ _ _ _ _ _ _ _ (unrepeated_lined b.link t.link line refl h.numbers.unrepeated) h.numbers;
       others = others_kept b t.link line h.others;
       notices = h.notices;
       life = h.life;
@@ -67,7 +68,7 @@ write_set_tied b t link greeting h =
     let l = b.link t.link in
     let line = offers link.outbox.unwritten in
     tied_by (entered b (action.Write t.link link.outbox.unwritten)) (setting_on t (offered_of link) greeting) (noted l line) (mine_noted l t.link line) (record {
-      numbers = numbers_kept b _ _ _ (setting_on t link greeting) _ _ _ _ _ _ _ _ _ _ h.numbers;
+      numbers = numbers_kept b _ _ _ _ (setting_on t link greeting) _ _ _ _ _ _ _ _ _ _ (unrepeated_lined b.link t.link line refl h.numbers.unrepeated) h.numbers;
       others = others_kept b t.link line h.others;
       notices = h.notices;
       life = h.life;
