@@ -455,12 +455,12 @@ silent_numbers b c started word kind timeout story free life requests pending q 
   settings = record { size_is = h.numbers.settings.size_is; bound_is = h.numbers.settings.bound_is; limit_is = h.numbers.settings.limit_is; some = h.numbers.settings.some; limited = h.numbers.settings.limited };
   kind_is = h.numbers.kind_is;
   quiet = h.numbers.quiet;
-  plain = h.numbers.plain;
-  eager = h.numbers.eager;
+  comes_back = h.numbers.comes_back;
+  lazy = h.numbers.lazy;
   current_is = h.numbers.current_is;
   speaks = h.numbers.speaks;
-  one = h.numbers.one;
-  few_links = h.numbers.few_links;
+  address_is = h.numbers.address_is;
+  wants = h.numbers.wants;
 }
 
 -- all other links stay aside

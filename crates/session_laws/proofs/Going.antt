@@ -61,7 +61,7 @@ shown_applied b t h shown = record {
   shown = shown;
   rested = ap (λ g. g && is_attempt (current_link b).end) h.numbers.plain;
   generated = ap (λ g. g && (not b.failed && (not b.shut && (if b.generation == 0 then begins_first b else is_caused b)))) h.numbers.plain;
-  linked = left_if (has_generations b) _ (b.links == 0) h.numbers.plain ∙ ne_test b.links 0 (λ none. let links = h.numbers.links in let one = h.numbers.one in omega arith);
+  linked = left_if (has_generations b) _ (b.links == 0) h.numbers.plain ∙ ne_test b.links 0 (λ none. let links = h.numbers.links in let address_is = h.numbers.address_is in omega arith);
   timed = h.numbers.timed;
 }
 

@@ -302,6 +302,8 @@ let_tied b t p count free g noted timers w alone eased has sum numbers h = recor
   others = h.others;
   notices = h.notices;
   life = h.life;
+  course = h.course;
+  calm = h.calm;
   creds = h.creds;
   creation = h.creation;
   uses = h.uses;
@@ -502,12 +504,12 @@ ask_tied b t p number ms w alone h =
       settings = record { size_is = k.settings.size_is; bound_is = k.settings.bound_is; limit_is = k.settings.limit_is; some = k.settings.some; limited = k.settings.limited };
       kind_is = k.kind_is;
       quiet = k.quiet;
-      plain = k.plain;
-      eager = k.eager;
+      comes_back = k.comes_back;
+      lazy = k.lazy;
       current_is = k.current_is;
       speaks = k.speaks;
-      one = k.one;
-      few_links = k.few_links;
+      address_is = k.address_is;
+      wants = k.wants;
     }) h
 
 -- a request is let in by its connection

@@ -494,6 +494,8 @@ place_tied b t link q waiting admitted yes_awaited next h =
       others = h.others;
       notices = h.notices;
       life = h.life;
+      course = h.course;
+      calm = h.calm;
       creds = record { wanted_is = h.creds.wanted_is; sought = h.creds.sought };
       creation = h.creation;
       uses = h.uses;
@@ -572,6 +574,8 @@ tell_tied b t link q waiting admitted not_awaited next h =
       others = h.others;
       notices = h.notices;
       life = h.life;
+      course = h.course;
+      calm = h.calm;
       creds = record { wanted_is = h.creds.wanted_is; sought = h.creds.sought };
       creation = h.creation;
       uses = h.uses;
@@ -633,6 +637,8 @@ admit_tied b t link q qs w is last h =
       others = h.others;
       notices = h.notices;
       life = h.life;
+      course = h.course;
+      calm = h.calm;
       creds = record { wanted_is = h.creds.wanted_is; sought = h.creds.sought };
       creation = h.creation;
       uses = h.uses;

@@ -175,7 +175,7 @@ set_up_may b t link greeting due fit free h ended =
     let q = due_queued l greeting in
     let was = setting_on t (with_queue link (q ∷ [])) greeting in
     record {
-      applied = applied_up b was h refl (refl, refl) refl ended;
+      applied = applied_up b was h refl (refl, refl) refl refl ended;
       k = c;
       due = taken_if l.up (setup_after l c) None h.life.1 ∙ due;
       free = held_by b was (λ (p : ℕ). greeter greeting) (with_queue link (q ∷ [])) h.numbers fit.bound_is (h.link refl) ∙ free;
@@ -208,6 +208,8 @@ set_up_tied b t link greeting due user h =
       others = others_kept b t.link (begins s) h.others;
       notices = h.notices;
       life = h.life;
+      course = h.course;
+      calm = h.calm;
       creds = record { wanted_is = h.creds.wanted_is; sought = h.creds.sought };
       creation = h.creation;
       uses = h.uses;

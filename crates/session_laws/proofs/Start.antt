@@ -332,6 +332,8 @@ start_tied b t link q qs h =
       others = others_kept b t.link (begins (message_of b t.link (owner.Try n 0))) h.others;
       notices = h.notices;
       life = h.life;
+      course = h.course;
+      calm = h.calm;
       creds = record { wanted_is = h.creds.wanted_is; sought = h.creds.sought };
       creation = h.creation;
       uses = h.uses;

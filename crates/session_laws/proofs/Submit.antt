@@ -194,12 +194,12 @@ refused_tied b c started word what e h tame form few no_fresh =
         settings = record { size_is = h.numbers.settings.size_is; bound_is = h.numbers.settings.bound_is; limit_is = h.numbers.settings.limit_is; some = h.numbers.settings.some; limited = h.numbers.settings.limited };
         kind_is = h.numbers.kind_is;
         quiet = λ w. absurd (submits_unwatched b (inner c started) what h form w);
-        plain = h.numbers.plain;
-        eager = h.numbers.eager;
+        comes_back = h.numbers.comes_back;
+        lazy = h.numbers.lazy;
         current_is = h.numbers.current_is;
         speaks = h.numbers.speaks;
-        one = h.numbers.one;
-        few_links = h.numbers.few_links;
+        address_is = h.numbers.address_is;
+        wants = h.numbers.wants;
       };
       others = λ m other. aside_silent (b.link m) c.turns (h.others m other);
       notices = renoticed tame h.notices;

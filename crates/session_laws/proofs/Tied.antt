@@ -1,5 +1,5 @@
 -- What ties a session to the book of its trace.
-use Rattle.std.proofs.Common.{arith, subst, ◌≡◌, ◌≢◌, ◌⊎◌, ℕ, zero, suc, ◌+◌, ◌^◌, ◌<◌, ◌≤◌, ◌==◌, if◌then◌else◌, Bool, true, false, List, [], ◌∷◌, ◌++◌, length, drop, Option, Some, None, slice_get, codes, is_some, unwrap_or, ◌&&◌}
+use Rattle.std.proofs.Common.{arith, subst, ◌≡◌, ◌≢◌, ◌⊎◌, ℕ, zero, suc, ◌+◌, ◌-◌, ◌^◌, ◌<◌, ◌≤◌, ◌==◌, if◌then◌else◌, Bool, true, false, List, [], ◌∷◌, ◌++◌, length, drop, Option, Some, None, slice_get, codes, is_some, unwrap_or, not, ◌&&◌}
 use Rattle.std.specs.List.{AllByRecursion, list_any}
 use Rattle.redis_error.specs.declared.redis_error.RedisError.{RedisError}
 use Rattle.resp_value.specs.declared.value.Value.TheVariants.{Nil}
@@ -346,25 +346,30 @@ TiedLife l created (Ended e) = (l.up ≡ false) × (owed_unstarted l.end ≡ Som
 -- a link has ended, in a turn that has begun: where it was not set up, its opening failed, or everything was shut down; and where it was,
 -- it took requests when a fault ended it, or everything was shut down
 pub record IsOver (end : Option End) (turns : ℕ) (shut opened : Bool) : Type 0 where
-  pub past : (x : End) → end ≡ Some x → x.turn < turns
+  pub past : (x : End) → end ≡ Some x → x.turn ≤ turns - 1
   pub failed : opened ≡ false → shut ≡ false → failure_in end ≢ None
   pub unfailed : opened ≡ true → failure_in end ≡ None
   pub lost : opened ≡ true → shut ≡ false → (x : End) → end ≡ Some x → (is_fault x.why && x.served) ≡ true
 
--- so far a connection has come whose link is the last of so many that were asked for; it has no link only where the session comes back:
--- then the next one is to be asked for, whose server is told what all are. Whether another attempt follows where its opening fails, and
--- whether it was set up, is the same for the link and the connection
-abbrev pub HasCourse : Bool → Option End → ℕ → ℕ → ℕ → Bool → Bool → Bool → Bool → RedisConnectionInfo → RedisConnectionInfo → Life → Type 0
-HasCourse is_last end links link turns shut comes last opened info address Resting = (links ≡ link) × (opened ≡ false) × (comes ≡ true) × (info ≡ address)
-HasCourse is_last end links link turns shut comes last opened info address Dialing = (links ≡ link + 1) × (opened ≡ false) × (is_last ≡ last) × (info ≡ address)
-HasCourse is_last end links link turns shut comes last opened info address (Wanting state) = (links ≡ link + 1) × (opened ≡ false) × (is_last ≡ last)
-HasCourse is_last end links link turns shut comes last opened info address (SettingUp state greeting) = (links ≡ link + 1) × (opened ≡ false) × (is_last ≡ last)
-HasCourse is_last end links link turns shut comes last opened info address (Ready state) = (links ≡ link + 1) × (opened ≡ true) × (is_last ≡ last)
-HasCourse is_last end links link turns shut comes last opened info address (Ended e) = (links ≡ link + 1) × IsOver end turns shut opened
+-- a generation began, or there are none
+abbrev pub is_begun : Option Generations → Bool
+is_begun None = true
+is_begun (Some g) = not (g.number == 0)
+
+-- so far a connection has come whose link is the last of so many that were asked for, in a generation, where there are any; it has no
+-- link only where the session comes back: then the next one is to be asked for, whose server is told what all are. Whether another
+-- attempt follows where its opening fails, and whether it was set up, is the same for the link and the connection
+abbrev pub HasCourse : Bool → Option End → ℕ → ℕ → ℕ → Bool → Option Generations → Bool → Bool → RedisConnectionInfo → RedisConnectionInfo → Life → Type 0
+HasCourse is_last end links link turns shut manager last opened info address Resting = (links ≡ link) × (is_some manager ≡ true) × (opened ≡ false) × (info ≡ address)
+HasCourse is_last end links link turns shut manager last opened info address Dialing = (links ≡ link + 1) × (is_begun manager ≡ true) × (opened ≡ false) × (is_last ≡ last) × (info ≡ address)
+HasCourse is_last end links link turns shut manager last opened info address (Wanting state) = (links ≡ link + 1) × (is_begun manager ≡ true) × (opened ≡ false) × (is_last ≡ last)
+HasCourse is_last end links link turns shut manager last opened info address (SettingUp state greeting) = (links ≡ link + 1) × (is_begun manager ≡ true) × (opened ≡ false) × (is_last ≡ last)
+HasCourse is_last end links link turns shut manager last opened info address (Ready state) = (links ≡ link + 1) × (is_begun manager ≡ true) × (opened ≡ true) × (is_last ≡ last)
+HasCourse is_last end links link turns shut manager last opened info address (Ended e) = (links ≡ link + 1) × (is_begun manager ≡ true) × IsOver end turns shut opened
 
 -- of a session, by whether the ledger of its link says that no other attempt follows, and by its end
 abbrev pub TiedCourse : Bool → Option End → Inner → Type 0
-TiedCourse is_last end t = HasCourse is_last end t.links t.link t.turns t.shut (is_some t.manager) t.last t.opened t.info t.address t.life
+TiedCourse is_last end t = HasCourse is_last end t.links t.link t.turns t.shut t.manager t.last t.opened t.info t.address t.life
 
 -- none of these errors is a cause for the next generation, where the opening of a link has not failed
 abbrev pub AreCalm : List RedisError → Type 0
