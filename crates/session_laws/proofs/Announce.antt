@@ -28,10 +28,11 @@ use Rattle.shared_session.specs.declared.core_state.Core.{Core}
 use Rattle.shared_session.specs.Turn.{is_shutdown, shut_by, exceeds_offer, is_bad}
 use Rattle.legal_trace.specs.Ledger.{Ledger, Start, setup_count, authorized_by, with_news, awaits_credentials, hears, noted, is_over, bytes_came, dials, refused_in, Heard, is_renewal_open, lost_by, may_renew, renewed_by, unrenewed_by, is_repeating, unrepeated_by}
 use Rattle.legal_trace.specs.Story.{Story, fires}
-use Rattle.legal_trace.specs.Book.{Book, book, entered, is_clock_of, hearing_in, rest_after, timeout_after, kind_in}
+use Rattle.legal_trace.specs.Book.{Book, book, entered, is_clock_of, hearing_in, rest_after, timeout_after, kind_in, has_generations}
 use Rattle.legal_trace.specs.Events.{is_bad_event}
 use Rattle.legal_trace.specs.Legal.{MayTurn}
-use Rattle.session_laws.proofs.Tied.{TiedCreation, AreAimed, AreUses, IsAim, owners_of, owners_each, setup_owners, Inner, inner, link_in, carried, whole_link, AreAside, TiedCreds, TiedLife, TiedSetup, TiedTries, TiedLines, AreQueued, TiedWaits, Tied, Sound, has_ended, TiedNotices, TiedRenewal, HasGreetedAlone, is_reading, IsUse, AreUnrepeated}
+use Rattle.mux_conn.specs.Connection.{is_ready}
+use Rattle.session_laws.proofs.Tied.{TiedCreation, AreAimed, AreUses, IsAim, owners_of, owners_each, setup_owners, Inner, inner, link_in, carried, whole_link, AreAside, TiedCreds, TiedLife, TiedSetup, TiedTries, TiedLines, AreQueued, TiedWaits, Tied, Sound, has_ended, TiedNotices, TiedRenewal, HasGreetedAlone, is_reading, IsUse, TiedRounds, AreUnrepeated}
 use Rattle.session_laws.proofs.Unrepeated.{unrepeated_hears}
 use Rattle.session_laws.proofs.States.{Between}
 use Rattle.session_laws.proofs.Entered.{book_more, sound_more}
@@ -347,6 +348,7 @@ pub record ComesAs (b : Book) (c : Core) (l : Ledger) (created : ℕ) (info : Re
   pub lines : TiedLines b.story c.single.connection.requests (link_in life) c.single.connection.waiting c.single.connection.admitted pending started
   pub told : has_ended life ≡ false → AreQueued b.story c.single.connection.requests c.single.link (link_in life)
   pub waits : TiedWaits b.story c.single.connection.requests life fresh c.single.connection.moved
+  pub rounds : TiedRounds (has_generations b) b.story c.single.connection.requests (is_ready life) fresh c.single.connection.rounds
   pub notices : TiedNotices (hearing_in b.config) c.single.connection.hears l.hearing l.notices l.told l.end l.parted l.strange (is_reading l) untold false
 
 -- where its new credentials are as they were
@@ -417,6 +419,7 @@ heard_tied_as b c started word created halted told kind info renewal life fresh 
       told = k.told;
       waits = k.waits;
       permits = h.permits;
+      rounds = k.rounds;
       late = λ p o late. absurd (h.late p o late);
     })
 

@@ -29,6 +29,7 @@ use Rattle.legal_trace.specs.Story.{Story}
 use Rattle.legal_trace.specs.Book.{Book, book, entered}
 use Rattle.legal_trace.specs.Owed.{owed, owed_by, owed_unstarted}
 use Rattle.legal_trace.specs.Legal.{MayClose, MayPart}
+use Rattle.session_laws.proofs.Rounded.{rounds_down}
 use Rattle.session_laws.proofs.Numbers.{IsIn, in_left, in_right, Rising, rising_in, rising_within, rising_right, rising_tail, requests_in, requests_in-append, all_requests}
 use Rattle.session_laws.proofs.Tied.{TiedCreation, Inner, no_link, link_in, owner_of, queue_ids, waiting_ids, IsKept, TiedLines, TiedWaits, Tied, relined, FailureIsShown, TiedLife, has_ended}
 use Rattle.session_laws.proofs.Unrepeated.{unrepeated_lined}
@@ -150,6 +151,7 @@ close_tied b t created halted told why e parting pending ids must is shown mild 
       told = λ n. cc;
       waits = ended_waits b.story t.requests t.life e t.fresh t.moved h.waits;
       permits = h.permits;
+      rounds = rounds_down b.story t.requests t.fresh t.fresh refl h.rounds;
       late = λ p o late. absurd (h.late p o late);
     })
 
@@ -245,7 +247,7 @@ waiting_lines story requests link waiting admitted started h =
 -- the session is tied with them to be answered
 waiting_tied : (b : Book) (t : Inner) → Tied b (record t { pending = [] }) → Tied b (record t { waiting = []; admitted = []; pending = all_kept t.admitted t.waiting })
 waiting_tied b t h =
-    relined b (record t { pending = [] }) [] [] t.fresh t.moved (all_kept t.admitted t.waiting) h (waiting_lines b.story t.requests (link_in t.life) t.waiting t.admitted t.started h.lines) h.waits (λ p o late. absurd (h.late p o late))
+    relined b (record t { pending = [] }) [] [] t.fresh t.moved (all_kept t.admitted t.waiting) h (waiting_lines b.story t.requests (link_in t.life) t.waiting t.admitted t.started h.lines) h.waits h.rounds (λ p o late. absurd (h.late p o late))
 
 -- and they are in line
 waiting_in_line : (requests : List Request) (life : Life) (admitted waiting : List Waiting) (e : RedisError) → life ≡ Ended e → IsInLine requests (link_in life) admitted waiting [] → IsInLine requests (link_in life) [] [] (all_kept admitted waiting)

@@ -32,11 +32,12 @@ use Rattle.mux_conn.specs.declared.request.Waiting.{Waiting}
 use Rattle.shared_session.specs.declared.core_state.Core.{Core}
 use Rattle.shared_session.specs.Turn.{with_work, is_bad}
 use Rattle.legal_trace.specs.Ledger.{Ledger, Heard, ending, ending_unready, ending_up, is_ready as is_ready_link, lacks_credentials, setup_after, setup_count, setup_steps, Sourced, noted, noted_each, sources, source_due, Start}
-use Rattle.legal_trace.specs.Book.{Book, blank_book, book, entered, use_for, if_mine, hearing_in}
+use Rattle.legal_trace.specs.Book.{Book, blank_book, book, entered, use_for, if_mine, hearing_in, has_generations}
 use Rattle.legal_trace.specs.Story.{Story}
 use Rattle.legal_trace.specs.Legal.{AllStand, MayBeCreated, MayNeed}
 use Rattle.legal_trace.proofs.Setups.{ends_where_set, silent_is_set, silent_is_greeted}
-use Rattle.session_laws.proofs.Tied.{shown_creation, Sound, TiedCreation, never_rests, AreSetups, AreQueued, HasCredentials, IsEntry, IsQueued, IsSettingUp, IsSetupDue, IsSetUp, Inner, Tied, TiedLines, TiedNotices, TiedWaits, has_ended, inner, link_in, no_link, owner_of, queue_ids, shown_wait, waiting_ids, AreSought, AreUses, HasSaid, is_reading, AreSetupsAlone, IsWatching, greeting_at, owners_of, setup_owners, watch_queued}
+use Rattle.session_laws.proofs.Rounded.{rounds_down, rounds_new, unbegun_waits}
+use Rattle.session_laws.proofs.Tied.{shown_creation, Sound, TiedCreation, never_rests, AreSetups, AreQueued, HasCredentials, IsEntry, IsQueued, IsSettingUp, IsSetupDue, IsSetUp, Inner, Tied, TiedLines, TiedNotices, TiedWaits, has_ended, inner, link_in, no_link, owner_of, queue_ids, shown_wait, waiting_ids, AreSought, AreUses, HasSaid, is_reading, AreSetupsAlone, IsWatching, greeting_at, owners_of, setup_owners, watch_queued, TiedRounds}
 use Rattle.session_laws.proofs.Unrepeated.{unrepeated_lined}
 use Rattle.session_laws.proofs.States.{Between, HasApplied, IsFit, IsFitIn}
 use Rattle.session_laws.proofs.Creds.{has_credentials, IsOfRenewals, down_sourced}
@@ -81,6 +82,11 @@ bare_waits b t p h none nobody e w =
       | inl i ↦ absurd (subst (λ (x : LinkState). IsIn p ([] ++ (requests_in (wanted x.row) ++ awaited_ids x.queue))) e (subst (λ ns. IsIn p (ns ++ (requests_in (wanted (link_in t.life).row) ++ awaited_ids (link_in t.life).queue))) none i))
       | inr k ↦ elim k [ inl a ↦ absurd (subst (λ ws. IsIn p (waiting_ids ws)) nobody a.1) | inr x ↦ x.1 ]
     ]
+
+-- so all whose rounds have not begun come anew
+anew_rounds : {ready : Bool} (b : Book) (t : Inner) → Tied b t → t.pending ≡ [] → t.admitted ≡ [] → link_in t.life ≡ no_link → TiedRounds (has_generations b) b.story t.requests ready (numbers_of t.waiting) t.rounds
+anew_rounds b t h none nobody bare = rounds_new b.story t.requests t.fresh (numbers_of t.waiting)
+    (λ p shows up u. subst (IsIn p) (sym (numbers_is t.waiting)) (bare_waits b t p h none nobody bare (unbegun_waits t.requests p u))) h.rounds
 
 -- those that wait, in line
 fresh_rises : (b : Book) (t : Inner) → Tied b t → Rising 0 (numbers_of t.waiting) (length t.requests)
@@ -211,6 +217,7 @@ readied_comes b c started n info link untold more created some_created h0 fit no
         over_is = none.over_is;
         came = none.came;
         waits = none.waits;
+        rounds = anew_rounds b (inner c started) h0 refl nobody early.bare;
         untimed = none.untimed;
         unstarted = none.unstarted;
         unasked = none.unasked;
@@ -539,6 +546,7 @@ comes_to_say before c started word kind n info link h good k is other early u ha
       lines = subst (λ (x : LinkState). TiedLines b.story conn.requests x conn.waiting conn.admitted [] started) early.bare h0.lines;
       told = λ z. subst (λ (x : LinkState). AreQueued b.story conn.requests c.single.link x) early.bare (h0.told early.alive);
       waits = fresh_waits b (inner c started) conn.life life h0 refl nobody h.fresh refl early.bare early.unready early.alive early.other refl;
+      rounds = rounds_down b.story conn.requests conn.fresh (numbers_of conn.waiting) refl h0.rounds;
       notices = notices;
     })
     (ending_setting l next greet.WithUser u.up said ∙ calm)
@@ -619,6 +627,7 @@ comes_to_watch before c started word kind n info link h good k is other early u 
       lines = subst (λ (x : LinkState). TiedLines b.story conn.requests x conn.waiting conn.admitted [] started) early.bare h0.lines;
       told = λ z. subst (λ (x : LinkState). AreQueued b.story conn.requests c.single.link x) early.bare (h0.told early.alive);
       waits = none_wait b.story conn.requests conn.life next greet.Monitor conn.fresh conn.moved (none_asked b (inner c started) h0 watches) h0.waits;
+      rounds = rounds_down b.story conn.requests conn.fresh conn.fresh refl h0.rounds;
       notices = notices;
     })
     (ending_setting l next greet.Monitor u.up said ∙ calm)

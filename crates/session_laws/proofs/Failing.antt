@@ -24,6 +24,7 @@ use Rattle.legal_trace.specs.Story.{Story, bytes_of, is_open, last_of}
 use Rattle.legal_trace.specs.Book.{Book, blank_book, book, entered, if_mine, hearing_in}
 use Rattle.legal_trace.specs.Owed.{owed_by, owed_to_try, owed_unstarted, owed_waiting}
 use Rattle.legal_trace.specs.Legal.{AllStand, FailuresAreShown, MayClose, MayFail, NoneEnds, ReadyIsShown, VerdictsAreShown}
+use Rattle.session_laws.proofs.Rounded.{rounds_down}
 use Rattle.session_laws.proofs.Numbers.{IsIn}
 use Rattle.session_laws.proofs.Tied.{shown_creation, AreSetups, inner, link_in, no_link, TiedLines, Tied, has_ended}
 use Rattle.session_laws.proofs.Unrepeated.{unrepeated_lined}
@@ -181,6 +182,7 @@ setup_fails before c started word kind n x h good k is u fails =
       lines = subst (λ (y : LinkState). TiedLines b.story conn.requests y conn.waiting conn.admitted [] started) u.bare h0.lines;
       told = λ z. cc;
       waits = ended_waits b.story conn.requests conn.life x conn.fresh conn.moved h0.waits;
+      rounds = rounds_down b.story conn.requests conn.fresh conn.fresh refl h0.rounds;
       notices = record {
         heard_is = fails.notices.heard_is;
         hearing_is = fails.notices.hearing_is;

@@ -39,7 +39,7 @@ use Rattle.legal_trace.specs.Events.{is_bad_event}
 use Rattle.legal_trace.specs.Legal.{Legal, causes, event_causes}
 use Rattle.session_laws.proofs.Announce.{same_badness}
 use Rattle.session_laws.proofs.Effects.{effect_holds}
-use Rattle.session_laws.proofs.Opening.{opening_between}
+use Rattle.session_laws.proofs.Opening.{opening_between, opening_unasked}
 use Rattle.session_laws.proofs.Outcomes.{last_told}
 use Rattle.session_laws.proofs.Settled.{IsBetween, moved_on_between}
 use Rattle.session_laws.proofs.States.{trace_with}
@@ -140,7 +140,7 @@ room_on c (e ∷ es) room unspent = room_on (next_turn c e.kind).core es (room_n
 -- from the opening on
 pub room_behind : (config : Config) (word : ℕ) (events : List Event) → AreUnspent config word events → length (state_after config word events).table < 2 ^ 32
 unfolding state_after AreUnspent
-room_behind config word events unspent = room_on (opening_core config word) events (omega arith) unspent
+room_behind config word events unspent = room_on (opening_core config word) events (let none = (opening_unasked config word).submitted in omega arith) unspent
 
 -- each turn leads on
 turns_between : (before : List Action) (c : Core) (es : List Event) → is_some c.manager ≡ false → IsBetween before c → AreGoodOn c es → AreUnspentOn c es → length c.table < 2 ^ 32 → IsBetween (before ++ turns_on c es) (run_on c es)
@@ -152,7 +152,7 @@ turns_between before c (e ∷ es) plain h good unspent room =
 -- the session after a history, and its trace
 pub replay_between : (config : Config) (word : ℕ) (events : List Event) → manager_of config ≡ None → IsSound config → AreGood config word events → AreUnspent config word events → IsBetween (trace_of config word events) (state_after config word events)
 unfolding trace_of state_after AreGood AreUnspent
-replay_between config word events none sound good unspent = turns_between (opening_actions config word) (opening_core config word) events (plain_after config word [] none) (opening_between config word none sound) good unspent (omega arith)
+replay_between config word events none sound good unspent = turns_between (opening_actions config word) (opening_core config word) events (plain_after config word [] none) (opening_between config word none sound) good unspent (let empty = (opening_unasked config word).submitted in omega arith)
 
 -- the causes of its turns
 --

@@ -51,10 +51,12 @@ pub mod Read
 pub mod Cancel
 pub mod Late
 pub mod Further
+pub mod Rounded
 pub mod Submit
 pub mod Asked
 pub mod Effects
 pub mod Renews
+pub mod Rounds
 pub mod Passes
 pub mod Moved
 pub mod Write

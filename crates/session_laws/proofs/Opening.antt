@@ -19,7 +19,7 @@ use Rattle.driver_model.specs.declared.action.Purpose.TheVariants as purpose
 use Rattle.link_laws.proofs.TiedLink.{asked_tied, fresh_tied}
 use Rattle.mux_conn.specs.Turn.{dialing}
 use Rattle.mux_conn.specs.declared.life.Life.TheVariants.{Dialing}
-use Rattle.shared_session.specs.Replay.{IsSound, begun_as, connect_asked, connect_timers, first_link, opening_core, opening_actions, single_core, timer_asked}
+use Rattle.shared_session.specs.Replay.{IsSound, begun_as, connect_asked, connect_timers, first_link, opening_core, opening_actions, single_core, timer_asked, as_managed}
 use Rattle.shared_session.proofs.Plain.{plain_opening}
 use Rattle.shared_session.specs.declared.core_state.Core.{Core}
 use Rattle.legal_trace.specs.Book.{Book, blank_book, book, entered, has_generations}
@@ -225,6 +225,7 @@ opening_tied config word info timeout plain sound some is = record {
   told = λ e. record { told = λ n is none on. cc; here = λ p i. absurd i };
   waits = opening_waits;
   permits = opening_permits (permits config);
+  rounds = record { rounds_is = ap is_some (no_settings (Some config)); unbegun = λ p u. cc u; begun = λ p r o u. cc o; new = λ p r up u. cc u };
   late = λ p o e. cc;
 }
 
@@ -331,10 +332,10 @@ opened_between config word info timeout none sound at some is =
     let t = inner c [] in
     let tied = opening_tied config word info timeout none sound some is in
     let fit : IsFitIn conn = record { wanting = λ link e. cc; setup = λ link u e. cc; link = λ link e. cc; none = λ no. refl; lasts = λ u a. refl } in
-    let still : IsStill conn = record { setup = λ link u e. cc; held = λ link e. cc; full = λ link e. cc; waiting = λ link e. cc; none_waits = λ e. refl; renewed = λ link e. cc } in
-    let moved = is_moved b t tied refl (refl, refl) refl (opening_ends config word info timers) fit.link fit.none still.held still.full still.waiting still.none_waits fit.setup still.setup (λ p i. absurd i) still.renewed in
+    let still : IsStill conn = record { setup = λ link u e. cc; held = λ link e. cc; full = λ link e. cc; waiting = λ link e. cc; begun = λ shows up. cc; none_waits = λ e. refl; renewed = λ link e. cc } in
+    let moved = is_moved b t tied refl (refl, refl) refl (opening_ends config word info timers) fit.link fit.none still.held still.full still.waiting still.none_waits fit.setup still.setup (λ p i. absurd i) still.renewed still.begun in
     let written = is_written b t tied moved refl in
-    let quiet : IsQuiet t = record { seats = λ p i. absurd i; settled = refl; alone = refl; fit = fit.link; none = fit.none; held = still.held; full = still.full; waiting = still.waiting; gone = still.none_waits; setup_fit = fit.setup; setup_held = still.setup } in
+    let quiet : IsQuiet t = record { seats = λ p i. absurd i; settled = refl; alone = refl; fit = fit.link; none = fit.none; held = still.held; full = still.full; waiting = still.waiting; begun = still.begun; gone = still.none_waits; setup_fit = fit.setup; setup_held = still.setup } in
     let book_is = sym (opening_book config word info timeout) in
     record {
       started = [];
@@ -348,6 +349,20 @@ opened_between config word info timeout none sound at some is =
         still = still;
       };
     }
+
+-- nothing was submitted to what has just opened, and no new credentials were to be told
+pub record IsUnasked (c : Core) : Type 0 where
+  pub submitted : length c.table ≡ 0
+  pub told : c.single.connection.renewal.asked ≡ 0
+
+managed_unasked : (m : Option ConnectionManagerConfig) (at : Option ConnectionInfo) (lazy : Bool) (config : Config) → IsUnasked (as_managed m at lazy (single_core config))
+managed_unasked None at lazy config = record { submitted = refl; told = refl }
+managed_unasked (Some settings) None lazy config = record { submitted = refl; told = refl }
+managed_unasked (Some settings) (Some info) false config = record { submitted = refl; told = refl }
+managed_unasked (Some settings) (Some info) true config = record { submitted = refl; told = refl }
+
+pub opening_unasked : (config : Config) (word : ℕ) → IsUnasked (opening_core config word)
+opening_unasked config word = managed_unasked (manager_of config) (address config) (waits_for_use config) config
 
 -- and after that of a sound configuration of what doesn't come back
 pub opening_between : (config : Config) (word : ℕ) → manager_of config ≡ None → IsSound config → IsBetween (opening_actions config word) (opening_core config word)

@@ -144,6 +144,7 @@ time_tied b t link number ms none due within h =
       told = h.told;
       waits = h.waits;
       permits = h.permits;
+      rounds = h.rounds;
       late = h.late;
     })
 
@@ -288,6 +289,7 @@ auth_tied b t link c cs due pending waits h =
       told = λ e. h.told refl;
       waits = queue_waits b.story t.requests link (begun link q) t.fresh t.moved (λ p i. i) h.waits;
       permits = h.permits;
+      rounds = h.rounds;
       late = h.late;
     })
 
@@ -345,7 +347,7 @@ asked_told before f w started link life holds ended fit moved due =
         let tied = subst (λ (x : Life). Tied (entered b (action.Timer number ms what)) (record t { life = x; timers = t.timers ++ what ∷ []; renewal = asked_next r })) (sym life) (time_tied b t link number ms n due e was) in
         record {
           life = life;
-          holds = sound_act before f w.acts a (record w.conn { renewal = asked_next r }) [] started holds.stands (inr (inr may)) tied;
+          holds = sound_act before f w.acts a (record w.conn { renewal = asked_next r }) [] started holds.stands (inr (inr (inl may))) tied;
           ended = subst NoneEnds (sym (book_of_more before f w.acts a)) (none_ends_kept b f.single.link times (λ l x. x) ended);
           fit = fit;
           moved = moved;

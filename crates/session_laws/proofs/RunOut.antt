@@ -20,6 +20,7 @@ use Rattle.legal_trace.specs.Book.{Book, book}
 use Rattle.legal_trace.specs.Events.{HasRunOut}
 use Rattle.shared_session.proofs.Replays.{state_after-more, trace_of-more, turns_after}
 use Rattle.session_laws.proofs.Legality.{replay_between, turn_between, room_behind}
+use Rattle.session_laws.proofs.Opening.{opening_unasked}
 use Rattle.session_laws.proofs.Tied.{Inner, Tied, TiedLife, carried, has_ended, inner, whole_link, AreRenewed, NoneRenewed, TiedRenewal}
 use Rattle.driver_model.specs.declared.action.Action.{Action}
 use Rattle.session_laws.proofs.Grown.{HasGrown, turn_grown}
@@ -230,7 +231,7 @@ asked_on c (e ∷ es) few unspent = asked_on (next_turn c e.kind).core es (asked
 -- from the opening on
 asked_behind : (config : Config) (word : ℕ) (events : List Event) → AreUnspent config word events → (state_after config word events).single.connection.renewal.asked < 2 ^ 32
 unfolding state_after AreUnspent
-asked_behind config word events unspent = asked_on (opening_core config word) events (omega arith) unspent
+asked_behind config word events unspent = asked_on (opening_core config word) events (let none = (opening_unasked config word).told in omega arith) unspent
 
 -- so where they have, they have in its book
 last_asked : (b : Book) (t : Inner) (n : ℕ) (conn : MultiplexedConnection) → t.life ≡ conn.life → t.renewal ≡ conn.renewal → Tied b t → n < 2 ^ 32 → HasGrown n conn → 2 ^ 32 ≤ t.renewal.asked → 2 ^ 32 ≤ renewals_asked (b.link t.link)

@@ -224,6 +224,7 @@ set_up_tied b t link greeting due user h =
       told = h.told;
       waits = setting_waits b.story t.requests (with_queue link (q ∷ [])) (with_queue (begun link q) []) greeting greeting t.fresh t.moved h.waits;
       permits = h.permits;
+      rounds = h.rounds;
       late = h.late;
     })
 

@@ -70,6 +70,7 @@ seen f acts conn pending started = record {
   admitted = conn.admitted;
   fresh = conn.fresh;
   moved = conn.moved;
+  rounds = conn.rounds;
   letting = [];
   pending = pending;
   started = started;
@@ -306,6 +307,7 @@ renewal_tied b t r within wanted waiting tied h = record {
   told = h.told;
   waits = h.waits;
   permits = h.permits;
+  rounds = h.rounds;
   late = h.late;
 }
 

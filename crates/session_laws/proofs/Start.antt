@@ -25,6 +25,7 @@ use Rattle.mux_conn.specs.declared.request.Waiting.{Waiting}
 use Rattle.legal_trace.specs.Book.{Book, entered, if_own, message_of}
 use Rattle.legal_trace.specs.Ledger.{Ledger, Start, begins, is_of_setup, noted, setup_count, is_of_renewal}
 use Rattle.legal_trace.specs.Story.{Story, is_told, shape, shape_in, tried}
+use Rattle.session_laws.proofs.Rounded.{SameRounds, rounds_same}
 use Rattle.session_laws.proofs.Ahead.{queue_within, admitted_open, early_open}
 use Rattle.session_laws.proofs.Behind.{nil_told, open_untold, some_more}
 use Rattle.session_laws.proofs.InLine.{awaited_in, first_is_apart, kept_ids}
@@ -77,6 +78,10 @@ tried_holds m link k story n =
 -- and whether its time is over
 tried_late : (m link k : ℕ) (story : ℕ → Story) (n : ℕ) → (tried_at m link k story n).overdue ≡ (story n).overdue
 tried_late m link k story n = chosen (λ (x : Story). x.overdue ≡ (story n).overdue) (m == n) (tried (story n) link k) (story n) (λ t. refl) (λ f. refl)
+
+-- and its round
+tried_rounds : (m link k : ℕ) (story : ℕ → Story) → SameRounds story (tried_at m link k story)
+tried_rounds m link k story n = chosen (λ (x : Story). x.rounded ≡ (story n).rounded) (m == n) (tried (story n) link k) (story n) (λ t. refl) (λ f. refl)
 
 -- and each outcome
 tried_outcomes : (m link k : ℕ) (story : ℕ → Story) → SameOutcomes story (tried_at m link k story)
@@ -351,5 +356,6 @@ start_tied b t link q qs h =
       told = λ e. told_started b t link q qs t.link link.started (h.told refl);
       waits = waits_started b t link q qs t.link link.started h;
       permits = permits_same b.story (tried_at n t.link link.started b.story) b.submissions t.requests t.link t.limit t.free t.letting (tried_holds n t.link link.started b.story) h.permits;
+      rounds = rounds_same b.story (tried_at n t.link link.started b.story) t.requests t.fresh (tried_rounds n t.link link.started b.story) h.rounds;
       late = λ p o e. h.late p o (sym (tried_late n t.link link.started b.story (name_at t.requests p)) ∙ e);
     })

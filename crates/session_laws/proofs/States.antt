@@ -1,10 +1,13 @@
 -- The session between two turns, and when the event of a turn has had its own effect.
-use Rattle.std.proofs.Common.{◌≡◌, ◌≢◌, ◌⊎◌, ℕ, ◌≤◌, true, false, List, [], ◌++◌, length}
+use Rattle.std.proofs.Common.{Bool, ◌≡◌, ◌≢◌, ◌⊎◌, ℕ, ◌≤◌, true, false, List, [], ◌++◌, length}
 use Rattle.driver_model.specs.declared.action.Action.{Action}
 use Rattle.link_core.specs.Link.{LinkState, is_full_beside, holds_back}
 use Rattle.mux_conn.specs.declared.connection.MultiplexedConnection.{MultiplexedConnection}
 use Rattle.mux_conn.specs.declared.life.Greeting.{Greeting}
+use Rattle.mux_conn.specs.declared.life.Life.{Life}
 use Rattle.mux_conn.specs.declared.life.Life.TheVariants.{Wanting, SettingUp, Ready}
+use Rattle.mux_conn.specs.declared.request.Request.{Request}
+use Rattle.mux_conn.specs.Requests.{is_unbegun_at}
 use Rattle.shared_session.specs.declared.core_state.Core.{Core}
 use Rattle.shared_session.specs.Turn.{Turning, numbered, shown_each}
 use Rattle.mux_conn.specs.Connection.{has_no_permit, in_front, is_due, is_resting}
@@ -30,15 +33,20 @@ pub record IsFitIn (c : MultiplexedConnection) : Type 0 where
   pub link : (link : LinkState) → c.life ≡ Ready link → IsFit c.size c.boundary link
   pub none : ((link : LinkState) → c.life ≡ Ready link → ⊥) → c.admitted ≡ []
 
+-- where rounds are shown, the round of each request that waits on a link that is up and set up has begun
+abbrev pub AreBegun : Bool → Life → List Request → Type 0
+AreBegun rounds life requests = rounds ≡ true → is_ready life ≡ true → (p : ℕ) → is_unbegun_at requests p ≡ false
+
 -- nothing moves: what is in the queue is held back, also a setup; those that wait for a place find the queue full; new
 -- credentials that are to be told have their timer, and wait for their link, which is held back; once the connect is answered,
--- those that wait find no permit free, and on a link that has ended none waits
+-- those that wait find no permit free, and their rounds have begun; and on a link that has ended none waits
 pub record IsStill (c : MultiplexedConnection) : Type 0 where
   pub setup : (link : LinkState) (greeting : Greeting) → c.life ≡ SettingUp link greeting → (link.queue ≡ []) ⊎ (holds_back link ≡ true)
   pub held : (link : LinkState) → c.life ≡ Ready link → (link.queue ≡ []) ⊎ (holds_back link ≡ true)
   pub full : (link : LinkState) → c.life ≡ Ready link → (c.admitted ≡ []) ⊎ (is_full_beside link (in_front c.renewal) ≡ true)
   pub renewed : (link : LinkState) → c.life ≡ Ready link → is_due c.renewal ≡ true → (c.renewal.pending ≡ true) × (holds_back link ≡ true)
   pub waiting : (link : LinkState) → c.life ≡ Ready link → (c.waiting ≡ []) ⊎ (has_no_permit c.limit c.free ≡ true)
+  pub begun : AreBegun c.rounds c.life c.requests
   pub none_waits : has_ended c.life ≡ true → c.waiting ≡ []
 
 -- between two turns: all is settled, no wait is to be shown, nothing moves, and what was shown of generations is heeded

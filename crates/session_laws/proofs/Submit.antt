@@ -15,7 +15,7 @@ use Rattle.driver_model.specs.News.{silence}
 use Rattle.driver_model.specs.Request.{packed_bytes, has_no_form}
 use Rattle.link_laws.proofs.TiedLink.{told_tied}
 use Rattle.mux_conn.specs.declared.request.Request.{Request}
-use Rattle.mux_conn.specs.Requests.{is_open as is_open_progress, is_waiting, is_admitted, is_placed, if_there}
+use Rattle.mux_conn.specs.Requests.{is_open as is_open_progress, is_waiting, is_admitted, is_placed, if_there, is_unbegun}
 use Rattle.mux_conn.specs.declared.request.Progress.{Progress}
 use Rattle.shared_session.specs.declared.core_state.Core.{Core}
 use Rattle.legal_trace.specs.Ledger.{is_over, next_notice}
@@ -23,6 +23,7 @@ use Rattle.legal_trace.specs.Story.{Story, Try, blank_story, is_open, is_no_erro
 use Rattle.legal_trace.specs.Book.{Book, entered, if_own, is_unspoken, kind_in}
 use Rattle.legal_trace.specs.Owed.{owed, owed_to_try, owed_waiting}
 use Rattle.legal_trace.specs.Legal.{IsOpen, link_of, NoneIsOwed, NoneEnds, MayAnswer, FailuresAreShown}
+use Rattle.session_laws.proofs.Rounded.{rounds_longer}
 use Rattle.session_laws.proofs.Aside.{aside_silent}
 use Rattle.session_laws.proofs.Renewals.{renewal_alike}
 use Rattle.session_laws.proofs.Numbers.{IsIn, in_left, in_right, Rising, rising_in, requests_in, request_in}
@@ -176,6 +177,8 @@ refused_tied b c started word what e h tame form few no_fresh =
       none = λ p e past. elim e [ inl a ↦ past_all is_admitted p a past | inr a ↦ past_all is_placed p a past ];
       free = λ p w past. absurd (past_all is_waiting p w past);
       early = λ p o past. absurd (past_all is_open_progress p o past);
+      unbegun = λ p u past. absurd (past_all is_unbegun p u past);
+      begun = λ p o u past. past_all is_open_progress p o past;
     } in
     record {
       numbers = record {
@@ -233,5 +236,6 @@ refused_tied b c started word what e h tame form few no_fresh =
           (λ p i. at p (in_right p (requests_in started) (queue ++ last) (in_left p queue last (awaited_in p (link_in conn.life).queue i)))) no_fresh
           next h.waits;
       permits = permits_longer c.table b.story after b.submissions conn.requests conn.requests c.single.link conn.limit conn.free conn.fresh h.names same longer h.numbers.submissions (ap (λ (s : Story). s.permits) is) next h.permits;
+      rounds = rounds_longer c.table b.story after conn.requests conn.requests conn.fresh conn.fresh h.names same longer no_fresh next h.rounds;
       late = late_longer c.table b.story after conn.requests conn.requests conn.fresh h.names same longer next h.late;
     }

@@ -35,7 +35,7 @@ use Rattle.mux_conn.specs.declared.life.Greeting.TheVariants as greet
 use Rattle.mux_conn.specs.declared.life.Life.{Life}
 use Rattle.mux_conn.specs.declared.life.Life.TheVariants.{Resting, Dialing, Wanting, SettingUp, Ready, Ended}
 use Rattle.mux_conn.specs.declared.renewal.Renewal.{Renewal}
-use Rattle.mux_conn.specs.Connection.{are_some, is_resting}
+use Rattle.mux_conn.specs.Connection.{are_some, is_ready, is_resting}
 use Rattle.mux_conn.specs.Renewals.{renewal_id}
 use Rattle.mux_conn.specs.declared.request.Pending.{Pending}
 use Rattle.mux_conn.specs.declared.request.Request.{Request}
@@ -47,7 +47,7 @@ use Rattle.shared_session.specs.declared.generations.Generations.{Generations}
 use Rattle.sub_tracker.specs.Subscribed.{Request as Call}
 use Rattle.legal_trace.specs.Ledger.{Ledger, Heard, Sourced, Start, End, blank_ledger, cut, failure_in, is_cut, is_done, is_fault, is_full, is_greeted, is_of_renewal, is_over, is_set_up, is_taken, last_renewal, monitor_of, next_notice, renewal_count, renewals_asked, setup_count, setup_steps, setup_after}
 use Rattle.legal_trace.specs.Story.{Story, blank_story, is_open, is_told, bytes_of, shape, is_awaited}
-use Rattle.legal_trace.specs.Book.{Book, blank_book, book, hearing_in, info_in, kind_in, wanted_in}
+use Rattle.legal_trace.specs.Book.{Book, blank_book, book, has_generations, hearing_in, info_in, kind_in, wanted_in}
 use Rattle.legal_trace.specs.Managers.{is_lazy, settings_in}
 use Rattle.legal_trace.specs.Steps.{configured, queue_size, permits_in, permits_held, is_let_in}
 use Rattle.legal_trace.specs.Legal.{AllStand, IsTimed, answer_time, is_attempt, is_cause}
@@ -64,7 +64,7 @@ use Rattle.driver_model.specs.News.{News, came}
 -- each new link, and its credentials that come of sources; its connection's life, whether no other attempt follows where its opening
 -- fails, whether it was told that it is ready, or that its opening failed, and whether its link was set up; its requests,
 -- those that wait for the connection, those that wait for a place, those that came in this turn and those that were moved in it,
--- whose waits aren't shown yet; the one that is being let in; the requests that are settled and not answered yet; and the numbers
+-- whose waits aren't shown yet; whether rounds are shown; the one that is being let in; the requests that are settled and not answered yet; and the numbers
 -- of the messages that started behind the setups, in order: a request's, or AUTH's
 pub record Inner : Type 0 where
   pub manager : Option Generations
@@ -96,6 +96,7 @@ pub record Inner : Type 0 where
   pub admitted : List Waiting
   pub fresh : List ℕ
   pub moved : List ℕ
+  pub rounds : Bool
   pub letting : List ℕ
   pub pending : List ℕ
   pub started : List ℕ
@@ -739,6 +740,14 @@ pub record TiedPermits (story : ℕ → Story) (submissions : ℕ) (requests : L
   pub none : (p : ℕ) → is_waiting_at requests p ≡ true → (IsIn p letting → ⊥) → (permits_at requests p ≡ 0) × ((story (name_at requests p)).clock ≡ None)
   pub let_in : (p : ℕ) → (is_admitted_at requests p ≡ true) ⊎ (is_placed_at requests p ≡ true) → is_let_in limit (story (name_at requests p)) ≡ true
 
+-- rounds are shown where the session has generations. Of who waits and whose round has not begun none was shown, and of any other
+-- request that is open it was, where they are shown; and then, where the link is up and set up, who waits so came in this turn
+pub record TiedRounds (comes : Bool) (story : ℕ → Story) (requests : List Request) (ready : Bool) (fresh : List ℕ) (rounds : Bool) : Type 0 where
+  pub rounds_is : comes ≡ rounds
+  pub unbegun : (p : ℕ) → is_unbegun_at requests p ≡ true → (story (name_at requests p)).rounded ≡ false
+  pub begun : (p : ℕ) → rounds ≡ true → is_open_at requests p ≡ true → is_unbegun_at requests p ≡ false → (story (name_at requests p)).rounded ≡ true
+  pub new : (p : ℕ) → rounds ≡ true → ready ≡ true → is_unbegun_at requests p ≡ true → IsIn p fresh
+
 -- an open submission whose time is over is to be answered
 abbrev pub AreLate : (ℕ → Story) → List Request → List ℕ → Type 0
 AreLate story requests pending = (p : ℕ) → is_open_at requests p ≡ true → (story (name_at requests p)).overdue ≡ true → IsIn p pending
@@ -764,6 +773,7 @@ pub record Tied (b : Book) (t : Inner) : Type 0 where
   pub told : has_ended t.life ≡ false → AreQueued b.story t.requests t.link (link_in t.life)
   pub waits : TiedWaits b.story t.requests t.life t.fresh t.moved
   pub permits : TiedPermits b.story b.submissions t.requests t.link t.limit t.free t.letting
+  pub rounds : TiedRounds (has_generations b) b.story t.requests (is_ready t.life) t.fresh t.rounds
   pub late : AreLate b.story t.requests t.pending
 
 -- the opening of the connection's link has failed in the turn that runs, and another attempt follows: the connection has no link any more
@@ -797,6 +807,7 @@ pub record IsRetiring (b : Book) (t : Inner) : Type 0 where
   pub fresh : t.fresh ≡ waiting_ids t.waiting
   pub free : t.free ≡ unwrap_or t.limit 0
   pub letting : t.letting ≡ []
+  pub rounds_is : has_generations b ≡ t.rounds
   pub waiting : (p : ℕ) → is_open_at t.requests p ≡ true → is_unbegun_at t.requests p ≡ true
   pub holds : (p : ℕ) → is_open_at t.requests p ≡ true → (permits_at t.requests p ≡ 0) × ((b.story (name_at t.requests p)).clock ≡ None)
   pub late : AreLate b.story t.requests []
@@ -842,6 +853,7 @@ inner c started = record {
   admitted = c.single.connection.admitted;
   fresh = c.single.connection.fresh;
   moved = c.single.connection.moved;
+  rounds = c.single.connection.rounds;
   letting = [];
   pending = [];
   started = started;
@@ -878,9 +890,10 @@ numbers_kept b link story tracked errors t life free requests waiting admitted f
 -- and those that are to be answered: the session stays tied where its lines and its waits are, and who is late is to be
 -- answered
 pub relined : (b : Book) (t : Inner) (waiting admitted : List Waiting) (fresh moved pending : List ℕ) → Tied b t
-    → TiedLines b.story t.requests (link_in t.life) waiting admitted pending t.started → TiedWaits b.story t.requests t.life fresh moved → AreLate b.story t.requests pending
+    → TiedLines b.story t.requests (link_in t.life) waiting admitted pending t.started → TiedWaits b.story t.requests t.life fresh moved
+    → TiedRounds (has_generations b) b.story t.requests (is_ready t.life) fresh t.rounds → AreLate b.story t.requests pending
     → Tied b (record t { waiting = waiting; admitted = admitted; fresh = fresh; moved = moved; pending = pending })
-relined b t waiting admitted fresh moved pending h lines waits late = record {
+relined b t waiting admitted fresh moved pending h lines waits rounds late = record {
   numbers = numbers_kept b b.link b.story b.tracked b.errors t t.life t.free t.requests waiting admitted fresh moved t.letting pending t.started h.numbers.unrepeated h.numbers;
   others = h.others;
   notices = h.notices;
@@ -900,5 +913,6 @@ relined b t waiting admitted fresh moved pending h lines waits late = record {
   told = h.told;
   waits = waits;
   permits = h.permits;
+  rounds = rounds;
   late = late;
 }

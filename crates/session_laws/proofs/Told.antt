@@ -91,6 +91,7 @@ line_tied b t line told parted untold parting is pushed h =
       told = h.told;
       waits = h.waits;
       permits = h.permits;
+      rounds = h.rounds;
       late = h.late;
     })
 

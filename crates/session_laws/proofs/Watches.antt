@@ -147,6 +147,7 @@ watch_tied b t link due h =
       told = h.told;
       waits = setting_waits b.story t.requests (queued link) (watched link) greet.Monitor greet.Monitor t.fresh t.moved h.waits;
       permits = h.permits;
+      rounds = h.rounds;
       late = h.late;
     })
 
