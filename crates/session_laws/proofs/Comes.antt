@@ -18,6 +18,7 @@ use Rattle.legal_trace.specs.Legal.{begins_first, current_link, generation_due, 
 use Rattle.legal_trace.specs.Managers.{is_lazy, settings_in}
 use Rattle.legal_trace.specs.Owed.{owed_by, owed_unstarted}
 use Rattle.legal_trace.specs.Story.{Story, is_open, waits}
+use Rattle.session_laws.proofs.Owes.{is_asked, lives}
 use Rattle.session_laws.proofs.Tied.{AreCalm, HasCourse, Inner, Tied, TiedCourse, TiedLife, TiedManager, has_ended, is_begun}
 
 -- no generation begins, and no link is asked for
@@ -43,7 +44,7 @@ both_false true false z e = refl
 both_false false y z e = refl
 
 -- a link was asked for of a generation, where there are any
-has_begun : (life : Life) (is_last : Bool) (end : Option End) (t : Inner) → is_resting life ≡ false → HasCourse is_last end t.links t.link t.turns t.shut t.manager t.last t.opened t.info t.address life → is_begun t.manager ≡ true
+has_begun : (life : Life) (is_last : Bool) (end : Option End) (t : Inner) → is_resting life ≡ false → HasCourse is_last end t.links t.link t.shut t.manager t.last t.opened t.info t.address life → is_begun t.manager ≡ true
 has_begun Resting is_last end t there h = cc
 has_begun Dialing is_last end t there h = h.1
 has_begun (Wanting link) is_last end t there h = h.1
@@ -52,31 +53,13 @@ has_begun (Ready link) is_last end t there h = h.1
 has_begun (Ended e) is_last end t there h = h.1
 
 -- and is the last of all
-pub has_links : (life : Life) (is_last : Bool) (end : Option End) (t : Inner) → is_resting life ≡ false → HasCourse is_last end t.links t.link t.turns t.shut t.manager t.last t.opened t.info t.address life → t.links ≡ t.link + 1
+pub has_links : (life : Life) (is_last : Bool) (end : Option End) (t : Inner) → is_resting life ≡ false → HasCourse is_last end t.links t.link t.shut t.manager t.last t.opened t.info t.address life → t.links ≡ t.link + 1
 has_links Resting is_last end t there h = cc
 has_links Dialing is_last end t there h = h.0
 has_links (Wanting link) is_last end t there h = h.0
 has_links (SettingUp link greeting) is_last end t there h = h.0
 has_links (Ready link) is_last end t there h = h.0
 has_links (Ended e) is_last end t there h = h.0
-
--- it was asked for
-pub was_asked : (l : Ledger) (created : ℕ) (life : Life) → is_resting life ≡ false → TiedLife l created life → l.asked ≡ true
-was_asked l created Resting there h = cc
-was_asked l created Dialing there h = h.0
-was_asked l created (Wanting link) there h = h.0
-was_asked l created (SettingUp link greeting) there h = h.0
-was_asked l created (Ready link) there h = h.0
-was_asked l created (Ended e) there h = h.3
-
--- and it has no end
-alive_end : (l : Ledger) (created : ℕ) (life : Life) → has_ended life ≡ false → TiedLife l created life → l.end ≡ None
-alive_end l created Resting up h = h.2
-alive_end l created Dialing up h = h.2
-alive_end l created (Wanting link) up h = h.2
-alive_end l created (SettingUp link greeting) up h = h.2
-alive_end l created (Ready link) up h = h.2
-alive_end l created (Ended e) up h = cc
 
 -- what owes something is no attempt that another one follows
 owing_attempt : (end : Option End) (e : RedisError) → owed_unstarted end ≡ Some (outcome.Fault e) → is_attempt end ≡ false
@@ -120,10 +103,10 @@ pub live_comes : (b : Book) (t : Inner) → Tied b t → is_resting t.life ≡ f
 live_comes b t h there up = by_manager t.manager h.numbers.comes_back (has_begun t.life (b.link t.link).last (b.link t.link).end t there h.course)
   where
     alive : (current_link b).end ≡ None
-    alive = ap (λ l. (b.link l).end) h.numbers.current_is ∙ alive_end (b.link t.link) b.created t.life up h.life
+    alive = ap (λ l. (b.link l).end) h.numbers.current_is ∙ lives (b.link t.link) b.created t.life h.life up
 
     asked : (current_link b).asked ≡ true
-    asked = ap (λ l. (b.link l).asked) h.numbers.current_is ∙ was_asked (b.link t.link) b.created t.life there h.life
+    asked = ap (λ l. (b.link l).asked) h.numbers.current_is ∙ is_asked (b.link t.link) b.created t.life there h.life
 
     first : Bool
     first = if b.generation == 0 then begins_first b else is_caused b

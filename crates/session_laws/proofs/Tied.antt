@@ -1,5 +1,5 @@
 -- What ties a session to the book of its trace.
-use Rattle.std.proofs.Common.{arith, subst, ◌≡◌, ◌≢◌, ◌⊎◌, ℕ, zero, suc, ◌+◌, ◌-◌, ◌^◌, ◌<◌, ◌≤◌, ◌==◌, if◌then◌else◌, Bool, true, false, List, [], ◌∷◌, ◌++◌, length, drop, Option, Some, None, slice_get, codes, is_some, unwrap_or, not, ◌&&◌}
+use Rattle.std.proofs.Common.{arith, subst, ◌≡◌, ◌≢◌, ◌⊎◌, ℕ, zero, suc, ◌+◌, ◌^◌, ◌<◌, ◌≤◌, ◌==◌, if◌then◌else◌, Bool, true, false, List, [], ◌∷◌, ◌++◌, length, drop, Option, Some, None, slice_get, codes, is_some, unwrap_or, not, ◌&&◌}
 use Rattle.std.specs.List.{AllByRecursion, list_any}
 use Rattle.redis_error.specs.declared.redis_error.RedisError.{RedisError}
 use Rattle.resp_value.specs.declared.value.Value.TheVariants.{Nil}
@@ -45,7 +45,7 @@ use Rattle.mux_conn.specs.Requests.{name_at, permits_at, is_open_at, is_unbegun_
 use Rattle.shared_session.specs.declared.core_state.Core.{Core}
 use Rattle.shared_session.specs.declared.generations.Generations.{Generations}
 use Rattle.sub_tracker.specs.Subscribed.{Request as Call}
-use Rattle.legal_trace.specs.Ledger.{Ledger, Heard, Sourced, Start, End, blank_ledger, cut, failure_in, is_cut, is_done, is_fault, is_full, is_greeted, is_of_renewal, is_over, is_set_up, is_taken, last_renewal, monitor_of, next_notice, renewal_count, renewals_asked, setup_count, setup_steps, setup_after}
+use Rattle.legal_trace.specs.Ledger.{Ledger, Heard, Sourced, Start, End, blank_ledger, cut, failure_in, is_cut, is_done, is_full, is_greeted, is_of_renewal, is_over, is_set_up, is_taken, last_renewal, monitor_of, next_notice, renewal_count, renewals_asked, setup_count, setup_steps, setup_after}
 use Rattle.legal_trace.specs.Story.{Story, blank_story, is_open, is_told, bytes_of, shape, is_awaited}
 use Rattle.legal_trace.specs.Book.{Book, blank_book, book, has_generations, hearing_in, info_in, kind_in, wanted_in}
 use Rattle.legal_trace.specs.Managers.{is_lazy, settings_in}
@@ -344,13 +344,10 @@ TiedLife l created (SettingUp link greeting) = (l.asked ≡ true) × (l.up ≡ t
 TiedLife l created (Ready link) = (l.asked ≡ true) × (l.up ≡ true) × (l.end ≡ None) × (created ≢ 0)
 TiedLife l created (Ended e) = (l.up ≡ false) × (owed_unstarted l.end ≡ Some (outcome.Fault e)) × FailureIsShown l.end created × (l.asked ≡ true)
 
--- a link has ended, in a turn that has begun: where it was not set up, its opening failed, or everything was shut down; and where it was,
--- it took requests when a fault ended it, or everything was shut down
-pub record IsOver (end : Option End) (turns : ℕ) (shut opened : Bool) : Type 0 where
-  pub past : (x : End) → end ≡ Some x → x.turn ≤ turns - 1
+-- a link has ended: where it was not set up, its opening failed, or everything was shut down; and where it was, it didn't
+pub record IsOver (end : Option End) (shut opened : Bool) : Type 0 where
   pub failed : opened ≡ false → shut ≡ false → failure_in end ≢ None
   pub unfailed : opened ≡ true → failure_in end ≡ None
-  pub lost : opened ≡ true → shut ≡ false → (x : End) → end ≡ Some x → (is_fault x.why && x.served) ≡ true
 
 -- a generation began, or there are none
 abbrev pub is_begun : Option Generations → Bool
@@ -360,17 +357,17 @@ is_begun (Some g) = not (g.number == 0)
 -- so far a connection has come whose link is the last of so many that were asked for, in a generation, where there are any; it has no
 -- link only where the session comes back: then the next one is to be asked for, whose server is told what all are. Whether another
 -- attempt follows where its opening fails, and whether it was set up, is the same for the link and the connection
-abbrev pub HasCourse : Bool → Option End → ℕ → ℕ → ℕ → Bool → Option Generations → Bool → Bool → RedisConnectionInfo → RedisConnectionInfo → Life → Type 0
-HasCourse is_last end links link turns shut manager last opened info address Resting = (links ≡ link) × (is_some manager ≡ true) × (opened ≡ false) × (info ≡ address)
-HasCourse is_last end links link turns shut manager last opened info address Dialing = (links ≡ link + 1) × (is_begun manager ≡ true) × (opened ≡ false) × (is_last ≡ last) × (info ≡ address)
-HasCourse is_last end links link turns shut manager last opened info address (Wanting state) = (links ≡ link + 1) × (is_begun manager ≡ true) × (opened ≡ false) × (is_last ≡ last)
-HasCourse is_last end links link turns shut manager last opened info address (SettingUp state greeting) = (links ≡ link + 1) × (is_begun manager ≡ true) × (opened ≡ false) × (is_last ≡ last)
-HasCourse is_last end links link turns shut manager last opened info address (Ready state) = (links ≡ link + 1) × (is_begun manager ≡ true) × (opened ≡ true) × (is_last ≡ last)
-HasCourse is_last end links link turns shut manager last opened info address (Ended e) = (links ≡ link + 1) × (is_begun manager ≡ true) × IsOver end turns shut opened
+abbrev pub HasCourse : Bool → Option End → ℕ → ℕ → Bool → Option Generations → Bool → Bool → RedisConnectionInfo → RedisConnectionInfo → Life → Type 0
+HasCourse is_last end links link shut manager last opened info address Resting = (links ≡ link) × (is_some manager ≡ true) × (opened ≡ false) × (info ≡ address)
+HasCourse is_last end links link shut manager last opened info address Dialing = (links ≡ link + 1) × (is_begun manager ≡ true) × (opened ≡ false) × (is_last ≡ last) × (info ≡ address)
+HasCourse is_last end links link shut manager last opened info address (Wanting state) = (links ≡ link + 1) × (is_begun manager ≡ true) × (opened ≡ false) × (is_last ≡ last)
+HasCourse is_last end links link shut manager last opened info address (SettingUp state greeting) = (links ≡ link + 1) × (is_begun manager ≡ true) × (opened ≡ false) × (is_last ≡ last)
+HasCourse is_last end links link shut manager last opened info address (Ready state) = (links ≡ link + 1) × (is_begun manager ≡ true) × (opened ≡ true) × (is_last ≡ last)
+HasCourse is_last end links link shut manager last opened info address (Ended e) = (links ≡ link + 1) × (is_begun manager ≡ true) × IsOver end shut opened
 
 -- of a session, by whether the ledger of its link says that no other attempt follows, and by its end
 abbrev pub TiedCourse : Bool → Option End → Inner → Type 0
-TiedCourse is_last end t = HasCourse is_last end t.links t.link t.turns t.shut t.manager t.last t.opened t.info t.address t.life
+TiedCourse is_last end t = HasCourse is_last end t.links t.link t.shut t.manager t.last t.opened t.info t.address t.life
 
 -- none of these errors is a cause for the next generation, where the opening of a link has not failed
 abbrev pub AreCalm : List RedisError → Type 0
