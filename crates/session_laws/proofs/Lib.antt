@@ -14,6 +14,8 @@ pub mod Permits
 pub mod InLine
 pub mod Behind
 pub mod Owes
+pub mod Lost
+pub mod Causes
 pub mod Closing
 pub mod Answer
 pub mod Kept
