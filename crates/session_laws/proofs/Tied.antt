@@ -720,7 +720,7 @@ pub record TiedWaits (story : ℕ → Story) (requests : List Request) (life : L
   pub room : (p : ℕ) → IsIn p (awaited_ids (link_in life).queue) → IsIn p moved ⊎ (shown_wait story requests p ≡ Some wait.Room)
   pub newer : Rising 0 fresh (length requests)
   pub rising : Rising 0 moved (length requests)
-  pub no_backoff : (p : ℕ) → IsIn p fresh → is_waiting_at requests p ≡ true → life ≡ Resting → shown_wait story requests p ≢ Some wait.Backoff
+  pub no_backoff : (p : ℕ) → IsIn p fresh → is_waiting_at requests p ≡ true → life ≡ Resting → shown_wait story requests p ≡ None
   pub no_connect : (p : ℕ) → IsIn p fresh → is_waiting_at requests p ≡ true → life ≡ Dialing → shown_wait story requests p ≢ Some wait.Connect
   pub no_creds : (p : ℕ) (link : LinkState) → IsIn p fresh → is_waiting_at requests p ≡ true → life ≡ Wanting link → shown_wait story requests p ≢ Some wait.Creds
   pub no_setup : (p : ℕ) (link : LinkState) (greeting : Greeting) → IsIn p fresh → is_waiting_at requests p ≡ true → life ≡ SettingUp link greeting → shown_wait story requests p ≢ Some wait.Setup
