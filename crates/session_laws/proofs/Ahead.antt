@@ -13,7 +13,7 @@ use Rattle.link_core.specs.declared.message.Queued.{Queued}
 use Rattle.link_laws.proofs.TiedLink.{TiedLink, unwritten_is}
 use Rattle.link_laws.specs.Settles.{awaited_ids}
 use Rattle.mux_conn.specs.Connection.{has_no_permit, in_front, is_ready}
-use Rattle.mux_conn.specs.Requests.{if_there, is_admitted, is_admitted_at, is_open as is_open_progress, is_open_at, is_placed, is_placed_at, is_waiting, is_waiting_at, name_at}
+use Rattle.mux_conn.specs.Requests.{if_there, is_admitted, is_admitted_at, is_open as is_open_progress, is_open_at, is_placed, is_placed_at, is_unbegun_at, is_waiting, is_waiting_at, name_at}
 use Rattle.mux_conn.specs.declared.life.Greeting.{Greeting}
 use Rattle.mux_conn.specs.declared.life.Life.{Life}
 use Rattle.mux_conn.specs.declared.life.Life.TheVariants.{Resting, Dialing, Ended, Ready, Wanting, SettingUp}
@@ -21,9 +21,9 @@ use Rattle.mux_conn.specs.declared.request.Pending.{Pending}
 use Rattle.mux_conn.specs.declared.request.Progress.{Progress}
 use Rattle.mux_conn.specs.declared.request.Progress.TheVariants as progress
 use Rattle.mux_conn.specs.declared.request.Request.{Request}
-use Rattle.legal_trace.specs.Book.{Book}
+use Rattle.legal_trace.specs.Book.{Book, has_generations}
 use Rattle.legal_trace.specs.Ledger.{Ledger, dials, is_over, is_set_up, lacks_credentials}
-use Rattle.legal_trace.specs.Steps.{Step, asks, free_permits, is_held, is_held_back, is_in_line, is_let_in, is_outside, line_before, next_step, permits_in, queue_size, renewals_in_line, starts_or_waits, step_holding, step_open, step_placed, step_ready, step_taking, step_timed, takes, tells, unready_wait, waits, step_down}
+use Rattle.legal_trace.specs.Steps.{Step, asks, free_permits, is_held, is_held_back, is_in_line, is_let_in, is_outside, line_before, next_step, permits_in, queue_size, renewals_in_line, starts_or_waits, rounds, step_holding, step_open, step_placed, step_ready, step_rounding, step_served, step_taking, step_timed, takes, tells, unready_wait, waits, step_down}
 use Rattle.legal_trace.specs.Story.{Story, has_place, is_awaited, is_room, is_told, is_unstarted, shape}
 use Rattle.session_laws.proofs.Behind.{nil_told, open_untold}
 use Rattle.session_laws.proofs.Creds.{has_credentials, wanting_lacks}
@@ -33,6 +33,8 @@ use Rattle.session_laws.proofs.Names.{earlier_name, get_some, name_of_some, name
 use Rattle.session_laws.proofs.Numbers.{IsIn, Rising, in_left, in_right, rising_apart, rising_in, rising_right, rising_within, requests_in}
 use Rattle.session_laws.proofs.Owes.{later_unstarted, request_story, open_on, queue_on}
 use Rattle.session_laws.proofs.Renewals.{due_in}
+use Rattle.session_laws.proofs.Rounded.{admitted_begun, has_begun, placed_begun, unbegun_waits}
+use Rattle.legal_trace.proofs.Again.{unwanted_is_served}
 use Rattle.session_laws.proofs.SetUp.{not_set_up, lacking_unset}
 use Rattle.session_laws.proofs.States.{IsFit}
 use Rattle.session_laws.proofs.Tied.{AreSought, HasSaid, Inner, IsQueued, Tied, TiedLife, TiedNames, TiedNumbers, carried, has_ended, link_in, owner_of, queue_ids, shown_wait, waiting_ids, whole_link}
@@ -260,11 +262,14 @@ held_by b t name link h same tied =
 pub held_is : (b : Book) (t : Inner) → Tied b t → IsRunning t → is_held_back b (b.link t.link) ≡ holds_back (link_in t.life)
 held_is b t h r = held_by b t (owner_of t.requests) (link_in t.life) h.numbers r.fit.bound_is (ready_link (b.link t.link) t.requests t.life r.up (h.link (ready_alive t.life r.up)))
 
--- the step of submission n on the link of a session, where permits are counted so, and the link is held back or not
+-- the step of one whose round has begun, on the link of a session, where permits are counted so, and the link is held back or not
+abbrev pub step_begun : Book → ℕ → Story → ℕ → Option ℕ → Bool → Step
+step_begun b n s link limit held =
+    step_holding limit s.permits (λ k. step_taking (free_permits b link k) (permits_for (shape s) k)) (step_timed s.timeout s.clock (step_placed (is_outside b n) (is_awaited s) held))
+
+-- and of any submission
 abbrev pub step_on : Book → ℕ → Story → ℕ → Option ℕ → Bool → Step
-step_on b n s link limit held =
-    step_open (is_told s) held
-    (step_holding limit s.permits (λ k. step_taking (free_permits b link k) (permits_for (shape s) k)) (step_timed s.timeout s.clock (step_placed (is_outside b n) (is_awaited s) held)))
+step_on b n s link limit held = step_open (is_told s) held (step_rounding (has_generations b) s.rounded (step_begun b n s link limit held))
 
 -- the next step of a request
 pub request_step : (b : Book) (t : Inner) (p : ℕ) → Tied b t → IsRunning t → (b.story (name_at t.requests p)).link ≡ t.link
@@ -274,7 +279,24 @@ request_step b t p h r on =
     let s = b.story n in
     let held : is_held_back b (b.link s.link) ≡ holds_back (link_in t.life) = ap (λ l. is_held_back b (b.link l)) on ∙ held_is b t h r in
     up_step b n (ap (λ l. (b.link l).up) on ∙ ready_up (b.link t.link) b.created t.life r.up h.life) (ap (λ l. is_set_up (b.link l)) on ∙ ready_set (b.link t.link) t.started t.life r.up h.setup.said)
+    ∙ ap (λ served. step_served served (step_on b n s s.link (permits_in b.config) (is_held_back b (b.link s.link)))) (unwanted_is_served (b.link s.link) (h.numbers.unrepeated s.link))
     ∙ (λ i. step_on b n s (on i) (h.numbers.settings.limit_is i) (held i))
+
+-- of one whose round has begun, where rounds are shown
+rounded_next : (comes rounded : Bool) (next : Step) → (comes ≡ true → rounded ≡ true) → step_rounding comes rounded next ≡ next
+rounded_next true true next e = refl
+rounded_next true false next e = cc (e refl)
+rounded_next false rounded next e = refl
+
+-- an open one is told nothing, and goes on
+begun_step : (b : Book) (t : Inner) (p : ℕ) → Tied b t → IsRunning t → (b.story (name_at t.requests p)).link ≡ t.link → is_told (b.story (name_at t.requests p)) ≡ false → (has_generations b ≡ true → (b.story (name_at t.requests p)).rounded ≡ true)
+    → (let n = name_at t.requests p in next_step b n ≡ step_begun b n (b.story n) t.link t.limit (holds_back (link_in t.life)))
+begun_step b t p h r on untold begun =
+    let n = name_at t.requests p in
+    let s = b.story n in
+    let held = holds_back (link_in t.life) in
+    let next = step_begun b n s t.link t.limit held in
+    request_step b t p h r on ∙ ap (λ x. step_open x held (step_rounding (has_generations b) s.rounded next)) untold ∙ rounded_next (has_generations b) s.rounded next begun
 
 -- who holds its permits takes none
 holding_next : (limit : Option ℕ) (held : ℕ) (taking : ℕ → Step) (next : Step) → (is_none limit || nat_lt 0 held) ≡ true → step_holding limit held taking next ≡ next
@@ -289,9 +311,9 @@ timed_next (Some ms) None next e = cc
 timed_next (Some ms) (Some t) next e = refl
 
 -- so who was let in comes to its place
-pub let_in_step : (b : Book) (t : Inner) (p : ℕ) → Tied b t → IsRunning t → (b.story (name_at t.requests p)).link ≡ t.link → is_told (b.story (name_at t.requests p)) ≡ false → is_let_in t.limit (b.story (name_at t.requests p)) ≡ true
+pub let_in_step : (b : Book) (t : Inner) (p : ℕ) → Tied b t → IsRunning t → (b.story (name_at t.requests p)).link ≡ t.link → is_told (b.story (name_at t.requests p)) ≡ false → (has_generations b ≡ true → (b.story (name_at t.requests p)).rounded ≡ true) → is_let_in t.limit (b.story (name_at t.requests p)) ≡ true
     → (let n = name_at t.requests p in next_step b n ≡ step_placed (is_outside b n) (is_awaited (b.story n)) (holds_back (link_in t.life)))
-let_in_step b t p h r on untold is =
+let_in_step b t p h r on untold begun is =
     let n = name_at t.requests p in
     let s = b.story n in
     let held = holds_back (link_in t.life) in
@@ -300,8 +322,7 @@ let_in_step b t p h r on untold is =
     let taking : ℕ → Step = λ k. step_taking (free_permits b t.link k) (permits_for (shape s) k) in
     let has = is_none t.limit || nat_lt 0 s.permits in
     let asked = is_none s.timeout || is_some s.clock in
-    request_step b t p h r on
-    ∙ ap (λ x. step_open x held (step_holding t.limit s.permits taking timed)) untold
+    begun_step b t p h r on untold begun
     ∙ holding_next t.limit s.permits taking timed (both_left has asked is)
     ∙ timed_next s.timeout s.clock seat (both_right has asked is)
 
@@ -385,6 +406,7 @@ placed_open requests p e = by_request (slice_get requests p) e
   where
     by_progress : (r : Progress) → is_placed r ≡ true → is_open_progress r ≡ true
     by_progress progress.Waiting e = cc
+    by_progress progress.Begun e = cc
     by_progress progress.Admitted e = cc
     by_progress progress.Placed e = refl
     by_progress progress.Closed e = cc
@@ -399,6 +421,7 @@ admitted_open requests p e = by_request (slice_get requests p) e
   where
     by_progress : (r : Progress) → is_admitted r ≡ true → (is_open_progress r ≡ true) × (is_placed r ≡ false)
     by_progress progress.Waiting e = cc
+    by_progress progress.Begun e = cc
     by_progress progress.Admitted e = (refl, refl)
     by_progress progress.Placed e = cc
     by_progress progress.Closed e = cc
@@ -413,6 +436,7 @@ early_open requests p e = by_request (slice_get requests p) e
   where
     by_progress : (r : Progress) → is_waiting r ≡ true → (is_open_progress r ≡ true) × (is_placed r ≡ false)
     by_progress progress.Waiting e = (refl, refl)
+    by_progress progress.Begun e = (refl, refl)
     by_progress progress.Admitted e = cc
     by_progress progress.Placed e = cc
     by_progress progress.Closed e = cc
@@ -510,8 +534,8 @@ queue_step b t p h r i =
     let held = holds_back (link_in t.life) in
     let within = queue_within b t p h i in
     elim (queue_alive b.story t.requests (link_in t.life).queue p h.lines.queued i) [
-      | inl a ↦ let_in_step b t p h r (queue_on b t p h i) (open_told b t p h (placed_open t.requests p a.1)) (h.permits.let_in p (inr a.1)) ∙ (λ k. step_placed (queue_inside b t p h r i k) (a.0 k) held)
-      | inr e ↦ request_step b t p h r (queue_on b t p h i) ∙ ap (λ x. step_open x held (step_holding t.limit s.permits (λ k. step_taking (free_permits b t.link k) (permits_for (shape s) k)) (step_timed s.timeout s.clock (step_placed (is_outside b n) (is_awaited s) held)))) e
+      | inl a ↦ let_in_step b t p h r (queue_on b t p h i) (open_told b t p h (placed_open t.requests p a.1)) (has_begun b t p h (placed_open t.requests p a.1) (λ shows. placed_begun t.requests p a.1)) (h.permits.let_in p (inr a.1)) ∙ (λ k. step_placed (queue_inside b t p h r i k) (a.0 k) held)
+      | inr e ↦ request_step b t p h r (queue_on b t p h i) ∙ ap (λ x. step_open x held (step_rounding (has_generations b) s.rounded (step_begun b n s t.link t.limit held))) e
     ]
 
 -- who waits while the queue holds its size stands outside
@@ -540,7 +564,7 @@ pub full_step : (b : Book) (t : Inner) (p : ℕ) → Tied b t → IsRunning t �
 full_step b t p h r full a i =
     let s = b.story (name_at t.requests p) in
     let o = (admitted_open t.requests p a).0 in
-    let_in_step b t p h r (open_on b t p h o) (open_told b t p h o) (h.permits.let_in p (inl a))
+    let_in_step b t p h r (open_on b t p h o) (open_told b t p h o) (has_begun b t p h o (λ shows. admitted_begun t.requests p a)) (h.permits.let_in p (inl a))
     ∙ (λ k. step_placed (kept_outside b t p h r full (h.waits.seatless p a) o (in_left p (waiting_ids t.admitted) (waiting_ids t.waiting) i) k) (is_awaited s) (holds_back (link_in t.life)))
 
 -- the first of those that wait has its place next, while the queue has room
@@ -568,10 +592,14 @@ first_inside b t p rest h r room o first =
 
 -- so it is told there where nobody awaits its reply, and it was let in
 pub first_step : (b : Book) (t : Inner) (p : ℕ) (rest : List ℕ) → Tied b t → IsRunning t → is_full_beside (link_in t.life) (in_front t.renewal) ≡ false → is_open_at t.requests p ≡ true → kept_ids t.admitted t.waiting ≡ p ∷ rest → is_let_in t.limit (b.story (name_at t.requests p)) ≡ true
-    → is_awaited (b.story (name_at t.requests p)) ≡ false → next_step b (name_at t.requests p) ≡ tells
-first_step b t p rest h r room o first is unawaited =
-    let_in_step b t p h r (open_on b t p h o) (open_told b t p h o) is
+    → is_unbegun_at t.requests p ≡ false → is_awaited (b.story (name_at t.requests p)) ≡ false → next_step b (name_at t.requests p) ≡ tells
+first_step b t p rest h r room o first is begun unawaited =
+    let_in_step b t p h r (open_on b t p h o) (open_told b t p h o) (has_begun b t p h o (λ shows. begun)) is
     ∙ (λ k. step_placed (first_inside b t p rest h r room o first k) (unawaited k) (holds_back (link_in t.life)))
+
+-- where rounds are shown its round has begun
+abbrev pub HasBegun : Inner → ℕ → Type 0
+HasBegun t p = t.rounds ≡ true → is_unbegun_at t.requests p ≡ false
 
 -- the step of one that holds no permits
 --
@@ -580,9 +608,9 @@ free_is : (b : Book) (t : Inner) (k : ℕ) → Tied b t → t.limit ≡ Some k �
 free_is b t k h e = let sum = h.permits.counted k e in omega arith
 
 -- where permits are counted, it takes some, or waits for one
-early_step : (b : Book) (t : Inner) (p k : ℕ) → Tied b t → IsRunning t → is_waiting_at t.requests p ≡ true → (IsIn p t.letting → ⊥) → t.limit ≡ Some k
+early_step : (b : Book) (t : Inner) (p k : ℕ) → Tied b t → IsRunning t → is_waiting_at t.requests p ≡ true → HasBegun t p → (IsIn p t.letting → ⊥) → t.limit ≡ Some k
     → next_step b (name_at t.requests p) ≡ step_taking t.free (permits_for (shape (b.story (name_at t.requests p))) k)
-early_step b t p k h r w out e =
+early_step b t p k h r w begun out e =
     let n = name_at t.requests p in
     let s = b.story n in
     let o = waiting_open t.requests p w in
@@ -591,40 +619,49 @@ early_step b t p k h r w out e =
     let none = (request_story b t p h within).permits_is ∙ (h.permits.none p w out).0 in
     let taking : ℕ → Step = λ l. step_taking (free_permits b t.link l) (permits_for (shape s) l) in
     let timed = step_timed s.timeout s.clock (step_placed (is_outside b n) (is_awaited s) held) in
-    request_step b t p h r (open_on b t p h o)
-    ∙ (λ i. step_open (open_told b t p h o i) held (step_holding (e i) (none i) taking timed))
+    begun_step b t p h r (open_on b t p h o) (open_told b t p h o) (has_begun b t p h o begun)
+    ∙ (λ i. step_holding (e i) (none i) taking timed)
     ∙ ap (λ f. step_taking f (permits_for (shape s) k)) (free_is b t k h e)
 
 -- it waits for one where none is free
-pub permit_step : (b : Book) (t : Inner) (p : ℕ) → Tied b t → IsRunning t → is_waiting_at t.requests p ≡ true → (IsIn p t.letting → ⊥) → has_no_permit t.limit t.free ≡ true → next_step b (name_at t.requests p) ≡ waits wait.Permit
-permit_step b t p h r w out none = by_limit t.limit refl none
+pub permit_step : (b : Book) (t : Inner) (p : ℕ) → Tied b t → IsRunning t → is_waiting_at t.requests p ≡ true → HasBegun t p → (IsIn p t.letting → ⊥) → has_no_permit t.limit t.free ≡ true → next_step b (name_at t.requests p) ≡ waits wait.Permit
+permit_step b t p h r w begun out none = by_limit t.limit refl none
   where
     by_limit : (x : Option ℕ) → t.limit ≡ x → has_no_permit x t.free ≡ true → next_step b (name_at t.requests p) ≡ waits wait.Permit
     by_limit None e n = cc
-    by_limit (Some k) e n = early_step b t p k h r w out e ∙ ap (λ f. step_taking f (permits_for (shape (b.story (name_at t.requests p))) k)) (eq_from t.free 0 n)
+    by_limit (Some k) e n = early_step b t p k h r w begun out e ∙ ap (λ f. step_taking f (permits_for (shape (b.story (name_at t.requests p))) k)) (eq_from t.free 0 n)
 
 -- and takes some where some are
-pub take_step : (b : Book) (t : Inner) (p k : ℕ) → Tied b t → IsRunning t → is_waiting_at t.requests p ≡ true → (IsIn p t.letting → ⊥) → t.limit ≡ Some k → t.free ≢ 0
+pub take_step : (b : Book) (t : Inner) (p k : ℕ) → Tied b t → IsRunning t → is_waiting_at t.requests p ≡ true → HasBegun t p → (IsIn p t.letting → ⊥) → t.limit ≡ Some k → t.free ≢ 0
     → next_step b (name_at t.requests p) ≡ takes (min t.free (permits_for (shape (b.story (name_at t.requests p))) k))
-take_step b t p k h r w out e some = early_step b t p k h r w out e ∙ taking_is t.free (permits_for (shape (b.story (name_at t.requests p))) k) some
+take_step b t p k h r w begun out e some = early_step b t p k h r w begun out e ∙ taking_is t.free (permits_for (shape (b.story (name_at t.requests p))) k) some
   where
     taking_is : (free most : ℕ) → free ≢ 0 → step_taking free most ≡ takes (min free most)
     taking_is zero most some = absurd (some refl)
     taking_is (suc free) most some = refl
 
 -- one that holds its permits, if they are counted, asks for its timer
-pub ask_step : (b : Book) (t : Inner) (p ms : ℕ) → Tied b t → IsRunning t → is_open_at t.requests p ≡ true → (is_none t.limit || nat_lt 0 (b.story (name_at t.requests p)).permits) ≡ true → (b.story (name_at t.requests p)).timeout ≡ Some ms
+pub ask_step : (b : Book) (t : Inner) (p ms : ℕ) → Tied b t → IsRunning t → is_open_at t.requests p ≡ true → HasBegun t p → (is_none t.limit || nat_lt 0 (b.story (name_at t.requests p)).permits) ≡ true → (b.story (name_at t.requests p)).timeout ≡ Some ms
     → (b.story (name_at t.requests p)).clock ≡ None → next_step b (name_at t.requests p) ≡ asks ms
-ask_step b t p ms h r o has time none =
+ask_step b t p ms h r o begun has time none =
     let n = name_at t.requests p in
     let s = b.story n in
     let held = holds_back (link_in t.life) in
     let seat = step_placed (is_outside b n) (is_awaited s) held in
     let taking : ℕ → Step = λ k. step_taking (free_permits b t.link k) (permits_for (shape s) k) in
-    request_step b t p h r (open_on b t p h o)
-    ∙ ap (λ x. step_open x held (step_holding t.limit s.permits taking (step_timed s.timeout s.clock seat))) (open_told b t p h o)
+    begun_step b t p h r (open_on b t p h o) (open_told b t p h o) (has_begun b t p h o begun)
     ∙ holding_next t.limit s.permits taking (step_timed s.timeout s.clock seat) has
     ∙ (λ i. step_timed (time i) (none i) seat)
+
+-- the round of one that waits without it begins, where rounds are shown
+pub round_step : (b : Book) (t : Inner) (p : ℕ) → Tied b t → IsRunning t → t.rounds ≡ true → is_unbegun_at t.requests p ≡ true → next_step b (name_at t.requests p) ≡ rounds
+round_step b t p h r shows u =
+    let n = name_at t.requests p in
+    let s = b.story n in
+    let o = waiting_open t.requests p (unbegun_waits t.requests p u) in
+    let held = holds_back (link_in t.life) in
+    request_step b t p h r (open_on b t p h o)
+    ∙ (λ i. step_open (open_told b t p h o i) held (step_rounding ((h.rounds.rounds_is ∙ shows) i) (h.rounds.unbegun p u i) (step_begun b n s t.link t.limit held)))
 
 -- the step of a submission while the connect isn't answered
 --

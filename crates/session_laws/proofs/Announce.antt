@@ -26,12 +26,14 @@ use Rattle.mux_conn.specs.declared.life.Life.TheVariants.{Resting, Dialing, Want
 use Rattle.mux_conn.specs.declared.request.Request.{Request}
 use Rattle.shared_session.specs.declared.core_state.Core.{Core}
 use Rattle.shared_session.specs.Turn.{is_shutdown, shut_by, exceeds_offer, is_bad}
-use Rattle.legal_trace.specs.Ledger.{Ledger, Start, setup_count, authorized_by, with_news, awaits_credentials, hears, noted, is_over, bytes_came, dials, refused_in, Heard, is_renewal_open, lost_by, may_renew, renewed_by, unrenewed_by}
+use Rattle.legal_trace.specs.Ledger.{Ledger, Start, setup_count, authorized_by, with_news, awaits_credentials, hears, noted, is_over, bytes_came, dials, refused_in, Heard, is_renewal_open, lost_by, may_renew, renewed_by, unrenewed_by, is_repeating, unrepeated_by}
 use Rattle.legal_trace.specs.Story.{Story, fires}
-use Rattle.legal_trace.specs.Book.{Book, book, entered, is_clock_of, hearing_in, rest_after, timeout_after, kind_in}
+use Rattle.legal_trace.specs.Book.{Book, book, entered, is_clock_of, hearing_in, rest_after, timeout_after, kind_in, has_generations}
 use Rattle.legal_trace.specs.Events.{is_bad_event}
 use Rattle.legal_trace.specs.Legal.{MayTurn}
-use Rattle.session_laws.proofs.Tied.{TiedCreation, AreAimed, AreUses, IsAim, owners_of, owners_each, setup_owners, Inner, inner, link_in, carried, whole_link, AreAside, TiedCreds, TiedLife, TiedSetup, TiedTries, TiedLines, AreQueued, TiedWaits, Tied, Sound, has_ended, TiedNotices, TiedRenewal, HasGreetedAlone, is_reading, IsUse}
+use Rattle.mux_conn.specs.Connection.{is_ready}
+use Rattle.session_laws.proofs.Tied.{TiedCreation, AreAimed, AreUses, IsAim, owners_of, owners_each, setup_owners, Inner, inner, link_in, carried, whole_link, AreAside, TiedCreds, TiedLife, TiedSetup, TiedTries, TiedLines, AreQueued, TiedWaits, Tied, Sound, has_ended, TiedNotices, TiedRenewal, HasGreetedAlone, is_reading, IsUse, TiedRounds, AreUnrepeated}
+use Rattle.session_laws.proofs.Unrepeated.{unrepeated_hears}
 use Rattle.session_laws.proofs.States.{Between}
 use Rattle.session_laws.proofs.Entered.{book_more, sound_more}
 use Rattle.session_laws.proofs.Answer.{some_end}
@@ -156,6 +158,10 @@ others_heard b c started kind next h good shown m other =
     let same : news_of b.timers b.sources m kind ≡ news_of c.timers c.sources m kind = λ i. news_of (h.numbers.timers i) (h.numbers.sources i) m kind in
     aside_heard (b.link m) c.turns next (news_of b.timers b.sources m kind) (λ past e. far_news c m kind good past (sym same ∙ e)) shown (h.others m other)
 
+-- nor is anything subscribed again on any link
+pub still_unrepeated : (b : Book) (c : Core) (started : List ℕ) (kind : EventKind) → Tied b (inner c started) → AreUnrepeated (λ m. noted (b.link m) (hears c.turns (news_of b.timers b.sources m kind)))
+still_unrepeated b c started kind h = unrepeated_hears b.link c.turns (λ m. news_of b.timers b.sources m kind) h.numbers.unrepeated
+
 -- news start nothing
 pub heard_starts : (l : Ledger) (turn : ℕ) (n : News) → (noted l (hears turn n)).starts ≡ l.starts
 heard_starts l turn silence = refl
@@ -169,7 +175,7 @@ heard_starts l turn (authorized c) = chosen (λ (x : Ledger). x.starts ≡ l.sta
 heard_starts l turn (renewed c) = chosen (λ (x : Ledger). x.starts ≡ l.starts) (may_renew l) (renewed_by l c) l (λ t. refl) (λ f. refl)
 heard_starts l turn unrenewed = chosen (λ (x : Ledger). x.starts ≡ l.starts) l.up (unrenewed_by l) l (λ t. refl) (λ f. refl)
 heard_starts l turn (late k) = chosen (λ (x : Ledger). x.starts ≡ l.starts) (l.up && is_renewal_open l k) (lost_by l) l (λ t. refl) (λ f. refl)
-heard_starts l turn unrepeated = refl
+heard_starts l turn unrepeated = chosen (λ (x : Ledger). x.starts ≡ l.starts) (is_repeating l) (unrepeated_by l) l (λ t. refl) (λ f. refl)
 heard_starts l turn (denied text) = refl
 heard_starts l turn deserted = refl
 heard_starts l turn dropped = refl
@@ -342,6 +348,7 @@ pub record ComesAs (b : Book) (c : Core) (l : Ledger) (created : ℕ) (info : Re
   pub lines : TiedLines b.story c.single.connection.requests (link_in life) c.single.connection.waiting c.single.connection.admitted pending started
   pub told : has_ended life ≡ false → AreQueued b.story c.single.connection.requests c.single.link (link_in life)
   pub waits : TiedWaits b.story c.single.connection.requests life fresh c.single.connection.moved
+  pub rounds : TiedRounds (has_generations b) b.story c.single.connection.requests (is_ready life) fresh c.single.connection.rounds
   pub notices : TiedNotices (hearing_in b.config) c.single.connection.hears l.hearing l.notices l.told l.end l.parted l.strange (is_reading l) untold false
 
 -- where its new credentials are as they were
@@ -367,9 +374,9 @@ quiet_still b c started h w = let q = h.numbers.quiet w in (q.unwanted, q.unrene
 -- the session tied to a book with these ledgers, and with these sources of credentials, where new credentials came to this
 pub heard_tied_as : (b : Book) (c : Core) (started : List ℕ) (word created : ℕ) (halted told : Bool) (kind : EventKind) (info : RedisConnectionInfo) (renewal : Renewal) (life : Life) (fresh pending : List ℕ) (untold : List Heard) (links : ℕ → Ledger) (l : Ledger) (asked uses : List SourceUse) → Tied b (inner c started) → TiedCreation created told
     → renewal.within ≡ c.single.connection.renewal.within → StaysQuiet c renewal → info.protocol ≡ c.single.connection.info.protocol
-    → AreAside c.single.link c.links links c.single.connection.hears renewal.within created → links c.single.link ≡ l → asked ≡ uses → AreUses uses c.single.link l.creds.asked l.creds.renews → ComesAs b c l created info renewal life fresh pending untold started
+    → AreAside c.single.link c.links links c.single.connection.hears renewal.within created → AreUnrepeated links → links c.single.link ≡ l → asked ≡ uses → AreUses uses c.single.link l.creds.asked l.creds.renews → ComesAs b c l created info renewal life fresh pending untold started
     → Tied (record (heard_book b c.turns word kind) { created = created; failed = halted; link = links; sources = asked }) (record (seen (turned c kind) [] (renews_as c info renewal life fresh) pending started) { told = told; untold = untold; sources = uses })
-heard_tied_as b c started word created halted told kind info renewal life fresh pending untold links l asked uses h made within quiet same others is sourced used k =
+heard_tied_as b c started word created halted told kind info renewal life fresh pending untold links l asked uses h made within quiet same others again is sourced used k =
     let after = record (heard_book b c.turns word kind) { created = created; failed = halted; link = links; sources = asked } in
     let t = record (seen (turned c kind) [] (renews_as c info renewal life fresh) pending started) { told = told; untold = untold; sources = uses } in
     tied_by after t l is (record {
@@ -385,15 +392,16 @@ heard_tied_as b c started word created halted told kind info renewal life fresh 
         shut = ap (λ s. s || is_shutdown kind) h.numbers.shut;
         within = h.numbers.within ∙ sym within;
         few = h.numbers.few;
+        unrepeated = again;
         settings = record { size_is = h.numbers.settings.size_is; bound_is = h.numbers.settings.bound_is; limit_is = h.numbers.settings.limit_is; some = h.numbers.settings.some; limited = h.numbers.settings.limited };
         kind_is = h.numbers.kind_is;
         quiet = λ w. record { none = (h.numbers.quiet w).none; unwanted = (quiet w).0; unrenewed = (quiet w).1 };
-        plain = h.numbers.plain;
-        eager = h.numbers.eager;
+        comes_back = h.numbers.comes_back;
+        lazy = h.numbers.lazy;
         current_is = h.numbers.current_is;
         speaks = h.numbers.speaks ∙ sym same;
-        one = h.numbers.one;
-        few_links = h.numbers.few_links;
+        address_is = h.numbers.address_is;
+        wants = h.numbers.wants;
       };
       others = others;
       notices = k.notices;
@@ -411,15 +419,16 @@ heard_tied_as b c started word created halted told kind info renewal life fresh 
       told = k.told;
       waits = k.waits;
       permits = h.permits;
+      rounds = k.rounds;
       late = λ p o late. absurd (h.late p o late);
     })
 
 -- where they are as they were
 pub heard_tied_by : (b : Book) (c : Core) (started : List ℕ) (word created : ℕ) (halted told : Bool) (kind : EventKind) (info : RedisConnectionInfo) (life : Life) (fresh pending : List ℕ) (untold : List Heard) (links : ℕ → Ledger) (l : Ledger) (asked uses : List SourceUse) → Tied b (inner c started) → TiedCreation created told → info.protocol ≡ c.single.connection.info.protocol
-    → AreAside c.single.link c.links links c.single.connection.hears c.single.connection.renewal.within created → links c.single.link ≡ l → asked ≡ uses → AreUses uses c.single.link l.creds.asked l.creds.renews → ComesTo b c l created info life fresh pending untold started
+    → AreAside c.single.link c.links links c.single.connection.hears c.single.connection.renewal.within created → AreUnrepeated links → links c.single.link ≡ l → asked ≡ uses → AreUses uses c.single.link l.creds.asked l.creds.renews → ComesTo b c l created info life fresh pending untold started
     → Tied (record (heard_book b c.turns word kind) { created = created; failed = halted; link = links; sources = asked }) (record (seen (turned c kind) [] (comes_as c info life fresh) pending started) { told = told; untold = untold; sources = uses })
-heard_tied_by b c started word created halted told kind info life fresh pending untold links l asked uses h made same others is sourced used k =
-    heard_tied_as b c started word created halted told kind info c.single.connection.renewal life fresh pending untold links l asked uses h made refl (quiet_still b c started h) same others is sourced used k
+heard_tied_by b c started word created halted told kind info life fresh pending untold links l asked uses h made same others again is sourced used k =
+    heard_tied_as b c started word created halted told kind info c.single.connection.renewal life fresh pending untold links l asked uses h made refl (quiet_still b c started h) same others again is sourced used k
 
 -- news ask for no source
 pub sources_hear : (l : Ledger) (turn : ℕ) (n : News) → (noted l (hears turn n)).creds.asked ≡ l.creds.asked
@@ -436,7 +445,7 @@ sources_hear l turn deserted = refl
 sources_hear l turn (renewed c) = chosen (λ (x : Ledger). x.creds.asked ≡ l.creds.asked) (may_renew l) (renewed_by l c) l (λ t. refl) (λ f. refl)
 sources_hear l turn unrenewed = chosen (λ (x : Ledger). x.creds.asked ≡ l.creds.asked) l.up (unrenewed_by l) l (λ t. refl) (λ f. refl)
 sources_hear l turn (late k) = chosen (λ (x : Ledger). x.creds.asked ≡ l.creds.asked) (l.up && is_renewal_open l k) (lost_by l) l (λ t. refl) (λ f. refl)
-sources_hear l turn unrepeated = refl
+sources_hear l turn unrepeated = chosen (λ (x : Ledger). x.creds.asked ≡ l.creds.asked) (is_repeating l) (unrepeated_by l) l (λ t. refl) (λ f. refl)
 sources_hear l turn dropped = refl
 sources_hear l turn shut = refl
 
@@ -455,7 +464,7 @@ timed_hear l turn deserted = refl
 timed_hear l turn (renewed c) = chosen (λ (x : Ledger). x.creds.timed ≡ l.creds.timed) (may_renew l) (renewed_by l c) l (λ t. refl) (λ f. refl)
 timed_hear l turn unrenewed = chosen (λ (x : Ledger). x.creds.timed ≡ l.creds.timed) l.up (unrenewed_by l) l (λ t. refl) (λ f. refl)
 timed_hear l turn (late k) = chosen (λ (x : Ledger). x.creds.timed ≡ l.creds.timed) (l.up && is_renewal_open l k) (lost_by l) l (λ t. refl) (λ f. refl)
-timed_hear l turn unrepeated = refl
+timed_hear l turn unrepeated = chosen (λ (x : Ledger). x.creds.timed ≡ l.creds.timed) (is_repeating l) (unrepeated_by l) l (λ t. refl) (λ f. refl)
 timed_hear l turn dropped = refl
 timed_hear l turn shut = refl
 
@@ -474,7 +483,7 @@ renews_hear l turn deserted = refl
 renews_hear l turn (renewed c) = chosen (λ (x : Ledger). x.creds.renews ≡ l.creds.renews) (may_renew l) (renewed_by l c) l (λ t. refl) (λ f. refl)
 renews_hear l turn unrenewed = chosen (λ (x : Ledger). x.creds.renews ≡ l.creds.renews) l.up (unrenewed_by l) l (λ t. refl) (λ f. refl)
 renews_hear l turn (late k) = chosen (λ (x : Ledger). x.creds.renews ≡ l.creds.renews) (l.up && is_renewal_open l k) (lost_by l) l (λ t. refl) (λ f. refl)
-renews_hear l turn unrepeated = refl
+renews_hear l turn unrepeated = chosen (λ (x : Ledger). x.creds.renews ≡ l.creds.renews) (is_repeating l) (unrepeated_by l) l (λ t. refl) (λ f. refl)
 renews_hear l turn dropped = refl
 renews_hear l turn shut = refl
 
@@ -504,7 +513,7 @@ asked_hear l turn n = record { asked = (by_news n).asked; last = (by_news n).las
     by_news (renewed c) = chosen (KeepsAsked l) (may_renew l) (renewed_by l c) l (λ t. record { asked = refl; last = refl; protocol = refl }) (λ f. same_asked l)
     by_news unrenewed = chosen (KeepsAsked l) l.up (unrenewed_by l) l (λ t. record { asked = refl; last = refl; protocol = refl }) (λ f. same_asked l)
     by_news (late k) = chosen (KeepsAsked l) (l.up && is_renewal_open l k) (lost_by l) l (λ t. record { asked = refl; last = refl; protocol = refl }) (λ f. same_asked l)
-    by_news unrepeated = same_asked l
+    by_news unrepeated = chosen (KeepsAsked l) (is_repeating l) (unrepeated_by l) l (λ t. record { asked = refl; last = refl; protocol = refl }) (λ f. same_asked l)
     by_news dropped = same_asked l
     by_news shut = same_asked l
 
@@ -527,7 +536,7 @@ pub heard_tied_new : (b : Book) (c : Core) (started : List ℕ) (word created : 
     → Tied (record (heard_book b c.turns word kind) { created = created; failed = halted }) (record (seen (turned c kind) [] (renews_as c info renewal life fresh) pending started) { told = told; untold = untold })
 heard_tied_new b c started word created halted told kind info renewal life fresh pending untold l h made within quiet good shown is k =
     heard_tied_as b c started word created halted told kind info renewal life fresh pending untold (heard_book b c.turns word kind).link l b.sources (c.sources ++ []) h made within quiet (protocol_still b c started kind info l h is k.said.info_is)
-    (subst (λ o. AreAside c.single.link c.links (heard_book b c.turns word kind).link c.single.connection.hears o created) (sym within) (others_heard b c started kind created h good shown)) is
+    (subst (λ o. AreAside c.single.link c.links (heard_book b c.turns word kind).link c.single.connection.hears o created) (sym within) (others_heard b c started kind created h good shown)) (still_unrepeated b c started kind h) is
     (h.numbers.sources ∙ sym (append-nil c.sources))
     (uses_on c.sources c.single.link (subst (λ (x : Ledger). AreUses c.sources c.single.link x.creds.asked x.creds.renews) is (uses_hear c.sources c.single.link (b.link c.single.link) c.turns (news_of b.timers b.sources c.single.link kind) h.uses))) k
 

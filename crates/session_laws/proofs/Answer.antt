@@ -23,6 +23,7 @@ use Rattle.legal_trace.specs.Story.{Story, Try, last_of, is_no_error, is_open, p
 use Rattle.legal_trace.specs.Book.{Book, entered}
 use Rattle.legal_trace.specs.Owed.{owed, owed_by, owed_to_try, owed_to_message, owed_unstarted, owed_waiting}
 use Rattle.legal_trace.specs.Legal.{NoneEnds, VerdictsAreShown, MayAnswer, FailuresAreShown, EndsAreTold, IsBefore, is_heard}
+use Rattle.session_laws.proofs.Rounded.{rounds_closed}
 use Rattle.session_laws.proofs.Numbers.{IsIn, in_either, in_right, in_left, Rising, rising_in, requests_in, request_in}
 use Rattle.session_laws.proofs.Tied.{Inner, link_in, queue_ids, TiedLife, TiedNames, IsEntry, AreQueued, TiedLines, Tied, relined, has_ended, numbers_kept}
 use Rattle.session_laws.proofs.Said.{carried_tied, sources_asked}
@@ -145,6 +146,7 @@ answer_closes s o = record {
   link = refl;
   time = refl;
   tries = refl;
+  rounded = refl;
   closed = answered_closed (answered s o) s.outcomes o refl;
 }
 
@@ -211,10 +213,12 @@ answer_apart b t p pending o open_is apart told h =
     let known : n < b.submissions = (let within = name_within t.table t.requests p h.names l in let e = h.numbers.submissions in omega arith) in
     let own : (entered b (action.Outcome n o)).story n ≡ closed n = taken_if (n == n) (closed n) (b.story n) (eq_test n n refl) in
     record {
-      numbers = numbers_kept b b.link (entered b (action.Outcome n o)).story (entered b (action.Outcome n o)).errors now t.life (given_back t.limit t.free (permits_at t.requests p)) (with_permits t.requests p progress.Closed 0) t.waiting t.admitted t.fresh t.moved t.letting pending t.started h.numbers;
+      numbers = numbers_kept b b.link (entered b (action.Outcome n o)).story (entered b (action.Outcome n o)).tracked (entered b (action.Outcome n o)).errors now t.life (given_back t.limit t.free (permits_at t.requests p)) (with_permits t.requests p progress.Closed 0) t.waiting t.admitted t.fresh t.moved t.letting pending t.started h.numbers.unrepeated h.numbers;
       others = h.others;
       notices = h.notices;
       life = h.life;
+      course = h.course;
+      calm = h.calm;
       creds = h.creds;
       creation = h.creation;
       uses = h.uses;
@@ -233,6 +237,7 @@ answer_apart b t p pending o open_is apart told h =
           ((λ same. apart (in_right p rows queue (subst (λ m. IsIn m queue) (sym same) j))), k.1, i)) h.waits;
       permits = permits_closed b.story (entered b (action.Outcome n o)).story t.table b.submissions t.requests t.link t.limit t.free t.letting p h.names l known (r.on open_is) r.permits_is (λ m other. closed_other b.story t.requests p closed m other)
           (ap (λ (s : Story). s.permits) own) (ap (λ (s : Story). s.link) own ∙ r.on open_is) h.permits;
+      rounds = rounds_closed b.story t.requests t.fresh p closed l c h.rounds;
       late = late_closed t.table b.story t.requests p closed (p ∷ pending) pending h.names l (λ q other i. elim i [ inl same ↦ absurd (other same) | inr j ↦ j ]) h.late;
     }
 
@@ -313,4 +318,4 @@ skip_tied b t p pending closed h =
         | inl i ↦ elim i [ inl same ↦ absurd (not_both (is_open_at t.requests q) (ap (is_open_at t.requests) (sym same) ∙ closed) e) | inr j ↦ inl j ]
         | inr w ↦ inr w
       ];
-    }) h.waits (λ q o late. elim (h.late q o late) [ inl same ↦ absurd (not_both (is_open_at t.requests q) (ap (is_open_at t.requests) (sym same) ∙ closed) o) | inr i ↦ i ])
+    }) h.waits h.rounds (λ q o late. elim (h.late q o late) [ inl same ↦ absurd (not_both (is_open_at t.requests q) (ap (is_open_at t.requests) (sym same) ∙ closed) o) | inr i ↦ i ])

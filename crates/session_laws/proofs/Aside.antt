@@ -5,9 +5,10 @@ use Rattle.redis_error.specs.declared.redis_error.RedisError.{RedisError}
 use Rattle.redis_error.specs.declared.redis_error.RedisError.TheVariants as error
 use Rattle.driver_model.specs.News.{News, silence, connected, refused, overdue, took, came, failed, authorized, denied, deserted, shut, renewed, unrenewed, late, unrepeated, dropped}
 use Rattle.driver_model.specs.declared.hearing.Hearing.{Hearing}
-use Rattle.legal_trace.specs.Ledger.{Ledger, authorized_by, awaits_credentials, bytes_came, dials, ending, ending_alive, ending_asked, failure_in, hears, is_over, is_renewal_open, lost_by, may_renew, noted, refused_in, renewed_by, unrenewed_by, with_news}
+use Rattle.legal_trace.specs.Ledger.{Ledger, authorized_by, awaits_credentials, bytes_came, dials, ending, ending_alive, ending_asked, failure_in, hears, is_over, is_renewal_open, lost_by, may_renew, noted, refused_in, renewed_by, unrenewed_by, with_news, is_repeating, unrepeated_by}
 use Rattle.session_laws.proofs.Creds.{down_may_renew, down_unawaited}
 use Rattle.session_laws.proofs.Tied.{AreAside, IsAside}
+use Rattle.session_laws.proofs.Unrepeated.{down_repeats_not}
 
 -- what isn't up need not end where it isn't asked for, or is over
 pub not_up_ends : (l : Ledger) → l.up ≡ false → (l.asked && not (is_over l)) ≡ false → ending l ≡ None
@@ -60,7 +61,7 @@ aside_news l turn deserted far h = refl
 aside_news l turn (renewed c) far h = left_if (may_renew l) (renewed_by l c) l (down_may_renew l h.down)
 aside_news l turn unrenewed far h = left_if l.up (unrenewed_by l) l h.down
 aside_news l turn (late k) far h = left_if (l.up && is_renewal_open l k) (lost_by l) l (ap (λ u. u && is_renewal_open l k) h.down)
-aside_news l turn unrepeated far h = refl
+aside_news l turn unrepeated far h = left_if (is_repeating l) (unrepeated_by l) l (down_repeats_not l h.down)
 aside_news l turn dropped far h = refl
 aside_news l turn shut far h = refl
 

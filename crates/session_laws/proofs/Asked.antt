@@ -18,12 +18,13 @@ use Rattle.mux_conn.specs.declared.request.Progress.{Progress}
 use Rattle.mux_conn.specs.declared.request.Progress.TheVariants as progress
 use Rattle.mux_conn.specs.declared.request.Request.{Request}
 use Rattle.mux_conn.specs.declared.request.Waiting.{Waiting}
-use Rattle.mux_conn.specs.Requests.{is_open as is_open_progress, is_waiting, is_admitted, is_placed, if_there, name_or_none, permits_or_none, permits_at, is_open_at, is_waiting_at, is_admitted_at, is_placed_at, name_at, waiting_of, asked}
+use Rattle.mux_conn.specs.Requests.{is_open as is_open_progress, is_waiting, is_admitted, is_placed, if_there, name_or_none, permits_or_none, permits_at, is_open_at, is_waiting_at, is_admitted_at, is_placed_at, name_at, waiting_of, asked, is_unbegun, is_unbegun_at}
 use Rattle.shared_session.specs.declared.core_state.Core.{Core}
 use Rattle.shared_session.specs.Turn.{Turning, heard, refused_with, asked_for, pending, effect, counted, is_bad}
 use Rattle.legal_trace.specs.Story.{Story, is_no_error, is_told, is_awaited}
 use Rattle.legal_trace.specs.Book.{Book, blank_book, book, entered, is_unspoken, kind_in}
 use Rattle.legal_trace.specs.Legal.{AllStand, NoneEnds, MayAnswer}
+use Rattle.session_laws.proofs.Rounded.{rounds_longer}
 use Rattle.session_laws.proofs.Aside.{aside_silent}
 use Rattle.session_laws.proofs.Renewals.{renewal_alike}
 use Rattle.session_laws.proofs.Numbers.{IsIn, in_left, in_right, Rising, rising_next, requests_in, request_in}
@@ -33,7 +34,7 @@ use Rattle.session_laws.proofs.Entered.{all_stand-append, book_more, sound_more}
 use Rattle.session_laws.proofs.Names.{there_within, names_asked, submits_unwatched}
 use Rattle.session_laws.proofs.Owes.{started_within}
 use Rattle.session_laws.proofs.Settle.{seen}
-use Rattle.session_laws.proofs.Announce.{aims_longer, aims_on, turn_of, turned, may_turn, uses_on, uses_on, time_still}
+use Rattle.session_laws.proofs.Announce.{aims_longer, aims_on, turn_of, turned, may_turn, uses_on, uses_on, time_still, still_unrepeated}
 use Rattle.session_laws.proofs.Heard.{told_life, silent_no_end, silent_applied, still_none, tame_between}
 use Rattle.session_laws.proofs.Said.{setup_on, IsTame, renoticed}
 use Rattle.session_laws.proofs.Further.{one_longer, there_longer, before_or_new, further_story, tries_longer, queue_longer, packs_longer, entries_longer, link_longer, told_longer, IsNext, waits_longer, permits_longer, late_longer}
@@ -98,7 +99,11 @@ last_open c = ap (if_there is_open_progress) (get_last c.single.connection.reque
 last_waiting : (c : Core) → is_waiting_at (more_requests c) (length c.single.connection.requests) ≡ true
 last_waiting c = ap (if_there is_waiting) (get_last c.single.connection.requests (new_request c))
 
--- and not for a place
+-- its round has not begun
+last_unbegun : (c : Core) → is_unbegun_at (more_requests c) (length c.single.connection.requests) ≡ true
+last_unbegun c = ap (if_there is_unbegun) (get_last c.single.connection.requests (new_request c))
+
+-- and it doesn't wait for a place
 last_unadmitted : (c : Core) → is_admitted_at (more_requests c) (length c.single.connection.requests) ≡ false
 last_unadmitted c = ap (if_there is_admitted) (get_last c.single.connection.requests (new_request c))
 
@@ -194,6 +199,8 @@ asked_next b c started what h no_fresh =
       ];
       free = λ p w past. let is = last is_waiting p w past in (ap (permits_at (more_requests c)) is ∙ last_free c, ap (λ (s : Story). s.clock) (story_is p is));
       early = λ p o past. ap (λ (s : Story). s.overdue) (story_is p (last is_open_progress p o past));
+      unbegun = λ p u past. let is = last is_unbegun p u past in (ap (λ (s : Story). s.rounded) (story_is p is), in_fresh p is);
+      begun = λ p o u past. not_both (is_unbegun_at (more_requests c) p) u (ap (is_unbegun_at (more_requests c)) (last is_open_progress p o past) ∙ last_unbegun c);
     }
 
 -- the waits with it
@@ -245,15 +252,16 @@ asked_tied b c started word what h tame form few no_fresh up speaks some =
         shut = ap (λ s. s || false) h.numbers.shut;
         within = h.numbers.within;
         few = omega (arith, few, length-append c.table (next ∷ []));
+        unrepeated = still_unrepeated b c started (event.Submit what) h;
         settings = record { size_is = h.numbers.settings.size_is; bound_is = h.numbers.settings.bound_is; limit_is = h.numbers.settings.limit_is; some = h.numbers.settings.some; limited = h.numbers.settings.limited };
         kind_is = h.numbers.kind_is;
         quiet = λ w. absurd (submits_unwatched b (inner c started) what h form w);
-        plain = h.numbers.plain;
-        eager = h.numbers.eager;
+        comes_back = h.numbers.comes_back;
+        lazy = h.numbers.lazy;
         current_is = h.numbers.current_is;
         speaks = h.numbers.speaks;
-        one = h.numbers.one;
-        few_links = h.numbers.few_links;
+        address_is = h.numbers.address_is;
+        wants = h.numbers.wants;
       };
       others = λ m other. aside_silent (b.link m) c.turns (h.others m other);
       notices = renoticed tame h.notices;
@@ -287,6 +295,7 @@ asked_tied b c started word what h tame form few no_fresh up speaks some =
       waits = asked_waits b c started what h no_fresh;
       permits = permits_longer c.table b.story after b.submissions conn.requests (more_requests c) c.single.link conn.limit conn.free (conn.fresh ++ n ∷ []) h.names same longer h.numbers.submissions (ap (λ (s : Story). s.permits) (story_is_new b c started what h))
           (asked_next b c started what h no_fresh) h.permits;
+      rounds = rounds_longer c.table b.story after conn.requests (more_requests c) conn.fresh (conn.fresh ++ n ∷ []) h.names same longer no_fresh (asked_next b c started what h no_fresh) h.rounds;
       late = late_longer c.table b.story after conn.requests (more_requests c) (conn.fresh ++ n ∷ []) h.names same longer (asked_next b c started what h no_fresh) h.late;
     }
 

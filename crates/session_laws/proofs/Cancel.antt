@@ -32,13 +32,14 @@ use Rattle.shared_session.specs.declared.core_state.Core.{Core}
 use Rattle.shared_session.specs.Turn.{with_work, heard, is_shutdown, left_by, effect, counted, is_bad}
 use Rattle.legal_trace.specs.Ledger.{Ledger, Sourced, ending, hears, noted}
 use Rattle.legal_trace.specs.Story.{Story, is_open, is_told, left}
-use Rattle.legal_trace.specs.Book.{Book, after_event, book, entered, if_own, shuts, submitted_by, timeout_after, kind_in}
+use Rattle.legal_trace.specs.Book.{Book, after_event, book, entered, if_own, shuts, submitted_by, timeout_after, kind_in, has_generations}
 use Rattle.mux_conn.specs.Renewals.{renewal_id}
 use Rattle.mux_conn.specs.declared.renewal.Renewal.{Renewal}
+use Rattle.session_laws.proofs.Rounded.{rounds_closed}
 use Rattle.session_laws.proofs.Aside.{aside_silent}
 use Rattle.session_laws.proofs.Renewals.{renewal_alike}
 use Rattle.session_laws.proofs.Numbers.{IsIn, in_left, in_right, in_either, Rising, rising_from, rising_in, rising_right, rising_tail, requests_in, request_in, request_of, request_other, requests_first}
-use Rattle.session_laws.proofs.Tied.{carried, inner, no_link, link_in, owner_of, queue_ids, whole_link, IsQueued, IsEntry, AreQueued, TiedCreds, TiedLife, TiedStory, TiedNames, TiedNumbers, TiedPermits, TiedLines, TiedSetup, IsAside, Tied, has_ended, TiedRenewal, greeter}
+use Rattle.session_laws.proofs.Tied.{carried, inner, no_link, link_in, owner_of, queue_ids, whole_link, IsQueued, IsEntry, AreQueued, TiedCreds, TiedLife, TiedStory, TiedNames, TiedNumbers, TiedPermits, TiedLines, TiedSetup, IsAside, Tied, has_ended, TiedRenewal, greeter, TiedRounds}
 use Rattle.session_laws.proofs.States.{IsFit, IsFitIn, Between, HasApplied}
 use Rattle.session_laws.proofs.Names.{name_within, open_within, name_of_some, owners_with, length_with, names_with, with_other, with_then, request_not}
 use Rattle.session_laws.proofs.InLine.{row_ids, kept_ids, chosen_in, awaited_in, wanted_in}
@@ -48,7 +49,7 @@ use Rattle.legal_trace.specs.Legal.{NoneEnds}
 use Rattle.session_laws.proofs.Closing.{Closes, WasReady, WasSettingUp, WasWanting, closed_other, late_closed, with_closed, story_closed, tries_closed, packs_closed, queued_other, queue_closed, AreOthers, waits_closed, kept_other, IsUntried, told_closed}
 use Rattle.session_laws.proofs.Answer.{entries_answered}
 use Rattle.session_laws.proofs.Settle.{seen}
-use Rattle.session_laws.proofs.Announce.{aims_on, turn_of, turned, uses_on, uses_on, time_still}
+use Rattle.session_laws.proofs.Announce.{aims_on, turn_of, turned, uses_on, uses_on, time_still, still_unrepeated}
 use Rattle.session_laws.proofs.Kept.{tied_by}
 use Rattle.session_laws.proofs.Permits.{permits_closed}
 use Rattle.session_laws.proofs.Heard.{silent_applied, still_none, told_life, silent_no_end, tame_between}
@@ -66,8 +67,8 @@ gone_closed false b = refl
 -- the story of one who leaves closes
 leave_closes : (s : Story) → Closes s (left s)
 leave_closes s = chosen (Closes s) (is_open s) (record s { cancelled = true; permits = 0; waiting = None }) s
-    (λ t. record { submission = refl; late = refl; unspoken = refl; link = refl; time = refl; tries = refl; closed = gone_closed (is_some s.submission) (length s.outcomes == 0) })
-    (λ f. record { submission = refl; late = refl; unspoken = refl; link = refl; time = refl; tries = refl; closed = f })
+    (λ t. record { submission = refl; late = refl; unspoken = refl; link = refl; time = refl; tries = refl; rounded = refl; closed = gone_closed (is_some s.submission) (length s.outcomes == 0) })
+    (λ f. record { submission = refl; late = refl; unspoken = refl; link = refl; time = refl; tries = refl; rounded = refl; closed = f })
 
 -- its permits are free
 leave_frees : (s : Story) → is_open s ≡ true → (left s).permits ≡ 0
@@ -315,6 +316,15 @@ was_ready (SettingUp link greeting) p x e = cc
 was_ready (Ready link) p x e = (link, refl)
 was_ready (Ended y) p x e = cc
 
+-- and whether it is ready is the same
+pub ready_cancelled : (life : Life) (p : ℕ) → is_ready (cancelled_in life p) ≡ is_ready life
+ready_cancelled Resting p = refl
+ready_cancelled Dialing p = refl
+ready_cancelled (Wanting link) p = refl
+ready_cancelled (SettingUp link greeting) p = refl
+ready_cancelled (Ready link) p = refl
+ready_cancelled (Ended y) p = refl
+
 -- so was one that waits for credentials
 pub was_wanting : (life : Life) (p : ℕ) → WasWanting life (cancelled_in life p)
 was_wanting Resting p x e = cc
@@ -451,15 +461,16 @@ silent_numbers b c started word kind timeout story free life requests pending q 
   shut = q.shut;
   within = h.numbers.within;
   few = h.numbers.few;
+  unrepeated = still_unrepeated b c started kind h;
   settings = record { size_is = h.numbers.settings.size_is; bound_is = h.numbers.settings.bound_is; limit_is = h.numbers.settings.limit_is; some = h.numbers.settings.some; limited = h.numbers.settings.limited };
   kind_is = h.numbers.kind_is;
   quiet = h.numbers.quiet;
-  plain = h.numbers.plain;
-  eager = h.numbers.eager;
+  comes_back = h.numbers.comes_back;
+  lazy = h.numbers.lazy;
   current_is = h.numbers.current_is;
   speaks = h.numbers.speaks;
-  one = h.numbers.one;
-  few_links = h.numbers.few_links;
+  address_is = h.numbers.address_is;
+  wants = h.numbers.wants;
 }
 
 -- all other links stay aside
@@ -499,6 +510,7 @@ still_tied b c started word kind timeout q same h tame =
       told = h.told;
       waits = h.waits;
       permits = subst (λ k. TiedPermits b.story k conn.requests c.single.link conn.limit conn.free []) (let none = q.none in omega arith) h.permits;
+      rounds = h.rounds;
       late = h.late;
     }))
 
@@ -545,6 +557,7 @@ gone_tied b c started word p n h tame o named =
       permits = subst (λ m. TiedPermits after m requests c.single.link conn.limit free []) (none_more b.submissions)
           (permits_closed b.story after c.table b.submissions conn.requests c.single.link conn.limit conn.free [] p h.names l known (r.on o) r.permits_is (λ m other. closed_other b.story conn.requests p closed m other)
           (ap (λ (s : Story). s.permits) is ∙ leave_frees (b.story own) asked) (ap (λ (s : Story). s.link) is ∙ leave_link (b.story own) ∙ r.on o) h.permits);
+      rounds = subst (λ x. TiedRounds (has_generations b) after requests x conn.fresh conn.rounds) (sym (ready_cancelled conn.life p)) (rounds_closed b.story conn.requests conn.fresh p closed l k h.rounds);
       late = late_closed c.table b.story conn.requests p closed [] [] h.names l (λ q other i. i) h.late;
     })
 

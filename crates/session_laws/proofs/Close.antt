@@ -29,8 +29,10 @@ use Rattle.legal_trace.specs.Story.{Story}
 use Rattle.legal_trace.specs.Book.{Book, book, entered}
 use Rattle.legal_trace.specs.Owed.{owed, owed_by, owed_unstarted}
 use Rattle.legal_trace.specs.Legal.{MayClose, MayPart}
+use Rattle.session_laws.proofs.Rounded.{rounds_down}
 use Rattle.session_laws.proofs.Numbers.{IsIn, in_left, in_right, Rising, rising_in, rising_within, rising_right, rising_tail, requests_in, requests_in-append, all_requests}
 use Rattle.session_laws.proofs.Tied.{TiedCreation, Inner, no_link, link_in, owner_of, queue_ids, waiting_ids, IsKept, TiedLines, TiedWaits, Tied, relined, FailureIsShown, TiedLife, has_ended}
+use Rattle.session_laws.proofs.Unrepeated.{unrepeated_lined}
 use Rattle.session_laws.proofs.Said.{ready_shown, sources_asked}
 use Rattle.session_laws.proofs.States.{HasApplied}
 use Rattle.session_laws.proofs.InLine.{kept_ids, kept_in, line_of, IsInLine, awaited_rises, awaited_in}
@@ -123,7 +125,7 @@ close_tied b t created halted told why e parting pending ids must is shown mild 
     let after = record (entered b (action.Close t.link)) { created = created; failed = halted } in
     let last = is_last_one (b.link t.link) b.created t.life h.life up in
     tied_by after (record t { life = Ended e; told = told; pending = pending; untold = []; parting = parting }) (noted (b.link t.link) (ends turn)) (mine_noted (b.link t.link) t.link (ends turn)) (record {
-      numbers = record { turns = h.numbers.turns; links = h.numbers.links; timers = h.numbers.timers; sources = h.numbers.sources; aims = h.numbers.aims; timed = h.numbers.timed; submissions = h.numbers.submissions; timeout = h.numbers.timeout; shut = h.numbers.shut; within = h.numbers.within; few = h.numbers.few; settings = record { size_is = h.numbers.settings.size_is; bound_is = h.numbers.settings.bound_is; limit_is = h.numbers.settings.limit_is; some = h.numbers.settings.some; limited = h.numbers.settings.limited }; kind_is = h.numbers.kind_is; quiet = h.numbers.quiet; plain = h.numbers.plain; eager = h.numbers.eager; current_is = h.numbers.current_is; speaks = h.numbers.speaks; one = h.numbers.one; few_links = h.numbers.few_links };
+      numbers = record { turns = h.numbers.turns; links = h.numbers.links; timers = h.numbers.timers; sources = h.numbers.sources; aims = h.numbers.aims; timed = h.numbers.timed; submissions = h.numbers.submissions; timeout = h.numbers.timeout; shut = h.numbers.shut; within = h.numbers.within; few = h.numbers.few; unrepeated = unrepeated_lined b.link t.link (ends turn) refl h.numbers.unrepeated; settings = record { size_is = h.numbers.settings.size_is; bound_is = h.numbers.settings.bound_is; limit_is = h.numbers.settings.limit_is; some = h.numbers.settings.some; limited = h.numbers.settings.limited }; kind_is = h.numbers.kind_is; quiet = h.numbers.quiet; comes_back = h.numbers.comes_back; lazy = h.numbers.lazy; current_is = h.numbers.current_is; speaks = h.numbers.speaks; address_is = h.numbers.address_is; wants = h.numbers.wants };
       others = others_created t.link created _ on (others_kept b t.link (ends turn) h.others);
       notices = record {
         heard_is = h.notices.heard_is;
@@ -149,6 +151,7 @@ close_tied b t created halted told why e parting pending ids must is shown mild 
       told = λ n. cc;
       waits = ended_waits b.story t.requests t.life e t.fresh t.moved h.waits;
       permits = h.permits;
+      rounds = rounds_down b.story t.requests t.fresh t.fresh refl h.rounds;
       late = λ p o late. absurd (h.late p o late);
     })
 
@@ -244,7 +247,7 @@ waiting_lines story requests link waiting admitted started h =
 -- the session is tied with them to be answered
 waiting_tied : (b : Book) (t : Inner) → Tied b (record t { pending = [] }) → Tied b (record t { waiting = []; admitted = []; pending = all_kept t.admitted t.waiting })
 waiting_tied b t h =
-    relined b (record t { pending = [] }) [] [] t.fresh t.moved (all_kept t.admitted t.waiting) h (waiting_lines b.story t.requests (link_in t.life) t.waiting t.admitted t.started h.lines) h.waits (λ p o late. absurd (h.late p o late))
+    relined b (record t { pending = [] }) [] [] t.fresh t.moved (all_kept t.admitted t.waiting) h (waiting_lines b.story t.requests (link_in t.life) t.waiting t.admitted t.started h.lines) h.waits h.rounds (λ p o late. absurd (h.late p o late))
 
 -- and they are in line
 waiting_in_line : (requests : List Request) (life : Life) (admitted waiting : List Waiting) (e : RedisError) → life ≡ Ended e → IsInLine requests (link_in life) admitted waiting [] → IsInLine requests (link_in life) [] [] (all_kept admitted waiting)

@@ -34,6 +34,7 @@ pub record Closes (s c : Story) : Type 0 where
   pub link : c.link ≡ s.link
   pub time : c.timeout ≡ s.timeout
   pub tries : c.tries ≡ s.tries
+  pub rounded : c.rounded ≡ s.rounded
   pub closed : is_open c ≡ false
 
 -- the stories where that of request p closes

@@ -32,11 +32,13 @@ use Rattle.mux_conn.specs.declared.request.Waiting.{Waiting}
 use Rattle.shared_session.specs.declared.core_state.Core.{Core}
 use Rattle.shared_session.specs.Turn.{with_work, is_bad}
 use Rattle.legal_trace.specs.Ledger.{Ledger, Heard, ending, ending_unready, ending_up, is_ready as is_ready_link, lacks_credentials, setup_after, setup_count, setup_steps, Sourced, noted, noted_each, sources, source_due, Start}
-use Rattle.legal_trace.specs.Book.{Book, blank_book, book, entered, use_for, if_mine, hearing_in}
+use Rattle.legal_trace.specs.Book.{Book, blank_book, book, entered, use_for, if_mine, hearing_in, has_generations}
 use Rattle.legal_trace.specs.Story.{Story}
 use Rattle.legal_trace.specs.Legal.{AllStand, MayBeCreated, MayNeed}
 use Rattle.legal_trace.proofs.Setups.{ends_where_set, silent_is_set, silent_is_greeted}
-use Rattle.session_laws.proofs.Tied.{shown_creation, Sound, TiedCreation, never_rests, AreSetups, AreQueued, HasCredentials, IsEntry, IsQueued, IsSettingUp, IsSetupDue, IsSetUp, Inner, Tied, TiedLines, TiedNotices, TiedWaits, has_ended, inner, link_in, no_link, owner_of, queue_ids, shown_wait, waiting_ids, AreSought, AreUses, HasSaid, is_reading, AreSetupsAlone, IsWatching, greeting_at, owners_of, setup_owners, watch_queued}
+use Rattle.session_laws.proofs.Rounded.{rounds_down, rounds_new, unbegun_waits}
+use Rattle.session_laws.proofs.Tied.{shown_creation, Sound, TiedCreation, never_rests, AreSetups, AreQueued, HasCredentials, IsEntry, IsQueued, IsSettingUp, IsSetupDue, IsSetUp, Inner, Tied, TiedLines, TiedNotices, TiedWaits, has_ended, inner, link_in, no_link, owner_of, queue_ids, shown_wait, waiting_ids, AreSought, AreUses, HasSaid, is_reading, AreSetupsAlone, IsWatching, greeting_at, owners_of, setup_owners, watch_queued, TiedRounds}
+use Rattle.session_laws.proofs.Unrepeated.{unrepeated_lined}
 use Rattle.session_laws.proofs.States.{Between, HasApplied, IsFit, IsFitIn}
 use Rattle.session_laws.proofs.Creds.{has_credentials, IsOfRenewals, down_sourced}
 use Rattle.session_laws.proofs.Said.{PushesOf, ending_setting, readied, setup_recredited, well_readied}
@@ -44,7 +46,7 @@ use Rattle.session_laws.proofs.Entered.{all_stand-append, book_more, sound_more,
 use Rattle.session_laws.proofs.Settle.{Tells, seen, trace_of_acts}
 use Rattle.session_laws.proofs.InLine.{kept_ids}
 use Rattle.session_laws.proofs.Numbers.{IsIn, Rising, rising_right, requests_in}
-use Rattle.session_laws.proofs.Announce.{IsNewsKind, comes_as, heard_book, heard_is, heard_starts, heard_tied, may_turn, turn_of, turned, ComesTo, heard_tied_by, others_heard, renews_hear, uses_asked, uses_more, protocol_still}
+use Rattle.session_laws.proofs.Announce.{IsNewsKind, comes_as, heard_book, heard_is, heard_starts, heard_tied, may_turn, turn_of, turned, ComesTo, heard_tied_by, others_heard, renews_hear, uses_asked, uses_more, protocol_still, still_unrepeated}
 use Rattle.session_laws.proofs.Heard.{book_kind, book_news, fresh_applied, heard_by, none_ends, none_hears}
 use Rattle.session_laws.proofs.Ahead.{waiting_open}
 use Rattle.session_laws.proofs.Renewals.{early_renewal, renewed_first}
@@ -80,6 +82,11 @@ bare_waits b t p h none nobody e w =
       | inl i ↦ absurd (subst (λ (x : LinkState). IsIn p ([] ++ (requests_in (wanted x.row) ++ awaited_ids x.queue))) e (subst (λ ns. IsIn p (ns ++ (requests_in (wanted (link_in t.life).row) ++ awaited_ids (link_in t.life).queue))) none i))
       | inr k ↦ elim k [ inl a ↦ absurd (subst (λ ws. IsIn p (waiting_ids ws)) nobody a.1) | inr x ↦ x.1 ]
     ]
+
+-- so all whose rounds have not begun come anew
+anew_rounds : {ready : Bool} (b : Book) (t : Inner) → Tied b t → t.pending ≡ [] → t.admitted ≡ [] → link_in t.life ≡ no_link → TiedRounds (has_generations b) b.story t.requests ready (numbers_of t.waiting) t.rounds
+anew_rounds b t h none nobody bare = rounds_new b.story t.requests t.fresh (numbers_of t.waiting)
+    (λ p shows up u. subst (IsIn p) (sym (numbers_is t.waiting)) (bare_waits b t p h none nobody bare (unbegun_waits t.requests p u))) h.rounds
 
 -- those that wait, in line
 fresh_rises : (b : Book) (t : Inner) → Tied b t → Rising 0 (numbers_of t.waiting) (length t.requests)
@@ -210,6 +217,7 @@ readied_comes b c started n info link untold more created some_created h0 fit no
         over_is = none.over_is;
         came = none.came;
         waits = none.waits;
+        rounds = anew_rounds b (inner c started) h0 refl nobody early.bare;
         untimed = none.untimed;
         unstarted = none.unstarted;
         unasked = none.unasked;
@@ -324,7 +332,7 @@ makes_ready before c started word kind n info link untold h good k is other earl
         let comes = readied_comes b c started n info link untold true (b.created + 1) ((shown_creation b.created).after refl) h0 h.fit h.fresh other early facts wanted (λ x. asked) in
         let used : AreUses uses mine true l.creds.asked = uses_more c.sources mine true l.creds.asked (source.Renewal mine) (omega arith, λ same. asked) (uses_asked c.sources mine (b.link mine).creds.asked (b.link mine).creds.renews l.creds.asked once h0.uses) in
         let tied : Tied (entered created needs) t =
-        heard_tied_by b c started word (b.created + 1) (b.failed || false) true kind info (Ready link) ns [] untold links after (b.sources ++ what ∷ []) uses h0 (shown_creation b.created) (protocol_still b c started kind info l h0 own facts.info_is) (others_kept now mine sources others) ledger_is
+        heard_tied_by b c started word (b.created + 1) (b.failed || false) true kind info (Ready link) ns [] untold links after (b.sources ++ what ∷ []) uses h0 (shown_creation b.created) (protocol_still b c started kind info l h0 own facts.info_is) (others_kept now mine sources others) (unrepeated_lined now.link mine sources refl (still_unrepeated b c started kind h0)) ledger_is
         (λ i. h0.numbers.sources i ++ what_is i ∷ []) used comes in
         let need : MayNeed created count mine = record {
           due = ap source_due own ∙ (λ i. facts.made.up i && wanted i && (not (asked i) || (facts.made.said.well i && not (renews i))));
@@ -385,7 +393,7 @@ makes_ready before c started word kind n info link untold h good k is other earl
         let comes = readied_comes b c started n info link untold true b.created (h0.creation.after told) h0 h.fit h.fresh other early facts wanted (λ x. asked) in
         let used : AreUses uses mine true l.creds.asked = uses_more c.sources mine true l.creds.asked (source.Renewal mine) (omega arith, λ same. asked) (uses_asked c.sources mine (b.link mine).creds.asked (b.link mine).creds.renews l.creds.asked once h0.uses) in
         let tied : Tied (entered now needs) t =
-        heard_tied_by b c started word b.created b.failed true kind info (Ready link) ns [] untold links after (b.sources ++ what ∷ []) uses h0 (again_creation told) (protocol_still b c started kind info l h0 own facts.info_is) (others_kept now mine sources others) ledger_is
+        heard_tied_by b c started word b.created b.failed true kind info (Ready link) ns [] untold links after (b.sources ++ what ∷ []) uses h0 (again_creation told) (protocol_still b c started kind info l h0 own facts.info_is) (others_kept now mine sources others) (unrepeated_lined now.link mine sources refl (still_unrepeated b c started kind h0)) ledger_is
         (λ i. h0.numbers.sources i ++ what_is i ∷ []) used comes in
         let need : MayNeed now count mine = record {
           due = ap source_due own ∙ (λ i. facts.made.up i && wanted i && (not (asked i) || (facts.made.said.well i && not (renews i))));
@@ -538,6 +546,7 @@ comes_to_say before c started word kind n info link h good k is other early u ha
       lines = subst (λ (x : LinkState). TiedLines b.story conn.requests x conn.waiting conn.admitted [] started) early.bare h0.lines;
       told = λ z. subst (λ (x : LinkState). AreQueued b.story conn.requests c.single.link x) early.bare (h0.told early.alive);
       waits = fresh_waits b (inner c started) conn.life life h0 refl nobody h.fresh refl early.bare early.unready early.alive early.other refl;
+      rounds = rounds_down b.story conn.requests conn.fresh (numbers_of conn.waiting) refl h0.rounds;
       notices = notices;
     })
     (ending_setting l next greet.WithUser u.up said ∙ calm)
@@ -618,6 +627,7 @@ comes_to_watch before c started word kind n info link h good k is other early u 
       lines = subst (λ (x : LinkState). TiedLines b.story conn.requests x conn.waiting conn.admitted [] started) early.bare h0.lines;
       told = λ z. subst (λ (x : LinkState). AreQueued b.story conn.requests c.single.link x) early.bare (h0.told early.alive);
       waits = none_wait b.story conn.requests conn.life next greet.Monitor conn.fresh conn.moved (none_asked b (inner c started) h0 watches) h0.waits;
+      rounds = rounds_down b.story conn.requests conn.fresh conn.fresh refl h0.rounds;
       notices = notices;
     })
     (ending_setting l next greet.Monitor u.up said ∙ calm)

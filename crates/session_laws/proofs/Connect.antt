@@ -28,15 +28,17 @@ use Rattle.legal_trace.specs.Owed.{owed_by}
 use Rattle.legal_trace.specs.Ledger.{Ledger, hears, lacks_credentials, noted, noted_each, ending, ending_alive, is_over, by_opening, ends, dials, refused_in, failure_in, failure_of, source_due, sources, is_set_up, ending_asked, lasting}
 use Rattle.legal_trace.specs.Book.{Book, blank_book, book, entered, if_mine, use_for}
 use Rattle.legal_trace.specs.Legal.{AllStand, MayNeed}
+use Rattle.session_laws.proofs.Rounded.{rounds_down}
 use Rattle.session_laws.proofs.Aside.{unfailed}
 use Rattle.session_laws.proofs.Tied.{shown_creation, never_rests, AreQueued, AreSought, HasSaid, inner, no_link, link_in, carried, whole_link, owner_of, Tied, TiedLife, TiedLines, has_ended, AreUses}
+use Rattle.session_laws.proofs.Unrepeated.{unrepeated_lined}
 use Rattle.session_laws.proofs.Creds.{down_sourced}
 use Rattle.session_laws.proofs.Said.{ending_wanting, ready_heard, setting_heard, setup_hears, dropped_end}
 use Rattle.session_laws.proofs.Failing.{IsFailing, failing_applied, unready_shown, unstarted_owed}
 use Rattle.session_laws.proofs.States.{IsFit, Between, HasApplied}
 use Rattle.session_laws.proofs.Entered.{all_stand-append, book_more, sound_more, shown_more}
 use Rattle.session_laws.proofs.Settle.{seen, trace_of_acts, book_of_more}
-use Rattle.session_laws.proofs.Announce.{IsNewsKind, comes_as, heard_book, heard_is, heard_starts, heard_tied, heard_tied_by, may_turn, others_heard, turn_of, turned, uses_asked, uses_more, timed_hear}
+use Rattle.session_laws.proofs.Announce.{IsNewsKind, comes_as, heard_book, heard_is, heard_starts, heard_tied, heard_tied_by, may_turn, others_heard, turn_of, turned, uses_asked, uses_more, timed_hear, still_unrepeated}
 use Rattle.session_laws.proofs.Heard.{heard_by, book_kind, book_news, lives_as, none_ends, leads_still, quiet_applied, ended_quiet, pushes_still, none_hears, still_none}
 use Rattle.session_laws.proofs.End.{up_tied, setting_tied, setting_overdue, wanting_tied, wanting_overdue, plain_begins, IsPlain, dropped_up, plain_is}
 use Rattle.session_laws.proofs.Kept.{mine_noted, others_kept}
@@ -170,7 +172,7 @@ connected_wants before c started word kind h good k is e wants =
     let none = none_hears l0 c.turns connected conn.renewal (λ x. x) (early_renewal l0 conn.renewal conn.life early.unready early.alive h0.renewal) in
     let t = record (seen f [] (comes_as c conn.info life ns) [] started) { sources = uses } in
     let tied : Tied (entered now shown) t = heard_tied_by b c started word b.created b.failed conn.told kind conn.info life ns [] [] links after (b.sources ++ what ∷ []) uses h0 h0.creation refl
-    (others_kept now mine sources others) asked (λ i. h0.numbers.sources i ++ what_is i ∷ []) used
+    (others_kept now mine sources others) (unrepeated_lined now.link mine sources refl (still_unrepeated b c started kind h0)) asked (λ i. h0.numbers.sources i ++ what_is i ∷ []) used
     (record {
       starts = heard_starts l0 c.turns connected;
       lived = (u.asked, u.up, u.alive, u.last);
@@ -181,6 +183,7 @@ connected_wants before c started word kind h good k is e wants =
       lines = subst (λ (x : LinkState). TiedLines b.story conn.requests x conn.waiting conn.admitted [] started) early.bare h0.lines;
       told = λ z. subst (λ (x : LinkState). AreQueued b.story conn.requests c.single.link x) early.bare (h0.told early.alive);
       waits = fresh_waits b (inner c started) conn.life life h0 refl nobody h.fresh refl early.bare early.unready early.alive early.other refl;
+      rounds = rounds_down b.story conn.requests conn.fresh ns refl h0.rounds;
       notices = pushes_still before c started connected h (inl tt);
     }) in
     let may : MayNeed now (length c.sources) mine = record {
@@ -277,6 +280,7 @@ refused_fails before c started word kind f h good k is e =
       lines = subst (λ (x : Life). TiedLines b.story conn.requests (link_in x) conn.waiting conn.admitted [] started) e h0.lines;
       told = λ n. cc;
       waits = ended_waits b.story conn.requests conn.life (error.Io f) conn.fresh conn.moved h0.waits;
+      rounds = rounds_down b.story conn.requests conn.fresh conn.fresh refl h0.rounds;
       notices = pushes_still before c started (refused f) h (inl tt);
     }) in
     let book_is : book front ≡ now = book_more before (turn_of c word kind) ∙ heard_is b c.turns word kind (book_kind b c kind h0.numbers.timers k) in

@@ -13,7 +13,7 @@ use Rattle.mux_conn.specs.declared.request.Pending.{Pending}
 use Rattle.mux_conn.specs.declared.request.Progress.{Progress}
 use Rattle.mux_conn.specs.declared.request.Request.{Request}
 use Rattle.mux_conn.specs.declared.request.Waiting.{Waiting}
-use Rattle.mux_conn.specs.Requests.{is_open as is_open_progress, is_waiting, is_admitted, is_placed, is_open_at, is_waiting_at, is_admitted_at, is_placed_at, if_there, name_or_none, name_at, permits_or_none, permits_at}
+use Rattle.mux_conn.specs.Requests.{is_open as is_open_progress, is_waiting, is_admitted, is_placed, is_open_at, is_waiting_at, is_unbegun_at, is_admitted_at, is_placed_at, if_there, name_or_none, name_at, permits_or_none, permits_at}
 use Rattle.mux_conn.specs.declared.life.Life.{Life}
 use Rattle.mux_conn.specs.declared.life.Life.TheVariants.{Resting, Dialing, Ended, Ready, Wanting, SettingUp}
 use Rattle.link_core.specs.Link.{LinkState}
@@ -236,7 +236,7 @@ pub shown_longer : (table : List (Option Pending)) (story after : ℕ → Story)
 shown_longer table story after requests more p names same longer l = ap (λ (s : Story). s.waiting) (story_at table story after requests more p names same longer l)
 
 -- a request more waits for the connection, and is the one of this turn; nothing is shown of its wait, it holds no
--- permits and has no timer, and its time isn't over
+-- permits and has no timer, its time isn't over, and its round has not begun
 pub record IsNext (after : ℕ → Story) (requests more : List Request) (later : List ℕ) : Type 0 where
   pub newer : Rising 0 later (length more)
   pub only : (p : ℕ) → IsIn p later → length requests ≤ p
@@ -244,6 +244,8 @@ pub record IsNext (after : ℕ → Story) (requests more : List Request) (later 
   pub none : (p : ℕ) → (is_admitted_at more p ≡ true) ⊎ (is_placed_at more p ≡ true) → length requests ≤ p → ⊥
   pub free : (p : ℕ) → is_waiting_at more p ≡ true → length requests ≤ p → (permits_at more p ≡ 0) × ((after (name_at more p)).clock ≡ None)
   pub early : (p : ℕ) → is_open_at more p ≡ true → length requests ≤ p → (after (name_at more p)).overdue ≡ false
+  pub unbegun : (p : ℕ) → is_unbegun_at more p ≡ true → length requests ≤ p → ((after (name_at more p)).rounded ≡ false) × IsIn p later
+  pub begun : (p : ℕ) → is_open_at more p ≡ true → is_unbegun_at more p ≡ false → length requests ≤ p → ⊥
 
 -- nothing is no wait
 no_wait : (x : Option WaitKind) (kind : WaitKind) → x ≡ None → x ≢ Some kind

@@ -34,13 +34,14 @@ use Rattle.mux_conn.specs.declared.life.Greeting.{Greeting}
 use Rattle.mux_conn.specs.declared.life.Life.{Life}
 use Rattle.mux_conn.specs.declared.life.Life.TheVariants.{Resting, Dialing, Wanting, SettingUp, Ready, Ended}
 use Rattle.mux_conn.specs.declared.request.Pending.{Pending}
+use Rattle.mux_conn.specs.declared.request.Progress.TheVariants as progress
 use Rattle.mux_conn.specs.declared.request.Waiting.{Waiting}
 use Rattle.mux_conn.specs.Connection.{Work, acted, admits_none, at_life, has_room, is_due, is_ready, with_link, with_setup, with_wanting}
-use Rattle.mux_conn.specs.Requests.{answered, is_admitted_at, is_open_at, is_waiting_at, name_at}
+use Rattle.mux_conn.specs.Requests.{answered, is_admitted_at, is_open_at, is_waiting_at, name_at, is_unbegun_at, progressed}
 use Rattle.mux_conn.specs.Renewals.{is_done, renewal_asked, renewal_id, renewal_moved, renewing, replied, takes_more, is_unanswered, asked_next, renewal_timed}
 use Rattle.mux_conn.specs.Renewals.{renewed as auth_told}
 use Rattle.mux_conn.specs.Effects.{all_answered, all_fresh, answered_setup, creation_told, given_up, applied, authorized_at, behind_first, broken_at, cancelled_in, come_up, comes_to_want, connected_at, cut_short, failed_at, failed_each, heard_on, judged_by, made_ready, new_link, nobody_waits, opening_failed, overdue_at, parted, read_at, refused_at, set_up_by, sets_up, settled_each, settled_one, shut_at, steps_of, taken_at, timed_out, told_each, unauthorized_at, waiting_failed, with_credentials, dropped_at, dropped_by, ended_by, greeted, greeted_by, greeting_error, is_unreadable, noticed, noticed_each}
-use Rattle.mux_conn.specs.Passes.{admitted, admitted_at, admitted_each, let_in, moved_up, moved_up_all, moved_up_each, passed, permits_taken, placed_at, put_behind, seated, greeted_each, greeting_act, shown_each, started, started_at, still_admitted, still_waiting, timer_asked, told_at_place, took_shown}
+use Rattle.mux_conn.specs.Passes.{admitted, admitted_at, admitted_each, let_in, moved_up, moved_up_all, moved_up_each, passed, permits_taken, placed_at, put_behind, seated, greeted_each, greeting_act, shown_each, started, started_at, still_admitted, still_waiting, timer_asked, told_at_place, took_shown, moved_all, round_begun, rounds_begun, rounds_of}
 use Rattle.mux_conn.specs.Passes.{took as took_permits}
 use Rattle.mux_conn.specs.Turn.{flushed, fresh_each_shown, fresh_wait, moved_each_shown, moved_shown, moved_wait, wait_shown, written, written_at}
 use Rattle.shared_session.specs.declared.core_state.Core.{Core}
@@ -412,9 +413,17 @@ let_in_grown n w q h =
     let count = permits_taken w.conn.limit w.conn.free q.shape in
     timer_grown n (took_permits w q.number count) q.number q.timeout (took_grown n _ q.number count w.conn.limit h)
 
+-- a round that begins
+round_grown : (n : ℕ) (w : Work) (p : ℕ) → HasGrown n w.conn → HasGrown n (round_begun w p).conn
+round_grown n w p h = chosen (λ (x : Work). HasGrown n x.conn) (w.conn.rounds && is_unbegun_at w.conn.requests p) (acted (progressed w p progress.Begun) (act.Round (name_at w.conn.requests p))) w (λ t. h) (λ f. h)
+
 -- as far as it goes
 admitted_grown : (n : ℕ) (w : Work) (q : Waiting) (life : Life) → HasGrown n w.conn → HasGrown n (admitted_at w q life).conn
-admitted_grown n w q (Ready link) h = chosen (λ (x : Work). HasGrown n x.conn) (has_room (let_in w q).conn) (seated (let_in w q) q) (put_behind (let_in w q) q) (λ t. seated_grown n (let_in w q) q (let_in_grown n w q h)) (λ f. let_in_grown n w q h)
+admitted_grown n w q (Ready link) h =
+    let u = round_begun w q.number in
+    let v = let_in u q in
+    let k = let_in_grown n u q (round_grown n w q.number h) in
+    chosen (λ (x : Work). HasGrown n x.conn) (has_room v.conn) (seated v q) (put_behind v q) (λ t. seated_grown n v q k) (λ f. k)
 admitted_grown n w q (Ended e) h = answered_grown n w q.number (outcome.Fault e) h
 admitted_grown n w q Resting h = h
 admitted_grown n w q Dialing h = h
@@ -427,6 +436,14 @@ each_grown n w [] h = h
 each_grown n w (q ∷ qs) h = chosen (λ (x : Work). HasGrown n x.conn) (admits_none w.conn) (still_waiting w (q ∷ qs)) (admitted_each (admitted w q) qs)
     (λ t. h)
     (λ f. each_grown n (admitted w q) qs (chosen (λ (x : Work). HasGrown n x.conn) (is_waiting_at w.conn.requests q.number) (admitted_at w q w.conn.life) w (λ a. admitted_grown n w q w.conn.life h) (λ g. h)))
+
+-- the rounds of all that go on waiting
+rounds_grown : (n : ℕ) (w : Work) (ps : List ℕ) → HasGrown n w.conn → HasGrown n (rounds_of w ps).conn
+rounds_grown n w [] h = h
+rounds_grown n w (p ∷ ps) h = rounds_grown n (round_begun w p) ps (round_grown n w p h)
+
+begun_grown : (n : ℕ) (w : Work) → HasGrown n w.conn → HasGrown n (rounds_begun w).conn
+begun_grown n w h = chosen (λ (x : Work). HasGrown n x.conn) (w.conn.rounds && is_ready w.conn.life) (rounds_of w w.conn.fresh) w (λ t. rounds_grown n w w.conn.fresh h) (λ f. h)
 
 -- new credentials are asked for, and told
 told_grown : (n : ℕ) (w : Work) (life : Life) (cs : List Credentials) → HasGrown n w.conn → HasGrown n (renewal_moved w life cs).conn
@@ -489,7 +506,7 @@ passed_grown : (n : ℕ) (w : Work) → HasAsked n w → HasGrown n (passed w).c
 passed_grown n w h =
     let v = started (auth_told w) in
     let u = moved_up_all v in
-    each_grown n (still_waiting u []) u.conn.waiting (moved_grown n (still_admitted v []) v.conn.admitted (started_grown n (auth_told w) (renewal_grown n w h)))
+    begun_grown n (moved_all w) (each_grown n (still_waiting u []) u.conn.waiting (moved_grown n (still_admitted v []) v.conn.admitted (started_grown n (auth_told w) (renewal_grown n w h))))
 
 -- a turn
 pub turn_grown : (c : Core) (kind : EventKind) → HasGrown c.single.connection.renewal.asked (moved_on (effect (counted c) kind)).core.single.connection

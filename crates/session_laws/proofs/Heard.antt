@@ -17,13 +17,14 @@ use Rattle.mux_conn.specs.declared.life.Life.{Life}
 use Rattle.mux_conn.specs.declared.life.Life.TheVariants.{Resting, Dialing, Wanting, SettingUp, Ready, Ended}
 use Rattle.shared_session.specs.declared.core_state.Core.{Core}
 use Rattle.shared_session.specs.Turn.{with_work, is_bad}
-use Rattle.legal_trace.specs.Ledger.{Ledger, Ending, Sourced, hears, noted, ending, ending_alive, ending_asked, is_over, bytes_came, dials, refused_in, authorized_by, awaits_credentials, is_renewal_open, lost_by, may_renew, renewed_by, unrenewed_by, renewal_count}
-use Rattle.legal_trace.specs.Book.{Book, book, entered, hearing_in}
+use Rattle.legal_trace.specs.Ledger.{Ledger, Ending, Sourced, hears, noted, ending, ending_alive, ending_asked, is_over, bytes_came, dials, refused_in, authorized_by, awaits_credentials, is_renewal_open, lost_by, may_renew, renewed_by, unrenewed_by, renewal_count, is_repeating, unrepeated_by}
+use Rattle.legal_trace.specs.Book.{Book, book, entered, hearing_in, has_generations}
 use Rattle.legal_trace.specs.Story.{Story}
 use Rattle.legal_trace.specs.Legal.{NoneEnds}
 use Rattle.session_laws.proofs.Said.{mild_end, setup_on, setup_unheard, BringsNothing, PushesOf, pushes_hear, IsTame, is_tame, renoticed}
 use Rattle.session_laws.proofs.Creds.{creds_hear, down_unawaited, unawaited_is, down_may_renew, IsOfRenewals}
-use Rattle.session_laws.proofs.Tied.{Inner, inner, link_in, carried, whole_link, TiedCreds, TiedLife, TiedSetup, TiedLines, AreQueued, TiedWaits, Tied, has_ended, TiedRenewal, NoneRenewed}
+use Rattle.session_laws.proofs.Tied.{Inner, inner, link_in, carried, whole_link, TiedCreds, TiedLife, TiedSetup, TiedLines, AreQueued, TiedWaits, Tied, has_ended, TiedRenewal, NoneRenewed, TiedRounds}
+use Rattle.session_laws.proofs.Unrepeated.{down_repeats_not}
 use Rattle.session_laws.proofs.States.{IsFit, IsFitIn, Between, HasApplied}
 use Rattle.session_laws.proofs.Answer.{some_end}
 use Rattle.session_laws.proofs.Aside.{aside_ends, not_up_ends, over_not_asked}
@@ -65,6 +66,7 @@ pub record Leads (b : Book) (c : Core) (n : News) (life : Life) (pending started
   pub lines : TiedLines b.story c.single.connection.requests (link_in life) c.single.connection.waiting c.single.connection.admitted pending started
   pub told : has_ended life ≡ false → AreQueued b.story c.single.connection.requests c.single.link (link_in life)
   pub waits : TiedWaits b.story c.single.connection.requests life c.single.connection.fresh c.single.connection.moved
+  pub rounds : TiedRounds (has_generations b) b.story c.single.connection.requests (is_ready life) c.single.connection.fresh c.single.connection.rounds
   pub notices : PushesOf (hearing_in b.config) c.single.connection.hears (heard_by b c n)
 
 -- the news by the timers and the sources of the book
@@ -97,7 +99,7 @@ pub heard_begins : (before : List Action) (c : Core) (started : List ℕ) (word 
     → Leads (book before) c n life pending started → Begins (before ++ turn_of c word kind ∷ []) (turned c kind) (lives_as c life) (heard_by (book before) c n) (book before).story pending started
 heard_begins before c started word kind n life pending h good k is g =
     let s = fresh_begins before c started word kind n c.single.connection.info life c.single.connection.fresh pending h good k is
-    (record { starts = heard_starts ((book before).link c.single.link) c.turns n; lived = g.lived; creds = g.creds; renewal_is = g.renewal_is; said = g.said; linked = g.linked; lines = g.lines; told = g.told; waits = g.waits; notices = g.notices }) in
+    (record { starts = heard_starts ((book before).link c.single.link) c.turns n; lived = g.lived; creds = g.creds; renewal_is = g.renewal_is; said = g.said; linked = g.linked; lines = g.lines; told = g.told; waits = g.waits; rounds = g.rounds; notices = g.notices }) in
     record { holds = s.holds; ledger = s.ledger; stories = s.stories }
 
 -- where the link need not end then, and no act follows, the event has had its effect
@@ -157,7 +159,7 @@ creds_still l turn deserted (inl k) = refl
 creds_still l turn (renewed c) (inl k) = absurd k
 creds_still l turn unrenewed (inl k) = absurd k
 creds_still l turn (late m) (inl k) = absurd k
-creds_still l turn unrepeated (inl k) = refl
+creds_still l turn unrepeated (inl k) = chosen (λ (x : Ledger). x.creds ≡ l.creds) (is_repeating l) (unrepeated_by l) l (λ t. refl) (λ f. refl)
 creds_still l turn dropped (inl k) = refl
 creds_still l turn shut (inl k) = refl
 
@@ -176,7 +178,7 @@ dealt_still l turn deserted k = refl
 dealt_still l turn (renewed c) k = chosen (λ (x : Ledger). x.dealt ≡ l.dealt) (may_renew l) (renewed_by l c) l (λ t. refl) (λ f. refl)
 dealt_still l turn unrenewed k = chosen (λ (x : Ledger). x.dealt ≡ l.dealt) l.up (unrenewed_by l) l (λ t. refl) (λ f. refl)
 dealt_still l turn (late m) k = chosen (λ (x : Ledger). x.dealt ≡ l.dealt) (l.up && is_renewal_open l m) (lost_by l) l (λ t. refl) (λ f. refl)
-dealt_still l turn unrepeated k = refl
+dealt_still l turn unrepeated k = chosen (λ (x : Ledger). x.dealt ≡ l.dealt) (is_repeating l) (unrepeated_by l) l (λ t. refl) (λ f. refl)
 dealt_still l turn dropped k = refl
 dealt_still l turn shut k = refl
 
@@ -201,7 +203,8 @@ none_new l turn deserted other = (refl, refl, refl, refl)
 none_new l turn (renewed c) other = absurd (other tt)
 none_new l turn unrenewed other = absurd (other tt)
 none_new l turn (late m) other = absurd (other tt)
-none_new l turn unrepeated other = (refl, refl, refl, refl)
+none_new l turn unrepeated other =
+    chosen (λ (x : Ledger). (x.creds.over ≡ l.creds.over) × (x.creds.renewals ≡ l.creds.renewals) × (x.creds.timed ≡ l.creds.timed) × (x.creds.lost ≡ l.creds.lost)) (is_repeating l) (unrepeated_by l) l (λ t. (refl, refl, refl, refl)) (λ f. (refl, refl, refl, refl))
 none_new l turn dropped other = (refl, refl, refl, refl)
 none_new l turn shut other = (refl, refl, refl, refl)
 
@@ -226,7 +229,7 @@ none_hears l turn n r other h =
 pub leads_on : (before : List Action) (c : Core) (started : List ℕ) (n : News) → Between before c started → BringsNothing n ⊎ (((book before).link c.single.link).up ≡ false) → (let l = heard_by (book before) c n in let life = c.single.connection.life in
     TiedLife l (book before).created life × TiedCreds l.creds c.single.connection.renewal.wanted life × TiedSetup l c.single.connection.info started life × (has_ended life ≡ false → TiedLink (carried life c.single.connection.requests) l (whole_link life)))
     → Leads (book before) c n c.single.connection.life [] started
-leads_on before c started n h k g = record { lived = g.0; creds = g.1; renewal_is = renewal_still ((book before).link c.single.link) c.turns n c.single.connection.renewal c.single.connection.life k h.sound.tied.renewal; said = g.2; linked = g.3; lines = h.sound.tied.lines; told = h.sound.tied.told; waits = h.sound.tied.waits; notices = pushes_still before c started n h k }
+leads_on before c started n h k g = record { lived = g.0; creds = g.1; renewal_is = renewal_still ((book before).link c.single.link) c.turns n c.single.connection.renewal c.single.connection.life k h.sound.tied.renewal; said = g.2; linked = g.3; lines = h.sound.tied.lines; told = h.sound.tied.told; waits = h.sound.tied.waits; rounds = h.sound.tied.rounds; notices = pushes_still before c started n h k }
 
 -- what the news are is of no account for how far a link has come
 pub told_life : (l : Ledger) (created : ℕ) (life : Life) (n : News) → TiedLife l created life → TiedLife (record l { heard = n }) created life
@@ -254,6 +257,7 @@ leads_still before c started n h stays =
       lines = t.lines;
       told = t.told;
       waits = t.waits;
+      rounds = t.rounds;
       notices = subst (λ (x : Ledger). PushesOf (hearing_in b.config) conn.hears x) (sym stays) (renoticed (tame_between before c started h) t.notices);
     }
 
@@ -281,7 +285,7 @@ ended_hears l created e turn (authorized c) h = subst (λ (x : Ledger). TiedLife
 ended_hears l created e turn (renewed c) h = if_false (λ (x : Ledger). TiedLife x created (Ended e)) (may_renew l) (renewed_by l c) l (down_may_renew l h.0) h
 ended_hears l created e turn unrenewed h = if_false (λ (x : Ledger). TiedLife x created (Ended e)) l.up (unrenewed_by l) l h.0 h
 ended_hears l created e turn (late m) h = if_false (λ (x : Ledger). TiedLife x created (Ended e)) (l.up && is_renewal_open l m) (lost_by l) l (ap (λ u. u && is_renewal_open l m) h.0) h
-ended_hears l created e turn unrepeated h = h
+ended_hears l created e turn unrepeated h = if_false (λ (x : Ledger). TiedLife x created (Ended e)) (is_repeating l) (unrepeated_by l) l (down_repeats_not l h.0) h
 ended_hears l created e turn (denied text) h = h
 ended_hears l created e turn deserted h = h
 ended_hears l created e turn dropped h = h

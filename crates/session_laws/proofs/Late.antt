@@ -34,12 +34,13 @@ use Rattle.shared_session.specs.Turn.{with_work, late_by, effect, counted, is_ba
 use Rattle.legal_trace.specs.Ledger.{hears, is_over, noted}
 use Rattle.legal_trace.specs.Owed.{owed, owed_to_try}
 use Rattle.legal_trace.specs.Story.{Story, answered, awaited_in, bytes_of, fires, is_no_error, is_open, is_told, last_of}
-use Rattle.legal_trace.specs.Book.{Book, after_event, book, entered, if_own, is_clock_of, kind_in, timeout_after}
+use Rattle.legal_trace.specs.Book.{Book, after_event, book, entered, if_own, is_clock_of, kind_in, timeout_after, has_generations}
 use Rattle.legal_trace.specs.Legal.{NoneEnds}
 use Rattle.mux_conn.specs.Renewals.{renewal_id}
+use Rattle.session_laws.proofs.Rounded.{rounds_same}
 use Rattle.session_laws.proofs.Renewals.{renewal_alike}
 use Rattle.session_laws.proofs.Numbers.{IsIn, in_left, in_right, in_either, Rising, rising_in, rising_right, rising_tail, requests_in, request_in, request_of, request_other}
-use Rattle.session_laws.proofs.Tied.{Inner, inner, no_link, link_in, queue_ids, IsEntry, IsQueued, IsRequest, AreQueued, TiedLines, TiedPermits, TiedStory, TiedWaits, Tied, has_ended, shown_wait}
+use Rattle.session_laws.proofs.Tied.{Inner, inner, no_link, link_in, queue_ids, IsEntry, IsQueued, IsRequest, AreQueued, TiedLines, TiedPermits, TiedStory, TiedWaits, Tied, has_ended, shown_wait, TiedRounds}
 use Rattle.session_laws.proofs.States.{Between, HasApplied}
 use Rattle.session_laws.proofs.Behind.{open_untold}
 use Rattle.session_laws.proofs.Names.{name_of_some, open_within, same_name, request_not}
@@ -52,7 +53,7 @@ use Rattle.session_laws.proofs.Answer.{answer_apart, may_answer, owed_untold, no
 use Rattle.session_laws.proofs.Settle.{book_of_more, holds_more, seen, trace_of_acts}
 use Rattle.session_laws.proofs.Announce.{announced_sound, first_book, holds_first, turn_of, turned, uses_on, time_still}
 use Rattle.session_laws.proofs.Heard.{silent_applied, still_none, tame_between}
-use Rattle.session_laws.proofs.Cancel.{IsSilent, left_creds, left_fit, left_life, left_link, left_others, left_setup, none_more, queued_apart, silenced_wanted, silent_core, silent_ends, silent_numbers, silent_others, still_dials, still_tied, was_ready, was_setting, was_wanting, without_awaited, without_in, without_others, without_rises, apart_behind, rising_behind, left_renewal}
+use Rattle.session_laws.proofs.Cancel.{IsSilent, left_creds, left_fit, left_life, left_link, left_others, left_setup, none_more, queued_apart, silenced_wanted, silent_core, silent_ends, silent_numbers, silent_others, still_dials, still_tied, was_ready, was_setting, was_wanting, without_awaited, without_in, without_others, without_rises, apart_behind, rising_behind, left_renewal, ready_cancelled}
 use Rattle.driver_model.specs.declared.kind.SessionKind.{SessionKind}
 use Rattle.driver_model.specs.declared.kind.SessionKind.TheVariants as session
 use Rattle.driver_model.specs.Kind.{has_timeouts}
@@ -84,6 +85,12 @@ fired_at : (m : ℕ) (story : ℕ → Story) (n : ℕ) → IsFired (story n) (fi
 fired_at m story n = chosen (IsFired (story n)) (m == n) (fires (story n)) (story n)
     (λ t. fires_same (story n))
     (λ f. record { submission = refl; timeout = refl; tries = refl; waiting = refl; outcomes = refl; holds = record { link = refl; permits = refl; timeout = refl; clock = refl } })
+
+-- its round is as it was
+fires_rounds : (m : ℕ) (story : ℕ → Story) (n : ℕ) → (fires_at m story n).rounded ≡ (story n).rounded
+fires_rounds m story n = chosen (λ (x : Story). x.rounded ≡ (story n).rounded) (m == n) (fires (story n)) (story n)
+    (λ t. chosen (λ (x : Story). x.rounded ≡ (story n).rounded) (is_open (story n)) (record (story n) { overdue = true }) (story n) (λ o. refl) (λ f. refl))
+    (λ f. refl)
 
 -- a request is one still
 fires_request : (s : Story) (requests : List Request) (link p : ℕ) → IsRequest s requests link p → IsRequest (fires s) requests link p
@@ -313,6 +320,7 @@ late_tied b c started word n p h tame is o =
       told = late_told b.story conn.requests c.single.link conn.life p asked h.told;
       waits = late_waits b.story conn.requests m conn.life p kept conn.fresh conn.moved line h.waits;
       permits = subst (λ k. TiedPermits after k conn.requests c.single.link conn.limit conn.free []) (none_more b.submissions) (permits_same b.story after b.submissions conn.requests c.single.link conn.limit conn.free [] (λ k. (fired_at m b.story k).holds) h.permits);
+      rounds = subst (λ x. TiedRounds (has_generations b) after conn.requests x conn.fresh conn.rounds) (sym (ready_cancelled conn.life p)) (rounds_same b.story after conn.requests conn.fresh (fires_rounds m b.story) h.rounds);
       late = λ k open_k late_k. by_test (p == k) _
           (λ e. inl (eq_from p k e))
           (λ f.

@@ -1,12 +1,13 @@
 -- Every replay is legal.
-use Rattle.std.proofs.Common.{List, None, Option, Some, [], ap, append_assoc, false, length, refl, slice_get, subst, sym, ℕ, ◌+◌, ◌++◌, ◌∙◌, ◌∷◌, ◌≡◌, ◌<◌, nat_le, arith}
+use Rattle.std.proofs.Common.{Bool, List, None, Option, Some, [], is_some, true, ap, append_assoc, false, length, refl, slice_get, subst, sym, ℕ, ◌+◌, ◌++◌, ◌∙◌, ◌∷◌, ◌≡◌, ◌<◌, nat_le, arith}
 use Rattle.std.proofs.lemmas.List.{append-nil}
 use Rattle.std.specs.Prelude.{if◌then◌else◌, ◌==◌, ◌^◌}
-use Rattle.containers.proofs.Choices.{chosen, not_le_from, or_left, or_right}
+use Rattle.containers.proofs.Choices.{chosen, or_right}
 use Rattle.connection_info.specs.declared.address.ConnectionInfo.{ConnectionInfo}
 use Rattle.redis_error.specs.declared.redis_error.RedisError.TheVariants as error
 use Rattle.driver_model.specs.Request.{packed_bytes, lacks_resp3}
-use Rattle.driver_model.specs.Config.{address, connect_timeout}
+use Rattle.driver_model.specs.Config.{address, connect_timeout, is_lazy, manager_of}
+use Rattle.manager_config.specs.declared.config.ConnectionManagerConfig.{ConnectionManagerConfig}
 use Rattle.driver_model.specs.Kind.{has_timeouts}
 use Rattle.driver_model.specs.declared.action.Action.{Action}
 use Rattle.driver_model.specs.declared.action.Action.TheVariants as action
@@ -23,20 +24,26 @@ use Rattle.driver_model.specs.declared.event.Submission.{Submission}
 use Rattle.mux_conn.specs.declared.act.LinkAct.{LinkAct}
 use Rattle.mux_conn.specs.declared.act.LinkAct.TheVariants as act
 use Rattle.mux_conn.specs.declared.request.Pending.{Pending}
-use Rattle.shared_session.specs.Replay.{AreGood, AreGoodOn, is_bad_after, opening_core, opening_actions, outcome_at, outcomes_in, run_on, state_after, trace_of, turns_on, IsSound, connect_asked, AreUnspent, AreUnspentOn}
-use Rattle.shared_session.specs.Turn.{Turning, actions_of, asked_for, counted, effect, fired_by, heard, is_bad, late_by, left_by, moved_on, refused_with, shown_each, submitted, next_turn, numbered, source_of, timer_of, spends, has_run_out}
+use Rattle.shared_session.specs.Replay.{AreGood, AreGoodOn, is_bad_after, opening_core, opening_actions, outcome_at, outcomes_in, run_on, state_after, trace_of, turns_on, IsSound, begun_as, connect_asked, AreUnspent, AreUnspentOn}
+use Rattle.shared_session.specs.declared.generations.Comeback.{Comeback}
+use Rattle.shared_session.specs.declared.generations.Comeback.TheVariants as comeback
+use Rattle.shared_session.specs.declared.generations.Generations.{Generations}
+use Rattle.shared_session.specs.Generations.{comeback_shown_in, connect_timed, generation_shown}
+use Rattle.shared_session.specs.Turn.{Turning, actions_of, comeback_by, effects_of, last_acts, shown_behind, asked_for, counted, effect, fired_by, heard, is_bad, late_by, left_by, moved_on, refused_with, shown_each, submitted, next_turn, numbered, source_of, timer_of, spends}
+use Rattle.shared_session.proofs.Plain.{plain_after, plain_effects, plain_turn}
+use Rattle.shared_session.proofs.Spent.{room_left}
+use Rattle.shared_session.proofs.Stays.{turn_plain}
 use Rattle.shared_session.specs.declared.core_state.Core.{Core}
 use Rattle.legal_trace.specs.Book.{book}
 use Rattle.legal_trace.specs.Events.{is_bad_event}
 use Rattle.legal_trace.specs.Legal.{Legal, causes, event_causes}
 use Rattle.session_laws.proofs.Announce.{same_badness}
 use Rattle.session_laws.proofs.Effects.{effect_holds}
-use Rattle.session_laws.proofs.Opening.{opening_between}
+use Rattle.session_laws.proofs.Opening.{opening_between, opening_unasked}
 use Rattle.session_laws.proofs.Outcomes.{last_told}
 use Rattle.session_laws.proofs.Settled.{IsBetween, moved_on_between}
 use Rattle.session_laws.proofs.States.{trace_with}
 use Rattle.session_laws.specs.Outcomes.{last_outcome}
-use Rattle.mux_conn.specs.Connection.{is_used_up}
 
 -- a turn
 --
@@ -101,28 +108,29 @@ effect_still c (event.WriteFault l kind) = (refl, refl, refl)
 effect_still c event.DropStream = (refl, refl, refl)
 effect_still c event.Shutdown = (refl, refl, refl)
 
--- one turn leads from between two turns to between the next two
-pub turn_between : (before : List Action) (c : Core) (e : Event) → IsBetween before c → is_bad c e.kind ≡ false → length c.table < 2 ^ 32 → IsBetween (before ++ actions_of c e) (next_turn c e.kind).core
-unfolding next_turn
-turn_between before c e h good room =
+-- one turn of a session that doesn't come back leads from between two turns to between the next two
+pub turn_between : (before : List Action) (c : Core) (e : Event) → is_some c.manager ≡ false → IsBetween before c → is_bad c e.kind ≡ false → length c.table < 2 ^ 32 → IsBetween (before ++ actions_of c e) (next_turn c e.kind).core
+turn_between before c e plain h good room =
     let a = action.Turn c.turns (cause.Event e) in
     let applied = effect_holds before c h.started e.word e.kind h.between good room in
     let t = effect (counted c) e.kind in
     let still = effect_still c e.kind in
     let acts = (moved_on t).acts in
     let done = moved_on_between (before ++ a ∷ []) t h.started applied in
+    let next : next_turn c e.kind ≡ numbered (moved_on t) = plain_turn c e.kind plain in
+    let shown : effects_of c e ≡ shown_each c.single.link (length c.timers) (length c.sources) acts =
+    plain_effects c e plain ∙ ap (λ (u : Turning). shown_each c.single.link (length c.timers) (length c.sources) u.acts) next in
     let same : trace_with (before ++ a ∷ []) (moved_on t) ≡ before ++ actions_of c e =
-    append_assoc before (a ∷ []) (shown_each t.core.single.link (length t.core.timers) (length t.core.sources) acts) ∙ (λ i. before ++ a ∷ shown_each (still.0 i) (length (still.1 i)) (length (still.2 i)) acts) in
-    subst (λ (x : List Action). IsBetween x (numbered (moved_on t)).core) same done
+    append_assoc before (a ∷ []) (shown_each t.core.single.link (length t.core.timers) (length t.core.sources) acts) ∙ (λ i. before ++ a ∷ shown_each (still.0 i) (length (still.1 i)) (length (still.2 i)) acts)
+    ∙ ap (λ (xs : List Action). before ++ a ∷ xs) (sym shown) in
+    subst (λ (x : List Action). IsBetween x (next_turn c e.kind).core) same (subst (λ (u : Turning). IsBetween (trace_with (before ++ a ∷ []) (moved_on t)) u.core) (sym next) done)
 
 -- a history
 --
 -- where a step isn't spent, numbers for submissions are left behind it
 room_next : (c : Core) (e : Event) → spends c e ≡ false → length (next_turn c e.kind).core.table < 2 ^ 32
-unfolding spends has_run_out
-room_next c e unspent =
-    let next = (next_turn c e.kind).core in
-    not_le_from (2 ^ 32) (length next.table) (or_left (nat_le (2 ^ 32) (length next.table)) _ (or_right (is_used_up next.single.connection) _ (or_right (nat_le (2 ^ 32) c.turns) _ unspent)))
+unfolding spends
+room_next c e unspent = room_left (next_turn c e.kind).core (or_right (nat_le (2 ^ 32) c.turns) _ unspent)
 
 -- so they are behind a history
 room_on : (c : Core) (es : List Event) → length c.table < 2 ^ 32 → AreUnspentOn c es → length (run_on c es).table < 2 ^ 32
@@ -132,19 +140,19 @@ room_on c (e ∷ es) room unspent = room_on (next_turn c e.kind).core es (room_n
 -- from the opening on
 pub room_behind : (config : Config) (word : ℕ) (events : List Event) → AreUnspent config word events → length (state_after config word events).table < 2 ^ 32
 unfolding state_after AreUnspent
-room_behind config word events unspent = room_on (opening_core config word) events (omega arith) unspent
+room_behind config word events unspent = room_on (opening_core config word) events (let none = (opening_unasked config word).submitted in omega arith) unspent
 
 -- each turn leads on
-turns_between : (before : List Action) (c : Core) (es : List Event) → IsBetween before c → AreGoodOn c es → AreUnspentOn c es → length c.table < 2 ^ 32 → IsBetween (before ++ turns_on c es) (run_on c es)
-turns_between before c [] h good unspent room = subst (λ (x : List Action). IsBetween x c) (sym (append-nil before)) h
-turns_between before c (e ∷ es) h good unspent room =
+turns_between : (before : List Action) (c : Core) (es : List Event) → is_some c.manager ≡ false → IsBetween before c → AreGoodOn c es → AreUnspentOn c es → length c.table < 2 ^ 32 → IsBetween (before ++ turns_on c es) (run_on c es)
+turns_between before c [] plain h good unspent room = subst (λ (x : List Action). IsBetween x c) (sym (append-nil before)) h
+turns_between before c (e ∷ es) plain h good unspent room =
     subst (λ (x : List Action). IsBetween x (run_on (next_turn c e.kind).core es)) (append_assoc before (actions_of c e) (turns_on (next_turn c e.kind).core es))
-    (turns_between (before ++ actions_of c e) (next_turn c e.kind).core es (turn_between before c e h good.0 room) good.1 unspent.1 (room_next c e unspent.0))
+    (turns_between (before ++ actions_of c e) (next_turn c e.kind).core es (turn_plain c e.kind ∙ plain) (turn_between before c e plain h good.0 room) good.1 unspent.1 (room_next c e unspent.0))
 
 -- the session after a history, and its trace
-pub replay_between : (config : Config) (word : ℕ) (events : List Event) → IsSound config → AreGood config word events → AreUnspent config word events → IsBetween (trace_of config word events) (state_after config word events)
+pub replay_between : (config : Config) (word : ℕ) (events : List Event) → manager_of config ≡ None → IsSound config → AreGood config word events → AreUnspent config word events → IsBetween (trace_of config word events) (state_after config word events)
 unfolding trace_of state_after AreGood AreUnspent
-replay_between config word events sound good unspent = turns_between (opening_actions config word) (opening_core config word) events (opening_between config word sound) good unspent (omega arith)
+replay_between config word events none sound good unspent = turns_between (opening_actions config word) (opening_core config word) events (plain_after config word [] none) (opening_between config word none sound) good unspent (let empty = (opening_unasked config word).submitted in omega arith)
 
 -- the causes of its turns
 --
@@ -157,6 +165,7 @@ causes-append (_ ∷ xs) ys = causes-append xs ys
 no_causes : (l n c : ℕ) (acts : List LinkAct) → causes (shown_each l n c acts) ≡ []
 no_causes l n c [] = refl
 no_causes l n c (act.Created e ∷ acts) = no_causes l (n + length (timer_of l (act.Created e))) (c + length (source_of l (act.Created e))) acts
+no_causes l n c (act.Round k ∷ acts) = no_causes l (n + length (timer_of l (act.Round k))) (c + length (source_of l (act.Round k))) acts
 no_causes l n c (act.Took k count ∷ acts) = no_causes l (n + length (timer_of l (act.Took k count))) (c + length (source_of l (act.Took k count))) acts
 no_causes l n c (act.Timer k ms ∷ acts) = no_causes l (n + length (timer_of l (act.Timer k ms))) (c + length (source_of l (act.Timer k ms))) acts
 no_causes l n c (act.RenewalTimer k ms ∷ acts) = no_causes l (n + length (timer_of l (act.RenewalTimer k ms))) (c + length (source_of l (act.RenewalTimer k ms))) acts
@@ -174,13 +183,43 @@ no_causes l n c (act.SetUp m count len ∷ acts) = no_causes l (n + length (time
 no_causes l n c (act.Renewed m count len ∷ acts) = no_causes l (n + length (timer_of l (act.Renewed m count len))) (c + length (source_of l (act.Renewed m count len))) acts
 no_causes l n c (act.Outcome k o ∷ acts) = no_causes l (n + length (timer_of l (act.Outcome k o))) (c + length (source_of l (act.Outcome k o))) acts
 
+-- nor is what a manager does of its own
+--
+timed_causes : (l timer : ℕ) (bound : Option ℕ) → causes (connect_timed l timer bound) ≡ []
+timed_causes l timer None = refl
+timed_causes l timer (Some ms) = refl
+
+-- also where a generation begins with it
+dialled_causes : (number : Option ℕ) (rest : List Action) → causes (generation_shown number ++ rest) ≡ causes rest
+dialled_causes None rest = refl
+dialled_causes (Some number) rest = refl
+
+-- in all that it shows
+comeback_causes : (m : Option Generations) (word : ℕ) (what : Comeback) → causes (comeback_shown_in m word what) ≡ []
+comeback_causes None word what = refl
+comeback_causes (Some g) word comeback.Stays = refl
+comeback_causes (Some g) word (comeback.Rests number attempt timer) = refl
+comeback_causes (Some g) word (comeback.Dials l number timer) =
+    dialled_causes number (action.Connect l g.info.host g.info.port ∷ connect_timed l timer g.settings.connection.connection_timeout) ∙ timed_causes l timer g.settings.connection.connection_timeout
+
+-- so a turn has no cause but its own
+effect_causes : (c : Core) (e : Event) → causes (effects_of c e) ≡ []
+effect_causes c e =
+    let next = (next_turn c e.kind).core in
+    let acts = shown_each c.single.link (length c.timers) (length c.sources) (next_turn c e.kind).acts in
+    let back = comeback_shown_in next.manager e.word (comeback_by c e.kind) in
+    let last = shown_behind next (last_acts c e.kind) in
+    let none : causes acts ≡ [] = no_causes c.single.link (length c.timers) (length c.sources) (next_turn c e.kind).acts in
+    chosen (λ (xs : List Action). causes xs ≡ []) (is_some c.manager) (acts ++ (back ++ last)) acts
+    (λ t. causes-append acts (back ++ last) ∙ (λ i. none i ++ causes (back ++ last)) ∙ causes-append back last
+    ∙ (λ i. comeback_causes next.manager e.word (comeback_by c e.kind) i ++ no_causes next.single.link (length next.timers) (length next.sources) (last_acts c e.kind) i))
+    (λ f. none)
+
 -- a turn for each event
 turns_causes : (c : Core) (es : List Event) → causes (turns_on c es) ≡ event_causes es
 turns_causes c [] = refl
 turns_causes c (e ∷ es) =
-    ap (λ cs. cause.Event e ∷ cs)
-    (causes-append (shown_each c.single.link (length c.timers) (length c.sources) (next_turn c e.kind).acts) (turns_on (next_turn c e.kind).core es)
-    ∙ (λ i. no_causes c.single.link (length c.timers) (length c.sources) (next_turn c e.kind).acts i ++ turns_causes (next_turn c e.kind).core es i))
+    ap (λ cs. cause.Event e ∷ cs) (causes-append (effects_of c e) (turns_on (next_turn c e.kind).core es) ∙ (λ i. effect_causes c e i ++ turns_causes (next_turn c e.kind).core es i))
 
 -- the opening asks for what it asks, and is the cause of all of it
 opening_causes : (x : Option ConnectionInfo) (timeout : Option ℕ) (rest : List Action) → causes (connect_asked x timeout ++ rest) ≡ causes rest
@@ -188,23 +227,30 @@ opening_causes None timeout rest = refl
 opening_causes (Some info) None rest = refl
 opening_causes (Some info) (Some ms) rest = refl
 
+-- also where a generation begins as it does
+begun_causes : (m : Option ConnectionManagerConfig) (lazy : Bool) (x : Option ConnectionInfo) (timeout : Option ℕ) (rest : List Action) → causes (begun_as m lazy (connect_asked x timeout) ++ rest) ≡ causes rest
+begun_causes None lazy x timeout rest = opening_causes x timeout rest
+begun_causes (Some settings) false x timeout rest = opening_causes x timeout rest
+begun_causes (Some settings) true x timeout rest = refl
+
 -- behind the opening
 replay_causes : (config : Config) (word : ℕ) (events : List Event) → causes (trace_of config word events) ≡ cause.Opening config word ∷ event_causes events
 unfolding trace_of
-replay_causes config word events = ap (λ cs. cause.Opening config word ∷ cs) (opening_causes (address config) (connect_timeout config) (turns_on (opening_core config word) events) ∙ turns_causes (opening_core config word) events)
+replay_causes config word events =
+    ap (λ cs. cause.Opening config word ∷ cs) (begun_causes (manager_of config) (is_lazy config) (address config) (connect_timeout config) (turns_on (opening_core config word) events) ∙ turns_causes (opening_core config word) events)
 
--- every replay is legal
-pub replay_legal : (config : Config) (word : ℕ) (events : List Event) → IsSound config → AreGood config word events → AreUnspent config word events → Legal config word events (trace_of config word events)
-replay_legal config word events sound good unspent =
-    let h = replay_between config word events sound good unspent in
+-- every replay of what doesn't come back is legal
+pub replay_legal : (config : Config) (word : ℕ) (events : List Event) → manager_of config ≡ None → IsSound config → AreGood config word events → AreUnspent config word events → Legal config word events (trace_of config word events)
+replay_legal config word events none sound good unspent =
+    let h = replay_between config word events none sound good unspent in
     record { turns = replay_causes config word events; each = h.between.sound.stands; settled = h.between.settled }
 
 -- behind it, the bad events are those of its book
-pub bad_of_the_book : (config : Config) (word : ℕ) (events : List Event) (e : Event) → IsSound config → AreGood config word events → AreUnspent config word events → is_bad_after config word events e ≡ is_bad_event (book (trace_of config word events)) e.kind
-bad_of_the_book config word events e sound good unspent =
-    let h = replay_between config word events sound good unspent in
+pub bad_of_the_book : (config : Config) (word : ℕ) (events : List Event) (e : Event) → manager_of config ≡ None → IsSound config → AreGood config word events → AreUnspent config word events → is_bad_after config word events e ≡ is_bad_event (book (trace_of config word events)) e.kind
+bad_of_the_book config word events e none sound good unspent =
+    let h = replay_between config word events none sound good unspent in
     sym (same_badness (book (trace_of config word events)) (state_after config word events) h.started e.kind h.between.sound.tied)
 
 -- and its outcomes are those of its book
-pub replay_outcomes : (config : Config) (word : ℕ) (events : List Event) (n : ℕ) → IsSound config → AreGood config word events → AreUnspent config word events → outcome_at (outcomes_in (trace_of config word events)) n ≡ last_outcome ((book (trace_of config word events)).story n).outcomes
-replay_outcomes config word events n sound good unspent = let h = replay_between config word events sound good unspent in last_told (trace_of config word events) n h.between.sound.stands
+pub replay_outcomes : (config : Config) (word : ℕ) (events : List Event) (n : ℕ) → manager_of config ≡ None → IsSound config → AreGood config word events → AreUnspent config word events → outcome_at (outcomes_in (trace_of config word events)) n ≡ last_outcome ((book (trace_of config word events)).story n).outcomes
+replay_outcomes config word events n none sound good unspent = let h = replay_between config word events none sound good unspent in last_told (trace_of config word events) n h.between.sound.stands

@@ -2,6 +2,7 @@ pub mod Numbers
 pub mod Tied
 pub mod States
 pub mod Creds
+pub mod Unrepeated
 pub mod Aside
 pub mod SetUp
 pub mod SameSaid
@@ -52,10 +53,12 @@ pub mod Read
 pub mod Cancel
 pub mod Late
 pub mod Further
+pub mod Rounded
 pub mod Submit
 pub mod Asked
 pub mod Effects
 pub mod Renews
+pub mod Rounds
 pub mod Passes
 pub mod Moved
 pub mod Write

@@ -11,17 +11,21 @@ use Rattle.driver_model.specs.declared.action.Cause.TheVariants as cause
 use Rattle.driver_model.specs.declared.config.Config.{Config}
 use Rattle.driver_model.specs.declared.config.Config.TheVariants as variant
 use Rattle.driver_model.specs.declared.kind.SessionKind.TheVariants as kind
-use Rattle.driver_model.specs.Config.{address, boundary, kind_of, buffer_fault, buffer_size, connect_timeout, response_timeout, room_fault, told_info, hearing_of, hearing_in, permits, wants_credentials}
+use Rattle.driver_model.specs.Config.{is_lazy as waits_for_use}
+use Rattle.driver_model.specs.Config.{address, manager_of, boundary, kind_of, buffer_fault, buffer_size, connect_timeout, response_timeout, room_fault, told_info, hearing_of, hearing_in, permits, wants_credentials}
 use Rattle.driver_model.specs.declared.action.Action.{Action}
 use Rattle.driver_model.specs.declared.action.Purpose.{Purpose}
 use Rattle.driver_model.specs.declared.action.Purpose.TheVariants as purpose
 use Rattle.link_laws.proofs.TiedLink.{asked_tied, fresh_tied}
 use Rattle.mux_conn.specs.Turn.{dialing}
 use Rattle.mux_conn.specs.declared.life.Life.TheVariants.{Dialing}
-use Rattle.shared_session.specs.Replay.{IsSound, connect_asked, connect_timers, first_link, opening_core, opening_actions, timer_asked}
+use Rattle.shared_session.specs.Replay.{IsSound, begun_as, connect_asked, connect_timers, first_link, opening_core, opening_actions, single_core, timer_asked, as_managed}
+use Rattle.shared_session.proofs.Plain.{plain_opening}
 use Rattle.shared_session.specs.declared.core_state.Core.{Core}
 use Rattle.legal_trace.specs.Book.{Book, blank_book, book, entered, has_generations}
 use Rattle.legal_trace.specs.Managers.{is_last, is_lazy, settings_in}
+use Rattle.legal_trace.specs.Again.{repeats_in}
+use Rattle.manager_config.specs.declared.config.ConnectionManagerConfig.{ConnectionManagerConfig}
 use Rattle.legal_trace.proofs.Managers.{never_lazy, no_settings}
 use Rattle.legal_trace.specs.Ledger.{Ledger, Line, Start, asks, blank_ledger, ending, noted_each, setup_count, failure_in, is_cut, is_ready, next_notice, noted, source_due}
 use Rattle.legal_trace.specs.Legal.{AllStand, IsSettled, NoneEnds, IsShown, begins_first, current_link, generation_due, is_attempt, is_caused, rest_due}
@@ -29,7 +33,8 @@ use Rattle.legal_trace.specs.Story.{blank_story}
 use Rattle.session_laws.proofs.Going.{is_moved}
 use Rattle.session_laws.proofs.Settled.{IsBetween, is_settled}
 use Rattle.session_laws.proofs.States.{IsFitIn, IsStill}
-use Rattle.session_laws.proofs.Tied.{AreAimed, IsAim, IsAside, Tied, TiedLines, TiedNames, TiedNumbers, TiedPermits, TiedTries, TiedWaits, inner, no_link, owner_of, owners_of, setup_owners}
+use Rattle.session_laws.proofs.Tied.{AreAimed, IsAim, IsAside, Tied, TiedLines, TiedNames, TiedNumbers, TiedPermits, TiedTries, TiedWaits, inner, no_link, owner_of, owners_of, setup_owners, AreUnrepeated}
+use Rattle.session_laws.proofs.Unrepeated.{sound_repeats_not}
 use Rattle.session_laws.proofs.Waits.{IsQuiet}
 use Rattle.session_laws.proofs.Write.{is_written}
 use Rattle.mux_conn.specs.Renewals.{no_renewal}
@@ -47,29 +52,27 @@ opened config word info timers = asks_timers timers (entered (entered blank_book
 
 -- the session then
 abbrev opened_core : Config → List Purpose → Core
-opened_core config timers = record {
-  kind = kind_of config;
-  turns = 1;
-  links = first_link + 1;
-  shut = false;
-  timeout = response_timeout config;
-  timers = timers;
-  sources = [];
-  table = [];
-  single = record { link = first_link; connection = dialing (buffer_size config) (boundary config) (permits config) (hearing_of config) (told_info config) (no_renewal (wants_credentials config) (response_timeout config)) };
-}
+opened_core config timers = record (single_core config) { timers = timers }
 
--- no attempt follows the first, since no session has generations
-last_first : (config : Config) → is_last (settings_in (Some config)) 0 ≡ true
-last_first config = ap (λ s. is_last s 0) (no_settings (Some config))
+-- no attempt follows the first, where the session doesn't come back
+last_first : (config : Config) → manager_of config ≡ None → is_last (settings_in (Some config)) 0 ≡ true
+last_first config none = ap (λ s. is_last s 0) (no_settings config none)
 
 -- the line that its connect is
 abbrev first_line : Config → Line
-first_line config = asks (told_info config) (wants_credentials config) (hearing_of config) (is_last (settings_in (Some config)) 0)
+first_line config = asks (told_info config) (wants_credentials config) (hearing_of config) (is_last (settings_in (Some config)) 0) (repeats_in (settings_in (Some config)) [])
 
 -- no other link is told of
 opened_link : (config : Config) (word : ℕ) (info : ConnectionInfo) (timers : List Purpose) (m : ℕ) → m ≢ first_link → (opened config word info timers).link m ≡ blank_ledger
 opened_link config word info timers m other = ap (noted_each blank_ledger) (left_if (first_link == m) (first_line config ∷ []) [] (ne_test first_link m (λ e. other (sym e))))
+
+-- a fact of a link that isn't told of, and of one that is asked for, is one of each link
+each_opened : (P : Ledger → Type 0) (config : Config) (word : ℕ) (info : ConnectionInfo) (timers : List Purpose) → P blank_ledger → P (noted blank_ledger (first_line config)) → (l : ℕ) → P ((opened config word info timers).link l)
+each_opened P config word info timers none first l = chosen (λ (ls : List Line). P (noted_each blank_ledger ls)) (first_link == l) (first_line config ∷ []) [] (λ t. first) (λ f. none)
+
+-- nothing is subscribed again on any
+opening_unrepeated : (config : Config) (word : ℕ) (info : ConnectionInfo) (timers : List Purpose) → IsSound config → AreUnrepeated (opened config word info timers).link
+opening_unrepeated config word info timers sound = each_opened (λ (x : Ledger). x.again.wanted ≡ false) config word info timers refl (sound_repeats_not config [] sound)
 
 -- a configuration that was told is the one
 same_config : (config other : Config) → ◌≡◌ {A = Option Config} (Some config) (Some other) → config ≡ other
@@ -123,24 +126,25 @@ unwanted_where_watched (variant.PubSub address) w = refl
 unwanted_where_watched (variant.Monitor address) w = refl
 
 -- its numbers
-opening_numbers : (config : Config) (word : ℕ) (info : ConnectionInfo) (timeout : Option ℕ) → IsSized (permits config) (buffer_size config) → connect_timeout config ≡ timeout → TiedNumbers (opened config word info (connect_timers timeout)) (inner (opened_core config (connect_timers timeout)) [])
-opening_numbers config word info timeout some is = record {
+opening_numbers : (config : Config) (word : ℕ) (info : ConnectionInfo) (timeout : Option ℕ) → manager_of config ≡ None → IsSound config → IsSized (permits config) (buffer_size config) → connect_timeout config ≡ timeout → TiedNumbers (opened config word info (connect_timers timeout)) (inner (opened_core config (connect_timers timeout)) [])
+opening_numbers config word info timeout none sound some is = record {
   turns = refl;
   links = refl;
   timers = refl;
   sources = refl;
   aims = first_aims timeout;
-  timed = λ other told bounded. bounded_timers timeout (λ none. bounded (ap connect_timeout (sym (same_config config other told)) ∙ is ∙ none));
+  timed = λ other told bounded. bounded_timers timeout (λ unbounded. bounded (ap connect_timeout (sym (same_config config other told)) ∙ is ∙ unbounded));
   submissions = refl;
   timeout = refl;
   shut = refl;
   within = refl;
   few = omega arith;
+  unrepeated = opening_unrepeated config word info (connect_timers timeout) sound;
   settings = record { size_is = refl; bound_is = refl; limit_is = refl; some = some.some; limited = some.limited };
   kind_is = refl;
   quiet = λ w. record { none = refl; unwanted = unwanted_where_watched config w; unrenewed = refl };
-  plain = ap is_some (no_settings (Some config));
-  eager = never_lazy (Some config);
+  plain = ap is_some (no_settings config none);
+  eager = never_lazy config none;
   current_is = refl;
   speaks = refl;
   one = refl;
@@ -202,18 +206,18 @@ blank_aside m heard within other = record {
 }
 
 -- the session is tied to it
-opening_tied : (config : Config) (word : ℕ) (info : ConnectionInfo) (timeout : Option ℕ) → IsSized (permits config) (buffer_size config) → connect_timeout config ≡ timeout → Tied (opened config word info (connect_timers timeout)) (inner (opened_core config (connect_timers timeout)) [])
-opening_tied config word info timeout some is = record {
-  numbers = opening_numbers config word info timeout some is;
+opening_tied : (config : Config) (word : ℕ) (info : ConnectionInfo) (timeout : Option ℕ) → manager_of config ≡ None → IsSound config → IsSized (permits config) (buffer_size config) → connect_timeout config ≡ timeout → Tied (opened config word info (connect_timers timeout)) (inner (opened_core config (connect_timers timeout)) [])
+opening_tied config word info timeout plain sound some is = record {
+  numbers = opening_numbers config word info timeout plain sound some is;
   others = λ m other. subst (λ (x : Ledger). IsAside (first_link + 1) m x (hearing_of config) (response_timeout config) 0) (sym (opened_link config word info (connect_timers timeout) m other)) (blank_aside m (hearing_of config) (response_timeout config) other);
   notices = record { heard_is = refl; hearing_is = refl; within = λ y. omega arith; untold_is = λ y. refl; parts = λ y d z. cc; alive = λ z. refl; due = λ z. cc; tame = λ z r. refl };
-  life = (refl, refl, refl, last_first config);
+  life = (refl, refl, refl, last_first config plain);
   creds = record { wanted_is = refl; sought = (refl, refl, refl) };
   creation = record { before = λ e. refl; after = λ e. cc };
   uses = λ k what e. cc;
   renewal = record { over_is = refl; came = refl; waits = refl; untimed = refl; unstarted = refl; unasked = refl; unpending = refl; told = refl; kept = refl; found = refl };
   setup = record { info_is = refl; sent = λ k s less e. absurd (omega arith); said = (refl, refl) };
-  link = λ e. asked_tied (owner_of []) blank_ledger (told_info config) (wants_credentials config) (hearing_of config) (is_last (settings_in (Some config)) 0) no_link (fresh_tied (owner_of []) 0 0);
+  link = λ e. asked_tied (owner_of []) blank_ledger (told_info config) (wants_credentials config) (hearing_of config) (is_last (settings_in (Some config)) 0) (repeats_in (settings_in (Some config)) []) no_link (fresh_tied (owner_of []) 0 0);
   names = opening_names;
   story = λ n. refl;
   tries = opening_tries ((opened config word info (connect_timers timeout)).link first_link) refl;
@@ -221,6 +225,7 @@ opening_tied config word info timeout some is = record {
   told = λ e. record { told = λ n is none on. cc; here = λ p i. absurd i };
   waits = opening_waits;
   permits = opening_permits (permits config);
+  rounds = record { rounds_is = ap is_some (no_settings (Some config)); unbegun = λ p u. cc u; begun = λ p r o u. cc o; new = λ p r up u. cc u };
   late = λ p o e. cc;
 }
 
@@ -239,29 +244,25 @@ opening_book config word info None = refl
 opening_book config word info (Some ms) = refl
 
 -- what the turn does is shown, where it has asked for no link
-turn_shown : (config : Config) (word : ℕ) → IsShown (entered blank_book (action.Turn 0 (cause.Opening config word)))
-turn_shown config word = record {
+turn_shown : (config : Config) (word : ℕ) → manager_of config ≡ None → IsShown (entered blank_book (action.Turn 0 (cause.Opening config word)))
+turn_shown config word none = record {
   answered = λ n o. cc;
   ended = λ l. refl;
-  created = record { shown = λ l ready. cc; failed = λ l e fails. cc; lazy = λ is. absurd (not_both (is_lazy (Some config)) (never_lazy (Some config)) is) };
+  created = record { shown = λ l ready. cc; failed = λ l e fails. cc; lazy = λ is. absurd (not_both (is_lazy (Some config)) (never_lazy config none) is) };
   pushed = λ l heard. refl;
   parted = λ l heard cut. cc;
   sourced = λ l. refl;
 }
 
--- a fact of a link that isn't told of, and of one that is asked for, is one of each link
-each_opened : (P : Ledger → Type 0) (config : Config) (word : ℕ) (info : ConnectionInfo) (timers : List Purpose) → P blank_ledger → P (noted blank_ledger (first_line config)) → (l : ℕ) → P ((opened config word info timers).link l)
-each_opened P config word info timers none first l = chosen (λ (ls : List Line). P (noted_each blank_ledger ls)) (first_link == l) (first_line config ∷ []) [] (λ t. first) (λ f. none)
-
 -- and so it is, where it has
-opened_shown : (config : Config) (word : ℕ) (info : ConnectionInfo) (timers : List Purpose) → IsShown (opened config word info timers)
-opened_shown config word info timers = record {
+opened_shown : (config : Config) (word : ℕ) (info : ConnectionInfo) (timers : List Purpose) → manager_of config ≡ None → IsShown (opened config word info timers)
+opened_shown config word info timers none = record {
   answered = λ n o. cc;
   ended = opening_ends config word info timers;
   created = record {
     shown = each_opened (λ (x : Ledger). is_ready x ≡ true → ◌≢◌ {A = ℕ} 0 0) config word info timers (λ ready. cc) (λ ready. cc);
     failed = each_opened (λ (x : Ledger). (e : RedisError) → failure_in x.end ≡ Some e → ◌≢◌ {A = ℕ} 0 0) config word info timers (λ e fails. cc) (λ e fails. cc);
-    lazy = λ is. absurd (not_both (is_lazy (Some config)) (never_lazy (Some config)) is);
+    lazy = λ is. absurd (not_both (is_lazy (Some config)) (never_lazy config none) is);
   };
   pushed = λ l heard. each_opened (λ (x : Ledger). next_notice x ≡ None) config word info timers refl refl l;
   parted = λ l heard. each_opened (λ (x : Ledger). is_cut x.end ≡ true → x.parted ≡ true) config word info timers (λ cut. cc) (λ cut. cc) l;
@@ -276,13 +277,13 @@ plain_generated : (b : Book) → has_generations b ≡ false → generation_due 
 plain_generated b plain = ap (λ g. g && (not b.failed && (not b.shut && (if b.generation == 0 then begins_first b else is_caused b)))) plain
 
 -- its timer may stand
-timer_stands : (config : Config) (word : ℕ) (info : ConnectionInfo) (timeout : Option ℕ) → connect_timeout config ≡ timeout → AllStand (opened config word info []) (timer_asked timeout)
-timer_stands config word info None is = tt
-timer_stands config word info (Some ms) is =
+timer_stands : (config : Config) (word : ℕ) (info : ConnectionInfo) (timeout : Option ℕ) → manager_of config ≡ None → connect_timeout config ≡ timeout → AllStand (opened config word info []) (timer_asked timeout)
+timer_stands config word info None none is = tt
+timer_stands config word info (Some ms) none is =
     let b = opened config word info [] in
-    let plain : has_generations b ≡ false = ap is_some (no_settings (Some config)) in (
+    let plain : has_generations b ≡ false = ap is_some (no_settings config none) in (
       inl (inl (record {
-        shown = opened_shown config word info [];
+        shown = opened_shown config word info [] none;
         rested = plain_rested b plain;
         generated = plain_generated b plain;
         linked = left_if (has_generations b) _ (b.links == 0) plain;
@@ -297,14 +298,14 @@ timer_stands config word info (Some ms) is =
     )
 
 -- and so its actions may
-opening_stands : (config : Config) (word : ℕ) (info : ConnectionInfo) (timeout : Option ℕ) → IsSound config → address config ≡ Some info → connect_timeout config ≡ timeout → AllStand blank_book (opened_actions config word info timeout)
-opening_stands config word info timeout sound at is =
+opening_stands : (config : Config) (word : ℕ) (info : ConnectionInfo) (timeout : Option ℕ) → manager_of config ≡ None → IsSound config → address config ≡ Some info → connect_timeout config ≡ timeout → AllStand blank_book (opened_actions config word info timeout)
+opening_stands config word info timeout none sound at is =
     let b = entered blank_book (action.Turn 0 (cause.Opening config word)) in
-    let plain : has_generations b ≡ false = ap is_some (no_settings (Some config)) in (
+    let plain : has_generations b ≡ false = ap is_some (no_settings config none) in (
       record { next = refl; is_for = refl },
       (
         record {
-          shown = turn_shown config word;
+          shown = turn_shown config word none;
           rested = plain_rested b plain;
           generated = plain_generated b plain;
           due = left_if (has_generations b) _ (b.links == 0) plain;
@@ -316,30 +317,30 @@ opening_stands config word info timeout sound at is =
           configured = at;
           address = (refl, refl);
         },
-        timer_stands config word info timeout is,
+        timer_stands config word info timeout none is,
       ),
     )
 
 -- the session after an opening with an address
-opened_between : (config : Config) (word : ℕ) (info : ConnectionInfo) (timeout : Option ℕ) → IsSound config → address config ≡ Some info → IsSized (permits config) (buffer_size config) → connect_timeout config ≡ timeout
+opened_between : (config : Config) (word : ℕ) (info : ConnectionInfo) (timeout : Option ℕ) → manager_of config ≡ None → IsSound config → address config ≡ Some info → IsSized (permits config) (buffer_size config) → connect_timeout config ≡ timeout
     → IsBetween (opened_actions config word info timeout) (opened_core config (connect_timers timeout))
-opened_between config word info timeout sound at some is =
+opened_between config word info timeout none sound at some is =
     let timers = connect_timers timeout in
     let b = opened config word info timers in
     let c = opened_core config timers in
     let conn = c.single.connection in
     let t = inner c [] in
-    let tied = opening_tied config word info timeout some is in
+    let tied = opening_tied config word info timeout none sound some is in
     let fit : IsFitIn conn = record { wanting = λ link e. cc; setup = λ link u e. cc; link = λ link e. cc; none = λ no. refl; lasts = λ u a. refl } in
-    let still : IsStill conn = record { setup = λ link u e. cc; held = λ link e. cc; full = λ link e. cc; waiting = λ link e. cc; none_waits = λ e. refl; renewed = λ link e. cc } in
-    let moved = is_moved b t tied refl (refl, refl) refl (opening_ends config word info timers) fit.link fit.none still.held still.full still.waiting still.none_waits fit.setup still.setup (λ p i. absurd i) still.renewed in
+    let still : IsStill conn = record { setup = λ link u e. cc; held = λ link e. cc; full = λ link e. cc; waiting = λ link e. cc; begun = λ shows up. cc; none_waits = λ e. refl; renewed = λ link e. cc } in
+    let moved = is_moved b t tied refl (refl, refl) refl (opening_ends config word info timers) fit.link fit.none still.held still.full still.waiting still.none_waits fit.setup still.setup (λ p i. absurd i) still.renewed still.begun in
     let written = is_written b t tied moved refl in
-    let quiet : IsQuiet t = record { seats = λ p i. absurd i; settled = refl; alone = refl; fit = fit.link; none = fit.none; held = still.held; full = still.full; waiting = still.waiting; gone = still.none_waits; setup_fit = fit.setup; setup_held = still.setup } in
+    let quiet : IsQuiet t = record { seats = λ p i. absurd i; settled = refl; alone = refl; fit = fit.link; none = fit.none; held = still.held; full = still.full; waiting = still.waiting; begun = still.begun; gone = still.none_waits; setup_fit = fit.setup; setup_held = still.setup } in
     let book_is = sym (opening_book config word info timeout) in
     record {
       started = [];
       between = record {
-        sound = record { stands = opening_stands config word info timeout sound at is; tied = subst (λ (x : Book). Tied x t) book_is tied };
+        sound = record { stands = opening_stands config word info timeout none sound at is; tied = subst (λ (x : Book). Tied x t) book_is tied };
         settled = subst IsSettled book_is (is_settled b t tied quiet refl refl written);
         began = λ e. cc;
         fresh = refl;
@@ -349,10 +350,27 @@ opened_between config word info timeout sound at some is =
       };
     }
 
--- and after that of a sound configuration
-pub opening_between : (config : Config) (word : ℕ) → IsSound config → IsBetween (opening_actions config word) (opening_core config word)
-opening_between config word sound = by_address (address config) refl
+-- nothing was submitted to what has just opened, and no new credentials were to be told
+pub record IsUnasked (c : Core) : Type 0 where
+  pub submitted : length c.table ≡ 0
+  pub told : c.single.connection.renewal.asked ≡ 0
+
+managed_unasked : (m : Option ConnectionManagerConfig) (at : Option ConnectionInfo) (lazy : Bool) (config : Config) → IsUnasked (as_managed m at lazy (single_core config))
+managed_unasked None at lazy config = record { submitted = refl; told = refl }
+managed_unasked (Some settings) None lazy config = record { submitted = refl; told = refl }
+managed_unasked (Some settings) (Some info) false config = record { submitted = refl; told = refl }
+managed_unasked (Some settings) (Some info) true config = record { submitted = refl; told = refl }
+
+pub opening_unasked : (config : Config) (word : ℕ) → IsUnasked (opening_core config word)
+opening_unasked config word = managed_unasked (manager_of config) (address config) (waits_for_use config) config
+
+-- and after that of a sound configuration of what doesn't come back
+pub opening_between : (config : Config) (word : ℕ) → manager_of config ≡ None → IsSound config → IsBetween (opening_actions config word) (opening_core config word)
+opening_between config word none sound =
+    let asked = connect_asked (address config) (connect_timeout config) in
+    subst (λ (c : Core). IsBetween (opening_actions config word) c) (sym (plain_opening config word none))
+    (subst (λ (m : Option ConnectionManagerConfig). IsBetween (action.Turn 0 (cause.Opening config word) ∷ begun_as m (waits_for_use config) asked) (single_core config)) (sym none) (by_address (address config) refl))
   where
-    by_address : (x : Option ConnectionInfo) → address config ≡ x → IsBetween (action.Turn 0 (cause.Opening config word) ∷ connect_asked x (connect_timeout config)) (opening_core config word)
+    by_address : (x : Option ConnectionInfo) → address config ≡ x → IsBetween (action.Turn 0 (cause.Opening config word) ∷ connect_asked x (connect_timeout config)) (single_core config)
     by_address None at = absurd (has_address config sound at)
-    by_address (Some info) at = opened_between config word info (connect_timeout config) sound at (room_sized (permits config) (buffer_size config) (is_roomy config sound)) refl
+    by_address (Some info) at = opened_between config word info (connect_timeout config) none sound at (room_sized (permits config) (buffer_size config) (is_roomy config sound)) refl

@@ -19,7 +19,7 @@ use Rattle.driver_model.specs.declared.outcome.Outcome.{Outcome}
 use Rattle.shared_session.specs.Replay.{if_placed, outcome_at, outcomes_in, told, told_each, with_room}
 use Rattle.legal_trace.specs.Book.{Book, blank_book, book, entered_each, is_clock_of, is_rest}
 use Rattle.legal_trace.specs.Legal.{AllStand, IsOpen, MayStand}
-use Rattle.legal_trace.specs.Story.{Story, answered, clocked, fires, handed_in, holds, is_open, left, tried, waits, carried}
+use Rattle.legal_trace.specs.Story.{Story, answered, clocked, fires, handed_in, holds, is_open, left, tried, waits, carried, rounds}
 use Rattle.session_laws.specs.Outcomes.{last_outcome}
 
 -- the last is the last
@@ -133,6 +133,10 @@ start_same b l k m round count len n = chosen (SameTold (b.story n)) (m == n) (t
 wait_same : (b : Book) (m round : ℕ) (kind : WaitKind) (n : ℕ) → SameTold (b.story n) ((entered b (action.Wait (owner.Try m round) kind)).story n)
 wait_same b m round kind n = chosen (SameTold (b.story n)) (m == n) (waits (b.story n) kind) (b.story n) (λ t. (refl, refl)) (λ f. (refl, refl))
 
+-- nor does a round
+round_same : (b : Book) (m round : ℕ) (l : Option ℕ) (n : ℕ) → SameTold (b.story n) ((entered b (action.Round (owner.Try m round) l)).story n)
+round_same b m round l n = chosen (SameTold (b.story n)) (m == n) (rounds (b.story n)) (b.story n) (λ t. (refl, refl)) (λ f. (refl, refl))
+
 -- nor do permits
 took_same : (b : Book) (m round l count : ℕ) (n : ℕ) → SameTold (b.story n) ((entered b (action.Took (owner.Try m round) l count)).story n)
 took_same b m round l count n = chosen (SameTold (b.story n)) (m == n) (holds (b.story n) count) (b.story n) (λ t. (refl, refl)) (λ f. (refl, refl))
@@ -159,7 +163,11 @@ action_outcomes os b (action.Message m) may h = same_outcomes os b (action.Messa
 action_outcomes os b (action.Monitor v) may h = same_outcomes os b (action.Monitor v) refl (λ n. (refl, refl)) h
 action_outcomes os b (action.NeedCreds c l) may h = same_outcomes os b (action.NeedCreds c l) refl (λ n. (refl, refl)) h
 action_outcomes os b (action.Generation g) may h = same_outcomes os b (action.Generation g) refl (λ n. (refl, refl)) h
-action_outcomes os b (action.Round who l) may h = absurd may
+action_outcomes os b (action.Round owner.Setup l) may h = absurd may
+action_outcomes os b (action.Round owner.Auth l) may h = absurd may
+action_outcomes os b (action.Round owner.Resub l) may h = absurd may
+action_outcomes os b (action.Round owner.Monitor l) may h = absurd may
+action_outcomes os b (action.Round (owner.Try m round) l) may h = same_outcomes os b (action.Round (owner.Try m round) l) refl (round_same b m round l) h
 action_outcomes os b (action.Close l) may h = same_outcomes os b (action.Close l) refl (λ n. (refl, refl)) h
 action_outcomes os b (action.Write l bytes) may h = same_outcomes os b (action.Write l bytes) refl (λ n. (refl, refl)) h
 action_outcomes os b (action.Wait owner.Setup kind) may h = absurd may
@@ -169,7 +177,7 @@ action_outcomes os b (action.Wait owner.Monitor kind) may h = absurd may
 action_outcomes os b (action.Wait (owner.Try m round) kind) may h = same_outcomes os b (action.Wait (owner.Try m round) kind) refl (wait_same b m round kind) h
 action_outcomes os b (action.Start l k owner.Setup count len) may h = same_outcomes os b (action.Start l k owner.Setup count len) refl (λ n. (refl, refl)) h
 action_outcomes os b (action.Start l k owner.Auth count len) may h = same_outcomes os b (action.Start l k owner.Auth count len) refl (λ n. (refl, refl)) h
-action_outcomes os b (action.Start l k owner.Resub count len) may h = absurd may
+action_outcomes os b (action.Start l k owner.Resub count len) may h = same_outcomes os b (action.Start l k owner.Resub count len) refl (λ n. (refl, refl)) h
 action_outcomes os b (action.Start l k owner.Monitor count len) may h = same_outcomes os b (action.Start l k owner.Monitor count len) refl (λ n. (refl, refl)) h
 action_outcomes os b (action.Start l k (owner.Try m round) count len) may h = same_outcomes os b (action.Start l k (owner.Try m round) count len) refl (start_same b l k m round count len) h
 action_outcomes os b (action.Created e) may h = same_outcomes os b (action.Created e) refl (λ n. (refl, refl)) h

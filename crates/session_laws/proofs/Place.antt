@@ -14,7 +14,7 @@ use Rattle.link_core.specs.declared.message.Queued.{Queued}
 use Rattle.link_laws.proofs.TiedLink.{TiedLink, all_push, enqueued_tied}
 use Rattle.link_laws.specs.Settles.{awaited_ids, wanted}
 use Rattle.mux_conn.specs.Passes.{message_of}
-use Rattle.mux_conn.specs.Requests.{at_progress, given_back, is_admitted, is_admitted_at, is_open as is_open_progress, is_open_at, is_placed, is_placed_at, is_waiting, is_waiting_at, name_at, permits_at, with_permits}
+use Rattle.mux_conn.specs.Requests.{at_progress, given_back, is_admitted, is_admitted_at, is_open as is_open_progress, is_open_at, is_placed, is_placed_at, is_waiting, is_waiting_at, name_at, permits_at, with_permits, is_unbegun_at}
 use Rattle.mux_conn.specs.declared.life.Life.{Life}
 use Rattle.mux_conn.specs.declared.life.Life.TheVariants.{Ready}
 use Rattle.mux_conn.specs.declared.request.Pending.{Pending}
@@ -35,6 +35,7 @@ use Rattle.session_laws.proofs.Names.{length_still, length_with, name_still, nam
 use Rattle.session_laws.proofs.Numbers.{IsIn, Rising, in_either, in_left, in_right, rising_apart, rising_in, rising_right, rising_tail, rising_without, request_in, requests_in}
 use Rattle.session_laws.proofs.Owes.{in_line, request_story, open_on}
 use Rattle.session_laws.proofs.Permits.{permits_closed, permits_further, permits_let}
+use Rattle.session_laws.proofs.Rounded.{admitted_begun, rounds_closed, rounds_with}
 use Rattle.session_laws.proofs.Start.{not_dialing, not_setting, not_wanting, on_link}
 use Rattle.session_laws.proofs.Tied.{AreLate, AreQueued, Inner, IsEntry, IsKept, IsOf, IsPacked, IsQueued, Tied, TiedLines, TiedStory, TiedTries, TiedWaits, owner_of, owners_each, queue_ids, setup_owners, relined, shown_wait, waiting_ids, numbers_kept}
 use Rattle.session_laws.proofs.Ahead.{admitted_open, early_open, waiting_open}
@@ -63,7 +64,7 @@ passed_admitted b t link q qs gone h =
           | inr w ↦ inr (inr w)
         ]
       ];
-    }) h.waits h.late
+    }) h.waits h.rounds h.late
 
 -- or for the connection
 pub passed_waiting : (b : Book) (t : Inner) (link : LinkState) (q : Waiting) (qs : List Waiting) → is_waiting_at t.requests q.number ≡ false → Tied b (record (on_link t link) { waiting = q ∷ qs }) → Tied b (record (on_link t link) { waiting = qs })
@@ -87,7 +88,7 @@ passed_waiting b t link q qs gone h =
           | inr w ↦ elim w.1 [ inl same ↦ absurd (not_both (is_waiting_at t.requests p) (ap (is_waiting_at t.requests) (sym same) ∙ gone) w.0) | inr i ↦ inr (inr (w.0, i)) ]
         ]
       ];
-    }) h.waits h.late
+    }) h.waits h.rounds h.late
 
 -- an open request comes further, and stays open
 --
@@ -191,11 +192,12 @@ shown_further story requests p now m = ap (λ n. (story n).waiting) (name_still 
 
 -- the next that is moved
 --
--- it is the first of those that wait, with these behind it, and was let in, alone; no room was shown of it; and it is above
+-- it is the first of those that wait, with these behind it, and was let in, alone, behind its round; no room was shown of it; and it is above
 -- all that were moved in this turn
 pub record IsNext (story : ℕ → Story) (requests : List Request) (limit : Option ℕ) (letting moved : List ℕ) (was_waiting was_admitted : List Waiting) (q : Waiting) (waiting admitted : List Waiting) : Type 0 where
   pub open_at : is_open_at requests q.number ≡ true
   pub let_in : is_let_in limit (story (name_at requests q.number)) ≡ true
+  pub begun : is_unbegun_at requests q.number ≡ false
   pub alone : (p : ℕ) → IsIn p letting → q.number ≡ p
   pub first : kept_ids was_admitted was_waiting ≡ q.number ∷ kept_ids admitted waiting
   pub packed : IsPacked story requests q
@@ -211,6 +213,7 @@ pub next_admitted : (b : Book) (t : Inner) (link : LinkState) (q : Waiting) (qs 
 next_admitted b t link q qs a last h = record {
   open_at = (admitted_open t.requests q.number a).0;
   let_in = h.permits.let_in q.number (inl a);
+  begun = admitted_begun t.requests q.number a;
   alone = λ p i. absurd i;
   first = refl;
   packed = h.lines.packed_in.0;
@@ -240,11 +243,12 @@ shown_early x (inr (inr (inr (inl e)))) = (other_wait x wait.Setup wait.Place e 
 shown_early x (inr (inr (inr (inr e)))) = (other_wait x wait.Permit wait.Place e (λ r. cc), other_wait x wait.Permit wait.Room e (λ r. cc))
 
 -- or of those that wait for the connection, where none waits for a place, and it is being let in
-pub next_waiting : (b : Book) (t : Inner) (link : LinkState) (q : Waiting) (qs : List Waiting) → is_waiting_at t.requests q.number ≡ true → is_let_in t.limit (b.story (name_at t.requests q.number)) ≡ true → Rising 0 (t.moved ++ q.number ∷ []) (length t.requests)
+pub next_waiting : (b : Book) (t : Inner) (link : LinkState) (q : Waiting) (qs : List Waiting) → is_waiting_at t.requests q.number ≡ true → is_unbegun_at t.requests q.number ≡ false → is_let_in t.limit (b.story (name_at t.requests q.number)) ≡ true → Rising 0 (t.moved ++ q.number ∷ []) (length t.requests)
     → Tied b (record (on_link t link) { admitted = []; waiting = q ∷ qs; letting = q.number ∷ [] }) → IsNext b.story t.requests t.limit (q.number ∷ []) t.moved (q ∷ qs) [] q qs []
-next_waiting b t link q qs w is last h = record {
+next_waiting b t link q qs w begun is last h = record {
   open_at = waiting_open t.requests q.number w;
   let_in = is;
+  begun = begun;
   alone = λ p i. elim i [ inl e ↦ e | inr k ↦ absurd k ];
   first = refl;
   packed = h.lines.packs.0;
@@ -490,10 +494,12 @@ place_tied b t link q waiting admitted yes_awaited next h =
       told = λ f. absurd (not_both q.awaited f yes_awaited);
     } in
     record {
-      numbers = numbers_kept b _ _ _ (on_link t link) _ _ _ _ _ _ _ _ _ _ h.numbers;
+      numbers = numbers_kept b _ _ _ _ (on_link t link) _ _ _ _ _ _ _ _ _ _ h.numbers.unrepeated h.numbers;
       others = h.others;
       notices = h.notices;
       life = h.life;
+      course = h.course;
+      calm = h.calm;
       creds = record { wanted_is = h.creds.wanted_is; sought = h.creds.sought };
       creation = h.creation;
       uses = h.uses;
@@ -522,6 +528,7 @@ place_tied b t link q waiting admitted yes_awaited next h =
       waits = waits_enqueued b.story placed link (message_of q) t.fresh t.moved (subst (Rising 0 (t.moved ++ p ∷ [])) (sym still) next.last) (there_same is_admitted t.requests p progress.Placed within)
           (λ e. next.shown (sym (shown_further b.story t.requests p progress.Placed p) ∙ e)) (waits_placed b.story t.requests p (Ready link) t.fresh t.moved within h.waits);
       permits = permits_further b.story b.submissions t.requests t.link t.limit t.free t.letting p progress.Placed within refl next.let_in next.alone h.permits;
+      rounds = rounds_with b.story b.story t.requests t.fresh p progress.Placed (permits_at t.requests p) within refl (λ n. refl) (λ shows open. h.rounds.begun p shows o next.begun) h.rounds;
       late = late_further b.story t.requests p progress.Placed [] refl o h.late;
     }
 
@@ -568,10 +575,12 @@ tell_tied b t link q waiting admitted not_awaited next h =
       told = λ f. ap (λ x. (after x).outcomes) named ∙ ap (λ (s : Story). s.outcomes) (sym same) ∙ ap (λ os. os ++ nil ∷ []) (open_unanswered (b.story n) (r.open_is ∙ o));
     } in
     record {
-      numbers = numbers_kept b _ _ _ (on_link t link) _ _ _ _ _ _ _ _ _ _ h.numbers;
+      numbers = numbers_kept b _ _ _ _ (on_link t link) _ _ _ _ _ _ _ _ _ _ h.numbers.unrepeated h.numbers;
       others = h.others;
       notices = h.notices;
       life = h.life;
+      course = h.course;
+      calm = h.calm;
       creds = record { wanted_is = h.creds.wanted_is; sought = h.creds.sought };
       creation = h.creation;
       uses = h.uses;
@@ -609,13 +618,14 @@ tell_tied b t link q waiting admitted not_awaited next h =
           ((λ s. next_apart b.story t.requests link t.limit t.letting t.moved t.waiting t.admitted t.started q waiting admitted next h.lines (subst (λ x. IsIn x queue) (sym s) j)), k.1, i)) h.waits);
       permits = permits_let after b.submissions closed t.link t.limit (given_back t.limit t.free (permits_at t.requests p)) t.letting p (with_same is_waiting t.requests p progress.Closed 0 within) next.alone
           (permits_closed b.story after t.table b.submissions t.requests t.link t.limit t.free t.letting p h.names within known (r.on o) r.permits_is (closed_other b.story t.requests p done) (ap (λ (s : Story). s.permits) (sym same)) (ap (λ (s : Story). s.link) (sym same) ∙ r.on o) h.permits);
+      rounds = rounds_closed b.story t.requests t.fresh p done within c h.rounds;
       late = late_closed t.table b.story t.requests p done [] [] h.names within (λ m x i. i) h.late;
     }
 
 -- one that waits for the connection waits for a place behind the others
-pub admit_tied : (b : Book) (t : Inner) (link : LinkState) (q : Waiting) (qs : List Waiting) → is_waiting_at t.requests q.number ≡ true → is_let_in t.limit (b.story (name_at t.requests q.number)) ≡ true → Rising 0 (t.moved ++ q.number ∷ []) (length t.requests)
+pub admit_tied : (b : Book) (t : Inner) (link : LinkState) (q : Waiting) (qs : List Waiting) → is_waiting_at t.requests q.number ≡ true → is_unbegun_at t.requests q.number ≡ false → is_let_in t.limit (b.story (name_at t.requests q.number)) ≡ true → Rising 0 (t.moved ++ q.number ∷ []) (length t.requests)
     → Tied b (record (on_link t link) { waiting = q ∷ qs; letting = q.number ∷ [] }) → Tied b (record (on_link t link) { requests = at_progress t.requests q.number progress.Admitted; waiting = qs; admitted = t.admitted ++ q ∷ []; moved = t.moved ++ q.number ∷ []; letting = [] })
-admit_tied b t link q qs w is last h =
+admit_tied b t link q qs w begun is last h =
     let p = q.number in
     let o = waiting_open t.requests p w in
     let within = open_within t.requests p o in
@@ -629,10 +639,12 @@ admit_tied b t link q qs w is last h =
     let apart : IsIn p queue → ⊥ = λ i. (let k = rising_apart 0 queue (front ++ (p ∷ rest)) hi p p line i (in_right p front (p ∷ rest) (inl refl)) in omega arith) in
     let same : kept_ids t.admitted (q ∷ qs) ≡ kept_ids (t.admitted ++ q ∷ []) qs = sym (append_assoc front (p ∷ []) rest) ∙ ap (λ ns. ns ++ rest) (sym (waiting_ids-push t.admitted q)) in
     record {
-      numbers = numbers_kept b _ _ _ (record (on_link t link) { waiting = q ∷ qs; letting = q.number ∷ [] }) _ _ _ _ _ _ _ _ _ _ h.numbers;
+      numbers = numbers_kept b _ _ _ _ (record (on_link t link) { waiting = q ∷ qs; letting = q.number ∷ [] }) _ _ _ _ _ _ _ _ _ _ h.numbers.unrepeated h.numbers;
       others = h.others;
       notices = h.notices;
       life = h.life;
+      course = h.course;
+      calm = h.calm;
       creds = record { wanted_is = h.creds.wanted_is; sought = h.creds.sought };
       creation = h.creation;
       uses = h.uses;
@@ -663,6 +675,7 @@ admit_tied b t link q qs w is last h =
       told = λ e. told_further b.story t.requests t.link link p now (h.told refl);
       waits = waits_admitted b.story t.requests link p t.fresh t.moved w last h.waits;
       permits = permits_further b.story b.submissions t.requests t.link t.limit t.free (p ∷ []) p now within refl is (λ m i. elim i [ inl e ↦ e | inr k ↦ absurd k ]) h.permits;
+      rounds = rounds_with b.story b.story t.requests t.fresh p now (permits_at t.requests p) within refl (λ n. refl) (λ shows open. h.rounds.begun p shows o begun) h.rounds;
       late = late_further b.story t.requests p now [] refl o h.late;
     }
   where

@@ -26,17 +26,17 @@ use Rattle.mux_conn.specs.declared.life.Life.{Life}
 use Rattle.mux_conn.specs.declared.life.Life.TheVariants.{Resting, Dialing, Wanting, SettingUp, Ready, Ended}
 use Rattle.mux_conn.specs.declared.request.Request.{Request}
 use Rattle.mux_conn.specs.declared.request.Waiting.{Waiting}
-use Rattle.mux_conn.specs.Connection.{Work}
+use Rattle.mux_conn.specs.Connection.{Work, is_ready}
 use Rattle.mux_conn.specs.Requests.{is_open_at, name_at}
 use Rattle.mux_conn.specs.Effects.{failed_at, read_to, read_at, read_setup, read_wanting, told_each}
 use Rattle.shared_session.specs.declared.core_state.Core.{Core}
 use Rattle.shared_session.specs.Turn.{with_work, is_bad}
 use Rattle.legal_trace.specs.Ledger.{Ledger, by_fault, bytes_came, ending, ending_up, is_set_up, is_unreadable, Heard, hears, noted}
 use Rattle.legal_trace.specs.Story.{Story}
-use Rattle.legal_trace.specs.Book.{Book, book, entered, hearing_in}
+use Rattle.legal_trace.specs.Book.{Book, book, entered, hearing_in, has_generations}
 use Rattle.legal_trace.specs.Owed.{owed}
 use Rattle.session_laws.proofs.Numbers.{IsIn, Rising, requests_in, requests_in-append}
-use Rattle.session_laws.proofs.Tied.{never_rests, inner, link_in, owner_of, queue_ids, IsEntry, TiedLines, TiedSetup, AreQueued, TiedWaits, has_ended, Tied, Sound, AreRenewed, AreSought, IsSetUp, TiedRenewal}
+use Rattle.session_laws.proofs.Tied.{never_rests, inner, link_in, owner_of, queue_ids, IsEntry, TiedLines, TiedSetup, AreQueued, TiedWaits, has_ended, Tied, Sound, AreRenewed, AreSought, IsSetUp, TiedRenewal, TiedRounds}
 use Rattle.session_laws.proofs.SetUp.{set_up_hears}
 use Rattle.legal_trace.proofs.Setups.{ends_where_set}
 use Rattle.legal_trace.proofs.Came.{Came, bytes_are}
@@ -221,6 +221,7 @@ read_begins before c started word kind piece link untold h good k is e it r came
       lines = read_lines b.story conn.requests conn.hears link piece conn.waiting conn.admitted started lines;
       told = λ n. subst (λ (x : Life). AreQueued b.story conn.requests c.single.link (link_in x)) e (h0.told (ap has_ended e));
       waits = queue_waits b.story conn.requests link read conn.fresh conn.moved (λ p i. i) (subst (λ (x : Life). TiedWaits b.story conn.requests x conn.fresh conn.moved) e h0.waits);
+      rounds = subst (λ (x : Life). TiedRounds (has_generations b) b.story c.single.connection.requests (is_ready x) c.single.connection.fresh c.single.connection.rounds) e h.sound.tied.rounds;
       notices = heard_notices l piece it (hearing_in b.config) conn.hears r.heard untold u.up r.notices came_so h0.notices;
     }) in
     let book_is : entered b (turn_of c word kind) ≡ heard_book b c.turns word kind = turn_is b c.turns word kind (book_kind b c kind h0.numbers.timers k) in

@@ -49,6 +49,7 @@ use Rattle.legal_trace.specs.Owed.{owed}
 use Rattle.legal_trace.proofs.Came.{Came, bytes_are}
 use Rattle.legal_trace.proofs.Monitors.{unwatched}
 use Rattle.legal_trace.proofs.Setups.{AreSetups as SetUpsAre, ends_where_set, greeted_more, set_is_greeted}
+use Rattle.session_laws.proofs.Rounded.{rounds_down}
 use Rattle.session_laws.proofs.Announce.{IsNewsKind, turn_of, turned}
 use Rattle.session_laws.proofs.Close.{HasEnded, ended_applied, parted_moved}
 use Rattle.session_laws.proofs.ComeUp.{IsEarly, IsMade, IsReadied, IsShownReady, made_conn, made_is, made_of, makes_ready}
@@ -241,6 +242,7 @@ setup_read_as before c started word kind piece link greeting g h good k is e = b
           lines = subst (λ (x : Life). TiedLines b.story conn.requests (link_in x) conn.waiting conn.admitted [] started) e h.sound.tied.lines;
           told = λ z. subst (λ (x : Life). AreQueued b.story conn.requests c.single.link (link_in x)) e (h.sound.tied.told (ap has_ended e));
           waits = setting_waits b.story conn.requests link next greeting now conn.fresh conn.moved (subst (λ (x : Life). TiedWaits b.story conn.requests x conn.fresh conn.moved) e h.sound.tied.waits);
+          rounds = rounds_down b.story c.single.connection.requests c.single.connection.fresh c.single.connection.fresh refl h.sound.tied.rounds;
           notices = subst (λ (y : Ledger). PushesOf (hearing_in b.config) conn.hears y) (sym same) (quiet r);
         })
         (ap ending same ∙ ending_setting after next now s.up said ∙ left_if (is_unreadable after) _ None (unreadable r false f))

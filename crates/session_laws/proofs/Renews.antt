@@ -47,6 +47,7 @@ use Rattle.session_laws.proofs.Start.{not_setting, on_link, owners-append, owner
 use Rattle.session_laws.proofs.Starts.{begins_ends_none}
 use Rattle.session_laws.proofs.States.{IsFit}
 use Rattle.session_laws.proofs.Tied.{AreAimed, AreRenewed, Inner, IsAim, IsEntry, Tied, TiedRenewal, TiedTries, numbers_kept, owner_of, owners_each, queue_ids, setup_owners, timed_of}
+use Rattle.session_laws.proofs.Unrepeated.{repeats_started, repeats_timed, unrepeated_lined}
 use Rattle.session_laws.proofs.Took.{queue_waits}
 use Rattle.mux_conn.specs.declared.life.Greeting.TheVariants as greet
 use Rattle.driver_model.specs.Hearing.{is_watching}
@@ -80,9 +81,11 @@ may_time_renewal b t link number ms counted none due within h ended =
     let unasked : pending ≡ 0 = left_if r.pending 1 0 none in
     let one : renewals_asked l ≡ renewal_count l.starts + 1 = ap (λ x. renewal_count l.starts + (if x then 1 else 0)) (due_is l r h.life.1 h.renewal ∙ due) in
     record {
-      applied = applied_up b was h refl (refl, refl) refl ended;
+      applied = applied_up b was h refl (refl, refl) refl refl ended;
       setups = setups_started b was h (λ x u e. absurd (not_setting link x u e));
       monitors = monitors_started b was h (λ x e. absurd (not_setting link x greet.Monitor e));
+      repeats_timed = repeats_timed b h.numbers.unrepeated;
+      repeated = repeats_started b h.numbers.unrepeated;
       l = t.link;
       within = h.numbers.within ∙ within;
       asked = omega (arith, timed, one, unasked, h.renewal.asked_is);
@@ -98,7 +101,7 @@ time_tied b t link number ms none due within h =
     let l = b.link t.link in
     let r = t.renewal in
     let what = purpose.Renewal t.link r.asked in
-    let k = numbers_kept b b.link b.story b.errors (on_link t link) (Ready link) t.free t.requests t.waiting t.admitted t.fresh t.moved t.letting [] t.started h.numbers in
+    let k = numbers_kept b b.link b.story b.tracked b.errors (on_link t link) (Ready link) t.free t.requests t.waiting t.admitted t.fresh t.moved t.letting [] t.started h.numbers.unrepeated h.numbers in
     tied_by (entered b (action.Timer number ms what)) (record (on_link t link) { timers = t.timers ++ what ∷ []; renewal = asked_next r }) (noted l times) (mine_noted l t.link times) (record {
       numbers = record {
         turns = k.turns;
@@ -112,19 +115,22 @@ time_tied b t link number ms none due within h =
         shut = k.shut;
         within = k.within;
         few = k.few;
+        unrepeated = unrepeated_lined b.link t.link times refl h.numbers.unrepeated;
         settings = record { size_is = k.settings.size_is; bound_is = k.settings.bound_is; limit_is = k.settings.limit_is; some = k.settings.some; limited = k.settings.limited };
         kind_is = k.kind_is;
         quiet = λ w. let q = h.numbers.quiet w in record { none = q.none; unwanted = q.unwanted; unrenewed = q.unrenewed };
-        plain = k.plain;
-        eager = k.eager;
+        comes_back = k.comes_back;
+        lazy = k.lazy;
         current_is = k.current_is;
         speaks = k.speaks;
-        one = k.one;
-        few_links = k.few_links;
+        address_is = k.address_is;
+        wants = k.wants;
       };
       others = others_kept b t.link times h.others;
       notices = h.notices;
       life = h.life;
+      course = h.course;
+      calm = h.calm;
       creds = record { wanted_is = h.creds.wanted_is; sought = h.creds.sought };
       creation = h.creation;
       uses = h.uses;
@@ -138,6 +144,7 @@ time_tied b t link number ms none due within h =
       told = h.told;
       waits = h.waits;
       permits = h.permits;
+      rounds = h.rounds;
       late = h.late;
     })
 
@@ -198,9 +205,11 @@ may_renew b t link c cs due pending waits fit free h ended =
     let was = on_link t link in
     let l = b.link t.link in
     record {
-      applied = applied_up b was h refl (refl, refl) refl ended;
+      applied = applied_up b was h refl (refl, refl) refl refl ended;
       setups = setups_started b was h (λ x u e. absurd (not_setting link x u e));
       monitors = monitors_started b was h (λ x e. absurd (not_setting link x greet.Monitor e));
+      repeats_timed = repeats_timed b h.numbers.unrepeated;
+      repeated = repeats_started b h.numbers.unrepeated;
       timed = renewals_timed b was h (λ x e d. pending);
       credentials = c;
       due = due_first l t.renewal c cs h.life.1 h.renewal due waits;
@@ -227,7 +236,7 @@ auth_tied b t link c cs due pending waits h =
     let plain : is_watching t.hears ≡ true → ⊥ = λ w. (let no : [] ≡ c ∷ cs = sym (h.numbers.quiet w).unrenewed ∙ waits in cc) in
     let unwatched : is_watching l.hearing ≡ false = by_test (is_watching l.hearing) _ (λ w. absurd (plain (ap is_watching (sym h.notices.hearing_is) ∙ w))) (λ f. f) in
     let few : length t.requests ≤ renewal_id = omega (arith, h.names.few, h.numbers.few) in
-    let k = numbers_kept b b.link b.story b.errors (on_link t link) (Ready (begun link q)) t.free t.requests t.waiting t.admitted t.fresh t.moved t.letting [] (t.started ++ renewal_id ∷ []) h.numbers in
+    let k = numbers_kept b b.link b.story b.tracked b.errors (on_link t link) (Ready (begun link q)) t.free t.requests t.waiting t.admitted t.fresh t.moved t.letting [] (t.started ++ renewal_id ∷ []) h.numbers.unrepeated h.numbers in
     tied_by (entered b (auth_action t link c)) (after_auth t link c cs) (noted l (begins s)) (mine_noted l t.link (begins (message_of b t.link owner.Auth)) ∙ ap (λ x. noted l (begins x)) told) (record {
       numbers = record {
         turns = k.turns;
@@ -241,19 +250,22 @@ auth_tied b t link c cs due pending waits h =
         shut = k.shut;
         within = k.within;
         few = k.few;
+        unrepeated = unrepeated_lined b.link t.link (begins (message_of b t.link owner.Auth)) refl h.numbers.unrepeated;
         settings = record { size_is = k.settings.size_is; bound_is = k.settings.bound_is; limit_is = k.settings.limit_is; some = k.settings.some; limited = k.settings.limited };
         kind_is = k.kind_is;
         quiet = λ w. absurd (plain w);
-        plain = k.plain;
-        eager = k.eager;
+        comes_back = k.comes_back;
+        lazy = k.lazy;
         current_is = k.current_is;
         speaks = k.speaks;
-        one = k.one;
-        few_links = k.few_links;
+        address_is = k.address_is;
+        wants = k.wants;
       };
       others = others_kept b t.link (begins (message_of b t.link owner.Auth)) h.others;
       notices = h.notices;
       life = h.life;
+      course = h.course;
+      calm = h.calm;
       creds = record { wanted_is = h.creds.wanted_is; sought = h.creds.sought };
       creation = h.creation;
       uses = h.uses;
@@ -277,6 +289,7 @@ auth_tied b t link c cs due pending waits h =
       told = λ e. h.told refl;
       waits = queue_waits b.story t.requests link (begun link q) t.fresh t.moved (λ p i. i) h.waits;
       permits = h.permits;
+      rounds = h.rounds;
       late = h.late;
     })
 
@@ -334,7 +347,7 @@ asked_told before f w started link life holds ended fit moved due =
         let tied = subst (λ (x : Life). Tied (entered b (action.Timer number ms what)) (record t { life = x; timers = t.timers ++ what ∷ []; renewal = asked_next r })) (sym life) (time_tied b t link number ms n due e was) in
         record {
           life = life;
-          holds = sound_act before f w.acts a (record w.conn { renewal = asked_next r }) [] started holds.stands (inr (inr may)) tied;
+          holds = sound_act before f w.acts a (record w.conn { renewal = asked_next r }) [] started holds.stands (inr (inr (inl may))) tied;
           ended = subst NoneEnds (sym (book_of_more before f w.acts a)) (none_ends_kept b f.single.link times (λ l x. x) ended);
           fit = fit;
           moved = moved;

@@ -13,7 +13,7 @@ use Rattle.mux_conn.specs.declared.life.Greeting.{Greeting}
 use Rattle.mux_conn.specs.declared.life.Life.{Life}
 use Rattle.mux_conn.specs.declared.life.Life.TheVariants.{Resting, Dialing, Wanting, SettingUp, Ready, Ended}
 use Rattle.mux_conn.specs.declared.request.Request.{Request}
-use Rattle.legal_trace.specs.Ledger.{Ledger, End, Ending, by_opening, hears, noted, authorized_by, awaits_credentials, is_over, dials, refused_in, bytes_came, ending, ending_up, ending_asked, ending_unready, ending_by, ending_alive, error_in, is_well, is_set_up, is_ready, lacks_credentials, setup_after, setup_result, is_renewal_open, lost_by, may_renew, renewed_by, unrenewed_by, source_due, is_unreadable, opening_error, by_fault, Heard, is_fault, lasting}
+use Rattle.legal_trace.specs.Ledger.{Ledger, End, Ending, by_opening, hears, noted, authorized_by, awaits_credentials, is_over, dials, refused_in, bytes_came, ending, ending_up, ending_asked, ending_unready, ending_by, ending_alive, error_in, is_well, is_set_up, is_ready, lacks_credentials, setup_after, setup_result, is_renewal_open, lost_by, may_renew, renewed_by, unrenewed_by, source_due, is_unreadable, opening_error, by_fault, Heard, is_fault, lasting, is_repeating, unrepeated_by}
 use Rattle.legal_trace.proofs.Setups.{ends_where_set, ungreeted_is_unset}
 use Rattle.legal_trace.specs.Book.{Book}
 use Rattle.legal_trace.specs.Legal.{ReadyIsShown, SourcesAreAsked}
@@ -157,7 +157,11 @@ setup_hears l turn (authorized c) info started life k h = absurd k
 setup_hears l turn (renewed c) info started life k h = absurd k
 setup_hears l turn unrenewed info started life k h = absurd k
 setup_hears l turn (late m) info started life k h = absurd k
-setup_hears l turn unrepeated info started life k h = setup_on l l.asked l.up l.end l.taken l.offer l.rest unrepeated info started life h
+setup_hears l turn unrepeated info started life k h =
+    let m = record (unrepeated_by l) { heard = unrepeated } in
+    chosen (λ (x : Ledger). TiedSetup (record x { heard = unrepeated }) info started life) (is_repeating l) (unrepeated_by l) l
+    (λ t. record { info_is = h.info_is; sent = h.sent; said = said_alike l m started life (record { starts = refl; dealt = refl; info = refl; hearing = refl; wanted = refl; given = refl }) h.said })
+    (λ f. setup_on l l.asked l.up l.end l.taken l.offer l.rest unrepeated info started life h)
 setup_hears l turn (denied text) info started life k h = setup_on l l.asked l.up l.end l.taken l.offer l.rest (denied text) info started life h
 setup_hears l turn deserted info started life k h = setup_on l l.asked l.up l.end l.taken l.offer l.rest deserted info started life h
 setup_hears l turn dropped info started life k h = setup_on l l.asked l.up l.end l.taken l.offer l.rest dropped info started life h
@@ -221,7 +225,7 @@ pushes_hear l turn (authorized c) heard mine tame k h = chosen (λ (x : Ledger).
 pushes_hear l turn (renewed c) heard mine tame k h = chosen (λ (x : Ledger). PushesOf heard mine (record x { heard = renewed c })) (may_renew l) (renewed_by l c) l (λ t. renoticed tame h) (λ f. renoticed tame h)
 pushes_hear l turn unrenewed heard mine tame k h = chosen (λ (x : Ledger). PushesOf heard mine (record x { heard = unrenewed })) l.up (unrenewed_by l) l (λ t. renoticed tame h) (λ f. renoticed tame h)
 pushes_hear l turn (late m) heard mine tame k h = chosen (λ (x : Ledger). PushesOf heard mine (record x { heard = late m })) (l.up && is_renewal_open l m) (lost_by l) l (λ t. renoticed tame h) (λ f. renoticed tame h)
-pushes_hear l turn unrepeated heard mine tame k h = renoticed tame h
+pushes_hear l turn unrepeated heard mine tame k h = chosen (λ (x : Ledger). PushesOf heard mine (record x { heard = unrepeated })) (is_repeating l) (unrepeated_by l) l (λ t. renoticed tame h) (λ f. renoticed tame h)
 pushes_hear l turn (denied text) heard mine tame k h = renoticed tame h
 pushes_hear l turn deserted heard mine tame k h = renoticed tame h
 pushes_hear l turn dropped heard mine tame k h = renoticed tame h

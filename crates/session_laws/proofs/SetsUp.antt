@@ -41,6 +41,7 @@ use Rattle.session_laws.proofs.Settle.{quiet_asks, seen, trace_of_acts}
 use Rattle.session_laws.proofs.Start.{owners-append, with_queue}
 use Rattle.session_laws.proofs.States.{IsFit}
 use Rattle.session_laws.proofs.Tied.{AreSetups, Inner, IsSettingUp, Tied, TiedTries, numbers_kept, owners_of, setup_owners, AreSetupsAlone, HasGreetedAlone, greeter, greeting_at, is_of_greeting}
+use Rattle.session_laws.proofs.Unrepeated.{unrepeated_lined}
 use Rattle.session_laws.proofs.Renewals.{none_begins, full_begins}
 use Rattle.session_laws.proofs.SameSaid.{greeter_at, greeting_of, setting_of}
 use Rattle.mux_conn.specs.declared.life.Greeting.TheVariants as greet
@@ -174,7 +175,7 @@ set_up_may b t link greeting due fit free h ended =
     let q = due_queued l greeting in
     let was = setting_on t (with_queue link (q ∷ [])) greeting in
     record {
-      applied = applied_up b was h refl (refl, refl) refl ended;
+      applied = applied_up b was h refl (refl, refl) refl refl ended;
       k = c;
       due = taken_if l.up (setup_after l c) None h.life.1 ∙ due;
       free = held_by b was (λ (p : ℕ). greeter greeting) (with_queue link (q ∷ [])) h.numbers fit.bound_is (h.link refl) ∙ free;
@@ -203,10 +204,12 @@ set_up_tied b t link greeting due user h =
     let all = setting.alone in
     tied_by (entered b (set_up_action t link q)) now (noted l (begins s)) (mine_noted l t.link (begins s))
     (record {
-      numbers = numbers_kept b _ _ _ was _ _ _ _ _ _ _ _ _ _ h.numbers;
+      numbers = numbers_kept b _ _ _ _ was _ _ _ _ _ _ _ _ _ _ (unrepeated_lined b.link t.link (begins s) refl h.numbers.unrepeated) h.numbers;
       others = others_kept b t.link (begins s) h.others;
       notices = h.notices;
       life = h.life;
+      course = h.course;
+      calm = h.calm;
       creds = record { wanted_is = h.creds.wanted_is; sought = h.creds.sought };
       creation = h.creation;
       uses = h.uses;
@@ -221,6 +224,7 @@ set_up_tied b t link greeting due user h =
       told = h.told;
       waits = setting_waits b.story t.requests (with_queue link (q ∷ [])) (with_queue (begun link q) []) greeting greeting t.fresh t.moved h.waits;
       permits = h.permits;
+      rounds = h.rounds;
       late = h.late;
     })
 

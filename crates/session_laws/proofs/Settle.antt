@@ -41,6 +41,7 @@ use Rattle.session_laws.proofs.Answer.{may_answer, after_closes, none_before, ow
 -- credentials
 abbrev pub seen : Core → List LinkAct → MultiplexedConnection → List ℕ → List ℕ → Inner
 seen f acts conn pending started = record {
+  manager = f.manager;
   turns = f.turns;
   links = f.links;
   link = f.single.link;
@@ -58,14 +59,18 @@ seen f acts conn pending started = record {
   untold = [];
   parting = false;
   info = conn.info;
+  address = conn.address;
   renewal = conn.renewal;
   life = conn.life;
+  last = conn.last;
   told = conn.told;
+  opened = conn.opened;
   requests = conn.requests;
   waiting = conn.waiting;
   admitted = conn.admitted;
   fresh = conn.fresh;
   moved = conn.moved;
+  rounds = conn.rounds;
   letting = [];
   pending = pending;
   started = started;
@@ -273,19 +278,22 @@ renewal_tied b t r within wanted waiting tied h = record {
     shut = h.numbers.shut;
     within = h.numbers.within ∙ sym within;
     few = h.numbers.few;
+    unrepeated = h.numbers.unrepeated;
     settings = record { size_is = h.numbers.settings.size_is; bound_is = h.numbers.settings.bound_is; limit_is = h.numbers.settings.limit_is; some = h.numbers.settings.some; limited = h.numbers.settings.limited };
     kind_is = h.numbers.kind_is;
     quiet = λ w. let q = h.numbers.quiet w in record { none = q.none; unwanted = wanted ∙ q.unwanted; unrenewed = waiting ∙ q.unrenewed };
-    plain = h.numbers.plain;
-    eager = h.numbers.eager;
+    comes_back = h.numbers.comes_back;
+    lazy = h.numbers.lazy;
     current_is = h.numbers.current_is;
     speaks = h.numbers.speaks;
-    one = h.numbers.one;
-    few_links = h.numbers.few_links;
+    address_is = h.numbers.address_is;
+    wants = h.numbers.wants;
   };
   others = subst (λ o. AreAside t.link t.links b.link t.hears o b.created) (sym within) h.others;
   notices = h.notices;
   life = h.life;
+  course = h.course;
+  calm = h.calm;
   creds = record { wanted_is = h.creds.wanted_is ∙ sym wanted; sought = h.creds.sought };
   creation = h.creation;
   uses = h.uses;
@@ -299,6 +307,7 @@ renewal_tied b t r within wanted waiting tied h = record {
   told = h.told;
   waits = h.waits;
   permits = h.permits;
+  rounds = h.rounds;
   late = h.late;
 }
 

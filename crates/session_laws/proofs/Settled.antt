@@ -12,7 +12,7 @@ use Rattle.link_laws.proofs.Started.{row_open}
 use Rattle.link_laws.specs.Settles.{StandsAs, awaited_ids, wanted}
 use Rattle.mux_conn.specs.Connection.{Work, first_queued, is_ready, in_front}
 use Rattle.mux_conn.specs.Passes.{passed}
-use Rattle.mux_conn.specs.Requests.{is_admitted_at, is_open_at, is_placed_at, is_waiting_at, name_at}
+use Rattle.mux_conn.specs.Requests.{is_admitted_at, is_open_at, is_placed_at, is_waiting_at, name_at, is_unbegun_at}
 use Rattle.mux_conn.specs.Turn.{early_wait, flushed, fresh_each_shown, fresh_wait, is_from, moved_each_shown, moved_wait, wait_shown, waits_shown}
 use Rattle.mux_conn.specs.declared.act.LinkAct.TheVariants as act
 use Rattle.mux_conn.specs.declared.connection.MultiplexedConnection.{MultiplexedConnection}
@@ -25,6 +25,7 @@ use Rattle.legal_trace.specs.Book.{Book, book}
 use Rattle.legal_trace.specs.Ledger.{setup_count}
 use Rattle.legal_trace.specs.Legal.{IsMoved, IsSettled, IsStarted, IsWaiting, IsWritten, NoneEnds, WaitHolds}
 use Rattle.legal_trace.specs.Story.{last_of}
+use Rattle.session_laws.proofs.Rounded.{rounds_new}
 use Rattle.session_laws.proofs.Ahead.{dialing_step, placed_open, setup_step, waiting_open, admitted_open, creds_step, HasSeats}
 use Rattle.session_laws.proofs.Going.{is_moved}
 use Rattle.session_laws.proofs.InLine.{awaited_in, first_is_least, kept_ids, wanted_in}
@@ -33,7 +34,7 @@ use Rattle.session_laws.proofs.Names.{open_within}
 use Rattle.session_laws.proofs.Numbers.{IsIn, Rising, in_left, in_right, rising_in, rising_left, rising_right, requests_in}
 use Rattle.session_laws.proofs.Owes.{IsOpenRequest, lives, none_open, open_request, request_story, row_link, stands_started, wanted_entry, open_on}
 use Rattle.session_laws.proofs.Settle.{book_of_more, seen, sound_act, trace_of_acts}
-use Rattle.session_laws.proofs.States.{Between, HasApplied, IsFitIn, IsStill, trace_with}
+use Rattle.session_laws.proofs.States.{Between, HasApplied, IsFitIn, IsStill, trace_with, AreBegun}
 use Rattle.session_laws.proofs.Tied.{never_rests, Inner, Sound, Tied, TiedLife, TiedWaits, has_ended, link_in, owner_of, queue_ids, relined, shown_wait, waiting_ids}
 use Rattle.session_laws.proofs.Waits.{IsEarly, IsPlacedOrKept, IsQuiet, WaitsSo, admitted_there, admitted_unplaced, awaited_placed, behind_places, down_admits, fresh_waits, located, moved_waits, passed_waits, permit_holds, place_holds, placed_there, room_holds, stale_waits, wait_may, wait_tied, waiting_apart, waiting_is, waiting_there, waits_at, with_unshown}
 use Rattle.session_laws.proofs.Write.{HasWritten, IsOfferedIn, is_written, written_holds}
@@ -54,15 +55,19 @@ unshown f w moved fresh started = with_unshown (seen f w.acts w.conn [] started)
 
 -- nothing moves in it
 showing_quiet : (before : List Action) (f : Core) (w : Work) (moved fresh started : List ℕ) → IsShowing before f w moved fresh started → IsQuiet (unshown f w moved fresh started)
-showing_quiet before f w moved fresh started h = record { settled = refl; alone = refl; fit = h.fit.link; setup_fit = h.fit.setup; none = h.fit.none; setup_held = h.still.setup; held = h.still.held; full = h.still.full; seats = h.seats; waiting = h.still.waiting; gone = h.still.none_waits }
+showing_quiet before f w moved fresh started h = record { settled = refl; alone = refl; fit = h.fit.link; setup_fit = h.fit.setup; none = h.fit.none; setup_held = h.still.setup; held = h.still.held; full = h.still.full; seats = h.seats; waiting = h.still.waiting; begun = h.still.begun; gone = h.still.none_waits }
 
 -- and its book has all its writes
 showing_written : (before : List Action) (f : Core) (w : Work) (moved fresh started : List ℕ) → IsShowing before f w moved fresh started → IsWritten (book (trace_of_acts before f w.acts))
 showing_written before f w moved fresh started h =
     let b = book (trace_of_acts before f w.acts) in
     let t = unshown f w moved fresh started in
-    let all : IsMoved b = is_moved b t h.sound.tied refl (refl, refl) refl h.ended h.fit.link h.fit.none h.still.held h.still.full h.still.waiting h.still.none_waits h.fit.setup h.still.setup h.seats h.still.renewed in
+    let all : IsMoved b = is_moved b t h.sound.tied refl (refl, refl) refl h.ended h.fit.link h.fit.none h.still.held h.still.full h.still.waiting h.still.none_waits h.fit.setup h.still.setup h.seats h.still.renewed h.still.begun in
     is_written b t h.sound.tied all h.offered
+
+-- whoever waits for its round came in this turn, since nobody does
+still_new : (w : Work) (newer : List ℕ) → AreBegun w.conn.rounds w.conn.life w.conn.requests → (p : ℕ) → w.conn.rounds ≡ true → is_ready w.conn.life ≡ true → is_unbegun_at w.conn.requests p ≡ true → IsIn p newer
+still_new w newer begun p shows up u = absurd (not_both (is_unbegun_at w.conn.requests p) (begun shows up p) u)
 
 -- other waits are still to be shown
 retied : (before : List Action) (f : Core) (w : Work) (moved fresh started later newer : List ℕ) → ((p : ℕ) → IsIn p later → IsIn p moved) → IsShowing before f w moved fresh started → TiedWaits (book (trace_of_acts before f w.acts)).story w.conn.requests w.conn.life newer later → IsShowing before f w later newer started
@@ -71,7 +76,7 @@ retied before f w moved fresh started later newer fewer h waits =
     let t = unshown f w moved fresh started in
     record {
       seats = λ p i. h.seats p (fewer p i);
-      sound = record { stands = h.sound.stands; tied = relined b t t.waiting t.admitted newer later [] h.sound.tied h.sound.tied.lines waits h.sound.tied.late };
+      sound = record { stands = h.sound.stands; tied = relined b t t.waiting t.admitted newer later [] h.sound.tied h.sound.tied.lines waits (rounds_new b.story w.conn.requests fresh newer (still_new w newer h.still.begun) h.sound.tied.rounds) h.sound.tied.late };
       ended = h.ended;
       fit = h.fit;
       still = h.still;
@@ -91,7 +96,7 @@ one_shown before f w p kind moved fresh started later newer h fewer up o may wai
     let n = name_at w.conn.requests p in
     let a = act.Wait n kind in
     let stands = wait_may b t p kind h.sound.tied (showing_quiet before f w moved fresh started h) up (showing_written before f w moved fresh started h) o may.0 may.1 may.2 may.3 may.4 in
-    let tied = wait_tied b t p kind later newer (open_within w.conn.requests p o) h.sound.tied waits in
+    let tied = wait_tied b t p kind later newer (open_within w.conn.requests p o) h.sound.tied (still_new w newer h.still.begun) waits in
     record {
       seats = λ q i. h.seats q (fewer q i);
       sound = sound_act before f w.acts a (record w.conn { moved = later; fresh = newer }) [] started h.sound.stands (refl, stands) tied;
@@ -379,7 +384,7 @@ showing_unmoved before f w moved fresh started h = record {
   sound = h.sound;
   ended = h.ended;
   fit = record { wanting = h.fit.wanting; setup = h.fit.setup; link = h.fit.link; none = h.fit.none; lasts = h.fit.lasts };
-  still = record { setup = h.still.setup; held = h.still.held; full = h.still.full; renewed = h.still.renewed; waiting = h.still.waiting; none_waits = h.still.none_waits };
+  still = record { setup = h.still.setup; held = h.still.held; full = h.still.full; renewed = h.still.renewed; waiting = h.still.waiting; begun = h.still.begun; none_waits = h.still.none_waits };
   offered = h.offered;
 }
 
@@ -390,7 +395,7 @@ showing_unfresh before f w moved fresh started h = record {
   sound = h.sound;
   ended = h.ended;
   fit = record { wanting = h.fit.wanting; setup = h.fit.setup; link = h.fit.link; none = h.fit.none; lasts = h.fit.lasts };
-  still = record { setup = h.still.setup; held = h.still.held; full = h.still.full; renewed = h.still.renewed; waiting = h.still.waiting; none_waits = h.still.none_waits };
+  still = record { setup = h.still.setup; held = h.still.held; full = h.still.full; renewed = h.still.renewed; waiting = h.still.waiting; begun = h.still.begun; none_waits = h.still.none_waits };
   offered = h.offered;
 }
 
@@ -502,7 +507,7 @@ shown_between before f w began h =
     let t = seen f w.acts w.conn [] h.started in
     let s = h.showing in
     let sound : Sound trace t = subst (λ ns. Sound trace (with_unshown t ns w.conn.fresh)) (sym h.moved) (subst (λ ns. Sound trace (with_unshown t [] ns)) (sym h.fresh) s.sound) in
-    let quiet : IsQuiet t = record { settled = refl; alone = refl; fit = s.fit.link; setup_fit = s.fit.setup; none = s.fit.none; setup_held = s.still.setup; held = s.still.held; full = s.still.full; seats = λ p i. absurd (subst (IsIn p) h.moved i); waiting = s.still.waiting; gone = s.still.none_waits } in
+    let quiet : IsQuiet t = record { settled = refl; alone = refl; fit = s.fit.link; setup_fit = s.fit.setup; none = s.fit.none; setup_held = s.still.setup; held = s.still.held; full = s.still.full; seats = λ p i. absurd (subst (IsIn p) h.moved i); waiting = s.still.waiting; begun = s.still.begun; gone = s.still.none_waits } in
     record {
       started = h.started;
       between = record {

@@ -25,6 +25,7 @@ use Rattle.mux_conn.specs.declared.request.Waiting.{Waiting}
 use Rattle.legal_trace.specs.Book.{Book, entered, if_own, message_of}
 use Rattle.legal_trace.specs.Ledger.{Ledger, Start, begins, is_of_setup, noted, setup_count, is_of_renewal}
 use Rattle.legal_trace.specs.Story.{Story, is_told, shape, shape_in, tried}
+use Rattle.session_laws.proofs.Rounded.{SameRounds, rounds_same}
 use Rattle.session_laws.proofs.Ahead.{queue_within, admitted_open, early_open}
 use Rattle.session_laws.proofs.Behind.{nil_told, open_untold, some_more}
 use Rattle.session_laws.proofs.InLine.{awaited_in, first_is_apart, kept_ids}
@@ -38,6 +39,7 @@ use Rattle.session_laws.proofs.SetUp.{set_up_begins, setups_begins}
 use Rattle.mux_conn.specs.Renewals.{renewal_id}
 use Rattle.session_laws.proofs.Renewals.{begins_renewed}
 use Rattle.session_laws.proofs.Tied.{AreQueued, Inner, IsEntry, IsQueued, IsRequest, Tied, TiedLines, TiedTries, TiedWaits, owner_of, owners_each, owners_of, queue_ids, setup_owners, shown_wait, numbers_kept}
+use Rattle.session_laws.proofs.Unrepeated.{unrepeated_lined}
 use Rattle.driver_model.specs.Hearing.{is_watching}
 
 -- the action that its start shows
@@ -76,6 +78,10 @@ tried_holds m link k story n =
 -- and whether its time is over
 tried_late : (m link k : ℕ) (story : ℕ → Story) (n : ℕ) → (tried_at m link k story n).overdue ≡ (story n).overdue
 tried_late m link k story n = chosen (λ (x : Story). x.overdue ≡ (story n).overdue) (m == n) (tried (story n) link k) (story n) (λ t. refl) (λ f. refl)
+
+-- and its round
+tried_rounds : (m link k : ℕ) (story : ℕ → Story) → SameRounds story (tried_at m link k story)
+tried_rounds m link k story n = chosen (λ (x : Story). x.rounded ≡ (story n).rounded) (m == n) (tried (story n) link k) (story n) (λ t. refl) (λ f. refl)
 
 -- and each outcome
 tried_outcomes : (m link k : ℕ) (story : ℕ → Story) → SameOutcomes story (tried_at m link k story)
@@ -327,10 +333,12 @@ start_tied b t link q qs h =
     tied_by (entered b (start_action t link q)) (after_start t link q qs) (noted l (begins s))
     (mine_noted l t.link (begins (message_of b t.link (owner.Try n 0))) ∙ ap (λ x. noted l (begins x)) (same_start b t.link t.requests q other is))
     (record {
-      numbers = numbers_kept b _ _ _ was _ _ _ _ _ _ _ _ _ _ h.numbers;
+      numbers = numbers_kept b _ _ _ _ was _ _ _ _ _ _ _ _ _ _ (unrepeated_lined b.link t.link (begins (message_of b t.link (owner.Try n 0))) refl h.numbers.unrepeated) h.numbers;
       others = others_kept b t.link (begins (message_of b t.link (owner.Try n 0))) h.others;
       notices = h.notices;
       life = h.life;
+      course = h.course;
+      calm = h.calm;
       creds = record { wanted_is = h.creds.wanted_is; sought = h.creds.sought };
       creation = h.creation;
       uses = h.uses;
@@ -348,5 +356,6 @@ start_tied b t link q qs h =
       told = λ e. told_started b t link q qs t.link link.started (h.told refl);
       waits = waits_started b t link q qs t.link link.started h;
       permits = permits_same b.story (tried_at n t.link link.started b.story) b.submissions t.requests t.link t.limit t.free t.letting (tried_holds n t.link link.started b.story) h.permits;
+      rounds = rounds_same b.story (tried_at n t.link link.started b.story) t.requests t.fresh (tried_rounds n t.link link.started b.story) h.rounds;
       late = λ p o e. h.late p o (sym (tried_late n t.link link.started b.story (name_at t.requests p)) ∙ e);
     })

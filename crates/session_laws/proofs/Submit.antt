@@ -15,7 +15,7 @@ use Rattle.driver_model.specs.News.{silence}
 use Rattle.driver_model.specs.Request.{packed_bytes, has_no_form}
 use Rattle.link_laws.proofs.TiedLink.{told_tied}
 use Rattle.mux_conn.specs.declared.request.Request.{Request}
-use Rattle.mux_conn.specs.Requests.{is_open as is_open_progress, is_waiting, is_admitted, is_placed, if_there}
+use Rattle.mux_conn.specs.Requests.{is_open as is_open_progress, is_waiting, is_admitted, is_placed, if_there, is_unbegun}
 use Rattle.mux_conn.specs.declared.request.Progress.{Progress}
 use Rattle.shared_session.specs.declared.core_state.Core.{Core}
 use Rattle.legal_trace.specs.Ledger.{is_over, next_notice}
@@ -23,6 +23,7 @@ use Rattle.legal_trace.specs.Story.{Story, Try, blank_story, is_open, is_no_erro
 use Rattle.legal_trace.specs.Book.{Book, entered, if_own, is_unspoken, kind_in}
 use Rattle.legal_trace.specs.Owed.{owed, owed_to_try, owed_waiting}
 use Rattle.legal_trace.specs.Legal.{IsOpen, link_of, NoneIsOwed, NoneEnds, MayAnswer, FailuresAreShown}
+use Rattle.session_laws.proofs.Rounded.{rounds_longer}
 use Rattle.session_laws.proofs.Aside.{aside_silent}
 use Rattle.session_laws.proofs.Renewals.{renewal_alike}
 use Rattle.session_laws.proofs.Numbers.{IsIn, in_left, in_right, Rising, rising_in, requests_in, request_in}
@@ -31,7 +32,7 @@ use Rattle.session_laws.proofs.Names.{there_within, names_refused, submits_unwat
 use Rattle.session_laws.proofs.Owes.{started_within, ends_told, notices_told}
 use Rattle.session_laws.proofs.Answer.{owed_in, no_push}
 use Rattle.session_laws.proofs.Settle.{seen}
-use Rattle.session_laws.proofs.Announce.{aims_longer, aims_on, turn_of, turned, uses_on, uses_on, time_still}
+use Rattle.session_laws.proofs.Announce.{aims_longer, aims_on, turn_of, turned, uses_on, uses_on, time_still, still_unrepeated}
 use Rattle.session_laws.proofs.Heard.{told_life, silent_no_end}
 use Rattle.session_laws.proofs.Said.{setup_on, sources_asked, IsTame, renoticed}
 use Rattle.session_laws.proofs.Further.{get_beyond, no_longer, SameBefore, further_story, tries_longer, queue_longer, packs_longer, told_longer, IsNext, waits_longer, permits_longer, late_longer}
@@ -176,6 +177,8 @@ refused_tied b c started word what e h tame form few no_fresh =
       none = λ p e past. elim e [ inl a ↦ past_all is_admitted p a past | inr a ↦ past_all is_placed p a past ];
       free = λ p w past. absurd (past_all is_waiting p w past);
       early = λ p o past. absurd (past_all is_open_progress p o past);
+      unbegun = λ p u past. absurd (past_all is_unbegun p u past);
+      begun = λ p o u past. past_all is_open_progress p o past;
     } in
     record {
       numbers = record {
@@ -190,15 +193,16 @@ refused_tied b c started word what e h tame form few no_fresh =
         shut = ap (λ s. s || false) h.numbers.shut;
         within = h.numbers.within;
         few = omega (arith, few, length-append c.table (None ∷ []));
+        unrepeated = still_unrepeated b c started (event.Submit what) h;
         settings = record { size_is = h.numbers.settings.size_is; bound_is = h.numbers.settings.bound_is; limit_is = h.numbers.settings.limit_is; some = h.numbers.settings.some; limited = h.numbers.settings.limited };
         kind_is = h.numbers.kind_is;
         quiet = λ w. absurd (submits_unwatched b (inner c started) what h form w);
-        plain = h.numbers.plain;
-        eager = h.numbers.eager;
+        comes_back = h.numbers.comes_back;
+        lazy = h.numbers.lazy;
         current_is = h.numbers.current_is;
         speaks = h.numbers.speaks;
-        one = h.numbers.one;
-        few_links = h.numbers.few_links;
+        address_is = h.numbers.address_is;
+        wants = h.numbers.wants;
       };
       others = λ m other. aside_silent (b.link m) c.turns (h.others m other);
       notices = renoticed tame h.notices;
@@ -232,5 +236,6 @@ refused_tied b c started word what e h tame form few no_fresh =
           (λ p i. at p (in_right p (requests_in started) (queue ++ last) (in_left p queue last (awaited_in p (link_in conn.life).queue i)))) no_fresh
           next h.waits;
       permits = permits_longer c.table b.story after b.submissions conn.requests conn.requests c.single.link conn.limit conn.free conn.fresh h.names same longer h.numbers.submissions (ap (λ (s : Story). s.permits) is) next h.permits;
+      rounds = rounds_longer c.table b.story after conn.requests conn.requests conn.fresh conn.fresh h.names same longer no_fresh next h.rounds;
       late = late_longer c.table b.story after conn.requests conn.requests conn.fresh h.names same longer next h.late;
     }

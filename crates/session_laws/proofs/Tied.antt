@@ -1,6 +1,6 @@
 -- What ties a session to the book of its trace.
-use Rattle.std.proofs.Common.{arith, subst, ◌≡◌, ◌≢◌, ◌⊎◌, ℕ, zero, suc, ◌+◌, ◌^◌, ◌<◌, ◌≤◌, ◌==◌, if◌then◌else◌, Bool, true, false, List, [], ◌∷◌, ◌++◌, length, drop, Option, Some, None, slice_get, codes, ◌&&◌}
-use Rattle.std.specs.List.{AllByRecursion}
+use Rattle.std.proofs.Common.{arith, subst, ◌≡◌, ◌≢◌, ◌⊎◌, ℕ, zero, suc, ◌+◌, ◌^◌, ◌<◌, ◌≤◌, ◌==◌, if◌then◌else◌, Bool, true, false, List, [], ◌∷◌, ◌++◌, length, drop, Option, Some, None, slice_get, codes, is_some, unwrap_or, not, ◌&&◌}
+use Rattle.std.specs.List.{AllByRecursion, list_any}
 use Rattle.redis_error.specs.declared.redis_error.RedisError.{RedisError}
 use Rattle.resp_value.specs.declared.value.Value.TheVariants.{Nil}
 use Rattle.connection_info.specs.declared.address.RedisConnectionInfo.{RedisConnectionInfo}
@@ -10,7 +10,8 @@ use Rattle.driver_model.specs.declared.action.Purpose.{Purpose}
 use Rattle.driver_model.specs.declared.action.SourceUse.{SourceUse}
 use Rattle.driver_model.specs.declared.action.SourceUse.TheVariants as source
 use Rattle.driver_model.specs.declared.action.Owner.TheVariants as owner
-use Rattle.driver_model.specs.Config.{boundary}
+use Rattle.driver_model.specs.declared.config.Config.{Config}
+use Rattle.driver_model.specs.Config.{address, boundary, connect_timeout, first_fault}
 use Rattle.driver_model.specs.Setup.{says_nothing, setup_shape}
 use Rattle.driver_model.specs.declared.action.WaitKind.{WaitKind}
 use Rattle.driver_model.specs.declared.action.WaitKind.TheVariants as wait
@@ -34,35 +35,39 @@ use Rattle.mux_conn.specs.declared.life.Greeting.TheVariants as greet
 use Rattle.mux_conn.specs.declared.life.Life.{Life}
 use Rattle.mux_conn.specs.declared.life.Life.TheVariants.{Resting, Dialing, Wanting, SettingUp, Ready, Ended}
 use Rattle.mux_conn.specs.declared.renewal.Renewal.{Renewal}
-use Rattle.mux_conn.specs.Connection.{are_some}
+use Rattle.mux_conn.specs.Connection.{are_some, is_ready, is_resting}
 use Rattle.mux_conn.specs.Renewals.{renewal_id}
 use Rattle.mux_conn.specs.declared.request.Pending.{Pending}
 use Rattle.mux_conn.specs.declared.request.Request.{Request}
 use Rattle.mux_conn.specs.declared.request.Waiting.{Waiting}
 use Rattle.mux_conn.specs.Effects.{setup_queued, setup_id}
-use Rattle.mux_conn.specs.Requests.{name_at, permits_at, is_open_at, is_waiting_at, is_admitted_at, is_placed_at}
+use Rattle.mux_conn.specs.Requests.{name_at, permits_at, is_open_at, is_unbegun_at, is_waiting_at, is_admitted_at, is_placed_at}
 use Rattle.shared_session.specs.declared.core_state.Core.{Core}
+use Rattle.shared_session.specs.declared.generations.Generations.{Generations}
+use Rattle.sub_tracker.specs.Subscribed.{Request as Call}
 use Rattle.legal_trace.specs.Ledger.{Ledger, Heard, Sourced, Start, End, blank_ledger, cut, failure_in, is_cut, is_done, is_full, is_greeted, is_of_renewal, is_over, is_set_up, is_taken, last_renewal, monitor_of, next_notice, renewal_count, renewals_asked, setup_count, setup_steps, setup_after}
 use Rattle.legal_trace.specs.Story.{Story, blank_story, is_open, is_told, bytes_of, shape, is_awaited}
-use Rattle.legal_trace.specs.Book.{Book, blank_book, book, has_generations, hearing_in, info_in, kind_in}
-use Rattle.legal_trace.specs.Managers.{is_lazy}
+use Rattle.legal_trace.specs.Book.{Book, blank_book, book, has_generations, hearing_in, info_in, kind_in, wanted_in}
+use Rattle.legal_trace.specs.Managers.{is_lazy, settings_in}
 use Rattle.legal_trace.specs.Steps.{configured, queue_size, permits_in, permits_held, is_let_in}
-use Rattle.legal_trace.specs.Legal.{AllStand, IsTimed, answer_time}
+use Rattle.legal_trace.specs.Legal.{AllStand, IsTimed, answer_time, is_attempt, is_cause}
 use Rattle.legal_trace.specs.Owed.{owed_unstarted}
 use Rattle.session_laws.proofs.Numbers.{IsIn, Rising, requests_in}
 use Rattle.driver_model.specs.News.{News, came}
 
--- what counts of a session in the middle of a turn: how many turns it has begun, how many links it has asked for and
--- which of them is its connection's, what each timer, and each source of credentials, was asked for, whether everything was
+-- what counts of a session in the middle of a turn: its generations, where it comes back, how many turns it has begun, how many links it
+-- has asked for and which of them is its connection's, or, where that has none, is to be its next, what each timer, and each source of credentials, was asked for, whether everything was
 -- shut down, the request of each submission, and within how many milliseconds one that comes now is to be answered; how many
 -- messages the queue of its connection's link holds, at how many unwritten bytes none starts, how many permits there are, if
 -- they are counted, and how many are free; what is heard beside replies, what of that which came is still to be told, and whether
--- the end of the link is; what the session is; what is said to the server before the first request, and its credentials
--- that come of sources; its connection's life, whether it was told that it is ready, or that its opening failed, its requests,
+-- the end of the link is; what the session is; what is said to the server before the first request, what is said to that of
+-- each new link, and its credentials that come of sources; its connection's life, whether no other attempt follows where its opening
+-- fails, whether it was told that it is ready, or that its opening failed, and whether its link was set up; its requests,
 -- those that wait for the connection, those that wait for a place, those that came in this turn and those that were moved in it,
--- whose waits aren't shown yet; the one that is being let in; the requests that are settled and not answered yet; and the numbers
+-- whose waits aren't shown yet; whether rounds are shown; the one that is being let in; the requests that are settled and not answered yet; and the numbers
 -- of the messages that started behind the setups, in order: a request's, or AUTH's
 pub record Inner : Type 0 where
+  pub manager : Option Generations
   pub turns : ℕ
   pub links : ℕ
   pub link : ℕ
@@ -80,14 +85,18 @@ pub record Inner : Type 0 where
   pub untold : List Heard
   pub parting : Bool
   pub info : RedisConnectionInfo
+  pub address : RedisConnectionInfo
   pub renewal : Renewal
   pub life : Life
+  pub last : Bool
   pub told : Bool
+  pub opened : Bool
   pub requests : List Request
   pub waiting : List Waiting
   pub admitted : List Waiting
   pub fresh : List ℕ
   pub moved : List ℕ
+  pub rounds : Bool
   pub letting : List ℕ
   pub pending : List ℕ
   pub started : List ℕ
@@ -164,7 +173,7 @@ abbrev pub setup_owners : ℕ → List Owner → List Owner
 setup_owners zero more = more
 setup_owners (suc n) more = owner.Setup ∷ setup_owners n more
 
--- a timer is for this link or one before it, or for one of so many submissions
+-- a timer is for this link or one before it, for one of so many submissions, or for the wait behind a failed attempt
 abbrev pub IsAim : Purpose → ℕ → ℕ → Type 0
 IsAim (purpose.Connect l) link count = l ≤ link
 IsAim (purpose.Response owner.Setup) link count = ⊥
@@ -172,7 +181,7 @@ IsAim (purpose.Response owner.Auth) link count = ⊥
 IsAim (purpose.Response owner.Resub) link count = ⊥
 IsAim (purpose.Response owner.Monitor) link count = ⊥
 IsAim (purpose.Renewal l k) link count = l ≤ link
-IsAim (purpose.Backoff g) link count = ⊥
+IsAim (purpose.Backoff g) link count = Unit {0}
 IsAim (purpose.Resubscription l) link count = ⊥
 IsAim (purpose.Response (owner.Try n round)) link count = (n < count) × (round ≡ 0)
 
@@ -205,10 +214,47 @@ pub record IsBare (table : List (Option Pending)) (r : Renewal) : Type 0 where
   pub unwanted : r.wanted ≡ false
   pub unrenewed : r.waiting ≡ []
 
--- the numbers that the session gives are those of the book, and so is what it is, which has no generations, and what its servers are
--- told; its connection's link is the one that submissions go to, and the last that was asked for; all timers are for it, for one
--- before it, or for a submission, and one was asked for each bounded connect; what is told to its server is to be answered within the
--- configured time; and no more numbers were given to submissions than there are
+-- nothing is subscribed again on any link: no session does so
+abbrev pub AreUnrepeated : (ℕ → Ledger) → Type 0
+AreUnrepeated ledgers = (l : ℕ) → (ledgers l).again.wanted ≡ false
+
+-- a session that comes back so: nothing of its configuration is refused, which says how it does, where its links are asked for, and how
+-- long a connect may take; so many generations began, and so many attempts of the current one failed; and it is without a first one
+-- where it waits for its first submission alone
+pub record ComesBack (config : Option Config) (generation attempts : ℕ) (g : Generations) : Type 0 where
+  pub whole : Config
+  pub told : config ≡ Some whole
+  pub sound : first_fault whole ≡ None
+  pub settings_are : settings_in config ≡ Some g.settings
+  pub at : address whole ≡ Some g.info
+  pub bounded : connect_timeout whole ≡ g.settings.connection.connection_timeout
+  pub number_is : generation ≡ g.number
+  pub attempt_is : attempts ≡ g.attempt
+  pub first : g.number ≡ 0 → is_lazy config ≡ true
+
+-- the generations of a session are those of the book, where it has any. When the wait behind a failed attempt is over, and whether the
+-- creation failed, the session heeds at the end of a turn: that these are those of the book too is said between turns (`IsHeeded`)
+abbrev pub TiedManager : Option Config → ℕ → ℕ → Option Generations → Type 0
+TiedManager config generation attempts None = (settings_in config ≡ None) × (is_lazy config ≡ false)
+TiedManager config generation attempts (Some g) = ComesBack config generation attempts g
+
+-- the wait behind a failed attempt has the timer of the book, and the creation failed where the book says so; there is such a wait only
+-- of a generation whose next link isn't asked for
+pub record HasHeeded (rest : Option ℕ) (failed : Bool) (life : Life) (g : Generations) : Type 0 where
+  pub rest_is : rest ≡ g.rest
+  pub failed_is : failed ≡ g.halted
+  pub rests : g.rest ≢ None → (life ≡ Resting) × (g.number ≢ 0)
+
+-- so it is between turns, where there are generations
+abbrev pub IsHeeded : Option ℕ → Bool → Life → Option Generations → Type 0
+IsHeeded rest failed life None = Unit {0}
+IsHeeded rest failed life (Some g) = HasHeeded rest failed life g
+
+-- the numbers that the session gives are those of the book, and so are its generations, what it is, and what its servers are
+-- told; its connection's link is the one that submissions go to; all timers are for it, for one
+-- before it, for a submission, or for the wait behind a failed attempt, and one was asked for each bounded connect; where it waits for
+-- its first submission it was created; what is told to its server is to be answered within the
+-- configured time; no more numbers were given to submissions than there are; and nothing is subscribed again
 pub record TiedNumbers (b : Book) (t : Inner) : Type 0 where
   pub turns : b.turns ≡ t.turns
   pub links : b.links ≡ t.links
@@ -221,15 +267,16 @@ pub record TiedNumbers (b : Book) (t : Inner) : Type 0 where
   pub shut : b.shut ≡ t.shut
   pub within : answer_time b.config ≡ t.renewal.within
   pub few : length t.table ≤ 2 ^ 32
+  pub unrepeated : AreUnrepeated b.link
   pub settings : IsConfigured b t.size t.bound t.limit
   pub kind_is : kind_in b.config ≡ t.kind
   pub quiet : is_watching t.hears ≡ true → IsBare t.table t.renewal
-  pub plain : has_generations b ≡ false
-  pub eager : is_lazy b.config ≡ false
+  pub comes_back : TiedManager b.config b.generation b.attempt t.manager
+  pub lazy : is_lazy b.config ≡ true → b.created ≢ 0
   pub current_is : b.current ≡ t.link
   pub speaks : (info_in b.config).protocol ≡ t.info.protocol
-  pub one : t.links ≡ t.link + 1
-  pub few_links : t.links < 2 ^ 32
+  pub address_is : info_in b.config ≡ t.address
+  pub wants : wanted_in b.config ≡ t.renewal.wanted
 
 -- where the opening failed, this was shown
 abbrev pub FailureIsShown : Option End → ℕ → Type 0
@@ -287,19 +334,92 @@ pub record TiedCreation (created : ℕ) (told : Bool) : Type 0 where
 pub shown_creation : (created : ℕ) → TiedCreation (created + 1) true
 shown_creation created = record { before = λ e. cc; after = λ e none. absurd (let no : created + 1 ≡ 0 = none in omega (arith, no)) }
 
--- how far the link has come, which was asked for, and after which no attempt follows, so that no session's connection is without
--- one; where it has ended, a submission without a message gets this error
+-- how far the link has come. Where the connection has none, that which is to be its next was never asked for. Where it has ended, a
+-- submission without a message gets this error
 abbrev pub TiedLife : Ledger → ℕ → Life → Type 0
-TiedLife l created Resting = (l.asked ≡ false) × (l.up ≡ false) × (l.end ≡ None) × (l.last ≡ true) × ⊥
-TiedLife l created Dialing = (l.asked ≡ true) × (l.up ≡ false) × (l.end ≡ None) × (l.last ≡ true)
-TiedLife l created (Wanting link) = (l.asked ≡ true) × (l.up ≡ true) × (l.end ≡ None) × (l.last ≡ true)
-TiedLife l created (SettingUp link greeting) = (l.asked ≡ true) × (l.up ≡ true) × (l.end ≡ None) × (l.last ≡ true)
-TiedLife l created (Ready link) = (l.asked ≡ true) × (l.up ≡ true) × (l.end ≡ None) × (l.last ≡ true) × (created ≢ 0)
+TiedLife l created Resting = (l.asked ≡ false) × (l.up ≡ false) × (l.end ≡ None)
+TiedLife l created Dialing = (l.asked ≡ true) × (l.up ≡ false) × (l.end ≡ None)
+TiedLife l created (Wanting link) = (l.asked ≡ true) × (l.up ≡ true) × (l.end ≡ None)
+TiedLife l created (SettingUp link greeting) = (l.asked ≡ true) × (l.up ≡ true) × (l.end ≡ None)
+TiedLife l created (Ready link) = (l.asked ≡ true) × (l.up ≡ true) × (l.end ≡ None) × (created ≢ 0)
 TiedLife l created (Ended e) = (l.up ≡ false) × (owed_unstarted l.end ≡ Some (outcome.Fault e)) × FailureIsShown l.end created × (l.asked ≡ true)
 
--- no session's connection is without a link
-pub never_rests : (l : Ledger) (created : ℕ) (life : Life) → life ≡ Resting → TiedLife l created life → ⊥
-never_rests l created life e h = (subst (TiedLife l created) e h).4
+-- a link has ended: where it was not set up, its opening failed, or everything was shut down; and where it was, it didn't
+pub record IsOver (end : Option End) (shut opened : Bool) : Type 0 where
+  pub failed : opened ≡ false → shut ≡ false → failure_in end ≢ None
+  pub unfailed : opened ≡ true → failure_in end ≡ None
+
+-- a generation began, or there are none
+abbrev pub is_begun : Option Generations → Bool
+is_begun None = true
+is_begun (Some g) = not (g.number == 0)
+
+-- so far a connection has come whose link is the last of so many that were asked for, in a generation, where there are any; it has no
+-- link only where the session comes back: then the next one is to be asked for, whose server is told what all are. Whether another
+-- attempt follows where its opening fails, and whether it was set up, is the same for the link and the connection
+abbrev pub HasCourse : Bool → Option End → ℕ → ℕ → Bool → Option Generations → Bool → Bool → RedisConnectionInfo → RedisConnectionInfo → Life → Type 0
+HasCourse is_last end links link shut manager last opened info address Resting = (links ≡ link) × (is_some manager ≡ true) × (opened ≡ false) × (info ≡ address)
+HasCourse is_last end links link shut manager last opened info address Dialing = (links ≡ link + 1) × (is_begun manager ≡ true) × (opened ≡ false) × (is_last ≡ last) × (info ≡ address)
+HasCourse is_last end links link shut manager last opened info address (Wanting state) = (links ≡ link + 1) × (is_begun manager ≡ true) × (opened ≡ false) × (is_last ≡ last)
+HasCourse is_last end links link shut manager last opened info address (SettingUp state greeting) = (links ≡ link + 1) × (is_begun manager ≡ true) × (opened ≡ false) × (is_last ≡ last)
+HasCourse is_last end links link shut manager last opened info address (Ready state) = (links ≡ link + 1) × (is_begun manager ≡ true) × (opened ≡ true) × (is_last ≡ last)
+HasCourse is_last end links link shut manager last opened info address (Ended e) = (links ≡ link + 1) × (is_begun manager ≡ true) × IsOver end shut opened
+
+-- of a session, by whether the ledger of its link says that no other attempt follows, and by its end
+abbrev pub TiedCourse : Bool → Option End → Inner → Type 0
+TiedCourse is_last end t = HasCourse is_last end t.links t.link t.shut t.manager t.last t.opened t.info t.address t.life
+
+-- none of these errors is a cause for the next generation, where the opening of a link has not failed
+abbrev pub AreCalm : List RedisError → Type 0
+AreCalm errors = list_any (is_cause None) errors ≡ false
+
+-- so it is of all with which submissions were answered in the turn that runs, until the link ends or everything is shut down
+abbrev pub StaysCalm : List RedisError → Bool → Life → Type 0
+StaysCalm errors shut life = has_ended life ≡ false → shut ≡ false → AreCalm errors
+
+-- this holds of a link that was asked for
+abbrev pub OnLink : Life → Type 0 → Type 0
+OnLink Resting P = Unit {0}
+OnLink Dialing P = P
+OnLink (Wanting link) P = P
+OnLink (SettingUp link greeting) P = P
+OnLink (Ready link) P = P
+OnLink (Ended e) P = P
+
+-- where the connection has one
+pub on_link : (life : Life) (P : Type 0) → is_resting life ≡ false → OnLink life P → P
+on_link Resting P there h = cc
+on_link Dialing P there h = h
+on_link (Wanting link) P there h = h
+on_link (SettingUp link greeting) P there h = h
+on_link (Ready link) P there h = h
+on_link (Ended e) P there h = h
+
+-- and what holds anyway holds of it
+pub of_link : (life : Life) (P : Type 0) → P → OnLink life P
+of_link Resting P h = tt
+of_link Dialing P h = h
+of_link (Wanting link) P h = h
+of_link (SettingUp link greeting) P h = h
+of_link (Ready link) P h = h
+of_link (Ended e) P h = h
+
+-- what is heard on the link, once it was asked for
+abbrev pub hearing_at : Life → Hearing → Hearing → Hearing
+hearing_at Resting hears hearing = hears
+hearing_at Dialing hears hearing = hearing
+hearing_at (Wanting link) hears hearing = hearing
+hearing_at (SettingUp link greeting) hears hearing = hearing
+hearing_at (Ready link) hears hearing = hearing
+hearing_at (Ended e) hears hearing = hearing
+
+pub hearing_on : (life : Life) (hears hearing : Hearing) → is_resting life ≡ false → hearing_at life hears hearing ≡ hearing
+hearing_on Resting hears hearing there = cc
+hearing_on Dialing hears hearing there = refl
+hearing_on (Wanting link) hears hearing there = refl
+hearing_on (SettingUp link greeting) hears hearing there = refl
+hearing_on (Ready link) hears hearing there = refl
+hearing_on (Ended e) hears hearing there = refl
 
 -- the credentials of a link come of no source, or they have come
 abbrev pub HasCredentials : Sourced → Type 0
@@ -316,7 +436,7 @@ AreSought c (Ended e) = Unit {0}
 
 -- whether they come of sources is the same for the link and the session
 pub record TiedCreds (c : Sourced) (wanted : Bool) (life : Life) : Type 0 where
-  pub wanted_is : c.wanted ≡ wanted
+  pub wanted_is : OnLink life (c.wanted ≡ wanted)
   pub sought : AreSought c life
 
 -- no new credentials came, and none were told
@@ -466,7 +586,7 @@ AreSetups l = (k : ℕ) (s : Start) → k < setup_count l.starts → slice_get l
 
 -- what is said to the server is the same for the link and the session
 pub record TiedSetup (l : Ledger) (info : RedisConnectionInfo) (started : List ℕ) (life : Life) : Type 0 where
-  pub info_is : l.info ≡ info
+  pub info_is : OnLink life (l.info ≡ info)
   pub sent : AreSetups l
   pub said : HasSaid l started life
 
@@ -585,12 +705,13 @@ AreQueued story requests number link = IsQueueOf story requests number (queue_id
 abbrev pub shown_wait : (ℕ → Story) → List Request → ℕ → Option WaitKind
 shown_wait story requests p = (story (name_at requests p)).waiting
 
--- a request that waits for the connection, or for a permit, has shown nothing or one of these; the first while the
--- connect isn't answered, the second while credentials are to come, the third while the link is set up, and the fourth while
--- it is up, where its wait isn't to be shown yet; one that waits for a place, or has one in the queue, was moved in this turn and its wait isn't shown
+-- a request that waits for the connection, or for a permit, has shown nothing or one of these; the first while there is no link, the
+-- second while the connect isn't answered, the third while credentials are to come, the fourth while the link is set up, and the fifth
+-- while it is up, where its wait isn't to be shown yet; one that waits for a place, or has one in the queue, was moved in this turn and its wait isn't shown
 -- yet, or has shown it; one that waits for a place has never shown that it waits for room
 pub record TiedWaits (story : ℕ → Story) (requests : List Request) (life : Life) (fresh moved : List ℕ) : Type 0 where
-  pub early : (p : ℕ) → is_waiting_at requests p ≡ true → (shown_wait story requests p ≡ None) ⊎ ((shown_wait story requests p ≡ Some wait.Connect) ⊎ ((shown_wait story requests p ≡ Some wait.Creds) ⊎ ((shown_wait story requests p ≡ Some wait.Setup) ⊎ (shown_wait story requests p ≡ Some wait.Permit))))
+  pub early : (p : ℕ) → is_waiting_at requests p ≡ true → (shown_wait story requests p ≡ None) ⊎ ((shown_wait story requests p ≡ Some wait.Backoff) ⊎ ((shown_wait story requests p ≡ Some wait.Connect) ⊎ ((shown_wait story requests p ≡ Some wait.Creds) ⊎ ((shown_wait story requests p ≡ Some wait.Setup) ⊎ (shown_wait story requests p ≡ Some wait.Permit)))))
+  pub backoff : (p : ℕ) → is_waiting_at requests p ≡ true → life ≡ Resting → IsIn p fresh ⊎ (shown_wait story requests p ≡ Some wait.Backoff)
   pub connect : (p : ℕ) → is_waiting_at requests p ≡ true → life ≡ Dialing → IsIn p fresh ⊎ (shown_wait story requests p ≡ Some wait.Connect)
   pub creds : (p : ℕ) (link : LinkState) → is_waiting_at requests p ≡ true → life ≡ Wanting link → IsIn p fresh ⊎ (shown_wait story requests p ≡ Some wait.Creds)
   pub setup : (p : ℕ) (link : LinkState) (greeting : Greeting) → is_waiting_at requests p ≡ true → life ≡ SettingUp link greeting → IsIn p fresh ⊎ (shown_wait story requests p ≡ Some wait.Setup)
@@ -599,6 +720,7 @@ pub record TiedWaits (story : ℕ → Story) (requests : List Request) (life : L
   pub room : (p : ℕ) → IsIn p (awaited_ids (link_in life).queue) → IsIn p moved ⊎ (shown_wait story requests p ≡ Some wait.Room)
   pub newer : Rising 0 fresh (length requests)
   pub rising : Rising 0 moved (length requests)
+  pub no_backoff : (p : ℕ) → IsIn p fresh → is_waiting_at requests p ≡ true → life ≡ Resting → shown_wait story requests p ≡ None
   pub no_connect : (p : ℕ) → IsIn p fresh → is_waiting_at requests p ≡ true → life ≡ Dialing → shown_wait story requests p ≢ Some wait.Connect
   pub no_creds : (p : ℕ) (link : LinkState) → IsIn p fresh → is_waiting_at requests p ≡ true → life ≡ Wanting link → shown_wait story requests p ≢ Some wait.Creds
   pub no_setup : (p : ℕ) (link : LinkState) (greeting : Greeting) → IsIn p fresh → is_waiting_at requests p ≡ true → life ≡ SettingUp link greeting → shown_wait story requests p ≢ Some wait.Setup
@@ -615,15 +737,26 @@ pub record TiedPermits (story : ℕ → Story) (submissions : ℕ) (requests : L
   pub none : (p : ℕ) → is_waiting_at requests p ≡ true → (IsIn p letting → ⊥) → (permits_at requests p ≡ 0) × ((story (name_at requests p)).clock ≡ None)
   pub let_in : (p : ℕ) → (is_admitted_at requests p ≡ true) ⊎ (is_placed_at requests p ≡ true) → is_let_in limit (story (name_at requests p)) ≡ true
 
+-- rounds are shown where the session has generations. Of who waits and whose round has not begun none was shown, and of any other
+-- request that is open it was, where they are shown; and then, where the link is up and set up, who waits so came in this turn
+pub record TiedRounds (comes : Bool) (story : ℕ → Story) (requests : List Request) (ready : Bool) (fresh : List ℕ) (rounds : Bool) : Type 0 where
+  pub rounds_is : comes ≡ rounds
+  pub unbegun : (p : ℕ) → is_unbegun_at requests p ≡ true → (story (name_at requests p)).rounded ≡ false
+  pub begun : (p : ℕ) → rounds ≡ true → is_open_at requests p ≡ true → is_unbegun_at requests p ≡ false → (story (name_at requests p)).rounded ≡ true
+  pub new : (p : ℕ) → rounds ≡ true → ready ≡ true → is_unbegun_at requests p ≡ true → IsIn p fresh
+
 -- an open submission whose time is over is to be answered
 abbrev pub AreLate : (ℕ → Story) → List Request → List ℕ → Type 0
 AreLate story requests pending = (p : ℕ) → is_open_at requests p ≡ true → (story (name_at requests p)).overdue ≡ true → IsIn p pending
 
+-- the session is tied to the book
 pub record Tied (b : Book) (t : Inner) : Type 0 where
   pub numbers : TiedNumbers b t
   pub others : AreAside t.link t.links b.link t.hears t.renewal.within b.created
-  pub notices : TiedNotices (hearing_in b.config) t.hears (b.link t.link).hearing (b.link t.link).notices (b.link t.link).told (b.link t.link).end (b.link t.link).parted (b.link t.link).strange (is_reading (b.link t.link)) t.untold t.parting
+  pub notices : TiedNotices (hearing_in b.config) t.hears (hearing_at t.life t.hears (b.link t.link).hearing) (b.link t.link).notices (b.link t.link).told (b.link t.link).end (b.link t.link).parted (b.link t.link).strange (is_reading (b.link t.link)) t.untold t.parting
   pub life : TiedLife (b.link t.link) b.created t.life
+  pub course : TiedCourse (b.link t.link).last (b.link t.link).end t
+  pub calm : StaysCalm b.errors t.shut t.life
   pub creation : TiedCreation b.created t.told
   pub creds : TiedCreds (b.link t.link).creds t.renewal.wanted t.life
   pub uses : AreUses t.sources t.link (b.link t.link).creds.asked (b.link t.link).creds.renews
@@ -637,7 +770,44 @@ pub record Tied (b : Book) (t : Inner) : Type 0 where
   pub told : has_ended t.life ≡ false → AreQueued b.story t.requests t.link (link_in t.life)
   pub waits : TiedWaits b.story t.requests t.life t.fresh t.moved
   pub permits : TiedPermits b.story b.submissions t.requests t.link t.limit t.free t.letting
+  pub rounds : TiedRounds (has_generations b) b.story t.requests (is_ready t.life) t.fresh t.rounds
   pub late : AreLate b.story t.requests t.pending
+
+-- the opening of the connection's link has failed in the turn that runs, and another attempt follows: the connection has no link any more
+-- (`Resting`), and the ledger of its link says that it ended as an attempt; the next one isn't asked for. Nothing was ever told there but
+-- what is said before requests, nothing of it is still to be told, and all that are open wait, and are to show that anew. This is no `Tied`
+-- session: it is one again with the timer of the wait, with which they go to the next link
+pub record IsRetiring (b : Book) (t : Inner) : Type 0 where
+  pub numbers : TiedNumbers b t
+  pub rests : t.life ≡ Resting
+  pub comes : is_some t.manager ≡ true
+  pub placed : t.links ≡ t.link + 1
+  pub unopened : t.opened ≡ false
+  pub unshut : t.shut ≡ false
+  pub info_is : t.info ≡ t.address
+  pub attempted : is_attempt (b.link t.link).end ≡ true
+  pub others : AreAside t.link t.links b.link t.hears t.renewal.within b.created
+  pub own : IsAside t.links t.link (b.link t.link) t.hears t.renewal.within b.created
+  pub heard_is : hearing_in b.config ≡ t.hears
+  pub calm : AreCalm b.errors
+  pub creation : TiedCreation b.created t.told
+  pub uses : AreUses t.sources t.link (b.link t.link).creds.asked (b.link t.link).creds.renews
+  pub renewal : NoneRenewed blank_ledger t.renewal
+  pub names : TiedNames t.table t.requests
+  pub story : (n : ℕ) → TiedStory (b.story n) t.requests t.link (slice_get t.table n)
+  pub untried : (p : ℕ) (r : Request) → slice_get t.requests p ≡ Some r → (b.story r.name).link ≡ t.link → (b.story r.name).tries ≡ []
+  pub lines : TiedLines b.story t.requests no_link t.waiting [] [] []
+  pub admitted : t.admitted ≡ []
+  pub moved : t.moved ≡ []
+  pub pending : t.pending ≡ []
+  pub started : t.started ≡ []
+  pub fresh : t.fresh ≡ waiting_ids t.waiting
+  pub free : t.free ≡ unwrap_or t.limit 0
+  pub letting : t.letting ≡ []
+  pub rounds_is : has_generations b ≡ t.rounds
+  pub waiting : (p : ℕ) → is_open_at t.requests p ≡ true → is_unbegun_at t.requests p ≡ true
+  pub holds : (p : ℕ) → is_open_at t.requests p ≡ true → (permits_at t.requests p ≡ 0) × ((b.story (name_at t.requests p)).clock ≡ None)
+  pub late : AreLate b.story t.requests []
 
 -- all that came is told, and so is the end of the link
 abbrev pub IsToldIn : Inner → Type 0
@@ -651,6 +821,7 @@ pub record Sound (trace : List Action) (t : Inner) : Type 0 where
 -- the session between turns
 abbrev pub inner : Core → List ℕ → Inner
 inner c started = record {
+  manager = c.manager;
   turns = c.turns;
   links = c.links;
   link = c.single.link;
@@ -668,23 +839,27 @@ inner c started = record {
   untold = [];
   parting = false;
   info = c.single.connection.info;
+  address = c.single.connection.address;
   renewal = c.single.connection.renewal;
   life = c.single.connection.life;
+  last = c.single.connection.last;
   told = c.single.connection.told;
+  opened = c.single.connection.opened;
   requests = c.single.connection.requests;
   waiting = c.single.connection.waiting;
   admitted = c.single.connection.admitted;
   fresh = c.single.connection.fresh;
   moved = c.single.connection.moved;
+  rounds = c.single.connection.rounds;
   letting = [];
   pending = [];
   started = started;
 }
 
--- the numbers, where only links, stories and the connection change
-pub numbers_kept : (b : Book) (link : ℕ → Ledger) (story : ℕ → Story) (errors : List RedisError) (t : Inner) (life : Life) (free : ℕ) (requests : List Request) (waiting admitted : List Waiting) (fresh moved letting pending started : List ℕ) → TiedNumbers b t
-    → TiedNumbers (record b { link = link; story = story; errors = errors }) (record t { life = life; free = free; requests = requests; waiting = waiting; admitted = admitted; fresh = fresh; moved = moved; letting = letting; pending = pending; started = started })
-numbers_kept b link story errors t life free requests waiting admitted fresh moved letting pending started h = record {
+-- the numbers, where only links, stories, what is subscribed, errors and the connection change
+pub numbers_kept : (b : Book) (link : ℕ → Ledger) (story : ℕ → Story) (tracked : List Call) (errors : List RedisError) (t : Inner) (life : Life) (free : ℕ) (requests : List Request) (waiting admitted : List Waiting) (fresh moved letting pending started : List ℕ) → AreUnrepeated link → TiedNumbers b t
+    → TiedNumbers (record b { link = link; story = story; tracked = tracked; errors = errors }) (record t { life = life; free = free; requests = requests; waiting = waiting; admitted = admitted; fresh = fresh; moved = moved; letting = letting; pending = pending; started = started })
+numbers_kept b link story tracked errors t life free requests waiting admitted fresh moved letting pending started unrepeated h = record {
   turns = h.turns;
   links = h.links;
   timers = h.timers;
@@ -696,28 +871,32 @@ numbers_kept b link story errors t life free requests waiting admitted fresh mov
   shut = h.shut;
   within = h.within;
   few = h.few;
+  unrepeated = unrepeated;
   settings = record { size_is = h.settings.size_is; bound_is = h.settings.bound_is; limit_is = h.settings.limit_is; some = h.settings.some; limited = h.settings.limited };
   kind_is = h.kind_is;
   quiet = h.quiet;
-  plain = h.plain;
-  eager = h.eager;
+  comes_back = h.comes_back;
+  lazy = h.lazy;
   current_is = h.current_is;
   speaks = h.speaks;
-  one = h.one;
-  few_links = h.few_links;
+  address_is = h.address_is;
+  wants = h.wants;
 }
 
 -- requests move between those that wait for the connection, those that wait for a place, those whose wait isn't shown yet,
 -- and those that are to be answered: the session stays tied where its lines and its waits are, and who is late is to be
 -- answered
 pub relined : (b : Book) (t : Inner) (waiting admitted : List Waiting) (fresh moved pending : List ℕ) → Tied b t
-    → TiedLines b.story t.requests (link_in t.life) waiting admitted pending t.started → TiedWaits b.story t.requests t.life fresh moved → AreLate b.story t.requests pending
+    → TiedLines b.story t.requests (link_in t.life) waiting admitted pending t.started → TiedWaits b.story t.requests t.life fresh moved
+    → TiedRounds (has_generations b) b.story t.requests (is_ready t.life) fresh t.rounds → AreLate b.story t.requests pending
     → Tied b (record t { waiting = waiting; admitted = admitted; fresh = fresh; moved = moved; pending = pending })
-relined b t waiting admitted fresh moved pending h lines waits late = record {
-  numbers = numbers_kept b b.link b.story b.errors t t.life t.free t.requests waiting admitted fresh moved t.letting pending t.started h.numbers;
+relined b t waiting admitted fresh moved pending h lines waits rounds late = record {
+  numbers = numbers_kept b b.link b.story b.tracked b.errors t t.life t.free t.requests waiting admitted fresh moved t.letting pending t.started h.numbers.unrepeated h.numbers;
   others = h.others;
   notices = h.notices;
   life = h.life;
+  course = h.course;
+  calm = h.calm;
   creds = h.creds;
   creation = h.creation;
   uses = h.uses;
@@ -731,5 +910,6 @@ relined b t waiting admitted fresh moved pending h lines waits late = record {
   told = h.told;
   waits = waits;
   permits = h.permits;
+  rounds = rounds;
   late = late;
 }

@@ -18,11 +18,12 @@ use Rattle.shared_session.specs.declared.core_state.Core.{Core}
 use Rattle.shared_session.specs.Turn.{with_work, is_bad}
 use Rattle.legal_trace.specs.Ledger.{Ledger, hears, noted, ending}
 use Rattle.legal_trace.specs.Story.{Story}
-use Rattle.legal_trace.specs.Book.{book}
+use Rattle.legal_trace.specs.Book.{book, has_generations}
 use Rattle.mux_conn.specs.declared.renewal.Renewal.{Renewal}
+use Rattle.session_laws.proofs.Rounded.{rounds_down}
 use Rattle.session_laws.proofs.Renewals.{renewal_alike}
 use Rattle.session_laws.proofs.Numbers.{IsIn}
-use Rattle.session_laws.proofs.Tied.{never_rests, carried, link_in, owner_of, whole_link, TiedLife, TiedLines, TiedSetup, AreQueued, TiedCreds, TiedWaits, has_ended, TiedRenewal, greeter}
+use Rattle.session_laws.proofs.Tied.{never_rests, carried, link_in, owner_of, whole_link, TiedLife, TiedLines, TiedSetup, AreQueued, TiedCreds, TiedWaits, has_ended, TiedRenewal, greeter, TiedRounds}
 use Rattle.session_laws.proofs.States.{IsFit, Between, HasApplied}
 use Rattle.session_laws.proofs.Announce.{turn_of, turned, IsNewsKind}
 use Rattle.session_laws.proofs.Heard.{quiet_applied, ended_quiet, dialing_quiet, setting_waits, still_none, pushes_still, wanting_waits}
@@ -128,6 +129,7 @@ took_applied before c started word count kind h good k is can = by_life c.single
           lines = subst (λ (x : Life). TiedLines b.story conn.requests (link_in x) conn.waiting conn.admitted [] started) e h.sound.tied.lines;
           told = λ n. subst (λ (x : Life). AreQueued b.story conn.requests c.single.link (link_in x)) e (h.sound.tied.told (ap has_ended e));
           waits = wanting_waits b.story conn.requests link (wrote_of link count) conn.fresh conn.moved (subst (λ (x : Life). TiedWaits b.story conn.requests x conn.fresh conn.moved) e h.sound.tied.waits);
+          rounds = rounds_down b.story conn.requests conn.fresh conn.fresh refl h.sound.tied.rounds;
           notices = pushes_still before c started (took count) h (inl tt);
         })
         (took_no_end l c.turns count (still_none before c started h c.single.link)) (record {
@@ -156,6 +158,7 @@ took_applied before c started word count kind h good k is can = by_life c.single
           lines = subst (λ (x : Life). TiedLines b.story conn.requests (link_in x) conn.waiting conn.admitted [] started) e h.sound.tied.lines;
           told = λ n. subst (λ (x : Life). AreQueued b.story conn.requests c.single.link (link_in x)) e (h.sound.tied.told (ap has_ended e));
           waits = setting_waits b.story conn.requests link (wrote_of link count) greeting greeting conn.fresh conn.moved (subst (λ (x : Life). TiedWaits b.story conn.requests x conn.fresh conn.moved) e h.sound.tied.waits);
+          rounds = rounds_down b.story conn.requests conn.fresh conn.fresh refl h.sound.tied.rounds;
           notices = pushes_still before c started (took count) h (inl tt);
         })
         (took_no_end l c.turns count (still_none before c started h c.single.link)) (record {
@@ -184,6 +187,7 @@ took_applied before c started word count kind h good k is can = by_life c.single
           lines = wrote_lines b.story conn.requests link count conn.waiting conn.admitted [] started (subst (λ (x : Life). TiedLines b.story conn.requests (link_in x) conn.waiting conn.admitted [] started) e h.sound.tied.lines);
           told = λ n. subst (λ (x : Life). AreQueued b.story conn.requests c.single.link (link_in x)) e (h.sound.tied.told (ap has_ended e));
           waits = queue_waits b.story conn.requests link (wrote_of link count) conn.fresh conn.moved (λ p i. i) (subst (λ (x : Life). TiedWaits b.story conn.requests x conn.fresh conn.moved) e h.sound.tied.waits);
+          rounds = subst (λ (x : Life). TiedRounds (has_generations b) b.story conn.requests (is_ready x) conn.fresh conn.rounds) e h.sound.tied.rounds;
           notices = pushes_still before c started (took count) h (inl tt);
         })
         (took_no_end l c.turns count (still_none before c started h c.single.link)) (record {

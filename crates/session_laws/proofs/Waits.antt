@@ -14,7 +14,7 @@ use Rattle.link_core.specs.declared.message.Queued.{Queued}
 use Rattle.link_laws.specs.Settles.{awaited_ids, wanted}
 use Rattle.mux_conn.specs.Connection.{has_no_permit, is_ready, in_front}
 use Rattle.mux_conn.specs.Renewals.{renewal_id}
-use Rattle.mux_conn.specs.Requests.{if_there, is_admitted, is_admitted_at, is_open_at, is_placed, is_placed_at, is_waiting, is_waiting_at, name_at}
+use Rattle.mux_conn.specs.Requests.{if_there, is_admitted, is_admitted_at, is_open_at, is_placed, is_placed_at, is_waiting, is_waiting_at, name_at, is_unbegun_at}
 use Rattle.mux_conn.specs.Turn.{is_from}
 use Rattle.mux_conn.specs.declared.life.Greeting.{Greeting}
 use Rattle.mux_conn.specs.declared.life.Life.{Life}
@@ -26,6 +26,7 @@ use Rattle.legal_trace.specs.Book.{Book, entered, if_own}
 use Rattle.legal_trace.specs.Legal.{IsWaiting, IsWritten, MayWait, WaitHolds}
 use Rattle.legal_trace.specs.Steps.{starts_or_waits}
 use Rattle.legal_trace.specs.Story.{Story, awaited_in, is_no_error, is_told, waits as waits_now}
+use Rattle.session_laws.proofs.Rounded.{SameRounds, rounds_new, rounds_same}
 use Rattle.session_laws.proofs.Ahead.{IsRunning, dialing_step, full_step, permit_step, queue_step, queue_within, running_of, setup_step, waiting_open, admitted_open, creds_step, HasSeats}
 use Rattle.session_laws.proofs.Closing.{one_of}
 use Rattle.session_laws.proofs.InLine.{awaited_in as in_queue, chosen_in, kept_ids, kept_in, row_ids, wanted_in}
@@ -35,7 +36,7 @@ use Rattle.session_laws.proofs.Names.{earlier_name, get_some, name_of_some, open
 use Rattle.session_laws.proofs.Numbers.{IsIn, Rising, in_either, in_left, in_right, rising_apart, rising_from, rising_in, rising_right, requests_in, request_in, request_of}
 use Rattle.session_laws.proofs.Owes.{later_unstarted, none_open, open_request, request_story, row_in_line, open_on}
 use Rattle.session_laws.proofs.Permits.{IsHolding, permits_same}
-use Rattle.session_laws.proofs.States.{IsFit}
+use Rattle.session_laws.proofs.States.{IsFit, AreBegun}
 use Rattle.session_laws.proofs.Tied.{never_rests, AreQueued, Inner, IsEntry, IsKept, IsQueued, IsRequest, Tied, TiedWaits, has_ended, link_in, queue_ids, shown_wait, waiting_ids, numbers_kept}
 
 -- how far a request has come
@@ -51,6 +52,7 @@ apart_at f g requests p h = by_request (slice_get requests p)
 -- who waits for the connection doesn't wait for a place
 waiting_then : (r : Progress) → is_waiting r ≡ true → (is_admitted r ≡ false) × (is_placed r ≡ false)
 waiting_then progress.Waiting e = (refl, refl)
+waiting_then progress.Begun e = (refl, refl)
 waiting_then progress.Admitted e = cc
 waiting_then progress.Placed e = cc
 waiting_then progress.Closed e = cc
@@ -58,6 +60,7 @@ waiting_then progress.Closed e = cc
 -- and who waits for a place has none
 admitted_then : (r : Progress) → is_admitted r ≡ true → is_placed r ≡ false
 admitted_then progress.Waiting e = cc
+admitted_then progress.Begun e = cc
 admitted_then progress.Admitted e = refl
 admitted_then progress.Placed e = cc
 admitted_then progress.Closed e = cc
@@ -116,6 +119,10 @@ waits_holding m kind story n = chosen (IsHolding (story n)) (m == n) (waits_now 
 waits_late : (m : ℕ) (kind : WaitKind) (story : ℕ → Story) (n : ℕ) → (waits_at m kind story n).overdue ≡ (story n).overdue
 waits_late m kind story n = chosen (λ (x : Story). x.overdue ≡ (story n).overdue) (m == n) (waits_now (story n) kind) (story n) (λ t. refl) (λ f. refl)
 
+-- its round
+waits_rounds : (m : ℕ) (kind : WaitKind) (story : ℕ → Story) → SameRounds story (waits_at m kind story)
+waits_rounds m kind story n = chosen (λ (x : Story). x.rounded ≡ (story n).rounded) (m == n) (waits_now (story n) kind) (story n) (λ t. refl) (λ f. refl)
+
 -- and each try
 waits_tries : (m : ℕ) (kind : WaitKind) (story : ℕ → Story) (n : ℕ) → (story n).tries ≡ (waits_at m kind story n).tries
 waits_tries m kind story n = chosen (λ (x : Story). (story n).tries ≡ x.tries) (m == n) (waits_now (story n) kind) (story n) (λ t. refl) (λ f. refl)
@@ -146,18 +153,20 @@ shown_other story requests p q kind other =
     ap (λ (s : Story). s.waiting) (left_if (name_at requests p == n) (waits_now (story n) kind) (story n) (ne_test (name_at requests p) n other))
 
 -- the session is tied to the book with one wait more, where its waits are
-pub wait_tied : (b : Book) (t : Inner) (p : ℕ) (kind : WaitKind) (moved fresh : List ℕ) → p < length t.requests → Tied b t → TiedWaits (waits_at (name_at t.requests p) kind b.story) t.requests t.life fresh moved
+pub wait_tied : (b : Book) (t : Inner) (p : ℕ) (kind : WaitKind) (moved fresh : List ℕ) → p < length t.requests → Tied b t → ((q : ℕ) → t.rounds ≡ true → is_ready t.life ≡ true → is_unbegun_at t.requests q ≡ true → IsIn q fresh) → TiedWaits (waits_at (name_at t.requests p) kind b.story) t.requests t.life fresh moved
     → Tied (entered b (wait_action (name_at t.requests p) kind)) (with_unshown t moved fresh)
-wait_tied b t p kind moved fresh within h waits =
+wait_tied b t p kind moved fresh within h new waits =
     let n = name_at t.requests p in
     let after = waits_at n kind b.story in
     let same = waits_submissions n kind b.story in
     let answers = waits_outcomes n kind b.story in
     record {
-      numbers = numbers_kept b b.link after b.errors t t.life t.free t.requests t.waiting t.admitted fresh moved t.letting t.pending t.started h.numbers;
+      numbers = numbers_kept b b.link after b.tracked b.errors t t.life t.free t.requests t.waiting t.admitted fresh moved t.letting t.pending t.started h.numbers.unrepeated h.numbers;
       others = h.others;
       notices = h.notices;
       life = h.life;
+      course = h.course;
+      calm = h.calm;
       creds = h.creds;
       creation = h.creation;
       uses = h.uses;
@@ -178,6 +187,7 @@ wait_tied b t p kind moved fresh within h waits =
       told = λ up. queued_still b.story after t.requests t.link (link_in t.life) same answers (waits_tries n kind b.story) (λ m. sym (waits_holding n kind b.story m).link) (h.told up);
       waits = waits;
       permits = permits_same b.story after b.submissions t.requests t.link t.limit t.free t.letting (waits_holding n kind b.story) h.permits;
+      rounds = rounds_new after t.requests t.fresh fresh new (rounds_same b.story after t.requests t.fresh (waits_rounds n kind b.story) h.rounds);
       late = λ q o late. h.late q o (sym (waits_late n kind b.story (name_at t.requests q)) ∙ late);
     }
 
@@ -193,6 +203,7 @@ pub record IsQuiet (t : Inner) : Type 0 where
   pub full : (link : LinkState) → t.life ≡ Ready link → (t.admitted ≡ []) ⊎ (is_full_beside link (in_front t.renewal) ≡ true)
   pub seats : HasSeats t.moved (in_front t.renewal) (link_in t.life) t.size
   pub waiting : (link : LinkState) → t.life ≡ Ready link → (t.waiting ≡ []) ⊎ (has_no_permit t.limit t.free ≡ true)
+  pub begun : AreBegun t.rounds t.life t.requests
   pub gone : has_ended t.life ≡ true → t.waiting ≡ []
 
 -- where an open request is
@@ -322,7 +333,7 @@ permit_holds b t p link h q e w i =
       | inl none ↦ absurd (subst (λ qs. IsIn p (waiting_ids qs)) none i)
       | inr on ↦ on
     ] in
-    permit_step b t p h (quiet_running t link q e) w (λ j. subst (IsIn p) q.alone j) stuck
+    permit_step b t p h (quiet_running t link q e) w (λ shows. q.begun shows (ap is_ready e) p) (λ j. subst (IsIn p) q.alone j) stuck
 
 -- a life that is not ready
 not_ready : (life other : Life) (link : LinkState) → is_ready other ≡ false → life ≡ other → life ≡ Ready link → ⊥

@@ -41,6 +41,7 @@ use Rattle.session_laws.proofs.Settle.{quiet_asks, seen, trace_of_acts}
 use Rattle.session_laws.proofs.Start.{with_queue}
 use Rattle.session_laws.proofs.States.{IsFit}
 use Rattle.session_laws.proofs.Tied.{Inner, IsWatchDue, IsWatching, Tied, TiedTries, numbers_kept, watch_queued}
+use Rattle.session_laws.proofs.Unrepeated.{unrepeated_lined}
 
 -- MONITOR is due
 --
@@ -106,7 +107,7 @@ watch_may b t link due fit free h ended =
     let was = setting_on t (queued link) greet.Monitor in
     let said : IsWatching l (queued link) = h.setup.said.1 in
     record {
-      applied = applied_up b was h refl (refl, refl) refl ended;
+      applied = applied_up b was h refl (refl, refl) refl refl ended;
       setups = setups_started b was h (λ x u e. inl (none_given (setup_due l) (λ k d. greeted_is_undue l k said.greeted d)));
       due = watch_due l (queued link) h.life.1 said due;
       free = held_by b was (λ (p : ℕ). owner.Monitor) (queued link) h.numbers fit.bound_is (h.link refl) ∙ free;
@@ -127,10 +128,12 @@ watch_tied b t link due h =
     let said = h.setup.said in
     tied_by (entered b (watch_action t link)) (setting_on t (watched link) greet.Monitor) (noted l (begins s)) (mine_noted l t.link (begins s))
     (record {
-      numbers = numbers_kept b _ _ _ was _ _ _ _ _ _ _ _ _ _ h.numbers;
+      numbers = numbers_kept b _ _ _ _ was _ _ _ _ _ _ _ _ _ _ (unrepeated_lined b.link t.link (begins s) refl h.numbers.unrepeated) h.numbers;
       others = others_kept b t.link (begins s) h.others;
       notices = h.notices;
       life = h.life;
+      course = h.course;
+      calm = h.calm;
       creds = record { wanted_is = h.creds.wanted_is; sought = h.creds.sought };
       creation = h.creation;
       uses = h.uses;
@@ -144,6 +147,7 @@ watch_tied b t link due h =
       told = h.told;
       waits = setting_waits b.story t.requests (queued link) (watched link) greet.Monitor greet.Monitor t.fresh t.moved h.waits;
       permits = h.permits;
+      rounds = h.rounds;
       late = h.late;
     })
 

@@ -33,6 +33,7 @@ use Rattle.session_laws.proofs.Start.{on_link}
 use Rattle.session_laws.proofs.Took.{queue_waits}
 use Rattle.session_laws.proofs.States.{IsFit}
 use Rattle.session_laws.proofs.Tied.{HasSaid, Inner, Tied, TiedLife, carried, has_ended, numbers_kept, owner_of, whole_link, link_in, greeter}
+use Rattle.session_laws.proofs.Unrepeated.{unrepeated_lined}
 
 -- an offer
 --
@@ -41,10 +42,12 @@ write_tied b t link h =
     let l = b.link t.link in
     let line = offers link.outbox.unwritten in
     tied_by (entered b (action.Write t.link link.outbox.unwritten)) (on_link t (offered_of link)) (noted l line) (mine_noted l t.link line) (record {
-      numbers = numbers_kept b _ _ _ (on_link t link) _ _ _ _ _ _ _ _ _ _ h.numbers;
+      numbers = numbers_kept b _ _ _ _ (on_link t link) _ _ _ _ _ _ _ _ _ _ (unrepeated_lined b.link t.link line refl h.numbers.unrepeated) h.numbers;
       others = others_kept b t.link line h.others;
       notices = h.notices;
       life = h.life;
+      course = h.course;
+      calm = h.calm;
       creds = record { wanted_is = h.creds.wanted_is; sought = h.creds.sought };
       creation = h.creation;
       uses = h.uses;
@@ -58,6 +61,7 @@ write_tied b t link h =
       told = λ e. h.told refl;
       waits = queue_waits b.story t.requests link (offered_of link) t.fresh t.moved (λ p i. i) h.waits;
       permits = h.permits;
+      rounds = h.rounds;
       late = h.late;
     })
 
@@ -67,10 +71,12 @@ write_set_tied b t link greeting h =
     let l = b.link t.link in
     let line = offers link.outbox.unwritten in
     tied_by (entered b (action.Write t.link link.outbox.unwritten)) (setting_on t (offered_of link) greeting) (noted l line) (mine_noted l t.link line) (record {
-      numbers = numbers_kept b _ _ _ (setting_on t link greeting) _ _ _ _ _ _ _ _ _ _ h.numbers;
+      numbers = numbers_kept b _ _ _ _ (setting_on t link greeting) _ _ _ _ _ _ _ _ _ _ (unrepeated_lined b.link t.link line refl h.numbers.unrepeated) h.numbers;
       others = others_kept b t.link line h.others;
       notices = h.notices;
       life = h.life;
+      course = h.course;
+      calm = h.calm;
       creds = record { wanted_is = h.creds.wanted_is; sought = h.creds.sought };
       creation = h.creation;
       uses = h.uses;
@@ -85,6 +91,7 @@ write_set_tied b t link greeting h =
       told = λ e. h.told refl;
       waits = setting_waits b.story t.requests link (offered_of link) greeting greeting t.fresh t.moved h.waits;
       permits = h.permits;
+      rounds = h.rounds;
       late = h.late;
     })
 
@@ -121,7 +128,7 @@ pub record HasWritten (before : List Action) (f : Core) (w : Work) : Type 0 wher
 
 -- all requests of a session are moved
 pub moved_book : (before : List Action) (f : Core) (w : Work) → HasMoved before f w → IsMoved (book (trace_of_acts before f w.acts))
-moved_book before f w h = is_moved (book (trace_of_acts before f w.acts)) (seen f w.acts w.conn [] h.started) h.holds.tied refl (refl, refl) refl h.ended h.fit.link h.fit.none h.still.held h.still.full h.still.waiting h.still.none_waits h.fit.setup h.still.setup h.seats h.still.renewed
+moved_book before f w h = is_moved (book (trace_of_acts before f w.acts)) (seen f w.acts w.conn [] h.started) h.holds.tied refl (refl, refl) refl h.ended h.fit.link h.fit.none h.still.held h.still.full h.still.waiting h.still.none_waits h.fit.setup h.still.setup h.seats h.still.renewed h.still.begun
 
 -- the link of a life
 same_link : (link other : LinkState) → Ready link ≡ Ready other → link ≡ other
@@ -154,6 +161,7 @@ write_shown before f w link life can h =
           full = λ other e. subst (λ (x : LinkState). (w.conn.admitted ≡ []) ⊎ (is_full_beside x (in_front w.conn.renewal) ≡ true)) (same_link after other e) (h.still.full link life);
           renewed = λ other e due. let k = h.still.renewed link life due in (k.0, subst (λ (x : LinkState). holds_back x ≡ true) (same_link after other e) k.1);
           waiting = λ other e. h.still.waiting link life;
+          begun = λ shows up. h.still.begun shows (ap is_ready life);
           none_waits = λ e. cc;
         };
         seats = subst (λ (x : Life). HasSeats w.conn.moved (in_front w.conn.renewal) (link_in x) w.conn.size) life h.seats;
@@ -193,6 +201,7 @@ write_set_shown before f w link greeting life can h =
           full = λ other e. cc;
           renewed = λ other e. cc;
           waiting = λ other e. cc;
+          begun = λ shows up. cc;
           none_waits = λ e. cc;
         };
         seats = λ p i k. absurd k;
