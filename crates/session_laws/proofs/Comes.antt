@@ -1,5 +1,5 @@
 -- What a session does of its own: while its link goes on, no generation begins, and no link is asked for.
-use Rattle.std.proofs.Common.{◌≡◌, ◌≢◌, ℕ, ◌+◌, ◌==◌, nat_lt, if◌then◌else◌, Bool, true, false, not, ◌&&◌, ◌||◌, List, [], ◌∷◌, Option, Some, None, is_none, is_some, refl, sym, ap, ◌∙◌, subst, arith}
+use Rattle.std.proofs.Common.{◌≡◌, ◌≢◌, ℕ, ◌+◌, ◌-◌, ◌==◌, nat_lt, if◌then◌else◌, Bool, true, false, not, ◌&&◌, ◌||◌, List, [], ◌∷◌, Option, Some, None, is_none, is_some, refl, sym, ap, ◌∙◌, subst, arith}
 use Rattle.std.specs.List.{list_any}
 use Rattle.containers.proofs.Choices.{by_test, chosen, eq_from, left_if, ne_from, ne_test, not_both, taken_if}
 use Rattle.redis_error.specs.declared.redis_error.RedisError.{RedisError}
@@ -129,12 +129,12 @@ live_comes b t h there up = by_manager t.manager h.numbers.comes_back (has_begun
         not_true true e = cc
         not_true false e = refl
 
-        and_first : (x y : Bool) → (x && (not (current_link b).asked && y)) ≡ false
-        and_first x y = ap (λ a. x && (not a && y)) asked ∙ and_last x
-
         and_last : (x : Bool) → (x && false) ≡ false
         and_last true = refl
         and_last false = refl
+
+        and_first : (x y : Bool) → (x && (not (current_link b).asked && y)) ≡ false
+        and_first x y = ap (λ a. x && (not a && y)) asked ∙ and_last x
 
 -- a wait that is shown changes nothing of that
 pub wait_comes : (b : Book) (n : ℕ) (kind : WaitKind) → NoneComes b → NoneComes (entered b (action.Wait (owner.Try n 0) kind))

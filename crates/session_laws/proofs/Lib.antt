@@ -16,6 +16,8 @@ pub mod Behind
 pub mod Owes
 pub mod Lost
 pub mod Causes
+pub mod Comes
+pub mod Calm
 pub mod Closing
 pub mod Answer
 pub mod Kept

@@ -377,7 +377,7 @@ ready_by l created info started Resting h c s r = absurd (not_both l.up h.1 (bot
 ready_by l created info started Dialing h c s r = absurd (not_both l.up h.1 (both_left l.up (is_set_up l) r))
 ready_by l created info started (Wanting link) h c s r = absurd (not_both (is_set_up l) (lacking_unset l (wanting_lacks l.creds link c)).unset (both_right l.up (is_set_up l) r))
 ready_by l created info started (SettingUp link greeting) h c s r = absurd (not_both (is_set_up l) (not_set_up l link greeting s.said.1).unset (both_right l.up (is_set_up l) r))
-ready_by l created info started (Ready link) h c s r = h.4
+ready_by l created info started (Ready link) h c s r = h.3
 ready_by l created info started (Ended e) h c s r = absurd (not_both l.up h.0 (both_left l.up (is_set_up l) r))
 
 -- the creation was shown

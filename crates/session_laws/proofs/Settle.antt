@@ -31,7 +31,7 @@ use Rattle.legal_trace.specs.Book.{Book, blank_book, book, entered}
 use Rattle.legal_trace.specs.Owed.{owed}
 use Rattle.legal_trace.specs.Legal.{AllStand, MayStand, MayAnswer, IsBefore, is_heard}
 use Rattle.session_laws.proofs.Numbers.{Rising, requests_in, rising_from}
-use Rattle.session_laws.proofs.Tied.{Inner, link_in, TiedLife, Tied, Sound, waiting_ids, has_ended, TiedRenewal, AreAside}
+use Rattle.session_laws.proofs.Tied.{Inner, OnLink, link_in, TiedLife, Tied, Sound, waiting_ids, has_ended, TiedRenewal, AreAside}
 use Rattle.session_laws.proofs.Entered.{book_more, quiet_sources, quiet_timers, sound_more, shown_more, sources_more, timers_more}
 use Rattle.session_laws.proofs.Names.{open_within, name_with, length_with, with_then}
 use Rattle.session_laws.proofs.InLine.{line_of, IsInLine, open_in_line, first_is_least}
@@ -287,14 +287,14 @@ renewal_tied b t r within wanted waiting tied h = record {
     current_is = h.numbers.current_is;
     speaks = h.numbers.speaks;
     address_is = h.numbers.address_is;
-    wants = h.numbers.wants;
+    wants = h.numbers.wants ∙ sym wanted;
   };
   others = subst (λ o. AreAside t.link t.links b.link t.hears o b.created) (sym within) h.others;
   notices = h.notices;
   life = h.life;
   course = h.course;
   calm = h.calm;
-  creds = record { wanted_is = h.creds.wanted_is ∙ sym wanted; sought = h.creds.sought };
+  creds = record { wanted_is = subst (λ (x : Bool). OnLink t.life ((b.link t.link).creds.wanted ≡ x)) (sym wanted) h.creds.wanted_is; sought = h.creds.sought };
   creation = h.creation;
   uses = h.uses;
   renewal = tied;

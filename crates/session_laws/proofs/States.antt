@@ -10,7 +10,7 @@ use Rattle.mux_conn.specs.declared.request.Request.{Request}
 use Rattle.mux_conn.specs.Requests.{is_unbegun_at}
 use Rattle.shared_session.specs.declared.core_state.Core.{Core}
 use Rattle.shared_session.specs.Turn.{Turning, numbered, shown_each}
-use Rattle.mux_conn.specs.Connection.{has_no_permit, in_front, is_due, is_resting}
+use Rattle.mux_conn.specs.Connection.{has_no_permit, in_front, is_due, is_ready, is_resting}
 use Rattle.legal_trace.specs.Book.{blank_book, book}
 use Rattle.legal_trace.specs.Legal.{AllStand, IsShown, NoneEnds, IsSettled}
 use Rattle.session_laws.proofs.Tied.{IsHeeded, IsRetiring, Sound, has_ended, inner}

@@ -1,5 +1,5 @@
 -- What ties a session to the book of its trace.
-use Rattle.std.proofs.Common.{arith, subst, ◌≡◌, ◌≢◌, ◌⊎◌, ℕ, zero, suc, ◌+◌, ◌^◌, ◌<◌, ◌≤◌, ◌==◌, if◌then◌else◌, Bool, true, false, List, [], ◌∷◌, ◌++◌, length, drop, Option, Some, None, slice_get, codes, is_some, unwrap_or, not, ◌&&◌}
+use Rattle.std.proofs.Common.{arith, refl, subst, ◌≡◌, ◌≢◌, ◌⊎◌, ℕ, zero, suc, ◌+◌, ◌^◌, ◌<◌, ◌≤◌, ◌==◌, if◌then◌else◌, Bool, true, false, List, [], ◌∷◌, ◌++◌, length, drop, Option, Some, None, slice_get, codes, is_some, unwrap_or, not, ◌&&◌}
 use Rattle.std.specs.List.{AllByRecursion, list_any}
 use Rattle.redis_error.specs.declared.redis_error.RedisError.{RedisError}
 use Rattle.resp_value.specs.declared.value.Value.TheVariants.{Nil}
@@ -337,7 +337,7 @@ shown_creation created = record { before = λ e. cc; after = λ e none. absurd (
 -- how far the link has come. Where the connection has none, that which is to be its next was never asked for. Where it has ended, a
 -- submission without a message gets this error
 abbrev pub TiedLife : Ledger → ℕ → Life → Type 0
-TiedLife l created Resting = (l.asked ≡ false) × (l.up ≡ false) × (l.end ≡ None)
+TiedLife l created Resting = (l.asked ≡ false) × (l.up ≡ false) × (l.end ≡ None) × IsUnknown l
 TiedLife l created Dialing = (l.asked ≡ true) × (l.up ≡ false) × (l.end ≡ None)
 TiedLife l created (Wanting link) = (l.asked ≡ true) × (l.up ≡ true) × (l.end ≡ None)
 TiedLife l created (SettingUp link greeting) = (l.asked ≡ true) × (l.up ≡ true) × (l.end ≡ None)
