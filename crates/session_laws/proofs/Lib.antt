@@ -63,6 +63,9 @@ pub mod Renews
 pub mod Rounds
 pub mod Passes
 pub mod Moved
+pub mod Reopen
+pub mod Generate
+pub mod Dial
 pub mod Write
 pub mod Waits
 pub mod Settled

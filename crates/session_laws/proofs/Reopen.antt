@@ -103,7 +103,7 @@ rest_tied b t h =
       others = h.others;
       notices = on_blank (λ (l : Ledger). TiedNotices (hearing_in b.config) t.hears t.hears l.notices l.told l.end l.parted l.strange (is_reading l) [] false) (b.link t.link) h.unknown
           (record { heard_is = h.heard_is; hearing_is = refl; within = λ y. omega arith; untold_is = λ y. refl; parts = λ y d z. cc; alive = λ z. refl; due = λ z. cc; tame = λ z q. refl });
-      life = on_blank (λ (l : Ledger). TiedLife l b.created Resting) (b.link t.link) h.unknown (refl, refl, refl);
+      life = on_blank (λ (l : Ledger). TiedLife l b.created Resting) (b.link t.link) h.unknown (refl, refl, refl, refl);
       course = (h.placed, h.comes, h.unopened, h.info_is);
       calm = λ up runs. h.calm;
       creation = h.creation;
@@ -163,7 +163,7 @@ told_closed s told = (λ i. is_some s.submission && some s.outcomes (both_right 
     both_false false c = refl
 
 -- a timer is for a later link or one before it
-aim_later : (what : Purpose) (link links count : ℕ) → link ≤ links → IsAim what link count → IsAim what links count
+pub aim_later : (what : Purpose) (link links count : ℕ) → link ≤ links → IsAim what link count → IsAim what links count
 aim_later (purpose.Connect l) link links count le h = omega (arith, le, h)
 aim_later (purpose.Response owner.Setup) link links count le h = h
 aim_later (purpose.Response owner.Auth) link links count le h = h
@@ -175,12 +175,12 @@ aim_later (purpose.Resubscription l) link links count le h = h
 aim_later (purpose.Response (owner.Try n round)) link links count le h = h
 
 -- a source was asked for a link before it
-use_later : (what : SourceUse) (link links : ℕ) (asked renews : Bool) → link < links → IsUse what link asked renews → IsUse what links false false
+pub use_later : (what : SourceUse) (link links : ℕ) (asked renews : Bool) → link < links → IsUse what link asked renews → IsUse what links false false
 use_later (source.Setup l) link links asked renews less h = (let le = h.0 in omega (arith, less, le), λ e. absurd (let le = h.0 in omega (arith, less, le, e)))
 use_later (source.Renewal l) link links asked renews less h = (let le = h.0 in omega (arith, less, le), λ e. absurd (let le = h.0 in omega (arith, less, le, e)))
 
 -- nobody holds a permit of a link to which nobody went who holds one
-none_held : (story : ℕ → Story) (link n : ℕ) → ((m : ℕ) → permits_on link (story m) ≡ 0) → permits_held story link n ≡ 0
+pub none_held : (story : ℕ → Story) (link n : ℕ) → ((m : ℕ) → permits_on link (story m) ≡ 0) → permits_held story link n ≡ 0
 none_held story link zero none = refl
 none_held story link (suc n) none = let rest = none_held story link n none in let last = none n in omega (arith, rest, last)
 
