@@ -66,6 +66,7 @@ pub mod Moved
 pub mod Reopen
 pub mod Generate
 pub mod Dial
+pub mod Past
 pub mod Write
 pub mod Waits
 pub mod Settled

@@ -1,0 +1,233 @@
+-- Submissions go to the current link, or went to one before it, in any trace whose actions may stand.
+use Rattle.std.proofs.Common.{◌≡◌, ◌≢◌, inl, inr, ℕ, ◌+◌, ◌-◌, ◌<◌, ◌≤◌, ◌==◌, nat_lt, Bool, true, false, ◌&&◌, not, List, [], ◌∷◌, ◌++◌, length, Option, Some, None, is_none, slice_get, if◌then◌else◌, refl, sym, ap, ◌∙◌, subst, arith}
+use Rattle.std.proofs.Math.Nat.{le_refl}
+use Rattle.containers.proofs.Choices.{both_left, chosen, lt_from, taken_if}
+use Rattle.driver_model.specs.declared.action.Action.{Action}
+use Rattle.driver_model.specs.declared.action.Action.TheVariants as action
+use Rattle.driver_model.specs.declared.action.Cause.TheVariants as cause
+use Rattle.driver_model.specs.declared.action.Owner.TheVariants as owner
+use Rattle.driver_model.specs.declared.action.Purpose.{Purpose}
+use Rattle.driver_model.specs.declared.action.Purpose.TheVariants as purpose
+use Rattle.driver_model.specs.declared.config.Config.{Config}
+use Rattle.driver_model.specs.declared.event.EventKind.{EventKind}
+use Rattle.driver_model.specs.declared.event.EventKind.TheVariants as event
+use Rattle.resp_value.specs.declared.push_kind.PushKind.{PushKind}
+use Rattle.driver_model.specs.News.{News, news_of}
+use Rattle.driver_model.specs.Push.{is_disconnection}
+use Rattle.legal_trace.specs.Ledger.{Ledger, Line, End, ends, hears, noted, noted_each, offers, parts, sources, tells}
+use Rattle.legal_trace.specs.Story.{Story, answered, carried, clocked, fires, holds, is_open, left, rounds, tried, waits}
+use Rattle.legal_trace.specs.Book.{Book, after_event, after_timer, blank_book, book, entered, has_generations, if_mine, if_own, is_clock_of, push_line}
+use Rattle.legal_trace.specs.Legal.{AllStand, MayStand, current_link, link_due}
+use Rattle.legal_trace.proofs.Clocks.{timer_tells}
+use Rattle.legal_trace.proofs.Ledgers.{mine_keeps}
+use Rattle.legal_trace.proofs.Plain.{same_some}
+use Rattle.session_laws.proofs.Lost.{news_end}
+use Rattle.legal_trace.proofs.Books.{book_more, of_each_front}
+use Rattle.session_laws.proofs.Reopen.{ArePast}
+
+-- so it is, and the current link is one that was asked for, or the next one
+pub record IsPast (b : Book) : Type 0 where
+  pub behind : ArePast b
+  pub near : b.current ≤ b.links
+
+-- a story goes to the same link
+abbrev SameLink : Story → Story → Type 0
+SameLink s r = r.link ≡ s.link
+
+-- where one is changed that goes on to it
+own_link : (own : Bool) (changed s : Story) → changed.link ≡ s.link → SameLink s (if_own own changed s)
+own_link true changed s e = e
+own_link false changed s e = refl
+
+-- whoever goes does
+left_link : (s : Story) → SameLink s (left s)
+left_link s = chosen (SameLink s) (is_open s) _ s (λ t. refl) (λ f. refl)
+
+fires_link : (s : Story) → SameLink s (fires s)
+fires_link s = chosen (SameLink s) (is_open s) _ s (λ t. refl) (λ f. refl)
+
+-- no further than the current link
+abbrev Within : Book → Story → Type 0
+Within b s = s.link ≤ b.current
+
+within_same : (b : Book) (s r : Story) → SameLink s r → Within b s → Within b r
+within_same b s r same h = omega (arith, same, h)
+
+-- an event hands it to the current link, or leaves it
+event_within : (b : Book) (n : ℕ) (kind : EventKind) → Within b (b.story n) → Within b (after_event b n kind)
+event_within b n (event.Submit what) h = chosen (Within b) (b.submissions == n) _ (b.story n) (λ t. le_refl b.current) (λ f. h)
+event_within b n (event.Cancel m) h = within_same b (b.story n) (if_own (m == n) (left (b.story n)) (b.story n)) (own_link (m == n) (left (b.story n)) (b.story n) (left_link (b.story n))) h
+event_within b n (event.Connected l) h = h
+event_within b n (event.Refused l f) h = h
+event_within b n (event.Wrote l count) h = h
+event_within b n (event.Bytes l piece) h = h
+event_within b n (event.Ended l) h = h
+event_within b n (event.ReadFault l kind) h = h
+event_within b n (event.WriteFault l kind) h = h
+event_within b n (event.Fired t) h = within_same b (b.story n) (if_own (is_clock_of n (slice_get b.timers t)) (fires (b.story n)) (b.story n)) (own_link (is_clock_of n (slice_get b.timers t)) (fires (b.story n)) (b.story n) (fires_link (b.story n))) h
+event_within b n (event.Timeout ms) h = h
+event_within b n (event.Creds c auth) h = h
+event_within b n (event.CredsError c text) h = h
+event_within b n (event.CredsEnd c) h = h
+event_within b n event.DropStream h = h
+event_within b n event.Shutdown h = h
+
+-- a timer
+timer_past : (b : Book) (t ms : ℕ) (what : Purpose) → IsPast b → IsPast (entered b (action.Timer t ms what))
+timer_past b t ms (purpose.Connect l) h = record { behind = h.behind; near = h.near }
+timer_past b t ms (purpose.Response who) h = record { behind = λ n. within_same b (b.story n) (if_own (is_clock_of n (Some (purpose.Response who))) (clocked (b.story n) t) (b.story n)) (own_link (is_clock_of n (Some (purpose.Response who))) (clocked (b.story n) t) (b.story n) refl) (h.behind n); near = h.near }
+timer_past b t ms (purpose.Renewal l k) h = record { behind = h.behind; near = h.near }
+timer_past b t ms (purpose.Backoff g) h = record {
+  behind = λ n. chosen (λ (s : Story). s.link ≤ b.links) (is_open (b.story n)) (carried (b.story n) b.links) (b.story n) (λ o. le_refl b.links) (λ f. (let le = h.behind n in let near = h.near in omega (arith, le, near)));
+  near = le_refl b.links;
+}
+timer_past b t ms (purpose.Resubscription l) h = record { behind = h.behind; near = h.near }
+
+-- where no action changes where they go
+same_past : (b : Book) (a : Action) → (entered b a).current ≡ b.current → (entered b a).links ≡ b.links → ((n : ℕ) → SameLink (b.story n) ((entered b a).story n)) → IsPast b → IsPast (entered b a)
+same_past b a current links same h = record {
+  behind = λ n. (let le = h.behind n in let here = same n in omega (arith, le, here, current));
+  near = (let near = h.near in omega (arith, near, current, links));
+}
+
+-- each action keeps it
+past_kept : (b : Book) (a : Action) → MayStand b a → IsPast b → IsPast (entered b a)
+past_kept b (action.Turn k (cause.Opening config word)) may h = record { behind = h.behind; near = h.near }
+past_kept b (action.Turn k (cause.Event e)) may h = record { behind = λ n. event_within b n e.kind (h.behind n); near = h.near }
+past_kept b (action.Connect l host port) may h = record { behind = λ n. (let le = h.behind n in let near = h.near in let next = may.next in omega (arith, le, near, next)); near = (let next = may.next in omega (arith, next)) }
+past_kept b (action.Timer t ms what) may h = timer_past b t ms what h
+past_kept b (action.Took (owner.Try m round) l count) may h = same_past b (action.Took (owner.Try m round) l count) refl refl (λ n. own_link (m == n) (holds (b.story n) count) (b.story n) refl) h
+past_kept b (action.Took owner.Setup l count) may h = absurd may
+past_kept b (action.Took owner.Auth l count) may h = absurd may
+past_kept b (action.Took owner.Resub l count) may h = absurd may
+past_kept b (action.Took owner.Monitor l count) may h = absurd may
+past_kept b (action.Push l info) may h = record { behind = h.behind; near = h.near }
+past_kept b (action.Message m) may h = record { behind = h.behind; near = h.near }
+past_kept b (action.Monitor v) may h = record { behind = h.behind; near = h.near }
+past_kept b (action.NeedCreds c l) may h = record { behind = h.behind; near = h.near }
+past_kept b (action.Generation g) may h = record { behind = λ n. (let le = h.behind n in let near = h.near in omega (arith, le, near)); near = le_refl b.links }
+past_kept b (action.Round (owner.Try m round) l) may h = same_past b (action.Round (owner.Try m round) l) refl refl (λ n. own_link (m == n) (rounds (b.story n)) (b.story n) refl) h
+past_kept b (action.Round owner.Setup l) may h = absurd may
+past_kept b (action.Round owner.Auth l) may h = absurd may
+past_kept b (action.Round owner.Resub l) may h = absurd may
+past_kept b (action.Round owner.Monitor l) may h = absurd may
+past_kept b (action.Close l) may h = record { behind = h.behind; near = h.near }
+past_kept b (action.Write l bytes) may h = record { behind = h.behind; near = h.near }
+past_kept b (action.Wait (owner.Try m round) kind) may h = same_past b (action.Wait (owner.Try m round) kind) refl refl (λ n. own_link (m == n) (waits (b.story n) kind) (b.story n) refl) h
+past_kept b (action.Wait owner.Setup kind) may h = absurd may
+past_kept b (action.Wait owner.Auth kind) may h = absurd may
+past_kept b (action.Wait owner.Resub kind) may h = absurd may
+past_kept b (action.Wait owner.Monitor kind) may h = absurd may
+past_kept b (action.Start l k (owner.Try m round) count len) may h = same_past b (action.Start l k (owner.Try m round) count len) refl refl (λ n. own_link (m == n) (tried (b.story n) l k) (b.story n) refl) h
+past_kept b (action.Start l k owner.Setup count len) may h = record { behind = h.behind; near = h.near }
+past_kept b (action.Start l k owner.Auth count len) may h = record { behind = h.behind; near = h.near }
+past_kept b (action.Start l k owner.Resub count len) may h = record { behind = h.behind; near = h.near }
+past_kept b (action.Start l k owner.Monitor count len) may h = record { behind = h.behind; near = h.near }
+past_kept b (action.Created e) may h = record { behind = h.behind; near = h.near }
+past_kept b (action.Outcome m o) may h = same_past b (action.Outcome m o) refl refl (λ n. own_link (m == n) (answered (b.story n) o) (b.story n) refl) h
+
+-- so it is of any trace whose actions may stand
+blank_past : IsPast (book [])
+unfolding book
+blank_past = record { behind = λ n. omega arith; near = omega arith }
+
+pub is_past : (trace : List Action) → AllStand blank_book trace → IsPast (book trace)
+is_past trace stands = of_each_front (λ t. IsPast (book t)) trace (λ t a all may h. subst IsPast (sym (book_more t a)) (past_kept (book t) a may h)) stands blank_past
+
+-- the first generation
+--
+-- no link is asked for before it, and before the opening nothing is told
+pub record IsFounded (b : Book) : Type 0 where
+  pub first : has_generations b ≡ true → b.generation ≡ 0 → b.links ≡ 0
+  pub start : b.turns ≡ 0 → (b.config ≡ None) × (b.links ≡ 0)
+
+-- a link that is to be asked for is one of a generation, where there are any
+due_begun : (b : Book) → link_due b ≡ true → has_generations b ≡ true → b.generation ≢ 0
+due_begun b due has none =
+    let all : (nat_lt 0 b.generation && (not (current_link b).asked && (is_none b.rest && not b.shut))) ≡ true =
+    sym (taken_if (has_generations b) (nat_lt 0 b.generation && (not (current_link b).asked && (is_none b.rest && not b.shut))) (b.links == 0) has) ∙ due in
+    let some = lt_from 0 b.generation (both_left (nat_lt 0 b.generation) (not (current_link b).asked && (is_none b.rest && not b.shut)) all) in
+    omega (arith, some, none)
+
+-- what a configuration that is told says
+told_some : (b : Book) (config : Config) → b.config ≡ Some config → b.config ≡ None → ⊥
+told_some b config told none = let no : Some config ≡ None = sym told ∙ none in cc
+
+-- each action keeps it
+founded_kept : (b : Book) (a : Action) → MayStand b a → IsFounded b → IsFounded (entered b a)
+founded_kept b (action.Turn k (cause.Opening config word)) may h = record { first = λ has none. (h.start may.is_for).1; start = λ none. absurd (omega (arith, none)) }
+founded_kept b (action.Turn k (cause.Event e)) may h = record { first = h.first; start = λ none. absurd (omega (arith, none)) }
+founded_kept b (action.Connect l host port) may h = record { first = λ has none. absurd (due_begun b may.due has none); start = λ none. absurd (told_some b may.config may.told (h.start none).0) }
+founded_kept b (action.Generation g) may h = record { first = λ has none. absurd (let next = may.next in omega (arith, next, none)); start = h.start }
+founded_kept b (action.Timer t ms what) may h = record { first = h.first; start = h.start }
+founded_kept b (action.Took who l count) may h = record { first = h.first; start = h.start }
+founded_kept b (action.Push l info) may h = record { first = h.first; start = h.start }
+founded_kept b (action.Message m) may h = record { first = h.first; start = h.start }
+founded_kept b (action.Monitor v) may h = record { first = h.first; start = h.start }
+founded_kept b (action.NeedCreds c l) may h = record { first = h.first; start = h.start }
+founded_kept b (action.Round who l) may h = record { first = h.first; start = h.start }
+founded_kept b (action.Close l) may h = record { first = h.first; start = h.start }
+founded_kept b (action.Write l bytes) may h = record { first = h.first; start = h.start }
+founded_kept b (action.Wait who kind) may h = record { first = h.first; start = h.start }
+founded_kept b (action.Start l k who count len) may h = record { first = h.first; start = h.start }
+founded_kept b (action.Created e) may h = record { first = h.first; start = h.start }
+founded_kept b (action.Outcome n o) may h = record { first = h.first; start = h.start }
+
+blank_founded : IsFounded (book [])
+unfolding book
+blank_founded = record { first = λ has none. refl; start = λ none. (refl, refl) }
+
+pub is_founded : (trace : List Action) → AllStand blank_book trace → IsFounded (book trace)
+is_founded trace stands = of_each_front (λ t. IsFounded (book t)) trace (λ t a all may h. subst IsFounded (sym (book_more t a)) (founded_kept (book t) a may h)) stands blank_founded
+
+-- the turns of ends
+--
+-- a link has ended in a turn that has begun, if it has
+abbrev pub EndsBefore : ℕ → Ledger → Type 0
+EndsBefore turns l = (e : End) → l.end ≡ Some e → e.turn ≤ turns - 1
+
+-- news end it in their turn, if they do
+hears_before : (turns : ℕ) (l : Ledger) (news : News) → EndsBefore turns l → EndsBefore (turns + 1) (noted l (hears turns news))
+hears_before turns l news h e is = elim (news_end l turns news) [
+  | inl same ↦ (let le = h e (sym same ∙ is) in omega (arith, le))
+  | inr new ↦ (let here = ap (λ (x : End). x.turn) (same_some _ e (sym new.1 ∙ is)) in omega (arith, here))
+]
+
+-- and so do lines that don't begin a turn
+line_before : (turns : ℕ) (l : Ledger) (mine : Bool) (line : Line) → EndsBefore turns (noted l line) → EndsBefore turns l → EndsBefore turns (noted_each l (if_mine mine line))
+line_before turns l mine line own h = mine_keeps (EndsBefore turns) mine l line (λ m. own) h
+
+-- all links do
+abbrev pub EndBefore : Book → Type 0
+EndBefore b = (l : ℕ) → EndsBefore b.turns (b.link l)
+
+-- a push tells, or parts
+push_before : (turns : ℕ) (l : Ledger) (kind : PushKind) → EndsBefore turns l → EndsBefore turns (noted l (push_line kind))
+push_before turns l kind h = chosen (λ line. EndsBefore turns (noted l line)) (is_disconnection kind) parts tells (λ t. h) (λ f. h)
+
+-- each action keeps it
+before_kept : (b : Book) (a : Action) → MayStand b a → EndBefore b → EndBefore (entered b a)
+before_kept b (action.Turn k (cause.Opening config word)) may h l = λ e is. (let le = h l e is in omega (arith, le))
+before_kept b (action.Turn k (cause.Event e)) may h l = subst (λ n. EndsBefore (b.turns + 1) (noted (b.link l) (hears n (news_of b.timers b.sources l e.kind)))) (sym may.next) (hears_before b.turns (b.link l) (news_of b.timers b.sources l e.kind) (h l))
+before_kept b (action.Connect m host port) may h l = line_before b.turns (b.link l) (m == l) _ (h l) (h l)
+before_kept b (action.Timer t ms what) may h l = timer_tells (EndsBefore b.turns) (b.link l) l what (λ m k is e. h l) (λ m is e. h l) (h l)
+before_kept b (action.Took who m count) may h l = h l
+before_kept b (action.Push m info) may h l = line_before b.turns (b.link l) (m == l) (push_line info.kind) (push_before b.turns (b.link l) info.kind (h l)) (h l)
+before_kept b (action.Message m) may h l = line_before b.turns (b.link l) (b.current == l) tells (h l) (h l)
+before_kept b (action.Monitor v) may h l = line_before b.turns (b.link l) (b.current == l) tells (h l) (h l)
+before_kept b (action.NeedCreds c m) may h l = line_before b.turns (b.link l) (m == l) sources (h l) (h l)
+before_kept b (action.Generation g) may h l = h l
+before_kept b (action.Round who m) may h l = h l
+before_kept b (action.Close m) may h l = line_before b.turns (b.link l) (m == l) (ends (b.turns - 1)) (λ e is. (let here = ap (λ (x : End). x.turn) (same_some _ e is) in omega (arith, here))) (h l)
+before_kept b (action.Write m bytes) may h l = line_before b.turns (b.link l) (m == l) (offers bytes) (h l) (h l)
+before_kept b (action.Wait who kind) may h l = h l
+before_kept b (action.Start m k who count len) may h l = line_before b.turns (b.link l) (m == l) _ (h l) (h l)
+before_kept b (action.Created e) may h l = h l
+before_kept b (action.Outcome n o) may h l = h l
+
+blank_before : EndBefore (book [])
+unfolding book
+blank_before = λ l e is. cc
+
+pub ends_before : (trace : List Action) → AllStand blank_book trace → EndBefore (book trace)
+ends_before trace stands = of_each_front (λ t. EndBefore (book t)) trace (λ t a all may h. subst EndBefore (sym (book_more t a)) (before_kept (book t) a may h)) stands blank_before
