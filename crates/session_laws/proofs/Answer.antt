@@ -65,7 +65,7 @@ some_end None o owes = cc
 some_end (Some e) o owes = refl
 
 -- a connection that has ended has a link that is over
-ended_over : (l : Ledger) (created : ℕ) (life : Life) → has_ended life ≡ true → TiedLife l created life → is_over l ≡ true
+pub ended_over : (l : Ledger) (created : ℕ) (life : Life) → has_ended life ≡ true → TiedLife l created life → is_over l ≡ true
 ended_over l created Resting over h = cc
 ended_over l created Dialing over h = cc
 ended_over l created (Wanting link) over h = cc

@@ -456,7 +456,6 @@ ready_applied front f conn link l started began none_moved fit none h =
         setup = λ x u e. cc;
         link = λ x e. (let same : link ≡ x = cc in subst (IsFit conn.size conn.boundary) same fit);
         none = λ none. absurd (none link refl);
-        lasts = λ x y. cc;
       });
     }
 
@@ -555,7 +554,6 @@ comes_to_say before c started word kind n info link h good k is other early u ha
       setup = λ x w same. (let one : next ≡ x = cc in subst (IsFit conn.size conn.boundary) one fits);
       link = λ x same. cc;
       none = λ z. nobody;
-      lasts = λ x y. h.fit.lasts early.unready early.alive;
     })
 
 -- where there are no requests nobody waits
@@ -636,7 +634,6 @@ comes_to_watch before c started word kind n info link h good k is other early u 
       setup = λ x w same. (let one : next ≡ x = cc in subst (IsFit conn.size conn.boundary) one fits);
       link = λ x same. cc;
       none = λ z. nobody;
-      lasts = λ x y. h.fit.lasts early.unready early.alive;
     })
 
 -- so it comes up

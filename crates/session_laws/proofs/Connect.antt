@@ -207,7 +207,6 @@ connected_wants before c started word kind h good k is e wants =
         setup = λ x w one. cc;
         link = λ x one. cc;
         none = λ z. nobody;
-        lasts = λ x y. h.fit.lasts early.unready early.alive;
       };
     }
 
@@ -287,7 +286,6 @@ refused_fails before c started word kind f h good k is e =
     record {
       stands = all_stand-append before (turn_of c word kind ∷ []) h.sound.stands (may_turn before c started word kind h good, tt);
       fails = ap (λ (x : Book). failure_in (x.link c.single.link).end) book_is ∙ ap (λ (x : Ledger). failure_in x.end) (own_ledger ∙ over) ∙ ap (λ last. failure_of (lasting last (by_opening (error.Io f)))) lived.3;
-      lasts = h.fit.lasts (ap is_ready e) (ap has_ended e);
       unshown = λ untold. ap (λ (x : Book). x.created) book_is ∙ h0.creation.before untold;
       first = λ untold m less. ap (λ (x : Book). failure_in (x.link m).end) book_is ∙ unfailed (now.link m) (others_heard b c started kind b.created h0 good (λ some. some) m (λ same. omega arith)) (h0.creation.before untold);
       tied = λ untold. subst (λ (x : Book). Tied (entered x (action.Created (Some (error.Io f)))) t) (sym book_is) (tied (b.created + 1) (b.failed || true) ((shown_creation b.created).after refl));
@@ -365,7 +363,6 @@ closing_fails before c started word kind n x plain asks h good k is e =
       fails = ap (λ (y : Book). failure_in (y.link c.single.link).end) book_is
           ∙ ap (λ (y : Ledger). failure_in y.end) (mine_noted l c.single.link (ends (b.turns - 1)))
           ∙ ap failure_of (ends_so l why lived.3 must);
-      lasts = h.fit.lasts (ap is_ready e) (ap has_ended e);
       unshown = λ untold. ap (λ (y : Book). y.created) book_is ∙ begins.holds.tied.creation.before untold;
       first = λ untold m less. ap (λ (y : Book). failure_in (y.link m).end) book_is ∙ unfailed _ (others_kept b c.single.link (ends (b.turns - 1)) begins.holds.tied.others m (λ same. omega arith)) (begins.holds.tied.creation.before untold);
       tied = λ untold. subst (λ (y : Book). Tied (entered y (action.Created (Some x))) (seen f (act.Close ∷ []) (record conn { life = Ended x; told = true }) [] started)) (sym book_is) (tied (b.created + 1) (b.failed || true) ((shown_creation b.created).after refl));

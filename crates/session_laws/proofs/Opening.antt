@@ -331,7 +331,7 @@ opened_between config word info timeout none sound at some is =
     let conn = c.single.connection in
     let t = inner c [] in
     let tied = opening_tied config word info timeout none sound some is in
-    let fit : IsFitIn conn = record { wanting = λ link e. cc; setup = λ link u e. cc; link = λ link e. cc; none = λ no. refl; lasts = λ u a. refl } in
+    let fit : IsFitIn conn = record { wanting = λ link e. cc; setup = λ link u e. cc; link = λ link e. cc; none = λ no. refl } in
     let still : IsStill conn = record { setup = λ link u e. cc; held = λ link e. cc; full = λ link e. cc; waiting = λ link e. cc; begun = λ shows up. cc; none_waits = λ e. refl; renewed = λ link e. cc } in
     let moved = is_moved b t tied refl (refl, refl) refl (opening_ends config word info timers) fit.link fit.none still.held still.full still.waiting still.none_waits fit.setup still.setup (λ p i. absurd i) still.renewed still.begun in
     let written = is_written b t tied moved refl in

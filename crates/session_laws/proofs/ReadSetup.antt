@@ -84,7 +84,6 @@ fit_by c size bound link size_is bound_is life h = record {
   setup = λ x u same. (let no : Ready link ≡ SettingUp x u = sym life ∙ same in cc);
   link = λ x same. subst (λ n. IsFit n c.boundary x) (sym size_is) (subst (λ n. IsFit size n x) (sym bound_is) (h x (sym life ∙ same)));
   none = λ none. absurd (none link life);
-  lasts = λ x y. (let one : true ≡ false = sym (ap is_ready life) ∙ x in cc);
 }
 
 -- which greeting it is

@@ -337,7 +337,7 @@ shown_creation created = record { before = λ e. cc; after = λ e none. absurd (
 -- how far the link has come. Where the connection has none, that which is to be its next was never asked for. Where it has ended, a
 -- submission without a message gets this error
 abbrev pub TiedLife : Ledger → ℕ → Life → Type 0
-TiedLife l created Resting = (l.asked ≡ false) × (l.up ≡ false) × (l.end ≡ None) × IsUnknown l
+TiedLife l created Resting = (l.asked ≡ false) × (l.up ≡ false) × (l.end ≡ None) × (is_watching l.hearing ≡ false)
 TiedLife l created Dialing = (l.asked ≡ true) × (l.up ≡ false) × (l.end ≡ None)
 TiedLife l created (Wanting link) = (l.asked ≡ true) × (l.up ≡ true) × (l.end ≡ None)
 TiedLife l created (SettingUp link greeting) = (l.asked ≡ true) × (l.up ≡ true) × (l.end ≡ None)
@@ -420,6 +420,10 @@ hearing_on (Wanting link) hears hearing there = refl
 hearing_on (SettingUp link greeting) hears hearing there = refl
 hearing_on (Ready link) hears hearing there = refl
 hearing_on (Ended e) hears hearing there = refl
+
+-- it is what the session hears
+pub hearing_there : (life : Life) (hears hearing : Hearing) → is_resting life ≡ false → hearing_at life hears hearing ≡ hears → hearing ≡ hears
+hearing_there life hears hearing there same = subst (λ (x : Hearing). x ≡ hears) (hearing_on life hears hearing there) same
 
 -- the credentials of a link come of no source, or they have come
 abbrev pub HasCredentials : Sourced → Type 0

@@ -72,6 +72,7 @@ pub queue_waits : (story : ℕ → Story) (requests : List Request) (link after 
     → TiedWaits story requests (Ready after) fresh moved
 queue_waits story requests link after fresh moved same h = record {
   early = h.early;
+  backoff = λ p w d. cc;
   connect = λ p w d. cc;
   creds = λ p x w d. cc;
   setup = λ p x u w d. cc;
@@ -80,6 +81,7 @@ queue_waits story requests link after fresh moved same h = record {
   room = λ p i. h.room p (same p i);
   newer = h.newer;
   rising = h.rising;
+  no_backoff = λ p i w d. cc;
   no_connect = λ p i w d. cc;
   no_creds = λ p x i w d. cc;
   no_setup = λ p x u i w d. cc;
@@ -137,7 +139,6 @@ took_applied before c started word count kind h good k is can = by_life c.single
           setup = λ x u r. cc;
           link = λ x r. cc;
           none = λ none. h.fit.none (λ x r. (let no : Wanting link ≡ Ready x = sym e ∙ r in cc));
-          lasts = λ x y. h.fit.lasts (ap is_ready e) (ap has_ended e);
         })
     by_life (SettingUp link greeting) e =
         let b = book before in
@@ -166,7 +167,6 @@ took_applied before c started word count kind h good k is can = by_life c.single
           setup = wrote_fit_set conn.size conn.boundary link count greeting (h.fit.setup link greeting e);
           link = λ x r. cc;
           none = λ none. h.fit.none (λ x r. (let no : SettingUp link greeting ≡ Ready x = sym e ∙ r in cc));
-          lasts = λ x y. h.fit.lasts (ap is_ready e) (ap has_ended e);
         })
     by_life (Ready link) e =
         let b = book before in
@@ -195,5 +195,4 @@ took_applied before c started word count kind h good k is can = by_life c.single
           setup = λ x u r. cc;
           link = wrote_fit conn.size conn.boundary link count (h.fit.link link e);
           none = λ none. absurd (none (wrote_of link count) refl);
-          lasts = λ x y. cc;
         })

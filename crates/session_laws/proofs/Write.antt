@@ -153,7 +153,6 @@ write_shown before f w link life can h =
           setup = λ other u e. cc;
           link = λ other e. subst (IsFit w.conn.size w.conn.boundary) (same_link after other e) (record { sound = fit.sound; size_is = fit.size_is; bound_is = fit.bound_is; within = fit.within });
           none = λ none. absurd (none after refl);
-          lasts = λ x y. cc;
         };
         still = record {
           setup = λ other u e. cc;
@@ -193,7 +192,6 @@ write_set_shown before f w link greeting life can h =
           setup = λ other u e. subst (IsFit w.conn.size w.conn.boundary) (same_set after other greeting u e) (record { sound = fit.sound; size_is = fit.size_is; bound_is = fit.bound_is; within = fit.within });
           link = λ other e. cc;
           none = λ none. h.fit.none (λ other e. absurd (setting_not_ready w.conn.life link other greeting life e));
-          lasts = λ x y. h.fit.lasts (ap is_ready life) (ap has_ended life);
         };
         still = record {
           setup = λ other u e. subst (λ (x : LinkState). (x.queue ≡ []) ⊎ (holds_back x ≡ true)) (same_set after other greeting u e) (h.still.setup link greeting life);
