@@ -129,7 +129,7 @@ source_news m x first later one other =
     chosen (λ (y : News). y ≢ connected) (is_source_of m x) first (for_link (renews m x) later) (λ t. one) (λ f. else_news (renews m x) later other)
 
 -- a link that was never asked for hears of no successful connect
-far_news : (c : Core) (m : ℕ) (kind : EventKind) → is_bad c kind ≡ false → c.links ≤ m → news_of c.timers c.sources m kind ≢ connected
+pub far_news : (c : Core) (m : ℕ) (kind : EventKind) → is_bad c kind ≡ false → c.links ≤ m → news_of c.timers c.sources m kind ≢ connected
 unfolding is_bad
 far_news c m (event.Submit what) good past e = cc
 far_news c m (event.Cancel n) good past e = cc

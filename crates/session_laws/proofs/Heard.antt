@@ -30,7 +30,7 @@ use Rattle.session_laws.proofs.States.{IsFit, IsFitIn, IsHushed, Between, HasApp
 use Rattle.session_laws.proofs.Answer.{some_end, ended_over}
 use Rattle.session_laws.proofs.Aside.{aside_ends, not_up_ends, over_not_asked}
 use Rattle.session_laws.proofs.Settle.{seen, trace_of_acts, Holds}
-use Rattle.session_laws.proofs.Announce.{ComesTo, comes_as, turn_of, turned, IsNewsKind, heard_book, heard_is, heard_starts, heard_hearing, heard_tied, asked_hear, announced_sound, holds_first, first_book}
+use Rattle.session_laws.proofs.Announce.{ComesTo, comes_as, turn_of, turned, IsNewsKind, heard_book, heard_is, heard_starts, heard_hearing, heard_tied, asked_hear, announced_sound, holds_first, first_book, far_news}
 use Rattle.session_laws.proofs.Renewals.{renewal_alike}
 use Rattle.mux_conn.specs.declared.renewal.Renewal.{Renewal}
 use Rattle.legal_trace.proofs.Came.{holds_bytes}
@@ -110,15 +110,38 @@ StaysHushed c kind life = (c.shut || is_shutdown kind) ≡ true → is_resting l
 
 -- it was so, and the event doesn't shut it down
 pub hushed_still : (c : Core) (kind : EventKind) → is_shutdown kind ≡ false → IsHushed c → StaysHushed c kind c.single.connection.life
-hushed_still c kind open_still h shut rests = h (or_true c.shut (is_shutdown kind) open_still shut) rests
+hushed_still c kind awake h over rests = h (or_true c.shut (is_shutdown kind) awake over) rests
   where
     or_true : (x y : Bool) → y ≡ false → (x || y) ≡ true → x ≡ true
     or_true true y e f = refl
     or_true false y e f = sym (sym f ∙ e)
 
+-- nothing else than the shutdown is heard as one
+shut_down : (timers : List Purpose) (sources : List SourceUse) (l : ℕ) (kind : EventKind) (n : News) → news_of timers sources l kind ≡ n → n ≢ shut → is_shutdown kind ≡ false
+shut_down timers sources l (event.Submit what) n is other = refl
+shut_down timers sources l (event.Cancel m) n is other = refl
+shut_down timers sources l (event.Connected m) n is other = refl
+shut_down timers sources l (event.Refused m f) n is other = refl
+shut_down timers sources l (event.Fired m) n is other = refl
+shut_down timers sources l (event.Creds m auth) n is other = refl
+shut_down timers sources l (event.CredsError m text) n is other = refl
+shut_down timers sources l (event.CredsEnd m) n is other = refl
+shut_down timers sources l (event.Timeout ms) n is other = refl
+shut_down timers sources l (event.Wrote m count) n is other = refl
+shut_down timers sources l (event.Bytes m piece) n is other = refl
+shut_down timers sources l (event.Ended m) n is other = refl
+shut_down timers sources l (event.ReadFault m f) n is other = refl
+shut_down timers sources l (event.WriteFault m f) n is other = refl
+shut_down timers sources l event.DropStream n is other = refl
+shut_down timers sources l event.Shutdown n is other = absurd (other (sym is))
+
+-- so it is in a turn of other news
+pub hushed_news : (c : Core) (kind : EventKind) (n : News) → news_of c.timers c.sources c.single.link kind ≡ n → n ≢ shut → IsHushed c → StaysHushed c kind c.single.connection.life
+hushed_news c kind n is other h = hushed_still c kind (shut_down c.timers c.sources c.single.link kind n is other) h
+
 -- a connection that has a link waits for no other
 pub hushed_there : (c : Core) (kind : EventKind) (life : Life) → is_resting life ≡ false → StaysHushed c kind life
-hushed_there c kind life there shut rests = absurd (not_both (is_resting life) there rests)
+hushed_there c kind life there over rests = absurd (not_both (is_resting life) there rests)
 
 -- where the link need not end then, and no act follows, the event has had its effect
 pub fresh_applied : (before : List Action) (c : Core) (started : List ℕ) (word : ℕ) (kind : EventKind) (n : News) (info : RedisConnectionInfo) (life : Life) (fresh : List ℕ) → Between before c started → is_bad c kind ≡ false → IsNewsKind c.timers kind
@@ -364,7 +387,7 @@ ended_quiet before c started word kind n error h good k is over =
       setup_unheard l c.turns n c.single.connection.info started c.single.connection.life life.0 h.sound.tied.setup,
       λ alive. absurd (not_both (has_ended c.single.connection.life) alive (ap has_ended over)),
     ))
-    (over_no_end (noted l (hears c.turns n)) b.created error after) h.fit
+    (over_no_end (noted l (hears c.turns n)) b.created error after) h.fit (hushed_there c kind c.single.connection.life (ap is_resting over))
 
 -- a link whose connect isn't answered hears but of that, of the end of its time, and of the shutdown
 --
@@ -446,7 +469,51 @@ dialing_quiet before c started word kind n o h good k is dialing =
       setup_unheard l c.turns n c.single.connection.info started c.single.connection.life life.1 h.sound.tied.setup,
       λ alive. unheard_tied (carried c.single.connection.life c.single.connection.requests) l (whole_link c.single.connection.life) c.turns n life.1 (h.sound.tied.link alive),
     ))
-    (dialing_no_end l b.created c.turns n o life) h.fit
+    (dialing_no_end l b.created c.turns n o life) h.fit (hushed_there c kind c.single.connection.life (ap is_resting dialing))
+
+-- without a link
+--
+-- a link that was never asked for hears nothing but that its connect succeeded
+resting_is : (l : Ledger) (turn : ℕ) (n : News) → l.asked ≡ false → l.up ≡ false → n ≢ connected → noted l (hears turn n) ≡ record l { heard = n }
+resting_is l turn silence none down other = refl
+resting_is l turn overdue none down other = refl
+resting_is l turn connected none down other = absurd (other refl)
+resting_is l turn (refused f) none down other = ap (λ (x : Ledger). record x { heard = refused f }) (left_if (dials l) (refused_in l turn (error.Io f)) l (ap (λ a. a && not l.up && not (is_over l)) none))
+resting_is l turn (took count) none down other = ap (λ (x : Ledger). record x { heard = took count }) (left_if l.up _ l down)
+resting_is l turn (came piece) none down other = ap (λ (x : Ledger). record x { heard = came piece }) (left_if l.up (bytes_came l piece) l down)
+resting_is l turn (failed f) none down other = refl
+resting_is l turn (authorized c) none down other = unawaited_is l turn c (down_unawaited l down)
+resting_is l turn (renewed c) none down other = ap (λ (x : Ledger). record x { heard = renewed c }) (left_if (may_renew l) (renewed_by l c) l (down_may_renew l down))
+resting_is l turn unrenewed none down other = ap (λ (x : Ledger). record x { heard = unrenewed }) (left_if l.up (unrenewed_by l) l down)
+resting_is l turn (late m) none down other = ap (λ (x : Ledger). record x { heard = late m }) (left_if (l.up && is_renewal_open l m) (lost_by l) l (ap (λ u. u && is_renewal_open l m) down))
+resting_is l turn unrepeated none down other = ap (λ (x : Ledger). record x { heard = unrepeated }) (left_if (is_repeating l) (unrepeated_by l) l (down_repeats_not l down))
+resting_is l turn (denied text) none down other = refl
+resting_is l turn deserted none down other = refl
+resting_is l turn dropped none down other = refl
+resting_is l turn shut none down other = refl
+
+-- nothing was heard of its connect
+resting_unconnected : (c : Core) (kind : EventKind) (n : News) → is_bad c kind ≡ false → news_of c.timers c.sources c.single.link kind ≡ n → c.links ≡ c.single.link → n ≢ connected
+resting_unconnected c kind n good is none same = far_news c c.single.link kind good (omega arith) (is ∙ same)
+
+-- so where the connection has none, the turn leads nowhere
+pub resting_leads : (before : List Action) (c : Core) (started : List ℕ) (kind : EventKind) (n : News) → Between before c started → is_bad c kind ≡ false → news_of c.timers c.sources c.single.link kind ≡ n → c.single.connection.life ≡ Resting
+    → Leads (book before) c n c.single.connection.life [] started × (ending (heard_by (book before) c n) ≡ None)
+resting_leads before c started kind n h good is rests =
+    let b = book before in
+    let l = b.link c.single.link in
+    let life = subst (λ (x : Life). TiedLife l b.created x) rests h.sound.tied.life in
+    let conn = c.single.connection in
+    let none : c.links ≡ c.single.link = (subst (λ (x : Life). HasCourse l.last l.end c.links c.single.link c.shut c.manager conn.last conn.opened conn.info conn.address x) rests h.sound.tied.course).0 in
+    let stays = resting_is l c.turns n life.0 life.1 (resting_unconnected c kind n good is none) in
+    (leads_still before c started n h stays, ap ending stays ∙ not_up_ends (record l { heard = n }) life.1 (ap (λ a. a && not (is_over l)) life.0))
+
+-- and the event has no effect
+pub resting_quiet : (before : List Action) (c : Core) (started : List ℕ) (word : ℕ) (kind : EventKind) (n : News) → n ≢ shut → Between before c started → is_bad c kind ≡ false → IsNewsKind c.timers kind → news_of c.timers c.sources c.single.link kind ≡ n → c.single.connection.life ≡ Resting
+    → HasApplied (before ++ turn_of c word kind ∷ []) (with_work (record { core = turned c kind; acts = [] }) (record { conn = c.single.connection; acts = [] })) started
+resting_quiet before c started word kind n other h good k is rests =
+    let g = resting_leads before c started kind n h good is rests in
+    quiet_applied before c started word kind n c.single.connection.life h good k is g.0 g.1 h.fit (hushed_news c kind n is other h.hushed)
 
 -- a link that hears nothing need not end, where it need not before
 pub silent_no_end : (l : Ledger) (turn : ℕ) → ending l ≡ None → ending (noted l (hears turn silence)) ≡ None
