@@ -33,7 +33,7 @@ use Rattle.legal_trace.specs.Events.{is_bad_event}
 use Rattle.legal_trace.specs.Legal.{MayTurn}
 use Rattle.mux_conn.specs.Connection.{is_ready, is_resting}
 use Rattle.session_laws.proofs.Comes.{course_later}
-use Rattle.session_laws.proofs.Tied.{TiedCreation, AreAimed, AreUses, IsAim, owners_of, owners_each, setup_owners, Inner, inner, link_in, carried, whole_link, AreAside, TiedCreds, TiedLife, TiedSetup, TiedTries, TiedLines, AreQueued, TiedWaits, Tied, Sound, has_ended, TiedNotices, TiedRenewal, HasGreetedAlone, is_reading, IsUse, TiedRounds, AreUnrepeated, HasCourse, hearing_at, on_link}
+use Rattle.session_laws.proofs.Tied.{TiedCreation, AreAimed, AreUses, IsAim, owners_of, owners_each, setup_owners, Inner, inner, link_in, carried, whole_link, AreAside, TiedCreds, TiedLife, TiedSetup, TiedTries, TiedLines, AreQueued, TiedWaits, Tied, Sound, has_ended, TiedNotices, TiedRenewal, HasGreetedAlone, is_reading, IsUse, TiedRounds, AreUnrepeated, HasCourse, hearing_at, on_link, AreEarly}
 use Rattle.session_laws.proofs.Unrepeated.{unrepeated_hears}
 use Rattle.session_laws.proofs.States.{Between}
 use Rattle.session_laws.proofs.Entered.{book_more, sound_more}
@@ -372,6 +372,7 @@ pub record ComesAs (b : Book) (c : Core) (l : Ledger) (created : ℕ) (opened : 
   pub told : has_ended life ≡ false → AreQueued b.story c.single.connection.requests c.single.link (link_in life)
   pub waits : TiedWaits b.story c.single.connection.requests life fresh c.single.connection.moved
   pub rounds : TiedRounds (has_generations b) b.story c.single.connection.requests (is_ready life) fresh c.single.connection.rounds
+  pub early : AreEarly c.single.connection.requests life
   pub notices : TiedNotices (hearing_in b.config) c.single.connection.hears (hearing_at life c.single.connection.hears l.hearing) l.notices l.told l.end l.parted l.strange (is_reading l) untold false
 
 -- where its new credentials are as they were
@@ -445,6 +446,7 @@ heard_tied_as b c started word created halted told opened kind info renewal life
       waits = k.waits;
       permits = h.permits;
       rounds = k.rounds;
+      early = k.early;
       late = λ p o late. absurd (h.late p o late);
     })
 

@@ -11,7 +11,9 @@ use Rattle.driver_model.specs.declared.event.EventKind.TheVariants as event
 use Rattle.driver_model.specs.declared.event.Submission.{Submission}
 use Rattle.driver_model.specs.declared.outcome.Outcome.TheVariants as outcome
 use Rattle.driver_model.specs.News.{silence}
-use Rattle.driver_model.specs.Request.{packed_bytes, shape_of, is_reply_awaited, lacks_resp3, has_no_form}
+use Rattle.connection_info.specs.Protocol.{is_resp3}
+use Rattle.driver_model.specs.Hearing.{hears_messages}
+use Rattle.driver_model.specs.Request.{packed_bytes, shape_of, is_reply_awaited, lacks_resp3, needs_resp3, has_no_form}
 use Rattle.link_laws.proofs.Lists.{get_last}
 use Rattle.link_laws.proofs.TiedLink.{told_tied, all_push}
 use Rattle.mux_conn.specs.declared.request.Progress.{Progress}
@@ -22,9 +24,9 @@ use Rattle.mux_conn.specs.Requests.{is_open as is_open_progress, is_waiting, is_
 use Rattle.shared_session.specs.declared.core_state.Core.{Core}
 use Rattle.shared_session.specs.Turn.{Turning, heard, refused_with, asked_for, pending, effect, counted, is_bad}
 use Rattle.legal_trace.specs.Story.{Story, is_no_error, is_told, is_awaited}
-use Rattle.legal_trace.specs.Book.{Book, blank_book, book, entered, is_unspoken, kind_in}
+use Rattle.legal_trace.specs.Book.{Book, blank_book, book, entered, hearing_in, info_in, is_unspoken, kind_in}
 use Rattle.legal_trace.specs.Legal.{AllStand, NoneEnds, MayAnswer}
-use Rattle.session_laws.proofs.Rounded.{rounds_longer}
+use Rattle.session_laws.proofs.Rounded.{rounds_longer, early_longer}
 use Rattle.session_laws.proofs.Aside.{aside_silent}
 use Rattle.session_laws.proofs.Renewals.{renewal_alike}
 use Rattle.session_laws.proofs.Numbers.{IsIn, in_left, in_right, Rising, rising_next, requests_in, request_in}
@@ -300,6 +302,7 @@ asked_tied b c started word what h tame form few no_fresh up speaks some =
       permits = permits_longer c.table b.story after b.submissions conn.requests (more_requests c) c.single.link conn.limit conn.free (conn.fresh ++ n ∷ []) h.names same longer h.numbers.submissions (ap (λ (s : Story). s.permits) (story_is_new b c started what h))
           (asked_next b c started what h no_fresh) h.permits;
       rounds = rounds_longer c.table b.story after conn.requests (more_requests c) conn.fresh (conn.fresh ++ n ∷ []) h.names same longer no_fresh (asked_next b c started what h no_fresh) h.rounds;
+      early = early_longer after conn.requests (more_requests c) (conn.fresh ++ n ∷ []) conn.life longer (asked_next b c started what h no_fresh) h.early;
       late = late_longer c.table b.story after conn.requests (more_requests c) (conn.fresh ++ n ∷ []) h.names same longer (asked_next b c started what h no_fresh) h.late;
     }
 
@@ -318,12 +321,18 @@ asked_applied before c started word what h few good up speaks some =
 some_bytes : (bytes : List ℕ) → (length bytes == 0) ≡ false → bytes ≢ []
 some_bytes bytes f e = not_both (length bytes == 0) f (ap (λ (bs : List ℕ). length bs == 0) e)
 
+-- three that all hold, in another order
+in_turn : (a b c : Bool) → (a && b && c) ≡ (b && (a && c))
+in_turn true b c = refl
+in_turn false true c = refl
+in_turn false false c = refl
+
 -- what the session says to the server is what the book tells of the link that a submission goes to
 lacks_as_told : (b : Book) (c : Core) (started : List ℕ) (what : Submission) → Tied b (inner c started) → lacks_resp3 c.single.connection.hears c.single.connection.info.protocol what ≡ is_unspoken b what
 lacks_as_told b c started what h =
     let says = sym h.numbers.speaks in
     let hears = sym h.notices.heard_is in
-    λ i. lacks_resp3 (hears i) (says i) what
+    (λ i. lacks_resp3 (hears i) (says i) what) ∙ in_turn (not (hears_messages (hearing_in b.config))) (needs_resp3 what) (not (is_resp3 (info_in b.config).protocol))
 
 -- a submission, whichever it is
 pub submit_applied : (before : List Action) (c : Core) (started : List ℕ) (word : ℕ) (what : Submission) → Between before c started → length c.table < 2 ^ 32 → is_bad c (event.Submit what) ≡ false

@@ -35,11 +35,11 @@ use Rattle.legal_trace.specs.Story.{Story, is_open, is_told, left}
 use Rattle.legal_trace.specs.Book.{Book, after_event, book, entered, if_own, shuts, submitted_by, timeout_after, kind_in, has_generations}
 use Rattle.mux_conn.specs.Renewals.{renewal_id}
 use Rattle.mux_conn.specs.declared.renewal.Renewal.{Renewal}
-use Rattle.session_laws.proofs.Rounded.{rounds_closed}
+use Rattle.session_laws.proofs.Rounded.{rounds_closed, early_closed}
 use Rattle.session_laws.proofs.Aside.{aside_silent}
 use Rattle.session_laws.proofs.Renewals.{renewal_alike}
 use Rattle.session_laws.proofs.Numbers.{IsIn, in_left, in_right, in_either, Rising, rising_from, rising_in, rising_right, rising_tail, requests_in, request_in, request_of, request_other, requests_first}
-use Rattle.session_laws.proofs.Tied.{carried, inner, no_link, link_in, owner_of, queue_ids, whole_link, IsQueued, IsEntry, AreQueued, TiedCreds, TiedLife, TiedStory, TiedNames, TiedNumbers, TiedPermits, TiedLines, TiedSetup, IsAside, Tied, has_ended, TiedRenewal, greeter, TiedRounds, HasCourse, TiedNotices, hearing_at}
+use Rattle.session_laws.proofs.Tied.{carried, inner, no_link, link_in, owner_of, queue_ids, whole_link, IsQueued, IsEntry, AreQueued, TiedCreds, TiedLife, TiedStory, TiedNames, TiedNumbers, TiedPermits, TiedLines, TiedSetup, IsAside, Tied, has_ended, TiedRenewal, greeter, TiedRounds, HasCourse, TiedNotices, hearing_at, AreEarly}
 use Rattle.session_laws.proofs.States.{IsFit, IsFitIn, Between, HasApplied}
 use Rattle.session_laws.proofs.Names.{name_within, open_within, name_of_some, owners_with, length_with, names_with, with_other, with_then, request_not}
 use Rattle.session_laws.proofs.InLine.{row_ids, kept_ids, chosen_in, awaited_in, wanted_in}
@@ -369,6 +369,15 @@ ready_cancelled (SettingUp link greeting) p = refl
 ready_cancelled (Ready link) p = refl
 ready_cancelled (Ended y) p = refl
 
+-- so no round begins there
+pub early_cancelled : (requests : List Request) (life : Life) (p : ℕ) → AreEarly requests life → AreEarly requests (cancelled_in life p)
+early_cancelled requests Resting p h = h
+early_cancelled requests Dialing p h = h
+early_cancelled requests (Wanting link) p h = h
+early_cancelled requests (SettingUp link greeting) p h = h
+early_cancelled requests (Ready link) p h = h
+early_cancelled requests (Ended e) p h = h
+
 -- so was one that waits for credentials
 pub was_wanting : (life : Life) (p : ℕ) → WasWanting life (cancelled_in life p)
 was_wanting Resting p x e = cc
@@ -554,6 +563,7 @@ still_tied b c started word kind timeout q same h tame =
       waits = h.waits;
       permits = subst (λ k. TiedPermits b.story k conn.requests c.single.link conn.limit conn.free []) (let none = q.none in omega arith) h.permits;
       rounds = h.rounds;
+      early = h.early;
       late = h.late;
     }))
 
@@ -603,6 +613,7 @@ gone_tied b c started word p n h tame o named =
           (permits_closed b.story after c.table b.submissions conn.requests c.single.link conn.limit conn.free [] p h.names l known (r.on o) r.permits_is (λ m other. closed_other b.story conn.requests p closed m other)
           (ap (λ (s : Story). s.permits) is ∙ leave_frees (b.story own) asked) (ap (λ (s : Story). s.link) is ∙ leave_link (b.story own) ∙ r.on o) h.permits);
       rounds = subst (λ x. TiedRounds (has_generations b) after requests x conn.fresh conn.rounds) (sym (ready_cancelled conn.life p)) (rounds_closed b.story conn.requests conn.fresh p closed l k h.rounds);
+      early = early_cancelled requests conn.life p (early_closed conn.requests conn.life p l h.early);
       late = late_closed c.table b.story conn.requests p closed [] [] h.names l (λ q other i. i) h.late;
     })
 

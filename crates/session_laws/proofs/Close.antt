@@ -169,6 +169,7 @@ close_tied b t created halted told why e parting pending ids must is shown mild 
       waits = ended_waits b.story t.requests t.life e t.fresh t.moved h.waits;
       permits = h.permits;
       rounds = rounds_down b.story t.requests t.fresh t.fresh refl h.rounds;
+      early = λ up over. cc;
       late = λ p o late. absurd (h.late p o late);
     })
 

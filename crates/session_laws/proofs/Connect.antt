@@ -185,6 +185,7 @@ connected_wants before c started word kind h good k is e wants =
       told = λ z. subst (λ (x : LinkState). AreQueued b.story conn.requests c.single.link x) early.bare (h0.told early.alive);
       waits = fresh_waits b (inner c started) conn.life life h0 refl nobody h.fresh refl early.bare early.unready early.alive early.other refl;
       rounds = rounds_down b.story conn.requests conn.fresh ns refl h0.rounds;
+      early = λ unready alive. h0.early early.unready early.alive;
       notices = pushes_still before c started connected h (inl tt);
     }) in
     let may : MayNeed now (length c.sources) mine = record {
@@ -281,6 +282,7 @@ refused_fails before c started word kind f h good k is e =
       told = λ n. cc;
       waits = ended_waits b.story conn.requests conn.life (error.Io f) conn.fresh conn.moved h0.waits;
       rounds = rounds_down b.story conn.requests conn.fresh conn.fresh refl h0.rounds;
+      early = λ unready alive. cc;
       notices = pushes_still before c started (refused f) h (inl tt);
     }) in
     let book_is : book front ≡ now = book_more before (turn_of c word kind) ∙ heard_is b c.turns word kind (book_kind b c kind h0.numbers.timers k) in

@@ -183,6 +183,7 @@ setup_fails before c started word kind n x h good k is u fails =
       told = λ z. cc;
       waits = ended_waits b.story conn.requests conn.life x conn.fresh conn.moved h0.waits;
       rounds = rounds_down b.story conn.requests conn.fresh conn.fresh refl h0.rounds;
+      early = λ unready alive. cc;
       notices = record {
         heard_is = fails.notices.heard_is;
         hearing_is = fails.notices.hearing_is;

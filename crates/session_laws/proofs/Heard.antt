@@ -23,7 +23,7 @@ use Rattle.legal_trace.specs.Story.{Story}
 use Rattle.legal_trace.specs.Legal.{NoneEnds}
 use Rattle.session_laws.proofs.Said.{mild_end, setup_on, setup_unheard, BringsNothing, pushes_hear, IsTame, is_tame, renoticed, PushesAt}
 use Rattle.session_laws.proofs.Creds.{creds_hear, down_unawaited, unawaited_is, down_may_renew, IsOfRenewals}
-use Rattle.session_laws.proofs.Tied.{Inner, inner, link_in, carried, whole_link, TiedCreds, TiedLife, TiedSetup, TiedLines, AreQueued, TiedWaits, Tied, has_ended, HasCourse, TiedRenewal, NoneRenewed, TiedRounds}
+use Rattle.session_laws.proofs.Tied.{Inner, inner, link_in, carried, whole_link, TiedCreds, TiedLife, TiedSetup, TiedLines, AreQueued, TiedWaits, Tied, has_ended, HasCourse, TiedRenewal, NoneRenewed, TiedRounds, AreEarly}
 use Rattle.session_laws.proofs.Unrepeated.{down_repeats_not}
 use Rattle.session_laws.proofs.Comes.{course_alike}
 use Rattle.session_laws.proofs.States.{IsFit, IsFitIn, IsHushed, Between, HasApplied}
@@ -69,6 +69,7 @@ pub record Leads (b : Book) (c : Core) (n : News) (life : Life) (pending started
   pub told : has_ended life ≡ false → AreQueued b.story c.single.connection.requests c.single.link (link_in life)
   pub waits : TiedWaits b.story c.single.connection.requests life c.single.connection.fresh c.single.connection.moved
   pub rounds : TiedRounds (has_generations b) b.story c.single.connection.requests (is_ready life) c.single.connection.fresh c.single.connection.rounds
+  pub early : AreEarly c.single.connection.requests life
   pub notices : PushesAt life (hearing_in b.config) c.single.connection.hears (heard_by b c n)
 
 -- the news by the timers and the sources of the book
@@ -101,7 +102,7 @@ pub heard_begins : (before : List Action) (c : Core) (started : List ℕ) (word 
     → Leads (book before) c n life pending started → Begins (before ++ turn_of c word kind ∷ []) (turned c kind) (lives_as c life) (heard_by (book before) c n) (book before).story pending started
 heard_begins before c started word kind n life pending h good k is g =
     let s = fresh_begins before c started word kind n c.single.connection.info life c.single.connection.fresh pending h good k is
-    (record { starts = heard_starts ((book before).link c.single.link) c.turns n; hearing_kept = heard_hearing ((book before).link c.single.link) c.turns n; spoken = refl; lived = g.lived; course = g.course; creds = g.creds; renewal_is = g.renewal_is; said = g.said; linked = g.linked; lines = g.lines; told = g.told; waits = g.waits; rounds = g.rounds; notices = g.notices }) in
+    (record { starts = heard_starts ((book before).link c.single.link) c.turns n; hearing_kept = heard_hearing ((book before).link c.single.link) c.turns n; spoken = refl; lived = g.lived; course = g.course; creds = g.creds; renewal_is = g.renewal_is; said = g.said; linked = g.linked; lines = g.lines; told = g.told; waits = g.waits; rounds = g.rounds; early = g.early; notices = g.notices }) in
     record { holds = s.holds; ledger = s.ledger; stories = s.stories }
 
 -- where everything is shut down while the connection has no link, nobody waits for one
@@ -309,7 +310,7 @@ course_hears b c started n h =
 pub leads_on : (before : List Action) (c : Core) (started : List ℕ) (n : News) → Between before c started → BringsNothing n ⊎ (((book before).link c.single.link).up ≡ false) → (let l = heard_by (book before) c n in let life = c.single.connection.life in
     TiedLife l (book before).created life × TiedCreds l.creds c.single.connection.renewal.wanted life × TiedSetup l c.single.connection.info started life × (has_ended life ≡ false → TiedLink (carried life c.single.connection.requests) l (whole_link life)))
     → Leads (book before) c n c.single.connection.life [] started
-leads_on before c started n h k g = record { lived = g.0; course = course_hears (book before) c started n h.sound.tied; creds = g.1; renewal_is = renewal_still ((book before).link c.single.link) c.turns n c.single.connection.renewal c.single.connection.life k h.sound.tied.renewal; said = g.2; linked = g.3; lines = h.sound.tied.lines; told = h.sound.tied.told; waits = h.sound.tied.waits; rounds = h.sound.tied.rounds; notices = pushes_still before c started n h k }
+leads_on before c started n h k g = record { lived = g.0; course = course_hears (book before) c started n h.sound.tied; creds = g.1; renewal_is = renewal_still ((book before).link c.single.link) c.turns n c.single.connection.renewal c.single.connection.life k h.sound.tied.renewal; said = g.2; linked = g.3; lines = h.sound.tied.lines; told = h.sound.tied.told; waits = h.sound.tied.waits; rounds = h.sound.tied.rounds; early = h.sound.tied.early; notices = pushes_still before c started n h k }
 
 -- what the news are is of no account for how far a link has come
 pub told_life : (l : Ledger) (created : ℕ) (life : Life) (n : News) → TiedLife l created life → TiedLife (record l { heard = n }) created life
@@ -339,6 +340,7 @@ leads_still before c started n h stays =
       told = t.told;
       waits = t.waits;
       rounds = t.rounds;
+      early = t.early;
       notices = subst (λ (x : Ledger). PushesAt conn.life (hearing_in b.config) conn.hears x) (sym stays) (renoticed (tame_between before c started h) t.notices);
     }
 

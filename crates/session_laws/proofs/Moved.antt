@@ -32,7 +32,7 @@ use Rattle.session_laws.proofs.Going.{IsGoing, HasRenewed}
 use Rattle.session_laws.proofs.InLine.{kept_ids}
 use Rattle.session_laws.proofs.Names.{open_within, with_other, with_then}
 use Rattle.session_laws.proofs.Numbers.{IsIn, Rising, rising_right, requests_in}
-use Rattle.session_laws.proofs.Passes.{IsDone, IsSeated, IsUp, admitted_done, moved_up_seated, moved_up_waits, moving, started_keeps, started_up, no_room, rounds_done}
+use Rattle.session_laws.proofs.Passes.{IsDone, IsSeated, IsUp, admitted_done, moved_up_seated, moved_up_waits, moving, started_keeps, started_up, found_full, rounds_done}
 use Rattle.session_laws.proofs.Watches.{setting_begun}
 use Rattle.session_laws.proofs.Settle.{Holds, answered_leaves, failed_leaves, seen, trace_of_acts}
 use Rattle.session_laws.proofs.States.{IsFit, IsFitIn, IsStill, AreBegun}
@@ -81,7 +81,7 @@ up_moved before f w done begun =
       still = record {
         setup = λ link u e. absurd (not_both_lives c.life h.link link u h.life e);
         held = λ link e. subst (λ (x : LinkState). (x.queue ≡ []) ⊎ (holds_back x ≡ true)) (one_link c.life h.link link h.life e) h.held;
-        full = λ link e. elim done.seated.full [ inl empty ↦ inl empty | inr none ↦ inr (no_room c link e none) ];
+        full = λ link e. found_full c link e done.seated.full;
         renewed = h.going.renewed;
         waiting = λ link e. done.none;
         begun = begun;

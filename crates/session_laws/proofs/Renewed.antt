@@ -83,6 +83,7 @@ ready_renewal before c started word kind n link renewals over lost r h good k is
       told = h0.told;
       waits = h0.waits;
       rounds = h0.rounds;
+      early = h0.early;
       notices = renoticed (tame_between before c started h) h0.notices;
     }) in
     let turn_is = heard_is b c.turns word kind (book_kind b c kind h0.numbers.timers k) in

@@ -246,5 +246,6 @@ refused_tied b c started word what e h tame form few no_fresh why =
           next h.waits;
       permits = permits_longer c.table b.story after b.submissions conn.requests conn.requests c.single.link conn.limit conn.free conn.fresh h.names same longer h.numbers.submissions (ap (λ (s : Story). s.permits) is) next h.permits;
       rounds = rounds_longer c.table b.story after conn.requests conn.requests conn.fresh conn.fresh h.names same longer no_fresh next h.rounds;
+      early = h.early;
       late = late_longer c.table b.story after conn.requests conn.requests conn.fresh h.names same longer next h.late;
     }

@@ -749,6 +749,10 @@ pub record TiedRounds (comes : Bool) (story : ℕ → Story) (requests : List Re
   pub begun : (p : ℕ) → rounds ≡ true → is_open_at requests p ≡ true → is_unbegun_at requests p ≡ false → (story (name_at requests p)).rounded ≡ true
   pub new : (p : ℕ) → rounds ≡ true → ready ≡ true → is_unbegun_at requests p ≡ true → IsIn p fresh
 
+-- until the link is up and set up, the round of no open request has begun
+abbrev pub AreEarly : List Request → Life → Type 0
+AreEarly requests life = is_ready life ≡ false → has_ended life ≡ false → (p : ℕ) → is_open_at requests p ≡ true → is_unbegun_at requests p ≡ true
+
 -- an open submission whose time is over is to be answered
 abbrev pub AreLate : (ℕ → Story) → List Request → List ℕ → Type 0
 AreLate story requests pending = (p : ℕ) → is_open_at requests p ≡ true → (story (name_at requests p)).overdue ≡ true → IsIn p pending
@@ -775,6 +779,7 @@ pub record Tied (b : Book) (t : Inner) : Type 0 where
   pub waits : TiedWaits b.story t.requests t.life t.fresh t.moved
   pub permits : TiedPermits b.story b.submissions t.requests t.link t.limit t.free t.letting
   pub rounds : TiedRounds (has_generations b) b.story t.requests (is_ready t.life) t.fresh t.rounds
+  pub early : AreEarly t.requests t.life
   pub late : AreLate b.story t.requests t.pending
 
 -- the opening of the connection's link has failed in the turn that runs, and another attempt follows: the connection has no link any more
@@ -915,5 +920,6 @@ relined b t waiting admitted fresh moved pending h lines waits rounds late = rec
   waits = waits;
   permits = h.permits;
   rounds = rounds;
+  early = h.early;
   late = late;
 }

@@ -94,6 +94,7 @@ line_tied b t line told parted untold parting is pushed h =
       waits = h.waits;
       permits = h.permits;
       rounds = h.rounds;
+      early = h.early;
       late = h.late;
     })
 

@@ -62,6 +62,7 @@ write_tied b t link h =
       waits = queue_waits b.story t.requests link (offered_of link) t.fresh t.moved (λ p i. i) h.waits;
       permits = h.permits;
       rounds = h.rounds;
+      early = h.early;
       late = h.late;
     })
 
@@ -92,6 +93,7 @@ write_set_tied b t link greeting h =
       waits = setting_waits b.story t.requests link (offered_of link) greeting greeting t.fresh t.moved h.waits;
       permits = h.permits;
       rounds = h.rounds;
+      early = h.early;
       late = h.late;
     })
 
