@@ -24,7 +24,7 @@ use Rattle.legal_trace.specs.Book.{Book, entered, faults_in}
 use Rattle.legal_trace.specs.Owed.{owed, owed_by, owed_to_try, owed_to_message, owed_unstarted, owed_waiting}
 use Rattle.legal_trace.specs.Legal.{NoneEnds, VerdictsAreShown, MayAnswer, FailuresAreShown, EndsAreTold, IsBefore, is_heard}
 use Rattle.session_laws.proofs.Calm.{calm_more, owed_calm}
-use Rattle.session_laws.proofs.Rounded.{rounds_closed}
+use Rattle.session_laws.proofs.Rounded.{rounds_closed, early_closed}
 use Rattle.session_laws.proofs.Numbers.{IsIn, in_either, in_right, in_left, Rising, rising_in, requests_in, request_in}
 use Rattle.session_laws.proofs.Tied.{AreCalm, Inner, link_in, queue_ids, TiedLife, TiedNames, IsEntry, AreQueued, TiedLines, Tied, relined, has_ended, numbers_kept}
 use Rattle.session_laws.proofs.Said.{carried_tied, sources_asked}
@@ -65,7 +65,7 @@ some_end None o owes = cc
 some_end (Some e) o owes = refl
 
 -- a connection that has ended has a link that is over
-ended_over : (l : Ledger) (created : ℕ) (life : Life) → has_ended life ≡ true → TiedLife l created life → is_over l ≡ true
+pub ended_over : (l : Ledger) (created : ℕ) (life : Life) → has_ended life ≡ true → TiedLife l created life → is_over l ≡ true
 ended_over l created Resting over h = cc
 ended_over l created Dialing over h = cc
 ended_over l created (Wanting link) over h = cc
@@ -240,6 +240,7 @@ answer_apart b t p pending o calm open_is apart told h =
       permits = permits_closed b.story (entered b (action.Outcome n o)).story t.table b.submissions t.requests t.link t.limit t.free t.letting p h.names l known (r.on open_is) r.permits_is (λ m other. closed_other b.story t.requests p closed m other)
           (ap (λ (s : Story). s.permits) own) (ap (λ (s : Story). s.link) own ∙ r.on open_is) h.permits;
       rounds = rounds_closed b.story t.requests t.fresh p closed l c h.rounds;
+      early = early_closed t.requests t.life p l h.early;
       late = late_closed t.table b.story t.requests p closed (p ∷ pending) pending h.names l (λ q other i. elim i [ inl same ↦ absurd (other same) | inr j ↦ j ]) h.late;
     }
 

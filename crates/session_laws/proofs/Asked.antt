@@ -2,7 +2,7 @@
 use Rattle.std.proofs.lemmas.List.{append-nil}
 use Rattle.std.proofs.Common.{◌≡◌, ◌≢◌, inl, inr, ℕ, ◌+◌, ◌<◌, ◌≤◌, ◌==◌, Bool, true, false, ◌||◌, ◌&&◌, not, List, [], ◌∷◌, ◌++◌, length, Some, slice_get, if◌then◌else◌, refl, sym, ap, ◌∙◌, subst, append_assoc, arith, length-append, ◌^◌}
 use Rattle.containers.proofs.Places.{get_within}
-use Rattle.containers.proofs.Choices.{chosen, not_both}
+use Rattle.containers.proofs.Choices.{chosen, not_both, or_left}
 use Rattle.redis_error.specs.declared.redis_error.RedisError.{RedisError}
 use Rattle.redis_error.specs.declared.redis_error.RedisError.TheVariants as error
 use Rattle.driver_model.specs.declared.action.Action.{Action}
@@ -11,7 +11,9 @@ use Rattle.driver_model.specs.declared.event.EventKind.TheVariants as event
 use Rattle.driver_model.specs.declared.event.Submission.{Submission}
 use Rattle.driver_model.specs.declared.outcome.Outcome.TheVariants as outcome
 use Rattle.driver_model.specs.News.{silence}
-use Rattle.driver_model.specs.Request.{packed_bytes, shape_of, is_reply_awaited, lacks_resp3, has_no_form}
+use Rattle.connection_info.specs.Protocol.{is_resp3}
+use Rattle.driver_model.specs.Hearing.{hears_messages}
+use Rattle.driver_model.specs.Request.{packed_bytes, shape_of, is_reply_awaited, lacks_resp3, needs_resp3, has_no_form}
 use Rattle.link_laws.proofs.Lists.{get_last}
 use Rattle.link_laws.proofs.TiedLink.{told_tied, all_push}
 use Rattle.mux_conn.specs.declared.request.Progress.{Progress}
@@ -22,9 +24,9 @@ use Rattle.mux_conn.specs.Requests.{is_open as is_open_progress, is_waiting, is_
 use Rattle.shared_session.specs.declared.core_state.Core.{Core}
 use Rattle.shared_session.specs.Turn.{Turning, heard, refused_with, asked_for, pending, effect, counted, is_bad}
 use Rattle.legal_trace.specs.Story.{Story, is_no_error, is_told, is_awaited}
-use Rattle.legal_trace.specs.Book.{Book, blank_book, book, entered, is_unspoken, kind_in}
+use Rattle.legal_trace.specs.Book.{Book, blank_book, book, entered, hearing_in, info_in, is_unspoken, kind_in}
 use Rattle.legal_trace.specs.Legal.{AllStand, NoneEnds, MayAnswer}
-use Rattle.session_laws.proofs.Rounded.{rounds_longer}
+use Rattle.session_laws.proofs.Rounded.{rounds_longer, early_longer}
 use Rattle.session_laws.proofs.Aside.{aside_silent}
 use Rattle.session_laws.proofs.Renewals.{renewal_alike}
 use Rattle.session_laws.proofs.Numbers.{IsIn, in_left, in_right, Rising, rising_next, requests_in, request_in}
@@ -35,11 +37,12 @@ use Rattle.session_laws.proofs.Names.{there_within, names_asked, submits_unwatch
 use Rattle.session_laws.proofs.Owes.{started_within}
 use Rattle.session_laws.proofs.Settle.{seen}
 use Rattle.session_laws.proofs.Announce.{aims_longer, aims_on, turn_of, turned, may_turn, uses_on, uses_on, time_still, still_unrepeated}
-use Rattle.session_laws.proofs.Heard.{told_life, silent_no_end, silent_applied, still_none, tame_between}
+use Rattle.session_laws.proofs.Heard.{told_life, silent_no_end, silent_applied, still_none, tame_between, hushed_still}
 use Rattle.session_laws.proofs.Said.{setup_on, IsTame, renoticed}
 use Rattle.session_laws.proofs.Further.{one_longer, there_longer, before_or_new, further_story, tries_longer, queue_longer, packs_longer, entries_longer, link_longer, told_longer, IsNext, waits_longer, permits_longer, late_longer}
 use Rattle.session_laws.proofs.InLine.{kept_ids, awaited_in}
 use Rattle.session_laws.proofs.Submit.{stories_with, new_story, story_is_new, others_before, within_line, IsErrorOf, may_refuse, core_refused, refused_tied, or_none}
+use Rattle.session_laws.proofs.Comes.{course_later}
 
 -- a submission that isn't bad has a form
 formed : (c : Core) (what : Submission) → is_bad c (event.Submit what) ≡ false → has_no_form c.kind what ≡ false
@@ -61,11 +64,12 @@ refused_applied before c started word what e h few good why =
     let may : MayAnswer now (length c.table) (outcome.Fault e) = may_refuse b c started word what e h.sound.tied applied.answered applied.ended applied.created.failed why in
     record {
       sound = sound_more front a t all (inl (subst (λ (x : Book). MayAnswer x (length c.table) (outcome.Fault e)) (sym book_is) may))
-          (subst (λ (x : Book). Tied (entered x a) t) (sym book_is) (refused_tied b c started word what e h.sound.tied (tame_between before c started h) (formed c what good) few h.fresh));
+          (subst (λ (x : Book). Tied (entered x a) t) (sym book_is) (refused_tied b c started word what e h.sound.tied (tame_between before c started h) (formed c what good) few h.fresh why));
       ended = subst NoneEnds (sym (book_more front a ∙ ap (λ (x : Book). entered x a) book_is)) (λ m. silent_no_end (b.link m) c.turns (still_none before c started h m));
       began = λ z. absurd (omega arith);
       moved = h.moved;
-      fit = record { wanting = h.fit.wanting; setup = h.fit.setup; link = h.fit.link; none = h.fit.none; lasts = h.fit.lasts };
+      fit = record { wanting = h.fit.wanting; setup = h.fit.setup; link = h.fit.link; none = h.fit.none };
+      hushed = hushed_still c (event.Submit what) refl h.hushed;
     }
 
 -- it is the next request
@@ -266,6 +270,8 @@ asked_tied b c started word what h tame form few no_fresh up speaks some =
       others = λ m other. aside_silent (b.link m) c.turns (h.others m other);
       notices = renoticed tame h.notices;
       life = told_life ledger b.created conn.life silence h.life;
+      course = course_later conn.life ledger.last ledger.end c.links c.single.link c.shut (c.shut || false) c.manager conn.last conn.opened conn.info conn.address (or_left c.shut false) h.course;
+      calm = λ up awake. refl;
       creds = h.creds;
       creation = h.creation;
       uses = uses_on c.sources c.single.link h.uses;
@@ -296,6 +302,7 @@ asked_tied b c started word what h tame form few no_fresh up speaks some =
       permits = permits_longer c.table b.story after b.submissions conn.requests (more_requests c) c.single.link conn.limit conn.free (conn.fresh ++ n ∷ []) h.names same longer h.numbers.submissions (ap (λ (s : Story). s.permits) (story_is_new b c started what h))
           (asked_next b c started what h no_fresh) h.permits;
       rounds = rounds_longer c.table b.story after conn.requests (more_requests c) conn.fresh (conn.fresh ++ n ∷ []) h.names same longer no_fresh (asked_next b c started what h no_fresh) h.rounds;
+      early = early_longer after conn.requests (more_requests c) (conn.fresh ++ n ∷ []) conn.life longer (asked_next b c started what h no_fresh) h.early;
       late = late_longer c.table b.story after conn.requests (more_requests c) (conn.fresh ++ n ∷ []) h.names same longer (asked_next b c started what h no_fresh) h.late;
     }
 
@@ -304,7 +311,8 @@ pub asked_applied : (before : List Action) (c : Core) (started : List ℕ) (word
     → HasApplied (before ++ turn_of c word (event.Submit what) ∷ []) (asked_for (heard (counted c) (event.Submit what)) what) started
 asked_applied before c started word what h few good up speaks some =
     let b = book before in
-    silent_applied before c started word (event.Submit what) (core_asked c what) (asked c.single.connection (length c.table) (packed_bytes what) (shape_of what) (is_reply_awaited what) c.timeout) h good (λ m. silent_no_end (b.link m) c.turns (still_none before c started h m)) (λ z. absurd (omega arith)) h.moved (record { wanting = h.fit.wanting; setup = h.fit.setup; link = h.fit.link; none = h.fit.none; lasts = h.fit.lasts })
+    silent_applied before c started word (event.Submit what) (core_asked c what) (asked c.single.connection (length c.table) (packed_bytes what) (shape_of what) (is_reply_awaited what) c.timeout) h good (λ m. silent_no_end (b.link m) c.turns (still_none before c started h m)) (λ z. absurd (omega arith)) h.moved (record { wanting = h.fit.wanting; setup = h.fit.setup; link = h.fit.link; none = h.fit.none })
+    (λ shut rests. absurd (not_both b.shut up (h.sound.tied.numbers.shut ∙ sym (or_none c.shut) ∙ shut)))
     (asked_tied b c started word what h.sound.tied (tame_between before c started h) (formed c what good) few h.fresh up speaks some)
 
 -- one or the other
@@ -313,12 +321,18 @@ asked_applied before c started word what h few good up speaks some =
 some_bytes : (bytes : List ℕ) → (length bytes == 0) ≡ false → bytes ≢ []
 some_bytes bytes f e = not_both (length bytes == 0) f (ap (λ (bs : List ℕ). length bs == 0) e)
 
+-- three that all hold, in another order
+in_turn : (a b c : Bool) → (a && b && c) ≡ (b && (a && c))
+in_turn true b c = refl
+in_turn false true c = refl
+in_turn false false c = refl
+
 -- what the session says to the server is what the book tells of the link that a submission goes to
 lacks_as_told : (b : Book) (c : Core) (started : List ℕ) (what : Submission) → Tied b (inner c started) → lacks_resp3 c.single.connection.hears c.single.connection.info.protocol what ≡ is_unspoken b what
 lacks_as_told b c started what h =
     let says = sym h.numbers.speaks in
     let hears = sym h.notices.heard_is in
-    λ i. lacks_resp3 (hears i) (says i) what
+    (λ i. lacks_resp3 (hears i) (says i) what) ∙ in_turn (not (hears_messages (hearing_in b.config))) (needs_resp3 what) (not (is_resp3 (info_in b.config).protocol))
 
 -- a submission, whichever it is
 pub submit_applied : (before : List Action) (c : Core) (started : List ℕ) (word : ℕ) (what : Submission) → Between before c started → length c.table < 2 ^ 32 → is_bad c (event.Submit what) ≡ false

@@ -217,7 +217,6 @@ readied_comes b c started n info link untold more created some_created h0 fit no
         over_is = none.over_is;
         came = none.came;
         waits = none.waits;
-        rounds = anew_rounds b (inner c started) h0 refl nobody early.bare;
         untimed = none.untimed;
         unstarted = none.unstarted;
         unasked = none.unasked;
@@ -234,6 +233,8 @@ readied_comes b c started n info link untold more created some_created h0 fit no
         here = λ p i. absurd (subst (λ (qs : List Queued). IsIn p (queue_ids qs)) made.queue i);
       };
       waits = fresh_waits b (inner c started) conn.life (Ready link) h0 refl nobody no_fresh refl early.bare early.unready early.alive early.other made.queue;
+      rounds = anew_rounds b (inner c started) h0 refl nobody early.bare;
+      early = λ up. cc;
       notices = facts.notices;
     }
 
@@ -456,7 +457,6 @@ ready_applied front f conn link l started began none_moved fit none h =
         setup = λ x u e. cc;
         link = λ x e. (let same : link ≡ x = cc in subst (IsFit conn.size conn.boundary) same fit);
         none = λ none. absurd (none link refl);
-        lasts = λ x y. cc;
       });
     }
 
@@ -547,6 +547,7 @@ comes_to_say before c started word kind n info link h good k is other early u ha
       told = λ z. subst (λ (x : LinkState). AreQueued b.story conn.requests c.single.link x) early.bare (h0.told early.alive);
       waits = fresh_waits b (inner c started) conn.life life h0 refl nobody h.fresh refl early.bare early.unready early.alive early.other refl;
       rounds = rounds_down b.story conn.requests conn.fresh (numbers_of conn.waiting) refl h0.rounds;
+      early = λ unready alive. h0.early early.unready early.alive;
       notices = notices;
     })
     (ending_setting l next greet.WithUser u.up said ∙ calm)
@@ -555,7 +556,6 @@ comes_to_say before c started word kind n info link h good k is other early u ha
       setup = λ x w same. (let one : next ≡ x = cc in subst (IsFit conn.size conn.boundary) one fits);
       link = λ x same. cc;
       none = λ z. nobody;
-      lasts = λ x y. h.fit.lasts early.unready early.alive;
     })
 
 -- where there are no requests nobody waits
@@ -628,6 +628,7 @@ comes_to_watch before c started word kind n info link h good k is other early u 
       told = λ z. subst (λ (x : LinkState). AreQueued b.story conn.requests c.single.link x) early.bare (h0.told early.alive);
       waits = none_wait b.story conn.requests conn.life next greet.Monitor conn.fresh conn.moved (none_asked b (inner c started) h0 watches) h0.waits;
       rounds = rounds_down b.story conn.requests conn.fresh conn.fresh refl h0.rounds;
+      early = λ unready alive. h0.early early.unready early.alive;
       notices = notices;
     })
     (ending_setting l next greet.Monitor u.up said ∙ calm)
@@ -636,7 +637,6 @@ comes_to_watch before c started word kind n info link h good k is other early u 
       setup = λ x w same. (let one : next ≡ x = cc in subst (IsFit conn.size conn.boundary) one fits);
       link = λ x same. cc;
       none = λ z. nobody;
-      lasts = λ x y. h.fit.lasts early.unready early.alive;
     })
 
 -- so it comes up

@@ -3,6 +3,7 @@ use Rattle.std.proofs.Common.{◌≡◌, ◌≢◌, ℕ, ◌+◌, ◌-◌, ◌==
 use Rattle.std.specs.List.{list_any}
 use Rattle.containers.proofs.Choices.{by_test, chosen, eq_from, left_if, ne_from, ne_test, not_both, taken_if}
 use Rattle.redis_error.specs.declared.redis_error.RedisError.{RedisError}
+use Rattle.connection_info.specs.declared.address.RedisConnectionInfo.{RedisConnectionInfo}
 use Rattle.connection_info.specs.Protocol.{is_resp3}
 use Rattle.driver_model.specs.declared.action.Action.TheVariants as action
 use Rattle.driver_model.specs.declared.action.Owner.TheVariants as owner
@@ -13,13 +14,14 @@ use Rattle.mux_conn.specs.declared.life.Life.{Life}
 use Rattle.mux_conn.specs.declared.life.Life.TheVariants.{Resting, Dialing, Wanting, SettingUp, Ready, Ended}
 use Rattle.shared_session.specs.declared.generations.Generations.{Generations}
 use Rattle.legal_trace.specs.Book.{Book, entered, has_generations, info_in}
-use Rattle.legal_trace.specs.Ledger.{End, Ending, Ledger, by_shutdown, by_fault, by_opening, by_attempt}
+use Rattle.legal_trace.specs.Ledger.{End, Ending, Ledger, ending, is_over, by_shutdown, by_fault, by_opening, by_attempt}
 use Rattle.legal_trace.specs.Legal.{begins_first, current_link, generation_due, is_attempt, is_by_attempt, is_cause, is_caused, is_lost, is_lost_in, link_due, rest_due}
 use Rattle.legal_trace.specs.Managers.{is_lazy, settings_in}
 use Rattle.legal_trace.specs.Owed.{owed_by, owed_unstarted}
 use Rattle.legal_trace.specs.Story.{Story, is_open, waits}
+use Rattle.session_laws.proofs.Aside.{not_up_ends}
 use Rattle.session_laws.proofs.Owes.{is_asked, lives}
-use Rattle.session_laws.proofs.Tied.{AreCalm, HasCourse, Inner, Tied, TiedCourse, TiedLife, TiedManager, has_ended, is_begun}
+use Rattle.session_laws.proofs.Tied.{AreCalm, HasCourse, Inner, IsOver, Tied, TiedLife, TiedManager, has_ended, is_begun}
 
 -- no generation begins, and no link is asked for
 abbrev pub NoneComes : Book → Type 0
@@ -44,7 +46,7 @@ both_false true false z e = refl
 both_false false y z e = refl
 
 -- a link was asked for of a generation, where there are any
-has_begun : (life : Life) (is_last : Bool) (end : Option End) (t : Inner) → is_resting life ≡ false → HasCourse is_last end t.links t.link t.shut t.manager t.last t.opened t.info t.address life → is_begun t.manager ≡ true
+pub has_begun : (life : Life) (is_last : Bool) (end : Option End) (t : Inner) → is_resting life ≡ false → HasCourse is_last end t.links t.link t.shut t.manager t.last t.opened t.info t.address life → is_begun t.manager ≡ true
 has_begun Resting is_last end t there h = cc
 has_begun Dialing is_last end t there h = h.1
 has_begun (Wanting link) is_last end t there h = h.1
@@ -60,6 +62,39 @@ has_links (Wanting link) is_last end t there h = h.0
 has_links (SettingUp link greeting) is_last end t there h = h.0
 has_links (Ready link) is_last end t there h = h.0
 has_links (Ended e) is_last end t there h = h.0
+
+-- it stays where everything is shut down later
+pub course_later : (life : Life) (is_last : Bool) (end : Option End) (links link : ℕ) (shut next : Bool) (manager : Option Generations) (last opened : Bool) (info address : RedisConnectionInfo) → (next ≡ false → shut ≡ false) → HasCourse is_last end links link shut manager last opened info address life
+    → HasCourse is_last end links link next manager last opened info address life
+course_later Resting is_last end links link shut next manager last opened info address later h = h
+course_later Dialing is_last end links link shut next manager last opened info address later h = h
+course_later (Wanting state) is_last end links link shut next manager last opened info address later h = h
+course_later (SettingUp state greeting) is_last end links link shut next manager last opened info address later h = h
+course_later (Ready state) is_last end links link shut next manager last opened info address later h = h
+course_later (Ended e) is_last end links link shut next manager last opened info address later h = (h.0, h.1, record { failed = λ new awake. h.2.failed new (later awake); unfailed = h.2.unfailed })
+
+-- and where the ledger says the same of other attempts, and the link ended so before, if it did
+pub course_alike : (life : Life) (is_last same : Bool) (end after : Option End) (links link : ℕ) (shut : Bool) (manager : Option Generations) (last opened : Bool) (info address : RedisConnectionInfo) → same ≡ is_last → (has_ended life ≡ true → after ≡ end) → HasCourse is_last end links link shut manager last opened info address life
+    → HasCourse same after links link shut manager last opened info address life
+course_alike Resting is_last same end after links link shut manager last opened info address e over h = h
+course_alike Dialing is_last same end after links link shut manager last opened info address e over h = (h.0, h.1, h.2, e ∙ h.3, h.4)
+course_alike (Wanting state) is_last same end after links link shut manager last opened info address e over h = (h.0, h.1, h.2, e ∙ h.3)
+course_alike (SettingUp state greeting) is_last same end after links link shut manager last opened info address e over h = (h.0, h.1, h.2, e ∙ h.3)
+course_alike (Ready state) is_last same end after links link shut manager last opened info address e over h = (h.0, h.1, h.2, e ∙ h.3)
+course_alike (Ended x) is_last same end after links link shut manager last opened info address e over h = (h.0, h.1, subst (λ (y : Option End). IsOver y shut opened) (sym (over refl)) h.2)
+
+-- where there is none, none must end
+resting_ends : (l : Ledger) (created : ℕ) (life : Life) → is_resting life ≡ true → TiedLife l created life → ending l ≡ None
+resting_ends l created Resting rests h = not_up_ends l h.1 (ap (λ a. a && not (is_over l)) h.0)
+resting_ends l created Dialing rests h = cc
+resting_ends l created (Wanting link) rests h = cc
+resting_ends l created (SettingUp link greeting) rests h = cc
+resting_ends l created (Ready link) rests h = cc
+resting_ends l created (Ended e) rests h = cc
+
+-- so what must end is there
+pub ends_there : (l : Ledger) (created : ℕ) (life : Life) (why : Ending) → ending l ≡ Some why → TiedLife l created life → is_resting life ≡ false
+ends_there l created life why must h = by_test (is_resting life) _ (λ rests. absurd (let no : ◌≡◌ {A = Option Ending} None (Some why) = sym (resting_ends l created life rests h) ∙ must in cc)) (λ there. there)
 
 -- what owes something is no attempt that another one follows
 owing_attempt : (end : Option End) (e : RedisError) → owed_unstarted end ≡ Some (outcome.Fault e) → is_attempt end ≡ false

@@ -52,12 +52,12 @@ use Rattle.redis_error.specs.declared.redis_error.RedisError.{RedisError}
 
 -- news of no account
 --
--- that leave what is told of a link, and end nothing
+-- that leave what is told of a link, and end nothing, and aren't the shutdown
 pub passed_over : (before : List Action) (c : Core) (started : List ℕ) (word : ℕ) (kind : EventKind) (n : News) → Between before c started → is_bad c kind ≡ false → IsNewsKind c.timers kind → news_of c.timers c.sources c.single.link kind ≡ n
-    → (let l = (book before).link c.single.link in heard_by (book before) c n ≡ record l { heard = n } → ending (record l { heard = n }) ≡ None
+    → n ≢ shut → (let l = (book before).link c.single.link in heard_by (book before) c n ≡ record l { heard = n } → ending (record l { heard = n }) ≡ None
     → HasApplied (before ++ turn_of c word kind ∷ []) (with_work (record { core = turned c kind; acts = [] }) (record { conn = c.single.connection; acts = [] })) started)
-passed_over before c started word kind n h good k is stays none =
-    quiet_applied before c started word kind n c.single.connection.life h good k is (leads_still before c started n h stays) (ap ending stays ∙ none) h.fit
+passed_over before c started word kind n h good k is other stays none =
+    quiet_applied before c started word kind n c.single.connection.life h good k is (leads_still before c started n h stays) (ap ending stays ∙ none) h.fit (hushed_news c kind n is other h.hushed)
 
 -- a connect that succeeds
 --
@@ -106,9 +106,10 @@ up_now before c started h e =
       asked = ap (λ (x : Ledger). x.asked) is ∙ lived.0;
       up = ap (λ (x : Ledger). x.up) is;
       alive = ap (λ (x : Ledger). x.end) is ∙ lived.2;
-      last = ap (λ (x : Ledger). x.last) is ∙ lived.3;
-      info_is = told.info_is;
-      wanted_is = ap (λ (x : Ledger). x.creds.wanted) is ∙ t.creds.wanted_is;
+      last = ap (λ (x : Ledger). x.last) is ∙ course.3;
+      info_is = on_link conn.life _ (ap is_resting e) told.info_is;
+      wanted_is = ap (λ (x : Ledger). x.creds.wanted) is ∙ on_link conn.life (l0.creds.wanted ≡ conn.renewal.wanted) (ap is_resting e) t.creds.wanted_is;
+      begun = course;
       sent = told.sent;
       starts = heard_starts l0 c.turns connected ∙ said.0;
       none = said.1;
@@ -184,6 +185,7 @@ connected_wants before c started word kind h good k is e wants =
       told = λ z. subst (λ (x : LinkState). AreQueued b.story conn.requests c.single.link x) early.bare (h0.told early.alive);
       waits = fresh_waits b (inner c started) conn.life life h0 refl nobody h.fresh refl early.bare early.unready early.alive early.other refl;
       rounds = rounds_down b.story conn.requests conn.fresh ns refl h0.rounds;
+      early = λ unready alive. h0.early early.unready early.alive;
       notices = pushes_still before c started connected h (inl tt);
     }) in
     let may : MayNeed now (length c.sources) mine = record {
@@ -207,7 +209,6 @@ connected_wants before c started word kind h good k is e wants =
         setup = λ x w one. cc;
         link = λ x one. cc;
         none = λ z. nobody;
-        lasts = λ x y. h.fit.lasts early.unready early.alive;
       };
     }
 
@@ -221,10 +222,10 @@ connected_applied before c started word kind h good k is = by_life c.single.conn
 
     again : l.up ≡ true → l.end ≡ None → ending (record l { heard = connected }) ≡ None
         → HasApplied (before ++ turn_of c word kind ∷ []) (with_work (record { core = turned c kind; acts = [] }) (record { conn = c.single.connection; acts = [] })) started
-    again up alive none = passed_over before c started word kind connected h good k is (again_is l c.turns up alive) none
+    again up alive none = passed_over before c started word kind connected h good k is (λ z. cc) (again_is l c.turns up alive) none
 
     by_life : (x : Life) → c.single.connection.life ≡ x → HasApplied (before ++ turn_of c word kind ∷ []) (with_work (record { core = turned c kind; acts = [] }) (connected_at (record { conn = c.single.connection; acts = [] }) x)) started
-    by_life Resting e = absurd (never_rests ((book before).link c.single.link) (book before).created c.single.connection.life e h.sound.tied.life)
+    by_life Resting e = resting_quiet before c started word kind connected (λ z. cc) h good k is e
     by_life Dialing e =
         let w : Work = record { conn = c.single.connection; acts = [] } in
         let link = new_link c.single.connection in
@@ -281,13 +282,13 @@ refused_fails before c started word kind f h good k is e =
       told = λ n. cc;
       waits = ended_waits b.story conn.requests conn.life (error.Io f) conn.fresh conn.moved h0.waits;
       rounds = rounds_down b.story conn.requests conn.fresh conn.fresh refl h0.rounds;
+      early = λ unready alive. cc;
       notices = pushes_still before c started (refused f) h (inl tt);
     }) in
     let book_is : book front ≡ now = book_more before (turn_of c word kind) ∙ heard_is b c.turns word kind (book_kind b c kind h0.numbers.timers k) in
     record {
       stands = all_stand-append before (turn_of c word kind ∷ []) h.sound.stands (may_turn before c started word kind h good, tt);
       fails = ap (λ (x : Book). failure_in (x.link c.single.link).end) book_is ∙ ap (λ (x : Ledger). failure_in x.end) (own_ledger ∙ over) ∙ ap (λ last. failure_of (lasting last (by_opening (error.Io f)))) lived.3;
-      lasts = h.fit.lasts (ap is_ready e) (ap has_ended e);
       unshown = λ untold. ap (λ (x : Book). x.created) book_is ∙ h0.creation.before untold;
       first = λ untold m less. ap (λ (x : Book). failure_in (x.link m).end) book_is ∙ unfailed (now.link m) (others_heard b c started kind b.created h0 good (λ some. some) m (λ same. omega arith)) (h0.creation.before untold);
       tied = λ untold. subst (λ (x : Book). Tied (entered x (action.Created (Some (error.Io f)))) t) (sym book_is) (tied (b.created + 1) (b.failed || true) ((shown_creation b.created).after refl));
@@ -316,10 +317,10 @@ refused_applied before c started word kind f h good k is = by_life c.single.conn
 
     late : l.up ≡ true → ending (record l { heard = refused f }) ≡ None
         → HasApplied (before ++ turn_of c word kind ∷ []) (with_work (record { core = turned c kind; acts = [] }) (record { conn = c.single.connection; acts = [] })) started
-    late up none = passed_over before c started word kind (refused f) h good k is (up_refused l c.turns f up) none
+    late up none = passed_over before c started word kind (refused f) h good k is (λ z. cc) (up_refused l c.turns f up) none
 
     by_life : (x : Life) → c.single.connection.life ≡ x → HasApplied (before ++ turn_of c word kind ∷ []) (with_work (record { core = turned c kind; acts = [] }) (refused_at (record { conn = c.single.connection; acts = [] }) f x)) started
-    by_life Resting e = absurd (never_rests ((book before).link c.single.link) (book before).created c.single.connection.life e h.sound.tied.life)
+    by_life Resting e = resting_quiet before c started word kind (refused f) (λ z. cc) h good k is e
     by_life Dialing e =
         let front = before ++ turn_of c word kind ∷ [] in
         let w : Work = record { conn = c.single.connection; acts = [] } in
@@ -365,7 +366,6 @@ closing_fails before c started word kind n x plain asks h good k is e =
       fails = ap (λ (y : Book). failure_in (y.link c.single.link).end) book_is
           ∙ ap (λ (y : Ledger). failure_in y.end) (mine_noted l c.single.link (ends (b.turns - 1)))
           ∙ ap failure_of (ends_so l why lived.3 must);
-      lasts = h.fit.lasts (ap is_ready e) (ap has_ended e);
       unshown = λ untold. ap (λ (y : Book). y.created) book_is ∙ begins.holds.tied.creation.before untold;
       first = λ untold m less. ap (λ (y : Book). failure_in (y.link m).end) book_is ∙ unfailed _ (others_kept b c.single.link (ends (b.turns - 1)) begins.holds.tied.others m (λ same. omega arith)) (begins.holds.tied.creation.before untold);
       tied = λ untold. subst (λ (y : Book). Tied (entered y (action.Created (Some x))) (seen f (act.Close ∷ []) (record conn { life = Ended x; told = true }) [] started)) (sym book_is) (tied (b.created + 1) (b.failed || true) ((shown_creation b.created).after refl));
@@ -378,7 +378,7 @@ pub overdue_applied : (before : List Action) (c : Core) (started : List ℕ) (wo
 overdue_applied before c started word kind h good k is = by_life c.single.connection.life refl
   where
     by_life : (x : Life) → c.single.connection.life ≡ x → HasApplied (before ++ turn_of c word kind ∷ []) (with_work (record { core = turned c kind; acts = [] }) (overdue_at (record { conn = c.single.connection; acts = [] }) x)) started
-    by_life Resting e = absurd (never_rests ((book before).link c.single.link) (book before).created c.single.connection.life e h.sound.tied.life)
+    by_life Resting e = resting_quiet before c started word kind overdue (λ z. cc) h good k is e
     by_life Dialing e =
         failing_applied (before ++ turn_of c word kind ∷ []) (turned c kind) (record { conn = c.single.connection; acts = act.Close ∷ [] }) (error.Io kinds.TimedOut) started (λ z. absurd (omega arith)) h.moved
         (closing_fails before c started word kind overdue (error.Io kinds.TimedOut) tt refl h good k is e)
@@ -386,7 +386,7 @@ overdue_applied before c started word kind h good k is = by_life c.single.connec
     by_life (SettingUp link greeting) e = setting_overdue before c started word kind link greeting h good k is e
     by_life (Ready link) e =
         let u = up_tied (book before) (inner c started) link e h.sound.tied in
-        passed_over before c started word kind overdue h good k is refl (ready_heard ((book before).link c.single.link) overdue u.up u.well)
+        passed_over before c started word kind overdue h good k is (λ z. cc) refl (ready_heard ((book before).link c.single.link) overdue u.up u.well)
     by_life (Ended x) e = ended_quiet before c started word kind overdue x h good k is e
 
 -- the stream of messages is dropped
@@ -395,14 +395,21 @@ pub dropped_applied : (before : List Action) (c : Core) (started : List ℕ) (wo
     → HasApplied (before ++ turn_of c word kind ∷ []) (with_work (record { core = turned c kind; acts = [] }) (dropped_by (record { conn = c.single.connection; acts = [] }))) started
 dropped_applied before c started word kind h good k is =
     let w : Work = record { conn = c.single.connection; acts = [] } in
-    let l = (book before).link c.single.link in
-    let same = h.sound.tied.notices.hearing_is in
     chosen (λ (x : Work). HasApplied (before ++ turn_of c word kind ∷ []) (with_work (record { core = turned c kind; acts = [] }) x) started) (hears_messages w.conn.hears) (dropped_at w w.conn.life) w
     (λ t. by_life t c.single.connection.life refl)
-    (λ f. passed_over before c started word kind dropped h good k is refl (dropped_end l (ap hears_messages same ∙ f) (still_none before c started h c.single.link)))
+    (λ f. passed_over before c started word kind dropped h good k is (λ z. cc) refl (deaf f))
   where
+    l : Ledger
+    l = (book before).link c.single.link
+
+    -- on a link of no messages it ends nothing
+    deaf : hears_messages c.single.connection.hears ≡ false → ending (record l { heard = dropped }) ≡ None
+    deaf f = by_test (is_resting c.single.connection.life) _
+        (λ rests. not_up_ends (record l { heard = dropped }) (resting_down l (book before).created c.single.connection.life rests h.sound.tied.life).0 (resting_down l (book before).created c.single.connection.life rests h.sound.tied.life).1)
+        (λ there. dropped_end l (ap hears_messages (hearing_there c.single.connection.life c.single.connection.hears l.hearing there h.sound.tied.notices.hearing_is) ∙ f) (still_none before c started h c.single.link))
+
     by_life : hears_messages c.single.connection.hears ≡ true → (x : Life) → c.single.connection.life ≡ x → HasApplied (before ++ turn_of c word kind ∷ []) (with_work (record { core = turned c kind; acts = [] }) (dropped_at (record { conn = c.single.connection; acts = [] }) x)) started
-    by_life listens Resting e = absurd (never_rests ((book before).link c.single.link) (book before).created c.single.connection.life e h.sound.tied.life)
+    by_life listens Resting e = resting_quiet before c started word kind dropped (λ z. cc) h good k is e
     by_life listens Dialing e =
         failing_applied (before ++ turn_of c word kind ∷ []) (turned c kind) (record { conn = c.single.connection; acts = act.Close ∷ [] }) error.Closed started (λ z. absurd (omega arith)) h.moved
         (closing_fails before c started word kind dropped error.Closed tt (taken_if (hears_messages ((book before).link c.single.link).hearing) (Some (by_opening error.Closed)) None (ap hears_messages h.sound.tied.notices.hearing_is ∙ listens)) h good k is e)

@@ -183,6 +183,7 @@ setup_fails before c started word kind n x h good k is u fails =
       told = λ z. cc;
       waits = ended_waits b.story conn.requests conn.life x conn.fresh conn.moved h0.waits;
       rounds = rounds_down b.story conn.requests conn.fresh conn.fresh refl h0.rounds;
+      early = λ unready alive. cc;
       notices = record {
         heard_is = fails.notices.heard_is;
         hearing_is = fails.notices.hearing_is;
@@ -215,7 +216,6 @@ setup_fails before c started word kind n x h good k is u fails =
     record {
       stands = subst (AllStand blank_book) (sym shown) (all_stand-append (trace_of_acts front f []) (close ∷ []) all (subst (λ (y : Book). MayClose y c.single.link) (sym first) may, tt));
       fails = ap (λ (y : Book). failure_in (y.link c.single.link).end) book_is ∙ ap (λ (y : Ledger). failure_in y.end) closed ∙ ap failure_of why;
-      lasts = h.fit.lasts u.unready u.alive;
       unshown = λ untold. ap (λ (y : Book). y.created) book_is ∙ h0.creation.before untold;
       first = λ untold m less. ap (λ (y : Book). failure_in (y.link m).end) book_is ∙ unfailed (links m) (others_kept now c.single.link line others m (λ same. omega arith)) (h0.creation.before untold);
       tied = λ untold. subst (λ (y : Book). Tied (entered y (action.Created (Some x))) t) (sym book_is) (tied (b.created + 1) (b.failed || true) ((shown_creation b.created).after refl));

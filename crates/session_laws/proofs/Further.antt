@@ -248,7 +248,7 @@ pub record IsNext (after : ℕ → Story) (requests more : List Request) (later 
   pub begun : (p : ℕ) → is_open_at more p ≡ true → is_unbegun_at more p ≡ false → length requests ≤ p → ⊥
 
 -- nothing is no wait
-no_wait : (x : Option WaitKind) (kind : WaitKind) → x ≡ None → x ≢ Some kind
+pub no_wait : (x : Option WaitKind) (kind : WaitKind) → x ≡ None → x ≢ Some kind
 no_wait x kind none e = let no : ◌≡◌ {A = Option WaitKind} None (Some kind) = sym none ∙ e in cc
 
 -- so the waits stay

@@ -16,8 +16,8 @@ use Rattle.mux_conn.specs.declared.life.Greeting.{Greeting}
 use Rattle.mux_conn.specs.declared.life.Life.{Life}
 use Rattle.mux_conn.specs.declared.life.Life.TheVariants.{Resting, Dialing, Ended, Ready, SettingUp, Wanting}
 use Rattle.legal_trace.specs.Book.{Book, blank_book, book, entered, if_mine, has_generations}
-use Rattle.legal_trace.specs.Ledger.{Ledger, Line, again_due, dials, ending, is_set_up, lacks_credentials, noted, noted_each, renewal_count, renewal_due, renewals_asked, setup_count, setup_due, setup_steps, monitor_due, is_greeted, setup_result}
-use Rattle.legal_trace.specs.Legal.{AllStand, CanMove, IsApplied, IsBegun, IsFirstToMove, IsMoved, MayStand, NoneEnds, RenewalsAreStarted, RenewalsAreTimed, RepeatsAreStarted, RepeatsAreTimed, SetupsAreStarted, MonitorsAreStarted, IsShown, begins_first, current_link, is_attempt, is_caused}
+use Rattle.legal_trace.specs.Ledger.{Ledger, Line, dials, ending, is_set_up, lacks_credentials, noted, noted_each, renewal_count, renewal_due, renewals_asked, setup_count, setup_due, setup_steps, monitor_due, is_greeted, setup_result}
+use Rattle.legal_trace.specs.Legal.{AllStand, CanMove, IsApplied, IsBegun, IsFirstToMove, IsMoved, MayStand, NoneEnds, RenewalsAreStarted, RenewalsAreTimed, SetupsAreStarted, MonitorsAreStarted, IsShown, begins_first, current_link, is_attempt, is_caused}
 use Rattle.legal_trace.specs.Steps.{Step, is_due, is_held_back, next_step, starts_or_waits, step_down, step_ready, unready_wait, waits}
 use Rattle.session_laws.proofs.Ahead.{HasSeats, IsRunning, creds_step, full_step, held_by, permit_step, queue_step, ready_alive, running_of, setup_step}
 use Rattle.session_laws.proofs.Behind.{alive_behind}
@@ -33,9 +33,9 @@ use Rattle.session_laws.proofs.Renewals.{all_timed, down_renewed_due, due_is, no
 use Rattle.session_laws.proofs.Said.{sources_asked}
 use Rattle.session_laws.proofs.SetUp.{down_undue, none_due, sent_undue, set_up_undue, setting_undecided}
 use Rattle.session_laws.proofs.States.{AreBegun, IsFit}
+use Rattle.session_laws.proofs.Unrepeated.{repeats_started, repeats_timed}
 use Rattle.session_laws.proofs.Tied.{AreSought, HasSaid, Inner, IsSetUp, Sound, Tied, TiedLife, TiedRenewal, carried, has_ended, link_in, owner_of, queue_ids, AreRenewed, waiting_ids, whole_link, IsToldIn, greeter, IsGreeting, watch_queued}
 use Rattle.mux_conn.specs.declared.life.Greeting.TheVariants as greet
-use Rattle.legal_trace.proofs.Again.{unwanted_is_undue}
 use Rattle.legal_trace.proofs.Setups.{IsUndecided, greeted_is_undue}
 use Rattle.legal_trace.proofs.Watching.{watch_is_up, watch_is_greeted, watch_is_new, watch_is_unset}
 
@@ -194,20 +194,6 @@ renewals_started b t h bound renewed m c due = by_test (m == t.link) _
         held_by b t (owner_of t.requests) link h.numbers (bound link e) tied ∙ (renewed link e is).1
     by_life (Ended x) e d = absurd (no_due (b.link t.link) (down_renewed_due (b.link t.link) (subst (TiedLife (b.link t.link) b.created) e h.life).0) d)
 
--- what is subscribed again
---
--- nothing is
-repeats_undue : (b : Book) (t : Inner) (l : ℕ) → Tied b t → again_due (b.link l) ≡ true → ⊥
-repeats_undue b t l h due = not_both (again_due (b.link l)) (unwanted_is_undue (b.link l) (h.numbers.unrepeated l)) due
-
--- so no timer is asked for it
-pub repeats_timed : (b : Book) (t : Inner) → Tied b t → RepeatsAreTimed b
-repeats_timed b t h l some due = absurd (repeats_undue b t l h due)
-
--- nor does it start
-pub repeats_started : (b : Book) (t : Inner) → Tied b t → RepeatsAreStarted b
-repeats_started b t h l due = absurd (repeats_undue b t l h due)
-
 -- what is ready has a link
 ready_there : (life : Life) → is_ready life ≡ true → is_resting life ≡ false
 ready_there Resting r = cc
@@ -223,8 +209,8 @@ begun_up b t h r told ended renewed = record {
   applied = applied_up b t h r.settled told (ready_there t.life r.up) (ready_alive t.life r.up) ended;
   setups = setups_started b t h (λ link greeting e. absurd (ready_not_setting t.life link greeting r.up e));
   monitors = monitors_started b t h (λ link e. absurd (ready_not_setting t.life link greet.Monitor r.up e));
-  repeats_timed = repeats_timed b t h;
-  repeated = repeats_started b t h;
+  repeats_timed = repeats_timed b h.numbers.unrepeated;
+  repeated = repeats_started b h.numbers.unrepeated;
   timed = renewals_timed b t h (λ link e due. (renewed link e due).0);
   renewed = renewals_started b t h (λ link e. ap (λ (x : Life). (link_in x).boundary) (sym e) ∙ r.fit.bound_is) renewed;
 }
@@ -465,25 +451,25 @@ is_moved b t h none told alone ends fit nobody held full stuck gone hushed comes
 
     by_life : (life : Life) → t.life ≡ life → IsMoved b
     by_life Resting e = record {
-      begun = record { applied = applied_resting b t h (comes (ap goes_on e)) hushed none told e (nobody (λ link r. (let no : Resting ≡ Ready link = sym e ∙ r in cc))) ends; setups = setups; monitors = monitors; repeats_timed = repeats_timed b t h; repeated = repeats_started b t h; timed = timed; renewed = told_all };
+      begun = record { applied = applied_resting b t h (comes (ap goes_on e)) hushed none told e (nobody (λ link r. (let no : Resting ≡ Ready link = sym e ∙ r in cc))) ends; setups = setups; monitors = monitors; repeats_timed = repeats_timed b h.numbers.unrepeated; repeated = repeats_started b h.numbers.unrepeated; timed = timed; renewed = told_all };
       moved = down_moves_none b t h (subst (TiedLife (b.link t.link) b.created) e h.life).1;
     }
     by_life Dialing e = record {
-      begun = record { applied = applied_up b t h none told (ap is_resting e) (ap has_ended e) ends; setups = setups; monitors = monitors; repeats_timed = repeats_timed b t h; repeated = repeats_started b t h; timed = timed; renewed = told_all };
+      begun = record { applied = applied_up b t h none told (ap is_resting e) (ap has_ended e) ends; setups = setups; monitors = monitors; repeats_timed = repeats_timed b h.numbers.unrepeated; repeated = repeats_started b h.numbers.unrepeated; timed = timed; renewed = told_all };
       moved = down_moves_none b t h (dialing_down (b.link t.link) b.created t.life e h.life);
     }
     by_life (Wanting link) e = record {
-      begun = record { applied = applied_up b t h none told (ap is_resting e) (ap has_ended e) ends; setups = setups; monitors = monitors; repeats_timed = repeats_timed b t h; repeated = repeats_started b t h; timed = timed; renewed = told_all };
+      begun = record { applied = applied_up b t h none told (ap is_resting e) (ap has_ended e) ends; setups = setups; monitors = monitors; repeats_timed = repeats_timed b h.numbers.unrepeated; repeated = repeats_started b h.numbers.unrepeated; timed = timed; renewed = told_all };
       moved = wanting_moves_none b t link h e;
     }
     by_life (SettingUp link greeting) e = record {
-      begun = record { applied = applied_up b t h none told (ap is_resting e) (ap has_ended e) ends; setups = setups; monitors = monitors; repeats_timed = repeats_timed b t h; repeated = repeats_started b t h; timed = timed; renewed = told_all };
+      begun = record { applied = applied_up b t h none told (ap is_resting e) (ap has_ended e) ends; setups = setups; monitors = monitors; repeats_timed = repeats_timed b h.numbers.unrepeated; repeated = repeats_started b h.numbers.unrepeated; timed = timed; renewed = told_all };
       moved = setting_moves_none b t link greeting h e;
     }
     by_life (Ready link) e =
         let here : link_in t.life ≡ link = ap link_in e in
         record {
-          begun = record { applied = applied_up b t h none told (ap is_resting e) (ap has_ended e) ends; setups = setups; monitors = monitors; repeats_timed = repeats_timed b t h; repeated = repeats_started b t h; timed = timed; renewed = told_all };
+          begun = record { applied = applied_up b t h none told (ap is_resting e) (ap has_ended e) ends; setups = setups; monitors = monitors; repeats_timed = repeats_timed b h.numbers.unrepeated; repeated = repeats_started b h.numbers.unrepeated; timed = timed; renewed = told_all };
           moved = up_moves_none b t h (running_of t link none e (fit link e) (subst (λ (x : LinkState). HasSeats t.moved (in_front t.renewal) x t.size) here seats)) alone
               (subst (λ (x : LinkState). (x.queue ≡ []) ⊎ (holds_back x ≡ true)) (sym here) (held link e))
               (subst (λ (x : LinkState). (t.admitted ≡ []) ⊎ (is_full_beside x (in_front t.renewal) ≡ true)) (sym here) (full link e))
@@ -494,8 +480,8 @@ is_moved b t h none told alone ends fit nobody held full stuck gone hushed comes
         applied = applied_over b t (Ended x) refl h (comes (ap goes_on e)) none told e (λ i. kept_ids (nobody (λ link r. (let no : Ended x ≡ Ready link = sym e ∙ r in cc)) i) (gone (ap has_ended e) i)) ends;
         setups = setups;
         monitors = monitors;
-        repeats_timed = repeats_timed b t h;
-        repeated = repeats_started b t h;
+        repeats_timed = repeats_timed b h.numbers.unrepeated;
+        repeated = repeats_started b h.numbers.unrepeated;
         timed = timed;
         renewed = told_all;
       };

@@ -16,7 +16,7 @@ use Rattle.legal_trace.specs.Ledger.{Ledger, Line, noted, noted_each}
 use Rattle.legal_trace.specs.Story.{Story, awaited_in, packed_in, shape_in, tried}
 use Rattle.session_laws.proofs.Names.{name_placed}
 use Rattle.session_laws.proofs.Owes.{request_story}
-use Rattle.session_laws.proofs.Tied.{AreAside, AreLate, AreQueued, Inner, IsAside, IsOf, IsPacked, IsQueued, IsRequest, StaysCalm, Tied, TiedCourse, TiedCreds, TiedCreation, TiedLife, TiedLines, TiedNames, TiedNumbers, TiedPermits, TiedNotices, TiedRounds, TiedSetup, TiedStory, TiedTries, TiedWaits, carried, has_ended, hearing_at, link_in, whole_link, TiedRenewal, is_reading, AreUses}
+use Rattle.session_laws.proofs.Tied.{AreAside, AreLate, AreQueued, Inner, IsAside, IsOf, IsPacked, IsQueued, IsRequest, StaysCalm, Tied, TiedCourse, TiedCreds, TiedCreation, TiedLife, TiedLines, TiedNames, TiedNumbers, TiedPermits, TiedNotices, TiedRounds, TiedSetup, TiedStory, TiedTries, TiedWaits, carried, has_ended, hearing_at, link_in, whole_link, TiedRenewal, is_reading, AreUses, AreEarly}
 
 -- a session and the ledger of its link, which is that of the book
 pub record TiedBy (b : Book) (t : Inner) (l : Ledger) : Type 0 where
@@ -40,6 +40,7 @@ pub record TiedBy (b : Book) (t : Inner) (l : Ledger) : Type 0 where
   pub waits : TiedWaits b.story t.requests t.life t.fresh t.moved
   pub permits : TiedPermits b.story b.submissions t.requests t.link t.limit t.free t.letting
   pub rounds : TiedRounds (has_generations b) b.story t.requests (is_ready t.life) t.fresh t.rounds
+  pub early : AreEarly t.requests t.life
   pub late : AreLate b.story t.requests t.pending
 
 -- so the session is tied to the book
@@ -65,6 +66,7 @@ tied_by b t l e h = record {
   waits = h.waits;
   permits = h.permits;
   rounds = h.rounds;
+  early = h.early;
   late = h.late;
 }
 

@@ -290,20 +290,20 @@ permits_eased f g table submissions requests link limit free now letting p count
       ];
     }
 
--- the session with that request let in so far, and these timers
-abbrev pub lets : Inner → ℕ → ℕ → ℕ → List Purpose → Inner
-lets t p count free timers = record t { requests = with_permits t.requests p progress.Begun count; free = free; timers = timers; letting = p ∷ [] }
-
 -- the session where that request waits on, its round begun, and these are let in
 abbrev pub waits_on : Inner → ℕ → ℕ → ℕ → List Purpose → List ℕ → Inner
 waits_on t p count free timers letting = record t { requests = with_permits t.requests p progress.Begun count; free = free; timers = timers; letting = letting }
 
+-- so it is with that request let in so far
+abbrev pub lets : Inner → ℕ → ℕ → ℕ → List Purpose → Inner
+lets t p count free timers = waits_on t p count free timers (p ∷ [])
+
 -- it is tied to the book with these stories and timers, where its waits, its permits and its rounds are
-pub waits_on_tied : (b : Book) (t : Inner) (p count free : ℕ) (g : ℕ → Story) (noted timers : List Purpose) (letting : List ℕ) → is_waiting_at t.requests p ≡ true → AreEased b.story g (name_at t.requests p) → (g (name_at t.requests p)).permits ≡ count
+pub waits_on_tied : (b : Book) (t : Inner) (p count free : ℕ) (g : ℕ → Story) (noted timers : List Purpose) (letting : List ℕ) → is_ready t.life ≡ true → is_waiting_at t.requests p ≡ true → AreEased b.story g (name_at t.requests p) → (g (name_at t.requests p)).permits ≡ count
     → TiedNumbers (record b { story = g; timers = noted }) (waits_on t p count free timers letting) → (let requests = with_permits t.requests p progress.Begun count in
     TiedWaits g requests t.life t.fresh t.moved → TiedPermits g b.submissions requests t.link t.limit free letting → TiedRounds (has_generations b) g requests (is_ready t.life) t.fresh t.rounds → Tied b t
     → Tied (record b { story = g; timers = noted }) (waits_on t p count free timers letting))
-waits_on_tied b t p count free g noted timers letting w eased has numbers waits permits rounds h = record {
+waits_on_tied b t p count free g noted timers letting ready w eased has numbers waits permits rounds h = record {
   numbers = numbers;
   others = h.others;
   notices = h.notices;
@@ -324,6 +324,7 @@ waits_on_tied b t p count free g noted timers letting w eased has numbers waits 
   waits = waits;
   permits = permits;
   rounds = rounds;
+  early = λ unready. absurd (not_both (is_ready t.life) unready ready);
   late = λ m o e. h.late m (sym (test_kept is_open_progress t.requests p count m refl w) ∙ o)
       (sym (eased.each (name_at t.requests m)).overdue ∙ ap (λ n. (g n).overdue) (sym (name_with t.requests p progress.Begun count m)) ∙ e);
 }
@@ -334,14 +335,14 @@ pub record AreStill (f g : ℕ → Story) : Type 0 where
   pub rounded : SameRounds f g
 
 -- so it is while it is let in
-let_tied : (b : Book) (t : Inner) (p count free : ℕ) (g : ℕ → Story) (noted timers : List Purpose) → is_waiting_at t.requests p ≡ true → HasBegun t p → ((m : ℕ) → IsIn m t.letting → p ≡ m) → AreEased b.story g (name_at t.requests p) → AreStill b.story g
+let_tied : (b : Book) (t : Inner) (p count free : ℕ) (g : ℕ → Story) (noted timers : List Purpose) → is_ready t.life ≡ true → is_waiting_at t.requests p ≡ true → HasBegun t p → ((m : ℕ) → IsIn m t.letting → p ≡ m) → AreEased b.story g (name_at t.requests p) → AreStill b.story g
     → (g (name_at t.requests p)).permits ≡ count → ((k : ℕ) → t.limit ≡ Some k → permits_held g t.link b.submissions + free ≡ k) → TiedNumbers (record b { story = g; timers = noted }) (lets t p count free timers) → Tied b t
     → Tied (record b { story = g; timers = noted }) (lets t p count free timers)
-let_tied b t p count free g noted timers w begun alone eased still has sum numbers h =
+let_tied b t p count free g noted timers ready w begun alone eased still has sum numbers h =
     let o = waiting_open t.requests p w in
-    waits_on_tied b t p count free g noted timers (p ∷ []) w eased has numbers (waits_let b.story g t.requests t.life t.fresh t.moved p count w still.waiting h.waits)
+    waits_on_tied b t p count free g noted timers (p ∷ []) ready w eased has numbers (waits_let b.story g t.requests t.life t.fresh t.moved p count w still.waiting h.waits)
     (permits_eased b.story g t.table b.submissions t.requests t.link t.limit t.free free t.letting p count h.names w alone eased sum h.permits)
-    (rounds_with b.story g t.requests t.fresh p progress.Begun count (there_within is_waiting t.requests p w) refl still.rounded (λ shows open. h.rounds.begun p shows o (begun shows)) h.rounds) h
+    (rounds_with b.story g t.requests t.fresh p progress.Begun count (there_within is_waiting t.requests p w) refl still.rounded (λ shows unclosed. h.rounds.begun p shows o (begun shows)) h.rounds) h
 
 -- whose step is first
 --
@@ -444,9 +445,9 @@ still_at f n c waits rounds = record {
 }
 
 -- what it takes is shown
-take_tied : (b : Book) (t : Inner) (p count : ℕ) → is_waiting_at t.requests p ≡ true → HasBegun t p → t.letting ≡ [] → count ≤ t.free → Tied b t
+take_tied : (b : Book) (t : Inner) (p count : ℕ) → is_ready t.life ≡ true → is_waiting_at t.requests p ≡ true → HasBegun t p → t.letting ≡ [] → count ≤ t.free → Tied b t
     → Tied (entered b (action.Took (owner.Try (name_at t.requests p) 0) t.link count)) (lets t p count (t.free - count) t.timers)
-take_tied b t p count w begun alone most h =
+take_tied b t p count ready w begun alone most h =
     let n = name_at t.requests p in
     let within = there_within is_waiting t.requests p w in
     let g : ℕ → Story = λ m. if_own (n == m) (holds (b.story m) count) (b.story m) in
@@ -456,7 +457,7 @@ take_tied b t p count w begun alone most h =
     let on = r.on (waiting_open t.requests p w) in
     let none = h.permits.none p w (λ i. subst (IsIn p) alone i) in
     let known : n < b.submissions = (let l = name_within t.table t.requests p h.names within in let e = h.numbers.submissions in omega arith) in
-    let_tied b t p count (t.free - count) g b.timers t.timers w begun (λ m i. absurd (subst (IsIn m) alone i)) eased (still_at b.story n (λ s. holds s count) (λ m. refl) (λ m. refl)) (ap (λ (s : Story). s.permits) own)
+    let_tied b t p count (t.free - count) g b.timers t.timers ready w begun (λ m i. absurd (subst (IsIn m) alone i)) eased (still_at b.story n (λ s. holds s count) (λ m. refl) (λ m. refl)) (ap (λ (s : Story). s.permits) own)
     (λ k e.
     let was = h.permits.counted k e in
     let change = held_changed b.story g t.link b.submissions n known (λ m o. ap (permits_on t.link) (eased.others m (λ x. o (sym x)))) in
@@ -466,13 +467,13 @@ take_tied b t p count w begun alone most h =
     (numbers_kept b b.link g b.tracked b.errors t t.life (t.free - count) (with_permits t.requests p progress.Begun count) t.waiting t.admitted t.fresh t.moved (p ∷ []) t.pending t.started h.numbers.unrepeated h.numbers) h
 
 -- where permits aren't counted nothing is
-free_tied : (b : Book) (t : Inner) (p : ℕ) → is_waiting_at t.requests p ≡ true → HasBegun t p → t.letting ≡ [] → t.limit ≡ None → Tied b t → Tied b (lets t p 0 (t.free - 0) t.timers)
-free_tied b t p w begun alone e h =
+free_tied : (b : Book) (t : Inner) (p : ℕ) → is_ready t.life ≡ true → is_waiting_at t.requests p ≡ true → HasBegun t p → t.letting ≡ [] → t.limit ≡ None → Tied b t → Tied b (lets t p 0 (t.free - 0) t.timers)
+free_tied b t p ready w begun alone e h =
     let n = name_at t.requests p in
     let within = there_within is_waiting t.requests p w in
     let r = request_story b t p h within in
     let none = h.permits.none p w (λ i. subst (IsIn p) alone i) in
-    let_tied b t p 0 (t.free - 0) b.story b.timers t.timers w begun (λ m i. absurd (subst (IsIn m) alone i)) (none_eased b.story n) (record { waiting = λ m. refl; rounded = λ m. refl }) (r.permits_is ∙ none.0)
+    let_tied b t p 0 (t.free - 0) b.story b.timers t.timers ready w begun (λ m i. absurd (subst (IsIn m) alone i)) (none_eased b.story n) (record { waiting = λ m. refl; rounded = λ m. refl }) (r.permits_is ∙ none.0)
     (λ k x. (let no_limit : ◌≡◌ {A = Option ℕ} None (Some k) = sym e ∙ x in cc))
     (numbers_kept b b.link b.story b.tracked b.errors t t.life (t.free - 0) (with_permits t.requests p progress.Begun 0) t.waiting t.admitted t.fresh t.moved (p ∷ []) t.pending t.started h.numbers.unrepeated h.numbers) h
 
@@ -502,9 +503,9 @@ may_time b t link q qs number ms o h ends counted has time none =
     }
 
 -- and is
-ask_tied : (b : Book) (t : Inner) (p number ms : ℕ) → is_waiting_at t.requests p ≡ true → HasBegun t p → ((m : ℕ) → IsIn m t.letting → p ≡ m) → Tied b t
+ask_tied : (b : Book) (t : Inner) (p number ms : ℕ) → is_ready t.life ≡ true → is_waiting_at t.requests p ≡ true → HasBegun t p → ((m : ℕ) → IsIn m t.letting → p ≡ m) → Tied b t
     → Tied (entered b (action.Timer number ms (purpose.Response (owner.Try (name_at t.requests p) 0)))) (lets t p (permits_at t.requests p) t.free (t.timers ++ purpose.Response (owner.Try (name_at t.requests p) 0) ∷ []))
-ask_tied b t p number ms w begun alone h =
+ask_tied b t p number ms ready w begun alone h =
     let n = name_at t.requests p in
     let within = there_within is_waiting t.requests p w in
     let what = purpose.Response (owner.Try n 0) in
@@ -516,7 +517,7 @@ ask_tied b t p number ms w begun alone h =
     let hold : (m : ℕ) → permits_on t.link (g m) ≡ permits_on t.link (b.story m) = λ m.
     chosen (λ (x : Story). permits_on t.link x ≡ permits_on t.link (b.story m)) (n == m) (clocked (b.story m) number) (b.story m) (λ t. refl) (λ f. refl) in
     let k = numbers_kept b b.link g b.tracked b.errors t t.life t.free (with_permits t.requests p progress.Begun (permits_at t.requests p)) t.waiting t.admitted t.fresh t.moved (p ∷ []) t.pending t.started h.numbers.unrepeated h.numbers in
-    let_tied b t p (permits_at t.requests p) t.free g (b.timers ++ what ∷ []) (t.timers ++ what ∷ []) w begun alone eased (still_at b.story n (λ s. clocked s number) (λ m. refl) (λ m. refl)) (ap (λ (s : Story). s.permits) own ∙ r.permits_is)
+    let_tied b t p (permits_at t.requests p) t.free g (b.timers ++ what ∷ []) (t.timers ++ what ∷ []) ready w begun alone eased (still_at b.story n (λ s. clocked s number) (λ m. refl) (λ m. refl)) (ap (λ (s : Story). s.permits) own ∙ r.permits_is)
     (λ k e. ap (λ x. x + t.free) (held_same b.story g t.link b.submissions (λ m l. hold m)) ∙ h.permits.counted k e)
     (record {
       turns = k.turns;
@@ -579,7 +580,7 @@ some_taken before f acts conn started link q qs k o e some h =
     let after = lets t p count (conn.free - count) t.timers in
     let first : IsGoing (trace ++ taken ∷ []) after = going_more trace taken after h.sound.stands
     (refl, may_take b t link q qs k o refl e some h.sound.tied h.ended)
-    (take_tied b t p count o.is_waiting o.begun refl most.0 h.sound.tied)
+    (take_tied b t p count (ap is_ready o.life) o.is_waiting o.begun refl most.0 h.sound.tied)
     h.ended h.renewed in
     let there = subst (λ (x : List Action). IsGoing x after) (sym (shown_more before f.single.link (length f.timers) (length f.sources) acts a)) first in
     let book_is = book_of_more before f acts a in
@@ -601,7 +602,7 @@ none_taken : (before : List Action) (f : Core) (acts : List LinkAct) (conn : Mul
 none_taken before f acts conn started link q qs o e h =
     let t = seen f acts conn [] started in
     record {
-      going = record { sound = record { stands = h.sound.stands; tied = free_tied (book (trace_of_acts before f acts)) t q.number o.is_waiting o.begun refl e h.sound.tied }; ended = h.ended; renewed = h.renewed };
+      going = record { sound = record { stands = h.sound.stands; tied = free_tied (book (trace_of_acts before f acts)) t q.number (ap is_ready o.life) o.is_waiting o.begun refl e h.sound.tied }; ended = h.ended; renewed = h.renewed };
       has = ap (λ (x : Option ℕ). is_none x || nat_lt 0 ((book (trace_of_acts before f acts)).story (name_at conn.requests q.number)).permits) e;
       none = (h.sound.tied.permits.none q.number o.is_waiting (λ i. i)).1;
       sourced = refl;
@@ -677,7 +678,7 @@ let_timed before f t link q qs count ms acts o e same h =
     let may = may_time b now link q qs number ms opening h.going.sound.tied h.going.ended (sym (length-append f.timers (timers_of f.single.link acts)))
     (ap (λ m. is_none t.limit || nat_lt 0 (b.story m).permits) named ∙ h.has) e (ap (λ m. (b.story m).clock) named ∙ h.none) in
     let stands : MayTime b number ms what = subst (λ m. MayTime b number ms (purpose.Response (owner.Try m 0))) named may in
-    let asked = ask_tied b now p number ms opening.is_waiting opening.begun alone h.going.sound.tied in
+    let asked = ask_tied b now p number ms (ap is_ready o.life) opening.is_waiting opening.begun alone h.going.sound.tied in
     let again = permits_twice t.requests p progress.Begun progress.Begun count (permits_at now.requests p) ∙ ap (with_permits t.requests p progress.Begun) (permits_with t.requests p progress.Begun count within) in
     let after = lets t p count (t.free - count) (timers ++ what ∷ []) in
     let tied : Tied (entered b timer) after =

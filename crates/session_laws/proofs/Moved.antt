@@ -32,7 +32,7 @@ use Rattle.session_laws.proofs.Going.{IsGoing, HasRenewed}
 use Rattle.session_laws.proofs.InLine.{kept_ids}
 use Rattle.session_laws.proofs.Names.{open_within, with_other, with_then}
 use Rattle.session_laws.proofs.Numbers.{IsIn, Rising, rising_right, requests_in}
-use Rattle.session_laws.proofs.Passes.{IsDone, IsSeated, IsUp, admitted_done, moved_up_seated, moved_up_waits, moving, started_keeps, started_up, no_room, rounds_done}
+use Rattle.session_laws.proofs.Passes.{IsDone, IsSeated, IsUp, admitted_done, moved_up_seated, moved_up_waits, moving, started_keeps, started_up, found_full, rounds_done}
 use Rattle.session_laws.proofs.Watches.{setting_begun}
 use Rattle.session_laws.proofs.Settle.{Holds, answered_leaves, failed_leaves, seen, trace_of_acts}
 use Rattle.session_laws.proofs.States.{IsFit, IsFitIn, IsStill, AreBegun}
@@ -77,11 +77,11 @@ up_moved before f w done begun =
       started = h.started;
       holds = h.going.sound;
       ended = h.going.ended;
-      fit = record { wanting = λ link e. absurd (not_wanting_too c.life h.link link h.life e); setup = λ link u e. absurd (not_both_lives c.life h.link link u h.life e); link = λ link e. subst (IsFit c.size c.boundary) (one_link c.life h.link link h.life e) h.fit; none = λ no. absurd (no h.link h.life); lasts = λ x y. (let one : true ≡ false = sym (ap is_ready h.life) ∙ x in cc) };
+      fit = record { wanting = λ link e. absurd (not_wanting_too c.life h.link link h.life e); setup = λ link u e. absurd (not_both_lives c.life h.link link u h.life e); link = λ link e. subst (IsFit c.size c.boundary) (one_link c.life h.link link h.life e) h.fit; none = λ no. absurd (no h.link h.life) };
       still = record {
         setup = λ link u e. absurd (not_both_lives c.life h.link link u h.life e);
         held = λ link e. subst (λ (x : LinkState). (x.queue ≡ []) ⊎ (holds_back x ≡ true)) (one_link c.life h.link link h.life e) h.held;
-        full = λ link e. elim done.seated.full [ inl empty ↦ inl empty | inr none ↦ inr (no_room c link e none) ];
+        full = λ link e. found_full c link e done.seated.full;
         renewed = h.going.renewed;
         waiting = λ link e. done.none;
         begun = begun;
@@ -251,7 +251,6 @@ setting_moved before f w started link greeting life h =
         setup = λ x u e. subst (IsFit c.size c.boundary) (one_setting c.life begun.link x greeting u begun.life e) begun.fit;
         link = λ x e. absurd (down x e);
         none = λ no. begun.admitted;
-        lasts = λ x y. (started_keeps w (SettingUp link greeting)).last ∙ h.fit.lasts (ap is_ready life) (ap has_ended life);
       };
       still = record {
         setup = λ x u e. subst (λ (y : LinkState). (y.queue ≡ []) ⊎ (holds_back y ≡ true)) (one_setting c.life begun.link x greeting u begun.life e) begun.held;
@@ -337,7 +336,7 @@ over_moved before f w e started over h =
       started = started;
       holds = done.holds;
       ended = ends.0;
-      fit = record { wanting = λ link r. absurd (over_wanting link (sym done.over ∙ r)); setup = λ link u r. absurd (over_setting link u (sym done.over ∙ r)); link = λ link r. absurd (down link r); none = λ no. done.none_admitted; lasts = λ x y. (let one : true ≡ false = sym (ap has_ended done.over) ∙ y in cc) };
+      fit = record { wanting = λ link r. absurd (over_wanting link (sym done.over ∙ r)); setup = λ link u r. absurd (over_setting link u (sym done.over ∙ r)); link = λ link r. absurd (down link r); none = λ no. done.none_admitted };
       still = record { setup = λ link u r. absurd (over_setting link u (sym done.over ∙ r)); held = λ link r. absurd (down link r); full = λ link r. absurd (down link r); renewed = λ link r. absurd (down link r); waiting = λ link r. absurd (down link r); begun = λ shows up. absurd (not_both (is_ready u.conn.life) (ap is_ready done.over) up); none_waits = λ no. done.none_waits };
       seats = λ p i k. absurd (subst (λ (x : Life). IsIn p (queue_ids (link_in x).queue)) done.over k);
     })

@@ -266,7 +266,7 @@ request_not b t p h within = few_not p (let few = h.names.few in let all = h.num
 
 -- a link that was never asked for isn't put into monitor mode
 resting_unwatched : (l : Ledger) (created : ℕ) (life : Life) → is_resting life ≡ true → TiedLife l created life → is_watching l.hearing ≡ false
-resting_unwatched l created Resting rests h = ap (λ (x : Ledger). is_watching x.hearing) h.3
+resting_unwatched l created Resting rests h = h.3
 resting_unwatched l created Dialing rests h = cc
 resting_unwatched l created (Wanting link) rests h = cc
 resting_unwatched l created (SettingUp link greeting) rests h = cc

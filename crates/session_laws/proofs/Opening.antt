@@ -12,12 +12,11 @@ use Rattle.driver_model.specs.declared.config.Config.{Config}
 use Rattle.driver_model.specs.declared.config.Config.TheVariants as variant
 use Rattle.driver_model.specs.declared.kind.SessionKind.TheVariants as kind
 use Rattle.driver_model.specs.Config.{is_lazy as waits_for_use}
-use Rattle.driver_model.specs.Config.{address, manager_of, boundary, kind_of, buffer_fault, buffer_size, connect_timeout, response_timeout, room_fault, told_info, hearing_of, hearing_in, permits, wants_credentials}
+use Rattle.driver_model.specs.Config.{address, manager_of, buffer_fault, buffer_size, connect_timeout, response_timeout, room_fault, told_info, hearing_of, hearing_in, permits, wants_credentials}
 use Rattle.driver_model.specs.declared.action.Action.{Action}
 use Rattle.driver_model.specs.declared.action.Purpose.{Purpose}
 use Rattle.driver_model.specs.declared.action.Purpose.TheVariants as purpose
 use Rattle.link_laws.proofs.TiedLink.{asked_tied, fresh_tied}
-use Rattle.mux_conn.specs.Turn.{dialing}
 use Rattle.mux_conn.specs.declared.life.Life.TheVariants.{Dialing}
 use Rattle.shared_session.specs.Replay.{IsSound, begun_as, connect_asked, connect_timers, first_link, opening_core, opening_actions, single_core, timer_asked, as_managed}
 use Rattle.shared_session.proofs.Plain.{plain_opening}
@@ -37,8 +36,7 @@ use Rattle.session_laws.proofs.Tied.{AreAimed, IsAim, IsAside, Tied, TiedLines, 
 use Rattle.session_laws.proofs.Unrepeated.{sound_repeats_not}
 use Rattle.session_laws.proofs.Waits.{IsQuiet}
 use Rattle.session_laws.proofs.Write.{is_written}
-use Rattle.mux_conn.specs.Renewals.{no_renewal}
-use Rattle.driver_model.specs.Hearing.{hears_pushes, is_watching}
+use Rattle.driver_model.specs.Hearing.{is_watching}
 use Rattle.driver_model.specs.declared.hearing.Hearing.{Hearing}
 use Rattle.driver_model.proofs.Sound.{has_address, is_roomy}
 
@@ -225,7 +223,8 @@ opening_tied config word info timeout plain sound some is = record {
   told = λ e. record { told = λ n is none on. cc; here = λ p i. absurd i };
   waits = opening_waits;
   permits = opening_permits (permits config);
-  rounds = record { rounds_is = ap is_some (no_settings (Some config)); unbegun = λ p u. cc u; begun = λ p r o u. cc o; new = λ p r up u. cc u };
+  rounds = record { rounds_is = ap is_some (no_settings config plain); unbegun = λ p u. cc; begun = λ p r o u. cc; new = λ p r up u. cc };
+  early = λ unready alive p o. cc;
   late = λ p o e. cc;
 }
 
@@ -331,7 +330,7 @@ opened_between config word info timeout none sound at some is =
     let conn = c.single.connection in
     let t = inner c [] in
     let tied = opening_tied config word info timeout none sound some is in
-    let fit : IsFitIn conn = record { wanting = λ link e. cc; setup = λ link u e. cc; link = λ link e. cc; none = λ no. refl; lasts = λ u a. refl } in
+    let fit : IsFitIn conn = record { wanting = λ link e. cc; setup = λ link u e. cc; link = λ link e. cc; none = λ no. refl } in
     let still : IsStill conn = record { setup = λ link u e. cc; held = λ link e. cc; full = λ link e. cc; waiting = λ link e. cc; begun = λ shows up. cc; none_waits = λ e. refl; renewed = λ link e. cc } in
     let moved = is_moved b t tied refl (refl, refl) refl (opening_ends config word info timers) fit.link fit.none still.held still.full still.waiting still.none_waits fit.setup still.setup (λ p i. absurd i) still.renewed still.begun in
     let written = is_written b t tied moved refl in

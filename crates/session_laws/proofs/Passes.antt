@@ -1,5 +1,5 @@
 -- Requests are moved on a link that is up: each takes its place where the queue has room, and messages start.
-use Rattle.std.proofs.Common.{Bool, List, [], ap, append_assoc, arith, false, inl, inr, length, refl, subst, sym, true, ℕ, ◌+◌, ◌-◌, ◌++◌, ◌∙◌, ◌∷◌, ◌≡◌, ◌⊎◌, suc, ◌<◌}
+use Rattle.std.proofs.Common.{Bool, List, [], ap, append_assoc, arith, false, inl, inr, length, refl, subst, sym, true, ℕ, ◌+◌, ◌-◌, ◌++◌, ◌∙◌, ◌∷◌, ◌≡◌, ◌⊎◌, suc}
 use Rattle.std.proofs.lemmas.List.{append-nil, length_push}
 use Rattle.std.specs.Prelude.{not, ◌&&◌}
 use Rattle.containers.proofs.Choices.{chosen, if_true, not_both, not_le_from, both_left, both_right, by_test}
@@ -277,12 +277,16 @@ free_link : (c : MultiplexedConnection) (link : LinkState) → c.life ≡ Ready 
 free_link c link e room = not_full (is_full_beside link (in_front c.renewal)) (ap (λ (life : Life). has_room_at life (in_front c.renewal)) (sym e) ∙ room)
 
 -- where a connection that is up has no room, its queue is full
-pub no_room : (c : MultiplexedConnection) (link : LinkState) → c.life ≡ Ready link → has_room c ≡ false → is_full_beside link (in_front c.renewal) ≡ true
+no_room : (c : MultiplexedConnection) (link : LinkState) → c.life ≡ Ready link → has_room c ≡ false → is_full_beside link (in_front c.renewal) ≡ true
 no_room c link e none = full (is_full_beside link (in_front c.renewal)) (ap (λ (life : Life). has_room_at life (in_front c.renewal)) (sym e) ∙ none)
   where
     full : (x : Bool) → not x ≡ false → x ≡ true
     full true e = refl
     full false e = cc
+
+-- so where those that wait for a place still have found no room, they find it full
+pub found_full : (c : MultiplexedConnection) (link : LinkState) → c.life ≡ Ready link → (c.admitted ≡ []) ⊎ (has_room c ≡ false) → (c.admitted ≡ []) ⊎ (is_full_beside link (in_front c.renewal) ≡ true)
+found_full c link e found = elim found [ inl empty ↦ inl empty | inr none ↦ inr (no_room c link e none) ]
 
 -- one that waits for a place no longer
 gone_admitted : (before : List Action) (f : Core) (w : Work) (q : Waiting) (qs waiting : List Waiting) → IsUp before f w (q ∷ qs) waiting [] (kept_ids (q ∷ qs) waiting) → is_admitted_at w.conn.requests q.number ≡ false → IsUp before f w qs waiting [] (kept_ids qs waiting)
@@ -420,7 +424,7 @@ first_rounded before f w q qs s wt some =
     let within = there_within is_waiting w.conn.requests p wt in
     let first = first_early b t p (waiting_ids qs) h.going.sound.tied (running_of t h.link refl h.life h.fit h.seats)
     (subst (λ (x : LinkState). (x.queue ≡ []) ⊎ (holds_back x ≡ true)) (sym here) h.held)
-    (subst (λ (x : LinkState). (w.conn.admitted ≡ []) ⊎ (is_full_beside x (in_front w.conn.renewal) ≡ true)) (sym here) (elim s.full [ inl empty ↦ inl empty | inr none ↦ inr (no_room w.conn h.link h.life none) ])) refl in
+    (subst (λ (x : LinkState). (w.conn.admitted ≡ []) ⊎ (is_full_beside x (in_front w.conn.renewal) ≡ true)) (sym here) (found_full w.conn h.link h.life s.full)) refl in
     chosen (λ (x : Work). IsRounded before f x q qs) (w.conn.rounds && is_unbegun_at w.conn.requests p) (acted (progressed w p progress.Begun) (act.Round (name_at w.conn.requests p))) w
     (λ t1. record {
       seated = record { up = round_up before f w p w.conn.admitted (q ∷ qs) (waiting_ids (q ∷ qs)) h (both_left w.conn.rounds (is_unbegun_at w.conn.requests p) t1) (both_right w.conn.rounds (is_unbegun_at w.conn.requests p) t1) first; full = s.full };
@@ -476,7 +480,7 @@ letting_up before f w q qs r =
       fit = h.fit;
       seats = h.seats;
       held = h.held;
-      full = elim s.full [ inl empty ↦ inl empty | inr none ↦ inr (no_room w.conn h.link h.life none) ];
+      full = found_full w.conn h.link h.life s.full;
       renewed = h.going.renewed;
       waiting = refl;
       is_waiting = r.waits;
@@ -639,7 +643,7 @@ next_begins before f w lo p ps s =
     let first : is_unbegun_at requests p ≡ true → IsFirstToMove b (name_at requests p) = λ u.
     first_round b t p h.going.sound.tied (running_of t h.link refl h.life h.fit h.seats) refl
     (subst (λ (x : LinkState). (x.queue ≡ []) ⊎ (holds_back x ≡ true)) (sym here) h.held)
-    (subst (λ (x : LinkState). (w.conn.admitted ≡ []) ⊎ (is_full_beside x (in_front w.conn.renewal) ≡ true)) (sym here) (elim done.seated.full [ inl empty ↦ inl empty | inr none ↦ inr (no_room w.conn h.link h.life none) ])) done.none
+    (subst (λ (x : LinkState). (w.conn.admitted ≡ []) ⊎ (is_full_beside x (in_front w.conn.renewal) ≡ true)) (sym here) (found_full w.conn h.link h.life done.seated.full)) done.none
     (there_within is_unbegun requests p u)
     (λ m less. by_test (is_unbegun_at requests m) _
     (λ v. absurd (elim (s.among m v) [ inl same ↦ omega (arith, same) | inr i ↦ (let k = rising_in (suc p) ps (length requests) m s.rises.1 i in omega (arith, k.0)) ]))

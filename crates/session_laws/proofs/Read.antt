@@ -222,6 +222,7 @@ read_begins before c started word kind piece link untold h good k is e it r came
       told = λ n. subst (λ (x : Life). AreQueued b.story conn.requests c.single.link (link_in x)) e (h0.told (ap has_ended e));
       waits = queue_waits b.story conn.requests link read conn.fresh conn.moved (λ p i. i) (subst (λ (x : Life). TiedWaits b.story conn.requests x conn.fresh conn.moved) e h0.waits);
       rounds = subst (λ (x : Life). TiedRounds (has_generations b) b.story c.single.connection.requests (is_ready x) c.single.connection.fresh c.single.connection.rounds) e h.sound.tied.rounds;
+      early = λ up. cc;
       notices = heard_notices l piece it (hearing_in b.config) conn.hears r.heard untold u.up r.notices came_so h0.notices;
     }) in
     let book_is : entered b (turn_of c word kind) ≡ heard_book b c.turns word kind = turn_is b c.turns word kind (book_kind b c kind h0.numbers.timers k) in

@@ -69,7 +69,7 @@ use Rattle.session_laws.proofs.SetUp.{not_set_up}
 use Rattle.session_laws.proofs.Settle.{seen, trace_of_acts}
 use Rattle.session_laws.proofs.States.{Between, HasApplied, IsFit, IsFitIn}
 use Rattle.session_laws.proofs.Telling.{IsTelling, heard_readied, telling, told_holds, told_leaves}
-use Rattle.session_laws.proofs.Tied.{AreQueued, IsGreeting, IsSetUp, IsSettingUp, IsSetupDue, IsSetupSent, IsWatchDue, IsWatchSent, IsWatching, TiedCreds, TiedLife, TiedLines, TiedSetup, TiedWaits, greeter, greeting_at, has_ended, inner, link_in, owner_of, watch_queued}
+use Rattle.session_laws.proofs.Tied.{AreQueued, IsGreeting, IsSetUp, IsSettingUp, IsSetupDue, IsSetupSent, IsWatchDue, IsWatchSent, IsWatching, TiedCreds, TiedLife, TiedLines, TiedSetup, TiedWaits, greeter, greeting_at, has_ended, inner, link_in, owner_of, watch_queued, AreEarly}
 use Rattle.session_laws.proofs.Told.{retells, well_told}
 
 -- notices that all stand behind some message
@@ -84,7 +84,6 @@ fit_by c size bound link size_is bound_is life h = record {
   setup = λ x u same. (let no : Ready link ≡ SettingUp x u = sym life ∙ same in cc);
   link = λ x same. subst (λ n. IsFit n c.boundary x) (sym size_is) (subst (λ n. IsFit size n x) (sym bound_is) (h x (sym life ∙ same)));
   none = λ none. absurd (none link life);
-  lasts = λ x y. (let one : true ≡ false = sym (ap is_ready life) ∙ x in cc);
 }
 
 -- which greeting it is
@@ -243,6 +242,7 @@ setup_read_as before c started word kind piece link greeting g h good k is e = b
           told = λ z. subst (λ (x : Life). AreQueued b.story conn.requests c.single.link (link_in x)) e (h.sound.tied.told (ap has_ended e));
           waits = setting_waits b.story conn.requests link next greeting now conn.fresh conn.moved (subst (λ (x : Life). TiedWaits b.story conn.requests x conn.fresh conn.moved) e h.sound.tied.waits);
           rounds = rounds_down b.story c.single.connection.requests c.single.connection.fresh c.single.connection.fresh refl h.sound.tied.rounds;
+          early = subst (AreEarly c.single.connection.requests) e h.sound.tied.early;
           notices = subst (λ (y : Ledger). PushesOf (hearing_in b.config) conn.hears y) (sym same) (quiet r);
         })
         (ap ending same ∙ ending_setting after next now s.up said ∙ left_if (is_unreadable after) _ None (unreadable r false f))

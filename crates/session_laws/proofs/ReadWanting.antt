@@ -1,5 +1,5 @@
 -- Bytes come on a link whose setup waits for credentials: they answer nothing, and those that begin no value end it.
-use Rattle.std.proofs.Common.{◌≡◌, ℕ, ◌≤◌, Bool, true, false, if◌then◌else◌, List, [], ◌∷◌, ◌++◌, length, Some, None, sym, ap, ◌∙◌, subst, arith, inl}
+use Rattle.std.proofs.Common.{◌≡◌, ℕ, ◌≤◌, Bool, true, false, if◌then◌else◌, List, [], ◌∷◌, ◌++◌, length, Some, None, refl, sym, ap, ◌∙◌, subst, arith, inl}
 use Rattle.containers.proofs.Choices.{chosen, taken_if, left_if}
 use Rattle.redis_error.specs.declared.redis_error.RedisError.{RedisError}
 use Rattle.redis_error.specs.declared.redis_error.RedisError.TheVariants as error
@@ -25,7 +25,7 @@ use Rattle.legal_trace.specs.Ledger.{Ledger, by_opening, bytes_came, ending, is_
 use Rattle.legal_trace.specs.Book.{Book, book, hearing_in}
 use Rattle.legal_trace.proofs.Came.{Came, bytes_are}
 use Rattle.session_laws.proofs.Rounded.{rounds_down}
-use Rattle.session_laws.proofs.Tied.{AreQueued, TiedCreds, TiedLife, TiedLines, TiedSetup, TiedWaits, has_ended, inner, link_in}
+use Rattle.session_laws.proofs.Tied.{AreQueued, TiedCreds, TiedLife, TiedLines, TiedSetup, TiedWaits, has_ended, inner, link_in, AreEarly}
 use Rattle.session_laws.proofs.Creds.{asked_sourced}
 use Rattle.session_laws.proofs.States.{Between, HasApplied}
 use Rattle.session_laws.proofs.Said.{PushesOf, ending_wanting}
@@ -126,6 +126,7 @@ wanting_reads before c started word kind piece link h good k is e it =
           told = λ z. subst (λ (x : Life). AreQueued b.story c.single.connection.requests c.single.link (link_in x)) e (h.sound.tied.told (ap has_ended e));
           waits = wanting_waits b.story c.single.connection.requests link read c.single.connection.fresh c.single.connection.moved (subst (λ (x : Life). TiedWaits b.story c.single.connection.requests x c.single.connection.fresh c.single.connection.moved) e h.sound.tied.waits);
           rounds = rounds_down b.story c.single.connection.requests c.single.connection.fresh c.single.connection.fresh refl h.sound.tied.rounds;
+          early = subst (AreEarly c.single.connection.requests) e h.sound.tied.early;
           notices = subst (λ (y : Ledger). PushesOf (hearing_in b.config) c.single.connection.hears y) (sym same) notices;
         })
         (ap ending same ∙ must ∙ left_if (is_unreadable after) (Some (by_opening error.Closed)) None (spoiled false f))

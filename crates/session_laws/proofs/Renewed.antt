@@ -45,7 +45,7 @@ over_renewal front f conn r e started over within wanted waiting asked h =
       ended = h.ended;
       began = h.began;
       moved = h.moved;
-      fit = record { wanting = h.fit.wanting; setup = h.fit.setup; link = h.fit.link; none = h.fit.none; lasts = h.fit.lasts };
+      fit = record { wanting = h.fit.wanting; setup = h.fit.setup; link = h.fit.link; none = h.fit.none };
     }
 
 -- a link that is ready
@@ -83,6 +83,7 @@ ready_renewal before c started word kind n link renewals over lost r h good k is
       told = h0.told;
       waits = h0.waits;
       rounds = h0.rounds;
+      early = h0.early;
       notices = renoticed (tame_between before c started h) h0.notices;
     }) in
     let turn_is = heard_is b c.turns word kind (book_kind b c kind h0.numbers.timers k) in
@@ -94,7 +95,7 @@ ready_renewal before c started word kind n link renewals over lost r h good k is
       ended = none_ends (book (trace_of_acts front f [])) t holds.tied (ap ending ledger ∙ ends_where_set after u.up well ∙ calm);
       began = λ z. absurd (omega arith);
       moved = h.moved;
-      fit = record { wanting = h.fit.wanting; setup = h.fit.setup; link = h.fit.link; none = h.fit.none; lasts = h.fit.lasts };
+      fit = record { wanting = h.fit.wanting; setup = h.fit.setup; link = h.fit.link; none = h.fit.none };
     }
 
 -- new credentials come

@@ -145,6 +145,7 @@ time_tied b t link number ms none due within h =
       waits = h.waits;
       permits = h.permits;
       rounds = h.rounds;
+      early = h.early;
       late = h.late;
     })
 
@@ -290,6 +291,7 @@ auth_tied b t link c cs due pending waits h =
       waits = queue_waits b.story t.requests link (begun link q) t.fresh t.moved (λ p i. i) h.waits;
       permits = h.permits;
       rounds = h.rounds;
+      early = h.early;
       late = h.late;
     })
 

@@ -9,11 +9,12 @@ use Rattle.mux_conn.specs.Requests.{if_there, is_admitted, is_admitted_at, is_op
 use Rattle.std.specs.Prelude.{Option, None, Some, slice_get}
 use Rattle.legal_trace.specs.Book.{Book, has_generations}
 use Rattle.legal_trace.specs.Story.{Story}
+use Rattle.mux_conn.specs.declared.life.Life.{Life}
 use Rattle.session_laws.proofs.Closing.{Closes, with_closed}
 use Rattle.session_laws.proofs.Further.{IsLonger, IsNext, SameBefore, before_or_new, story_at, there_longer}
 use Rattle.session_laws.proofs.Names.{name_with, with_other, with_same, with_then}
 use Rattle.session_laws.proofs.Numbers.{IsIn}
-use Rattle.session_laws.proofs.Tied.{Inner, Tied, TiedNames, TiedRounds}
+use Rattle.session_laws.proofs.Tied.{Inner, Tied, TiedNames, TiedRounds, AreEarly}
 
 -- of stories whose rounds are the same
 abbrev pub SameRounds : (ℕ → Story) → (ℕ → Story) → Type 0
@@ -85,6 +86,20 @@ rounds_longer table story after requests more fresh later names same longer no_f
   where
     still : (p : ℕ) → p < length requests → (after (name_at more p)).rounded ≡ (story (name_at requests p)).rounded
     still p old = ap (λ (s : Story). s.rounded) (story_at table story after requests more p names same longer old)
+
+-- until the link is up and set up
+--
+-- a request is closed
+pub early_closed : (requests : List Request) (life : Life) (p : ℕ) → p < length requests → AreEarly requests life → AreEarly (with_permits requests p progress.Closed 0) life
+early_closed requests life p within h unready alive m o =
+    let k = with_then is_open requests p m progress.Closed 0 refl within o in
+    with_other is_unbegun requests p m progress.Closed 0 k.0 ∙ h unready alive m k.1
+
+-- perhaps one more came
+pub early_longer : (after : ℕ → Story) (requests more : List Request) (later : List ℕ) (life : Life) → IsLonger requests more → IsNext after requests more later → AreEarly requests life → AreEarly more life
+early_longer after requests more later life longer next h unready alive p o = before_or_new requests more p _
+    (λ old. there_longer is_unbegun requests more p longer old ∙ h unready alive p (sym (there_longer is_open requests more p longer old) ∙ o))
+    (λ past. by_test (is_unbegun_at more p) _ (λ u. u) (λ f. absurd (next.begun p o f past)))
 
 -- so the book says of a request whose round has begun, where rounds are shown
 pub has_begun : (b : Book) (t : Inner) (p : ℕ) → Tied b t → is_open_at t.requests p ≡ true → (t.rounds ≡ true → is_unbegun_at t.requests p ≡ false) → has_generations b ≡ true → (b.story (name_at t.requests p)).rounded ≡ true

@@ -1,24 +1,24 @@
 -- The round of a request begins.
-use Rattle.std.proofs.Common.{List, None, Option, Some, [], ap, false, inl, inr, length, refl, subst, sym, true, ℕ, ◌++◌, ◌<◌, ◌∙◌, ◌∷◌, ◌≡◌, ◌≢◌, ◌⊎◌}
-use Rattle.std.specs.Prelude.{◌==◌, Bool, if◌then◌else◌}
+use Rattle.std.proofs.Common.{List, None, Option, Some, [], ap, false, inl, inr, length, refl, subst, sym, true, ℕ, ◌++◌, ◌<◌, ◌∙◌, ◌∷◌, ◌≡◌, ◌≢◌}
+use Rattle.std.specs.Prelude.{◌==◌}
 use Rattle.containers.proofs.Choices.{by_test, chosen, eq_from, eq_test, left_if, ne_from, ne_test, not_both, taken_if}
 use Rattle.driver_model.specs.declared.action.Action.{Action}
 use Rattle.driver_model.specs.declared.action.Action.TheVariants as action
 use Rattle.driver_model.specs.declared.action.Owner.TheVariants as owner
-use Rattle.driver_model.specs.declared.action.WaitKind.{WaitKind}
 use Rattle.driver_model.specs.declared.action.WaitKind.TheVariants as wait
 use Rattle.link_laws.specs.Settles.{awaited_ids}
 use Rattle.mux_conn.specs.Connection.{is_ready}
 use Rattle.mux_conn.specs.declared.life.Life.{Life}
 use Rattle.mux_conn.specs.declared.request.Progress.TheVariants as progress
 use Rattle.mux_conn.specs.declared.request.Request.{Request}
-use Rattle.mux_conn.specs.Requests.{at_progress, is_admitted, is_admitted_at, is_open, is_open_at, is_placed, is_placed_at, is_unbegun, is_unbegun_at, is_waiting, is_waiting_at, name_at, permits_at}
+use Rattle.mux_conn.specs.Requests.{at_progress, is_admitted, is_admitted_at, is_open, is_placed, is_placed_at, is_unbegun, is_unbegun_at, is_waiting, is_waiting_at, name_at, permits_at}
 use Rattle.legal_trace.specs.Book.{Book, book, entered, has_generations, if_own}
 use Rattle.legal_trace.specs.Legal.{IsFirstToMove, MayRound, NoneEnds}
 use Rattle.legal_trace.specs.Steps.{is_let_in}
 use Rattle.legal_trace.specs.Story.{Story, rounds}
 use Rattle.session_laws.proofs.Ahead.{IsRunning, kept_unstarted, round_step, waiting_open}
 use Rattle.session_laws.proofs.Closing.{one_of}
+use Rattle.session_laws.proofs.Further.{no_wait}
 use Rattle.session_laws.proofs.Going.{HasRenewed, IsGoing, begun_up, going_more}
 use Rattle.session_laws.proofs.LetIn.{AreEased, eased_at, test_kept, waits_on_tied}
 use Rattle.session_laws.proofs.Names.{length_still, name_still, permits_still, same_name, there_other, there_then, there_within}
@@ -65,10 +65,6 @@ own_shown : (story : ℕ → Story) (requests : List Request) (p : ℕ) → show
 own_shown story requests p =
     let n = name_at requests p in
     ap (λ k. (rounds_at n story k).waiting) (name_still requests p progress.Begun p) ∙ ap (λ (s : Story). s.waiting) (round_own story n)
-
--- nothing is no wait
-no_wait : (x : Option WaitKind) (kind : WaitKind) → x ≡ None → x ≢ Some kind
-no_wait x kind none e = let no : ◌≡◌ {A = Option WaitKind} None (Some kind) = sym none ∙ e in cc
 
 -- the waits, on a link that is up and set up: its own is to be shown anew
 round_waits : (b : Book) (t : Inner) (p : ℕ) → Tied b t → is_ready t.life ≡ true → is_unbegun_at t.requests p ≡ true → IsIn p t.fresh → TiedWaits (rounds_at (name_at t.requests p) b.story) (at_progress t.requests p progress.Begun) t.life t.fresh t.moved
@@ -164,7 +160,7 @@ round_tied b t p ready shows u h =
     let w = unbegun_waits requests p u in
     let g = rounds_at n b.story in
     let holding = λ (m : ℕ). chosen (IsHolding (b.story m)) (n == m) (rounds (b.story m)) (b.story m) (λ t1. record { link = refl; permits = refl; timeout = refl; clock = refl }) (λ f. holding_same (b.story m)) in
-    waits_on_tied b t p (permits_at requests p) t.free g b.timers t.timers t.letting w (round_eased b.story n)
+    waits_on_tied b t p (permits_at requests p) t.free g b.timers t.timers t.letting ready w (round_eased b.story n)
     (ap (λ (s : Story). s.permits) (round_own b.story n) ∙ (request_story b t p h (there_within is_waiting requests p w)).permits_is)
     (numbers_kept b b.link g b.tracked b.errors t t.life t.free (at_progress requests p progress.Begun) t.waiting t.admitted t.fresh t.moved t.letting t.pending t.started h.numbers.unrepeated h.numbers)
     (round_waits b t p h ready u (h.rounds.new p shows ready u))

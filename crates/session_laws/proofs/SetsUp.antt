@@ -225,6 +225,7 @@ set_up_tied b t link greeting due user h =
       waits = setting_waits b.story t.requests (with_queue link (q ∷ [])) (with_queue (begun link q) []) greeting greeting t.fresh t.moved h.waits;
       permits = h.permits;
       rounds = h.rounds;
+      early = h.early;
       late = h.late;
     })
 

@@ -308,6 +308,7 @@ renewal_tied b t r within wanted waiting tied h = record {
   waits = h.waits;
   permits = h.permits;
   rounds = h.rounds;
+  early = h.early;
   late = h.late;
 }
 

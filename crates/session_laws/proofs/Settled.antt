@@ -383,7 +383,7 @@ showing_unmoved before f w moved fresh started h = record {
   seats = h.seats;
   sound = h.sound;
   ended = h.ended;
-  fit = record { wanting = h.fit.wanting; setup = h.fit.setup; link = h.fit.link; none = h.fit.none; lasts = h.fit.lasts };
+  fit = record { wanting = h.fit.wanting; setup = h.fit.setup; link = h.fit.link; none = h.fit.none };
   still = record { setup = h.still.setup; held = h.still.held; full = h.still.full; renewed = h.still.renewed; waiting = h.still.waiting; begun = h.still.begun; none_waits = h.still.none_waits };
   offered = h.offered;
 }
@@ -394,7 +394,7 @@ showing_unfresh before f w moved fresh started h = record {
   seats = h.seats;
   sound = h.sound;
   ended = h.ended;
-  fit = record { wanting = h.fit.wanting; setup = h.fit.setup; link = h.fit.link; none = h.fit.none; lasts = h.fit.lasts };
+  fit = record { wanting = h.fit.wanting; setup = h.fit.setup; link = h.fit.link; none = h.fit.none };
   still = record { setup = h.still.setup; held = h.still.held; full = h.still.full; renewed = h.still.renewed; waiting = h.still.waiting; begun = h.still.begun; none_waits = h.still.none_waits };
   offered = h.offered;
 }

@@ -337,7 +337,7 @@ shown_creation created = record { before = λ e. cc; after = λ e none. absurd (
 -- how far the link has come. Where the connection has none, that which is to be its next was never asked for. Where it has ended, a
 -- submission without a message gets this error
 abbrev pub TiedLife : Ledger → ℕ → Life → Type 0
-TiedLife l created Resting = (l.asked ≡ false) × (l.up ≡ false) × (l.end ≡ None) × IsUnknown l
+TiedLife l created Resting = (l.asked ≡ false) × (l.up ≡ false) × (l.end ≡ None) × (is_watching l.hearing ≡ false)
 TiedLife l created Dialing = (l.asked ≡ true) × (l.up ≡ false) × (l.end ≡ None)
 TiedLife l created (Wanting link) = (l.asked ≡ true) × (l.up ≡ true) × (l.end ≡ None)
 TiedLife l created (SettingUp link greeting) = (l.asked ≡ true) × (l.up ≡ true) × (l.end ≡ None)
@@ -420,6 +420,10 @@ hearing_on (Wanting link) hears hearing there = refl
 hearing_on (SettingUp link greeting) hears hearing there = refl
 hearing_on (Ready link) hears hearing there = refl
 hearing_on (Ended e) hears hearing there = refl
+
+-- it is what the session hears
+pub hearing_there : (life : Life) (hears hearing : Hearing) → is_resting life ≡ false → hearing_at life hears hearing ≡ hears → hearing ≡ hears
+hearing_there life hears hearing there same = subst (λ (x : Hearing). x ≡ hears) (hearing_on life hears hearing there) same
 
 -- the credentials of a link come of no source, or they have come
 abbrev pub HasCredentials : Sourced → Type 0
@@ -745,6 +749,10 @@ pub record TiedRounds (comes : Bool) (story : ℕ → Story) (requests : List Re
   pub begun : (p : ℕ) → rounds ≡ true → is_open_at requests p ≡ true → is_unbegun_at requests p ≡ false → (story (name_at requests p)).rounded ≡ true
   pub new : (p : ℕ) → rounds ≡ true → ready ≡ true → is_unbegun_at requests p ≡ true → IsIn p fresh
 
+-- until the link is up and set up, the round of no open request has begun
+abbrev pub AreEarly : List Request → Life → Type 0
+AreEarly requests life = is_ready life ≡ false → has_ended life ≡ false → (p : ℕ) → is_open_at requests p ≡ true → is_unbegun_at requests p ≡ true
+
 -- an open submission whose time is over is to be answered
 abbrev pub AreLate : (ℕ → Story) → List Request → List ℕ → Type 0
 AreLate story requests pending = (p : ℕ) → is_open_at requests p ≡ true → (story (name_at requests p)).overdue ≡ true → IsIn p pending
@@ -771,6 +779,7 @@ pub record Tied (b : Book) (t : Inner) : Type 0 where
   pub waits : TiedWaits b.story t.requests t.life t.fresh t.moved
   pub permits : TiedPermits b.story b.submissions t.requests t.link t.limit t.free t.letting
   pub rounds : TiedRounds (has_generations b) b.story t.requests (is_ready t.life) t.fresh t.rounds
+  pub early : AreEarly t.requests t.life
   pub late : AreLate b.story t.requests t.pending
 
 -- the opening of the connection's link has failed in the turn that runs, and another attempt follows: the connection has no link any more
@@ -911,5 +920,6 @@ relined b t waiting admitted fresh moved pending h lines waits rounds late = rec
   waits = waits;
   permits = h.permits;
   rounds = rounds;
+  early = h.early;
   late = late;
 }

@@ -23,7 +23,7 @@ use Rattle.mux_conn.specs.declared.renewal.Renewal.{Renewal}
 use Rattle.session_laws.proofs.Rounded.{rounds_down}
 use Rattle.session_laws.proofs.Renewals.{renewal_alike}
 use Rattle.session_laws.proofs.Numbers.{IsIn}
-use Rattle.session_laws.proofs.Tied.{never_rests, carried, link_in, owner_of, whole_link, TiedLife, TiedLines, TiedSetup, AreQueued, TiedCreds, TiedWaits, has_ended, TiedRenewal, greeter, TiedRounds}
+use Rattle.session_laws.proofs.Tied.{never_rests, carried, link_in, owner_of, whole_link, TiedLife, TiedLines, TiedSetup, AreQueued, TiedCreds, TiedWaits, has_ended, TiedRenewal, greeter, TiedRounds, AreEarly}
 use Rattle.session_laws.proofs.States.{IsFit, Between, HasApplied}
 use Rattle.session_laws.proofs.Announce.{turn_of, turned, IsNewsKind}
 use Rattle.session_laws.proofs.Heard.{quiet_applied, ended_quiet, dialing_quiet, setting_waits, still_none, pushes_still, wanting_waits}
@@ -72,6 +72,7 @@ pub queue_waits : (story : ℕ → Story) (requests : List Request) (link after 
     → TiedWaits story requests (Ready after) fresh moved
 queue_waits story requests link after fresh moved same h = record {
   early = h.early;
+  backoff = λ p w d. cc;
   connect = λ p w d. cc;
   creds = λ p x w d. cc;
   setup = λ p x u w d. cc;
@@ -80,6 +81,7 @@ queue_waits story requests link after fresh moved same h = record {
   room = λ p i. h.room p (same p i);
   newer = h.newer;
   rising = h.rising;
+  no_backoff = λ p i w d. cc;
   no_connect = λ p i w d. cc;
   no_creds = λ p x i w d. cc;
   no_setup = λ p x u i w d. cc;
@@ -130,6 +132,7 @@ took_applied before c started word count kind h good k is can = by_life c.single
           told = λ n. subst (λ (x : Life). AreQueued b.story conn.requests c.single.link (link_in x)) e (h.sound.tied.told (ap has_ended e));
           waits = wanting_waits b.story conn.requests link (wrote_of link count) conn.fresh conn.moved (subst (λ (x : Life). TiedWaits b.story conn.requests x conn.fresh conn.moved) e h.sound.tied.waits);
           rounds = rounds_down b.story conn.requests conn.fresh conn.fresh refl h.sound.tied.rounds;
+          early = subst (AreEarly conn.requests) e h.sound.tied.early;
           notices = pushes_still before c started (took count) h (inl tt);
         })
         (took_no_end l c.turns count (still_none before c started h c.single.link)) (record {
@@ -137,7 +140,6 @@ took_applied before c started word count kind h good k is can = by_life c.single
           setup = λ x u r. cc;
           link = λ x r. cc;
           none = λ none. h.fit.none (λ x r. (let no : Wanting link ≡ Ready x = sym e ∙ r in cc));
-          lasts = λ x y. h.fit.lasts (ap is_ready e) (ap has_ended e);
         })
     by_life (SettingUp link greeting) e =
         let b = book before in
@@ -159,6 +161,7 @@ took_applied before c started word count kind h good k is can = by_life c.single
           told = λ n. subst (λ (x : Life). AreQueued b.story conn.requests c.single.link (link_in x)) e (h.sound.tied.told (ap has_ended e));
           waits = setting_waits b.story conn.requests link (wrote_of link count) greeting greeting conn.fresh conn.moved (subst (λ (x : Life). TiedWaits b.story conn.requests x conn.fresh conn.moved) e h.sound.tied.waits);
           rounds = rounds_down b.story conn.requests conn.fresh conn.fresh refl h.sound.tied.rounds;
+          early = subst (AreEarly conn.requests) e h.sound.tied.early;
           notices = pushes_still before c started (took count) h (inl tt);
         })
         (took_no_end l c.turns count (still_none before c started h c.single.link)) (record {
@@ -166,7 +169,6 @@ took_applied before c started word count kind h good k is can = by_life c.single
           setup = wrote_fit_set conn.size conn.boundary link count greeting (h.fit.setup link greeting e);
           link = λ x r. cc;
           none = λ none. h.fit.none (λ x r. (let no : SettingUp link greeting ≡ Ready x = sym e ∙ r in cc));
-          lasts = λ x y. h.fit.lasts (ap is_ready e) (ap has_ended e);
         })
     by_life (Ready link) e =
         let b = book before in
@@ -188,6 +190,7 @@ took_applied before c started word count kind h good k is can = by_life c.single
           told = λ n. subst (λ (x : Life). AreQueued b.story conn.requests c.single.link (link_in x)) e (h.sound.tied.told (ap has_ended e));
           waits = queue_waits b.story conn.requests link (wrote_of link count) conn.fresh conn.moved (λ p i. i) (subst (λ (x : Life). TiedWaits b.story conn.requests x conn.fresh conn.moved) e h.sound.tied.waits);
           rounds = subst (λ (x : Life). TiedRounds (has_generations b) b.story conn.requests (is_ready x) conn.fresh conn.rounds) e h.sound.tied.rounds;
+          early = λ up. cc;
           notices = pushes_still before c started (took count) h (inl tt);
         })
         (took_no_end l c.turns count (still_none before c started h c.single.link)) (record {
@@ -195,5 +198,4 @@ took_applied before c started word count kind h good k is can = by_life c.single
           setup = λ x u r. cc;
           link = wrote_fit conn.size conn.boundary link count (h.fit.link link e);
           none = λ none. absurd (none (wrote_of link count) refl);
-          lasts = λ x y. cc;
         })

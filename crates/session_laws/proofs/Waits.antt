@@ -188,6 +188,7 @@ wait_tied b t p kind moved fresh within h new waits =
       waits = waits;
       permits = permits_same b.story after b.submissions t.requests t.link t.limit t.free t.letting (waits_holding n kind b.story) h.permits;
       rounds = rounds_new after t.requests t.fresh fresh new (rounds_same b.story after t.requests t.fresh (waits_rounds n kind b.story) h.rounds);
+      early = h.early;
       late = λ q o late. h.late q o (sym (waits_late n kind b.story (name_at t.requests q)) ∙ late);
     }
 

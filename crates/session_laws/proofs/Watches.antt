@@ -148,6 +148,7 @@ watch_tied b t link due h =
       waits = setting_waits b.story t.requests (queued link) (watched link) greet.Monitor greet.Monitor t.fresh t.moved h.waits;
       permits = h.permits;
       rounds = h.rounds;
+      early = h.early;
       late = h.late;
     })
 

@@ -62,6 +62,7 @@ write_tied b t link h =
       waits = queue_waits b.story t.requests link (offered_of link) t.fresh t.moved (λ p i. i) h.waits;
       permits = h.permits;
       rounds = h.rounds;
+      early = h.early;
       late = h.late;
     })
 
@@ -92,6 +93,7 @@ write_set_tied b t link greeting h =
       waits = setting_waits b.story t.requests link (offered_of link) greeting greeting t.fresh t.moved h.waits;
       permits = h.permits;
       rounds = h.rounds;
+      early = h.early;
       late = h.late;
     })
 
@@ -153,7 +155,6 @@ write_shown before f w link life can h =
           setup = λ other u e. cc;
           link = λ other e. subst (IsFit w.conn.size w.conn.boundary) (same_link after other e) (record { sound = fit.sound; size_is = fit.size_is; bound_is = fit.bound_is; within = fit.within });
           none = λ none. absurd (none after refl);
-          lasts = λ x y. cc;
         };
         still = record {
           setup = λ other u e. cc;
@@ -193,7 +194,6 @@ write_set_shown before f w link greeting life can h =
           setup = λ other u e. subst (IsFit w.conn.size w.conn.boundary) (same_set after other greeting u e) (record { sound = fit.sound; size_is = fit.size_is; bound_is = fit.bound_is; within = fit.within });
           link = λ other e. cc;
           none = λ none. h.fit.none (λ other e. absurd (setting_not_ready w.conn.life link other greeting life e));
-          lasts = λ x y. h.fit.lasts (ap is_ready life) (ap has_ended life);
         };
         still = record {
           setup = λ other u e. subst (λ (x : LinkState). (x.queue ≡ []) ⊎ (holds_back x ≡ true)) (same_set after other greeting u e) (h.still.setup link greeting life);
