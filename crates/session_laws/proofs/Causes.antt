@@ -8,6 +8,7 @@ use Rattle.redis_error.specs.declared.redis_error.RedisError.{RedisError}
 use Rattle.redis_error.specs.Errors.{is_io}
 use Rattle.driver_model.specs.declared.outcome.Outcome.{Outcome}
 use Rattle.driver_model.specs.declared.outcome.Outcome.TheVariants as outcome
+use Rattle.driver_model.specs.News.{News}
 use Rattle.mux_conn.specs.declared.act.LinkAct.{LinkAct}
 use Rattle.mux_conn.specs.declared.act.LinkAct.TheVariants as act
 use Rattle.shared_session.specs.Generations as machine
@@ -17,7 +18,7 @@ use Rattle.legal_trace.specs.Ledger.{End, failure_in, is_fault, is_over}
 use Rattle.legal_trace.specs.Book.{Book, entered, entered_each, faults_in, info_in}
 use Rattle.legal_trace.specs.Legal.{AllStand, current_link, is_cause, is_caused, is_lost_in}
 use Rattle.legal_trace.proofs.Causes.{needs_link}
-use Rattle.session_laws.proofs.Lost.{IsNewEnd, IsOldEnd, new_kept, old_kept}
+use Rattle.session_laws.proofs.Lost.{IsNewEnd, IsOldEnd, heard_kept, new_kept, old_kept}
 use Rattle.session_laws.proofs.Tied.{AreCalm}
 
 -- the errors of a turn
@@ -54,6 +55,8 @@ pub record IsAdded (b c : Book) (a : LinkAct) : Type 0 where
   pub failed : c.failed ≡ (b.failed || fails_creation a)
   pub turns : c.turns ≡ b.turns
   pub shut : c.shut ≡ b.shut
+  pub running : c.running ≡ b.running
+  pub rest : c.rest ≡ b.rest
 
 -- neither an error nor a failed creation
 quiet : (errors : List RedisError) (failed : Bool) → (errors ≡ errors ++ []) × (failed ≡ (failed || false))
@@ -65,24 +68,24 @@ quiet errors failed = (sym (append-nil errors), or_none failed)
 
 -- each act adds so
 act_adds : (b : Book) (l t c : ℕ) (a : LinkAct) → IsAdded b (entered b (shown l t c a)) a
-act_adds b l t c (act.Outcome n o) = record { errors = refl; failed = (quiet b.errors b.failed).1; turns = refl; shut = refl }
-act_adds b l t c (act.Created e) = record { errors = (quiet b.errors b.failed).0; failed = refl; turns = refl; shut = refl }
-act_adds b l t c (act.Round n) = record { errors = (quiet b.errors b.failed).0; failed = (quiet b.errors b.failed).1; turns = refl; shut = refl }
-act_adds b l t c (act.Took n count) = record { errors = (quiet b.errors b.failed).0; failed = (quiet b.errors b.failed).1; turns = refl; shut = refl }
-act_adds b l t c (act.Timer n ms) = record { errors = (quiet b.errors b.failed).0; failed = (quiet b.errors b.failed).1; turns = refl; shut = refl }
-act_adds b l t c (act.RenewalTimer k ms) = record { errors = (quiet b.errors b.failed).0; failed = (quiet b.errors b.failed).1; turns = refl; shut = refl }
-act_adds b l t c act.NeedCreds = record { errors = (quiet b.errors b.failed).0; failed = (quiet b.errors b.failed).1; turns = refl; shut = refl }
-act_adds b l t c act.NeedRenewals = record { errors = (quiet b.errors b.failed).0; failed = (quiet b.errors b.failed).1; turns = refl; shut = refl }
-act_adds b l t c (act.SetUp message need len) = record { errors = (quiet b.errors b.failed).0; failed = (quiet b.errors b.failed).1; turns = refl; shut = refl }
-act_adds b l t c (act.Renewed message need len) = record { errors = (quiet b.errors b.failed).0; failed = (quiet b.errors b.failed).1; turns = refl; shut = refl }
-act_adds b l t c (act.Push info) = record { errors = (quiet b.errors b.failed).0; failed = (quiet b.errors b.failed).1; turns = refl; shut = refl }
-act_adds b l t c (act.Message m) = record { errors = (quiet b.errors b.failed).0; failed = (quiet b.errors b.failed).1; turns = refl; shut = refl }
-act_adds b l t c (act.Monitor v) = record { errors = (quiet b.errors b.failed).0; failed = (quiet b.errors b.failed).1; turns = refl; shut = refl }
-act_adds b l t c (act.Watch message need len) = record { errors = (quiet b.errors b.failed).0; failed = (quiet b.errors b.failed).1; turns = refl; shut = refl }
-act_adds b l t c act.Close = record { errors = (quiet b.errors b.failed).0; failed = (quiet b.errors b.failed).1; turns = refl; shut = refl }
-act_adds b l t c (act.Write bytes) = record { errors = (quiet b.errors b.failed).0; failed = (quiet b.errors b.failed).1; turns = refl; shut = refl }
-act_adds b l t c (act.Wait n kind) = record { errors = (quiet b.errors b.failed).0; failed = (quiet b.errors b.failed).1; turns = refl; shut = refl }
-act_adds b l t c (act.Start message n need len) = record { errors = (quiet b.errors b.failed).0; failed = (quiet b.errors b.failed).1; turns = refl; shut = refl }
+act_adds b l t c (act.Outcome n o) = record { errors = refl; failed = (quiet b.errors b.failed).1; turns = refl; shut = refl; running = refl; rest = refl }
+act_adds b l t c (act.Created e) = record { errors = (quiet b.errors b.failed).0; failed = refl; turns = refl; shut = refl; running = refl; rest = refl }
+act_adds b l t c (act.Round n) = record { errors = (quiet b.errors b.failed).0; failed = (quiet b.errors b.failed).1; turns = refl; shut = refl; running = refl; rest = refl }
+act_adds b l t c (act.Took n count) = record { errors = (quiet b.errors b.failed).0; failed = (quiet b.errors b.failed).1; turns = refl; shut = refl; running = refl; rest = refl }
+act_adds b l t c (act.Timer n ms) = record { errors = (quiet b.errors b.failed).0; failed = (quiet b.errors b.failed).1; turns = refl; shut = refl; running = refl; rest = refl }
+act_adds b l t c (act.RenewalTimer k ms) = record { errors = (quiet b.errors b.failed).0; failed = (quiet b.errors b.failed).1; turns = refl; shut = refl; running = refl; rest = refl }
+act_adds b l t c act.NeedCreds = record { errors = (quiet b.errors b.failed).0; failed = (quiet b.errors b.failed).1; turns = refl; shut = refl; running = refl; rest = refl }
+act_adds b l t c act.NeedRenewals = record { errors = (quiet b.errors b.failed).0; failed = (quiet b.errors b.failed).1; turns = refl; shut = refl; running = refl; rest = refl }
+act_adds b l t c (act.SetUp message need len) = record { errors = (quiet b.errors b.failed).0; failed = (quiet b.errors b.failed).1; turns = refl; shut = refl; running = refl; rest = refl }
+act_adds b l t c (act.Renewed message need len) = record { errors = (quiet b.errors b.failed).0; failed = (quiet b.errors b.failed).1; turns = refl; shut = refl; running = refl; rest = refl }
+act_adds b l t c (act.Push info) = record { errors = (quiet b.errors b.failed).0; failed = (quiet b.errors b.failed).1; turns = refl; shut = refl; running = refl; rest = refl }
+act_adds b l t c (act.Message m) = record { errors = (quiet b.errors b.failed).0; failed = (quiet b.errors b.failed).1; turns = refl; shut = refl; running = refl; rest = refl }
+act_adds b l t c (act.Monitor v) = record { errors = (quiet b.errors b.failed).0; failed = (quiet b.errors b.failed).1; turns = refl; shut = refl; running = refl; rest = refl }
+act_adds b l t c (act.Watch message need len) = record { errors = (quiet b.errors b.failed).0; failed = (quiet b.errors b.failed).1; turns = refl; shut = refl; running = refl; rest = refl }
+act_adds b l t c act.Close = record { errors = (quiet b.errors b.failed).0; failed = (quiet b.errors b.failed).1; turns = refl; shut = refl; running = refl; rest = refl }
+act_adds b l t c (act.Write bytes) = record { errors = (quiet b.errors b.failed).0; failed = (quiet b.errors b.failed).1; turns = refl; shut = refl; running = refl; rest = refl }
+act_adds b l t c (act.Wait n kind) = record { errors = (quiet b.errors b.failed).0; failed = (quiet b.errors b.failed).1; turns = refl; shut = refl; running = refl; rest = refl }
+act_adds b l t c (act.Start message n need len) = record { errors = (quiet b.errors b.failed).0; failed = (quiet b.errors b.failed).1; turns = refl; shut = refl; running = refl; rest = refl }
 
 -- one of three
 or_assoc : (x y z : Bool) → ((x || y) || z) ≡ (x || (y || z))
@@ -90,15 +93,28 @@ or_assoc true y z = refl
 or_assoc false y z = refl
 
 -- and so do all
-pub acts_add : (b : Book) (l t c : ℕ) (acts : List LinkAct) → let d = entered_each b (shown_each l t c acts) in (d.errors ≡ b.errors ++ faults_of acts) × (d.failed ≡ (b.failed || creation_fails acts))
-acts_add b l t c [] = quiet b.errors b.failed
+pub record AreAdded (b c : Book) (acts : List LinkAct) : Type 0 where
+  pub errors : c.errors ≡ b.errors ++ faults_of acts
+  pub failed : c.failed ≡ (b.failed || creation_fails acts)
+  pub turns : c.turns ≡ b.turns
+  pub shut : c.shut ≡ b.shut
+  pub running : c.running ≡ b.running
+  pub rest : c.rest ≡ b.rest
+
+pub acts_add : (b : Book) (l t c : ℕ) (acts : List LinkAct) → AreAdded b (entered_each b (shown_each l t c acts)) acts
+acts_add b l t c [] = record { errors = (quiet b.errors b.failed).0; failed = (quiet b.errors b.failed).1; turns = refl; shut = refl; running = refl; rest = refl }
 acts_add b l t c (a ∷ acts) =
     let d : Book = entered b (shown l t c a) in
     let one = act_adds b l t c a in
-    let rest = acts_add d l (t + length (timer_of l a)) (c + length (source_of l a)) acts in (
-      rest.0 ∙ ap (λ (es : List RedisError). es ++ faults_of acts) one.errors ∙ append_assoc b.errors (fault_of a) (faults_of acts),
-      rest.1 ∙ ap (λ (f : Bool). f || creation_fails acts) one.failed ∙ or_assoc b.failed (fails_creation a) (creation_fails acts),
-    )
+    let more = acts_add d l (t + length (timer_of l a)) (c + length (source_of l a)) acts in
+    record {
+      errors = more.errors ∙ ap (λ (es : List RedisError). es ++ faults_of acts) one.errors ∙ append_assoc b.errors (fault_of a) (faults_of acts);
+      failed = more.failed ∙ ap (λ (f : Bool). f || creation_fails acts) one.failed ∙ or_assoc b.failed (fails_creation a) (creation_fails acts);
+      turns = more.turns ∙ one.turns;
+      shut = more.shut ∙ one.shut;
+      running = more.running ∙ one.running;
+      rest = more.rest ∙ one.rest;
+    }
 
 -- an outcome is a cause where one of its errors is
 outcome_causes : (opened : Bool) (o : Outcome) → list_any (machine.is_cause opened) (faults_in o) ≡ is_cause_in opened o
@@ -151,6 +167,11 @@ acts_end b l t c turn (a ∷ acts) stands now h =
 pub acts_stay : (b : Book) (l t c : ℕ) (end : End) (acts : List LinkAct) → AllStand b (shown_each l t c acts) → IsOldEnd end (b.link l) → IsOldEnd end ((entered_each b (shown_each l t c acts)).link l)
 acts_stay b l t c end [] stands h = h
 acts_stay b l t c end (a ∷ acts) stands h = acts_stay (entered b (shown l t c a)) l (t + length (timer_of l a)) (c + length (source_of l a)) end acts stands.1 (old_kept b l t c end a stands.0 h)
+
+-- and no link has heard anything else
+pub acts_hear : (b : Book) (l m t c : ℕ) (n : News) (acts : List LinkAct) → AllStand b (shown_each l t c acts) → (b.link m).heard ≡ n → ((entered_each b (shown_each l t c acts)).link m).heard ≡ n
+acts_hear b l m t c n [] stands h = h
+acts_hear b l m t c n (a ∷ acts) stands h = acts_hear (entered b (shown l t c a)) l m (t + length (timer_of l a)) (c + length (source_of l a)) n acts stands.1 (heard_kept b l m t c n a stands.0 h)
 
 -- the cause for the next generation
 --

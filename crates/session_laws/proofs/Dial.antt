@@ -51,10 +51,7 @@ pub record CanDial (b : Book) (t : Inner) (last : Bool) : Type 0 where
   pub sound : first_fault config ≡ None
   pub begun : is_begun t.manager ≡ true
   pub last_is : is_last (settings_in b.config) b.attempt ≡ last
-
--- another link is aside as before
-aside_next : {created : ℕ} {within : Option ℕ} (links m : ℕ) (l : Ledger) (b : Book) → m ≢ links → IsAside links m l (hearing_in b.config) within created → IsAside (links + 1) m l (hearing_in b.config) within created
-aside_next links m l b other h = record { down = h.down; over = λ less. h.over (omega (arith, less, other)); unknown = λ past. h.unknown (omega (arith, past)); told = h.told; parts = h.parts; shown = h.shown; timed = h.timed; few = h.few }
+  pub unended : (b.link t.link).creds.over ≡ false
 
 -- so it is tied once its link is asked for
 pub dials_tied : (b : Book) (t : Inner) (host : List ℕ) (port : ℕ) (last : Bool) (timers : List Purpose) (timed : ℕ) → CanDial b t last → AreAimed timers t.link (length t.table) → IsTimed (dialled_book b t.link host port timers timed)
@@ -103,11 +100,12 @@ dials_tied b t host port last timers timed c aimed bounded =
       life = (refl, life.1, life.2);
       course = (ap (λ m. m + 1) course.0, c.begun, course.2, c.last_is, course.3);
       calm = λ up runs. h.calm (ap has_ended c.rests) runs;
+      early = λ down alive. h.early (ap is_ready c.rests) (ap has_ended c.rests);
       rounds = rounds_down b.story t.requests t.fresh (waiting_ids t.waiting) refl h.rounds;
       creation = h.creation;
       creds = record { wanted_is = n.wants; sought = (refl, refl, refl) };
       uses = λ m what i. subst (λ y. IsUse what t.link y false) sought.0 (subst (λ y. IsUse what t.link l.creds.asked y) sought.2 (h.uses m what i));
-      renewal = record { over_is = ap (λ (y : Ledger). y.creds.over) (sym life.3) ∙ r.over_is; came = refl; waits = r.waits; untimed = refl; unstarted = r.unstarted; unasked = r.unasked; unpending = r.unpending; told = r.told; kept = refl; found = r.found };
+      renewal = record { over_is = sym c.unended ∙ r.over_is; came = refl; waits = r.waits; untimed = refl; unstarted = r.unstarted; unasked = r.unasked; unpending = r.unpending; told = r.told; kept = refl; found = r.found };
       setup = record { info_is = n.address_is ∙ sym course.3; sent = λ m s less i. absurd (none_sent said.0 m less); said = (said.0, said.1) };
       link = λ up. k;
       names = h.names;

@@ -5,10 +5,10 @@ use Rattle.std.specs.Prelude.{option_map, unwrap_or, not, ◌&&◌}
 use Rattle.containers.proofs.Choices.{by_test, eq_from, left_if, ne_from, ne_test, not_both}
 use Rattle.redis_error.specs.declared.redis_error.RedisError.{RedisError}
 use Rattle.driver_model.specs.declared.action.Action.TheVariants as action
-use Rattle.driver_model.specs.declared.action.SourceUse.{SourceUse}
 use Rattle.driver_model.specs.declared.config.Config.{Config}
 use Rattle.driver_model.specs.declared.outcome.Outcome.TheVariants as outcome
 use Rattle.driver_model.specs.Hearing.{hears_pushes, hears_something}
+use Rattle.link_laws.proofs.TiedLink.{TiedLink}
 use Rattle.mux_conn.specs.Connection.{is_ready}
 use Rattle.mux_conn.specs.Renewals.{no_renewal}
 use Rattle.mux_conn.specs.Requests.{is_admitted_at, is_open_at, is_placed_at, is_unbegun_at, is_waiting_at, name_at, permits_at}
@@ -29,9 +29,9 @@ use Rattle.session_laws.proofs.Going.{undue_asked}
 use Rattle.session_laws.proofs.Numbers.{IsIn, Rising}
 use Rattle.session_laws.proofs.Owes.{ends_told, notices_told}
 use Rattle.session_laws.proofs.Renewals.{down_renewed_due}
-use Rattle.session_laws.proofs.Reopen.{ArePast, HasNoLink, aim_later, none_held, use_later}
+use Rattle.session_laws.proofs.Reopen.{ArePast, HasNoLink, aim_later, at_rest, none_held, use_later}
 use Rattle.session_laws.proofs.Rounded.{unbegun_waits}
-use Rattle.session_laws.proofs.Tied.{AreAside, AreLate, AreQueued, HasCourse, HasSaid, IsAside, IsPacked, IsQueueOf, IsUnknown, IsUse, Inner, has_ended, Tied, TiedLife, TiedLines, TiedManager, TiedPermits, TiedRenewal, TiedRounds, TiedStory, TiedWaits, no_link, link_in, waiting_ids}
+use Rattle.session_laws.proofs.Tied.{AreLate, AreQueued, AreSought, HasCourse, HasSaid, IsAside, IsPacked, Inner, NoneRenewed, TiedTries, carried, has_ended, whole_link, Tied, TiedLife, TiedLines, TiedManager, TiedPermits, TiedRenewal, TiedRounds, TiedStory, TiedWaits, no_link, link_in, waiting_ids}
 
 -- that one begins of these generations
 manager_begins : (config : Option Config) (generation attempts number : ℕ) (m : Option Generations) → number ≢ 0 → TiedManager config generation attempts m → TiedManager config number 0 (option_map (λ g. begun_with g number) m)
@@ -151,6 +151,7 @@ over_begins b t e number h over untold parting few comes one nobody closed some 
         begun = λ p shows o u. absurd (closed p o);
         new = λ p shows up u. cc up;
       };
+      early = λ p o. absurd (closed p o);
       permits = record {
         counted = λ k x.
             let none = none_held b.story t.links b.submissions (λ m. left_if ((b.story m).link == t.links) (b.story m).permits 0 (ne_test (b.story m).link t.links (λ same. behind m same))) in
@@ -179,23 +180,25 @@ over_begins b t e number h over untold parting few comes one nobody closed some 
 -- behind none
 --
 -- the first begins of a session that waits for its first submission, where all its permits are free, and all that wait came in this turn
-pub first_begins : (b : Book) (t : Inner) (number : ℕ) → Tied b t → t.life ≡ Resting → t.pending ≡ [] → t.letting ≡ [] → t.moved ≡ [] → t.admitted ≡ [] → t.free ≡ unwrap_or t.limit 0 → t.fresh ≡ waiting_ids t.waiting → number ≢ 0
-    → HasNoLink (entered b (action.Generation number)) (begun_in t number)
-first_begins b t number h rests settled alone still nobody free fresh some =
+pub first_begins : (b : Book) (t : Inner) (number : ℕ) → Tied b t → t.life ≡ Resting → t.pending ≡ [] → t.letting ≡ [] → t.moved ≡ [] → t.admitted ≡ [] → t.untold ≡ [] → t.parting ≡ false → t.free ≡ unwrap_or t.limit 0 → t.fresh ≡ waiting_ids t.waiting → (b.link t.link).creds.over ≡ false → number ≢ 0
+    → Tied (entered b (action.Generation number)) (at_rest (begun_in t number))
+first_begins b t number h rests settled alone still nobody untold parting free fresh unended some =
     let n = h.numbers in
     let l = b.link t.link in
     let life : TiedLife l b.created Resting = subst (TiedLife l b.created) rests h.life in
     let said : HasSaid l t.started Resting = subst (HasSaid l t.started) rests h.setup.said in
+    let sought : AreSought l.creds Resting = subst (AreSought l.creds) rests h.creds.sought in
+    let r : NoneRenewed l t.renewal = subst (TiedRenewal l t.renewal) rests h.renewal in
     let course : HasCourse l.last l.end t.links t.link t.shut t.manager t.last t.opened t.info t.address Resting = subst (HasCourse l.last l.end t.links t.link t.shut t.manager t.last t.opened t.info t.address) rests h.course in
-    let here : t.link ≡ t.links = sym course.0 in
-    record {
+    let d : Book = entered b (action.Generation number) in
+    subst (λ k. Tied d (record (at_rest (begun_in t number)) { link = k })) (sym course.0) (record {
       numbers = record {
         turns = n.turns;
         links = n.links;
         submissions = n.submissions;
         timers = n.timers;
         sources = n.sources;
-        aims = λ k what i. aim_later what t.link t.links (length t.table) (omega (arith, here)) (n.aims k what i);
+        aims = n.aims;
         timed = n.timed;
         timeout = n.timeout;
         shut = n.shut;
@@ -207,53 +210,37 @@ first_begins b t number h rests settled alone still nobody free fresh some =
         quiet = λ w. let q = n.quiet w in record { none = q.none; unwanted = q.unwanted; unrenewed = refl };
         comes_back = manager_begins b.config b.generation b.attempt number t.manager some n.comes_back;
         lazy = n.lazy;
-        current_is = n.links;
+        current_is = n.links ∙ course.0;
         speaks = ap (λ a. a.protocol) n.address_is;
         address_is = n.address_is;
         wants = n.wants;
       };
-      placed = refl;
-      unopened = refl;
-      comes = same_some t.manager number ∙ course.1;
-      info_is = refl;
-      others = subst (λ k. AreAside k t.links b.link t.hears t.renewal.within b.created) here h.others;
-      unknown = subst (λ k. IsUnknown (b.link k)) here life.3;
-      heard_is = h.notices.heard_is;
-      calm = refl;
+      others = h.others;
+      notices = record { heard_is = h.notices.heard_is; hearing_is = refl; within = h.notices.within; untold_is = λ y. h.notices.untold_is y ∙ untold; parts = λ y d cut. h.notices.parts y parting cut; alive = h.notices.alive; due = λ z. cc; tame = h.notices.tame };
+      life = life;
+      course = (course.0, same_some t.manager number ∙ course.1, refl, refl);
+      calm = λ up runs. refl;
       creation = h.creation;
-      uses = λ k what i. uses_here what (h.uses k what i);
-      renewal = record { over_is = refl; came = refl; waits = refl; untimed = refl; unstarted = refl; unasked = refl; unpending = refl; told = refl; kept = refl; found = refl };
+      creds = record { wanted_is = tt; sought = sought };
+      uses = h.uses;
+      renewal = record { over_is = unended; came = r.came; waits = refl; untimed = r.untimed; unstarted = r.unstarted; unasked = refl; unpending = refl; told = refl; kept = r.kept; found = refl };
+      setup = record { info_is = tt; sent = h.setup.sent; said = (said.0, refl) };
+      link = λ up. subst (λ (y : Life). TiedLink (carried y t.requests) l (whole_link y)) rests (h.link (ap has_ended rests));
       names = h.names;
-      story = λ m. subst (λ k. TiedStory (b.story m) t.requests k (slice_get t.table m)) here (h.story m);
-      untried = λ p r i on. h.tries.untried p r i (λ j. subst (IsIn p) said.1 j) (on ∙ sym here);
-      untold = λ m told none on.
-          let q : IsQueueOf b.story t.requests t.link [] = subst (λ (x : Life). AreQueued b.story t.requests t.link (link_in x)) rests (h.told (ap has_ended rests)) in
-          (q.told m told none (on ∙ sym here)).3;
-      lines = lined;
-      waits = waited;
+      story = h.story;
+      tries = subst (λ ns. TiedTries l b.story t.requests t.link ns) said.1 h.tries;
+      lines =
+          subst (λ ns. TiedLines b.story t.requests no_link t.waiting [] [] ns) said.1
+          (subst (λ ns. TiedLines b.story t.requests no_link t.waiting [] ns t.started) settled
+          (subst (λ ws. TiedLines b.story t.requests no_link t.waiting ws t.pending t.started) nobody
+          (subst (λ (x : Life). TiedLines b.story t.requests (link_in x) t.waiting t.admitted t.pending t.started) rests h.lines)));
+      told = λ up. subst (λ (x : Life). AreQueued b.story t.requests t.link (link_in x)) rests (h.told (ap has_ended rests));
+      waits =
+          subst (λ ns. TiedWaits b.story t.requests Resting ns []) fresh
+          (subst (λ ns. TiedWaits b.story t.requests Resting t.fresh ns) still
+          (subst (λ (x : Life). TiedWaits b.story t.requests x t.fresh t.moved) rests h.waits));
       rounds = subst (λ ns. TiedRounds (has_generations b) b.story t.requests false ns t.rounds) fresh (subst (λ (x : Life). TiedRounds (has_generations b) b.story t.requests (is_ready x) t.fresh t.rounds) rests h.rounds);
-      permits = subst (λ k. TiedPermits b.story b.submissions t.requests k t.limit (unwrap_or t.limit 0) []) here
-          (subst (λ k. TiedPermits b.story b.submissions t.requests t.link t.limit k []) free (subst (λ ns. TiedPermits b.story b.submissions t.requests t.link t.limit t.free ns) alone h.permits));
+      early = λ down alive. h.early (ap is_ready rests) (ap has_ended rests);
+      permits = subst (λ k. TiedPermits b.story b.submissions t.requests t.link t.limit k []) free (subst (λ ns. TiedPermits b.story b.submissions t.requests t.link t.limit t.free ns) alone h.permits);
       late = subst (λ ns. AreLate b.story t.requests ns) settled h.late;
-    }
-  where
-    lined : TiedLines b.story t.requests no_link t.waiting [] [] []
-    lined =
-        let said : HasSaid (b.link t.link) t.started Resting = subst (HasSaid (b.link t.link) t.started) rests h.setup.said in
-        subst (λ ns. TiedLines b.story t.requests no_link t.waiting [] [] ns) said.1
-        (subst (λ ns. TiedLines b.story t.requests no_link t.waiting [] ns t.started) settled
-        (subst (λ ws. TiedLines b.story t.requests no_link t.waiting ws t.pending t.started) nobody
-        (subst (λ (x : Life). TiedLines b.story t.requests (link_in x) t.waiting t.admitted t.pending t.started) rests h.lines)))
-
-    waited : TiedWaits b.story t.requests Resting (waiting_ids t.waiting) []
-    waited =
-        subst (λ ns. TiedWaits b.story t.requests Resting ns []) fresh
-        (subst (λ ns. TiedWaits b.story t.requests Resting t.fresh ns) still
-        (subst (λ (x : Life). TiedWaits b.story t.requests x t.fresh t.moved) rests h.waits))
-
-    -- no source was asked for the link
-    uses_here : (what : SourceUse) → IsUse what t.link (b.link t.link).creds.asked (b.link t.link).creds.renews → IsUse what t.links false false
-    uses_here what u =
-        let life : TiedLife (b.link t.link) b.created Resting = subst (TiedLife (b.link t.link) b.created) rests h.life in
-        let course = subst (HasCourse (b.link t.link).last (b.link t.link).end t.links t.link t.shut t.manager t.last t.opened t.info t.address) rests h.course in
-        subst (λ k. IsUse what k false false) (sym course.0) (subst (λ (x : Ledger). IsUse what t.link x.creds.asked x.creds.renews) life.3 u)
+    })

@@ -67,6 +67,7 @@ pub mod Reopen
 pub mod Generate
 pub mod Dial
 pub mod Past
+pub mod Regenerate
 pub mod Write
 pub mod Waits
 pub mod Settled

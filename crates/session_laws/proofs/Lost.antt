@@ -250,32 +250,39 @@ old_keeps end = record {
 push_keeps : (P : Ledger → Type 0) → KeepsLines P → (l : Ledger) (kind : PushKind) → P l → P (noted l (push_line kind))
 push_keeps P keeps l kind h = chosen (λ line. P (noted l line)) (is_disconnection kind) parts tells (λ t. keeps.parted l h) (λ f. keeps.told l h)
 
--- so each act keeps it, where its end does
-pub act_keeps : (P : Ledger → Type 0) → KeepsLines P → (b : Book) (l t c : ℕ) (a : LinkAct) → MayStand b (shown l t c a) → (MayClose b l → P (noted (b.link l) (ends (b.turns - 1)))) → P (b.link l) → P ((entered b (shown l t c a)).link l)
-act_keeps P keeps b l t c (act.Created e) may end h = h
-act_keeps P keeps b l t c (act.Round n) may end h = h
-act_keeps P keeps b l t c (act.Took n count) may end h = h
-act_keeps P keeps b l t c (act.Timer n ms) may end h = h
-act_keeps P keeps b l t c (act.RenewalTimer k ms) may end h = mine_keeps P (l == l) (b.link l) times (λ m. keeps.timed (b.link l) h) h
-act_keeps P keeps b l t c act.NeedCreds may end h = mine_keeps P (l == l) (b.link l) sources (λ m. keeps.sourced (b.link l) h) h
-act_keeps P keeps b l t c act.NeedRenewals may end h = mine_keeps P (l == l) (b.link l) sources (λ m. keeps.sourced (b.link l) h) h
-act_keeps P keeps b l t c (act.SetUp message need len) may end h = mine_keeps P (l == l) (b.link l) _ (λ m. keeps.begun (b.link l) _ h) h
-act_keeps P keeps b l t c (act.Renewed message need len) may end h = mine_keeps P (l == l) (b.link l) _ (λ m. keeps.begun (b.link l) _ h) h
-act_keeps P keeps b l t c (act.Push info) may end h = mine_keeps P (l == l) (b.link l) (push_line info.kind) (λ m. push_keeps P keeps (b.link l) info.kind h) h
-act_keeps P keeps b l t c (act.Message m) may end h = mine_keeps P (b.current == l) (b.link l) tells (λ m. keeps.told (b.link l) h) h
-act_keeps P keeps b l t c (act.Monitor v) may end h = mine_keeps P (b.current == l) (b.link l) tells (λ m. keeps.told (b.link l) h) h
-act_keeps P keeps b l t c (act.Watch message need len) may end h = mine_keeps P (l == l) (b.link l) _ (λ m. keeps.begun (b.link l) _ h) h
-act_keeps P keeps b l t c act.Close may end h = mine_keeps P (l == l) (b.link l) (ends (b.turns - 1)) (λ m. end may) h
-act_keeps P keeps b l t c (act.Write bytes) may end h = mine_keeps P (l == l) (b.link l) (offers bytes) (λ m. keeps.offered (b.link l) bytes h) h
-act_keeps P keeps b l t c (act.Wait n kind) may end h = h
-act_keeps P keeps b l t c (act.Start message n need len) may end h = mine_keeps P (l == l) (b.link l) _ (λ m. keeps.begun (b.link l) _ h) h
-act_keeps P keeps b l t c (act.Outcome n o) may end h = h
+-- so each act keeps it of any link, where the end of its own does
+pub act_keeps : (P : Ledger → Type 0) → KeepsLines P → (b : Book) (l m t c : ℕ) (a : LinkAct) → MayStand b (shown l t c a) → (MayClose b l → (l == m) ≡ true → P (noted (b.link m) (ends (b.turns - 1)))) → P (b.link m) → P ((entered b (shown l t c a)).link m)
+act_keeps P keeps b l m t c (act.Created e) may end h = h
+act_keeps P keeps b l m t c (act.Round n) may end h = h
+act_keeps P keeps b l m t c (act.Took n count) may end h = h
+act_keeps P keeps b l m t c (act.Timer n ms) may end h = h
+act_keeps P keeps b l m t c (act.RenewalTimer k ms) may end h = mine_keeps P (l == m) (b.link m) times (λ x. keeps.timed (b.link m) h) h
+act_keeps P keeps b l m t c act.NeedCreds may end h = mine_keeps P (l == m) (b.link m) sources (λ x. keeps.sourced (b.link m) h) h
+act_keeps P keeps b l m t c act.NeedRenewals may end h = mine_keeps P (l == m) (b.link m) sources (λ x. keeps.sourced (b.link m) h) h
+act_keeps P keeps b l m t c (act.SetUp message need len) may end h = mine_keeps P (l == m) (b.link m) _ (λ x. keeps.begun (b.link m) _ h) h
+act_keeps P keeps b l m t c (act.Renewed message need len) may end h = mine_keeps P (l == m) (b.link m) _ (λ x. keeps.begun (b.link m) _ h) h
+act_keeps P keeps b l m t c (act.Push info) may end h = mine_keeps P (l == m) (b.link m) (push_line info.kind) (λ x. push_keeps P keeps (b.link m) info.kind h) h
+act_keeps P keeps b l m t c (act.Message n) may end h = mine_keeps P (b.current == m) (b.link m) tells (λ x. keeps.told (b.link m) h) h
+act_keeps P keeps b l m t c (act.Monitor v) may end h = mine_keeps P (b.current == m) (b.link m) tells (λ x. keeps.told (b.link m) h) h
+act_keeps P keeps b l m t c (act.Watch message need len) may end h = mine_keeps P (l == m) (b.link m) _ (λ x. keeps.begun (b.link m) _ h) h
+act_keeps P keeps b l m t c act.Close may end h = mine_keeps P (l == m) (b.link m) (ends (b.turns - 1)) (λ mine. end may mine) h
+act_keeps P keeps b l m t c (act.Write bytes) may end h = mine_keeps P (l == m) (b.link m) (offers bytes) (λ x. keeps.offered (b.link m) bytes h) h
+act_keeps P keeps b l m t c (act.Wait n kind) may end h = h
+act_keeps P keeps b l m t c (act.Start message n need len) may end h = mine_keeps P (l == m) (b.link m) _ (λ x. keeps.begun (b.link m) _ h) h
+act_keeps P keeps b l m t c (act.Outcome n o) may end h = h
 
 -- a link that ends in this turn, if it does
 pub new_kept : (b : Book) (l t c turn : ℕ) (a : LinkAct) → b.turns - 1 ≡ turn → MayStand b (shown l t c a) → IsNewEnd turn (b.link l) → IsNewEnd turn ((entered b (shown l t c a)).link l)
 new_kept b l t c turn a now may h =
-    act_keeps (IsNewEnd turn) (new_keeps turn) b l t c a may (λ closes. subst (λ k. IsNewEnd turn (noted (b.link l) (ends k))) (sym now) (new_end b l turn closes h)) h
+    act_keeps (IsNewEnd turn) (new_keeps turn) b l l t c a may (λ closes mine. subst (λ k. IsNewEnd turn (noted (b.link l) (ends k))) (sym now) (new_end b l turn closes h)) h
 
 -- one that had ended
 pub old_kept : (b : Book) (l t c : ℕ) (end : End) (a : LinkAct) → MayStand b (shown l t c a) → IsOldEnd end (b.link l) → IsOldEnd end ((entered b (shown l t c a)).link l)
-old_kept b l t c end a may h = act_keeps (IsOldEnd end) (old_keeps end) b l t c a may (λ closes. absurd (old_end b l end closes h)) h
+old_kept b l t c end a may h = act_keeps (IsOldEnd end) (old_keeps end) b l l t c a may (λ closes mine. absurd (old_end b l end closes h)) h
+
+-- what a link has heard
+heard_keeps : (n : News) → KeepsLines (λ l. l.heard ≡ n)
+heard_keeps n = record { begun = λ l s h. h; offered = λ l bytes h. h; told = λ l h. h; sourced = λ l h. h; timed = λ l h. h; parted = λ l h. h }
+
+pub heard_kept : (b : Book) (l m t c : ℕ) (n : News) (a : LinkAct) → MayStand b (shown l t c a) → (b.link m).heard ≡ n → ((entered b (shown l t c a)).link m).heard ≡ n
+heard_kept b l m t c n a may h = act_keeps (λ x. x.heard ≡ n) (heard_keeps n) b l m t c a may (λ closes mine. h) h

@@ -1,7 +1,7 @@
 -- Submissions go to the current link, or went to one before it, in any trace whose actions may stand.
-use Rattle.std.proofs.Common.{◌≡◌, ◌≢◌, inl, inr, ℕ, ◌+◌, ◌-◌, ◌<◌, ◌≤◌, ◌==◌, nat_lt, Bool, true, false, ◌&&◌, not, List, [], ◌∷◌, ◌++◌, length, Option, Some, None, is_none, slice_get, if◌then◌else◌, refl, sym, ap, ◌∙◌, subst, arith}
+use Rattle.std.proofs.Common.{◌≡◌, ◌≢◌, inl, inr, ℕ, ◌+◌, ◌-◌, ◌<◌, ◌≤◌, ◌==◌, nat_lt, Bool, true, false, ◌&&◌, ◌||◌, not, List, [], ◌∷◌, ◌++◌, length, Option, Some, None, is_none, is_some, slice_get, take, if◌then◌else◌, refl, sym, ap, ◌∙◌, subst, arith}
 use Rattle.std.proofs.Math.Nat.{le_refl}
-use Rattle.containers.proofs.Choices.{both_left, chosen, lt_from, taken_if}
+use Rattle.containers.proofs.Choices.{both_left, by_test, chosen, lt_from, not_both, taken_if}
 use Rattle.driver_model.specs.declared.action.Action.{Action}
 use Rattle.driver_model.specs.declared.action.Action.TheVariants as action
 use Rattle.driver_model.specs.declared.action.Cause.TheVariants as cause
@@ -11,15 +11,17 @@ use Rattle.driver_model.specs.declared.action.Purpose.TheVariants as purpose
 use Rattle.driver_model.specs.declared.config.Config.{Config}
 use Rattle.driver_model.specs.declared.event.EventKind.{EventKind}
 use Rattle.driver_model.specs.declared.event.EventKind.TheVariants as event
+use Rattle.redis_error.specs.declared.redis_error.RedisError.TheVariants as error
 use Rattle.resp_value.specs.declared.push_kind.PushKind.{PushKind}
-use Rattle.driver_model.specs.News.{News, news_of}
+use Rattle.driver_model.specs.News.{News, silence, connected, refused, overdue, took, came, failed, authorized, denied, deserted, renewed, unrenewed, late, unrepeated, dropped, shut, news_of}
 use Rattle.driver_model.specs.Push.{is_disconnection}
-use Rattle.legal_trace.specs.Ledger.{Ledger, Line, End, ends, hears, noted, noted_each, offers, parts, sources, tells}
+use Rattle.legal_trace.specs.Ledger.{Ledger, Line, End, asks, authorized_by, awaits_credentials, begins, bytes_came, dials, ends, hears, is_over, is_renewal_open, is_repeating, lost_by, may_renew, noted, noted_each, offers, parts, refused_in, renewed_by, repeats_timed, sources, tells, times, unrenewed_by, unrepeated_by, with_news}
 use Rattle.legal_trace.specs.Story.{Story, answered, carried, clocked, fires, holds, is_open, left, rounds, tried, waits}
-use Rattle.legal_trace.specs.Book.{Book, after_event, after_timer, blank_book, book, entered, has_generations, if_mine, if_own, is_clock_of, push_line}
+use Rattle.legal_trace.specs.Book.{Book, after_event, after_timer, blank_book, book, entered, entered_each, has_generations, if_mine, if_own, is_clock_of, lines_of, push_line}
 use Rattle.legal_trace.specs.Legal.{AllStand, MayStand, current_link, link_due}
 use Rattle.legal_trace.proofs.Clocks.{timer_tells}
-use Rattle.legal_trace.proofs.Ledgers.{mine_keeps}
+use Rattle.legal_trace.proofs.Ledgers.{each_keeps, mine_keeps}
+use Rattle.legal_trace.proofs.Came.{holds_bytes}
 use Rattle.legal_trace.proofs.Plain.{same_some}
 use Rattle.session_laws.proofs.Lost.{news_end}
 use Rattle.legal_trace.proofs.Books.{book_more, of_each_front}
@@ -231,3 +233,59 @@ blank_before = λ l e is. cc
 
 pub ends_before : (trace : List Action) → AllStand blank_book trace → EndBefore (book trace)
 ends_before trace stands = of_each_front (λ t. EndBefore (book t)) trace (λ t a all may h. subst EndBefore (sym (book_more t a)) (before_kept (book t) a may h)) stands blank_before
+
+-- a source that gives no more
+--
+-- so it is of a link that is up, or was
+abbrev OverOnce : Ledger → Type 0
+OverOnce l = l.creds.over ≡ true → (l.up || is_over l) ≡ true
+
+-- of a link whose connect succeeded, or that has ended
+either_true : (x : Bool) → (x || true) ≡ true
+either_true true = refl
+either_true false = refl
+
+once_hears : (l : Ledger) (turn : ℕ) (news : News) → OverOnce l → OverOnce (with_news l turn news)
+once_hears l turn silence h = h
+once_hears l turn connected h = chosen OverOnce (is_over l) l (record l { up = true }) (λ t. h) (λ f over. refl)
+once_hears l turn (refused f) h = chosen OverOnce (dials l) (refused_in l turn (error.Io f)) l (λ t over. either_true l.up) (λ d. h)
+once_hears l turn overdue h = h
+once_hears l turn (took count) h = chosen OverOnce l.up (record l { taken = l.taken ++ take count l.offer; offer = [] }) l (λ t. h) (λ f. h)
+once_hears l turn (came piece) h = chosen OverOnce l.up (bytes_came l piece) l (λ t. holds_bytes OverOnce l piece (λ rest strange told more. h)) (λ f. h)
+once_hears l turn (failed f) h = h
+once_hears l turn (authorized c) h = chosen OverOnce (awaits_credentials l) (authorized_by l c) l (λ t. h) (λ f. h)
+once_hears l turn (denied text) h = h
+once_hears l turn deserted h = h
+once_hears l turn (renewed c) h = chosen OverOnce (may_renew l) (renewed_by l c) l (λ t. h) (λ f. h)
+once_hears l turn unrenewed h = chosen OverOnce l.up (unrenewed_by l) l (λ t over. ap (λ u. u || is_over l) t) (λ f. h)
+once_hears l turn (late k) h = chosen OverOnce (l.up && is_renewal_open l k) (lost_by l) l (λ t. h) (λ f. h)
+once_hears l turn unrepeated h = chosen OverOnce (is_repeating l) (unrepeated_by l) l (λ t. h) (λ f. h)
+once_hears l turn dropped h = h
+once_hears l turn shut h = h
+
+-- each line keeps it
+once_kept : (l : Ledger) (x : Line) → OverOnce l → OverOnce (noted l x)
+once_kept l (asks info wanted hearing last again) h = λ over. cc
+once_kept l (hears turn news) h = once_hears l turn news h
+once_kept l (begins s) h = h
+once_kept l (offers bytes) h = h
+once_kept l tells h = h
+once_kept l sources h = h
+once_kept l times h = h
+once_kept l repeats_timed h = h
+once_kept l (ends turn) h = λ over. refl
+once_kept l parts h = h
+
+-- so do any actions
+once_each : (b : Book) (l : ℕ) (actions : List Action) → OverOnce (b.link l) → OverOnce ((entered_each b actions).link l)
+once_each b l [] h = h
+once_each b l (a ∷ actions) h = once_each (entered b a) l actions (each_keeps OverOnce once_kept (b.link l) (lines_of b l a) h)
+
+-- so of a link that isn't up, and has not ended, it gives more
+pub unended_over : (trace : List Action) (l : ℕ) → ((book trace).link l).up ≡ false → ((book trace).link l).end ≡ None → ((book trace).link l).creds.over ≡ false
+unfolding book
+unended_over trace l down alive =
+    let m = (entered_each blank_book trace).link l in
+    by_test m.creds.over _
+    (λ t. absurd (not_both (m.up || is_over m) ((λ i. down i || is_some (alive i))) (once_each blank_book l trace (λ over. cc) t)))
+    (λ f. f)

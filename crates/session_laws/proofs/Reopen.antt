@@ -59,6 +59,7 @@ pub record HasNoLink (b : Book) (t : Inner) : Type 0 where
   pub lines : TiedLines b.story t.requests no_link t.waiting [] [] []
   pub waits : TiedWaits b.story t.requests Resting t.fresh []
   pub rounds : TiedRounds (has_generations b) b.story t.requests false t.fresh t.rounds
+  pub early : (p : ℕ) → is_open_at t.requests p ≡ true → is_unbegun_at t.requests p ≡ true
   pub permits : TiedPermits b.story b.submissions t.requests t.link t.limit t.free []
   pub late : AreLate b.story t.requests []
 
@@ -121,6 +122,7 @@ rest_tied b t h =
       told = λ up. record { told = λ m is none on. absurd (h.untold m is none on); here = λ p i. absurd i };
       waits = h.waits;
       rounds = h.rounds;
+      early = λ down alive p o. h.early p o;
       permits = h.permits;
       late = h.late;
     }
@@ -284,6 +286,7 @@ rests_tied b t timer ms number h past =
         begun = λ p shows o u. absurd (not_both (is_unbegun_at t.requests p) u (h.waiting p o));
         new = λ p shows up u. cc up;
       };
+      early = h.waiting;
       permits = record {
         counted = λ k e.
             let none = none_held d.story t.links b.submissions unheld in
