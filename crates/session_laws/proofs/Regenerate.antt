@@ -330,4 +330,4 @@ dials_on trace t g timer h is some awake runs next harmless = by_bound g.setting
         )
       where
         some_bound : (n : ℕ) → Some n ≡ None → ⊥
-        some_bound n no = cc
+        some_bound n none = cc
