@@ -426,6 +426,7 @@ heard_tied_as b c started word created halted told opened kind info renewal life
         speaks = h.numbers.speaks ∙ sym k.spoken;
         address_is = h.numbers.address_is;
         wants = h.numbers.wants ∙ sym wanted;
+        alone = h.numbers.alone;
       };
       others = others;
       notices = k.notices;

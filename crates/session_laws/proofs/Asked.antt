@@ -266,6 +266,7 @@ asked_tied b c started word what h tame form few no_fresh up speaks some =
         speaks = h.numbers.speaks;
         address_is = h.numbers.address_is;
         wants = h.numbers.wants;
+        alone = h.numbers.alone;
       };
       others = λ m other. aside_silent (b.link m) c.turns (h.others m other);
       notices = renoticed tame h.notices;
@@ -312,7 +313,7 @@ pub asked_applied : (before : List Action) (c : Core) (started : List ℕ) (word
 asked_applied before c started word what h few good up speaks some =
     let b = book before in
     silent_applied before c started word (event.Submit what) (core_asked c what) (asked c.single.connection (length c.table) (packed_bytes what) (shape_of what) (is_reply_awaited what) c.timeout) h good (λ m. silent_no_end (b.link m) c.turns (still_none before c started h m)) (λ z. absurd (omega arith)) h.moved (record { wanting = h.fit.wanting; setup = h.fit.setup; link = h.fit.link; none = h.fit.none })
-    (λ shut rests. absurd (not_both b.shut up (h.sound.tied.numbers.shut ∙ sym (or_none c.shut) ∙ shut)))
+    (λ over. absurd (not_both b.shut up (h.sound.tied.numbers.shut ∙ sym (or_none c.shut) ∙ over)))
     (asked_tied b c started word what h.sound.tied (tame_between before c started h) (formed c what good) few h.fresh up speaks some)
 
 -- one or the other

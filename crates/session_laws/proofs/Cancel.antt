@@ -521,6 +521,7 @@ silent_numbers b c started word kind timeout story free life requests pending q 
   speaks = h.numbers.speaks;
   address_is = h.numbers.address_is;
   wants = h.numbers.wants;
+  alone = h.numbers.alone;
 }
 
 -- all other links stay aside

@@ -34,7 +34,7 @@ use Rattle.session_laws.proofs.Numbers.{IsIn, in_left, in_right, Rising, rising_
 use Rattle.session_laws.proofs.Tied.{TiedCreation, Inner, no_link, link_in, owner_of, queue_ids, waiting_ids, IsKept, TiedLines, TiedWaits, Tied, relined, FailureIsShown, IsOver, TiedLife, has_ended, hearing_there, on_link}
 use Rattle.session_laws.proofs.Unrepeated.{unrepeated_lined}
 use Rattle.session_laws.proofs.Said.{ready_shown, sources_asked}
-use Rattle.session_laws.proofs.States.{HasApplied}
+use Rattle.session_laws.proofs.States.{HasApplied, IsStopped}
 use Rattle.session_laws.proofs.InLine.{kept_ids, kept_in, line_of, IsInLine, awaited_rises, awaited_in}
 use Rattle.session_laws.proofs.Owes.{in_time, none_owed, in_line, later_unstarted, owed_none_started, settled_owed, notices_told, lives, is_asked, owed_asked}
 use Rattle.session_laws.proofs.Kept.{mine_noted, others_kept, tied_by}
@@ -140,7 +140,7 @@ close_tied b t created halted told why e parting pending ids must is shown mild 
     let after = record (entered b (action.Close t.link)) { created = created; failed = halted } in
     let there = ends_there (b.link t.link) b.created t.life why must h.life in
     tied_by after (record t { life = Ended e; told = told; pending = pending; untold = []; parting = parting }) (noted (b.link t.link) (ends turn)) (mine_noted (b.link t.link) t.link (ends turn)) (record {
-      numbers = record { turns = h.numbers.turns; links = h.numbers.links; timers = h.numbers.timers; sources = h.numbers.sources; aims = h.numbers.aims; timed = h.numbers.timed; submissions = h.numbers.submissions; timeout = h.numbers.timeout; shut = h.numbers.shut; within = h.numbers.within; few = h.numbers.few; unrepeated = unrepeated_lined b.link t.link (ends turn) refl h.numbers.unrepeated; settings = record { size_is = h.numbers.settings.size_is; bound_is = h.numbers.settings.bound_is; limit_is = h.numbers.settings.limit_is; some = h.numbers.settings.some; limited = h.numbers.settings.limited }; kind_is = h.numbers.kind_is; quiet = h.numbers.quiet; comes_back = h.numbers.comes_back; lazy = λ is. on (h.numbers.lazy is); current_is = h.numbers.current_is; speaks = h.numbers.speaks; address_is = h.numbers.address_is; wants = h.numbers.wants };
+      numbers = record { turns = h.numbers.turns; links = h.numbers.links; timers = h.numbers.timers; sources = h.numbers.sources; aims = h.numbers.aims; timed = h.numbers.timed; submissions = h.numbers.submissions; timeout = h.numbers.timeout; shut = h.numbers.shut; within = h.numbers.within; few = h.numbers.few; unrepeated = unrepeated_lined b.link t.link (ends turn) refl h.numbers.unrepeated; settings = record { size_is = h.numbers.settings.size_is; bound_is = h.numbers.settings.bound_is; limit_is = h.numbers.settings.limit_is; some = h.numbers.settings.some; limited = h.numbers.settings.limited }; kind_is = h.numbers.kind_is; quiet = h.numbers.quiet; comes_back = h.numbers.comes_back; lazy = λ is. on (h.numbers.lazy is); current_is = h.numbers.current_is; speaks = h.numbers.speaks; address_is = h.numbers.address_is; wants = h.numbers.wants; alone = h.numbers.alone };
       others = others_created t.link created _ on (others_kept b t.link (ends turn) h.others);
       notices = record {
         heard_is = h.notices.heard_is;
@@ -546,5 +546,5 @@ ended_applied before f w e started began none_moved h = record {
     link = λ link is. (let no : Ended e ≡ Ready link = sym h.over ∙ is in cc);
     none = λ n. h.none_admitted;
   };
-  hushed = λ shut rests. h.none_waits;
+  hushed = λ shut. subst (λ (x : Life). IsStopped x w.conn.waiting) (sym h.over) tt;
 }

@@ -9,7 +9,7 @@ use Rattle.driver_model.specs.declared.action.Action.TheVariants as action
 use Rattle.driver_model.specs.declared.action.Owner.TheVariants as owner
 use Rattle.driver_model.specs.declared.action.WaitKind.{WaitKind}
 use Rattle.driver_model.specs.declared.outcome.Outcome.TheVariants as outcome
-use Rattle.mux_conn.specs.Connection.{is_resting}
+use Rattle.mux_conn.specs.Connection.{is_resting, is_ready}
 use Rattle.mux_conn.specs.declared.life.Life.{Life}
 use Rattle.mux_conn.specs.declared.life.Life.TheVariants.{Resting, Dialing, Wanting, SettingUp, Ready, Ended}
 use Rattle.shared_session.specs.declared.generations.Generations.{Generations}
@@ -22,6 +22,7 @@ use Rattle.legal_trace.specs.Story.{Story, is_open, waits}
 use Rattle.session_laws.proofs.Aside.{not_up_ends}
 use Rattle.session_laws.proofs.Owes.{is_asked, lives}
 use Rattle.session_laws.proofs.Tied.{AreCalm, HasCourse, Inner, IsOver, Tied, TiedLife, TiedManager, has_ended, is_begun}
+use Rattle.link_core.specs.Link.{LinkState}
 
 -- no generation begins, and no link is asked for
 abbrev pub NoneComes : Book → Type 0
@@ -95,6 +96,40 @@ resting_ends l created (Ended e) rests h = cc
 -- so what must end is there
 pub ends_there : (l : Ledger) (created : ℕ) (life : Life) (why : Ending) → ending l ≡ Some why → TiedLife l created life → is_resting life ≡ false
 ends_there l created life why must h = by_test (is_resting life) _ (λ rests. absurd (let no : ◌≡◌ {A = Option Ending} None (Some why) = sym (resting_ends l created life rests h) ∙ must in cc)) (λ there. there)
+
+-- what is known of a connection whose link goes on: it is the last of all, in a generation, and it says of other attempts what the ledger
+-- does
+pub record IsLive (is_last : Bool) (t : Inner) : Type 0 where
+  pub links : t.links ≡ t.link + 1
+  pub begun : is_begun t.manager ≡ true
+  pub lasts : is_last ≡ t.last
+
+pub tied_live : (b : Book) (t : Inner) → Tied b t → is_resting t.life ≡ false → has_ended t.life ≡ false → IsLive (b.link t.link).last t
+tied_live b t h there up = by_life t.life there up h.course
+  where
+    by_life : (life : Life) → is_resting life ≡ false → has_ended life ≡ false → HasCourse (b.link t.link).last (b.link t.link).end t.links t.link t.shut t.manager t.last t.opened t.info t.address life → IsLive (b.link t.link).last t
+    by_life Resting z u k = cc
+    by_life Dialing z u k = record { links = k.0; begun = k.1; lasts = k.3 }
+    by_life (Wanting link) z u k = record { links = k.0; begun = k.1; lasts = k.3 }
+    by_life (SettingUp link greeting) z u k = record { links = k.0; begun = k.1; lasts = k.3 }
+    by_life (Ready link) z u k = record { links = k.0; begun = k.1; lasts = k.3 }
+    by_life (Ended e) z u k = cc
+
+-- a link that isn't set up wasn't
+pub tied_unopened : (b : Book) (t : Inner) → Tied b t → is_ready t.life ≡ false → has_ended t.life ≡ false → t.opened ≡ false
+tied_unopened b t h unready up = by_life t.life unready up h.course
+  where
+    by_life : (life : Life) → is_ready life ≡ false → has_ended life ≡ false → HasCourse (b.link t.link).last (b.link t.link).end t.links t.link t.shut t.manager t.last t.opened t.info t.address life → t.opened ≡ false
+    by_life Resting z u k = k.2
+    by_life Dialing z u k = k.2
+    by_life (Wanting link) z u k = k.2
+    by_life (SettingUp link greeting) z u k = k.2
+    by_life (Ready link) z u k = cc
+    by_life (Ended e) z u k = cc
+
+-- and one that is was
+pub tied_opened : (b : Book) (t : Inner) (link : LinkState) → Tied b t → t.life ≡ Ready link → t.opened ≡ true
+tied_opened b t link h e = (subst (λ (x : Life). HasCourse (b.link t.link).last (b.link t.link).end t.links t.link t.shut t.manager t.last t.opened t.info t.address x) e h.course).2
 
 -- what owes something is no attempt that another one follows
 owing_attempt : (end : Option End) (e : RedisError) → owed_unstarted end ≡ Some (outcome.Fault e) → is_attempt end ≡ false

@@ -24,17 +24,17 @@ use Rattle.link_laws.proofs.TiedLink.{TiedLink}
 use Rattle.mux_conn.specs.declared.life.Greeting.{Greeting}
 use Rattle.mux_conn.specs.declared.life.Life.{Life}
 use Rattle.mux_conn.specs.declared.life.Life.TheVariants.{Resting, Dialing, Wanting, SettingUp, Ready, Ended}
-use Rattle.mux_conn.specs.Connection.{is_ready, Work}
+use Rattle.mux_conn.specs.Connection.{is_ready, Work, is_resting}
 use Rattle.mux_conn.specs.Effects.{ended, ended_by, failed_at, overdue_at, shut_at, unauthorized_at, greeting_error, dropped_at}
 use Rattle.shared_session.specs.declared.core_state.Core.{Core}
 use Rattle.shared_session.specs.Turn.{with_work, is_bad}
 use Rattle.legal_trace.specs.Ledger.{Ledger, by_fault, by_opening, by_shutdown, ends, hears, noted, ending, ending_alive, ending_unready, ending_up, is_over, is_set_up, lacks_credentials, fault_error, opening_error, monitor_among, reach, Start, setup_count, is_full}
 use Rattle.legal_trace.specs.Book.{Book, book, hearing_in}
 use Rattle.session_laws.proofs.Numbers.{IsIn}
-use Rattle.session_laws.proofs.Tied.{never_rests, AreSought, HasCredentials, Inner, inner, link_in, no_link, carried, whole_link, owner_of, queue_ids, HasSaid, Tied, TiedLife, has_ended, IsGreeting, IsWatchSent, greeter}
+use Rattle.session_laws.proofs.Tied.{AreSought, HasCredentials, Inner, inner, link_in, no_link, carried, whole_link, owner_of, queue_ids, HasSaid, Tied, TiedLife, has_ended, IsGreeting, IsWatchSent, greeter, on_link, hearing_on, hearing_there, TiedNotices, is_reading}
 use Rattle.session_laws.proofs.Creds.{asked_sourced, has_sourced, wanting_lacks}
 use Rattle.session_laws.proofs.SetUp.{not_set_up, lacking_unset, alone_unwatched}
-use Rattle.session_laws.proofs.Said.{ending_wanting, ready_heard, setting_heard, setting_told, renoticed}
+use Rattle.session_laws.proofs.Said.{ending_wanting, ready_heard, setting_heard, setting_told, renoticed, PushesOf}
 use Rattle.session_laws.proofs.Failing.{Fails, IsUnready, setup_failed}
 use Rattle.session_laws.proofs.States.{Between, HasApplied}
 use Rattle.session_laws.proofs.Settle.{seen, trace_of_acts, Holds}
@@ -49,6 +49,7 @@ use Rattle.mux_conn.specs.declared.life.Greeting.TheVariants as greet
 use Rattle.driver_model.specs.declared.news.LinkFault.TheVariants as faults
 use Rattle.link_core.specs.declared.message.Entry.{Entry}
 use Rattle.std.proofs.lemmas.List.{take_all}
+use Rattle.session_laws.proofs.Comes.{tied_opened}
 
 -- what waits in the queue gets the closed connection
 queue_waits : (ids : List ℕ) (queue : List Queued) → ((n : ℕ) → IsIn n (queue_ids queue) → IsIn n ids) → AllByRecursion (IsClosedOf ids) (queue_closed queue)
@@ -69,7 +70,6 @@ pub record IsUp (name : ℕ → Owner) (l : Ledger) (created : ℕ) (link : Link
   pub asked : l.asked ≡ true
   pub up : l.up ≡ true
   pub alive : l.end ≡ None
-  pub last : l.last ≡ true
   pub shown : created ≢ 0
   pub has : HasCredentials l.creds
   pub well : is_set_up l ≡ true
@@ -85,8 +85,7 @@ up_tied b t link is h =
       asked = lived.0;
       up = lived.1;
       alive = lived.2;
-      last = lived.3;
-      shown = lived.4;
+      shown = lived.3;
       has = (subst (λ (x : Life). AreSought l.creds x) is h.creds.sought).0;
       well = said.well;
       tied = subst (λ (x : Life). TiedLink (carried x t.requests) l (whole_link x)) is (h.link (ap has_ended is));
@@ -97,7 +96,6 @@ pub record IsWanting (l : Ledger) (created : ℕ) (started : List ℕ) (link : L
   pub asked : l.asked ≡ true
   pub up : l.up ≡ true
   pub alive : l.end ≡ None
-  pub last : l.last ≡ true
   pub sought : AreSought l.creds (Wanting link)
   pub lacks : lacks_credentials l ≡ true
   pub starts : l.starts ≡ []
@@ -117,7 +115,6 @@ wanting_tied b t link is h =
       asked = lived.0;
       up = lived.1;
       alive = lived.2;
-      last = lived.3;
       sought = sought;
       lacks = wanting_lacks l.creds link sought;
       starts = said.0;
@@ -132,7 +129,6 @@ pub record IsSetting (l : Ledger) (created : ℕ) (started : List ℕ) (link : L
   pub asked : l.asked ≡ true
   pub up : l.up ≡ true
   pub alive : l.end ≡ None
-  pub last : l.last ≡ true
   pub has : HasCredentials l.creds
   pub once : l.creds.renews ≡ false
   pub none : started ≡ []
@@ -149,7 +145,6 @@ setting_tied b t link greeting is h =
       asked = lived.0;
       up = lived.1;
       alive = lived.2;
-      last = lived.3;
       has = (subst (λ (x : Life). AreSought l.creds x) is h.creds.sought).0;
       once = (subst (λ (x : Life). AreSought l.creds x) is h.creds.sought).1;
       none = said.0;
@@ -167,29 +162,29 @@ fault_ends before f w link fault started h is must =
     let tied = up_tied b (seen f w.acts w.conn [] started) link is h.tied in
     let turn = b.turns - 1 in
     let row = row_hit_owed name l link turn fault must tied.alive tied.tied in
-    faulted_holds before f w (row_hit fault link.row) (queue_closed link.queue) fault started h (ap has_ended is)
+    faulted_holds before f w (row_hit fault link.row) (queue_closed link.queue) fault started h (ap has_ended is) (tied_opened b (seen f w.acts w.conn [] started) link h.tied is)
     (must, settles_ready name (noted l (ends turn)) w.conn.life link (row_hit fault link.row) is row (hit_ids fault link.row link.queue))
 
 -- or by the shutdown
-pub shutdown_ends : (before : List Action) (f : Core) (w : Work) (link : LinkState) (started : List ℕ) → Holds before f w [] started → w.conn.life ≡ Ready link
+pub shutdown_ends : (before : List Action) (f : Core) (w : Work) (link : LinkState) (started : List ℕ) → Holds before f w [] started → f.shut ≡ true → w.conn.life ≡ Ready link
     → ending ((book (trace_of_acts before f w.acts)).link f.single.link) ≡ Some by_shutdown → HasEnded before f (shut_at w (Ready link)) error.Closed started
-shutdown_ends before f w link started h is must =
+shutdown_ends before f w link started h over is must =
     let b = book (trace_of_acts before f w.acts) in
     let l = b.link f.single.link in
     let name = owner_of w.conn.requests in
     let tied = up_tied b (seen f w.acts w.conn [] started) link is h.tied in
     let turn = b.turns - 1 in
     let row = row_closed_owed name l link turn must tied.alive tied.tied in
-    ended_holds before f w (row_closed link.row) (queue_closed link.queue) by_shutdown started h (ap has_ended is) refl refl refl
+    ended_holds before f w (row_closed link.row) (queue_closed link.queue) by_shutdown started h (ap has_ended is) refl refl refl over
     (must, settles_ready name (noted l (ends turn)) w.conn.life link (row_closed link.row) is row (closed_ids link.row link.queue))
 
 -- also before it is ready
-pub bare_ends : (before : List Action) (f : Core) (w : Work) (started : List ℕ) → Holds before f w [] started → has_ended w.conn.life ≡ false → link_in w.conn.life ≡ no_link → ending ((book (trace_of_acts before f w.acts)).link f.single.link) ≡ Some by_shutdown
+pub bare_ends : (before : List Action) (f : Core) (w : Work) (started : List ℕ) → Holds before f w [] started → f.shut ≡ true → has_ended w.conn.life ≡ false → link_in w.conn.life ≡ no_link → ending ((book (trace_of_acts before f w.acts)).link f.single.link) ≡ Some by_shutdown
     → HasEnded before f (ended w []) error.Closed started
-bare_ends before f w started h alive bare must =
+bare_ends before f w started h over alive bare must =
     let b = book (trace_of_acts before f w.acts) in
     let settles = λ (x : LinkState). SettlesAll (owner_of w.conn.requests) (noted (b.link f.single.link) (ends (b.turns - 1))) x [] [] in
-    ended_holds before f w [] [] by_shutdown started h alive refl refl refl (must, subst settles (sym bare) (record { started = tt; waits = tt; ids = refl }))
+    ended_holds before f w [] [] by_shutdown started h alive refl refl refl over (must, subst settles (sym bare) (record { started = tt; waits = tt; ids = refl }))
 
 -- the turns of these events
 --
@@ -223,11 +218,17 @@ plain_begins before c started word kind n p h good k is = heard_begins before c 
 
 -- a link that is set up still isn't ready
 pub setting_unready : (b : Book) (t : Inner) (link : LinkState) (greeting : Greeting) → t.life ≡ SettingUp link greeting → Tied b t → IsUnready b.created t.life t.started
-setting_unready b t link greeting e h = let s = setting_tied b t link greeting e h in record { bare = ap link_in e; none = s.none; unready = ap is_ready e; alive = ap has_ended e }
+setting_unready b t link greeting e h = let s = setting_tied b t link greeting e h in record { bare = ap link_in e; none = s.none; unready = ap is_ready e; alive = ap has_ended e; there = ap is_resting e }
 
 -- nor is one that waits for credentials
 pub wanting_unready : (b : Book) (t : Inner) (link : LinkState) → t.life ≡ Wanting link → Tied b t → IsUnready b.created t.life t.started
-wanting_unready b t link e h = let s = wanting_tied b t link e h in record { bare = ap link_in e; none = s.none; unready = ap is_ready e; alive = ap has_ended e }
+wanting_unready b t link e h = let s = wanting_tied b t link e h in record { bare = ap link_in e; none = s.none; unready = ap is_ready e; alive = ap has_ended e; there = ap is_resting e }
+
+-- what was told of a link that is there
+pub notices_there : (b : Book) (c : Core) (started : List ℕ) → is_resting c.single.connection.life ≡ false → Tied b (inner c started) → PushesOf (hearing_in b.config) c.single.connection.hears (b.link c.single.link)
+notices_there b c started there h =
+    let l = b.link c.single.link in
+    subst (λ (x : Hearing). TiedNotices (hearing_in b.config) c.single.connection.hears x l.notices l.told l.end l.parted l.strange (is_reading l) [] false) (hearing_on c.single.connection.life c.single.connection.hears l.hearing there) h.notices
 
 -- a link that is set up fails by news that leave its ledger
 plain_fails : (before : List Action) (c : Core) (started : List ℕ) (n : News) (x : RedisError) (link : LinkState) (greeting : Greeting) → Between before c started → c.single.connection.life ≡ SettingUp link greeting
@@ -240,11 +241,11 @@ plain_fails before c started n x link greeting h e is =
       alive = s.alive;
       unready = (not_set_up (record l { heard = n }) link greeting (setting_told l n link greeting s.said)).unset;
       must = setting_heard l n link greeting s.up s.said ∙ is;
-      info_is = h.sound.tied.setup.info_is;
-      wanted_is = h.sound.tied.creds.wanted_is;
+      info_is = on_link c.single.connection.life (l.info ≡ c.single.connection.info) (ap is_resting e) h.sound.tied.setup.info_is;
+      wanted_is = on_link c.single.connection.life (l.creds.wanted ≡ c.single.connection.renewal.wanted) (ap is_resting e) h.sound.tied.creds.wanted_is;
       sourced = has_sourced (record l { heard = n }) s.has (not_set_up (record l { heard = n }) link greeting (setting_told l n link greeting s.said)).unset;
       sent = h.sound.tied.setup.sent;
-      notices = renoticed (tame_between before c started h) h.sound.tied.notices;
+      notices = renoticed (tame_between before c started h) (notices_there b c started (ap is_resting e) h.sound.tied);
     }
 
 -- and so does one that waits for credentials
@@ -258,11 +259,11 @@ wanting_fails before c started n x link h e is =
       alive = s.alive;
       unready = (lacking_unset (record l { heard = n }) s.lacks).unset;
       must = ending_wanting (record l { heard = n }) s.up s.lacks ∙ is;
-      info_is = h.sound.tied.setup.info_is;
-      wanted_is = h.sound.tied.creds.wanted_is;
+      info_is = on_link c.single.connection.life (l.info ≡ c.single.connection.info) (ap is_resting e) h.sound.tied.setup.info_is;
+      wanted_is = on_link c.single.connection.life (l.creds.wanted ≡ c.single.connection.renewal.wanted) (ap is_resting e) h.sound.tied.creds.wanted_is;
       sourced = asked_sourced (record l { heard = n }) s.sought.1 (inl (lacking_unset (record l { heard = n }) s.lacks).unset);
       sent = h.sound.tied.setup.sent;
-      notices = renoticed (tame_between before c started h) h.sound.tied.notices;
+      notices = renoticed (tame_between before c started h) (notices_there b c started (ap is_resting e) h.sound.tied);
     }
 
 -- MONITOR that isn't answered takes items

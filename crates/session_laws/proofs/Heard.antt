@@ -7,6 +7,7 @@ use Rattle.driver_model.specs.declared.action.Action.{Action}
 use Rattle.connection_info.specs.declared.address.RedisConnectionInfo.{RedisConnectionInfo}
 use Rattle.driver_model.specs.declared.action.Purpose.{Purpose}
 use Rattle.driver_model.specs.declared.event.EventKind.{EventKind}
+use Rattle.driver_model.specs.declared.event.EventKind.TheVariants as event
 use Rattle.driver_model.specs.News.{News, silence, connected, took, came, failed, authorized, denied, deserted, shut, news_of, refused, overdue, renewed, unrenewed, late, unrepeated, dropped}
 use Rattle.driver_model.specs.declared.outcome.Outcome.TheVariants as outcome
 use Rattle.link_core.specs.Link.{LinkState}
@@ -26,7 +27,7 @@ use Rattle.session_laws.proofs.Creds.{creds_hear, down_unawaited, unawaited_is, 
 use Rattle.session_laws.proofs.Tied.{Inner, inner, link_in, carried, whole_link, TiedCreds, TiedLife, TiedSetup, TiedLines, AreQueued, TiedWaits, Tied, has_ended, HasCourse, TiedRenewal, NoneRenewed, TiedRounds, AreEarly}
 use Rattle.session_laws.proofs.Unrepeated.{down_repeats_not}
 use Rattle.session_laws.proofs.Comes.{course_alike}
-use Rattle.session_laws.proofs.States.{IsFit, IsFitIn, IsHushed, Between, HasApplied}
+use Rattle.session_laws.proofs.States.{IsFit, IsFitIn, IsHushed, Between, HasApplied, IsStopped}
 use Rattle.session_laws.proofs.Answer.{some_end, ended_over}
 use Rattle.session_laws.proofs.Aside.{aside_ends, not_up_ends, over_not_asked}
 use Rattle.session_laws.proofs.Settle.{seen, trace_of_acts, Holds}
@@ -36,6 +37,8 @@ use Rattle.mux_conn.specs.declared.renewal.Renewal.{Renewal}
 use Rattle.legal_trace.proofs.Came.{holds_bytes}
 use Rattle.mux_conn.specs.declared.life.Greeting.{Greeting}
 use Rattle.mux_conn.specs.Connection.{is_ready, is_resting}
+use Rattle.mux_conn.specs.declared.request.Waiting.{Waiting}
+use Rattle.driver_model.specs.declared.action.SourceUse.{SourceUse}
 
 -- what a turn of news does to the ledger of the connection's link
 abbrev pub heard_by : Book → Core → News → Ledger
@@ -105,13 +108,13 @@ heard_begins before c started word kind n life pending h good k is g =
     (record { starts = heard_starts ((book before).link c.single.link) c.turns n; hearing_kept = heard_hearing ((book before).link c.single.link) c.turns n; spoken = refl; lived = g.lived; course = g.course; creds = g.creds; renewal_is = g.renewal_is; said = g.said; linked = g.linked; lines = g.lines; told = g.told; waits = g.waits; rounds = g.rounds; early = g.early; notices = g.notices }) in
     record { holds = s.holds; ledger = s.ledger; stories = s.stories }
 
--- where everything is shut down while the connection has no link, nobody waits for one
+-- where everything is shut down, no link goes on, and without one nobody waits
 abbrev pub StaysHushed : Core → EventKind → Life → Type 0
-StaysHushed c kind life = (c.shut || is_shutdown kind) ≡ true → is_resting life ≡ true → c.single.connection.waiting ≡ []
+StaysHushed c kind life = (c.shut || is_shutdown kind) ≡ true → IsStopped life c.single.connection.waiting
 
 -- it was so, and the event doesn't shut it down
 pub hushed_still : (c : Core) (kind : EventKind) → is_shutdown kind ≡ false → IsHushed c → StaysHushed c kind c.single.connection.life
-hushed_still c kind awake h over rests = h (or_true c.shut (is_shutdown kind) awake over) rests
+hushed_still c kind awake h over = h (or_true c.shut (is_shutdown kind) awake over)
   where
     or_true : (x y : Bool) → y ≡ false → (x || y) ≡ true → x ≡ true
     or_true true y e f = refl
@@ -140,9 +143,31 @@ shut_down timers sources l event.Shutdown n is other = absurd (other (sym is))
 pub hushed_news : (c : Core) (kind : EventKind) (n : News) → news_of c.timers c.sources c.single.link kind ≡ n → n ≢ shut → IsHushed c → StaysHushed c kind c.single.connection.life
 hushed_news c kind n is other h = hushed_still c kind (shut_down c.timers c.sources c.single.link kind n is other) h
 
--- a connection that has a link waits for no other
-pub hushed_there : (c : Core) (kind : EventKind) (life : Life) → is_resting life ≡ false → StaysHushed c kind life
-hushed_there c kind life there over rests = absurd (not_both (is_resting life) there rests)
+-- a link that has ended is over
+pub hushed_over : (c : Core) (kind : EventKind) (life : Life) → has_ended life ≡ true → StaysHushed c kind life
+hushed_over c kind Resting ended over = cc
+hushed_over c kind Dialing ended over = cc
+hushed_over c kind (Wanting link) ended over = cc
+hushed_over c kind (SettingUp link greeting) ended over = cc
+hushed_over c kind (Ready link) ended over = cc
+hushed_over c kind (Ended e) ended over = tt
+
+-- what goes on isn't stopped
+pub not_stopped : (life : Life) (waiting : List Waiting) → is_resting life ≡ false → has_ended life ≡ false → IsStopped life waiting → ⊥
+not_stopped Resting waiting there alive h = cc
+not_stopped Dialing waiting there alive h = h
+not_stopped (Wanting link) waiting there alive h = h
+not_stopped (SettingUp link greeting) waiting there alive h = h
+not_stopped (Ready link) waiting there alive h = h
+not_stopped (Ended e) waiting there alive h = cc
+
+-- a link that goes on was not shut down, so it may go on otherwise
+pub hushed_there : (c : Core) (kind : EventKind) (n : News) (life : Life) → news_of c.timers c.sources c.single.link kind ≡ n → n ≢ shut → is_resting c.single.connection.life ≡ false → has_ended c.single.connection.life ≡ false → IsHushed c → StaysHushed c kind life
+hushed_there c kind n life is other there alive h over = absurd (not_stopped c.single.connection.life c.single.connection.waiting there alive (hushed_news c kind n is other h over))
+
+-- nor is it
+pub going_awake : (c : Core) (kind : EventKind) (n : News) → news_of c.timers c.sources c.single.link kind ≡ n → n ≢ shut → is_resting c.single.connection.life ≡ false → has_ended c.single.connection.life ≡ false → IsHushed c → (c.shut || is_shutdown kind) ≡ false
+going_awake c kind n is other there alive h = by_test (c.shut || is_shutdown kind) _ (λ over. absurd (not_stopped c.single.connection.life c.single.connection.waiting there alive (hushed_news c kind n is other h over))) (λ awake. awake)
 
 -- where the link need not end then, and no act follows, the event has had its effect
 pub fresh_applied : (before : List Action) (c : Core) (started : List ℕ) (word : ℕ) (kind : EventKind) (n : News) (info : RedisConnectionInfo) (life : Life) (fresh : List ℕ) → Between before c started → is_bad c kind ≡ false → IsNewsKind c.timers kind
@@ -389,7 +414,7 @@ ended_quiet before c started word kind n error h good k is over =
       setup_unheard l c.turns n c.single.connection.info started c.single.connection.life life.0 h.sound.tied.setup,
       λ alive. absurd (not_both (has_ended c.single.connection.life) alive (ap has_ended over)),
     ))
-    (over_no_end (noted l (hears c.turns n)) b.created error after) h.fit (hushed_there c kind c.single.connection.life (ap is_resting over))
+    (over_no_end (noted l (hears c.turns n)) b.created error after) h.fit (hushed_over c kind c.single.connection.life (ap has_ended over))
 
 -- a link whose connect isn't answered hears but of that, of the end of its time, and of the shutdown
 --
@@ -411,6 +436,25 @@ IsOfAnother overdue = ⊥
 IsOfAnother connected = ⊥
 IsOfAnother dropped = ⊥
 IsOfAnother shut = ⊥
+
+-- such news aren't the shutdown
+another_open : (n : News) → IsOfAnother n → n ≢ shut
+another_open silence k e = cc
+another_open (refused f) k e = cc
+another_open overdue k e = cc
+another_open connected k e = cc
+another_open (took count) k e = cc
+another_open (came piece) k e = cc
+another_open (failed f) k e = cc
+another_open (authorized c) k e = cc
+another_open (renewed c) k e = cc
+another_open unrenewed k e = cc
+another_open (late m) k e = cc
+another_open unrepeated k e = cc
+another_open (denied text) k e = cc
+another_open deserted k e = cc
+another_open dropped k e = cc
+another_open shut k e = absurd k
 
 -- a link whose connect is not answered stays as it is
 dialing_hears : (l : Ledger) (created turn : ℕ) (n : News) → IsOfAnother n → TiedLife l created Dialing → TiedLife (noted l (hears turn n)) created Dialing
@@ -471,7 +515,7 @@ dialing_quiet before c started word kind n o h good k is dialing =
       setup_unheard l c.turns n c.single.connection.info started c.single.connection.life life.1 h.sound.tied.setup,
       λ alive. unheard_tied (carried c.single.connection.life c.single.connection.requests) l (whole_link c.single.connection.life) c.turns n life.1 (h.sound.tied.link alive),
     ))
-    (dialing_no_end l b.created c.turns n o life) h.fit (hushed_there c kind c.single.connection.life (ap is_resting dialing))
+    (dialing_no_end l b.created c.turns n o life) h.fit (hushed_news c kind n is (another_open n o) h.hushed)
 
 -- without a link
 --
@@ -523,7 +567,7 @@ silent_no_end l turn none = mild_end l l.taken l.offer silence tt none
 
 -- a turn in which nothing is heard, and no act follows
 pub silent_applied : (before : List Action) (c : Core) (started : List ℕ) (word : ℕ) (kind : EventKind) (f : Core) (conn : MultiplexedConnection) → Between before c started → is_bad c kind ≡ false → ((m : ℕ) → ending ((entered (book before) (turn_of c word kind)).link m) ≡ None)
-    → f.turns ≢ 0 → conn.moved ≡ [] → IsFitIn conn → (f.shut ≡ true → is_resting conn.life ≡ true → conn.waiting ≡ []) → Tied (entered (book before) (turn_of c word kind)) (seen f [] conn [] started)
+    → f.turns ≢ 0 → conn.moved ≡ [] → IsFitIn conn → (f.shut ≡ true → IsStopped conn.life conn.waiting) → Tied (entered (book before) (turn_of c word kind)) (seen f [] conn [] started)
     → HasApplied (before ++ turn_of c word kind ∷ []) (with_work (record { core = f; acts = [] }) (record { conn = conn; acts = [] })) started
 silent_applied before c started word kind f conn h good no_end began none_moved fit hushed tied =
     let front = before ++ turn_of c word kind ∷ [] in

@@ -541,6 +541,7 @@ ask_tied b t p number ms ready w begun alone h =
       speaks = k.speaks;
       address_is = k.address_is;
       wants = k.wants;
+      alone = k.alone;
     }) h
 
 -- a request is let in by its connection

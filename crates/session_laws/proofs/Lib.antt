@@ -44,6 +44,7 @@ pub mod Heard
 pub mod Failing
 pub mod End
 pub mod ComeUp
+pub mod Retire
 pub mod Connect
 pub mod Given
 pub mod Renewed

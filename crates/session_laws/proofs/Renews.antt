@@ -125,6 +125,7 @@ time_tied b t link number ms none due within h =
         speaks = k.speaks;
         address_is = k.address_is;
         wants = k.wants;
+        alone = k.alone;
       };
       others = others_kept b t.link times h.others;
       notices = h.notices;
@@ -261,6 +262,7 @@ auth_tied b t link c cs due pending waits h =
         speaks = k.speaks;
         address_is = k.address_is;
         wants = k.wants;
+        alone = k.alone;
       };
       others = others_kept b t.link (begins (message_of b t.link owner.Auth)) h.others;
       notices = h.notices;

@@ -288,6 +288,7 @@ renewal_tied b t r within wanted waiting tied h = record {
     speaks = h.numbers.speaks;
     address_is = h.numbers.address_is;
     wants = h.numbers.wants ∙ sym wanted;
+    alone = h.numbers.alone;
   };
   others = subst (λ o. AreAside t.link t.links b.link t.hears o b.created) (sym within) h.others;
   notices = h.notices;

@@ -5,19 +5,29 @@ use Rattle.link_core.specs.Link.{LinkState, is_full_beside, holds_back}
 use Rattle.mux_conn.specs.declared.connection.MultiplexedConnection.{MultiplexedConnection}
 use Rattle.mux_conn.specs.declared.life.Greeting.{Greeting}
 use Rattle.mux_conn.specs.declared.life.Life.{Life}
-use Rattle.mux_conn.specs.declared.life.Life.TheVariants.{Wanting, SettingUp, Ready}
+use Rattle.mux_conn.specs.declared.life.Life.TheVariants.{Resting, Dialing, Wanting, SettingUp, Ready, Ended}
 use Rattle.mux_conn.specs.declared.request.Request.{Request}
 use Rattle.mux_conn.specs.Requests.{is_unbegun_at}
 use Rattle.shared_session.specs.declared.core_state.Core.{Core}
 use Rattle.shared_session.specs.Turn.{Turning, numbered, shown_each}
-use Rattle.mux_conn.specs.Connection.{has_no_permit, in_front, is_due, is_ready, is_resting}
+use Rattle.mux_conn.specs.Connection.{has_no_permit, in_front, is_due, is_ready}
 use Rattle.legal_trace.specs.Book.{blank_book, book}
 use Rattle.legal_trace.specs.Legal.{AllStand, IsShown, NoneEnds, IsSettled}
 use Rattle.session_laws.proofs.Tied.{IsHeeded, IsRetiring, Sound, has_ended, inner}
+use Rattle.mux_conn.specs.declared.request.Waiting.{Waiting}
 
--- where everything was shut down while the connection has no link, nobody waits for one
+-- no link goes on, and where there is none, nobody waits for one
+abbrev pub IsStopped : Life → List Waiting → Type 0
+IsStopped Resting waiting = waiting ≡ []
+IsStopped Dialing waiting = ⊥
+IsStopped (Wanting link) waiting = ⊥
+IsStopped (SettingUp link greeting) waiting = ⊥
+IsStopped (Ready link) waiting = ⊥
+IsStopped (Ended e) waiting = Unit {0}
+
+-- so it is where everything was shut down
 abbrev pub IsHushed : Core → Type 0
-IsHushed c = c.shut ≡ true → is_resting c.single.connection.life ≡ true → c.single.connection.waiting ≡ []
+IsHushed c = c.shut ≡ true → IsStopped c.single.connection.life c.single.connection.waiting
 
 -- a link that reads on, with a queue of this size and this boundary, and no more messages in the queue than that holds
 pub record IsFit (size bound : ℕ) (link : LinkState) : Type 0 where

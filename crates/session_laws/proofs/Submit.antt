@@ -210,6 +210,7 @@ refused_tied b c started word what e h tame form few no_fresh why =
         speaks = h.numbers.speaks;
         address_is = h.numbers.address_is;
         wants = h.numbers.wants;
+        alone = h.numbers.alone;
       };
       others = λ m other. aside_silent (b.link m) c.turns (h.others m other);
       notices = renoticed tame h.notices;

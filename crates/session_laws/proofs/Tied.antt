@@ -253,7 +253,7 @@ IsHeeded rest failed life (Some g) = HasHeeded rest failed life g
 -- the numbers that the session gives are those of the book, and so are its generations, what it is, and what its servers are
 -- told; its connection's link is the one that submissions go to; all timers are for it, for one
 -- before it, for a submission, or for the wait behind a failed attempt, and one was asked for each bounded connect; where it waits for
--- its first submission it was created; what is told to its server is to be answered within the
+-- its first submission it was created; what doesn't come back opens its link once; what is told to its server is to be answered within the
 -- configured time; no more numbers were given to submissions than there are; and nothing is subscribed again
 pub record TiedNumbers (b : Book) (t : Inner) : Type 0 where
   pub turns : b.turns ≡ t.turns
@@ -277,6 +277,7 @@ pub record TiedNumbers (b : Book) (t : Inner) : Type 0 where
   pub speaks : (info_in b.config).protocol ≡ t.info.protocol
   pub address_is : info_in b.config ≡ t.address
   pub wants : wanted_in b.config ≡ t.renewal.wanted
+  pub alone : is_some t.manager ≡ false → t.last ≡ true
 
 -- where the opening failed, this was shown
 abbrev pub FailureIsShown : Option End → ℕ → Type 0
@@ -890,6 +891,7 @@ numbers_kept b link story tracked errors t life free requests waiting admitted f
   speaks = h.speaks;
   address_is = h.address_is;
   wants = h.wants;
+  alone = h.alone;
 }
 
 -- requests move between those that wait for the connection, those that wait for a place, those whose wait isn't shown yet,
