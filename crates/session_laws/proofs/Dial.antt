@@ -1,6 +1,6 @@
 -- The next link of a session is asked for.
 use Rattle.std.proofs.Common.{◌≡◌, ◌≢◌, inl, inr, ℕ, ◌+◌, ◌<◌, ◌≤◌, ◌==◌, Bool, true, false, List, [], ◌∷◌, ◌++◌, length, Option, Some, None, is_some, slice_get, refl, sym, ap, ◌∙◌, subst, arith}
-use Rattle.containers.proofs.Choices.{chosen, if_false, ne_test}
+use Rattle.containers.proofs.Choices.{chosen, if_false, ne_test, not_both}
 use Rattle.driver_model.specs.declared.action.Action.TheVariants as action
 use Rattle.driver_model.specs.declared.action.Purpose.{Purpose}
 use Rattle.driver_model.specs.declared.action.SourceUse.{SourceUse}
@@ -89,6 +89,7 @@ dials_tied b t host port last timers timed c aimed bounded =
         quiet = n.quiet;
         comes_back = n.comes_back;
         lazy = n.lazy;
+        alone = λ none. absurd (not_both (is_some t.manager) none course.1);
         current_is = refl;
         speaks = n.speaks;
         address_is = n.address_is;

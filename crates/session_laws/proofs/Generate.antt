@@ -102,6 +102,7 @@ over_begins b t e number h over untold parting few comes one nobody closed some 
         quiet = λ w. let q = n.quiet w in record { none = q.none; unwanted = q.unwanted; unrenewed = refl };
         comes_back = manager_begins b.config b.generation b.attempt number t.manager some n.comes_back;
         lazy = n.lazy;
+        alone = λ none. absurd (not_both (is_some (option_map (λ g. begun_with g number) t.manager)) none (same_some t.manager number ∙ comes));
         current_is = n.links;
         speaks = ap (λ a. a.protocol) n.address_is;
         address_is = n.address_is;
@@ -210,6 +211,7 @@ first_begins b t number h rests settled alone still nobody untold parting free f
         quiet = λ w. let q = n.quiet w in record { none = q.none; unwanted = q.unwanted; unrenewed = refl };
         comes_back = manager_begins b.config b.generation b.attempt number t.manager some n.comes_back;
         lazy = n.lazy;
+        alone = λ none. absurd (not_both (is_some (option_map (λ g. begun_with g number) t.manager)) none (same_some t.manager number ∙ course.1));
         current_is = n.links ∙ course.0;
         speaks = ap (λ a. a.protocol) n.address_is;
         address_is = n.address_is;
