@@ -69,6 +69,7 @@ pub mod Generate
 pub mod Dial
 pub mod Past
 pub mod Regenerate
+pub mod Judge
 pub mod Write
 pub mod Waits
 pub mod Settled
