@@ -1,5 +1,5 @@
 -- The opening of the connection's link ends: its connect succeeds, is refused, or isn't answered in time.
-use Rattle.std.proofs.Common.{inl, length, ◌==◌, ◌≡◌, ℕ, ◌+◌, Bool, true, false, ◌&&◌, not, List, [], ◌∷◌, ◌++◌, None, is_some, refl, sym, ap, ◌∙◌, subst, arith, if◌then◌else◌, ◌≢◌, ◌-◌, Some, ◌||◌}
+use Rattle.std.proofs.Common.{inl, length, ◌==◌, ◌≡◌, ℕ, ◌+◌, Bool, true, false, ◌&&◌, not, List, [], ◌∷◌, ◌++◌, None, is_some, refl, sym, ap, ◌∙◌, subst, arith, if◌then◌else◌, ◌≢◌, ◌-◌, Some, ◌||◌, Option, inr}
 use Rattle.std.proofs.lemmas.List.{append-nil}
 use Rattle.containers.proofs.Choices.{chosen, taken_if, left_if, by_test, not_both}
 use Rattle.redis_error.specs.declared.fault_kind.FaultKind.{FaultKind}
@@ -18,7 +18,7 @@ use Rattle.link_laws.proofs.TiedLink.{TiedLink, connected_tied, named_tied, sour
 use Rattle.link_laws.specs.Settles.{wanted, awaited_ids}
 use Rattle.mux_conn.specs.declared.life.Life.{Life}
 use Rattle.mux_conn.specs.declared.life.Life.TheVariants.{Resting, Dialing, Wanting, SettingUp, Ready, Ended}
-use Rattle.mux_conn.specs.Effects.{come_up, comes_to_want, new_link, numbers_of, connected_at, refused_at, overdue_at, dropped_at, dropped_by, afresh, given_up}
+use Rattle.mux_conn.specs.Effects.{come_up, comes_to_want, new_link, numbers_of, connected_at, refused_at, overdue_at, dropped_at, dropped_by, afresh, given_up, opening_failed}
 use Rattle.mux_conn.specs.Connection.{Work, is_ready, is_resting}
 use Rattle.mux_conn.specs.Turn.{early_wait}
 use Rattle.mux_conn.specs.declared.act.LinkAct.TheVariants as act

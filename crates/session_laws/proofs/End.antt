@@ -1,5 +1,5 @@
 -- A fault ends the connection's link, or the shutdown does.
-use Rattle.std.proofs.Common.{if◌then◌else◌, inl, inr, ◌≡◌, ◌≢◌, ℕ, ◌-◌, true, false, List, [], ◌∷◌, ◌++◌, Some, None, refl, sym, ap, ◌∙◌, subst, ◌&&◌, not, is_some, arith, Option, ◌≤◌, ◌+◌, length, take, ◌||◌}
+use Rattle.std.proofs.Common.{if◌then◌else◌, inl, inr, ◌≡◌, ◌≢◌, ℕ, ◌-◌, true, false, List, [], ◌∷◌, ◌++◌, Some, None, refl, sym, ap, ◌∙◌, subst, ◌&&◌, not, is_some, arith, Option, ◌≤◌, ◌+◌, length, take, ◌||◌, Bool}
 use Rattle.std.specs.List.{AllByRecursion}
 use Rattle.containers.proofs.Choices.{chosen, taken_if, left_if, le_test, not_both}
 use Rattle.redis_error.specs.declared.fault_kind.FaultKind.TheVariants as kinds
