@@ -40,7 +40,7 @@ use Rattle.session_laws.proofs.Aside.{aside_silent}
 use Rattle.session_laws.proofs.Renewals.{renewal_alike}
 use Rattle.session_laws.proofs.Numbers.{IsIn, in_left, in_right, in_either, Rising, rising_from, rising_in, rising_right, rising_tail, requests_in, request_in, request_of, request_other, requests_first}
 use Rattle.session_laws.proofs.Tied.{carried, inner, no_link, link_in, owner_of, queue_ids, whole_link, IsQueued, IsEntry, AreQueued, TiedCreds, TiedLife, TiedStory, TiedNames, TiedNumbers, TiedPermits, TiedLines, TiedSetup, IsAside, Tied, has_ended, TiedRenewal, greeter, TiedRounds, HasCourse, TiedNotices, hearing_at, AreEarly}
-use Rattle.session_laws.proofs.States.{IsFit, IsFitIn, Between, HasApplied}
+use Rattle.session_laws.proofs.States.{IsFit, IsFitIn, Between, HasApplied, IsStopped}
 use Rattle.session_laws.proofs.Names.{name_within, open_within, name_of_some, owners_with, length_with, names_with, with_other, with_then, request_not}
 use Rattle.session_laws.proofs.InLine.{row_ids, kept_ids, chosen_in, awaited_in, wanted_in}
 use Rattle.session_laws.proofs.Behind.{open_untold}
@@ -329,18 +329,27 @@ left_course (Ready state) p is_last end links link shut next manager last opened
 left_course (Ended e) p is_last end links link shut next manager last opened info address later h = course_later (Ended e) is_last end links link shut next manager last opened info address later h
 
 -- and what is heard on it is the same
-pub left_hearing : (life : Life) (p : ℕ) (hears hearing : Hearing) → hearing_at (cancelled_in life p) hears hearing ≡ hearing_at life hears hearing
-left_hearing Resting p hears hearing = refl
-left_hearing Dialing p hears hearing = refl
-left_hearing (Wanting link) p hears hearing = refl
-left_hearing (SettingUp link greeting) p hears hearing = refl
-left_hearing (Ready link) p hears hearing = refl
-left_hearing (Ended x) p hears hearing = refl
+pub left_hearing : (life : Life) (p : ℕ) (mine hearing : Hearing) → hearing_at (cancelled_in life p) mine hearing ≡ hearing_at life mine hearing
+left_hearing Resting p mine hearing = refl
+left_hearing Dialing p mine hearing = refl
+left_hearing (Wanting link) p mine hearing = refl
+left_hearing (SettingUp link greeting) p mine hearing = refl
+left_hearing (Ready link) p mine hearing = refl
+left_hearing (Ended x) p mine hearing = refl
 
-pub left_notices : {heard hears hearing : Hearing} {notices : List Heard} {told : ℕ} {end : Option End} {parted strange reading : Bool} {untold : List Heard} {parting : Bool} (life : Life) (p : ℕ) → TiedNotices heard hears (hearing_at life hears hearing) notices told end parted strange reading untold parting
-    → TiedNotices heard hears (hearing_at (cancelled_in life p) hears hearing) notices told end parted strange reading untold parting
-left_notices {heard = heard} {hears = hears} {hearing = hearing} {notices = notices} {told = told} {end = end} {parted = parted} {strange = strange} {reading = reading} {untold = untold} {parting = parting} life p h =
-    subst (λ (x : Hearing). TiedNotices heard hears x notices told end parted strange reading untold parting) (sym (left_hearing life p hears hearing)) h
+pub left_notices : {heard mine : Hearing} {notices : List Heard} {told : ℕ} {end : Option End} {parted strange reading : Bool} {untold : List Heard} {parting : Bool} (life : Life) (p : ℕ) (hearing : Hearing) → TiedNotices heard mine (hearing_at life mine hearing) notices told end parted strange reading untold parting
+    → TiedNotices heard mine (hearing_at (cancelled_in life p) mine hearing) notices told end parted strange reading untold parting
+left_notices {heard = heard} {mine = mine} {notices = notices} {told = told} {end = end} {parted = parted} {strange = strange} {reading = reading} {untold = untold} {parting = parting} life p hearing h =
+    subst (λ (x : Hearing). TiedNotices heard mine x notices told end parted strange reading untold parting) (sym (left_hearing life p mine hearing)) h
+
+-- where it is stopped it is so still
+pub left_stopped : (life : Life) (p : ℕ) (waiting : List Waiting) → IsStopped life waiting → IsStopped (cancelled_in life p) waiting
+left_stopped Resting p waiting h = h
+left_stopped Dialing p waiting h = h
+left_stopped (Wanting link) p waiting h = h
+left_stopped (SettingUp link greeting) p waiting h = h
+left_stopped (Ready link) p waiting h = h
+left_stopped (Ended x) p waiting h = h
 
 -- nor is a connect answered that wasn't
 pub still_dials : (life : Life) (p : ℕ) → cancelled_in life p ≡ Dialing → life ≡ Dialing
@@ -594,7 +603,7 @@ gone_tied b c started word p n h tame o named =
     (record {
       numbers = silent_numbers b c started word (event.Cancel own) c.timeout after free (cancelled_in conn.life p) requests [] (leave_silent b c word own started h) h;
       others = λ m other. aside_silent (b.link m) c.turns (h.others m other);
-      notices = left_notices conn.life p (renoticed tame h.notices);
+      notices = left_notices conn.life p ledger.hearing (renoticed tame h.notices);
       life = left_life ledger b.created conn.life p h.life;
       course = left_course conn.life p ledger.last ledger.end c.links c.single.link c.shut (c.shut || false) c.manager conn.last conn.opened conn.info conn.address (or_left c.shut false) h.course;
       calm = λ up awake. refl;
@@ -646,5 +655,6 @@ cancel_applied before c started word n h good = by_entry (slice_get c.table n) r
         (is_open_at conn.requests p.number) (record (closed_conn conn p.number) { life = cancelled_in conn.life p.number }) conn
         (λ t. silent_applied before c started word (event.Cancel n) (turned c (event.Cancel n)) (record (closed_conn conn p.number) { life = cancelled_in conn.life p.number }) h good
         (λ m. silent_no_end (b.link m) c.turns (still_none before c started h m)) (λ z. absurd (omega arith)) h.moved (left_fit conn (given_back conn.limit conn.free (permits_at conn.requests p.number)) (with_permits conn.requests p.number progress.Closed 0) conn.life p.number refl h.fit)
+        (λ over. left_stopped conn.life p.number conn.waiting (hushed_still c (event.Cancel n) refl h.hushed over))
         (gone_tied b c started word p.number n h.sound.tied (tame_between before c started h) t named))
         (λ f. still (s.open_is ∙ f))

@@ -85,13 +85,22 @@ course_alike (Ready state) is_last same end after links link shut manager last o
 course_alike (Ended x) is_last same end after links link shut manager last opened info address e over h = (h.0, h.1, subst (λ (y : Option End). IsOver y shut opened) (sym (over refl)) h.2)
 
 -- where there is none, none must end
-resting_ends : (l : Ledger) (created : ℕ) (life : Life) → is_resting life ≡ true → TiedLife l created life → ending l ≡ None
+pub resting_ends : (l : Ledger) (created : ℕ) (life : Life) → is_resting life ≡ true → TiedLife l created life → ending l ≡ None
 resting_ends l created Resting rests h = not_up_ends l h.1 (ap (λ a. a && not (is_over l)) h.0)
 resting_ends l created Dialing rests h = cc
 resting_ends l created (Wanting link) rests h = cc
 resting_ends l created (SettingUp link greeting) rests h = cc
 resting_ends l created (Ready link) rests h = cc
 resting_ends l created (Ended e) rests h = cc
+
+-- nor is it up, or waited for
+pub resting_down : (l : Ledger) (created : ℕ) (life : Life) → is_resting life ≡ true → TiedLife l created life → (l.up ≡ false) × ((l.asked && not (is_over l)) ≡ false)
+resting_down l created Resting rests h = (h.1, ap (λ a. a && not (is_over l)) h.0)
+resting_down l created Dialing rests h = cc
+resting_down l created (Wanting link) rests h = cc
+resting_down l created (SettingUp link greeting) rests h = cc
+resting_down l created (Ready link) rests h = cc
+resting_down l created (Ended e) rests h = cc
 
 -- so what must end is there
 pub ends_there : (l : Ledger) (created : ℕ) (life : Life) (why : Ending) → ending l ≡ Some why → TiedLife l created life → is_resting life ≡ false
