@@ -70,6 +70,7 @@ pub mod Dial
 pub mod Past
 pub mod Regenerate
 pub mod Judge
+pub mod Return
 pub mod Write
 pub mod Waits
 pub mod Settled
