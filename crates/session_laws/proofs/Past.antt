@@ -17,12 +17,12 @@ use Rattle.driver_model.specs.News.{News, silence, connected, refused, overdue, 
 use Rattle.driver_model.specs.Push.{is_disconnection}
 use Rattle.legal_trace.specs.Ledger.{Ledger, Line, End, asks, authorized_by, awaits_credentials, begins, bytes_came, dials, ends, hears, is_over, is_renewal_open, is_repeating, lost_by, may_renew, noted, noted_each, offers, parts, refused_in, renewed_by, repeats_timed, sources, tells, times, unrenewed_by, unrepeated_by, with_news}
 use Rattle.legal_trace.specs.Story.{Story, answered, carried, clocked, fires, holds, is_open, left, rounds, tried, waits}
-use Rattle.legal_trace.specs.Book.{Book, after_event, after_timer, blank_book, book, entered, entered_each, has_generations, if_mine, if_own, is_clock_of, lines_of, push_line}
-use Rattle.legal_trace.specs.Legal.{AllStand, MayStand, current_link, link_due}
+use Rattle.legal_trace.specs.Book.{Book, after_event, after_timer, blank_book, book, entered, entered_each, has_generations, if_mine, if_own, is_clock_of, lines_of, push_line, rest_after}
+use Rattle.legal_trace.specs.Legal.{AllStand, MayStand, MayTimer, current_link, link_due}
 use Rattle.legal_trace.proofs.Clocks.{timer_tells}
 use Rattle.legal_trace.proofs.Ledgers.{each_keeps, mine_keeps}
 use Rattle.legal_trace.proofs.Came.{holds_bytes}
-use Rattle.legal_trace.proofs.Plain.{same_some}
+use Rattle.legal_trace.proofs.Plain.{item_stays, last_item, same_some}
 use Rattle.session_laws.proofs.Lost.{news_end}
 use Rattle.legal_trace.proofs.Books.{book_more, of_each_front}
 use Rattle.session_laws.proofs.Reopen.{ArePast}
@@ -289,3 +289,80 @@ unended_over trace l down alive =
     by_test m.creds.over _
     (λ t. absurd (not_both (m.up || is_over m) ((λ i. down i || is_some (alive i))) (once_each blank_book l trace (λ over. cc) t)))
     (λ f. f)
+
+-- the wait behind a failed attempt
+--
+-- its timer was asked for that
+abbrev pub RestIsTimed : Book → Type 0
+RestIsTimed b = (t : ℕ) → b.rest ≡ Some t → (g : ℕ) × (slice_get b.timers t ≡ Some (purpose.Backoff g))
+
+-- an event ends it, or leaves it
+rest_once : (rest : Option ℕ) (kind : EventKind) (t : ℕ) → rest_after rest kind ≡ Some t → rest ≡ Some t
+rest_once None kind t e = cc
+rest_once (Some s) (event.Fired k) t e = by_own (k == s) e
+  where
+    by_own : (x : Bool) → ◌≡◌ {A = Option ℕ} (if x then None else Some s) (Some t) → ◌≡◌ {A = Option ℕ} (Some s) (Some t)
+    by_own true e = cc
+    by_own false e = e
+rest_once (Some s) (event.Submit what) t e = e
+rest_once (Some s) (event.Cancel n) t e = e
+rest_once (Some s) (event.Connected l) t e = e
+rest_once (Some s) (event.Refused l f) t e = e
+rest_once (Some s) (event.Wrote l count) t e = e
+rest_once (Some s) (event.Bytes l piece) t e = e
+rest_once (Some s) (event.Ended l) t e = e
+rest_once (Some s) (event.ReadFault l kind) t e = e
+rest_once (Some s) (event.WriteFault l kind) t e = e
+rest_once (Some s) (event.Timeout ms) t e = e
+rest_once (Some s) (event.Creds c auth) t e = e
+rest_once (Some s) (event.CredsError c text) t e = e
+rest_once (Some s) (event.CredsEnd c) t e = e
+rest_once (Some s) event.DropStream t e = e
+rest_once (Some s) event.Shutdown t e = e
+
+-- a timer gets the next number
+timer_next : (b : Book) (t ms : ℕ) (what : Purpose) → MayTimer b t ms what → t ≡ length b.timers
+timer_next b t ms what (inl (inl may)) = may.next
+timer_next b t ms what (inl (inr may)) = may.next
+timer_next b t ms what (inr (inl may)) = may.next
+timer_next b t ms what (inr (inr (inl may))) = may.next
+timer_next b t ms what (inr (inr (inr may))) = may.next
+
+-- where none begins another one goes on
+later_timed : (b : Book) (what : Purpose) (t : ℕ) → RestIsTimed b → b.rest ≡ Some t → (g : ℕ) × (slice_get (b.timers ++ what ∷ []) t ≡ Some (purpose.Backoff g))
+later_timed b what t h is = let k = h t is in (k.0, item_stays b.timers (what ∷ []) (purpose.Backoff k.0) t k.1)
+
+timer_timed : (b : Book) (t ms : ℕ) (what : Purpose) → t ≡ length b.timers → RestIsTimed b → RestIsTimed (entered b (action.Timer t ms what))
+timer_timed b t ms (purpose.Backoff g) next h s is =
+    let same : t ≡ s = same_some t s is in
+    (g, ap (slice_get (b.timers ++ purpose.Backoff g ∷ [])) (sym same ∙ next) ∙ last_item b.timers (purpose.Backoff g))
+timer_timed b t ms (purpose.Connect l) next h s is = later_timed b (purpose.Connect l) s h is
+timer_timed b t ms (purpose.Response who) next h s is = later_timed b (purpose.Response who) s h is
+timer_timed b t ms (purpose.Renewal l k) next h s is = later_timed b (purpose.Renewal l k) s h is
+timer_timed b t ms (purpose.Resubscription l) next h s is = later_timed b (purpose.Resubscription l) s h is
+
+timed_kept : (b : Book) (a : Action) → MayStand b a → RestIsTimed b → RestIsTimed (entered b a)
+timed_kept b (action.Turn k (cause.Opening config word)) may h = h
+timed_kept b (action.Turn k (cause.Event e)) may h = λ t is. h t (rest_once b.rest e.kind t is)
+timed_kept b (action.Timer t ms what) may h = timer_timed b t ms what (timer_next b t ms what may) h
+timed_kept b (action.Generation g) may h = λ t is. cc
+timed_kept b (action.Connect l host port) may h = h
+timed_kept b (action.Took who l count) may h = h
+timed_kept b (action.Push l info) may h = h
+timed_kept b (action.Message m) may h = h
+timed_kept b (action.Monitor v) may h = h
+timed_kept b (action.NeedCreds c l) may h = h
+timed_kept b (action.Round who l) may h = h
+timed_kept b (action.Close l) may h = h
+timed_kept b (action.Write l bytes) may h = h
+timed_kept b (action.Wait who kind) may h = h
+timed_kept b (action.Start l k who count len) may h = h
+timed_kept b (action.Created e) may h = h
+timed_kept b (action.Outcome n o) may h = h
+
+blank_timed : RestIsTimed (book [])
+unfolding book
+blank_timed = λ t is. cc
+
+pub rest_timed : (trace : List Action) → AllStand blank_book trace → RestIsTimed (book trace)
+rest_timed trace stands = of_each_front (λ t. RestIsTimed (book t)) trace (λ t a all may h. subst RestIsTimed (sym (book_more t a)) (timed_kept (book t) a may h)) stands blank_timed
