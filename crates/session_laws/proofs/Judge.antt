@@ -153,7 +153,7 @@ pub acted_adds : (before : List Action) (c : Core) (word : ℕ) (kind : EventKin
 acted_adds before c word kind b acts h = subst (λ (x : Book). AreAdded (turn_book before c word kind) x acts) h.is (acts_add (turn_book before c word kind) c.single.link (length c.timers) (length c.sources) acts)
 
 -- where everything wasn't shut down, its event is no shutdown
-runs_on : (before : List Action) (c : Core) (word : ℕ) (kind : EventKind) (b : Book) (acts : List LinkAct) → HasActed before c word kind b acts → b.shut ≡ false → shuts kind ≡ false
+pub runs_on : (before : List Action) (c : Core) (word : ℕ) (kind : EventKind) (b : Book) (acts : List LinkAct) → HasActed before c word kind b acts → b.shut ≡ false → shuts kind ≡ false
 runs_on before c word kind b acts h runs = or_right (book before).shut (shuts kind) (sym (acted_adds before c word kind b acts h).shut ∙ runs)
 
 -- a link that has ended hears nothing more

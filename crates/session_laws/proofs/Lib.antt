@@ -71,6 +71,7 @@ pub mod Past
 pub mod Regenerate
 pub mod Judge
 pub mod Return
+pub mod Manage
 pub mod Write
 pub mod Waits
 pub mod Settled
