@@ -116,7 +116,7 @@ turn_between before c e plain h good room =
     let t = effect (counted c) e.kind in
     let still = effect_still c e.kind in
     let acts = (moved_on t).acts in
-    let done = moved_on_between (before ++ a ∷ []) t h.started applied in
+    let done = moved_on_between (before ++ a ∷ []) t h.started (still_plain plain) applied in
     let next : next_turn c e.kind ≡ numbered (moved_on t) = plain_turn c e.kind plain in
     let shown : effects_of c e ≡ shown_each c.single.link (length c.timers) (length c.sources) acts =
     plain_effects c e plain ∙ ap (λ (u : Turning). shown_each c.single.link (length c.timers) (length c.sources) u.acts) next in
